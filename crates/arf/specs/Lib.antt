@@ -1,0 +1,2 @@
+-- The numbers that the answers stand for.
+pub mod Numbers

@@ -1,0 +1,61 @@
+// The public entries. None of them asks anything of its caller: whatever the bytes and numbers, each ends and answers, and its statement fixes the answer
+// and every cell of lent memory.
+use frame::FrameRead;
+use frame::FrameWritten;
+use frame::Header;
+use reader::Reading;
+use scalar::Answer;
+use schema::Checked;
+use schema::Extended;
+use value::Row;
+ghost use mathlib.Core.Path.{_≡_};
+ghost use lib.ListN.{length};
+ghost use Rattle.frame.specs.Frame.{frameOf};
+ghost use Rattle.frame.specs.Written.{writtenOf, outputOf};
+ghost use Rattle.reader.specs.Entry.{Outcome, readOutcome};
+ghost use Rattle.scalar.specs.Scalar.{scalarBy};
+ghost use Rattle.schema.specs.Check.{checked};
+ghost use Rattle.schema.specs.Extend.{extension};
+
+// The verdict on a schema table: good, or the first fault's number and place.
+pub fn check_table(schema: &[u8]) -> Checked
+    ensures { λ r. ⌜ r ≡ checked (now (schema .entry)) ⌝ }
+{
+    schema::check::check(schema)
+}
+
+// Whether the new table extends the old one; for tables that are not good the first one's refusal, old first.
+pub fn extends(old: &[u8], new: &[u8]) -> Extended
+    ensures { λ r. ⌜ r ≡ extension (now (old .entry)) (now (new .entry)) ⌝ }
+{
+    schema::extension::extends(old, new)
+}
+
+// Reads a payload as a struct of type ty, and shows it on the sheet: the number of rows with the tail's place and length, or the refusal's number and
+// place, which leaves the sheet as it was.
+pub fn read(schema: &[u8], ty: u32, payload: &[u8], sheet: &mut [u32]) -> Reading
+    ensures { λ r. ⌜ Outcome.outcome r (now (sheet .exit)) ≡ readOutcome (now (schema .entry)) ty (now (payload .entry)) (now (sheet .entry)) ⌝ }
+{
+    reader::read(schema, ty, payload, sheet)
+}
+
+// One row of a scalar, a string or bytes over its bytes, as a value.
+pub fn scalar(schema: &[u8], row: Row, bytes: &[u8]) -> Answer
+    ensures { λ r. ⌜ r ≡ scalarBy (now (schema .entry)) row (now (bytes .entry)) ⌝ }
+{
+    scalar::entry::scalar(schema, row, bytes)
+}
+
+// Reads the frame at the front of the bytes: its header with the payload's place and length, more bytes needed, or a refusal's number.
+pub fn read_frame(bytes: &[u8]) -> FrameRead
+    ensures { λ r. ⌜ r ≡ frameOf (now (bytes .entry)) ⌝ }
+{
+    frame::read_frame(bytes)
+}
+
+// Writes a frame with the shortest length: the frame's length, or a refusal's number, which leaves the output as it was.
+pub fn write_frame(header: Header, payload: &[u8], out: &mut [u8]) -> FrameWritten
+    ensures { λ r. ⌜ (r ≡ writtenOf header (now (payload .entry)) (length (now (out .entry)))) × (now (out .exit) ≡ outputOf r header (now (payload .entry)) (now (out .entry))) ⌝ }
+{
+    frame::write_frame(header, payload, out)
+}

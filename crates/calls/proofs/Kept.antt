@@ -1,0 +1,245 @@
+-- A step keeps a good table good, and its number of slots.
+-- Assumes nothing.
+use mathlib.Core.Path.{_≡_, refl, sym, _∙_, ap, subst}
+use mathlib.Core.Logic.{_⊎_, inl, inr, ⊎-elim}
+use mathlib.Core.Bool.{Bool, true, false, not, cond, _&&_, _||_}
+use mathlib.Core.List.{List}
+use Prim.Native.Nat.{ℕ, _<_}
+use lib.ListN.{length, set, length-set}
+use lib.Dec.{eqb, leb}
+use borrow.Author.Tests.{eqb-true, eqb-false, eq-eqb}
+use Rattle.schema.specs.Table.{Table}
+use Rattle.calls.specs.declared.Call.{Call}
+use Rattle.calls.specs.declared.FormRow.{FormRow}
+use Rattle.calls.specs.declared.Frame.{Frame}
+use Rattle.calls.specs.declared.Payload.{Payload}
+use Rattle.calls.specs.declared.Judged.{Judged}
+use Rattle.calls.specs.declared.Judged.the-variants.{Stop, Opens, Goes}
+use Rattle.calls.specs.Record.{emptyCall, openedCall, isCall, isFree, complete, allowed, marked, ends, afterFrame}
+use Rattle.calls.specs.Slots.{slot, formRow, goodTable}
+use Rattle.calls.specs.Judge.{judgeOf}
+use Rattle.calls.specs.Step.{endsCall, slotsAfter, stepOf, dueOf, receive}
+use Rattle.calls.specs.Good.{GoodCall, GoodTable}
+use Rattle.schema.proofs.Bools.{cases, clash, and-i, and-left, and-right, or-left, or-cases}
+use Rattle.schema.proofs.Methods.{found-named}
+use Rattle.calls.proofs.Searches.{found-in, found-passes, none-passes, slot-same, slot-other, past-end}
+use Rattle.calls.proofs.Goodness.{good-clauses, good-test}
+use Rattle.calls.proofs.Judgement.{Opening, Going, judged-opens, judged-goes}
+
+-- ---- one record changed
+-- the slot changed, or another
+slot-cases : (l : List Call) (i : ℕ) (x : Call) (j : ℕ) → i < length l →
+    ((j ≡ i) × (slot (set l i x) j ≡ x)) ⊎ ((j ≡ i → ⊥) × (slot (set l i x) j ≡ slot l j))
+slot-cases l i x j h =
+    ⊎-elim
+    (λ q. let e = eqb-true j i q in inl (e, subst (λ (n : ℕ). slot (set l i x) n ≡ x) (sym e) (slot-same l i x h)))
+    (λ q. inr (eqb-false j i q, slot-other l i x j (eqb-false j i q)))
+    (cases (eqb j i))
+
+module _ (T : Table) (l : List Call) (g : GoodTable T l) (i : ℕ) (h : i < length l) (x : Call) where
+  -- the new record is good by itself, and no other record is open under its correlation
+  module _
+      (good : x .«open» ≡ true → GoodCall T x)
+      (zero : x .«open» ≡ false → x ≡ emptyCall)
+      (alone : x .«open» ≡ true → (j : ℕ) → (j ≡ i → ⊥) → slot l j .«open» ≡ true → slot l j .correlation ≡ x .correlation → ⊥) where
+    abbrev l′ : List Call
+    l′ = set l i x
+
+    free-zero : (j : ℕ) → slot l′ j .«open» ≡ false → slot l′ j ≡ emptyCall
+    free-zero j o =
+        ⊎-elim
+        (λ w. w .1 ∙ zero (subst (λ (c : Call). c .«open» ≡ false) (w .1) o))
+        (λ w. w .1 ∙ g .freeZero j (subst (λ (c : Call). c .«open» ≡ false) (w .1) o))
+        (slot-cases l i x j h)
+
+    good-calls : (j : ℕ) → slot l′ j .«open» ≡ true → GoodCall T (slot l′ j)
+    good-calls j o =
+        ⊎-elim
+        (λ w. subst (λ (c : Call). GoodCall T c) (sym (w .1)) (good (subst (λ (c : Call). c .«open» ≡ true) (w .1) o)))
+        (λ w. subst (λ (c : Call). GoodCall T c) (sym (w .1)) (g .calls j (subst (λ (c : Call). c .«open» ≡ true) (w .1) o)))
+        (slot-cases l i x j h)
+
+    differ : (j k : ℕ) → slot l′ j .«open» ≡ true → slot l′ k .«open» ≡ true → slot l′ j .correlation ≡ slot l′ k .correlation → j ≡ k
+    differ j k p q e =
+        ⊎-elim
+        (λ v.
+        ⊎-elim
+        (λ w. v .0 ∙ sym (w .0))
+        (λ w.
+        absurd (alone (subst (λ (c : Call). c .«open» ≡ true) (v .1) p) k (w .0) (subst (λ (c : Call). c .«open» ≡ true) (w .1) q)
+        (ap (λ (c : Call). c .correlation) (sym (w .1)) ∙ sym e ∙ ap (λ (c : Call). c .correlation) (v .1))))
+        (slot-cases l i x k h))
+        (λ v.
+        ⊎-elim
+        (λ w.
+        absurd (alone (subst (λ (c : Call). c .«open» ≡ true) (w .1) q) j (v .0) (subst (λ (c : Call). c .«open» ≡ true) (v .1) p)
+        (ap (λ (c : Call). c .correlation) (sym (v .1)) ∙ e ∙ ap (λ (c : Call). c .correlation) (w .1))))
+        (λ w.
+        g .differ j k (subst (λ (c : Call). c .«open» ≡ true) (v .1) p) (subst (λ (c : Call). c .«open» ≡ true) (w .1) q)
+        (ap (λ (c : Call). c .correlation) (sym (v .1)) ∙ e ∙ ap (λ (c : Call). c .correlation) (w .1)))
+        (slot-cases l i x k h))
+        (slot-cases l i x j h)
+
+    good-set : GoodTable T (set l i x)
+    good-set = record { freeZero = free-zero; differ = differ; calls = good-calls }
+
+-- ---- the records that a step writes
+good-opened : (T : Table) (m id : ℕ) → m < length (T .methods) → GoodCall T (openedCall m id)
+good-opened T m id h =
+    record {
+      methodExists = h;
+      inputClosed = λ o. clash false o refl;
+      outputClosed = λ o. clash false o refl;
+      afterResponse = λ o. clash false o refl;
+      notComplete = refl;
+    }
+
+-- what `allowed` asks of the two closes
+module _ (row : FormRow) (c : Call) where
+  in-close : allowed row 3 c ≡ true → row .1 ≡ true
+  in-close a = go (row .1) a
+    where
+      go : (b : Bool) → ((b && not (c .«input_closed»)) || false) ≡ true → b ≡ true
+      go true h = refl
+      go false h = h
+
+  out-close : allowed row 5 c ≡ true → (row .3 && c .responded) ≡ true
+  out-close a = go (row .3) (c .responded) a
+    where
+      go : (b d : Bool) → ((b && (d && not (c .«output_closed»))) || false) ≡ true → (b && d) ≡ true
+      go true true h = refl
+      go true false h = h
+      go false d h = h
+
+module _ (T : Table) (kind : ℕ) (c : Call) where
+  abbrev row : FormRow
+  row = formRow T c
+
+  abbrev next : Call
+  next = afterFrame row kind c
+
+  good-marked : GoodCall T c → allowed row kind c ≡ true → complete row (marked kind c) ≡ false → GoodCall T (marked kind c)
+  good-marked g a d =
+      let out : eqb kind 5 ≡ true → (row .3 && c .responded) ≡ true = λ q.
+      out-close row c (subst (λ (k : ℕ). allowed row k c ≡ true) (eqb-true kind 5 q) a) in
+      record {
+        methodExists = g .methodExists;
+        inputClosed = λ o.
+            ⊎-elim (g .inputClosed) (λ q. in-close row c (subst (λ (k : ℕ). allowed row k c ≡ true) (eqb-true kind 3 q) a))
+            (or-cases (c .«input_closed») (eqb kind 3) o);
+        outputClosed = λ o.
+            ⊎-elim (g .outputClosed) (λ q. and-left (row .3) (c .responded) (out q)) (or-cases (c .«output_closed») (eqb kind 5) o);
+        afterResponse = λ o.
+            or-left (c .responded) (eqb kind 6)
+            (⊎-elim (g .afterResponse) (λ q. and-right (row .3) (c .responded) (out q)) (or-cases (c .«output_closed») (eqb kind 5) o));
+        notComplete = d;
+      }
+
+  -- the call has ended, and its record is the empty one; or it is marked
+  pub after-cases : ((ends row kind c ≡ true) × (next ≡ emptyCall)) ⊎ ((complete row (marked kind c) ≡ false) × (next ≡ marked kind c))
+  after-cases = go (ends row kind c) refl
+    where
+      going : (a b : Bool) → (a || b) ≡ false → b ≡ false
+      going true b h = clash true refl h
+      going false b h = h
+
+      go : (b : Bool) → ends row kind c ≡ b →
+          ((b ≡ true) × (cond b emptyCall (marked kind c) ≡ emptyCall)) ⊎ ((complete row (marked kind c) ≡ false) × (cond b emptyCall (marked kind c) ≡ marked kind c))
+      go true e = inl (refl, refl)
+      go false e = inr (going (leb 7 kind) (complete row (marked kind c)) e, refl)
+
+  good-after : GoodCall T c → allowed row kind c ≡ true → next .«open» ≡ true → GoodCall T next
+  good-after g a o =
+      ⊎-elim
+      (λ w. clash false (subst (λ (x : Call). x .«open» ≡ true) (w .1) o) refl)
+      (λ w. subst (λ (x : Call). GoodCall T x) (sym (w .1)) (good-marked g a (w .0)))
+      after-cases
+
+  zero-after : next .«open» ≡ false → next ≡ emptyCall
+  zero-after o = ⊎-elim (λ w. w .1) (λ w. clash true refl (subst (λ (x : Call). x .«open» ≡ false) (w .1) o)) after-cases
+
+  pub id-after : next .«open» ≡ true → next .correlation ≡ c .correlation
+  id-after o =
+      ⊎-elim
+      (λ w. clash false (subst (λ (x : Call). x .«open» ≡ true) (w .1) o) refl)
+      (λ w. ap (λ (x : Call). x .correlation) (w .1))
+      after-cases
+
+-- ---- the step
+pub call-open : (id : ℕ) (c : Call) → isCall id c ≡ true → c .«open» ≡ true
+call-open id c h = and-left (c .«open») (eqb (c .correlation) id) h
+
+pub call-id : (id : ℕ) (c : Call) → isCall id c ≡ true → c .correlation ≡ id
+call-id id c h = eqb-true (c .correlation) id (and-right (c .«open») (eqb (c .correlation) id) h)
+
+pub is-call : (id : ℕ) (c : Call) → c .«open» ≡ true → c .correlation ≡ id → isCall id c ≡ true
+is-call id c o e = and-i (c .«open») (eqb (c .correlation) id) o (eq-eqb (c .correlation) id e)
+
+module _ (T : Table) (f : Frame) (l : List Call) (g : GoodTable T l) where
+  good-opening : (j : ℕ) (c : Call) → Opening T f l j c → GoodTable T (set l j c)
+  good-opening j c w =
+      let id = f .correlation in
+      let h = found-in isFree l j (w .lowest) in
+      subst (λ (x : Call). GoodTable T (set l j x)) (sym (w .isNew))
+      (good-set T l g j h (openedCall (w .method) id)
+      (λ o. good-opened T (w .method) id (found-named T (f .«package») (f .service) (f .method) (w .method) (w .isMethod) .0))
+      (λ o. clash true refl o)
+      (λ o k n p e. clash (isCall id (slot l k)) (is-call id (slot l k) p e) (none-passes (isCall id) l 0 (w .notOpen) k (past-end l k p))))
+
+  good-ended : (i : ℕ) → i < length l → GoodTable T (set l i emptyCall)
+  good-ended i h = good-set T l g i h emptyCall (λ o. clash false o refl) (λ o. refl) (λ o. clash false o refl)
+
+  good-going : (i : ℕ) (c : Call) → Going T f l i c → GoodTable T (set l i c)
+  good-going i c w =
+      let own = slot l i in
+      let h = found-in (isCall (f .correlation)) l i (w .isOwn) in
+      let o = call-open (f .correlation) own (found-passes (isCall (f .correlation)) l i (w .isOwn)) in
+      subst (λ (x : Call). GoodTable T (set l i x)) (sym (w .isNext))
+      (good-set T l g i h (afterFrame (formRow T own) (f .kind) own)
+      (good-after T (f .kind) own (g .calls i o) (w .isAllowed))
+      (zero-after T (f .kind) own)
+      (λ q k n p e. n (g .differ k i p o (e ∙ id-after T (f .kind) own q))))
+
+  good-step : (p : ℕ) (J : Judged) → judgeOf T f l ≡ J → GoodTable T (slotsAfter J p l)
+  good-step p (Stop n) e = g
+  good-step p (Opens j c d) e = go (eqb p 0)
+    where
+      go : (b : Bool) → GoodTable T (cond b (set l j c) l)
+      go true = good-opening j c (judged-opens T f l j c d e)
+      go false = g
+  good-step p (Goes i c d) e = go (eqb p 0) (endsCall p)
+    where
+      w : Going T f l i c
+      w = judged-goes T f l i c d e
+
+      go : (b q : Bool) → GoodTable T (cond b (set l i c) (cond q (set l i emptyCall) l))
+      go true q = good-going i c w
+      go false true = good-ended i (found-in (isCall (f .correlation)) l i (w .isOwn))
+      go false false = g
+
+slots-length : (p : ℕ) (J : Judged) (l : List Call) → length (slotsAfter J p l) ≡ length l
+slots-length p (Stop n) l = refl
+slots-length p (Opens j c d) l = go (eqb p 0)
+  where
+    go : (b : Bool) → length (cond b (set l j c) l) ≡ length l
+    go true = length-set l j c
+    go false = refl
+slots-length p (Goes i c d) l = go (eqb p 0) (endsCall p)
+  where
+    go : (a b : Bool) → length (cond a (set l i c) (cond b (set l i emptyCall) l)) ≡ length l
+    go true b = length-set l i c
+    go false true = length-set l i emptyCall
+    go false false = refl
+
+-- a good table stays good
+module _ (T : Table) (f : Frame) (reading : Payload → ℕ) (l : List Call) where
+  pub stays-good : GoodTable T l → GoodTable T (receive T f reading l .table .slots)
+  unfolding receive stepOf
+  stays-good g = good-step T f l g (reading (dueOf (judgeOf T f l))) (judgeOf T f l) refl
+
+  pub test-stays : goodTable T l ≡ true → goodTable T (receive T f reading l .table .slots) ≡ true
+  test-stays g = good-test T (receive T f reading l .table .slots) (stays-good (good-clauses T l g))
+
+  pub stays-long : length (receive T f reading l .table .slots) ≡ length l
+  unfolding receive stepOf
+  stays-long = slots-length (reading (dueOf (judgeOf T f l))) (judgeOf T f l) l

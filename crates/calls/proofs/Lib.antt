@@ -1,0 +1,13 @@
+pub mod Bools
+pub mod Long
+pub mod Scan
+pub mod Distinct
+pub mod Schema
+pub mod Letters
+pub mod Searches
+pub mod Goodness
+pub mod Judgement
+pub mod Kept
+pub mod Apart
+pub mod Ordered
+pub mod Payloads

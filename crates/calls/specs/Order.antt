@@ -1,0 +1,133 @@
+-- The order of a call's frames as a relation on the kinds accepted for it since its INVOKE, without its record; and the answer to a frame by it.
+-- Assumes nothing.
+use mathlib.Core.Path.{_≡_}
+use mathlib.Core.Bool.{Bool, true, false, cond, _&&_, _||_}
+use mathlib.Core.List.{List, [], _∷_}
+use Prim.Native.Nat.{ℕ}
+use lib.Dec.{eqb}
+use Rattle.schema.specs.declared.Found.{Found}
+use Rattle.schema.specs.declared.Found.the-variants.{At, Missing}
+use Rattle.schema.specs.Table.{Table}
+use Rattle.schema.specs.Check.{methodRow, named, findMethod}
+use Rattle.calls.specs.declared.Call.{Call}
+use Rattle.calls.specs.declared.Frame.{Frame}
+use Rattle.calls.specs.declared.Payload.{Payload}
+use Rattle.calls.specs.Forms.{letter}
+use Rattle.calls.specs.Record.{implies}
+use Rattle.calls.specs.Slots.{freshTable, holds}
+use Rattle.calls.specs.Judge.{rightSide, payloadOf}
+use Rattle.calls.specs.Step.{endsCall, receive}
+use Rattle.calls.specs.Apart.{Own, none, one}
+
+-- The kinds accepted since INVOKE, the last first. `holds k h` says that kind k came.
+
+-- What may come next in an open call of this form.
+pub data MayCome (form : ℕ) (h : List ℕ) : ℕ → Type 0 where
+  -- Stream frames need their stream in the form and not closed.
+  inStream : letter 2 form ≡ true → holds 3 h ≡ false → MayCome form h 2
+  inClose : letter 2 form ≡ true → holds 3 h ≡ false → MayCome form h 3
+  -- Output frames follow RESPONSE.
+  outStream : letter 1 form ≡ true → holds 5 h ≡ false → holds 6 h ≡ true → MayCome form h 4
+  outClose : letter 1 form ≡ true → holds 5 h ≡ false → holds 6 h ≡ true → MayCome form h 5
+  -- RESPONSE comes once, for every form.
+  response : holds 6 h ≡ false → MayCome form h 6
+  error : MayCome form h 7
+  cancel : MayCome form h 8
+
+-- A call is complete after RESPONSE and the close of each stream it has.
+abbrev pub whole : (form : ℕ) → List ℕ → Bool
+whole form h = holds 6 h && (implies (letter 2 form) (holds 3 h) && implies (letter 1 form) (holds 5 h))
+
+-- ERROR and CANCEL end it at once.
+abbrev pub over : (form : ℕ) → List ℕ → Bool
+over form h = (holds 7 h || holds 8 h) || whole form h
+
+-- ---- what has been heard under one identifier
+
+-- No call is open, or one of this method, with the kinds accepted since its INVOKE.
+pub data Past : Type 0 where
+  closed : Past
+  since : (method : ℕ) → List ℕ → Past
+
+-- A frame and the number that was answered.
+pub record Heard : Type 0 where
+  pub frame : Frame
+  pub number : ℕ
+
+abbrev pub begun : Found → Past
+begun Missing = closed
+begun (At m) = since m []
+
+abbrev pub continued : Table → (kind : ℕ) → Past → Past
+continued T kind closed = closed
+continued T kind (since m h) = cond (over (methodRow T m .form) (kind ∷ h)) closed (since m (kind ∷ h))
+
+abbrev pub accepted : Table → Frame → Past → Past
+accepted T f past =
+    cond (eqb (f .kind) 1) (begun (findMethod T (f .«package») (f .service) (f .method))) (continued T (f .kind) past)
+
+-- An accepted frame is kept, or ends the call; payload refusals 20 to 29 end the open call, and an INVOKE so refused opens none.
+abbrev pub after : Table → Heard → Past → Past
+after T e past = cond (eqb (e .number) 0) (accepted T (e .frame) past) (cond (endsCall (e .number)) closed past)
+
+-- The past of an identifier after a run, its last frame first.
+unfoldable pub pastOf : Table → (correlation : ℕ) → List Heard → Past
+pastOf T id [] = closed
+pastOf T id (e ∷ es) = cond (eqb (e .frame .correlation) id) (after T e (pastOf T id es)) (pastOf T id es)
+
+-- ---- the answer to a frame, by the past of its identifier
+
+module _ (T : Table) (f : Frame) (reading : Payload → ℕ) (full : Bool) where
+  abbrev pub methodNamed : Found
+  methodNamed = findMethod T (f .«package») (f .service) (f .method)
+
+  -- A side that may send the kind; and for a call of method m, the call's identifiers.
+  abbrev pub sent : Type 0
+  sent = rightSide (f .side) (f .kind) ≡ true
+
+  abbrev pub same : ℕ → Bool
+  same m = named (f .«package») (f .service) (f .method) (methodRow T m)
+
+  pub data Answer : Past → ℕ → Type 0 where
+    wrongSide : (past : Past) → rightSide (f .side) (f .kind) ≡ false → Answer past 8
+    -- INVOKE: 9, 10, 13, payload
+    unknown : (past : Past) → sent → f .kind ≡ 1 → methodNamed ≡ Missing → Answer past 9
+    already : (m n : ℕ) (h : List ℕ) → sent → f .kind ≡ 1 → methodNamed ≡ At n → Answer (since m h) 10
+    noRoom : (n : ℕ) → sent → f .kind ≡ 1 → methodNamed ≡ At n → full ≡ true → Answer closed 13
+    opens : (n : ℕ) → sent → f .kind ≡ 1 → methodNamed ≡ At n → full ≡ false → Answer closed (reading (payloadOf (methodRow T n) 1))
+    -- the others: 11, 12, 14, payload
+    notOpen : sent → (f .kind ≡ 1 → ⊥) → Answer closed 11
+    differ : (m : ℕ) (h : List ℕ) → sent → (f .kind ≡ 1 → ⊥) → same m ≡ false → Answer (since m h) 12
+    notNow : (m : ℕ) (h : List ℕ) → sent → (f .kind ≡ 1 → ⊥) → same m ≡ true → (MayCome (methodRow T m .form) h (f .kind) → ⊥) → Answer (since m h) 14
+    goes : (m : ℕ) (h : List ℕ) → sent → (f .kind ≡ 1 → ⊥) → same m ≡ true → MayCome (methodRow T m .form) h (f .kind) →
+        Answer (since m h) (reading (payloadOf (methodRow T m) (f .kind)))
+
+-- ---- the record reflects the past
+
+-- The marks of an open call's record, by the kinds accepted.
+pub record Marks (m : ℕ) (h : List ℕ) (c : Call) : Type 0 where
+  pub method : c .method ≡ m
+  pub responded : c .responded ≡ holds 6 h
+  pub inputClosed : c .«input_closed» ≡ holds 3 h
+  pub outputClosed : c .«output_closed» ≡ holds 5 h
+  pub noError : holds 7 h ≡ false
+  pub noCancel : holds 8 h ≡ false
+
+pub data Reflects : Past → Own → Type 0 where
+  nothing : Reflects closed none
+  call : (m : ℕ) (h : List ℕ) (c : Call) → Marks m h c → Reflects (since m h) (one c)
+
+-- ---- a run from the fresh table, its last frame first
+
+-- A frame, and the number of its payload by what that holds.
+pub record Sent : Type 0 where
+  pub frame : Frame
+  pub reading : Payload → ℕ
+
+unfoldable pub slotsOf : Table → List Sent → List Call
+slotsOf T [] = freshTable .slots
+slotsOf T (e ∷ es) = receive T (e .frame) (e .reading) (slotsOf T es) .table .slots
+
+unfoldable pub heardOf : Table → List Sent → List Heard
+heardOf T [] = []
+heardOf T (e ∷ es) = record { frame = e .frame; number = receive T (e .frame) (e .reading) (slotsOf T es) .number } ∷ heardOf T es

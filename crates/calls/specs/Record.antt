@@ -1,0 +1,77 @@
+-- The record of a call: when it is free, what is allowed, what an accepted frame changes, when it is complete and when it is good.
+-- All that depends on the members of a record stands here. Assumes nothing.
+use Prim.Native.Nat.{ℕ}
+use mathlib.Core.Bool.{Bool, true, false, not, cond, _&&_, _||_}
+use lib.Dec.{eqb, ltb, leb}
+use Rattle.calls.specs.declared.Call.{Call}
+use Rattle.calls.specs.declared.FormRow.{FormRow}
+
+-- The record of a free slot is zero in every member.
+abbrev pub emptyCall : Call
+emptyCall =
+    record { correlation = 0; method = 0; «open» = false; responded = false; «input_closed» = false; «output_closed» = false }
+
+-- The record that INVOKE makes.
+abbrev pub openedCall : (method correlation : ℕ) → Call
+openedCall m id =
+    record { correlation = id; method = m; «open» = true; responded = false; «input_closed» = false; «output_closed» = false }
+
+-- The call is open under this correlation.
+abbrev pub isCall : ℕ → Call → Bool
+isCall id c = c .«open» && eqb (c .correlation) id
+
+abbrev pub isFree : Call → Bool
+isFree c = not (c .«open»)
+
+abbrev pub implies : Bool → Bool → Bool
+implies a b = not a || b
+
+-- A call is complete after RESPONSE and the close of each stream it has.
+abbrev pub complete : FormRow → Call → Bool
+complete row c = c .responded && (implies (row .1) (c .«input_closed») && implies (row .3) (c .«output_closed»))
+
+-- Whether a frame that is no INVOKE is allowed now: 2 IN_STREAM and 3 IN_CLOSE need the input stream, not closed; 4 OUT_STREAM and 5 OUT_CLOSE the
+-- output stream, not closed, and RESPONSE; 6 RESPONSE comes once; 7 ERROR and 8 CANCEL are always allowed.
+abbrev pub allowed : FormRow → ℕ → Call → Bool
+allowed row kind c =
+    (eqb kind 2 && (row .0 && not (c .«input_closed»))) ||
+    ((eqb kind 3 && (row .1 && not (c .«input_closed»))) ||
+    ((eqb kind 4 && (row .2 && (c .responded && not (c .«output_closed»)))) ||
+    ((eqb kind 5 && (row .3 && (c .responded && not (c .«output_closed»)))) ||
+    ((eqb kind 6 && not (c .responded)) || leb 7 kind))))
+
+-- The record with the mark of an accepted frame.
+abbrev pub marked : ℕ → Call → Call
+marked kind c =
+    record {
+      correlation = c .correlation;
+      method = c .method;
+      «open» = true;
+      responded = c .responded || eqb kind 6;
+      «input_closed» = c .«input_closed» || eqb kind 3;
+      «output_closed» = c .«output_closed» || eqb kind 5;
+    }
+
+-- ERROR and CANCEL end a call at once, and so does the frame that makes it complete.
+abbrev pub ends : FormRow → ℕ → Call → Bool
+ends row kind c = leb 7 kind || complete row (marked kind c)
+
+-- The record after an accepted frame; an ended one is zeroed.
+abbrev pub afterFrame : FormRow → ℕ → Call → Call
+afterFrame row kind c = cond (ends row kind c) emptyCall (marked kind c)
+
+-- ---- good
+
+abbrev pub zeroCall : Call → Bool
+zeroCall c =
+    eqb (c .correlation) 0 &&
+    (eqb (c .method) 0 && (not (c .responded) && (not (c .«input_closed») && not (c .«output_closed»))))
+
+-- An open record: its method is one of the table's, a closed mark stands only where the form has that stream, output isn't ended before
+-- RESPONSE, and the call is not complete.
+abbrev pub goodOpen : (methods : ℕ) → FormRow → Call → Bool
+goodOpen methods row c =
+    ltb (c .method) methods &&
+    (implies (c .«input_closed») (row .1) &&
+    (implies (c .«output_closed») (row .3 && c .responded) &&
+    not (complete row c)))

@@ -1,0 +1,65 @@
+-- The call table as a list of 128 records: searches, the count of open calls, and the test whether it is good.
+-- Assumes nothing.
+use Prim.Native.Nat.{ℕ, suc}
+use mathlib.Core.Bool.{Bool, true, false, not, cond, _&&_, _||_}
+use mathlib.Core.List.{List, [], _∷_}
+use lib.ListN.{length, getD, replicate}
+use lib.Dec.{eqb}
+use Rattle.schema.specs.declared.Found.{Found}
+use Rattle.schema.specs.declared.Found.the-variants.{At, Missing}
+use Rattle.schema.specs.Table.{Table}
+use Rattle.schema.specs.Check.{methodRow}
+use Rattle.calls.specs.declared.Call.{Call}
+use Rattle.calls.specs.declared.CallTable.{CallTable}
+use Rattle.calls.specs.declared.FormRow.{FormRow}
+use Rattle.calls.specs.Forms.{rowOf}
+use Rattle.calls.specs.Record.{emptyCall, goodOpen, zeroCall}
+
+-- The table at the start: 128 equal empty records.
+abbrev pub freshTable : CallTable
+freshTable = record { slots = replicate 128 emptyCall }
+
+-- The record at a slot; past the last it is an empty one.
+abbrev pub slot : List Call → ℕ → Call
+slot l i = getD l i emptyCall
+
+-- The place, counted from i, of the first record that passes.
+abbrev pub firstSlot : (Call → Bool) → ℕ → List Call → Found
+firstSlot p i [] = Missing
+firstSlot p i (x ∷ xs) = cond (p x) (At i) (firstSlot p (suc i) xs)
+
+-- How many calls are open.
+abbrev pub countOpen : List Call → ℕ
+countOpen [] = 0
+countOpen (x ∷ xs) = cond (x .«open») (suc (countOpen xs)) (countOpen xs)
+
+-- The row of a call's form.
+abbrev pub formRow : Table → Call → FormRow
+formRow T c = rowOf (methodRow T (c .method) .form)
+
+-- ---- good
+
+unfoldable pub goodCall : Table → Call → Bool
+goodCall T c = cond (c .«open») (goodOpen (length (T .methods)) (formRow T c) c) (zeroCall c)
+
+abbrev pub goodCalls : Table → List Call → Bool
+goodCalls T [] = true
+goodCalls T (x ∷ xs) = goodCall T x && goodCalls T xs
+
+-- The correlations of the open calls.
+abbrev pub openIds : List Call → List ℕ
+openIds [] = []
+openIds (x ∷ xs) = cond (x .«open») (x .correlation ∷ openIds xs) (openIds xs)
+
+-- The number is one of the list.
+abbrev pub holds : ℕ → List ℕ → Bool
+holds n [] = false
+holds n (x ∷ xs) = eqb x n || holds n xs
+
+-- No two of the list are equal.
+abbrev pub distinct : List ℕ → Bool
+distinct [] = true
+distinct (x ∷ xs) = not (holds x xs) && distinct xs
+
+unfoldable pub goodTable : Table → List Call → Bool
+goodTable T l = goodCalls T l && distinct (openIds l)

@@ -1,0 +1,48 @@
+-- The step of the call table on a judged frame, by the number that its payload's reading gave.
+-- Assumes nothing.
+use Prim.Native.Nat.{ℕ}
+use mathlib.Core.Bool.{Bool, cond, _&&_}
+use mathlib.Core.List.{List}
+use lib.ListN.{set}
+use lib.Dec.{eqb, leb}
+use Rattle.schema.specs.Table.{Table}
+use Rattle.calls.specs.declared.Call.{Call}
+use Rattle.calls.specs.declared.Frame.{Frame}
+use Rattle.calls.specs.declared.Payload.{Payload}
+use Rattle.calls.specs.declared.Payload.the-variants.{Unread}
+use Rattle.calls.specs.declared.Judged.{Judged}
+use Rattle.calls.specs.declared.Judged.the-variants.{Stop, Opens, Goes}
+use Rattle.calls.specs.declared.Stepped.{Stepped}
+use Rattle.calls.specs.Record.{emptyCall}
+use Rattle.calls.specs.Judge.{judgeOf}
+
+-- The answer's number: the judgement's, or else the payload's.
+abbrev pub numberOf : Judged → (payload : ℕ) → ℕ
+numberOf (Stop n) p = n
+numberOf (Opens j c due) p = p
+numberOf (Goes i c due) p = p
+
+-- Payload refusals 20 to 29 end the open call; 30 does not.
+abbrev pub endsCall : ℕ → Bool
+endsCall p = leb 20 p && leb p 29
+
+-- The records afterwards, where p is 0 for a payload that is right. An INVOKE refused for its payload opens none.
+abbrev pub slotsAfter : Judged → (payload : ℕ) → List Call → List Call
+slotsAfter (Stop n) p l = l
+slotsAfter (Opens j c due) p l = cond (eqb p 0) (set l j c) l
+slotsAfter (Goes i c due) p l = cond (eqb p 0) (set l i c) (cond (endsCall p) (set l i emptyCall) l)
+
+unfoldable pub stepOf : Judged → (payload : ℕ) → List Call → Stepped
+stepOf J p l = record { number = numberOf J p; table = record { slots = slotsAfter J p l } }
+
+-- ---- a frame from its judgement to the next table
+
+-- What the payload of a judged frame holds; that of a refused one is not read.
+abbrev pub dueOf : Judged → Payload
+dueOf (Stop n) = Unread
+dueOf (Opens j c due) = due
+dueOf (Goes i c due) = due
+
+-- `reading` gives the number of the payload by what it holds.
+unfoldable pub receive : Table → Frame → (reading : Payload → ℕ) → List Call → Stepped
+receive T f reading l = stepOf (judgeOf T f l) (reading (dueOf (judgeOf T f l))) l

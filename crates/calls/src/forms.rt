@@ -1,0 +1,46 @@
+// Table 1 of the draft, one row a form.
+use crate::FormRow;
+ghost use mathlib.Core.Path.{_≡_};
+ghost use Rattle.calls.specs.Forms.{tableOne, rowOf};
+
+const Y: bool = true;
+
+const N: bool = false;
+
+pub const TABLE_1: [FormRow; 16] = [
+    FormRow(N, N, N, N), // NNNN
+    FormRow(N, N, Y, Y), // NNNY
+    FormRow(Y, Y, N, N), // NNYN
+    FormRow(Y, Y, Y, Y), // NNYY
+    FormRow(N, N, N, N), // NYNN
+    FormRow(N, N, Y, Y), // NYNY
+    FormRow(Y, Y, N, N), // NYYN
+    FormRow(Y, Y, Y, Y), // NYYY
+    FormRow(N, N, N, N), // YNNN
+    FormRow(N, N, Y, Y), // YNNY
+    FormRow(Y, Y, N, N), // YNYN
+    FormRow(Y, Y, Y, Y), // YNYY
+    FormRow(N, N, N, N), // YYNN
+    FormRow(N, N, Y, Y), // YYNY
+    FormRow(Y, Y, N, N), // YYYN
+    FormRow(Y, Y, Y, Y), // YYYY
+];
+
+// The row of a form in that table; there is none past 15, and nothing is allowed then. A caller in a loop lays the table out once.
+pub fn row_in(table: [FormRow; 16], form: u32) -> FormRow
+    requires { ⌜ table ≡ tableOne ⌝ }
+    ensures { λ r. ⌜ r ≡ rowOf form ⌝ }
+{
+    if form < 16 {
+        let i = form as usize;
+        table[i]
+    } else {
+        FormRow(N, N, N, N)
+    }
+}
+
+pub fn row_of(form: u32) -> FormRow
+    ensures { λ r. ⌜ r ≡ rowOf form ⌝ }
+{
+    row_in(TABLE_1, form)
+}

@@ -1,0 +1,124 @@
+// A frame judged before its payload is read, and what the payload holds.
+use crate::Call;
+use crate::CallTable;
+use crate::Frame;
+use crate::Judged;
+use crate::Payload;
+use crate::forms::row_of;
+use schema::Found;
+use schema::Method;
+use schema::access::find_method;
+use schema::access::method;
+use schema::rows::is_named;
+ghost use mathlib.Core.Path.{_≡_};
+ghost use Rattle.schema.specs.File.{tableOf};
+ghost use Rattle.schema.specs.Check.{IsGood, findMethod};
+ghost use Rattle.calls.specs.Record.{isCall, isFree};
+ghost use Rattle.calls.specs.Slots.{firstSlot};
+ghost use Rattle.calls.specs.Judge.{rightSide, typed, payloadOf, opensAt, judgeInvoke, judgeCall, judgeOther, judgeOf};
+
+// The kind comes from this side, the byte C or S.
+pub fn right_side(side: u8, kind: u8) -> bool
+    ensures { λ r. ⌜ r ≡ rightSide side kind ⌝ }
+{
+    ((side == 67) & (((1 <= kind) & (kind <= 3)) | (kind == 8)))
+        | ((side == 83) & ((4 <= kind) & (kind <= 7)))
+}
+
+// A struct type, or none.
+fn of_type(t: u32) -> Payload
+    ensures { λ r. ⌜ r ≡ typed t ⌝ }
+{
+    if t == 4294967295 {
+        Payload::Empty
+    } else {
+        Payload::Struct(t)
+    }
+}
+
+// What the payload of a frame to a call of this method holds.
+pub fn payload_of(m: Method, kind: u8) -> Payload
+    ensures { λ r. ⌜ r ≡ payloadOf m kind ⌝ }
+{
+    match kind {
+        1 => of_type(m.input),
+        2 => of_type(m.input_stream),
+        4 => of_type(m.output_stream),
+        6 => of_type(m.output),
+        7 => Payload::Unread,
+        _ => Payload::Empty,
+    }
+}
+
+impl Call {
+    // A frame that is no INVOKE, to this open call of method m at slot i.
+    pub fn judge(self, m: Method, f: Frame, i: usize) -> Judged
+        ensures { λ r. ⌜ r ≡ judgeCall m f i self ⌝ }
+    {
+        if !is_named(m, f.package, f.service, f.method) {
+            return Judged::Stop(12);
+        }
+        let row = row_of(m.form);
+        if self.allows(row, f.kind) {
+            Judged::Goes(i, self.after(row, f.kind), payload_of(m, f.kind))
+        } else {
+            Judged::Stop(14)
+        }
+    }
+}
+
+impl CallTable {
+    // An INVOKE that would make this record.
+    fn judge_opening(self, new: Call, payload: Payload) -> Judged
+        ensures { λ r. ⌜ r ≡ opensAt new payload (firstSlot (isCall (new .correlation)) 0 (self .slots)) (firstSlot isFree 0 (self .slots)) ⌝ }
+    {
+        match self.find(new.correlation) {
+            Found::At(_) => Judged::Stop(10),
+            Found::Missing => match self.free_slot() {
+                Found::At(j) => Judged::Opens(j, new, payload),
+                Found::Missing => Judged::Stop(13),
+            },
+        }
+    }
+
+    fn judge_invoke(self, s: &[u8], f: Frame) -> Judged
+        requires { ⌜ IsGood (now s) ⌝ }
+        ensures { λ r. ⌜ r ≡ judgeInvoke (tableOf (now (s .entry))) (f .correlation) (findMethod (tableOf (now (s .entry))) (f .«package») (f .service) (f .method)) (self .slots) ⌝ }
+    {
+        match find_method(s, f.package, f.service, f.method) {
+            Found::Missing => Judged::Stop(9),
+            Found::At(m) => {
+                let payload = payload_of(method(s, m), 1);
+                self.judge_opening(Call::opened(m as u32, f.correlation), payload)
+            }
+        }
+    }
+
+    fn judge_other(self, s: &[u8], f: Frame) -> Judged
+        requires { ⌜ IsGood (now s) ⌝ }
+        ensures { λ r. ⌜ r ≡ judgeOther (tableOf (now (s .entry))) f (firstSlot (isCall (f .correlation)) 0 (self .slots)) (self .slots) ⌝ }
+    {
+        match self.find(f.correlation) {
+            Found::Missing => Judged::Stop(11),
+            Found::At(i) => {
+                let call = self.at(i);
+                call.judge(method(s, call.method as usize), f, i)
+            }
+        }
+    }
+
+    // A frame before its payload is read, against a good schema table.
+    pub fn judge(self, s: &[u8], f: Frame) -> Judged
+        requires { ⌜ IsGood (now s) ⌝ }
+        ensures { λ r. ⌜ r ≡ judgeOf (tableOf (now (s .entry))) f (self .slots) ⌝ }
+    {
+        if !right_side(f.side, f.kind) {
+            return Judged::Stop(8);
+        }
+        if f.kind == 1 {
+            self.judge_invoke(s, f)
+        } else {
+            self.judge_other(s, f)
+        }
+    }
+}

@@ -1,0 +1,57 @@
+// The calls of a connection: the call table by value, when it is good, and its step on a judged frame.
+pub mod forms;
+pub mod good;
+pub mod judge;
+pub mod record;
+pub mod slots;
+pub mod step;
+
+// The record of a call. A free slot is zero in every member.
+pub struct Call {
+    pub correlation: u64,
+    pub method: u32,
+    pub open: bool,
+    pub responded: bool,
+    pub input_closed: bool,
+    pub output_closed: bool,
+}
+
+pub struct CallTable {
+    pub slots: [Call; 128],
+}
+
+// A row of the draft's Table 1: whether the form allows IN_STREAM, IN_CLOSE, OUT_STREAM and OUT_CLOSE.
+pub struct FormRow(pub bool, pub bool, pub bool, pub bool);
+
+// What a step sees of a whole frame, and the side that it came from.
+pub struct Frame {
+    pub side: u8,
+    pub kind: u8,
+    pub package: u32,
+    pub service: u32,
+    pub method: u32,
+    pub correlation: u64,
+}
+
+// What a frame's payload holds: a value of a struct type, nothing, or bytes that are not read.
+pub enum Payload {
+    Struct(u32),
+    Empty,
+    Unread,
+}
+
+// A frame judged before its payload is read.
+pub enum Judged {
+    // It is refused with this number.
+    Stop(u32),
+    // It opens a call at this slot, with this record.
+    Opens(usize, Call, Payload),
+    // It goes to the open call at this slot, whose record is this one once the frame is accepted.
+    Goes(usize, Call, Payload),
+}
+
+// The answer's number and the next table.
+pub struct Stepped {
+    pub number: u32,
+    pub table: CallTable,
+}

@@ -1,0 +1,104 @@
+// The record of a call: all that depends on its members.
+use crate::Call;
+use crate::FormRow;
+ghost use mathlib.Core.Path.{_≡_};
+ghost use Rattle.calls.specs.Record.{isCall, isFree, openedCall, complete, allowed, marked, afterFrame, zeroCall, goodOpen};
+
+pub const EMPTY: Call = Call {
+    correlation: 0,
+    method: 0,
+    open: false,
+    responded: false,
+    input_closed: false,
+    output_closed: false,
+};
+
+impl Call {
+    // The record that INVOKE makes.
+    pub fn opened(method: u32, correlation: u64) -> Call
+        ensures { λ r. ⌜ r ≡ openedCall method correlation ⌝ }
+    {
+        Call {
+            correlation,
+            method,
+            open: true,
+            responded: false,
+            input_closed: false,
+            output_closed: false,
+        }
+    }
+
+    // It is open under this correlation.
+    pub fn is_call(self, id: u64) -> bool
+        ensures { λ r. ⌜ r ≡ isCall id self ⌝ }
+    {
+        self.open & (self.correlation == id)
+    }
+
+    pub fn is_free(self) -> bool
+        ensures { λ r. ⌜ r ≡ isFree self ⌝ }
+    {
+        !self.open
+    }
+
+    // RESPONSE has come and each stream that it has is closed.
+    pub fn is_complete(self, row: FormRow) -> bool
+        ensures { λ r. ⌜ r ≡ complete row self ⌝ }
+    {
+        self.responded & ((!row.1 | self.input_closed) & (!row.3 | self.output_closed))
+    }
+
+    // A frame that is no INVOKE is allowed now.
+    pub fn allows(self, row: FormRow, kind: u8) -> bool
+        ensures { λ r. ⌜ r ≡ allowed row kind self ⌝ }
+    {
+        ((kind == 2) & (row.0 & !self.input_closed))
+            | (((kind == 3) & (row.1 & !self.input_closed))
+                | (((kind == 4) & (row.2 & (self.responded & !self.output_closed)))
+                    | (((kind == 5) & (row.3 & (self.responded & !self.output_closed)))
+                        | (((kind == 6) & !self.responded) | (7 <= kind)))))
+    }
+
+    // With the mark of an accepted frame.
+    fn mark(self, kind: u8) -> Call
+        ensures { λ r. ⌜ r ≡ marked kind self ⌝ }
+    {
+        Call {
+            correlation: self.correlation,
+            method: self.method,
+            open: true,
+            responded: self.responded | (kind == 6),
+            input_closed: self.input_closed | (kind == 3),
+            output_closed: self.output_closed | (kind == 5),
+        }
+    }
+
+    // The record after an accepted frame; an ended one is zeroed.
+    pub fn after(self, row: FormRow, kind: u8) -> Call
+        ensures { λ r. ⌜ r ≡ afterFrame row kind self ⌝ }
+    {
+        let next = self.mark(kind);
+        if (7 <= kind) | next.is_complete(row) {
+            EMPTY
+        } else {
+            next
+        }
+    }
+
+    pub fn is_zero(self) -> bool
+        ensures { λ r. ⌜ r ≡ zeroCall self ⌝ }
+    {
+        (self.correlation == 0)
+            & ((self.method == 0) & (!self.responded & (!self.input_closed & !self.output_closed)))
+    }
+
+    // An open record is good by itself, where the schema has so many methods and its own has this form.
+    pub fn is_good_open(self, methods: usize, row: FormRow) -> bool
+        ensures { λ r. ⌜ r ≡ goodOpen methods row self ⌝ }
+    {
+        let m = self.method as usize;
+        (m < methods)
+            & ((!self.input_closed | row.1)
+                & ((!self.output_closed | (row.3 & self.responded)) & !self.is_complete(row)))
+    }
+}

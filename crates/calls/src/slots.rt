@@ -1,0 +1,86 @@
+// The slots of the call table.
+use crate::Call;
+use crate::CallTable;
+use crate::record::EMPTY;
+use schema::Found;
+ghost use mathlib.Core.Path.{_≡_};
+ghost use Prim.Native.Nat.{_≤_};
+ghost use lib.ListN.{set};
+ghost use Rattle.calls.specs.Record.{isCall, isFree};
+ghost use Rattle.calls.specs.Slots.{slot, freshTable, firstSlot, countOpen};
+
+impl CallTable {
+    // All 128 slots free and zero.
+    pub fn fresh() -> CallTable
+        ensures { λ r. ⌜ r ≡ freshTable ⌝ }
+    {
+        CallTable {
+            slots: [EMPTY; 128],
+        }
+    }
+
+    // The record at a slot, and an empty one past the last.
+    pub fn at(self, i: usize) -> Call
+        ensures { λ r. ⌜ r ≡ slot (self .slots) i ⌝ }
+    {
+        if i < 128 { self.slots[i] } else { EMPTY }
+    }
+
+    // The table with another record at a slot; past the last nothing changes.
+    pub fn with_slot(self, i: usize, call: Call) -> CallTable
+        ensures { λ r. ⌜ r .slots ≡ set (self .slots) i call ⌝ }
+    {
+        if i < 128 {
+            let mut next = self;
+            next.slots[i] = call;
+            next
+        } else {
+            self
+        }
+    }
+
+    // The slot of the open call with this correlation.
+    pub fn find(self, id: u64) -> Found
+        ensures { λ r. ⌜ r ≡ firstSlot (isCall id) 0 (self .slots) ⌝ }
+    {
+        let mut i: usize = 0;
+        while i < 128 {
+            let call = self.slots[i];
+            if call.is_call(id) {
+                return Found::At(i);
+            }
+            i += 1;
+        }
+        Found::Missing
+    }
+
+    // The lowest free slot.
+    pub fn free_slot(self) -> Found
+        ensures { λ r. ⌜ r ≡ firstSlot isFree 0 (self .slots) ⌝ }
+    {
+        let mut i: usize = 0;
+        while i < 128 {
+            let call = self.slots[i];
+            if call.is_free() {
+                return Found::At(i);
+            }
+            i += 1;
+        }
+        Found::Missing
+    }
+
+    // How many calls are open.
+    pub fn open_count(self) -> usize
+        ensures { λ r. ⌜ (r ≡ countOpen (self .slots)) × (r ≤ 128) ⌝ }
+    {
+        let mut n: usize = 0;
+        let mut i: usize = 0;
+        while i < 128 {
+            if self.slots[i].open {
+                n += 1;
+            }
+            i += 1;
+        }
+        n
+    }
+}

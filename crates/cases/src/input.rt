@@ -1,0 +1,72 @@
+// The numbers and byte strings of a case file, off standard input. Each reader answers 0 and clears `whole` where the file ends too soon.
+use libc::STDIN_FILENO;
+ghost use Rattle.io.specs.Counts.{Counts};
+
+pub fn byte(whole: &mut bool) -> u64 {
+    let mut b = [0u8; 1];
+    let n = io::read_full(STDIN_FILENO, &mut b);
+    if n < 1 {
+        *whole = false;
+    }
+    wire::little::number(&b, 0, 1)
+}
+
+// Four bytes, the least first.
+pub fn word(whole: &mut bool) -> u32 {
+    let mut b = [0u8; 4];
+    let n = io::read_full(STDIN_FILENO, &mut b);
+    if n < 4 {
+        *whole = false;
+    }
+    wire::little::u32_at(&b, 0)
+}
+
+// Eight bytes, the least first.
+pub fn long(whole: &mut bool) -> u64 {
+    let mut b = [0u8; 8];
+    let n = io::read_full(STDIN_FILENO, &mut b);
+    if n < 8 {
+        *whole = false;
+    }
+    wire::little::number(&b, 0, 8)
+}
+
+// A length and that many bytes, which it puts at the start of buf. A length that buf does not hold counts as a cut file.
+pub fn bytes(buf: &mut [u8], whole: &mut bool) -> usize
+    ensures { λ r. ⌜ Counts r (now (buf .exit)) ⌝ }
+{
+    let n = word(whole) as usize;
+    if buf.len() < n {
+        *whole = false;
+        return 0;
+    }
+    let got = io::read_full(STDIN_FILENO, &mut buf[..n]);
+    if got < n {
+        *whole = false;
+    }
+    n
+}
+
+// A number of cells, at most as many as the sheet has. A greater one counts as a cut file.
+pub fn cells(sheet: &[u32], whole: &mut bool) -> usize
+    ensures { λ r. ⌜ Counts r (now (sheet .entry)) ⌝ }
+{
+    let n = word(whole) as usize;
+    if sheet.len() < n {
+        *whole = false;
+        return 0;
+    }
+    n
+}
+
+// A number of output bytes, at most as many as buf has. A greater one counts as a cut file.
+pub fn room(buf: &[u8], whole: &mut bool) -> usize
+    ensures { λ r. ⌜ Counts r (now (buf .entry)) ⌝ }
+{
+    let n = word(whole) as usize;
+    if buf.len() < n {
+        *whole = false;
+        return 0;
+    }
+    n
+}

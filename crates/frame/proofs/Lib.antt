@@ -1,0 +1,9 @@
+pub mod Tests
+pub mod Places
+pub mod Writes
+pub mod Settled
+pub mod Frames
+pub mod Theorems
+pub mod Answers
+pub mod ReadBack
+pub mod Examples

@@ -1,0 +1,85 @@
+-- What the frame writer writes is a frame, and is read back as the same header and payload.
+-- Assumes nothing.
+use mathlib.Core.Path.{_≡_, sym, ap, _∙_}
+use mathlib.Core.Logic.{_↔_}
+use mathlib.Core.List.{List, _++_, append-assoc}
+use Prim.Native.Nat.{ℕ, _+_, _-_, _^_, _≤_, _<_}
+use native.Mathlib.Omega.{arith}
+use borrow.Author.Tests.{leb-true}
+use lib.Dec.{leb}
+use lib.ListN.{length, take, drop}
+use Rattle.wire.specs.Little.{bytes}
+use Rattle.wire.specs.Varuint.{varuintBytes}
+use Rattle.wire.proofs.Numbers.{length-bytes, little-bytes}
+use Rattle.wire.proofs.Varuints.{shortest-spelled}
+use Rattle.frame.specs.declared.Header.{Header}
+use Rattle.frame.specs.declared.FrameRead.the-variants.{Frame}
+use Rattle.frame.specs.declared.FrameWritten.the-variants.{Written, Refused}
+use Rattle.frame.specs.Frame.{knownKind, frameOf}
+use Rattle.frame.specs.Written.{frontBytes, frameBytes, writtenOf, outputOf}
+use Rattle.frame.specs.IsFrame.{Holds, IsFrame, frame, Fits}
+use Rattle.frame.proofs.Tests.{chosen, known-bounds, bounds-known}
+use Rattle.frame.proofs.Writes.{length-frame, fitting}
+use Rattle.frame.proofs.Theorems.{starts, payload-there, frame-read}
+
+holds-bytes : (n x : ℕ) → x < 256 ^ n → Holds n x (bytes n x)
+holds-bytes n x h = record { width = length-bytes n x; value = little-bytes n x h }
+
+-- the shortest form is a frame
+pub shortest-frame : (h : Header) (p : List ℕ) → Fits h → 1 ≤ h .kind → h .kind ≤ 8 → length p ≤ 16384 → IsFrame h p (frameBytes h p)
+unfolding frameBytes frontBytes
+shortest-frame h p fits least most small =
+    simp append-assoc
+    (frame (varuintBytes (length p)) least most (holds-bytes 4 (h .«package») (fits .«package»)) (holds-bytes 4 (h .service) (fits .service))
+    (holds-bytes 4 (h .method) (fits .method)) (holds-bytes 8 (h .correlation) (fits .correlation)) (shortest-spelled (length p) (omega arith)) small)
+
+-- what the writer accepts
+pub record Accepted (h : Header) (p : List ℕ) (room n : ℕ) : Type 0 where
+  pub least : 1 ≤ h .kind
+  pub most : h .kind ≤ 8
+  pub small : length p ≤ 16384
+  pub size : length (frameBytes h p) ≡ n
+  pub fits : n ≤ room
+
+not-refused : {number n : ℕ} → Refused number ≡ Written n → ⊥
+not-refused e = let z : _≡_ {A = ℕ} 0 1 = cc in omega arith
+
+written-accepted : (h : Header) (p : List ℕ) (room : ℕ) {n : ℕ} → writtenOf h p room ≡ Written n → Accepted h p room n
+unfolding writtenOf
+written-accepted h p room {n = n} e =
+    let kind = chosen (knownKind (h .kind)) _ (Refused 4) not-refused e in
+    let small = chosen (leb (length p) 16384) _ (Refused 7) not-refused (kind .1) in
+    let fits = chosen (leb (length (frameBytes h p)) room) _ (Refused 52) not-refused (small .1) in
+    let size : length (frameBytes h p) ≡ n = cc (fits .1) in
+    let known = known-bounds (h .kind) (kind .0) in
+    record {
+      least = known .0;
+      most = known .1;
+      small = leb-true (length p) 16384 (small .0);
+      size = size;
+      fits = omega (arith, leb-true (length (frameBytes h p)) room (fits .0));
+    }
+
+-- the writer accepts a known kind, a payload within the limit and an output with room, and answers the frame's length
+pub written-iff : (h : Header) (p : List ℕ) (room n : ℕ) → (writtenOf h p room ≡ Written n) ↔ Accepted h p room n
+written-iff h p room n = (written-accepted h p room, accepted-written)
+  where
+    accepted-written : Accepted h p room n → writtenOf h p room ≡ Written n
+    accepted-written a =
+        fitting h p room (bounds-known (h .kind) (a .least) (a .most)) (a .small) (omega (arith, a .size, a .fits, length-frame h p)) ∙ ap Written (sym (length-frame h p) ∙ a .size)
+
+-- what was written, followed by anything, is read as the same header, and the payload stands at its place
+pub record ReadBack (h : Header) (p s : List ℕ) (n : ℕ) : Type 0 where
+  pub reads : frameOf s ≡ Frame h (n - length p) (length p)
+  pub payload : take (length p) (drop (n - length p) s) ≡ p
+
+pub read-back : (h : Header) (p : List ℕ) (room : ℕ) {n : ℕ} → Fits h → writtenOf h p room ≡ Written n → (r : List ℕ) → ReadBack h p (frameBytes h p ++ r) n
+read-back h p room fits e r =
+    let a = written-accepted h p room e in
+    let is = shortest-frame h p fits (a .least) (a .most) (a .small) in
+    record { reads = rw (← a .size) (frame-read r is); payload = rw (← a .size) (payload-there (frameBytes h p ++ r) (starts r is)) }
+
+-- the writer's output is read back
+pub output-read-back : (h : Header) (p out : List ℕ) {n : ℕ} → Fits h → writtenOf h p (length out) ≡ Written n → ReadBack h p (outputOf (Written n) h p out) n
+unfolding outputOf
+output-read-back h p out {n = n} fits e = read-back h p (length out) fits e (drop n out)

@@ -1,0 +1,69 @@
+-- What reading a frame finds, field by field in wire order: a field is judged once it is whole. And what each answer stands for.
+-- Assumes nothing.
+use Prim.Native.Nat.{ℕ, _+_}
+use mathlib.Core.Bool.{Bool, _&&_, cond}
+use mathlib.Core.List.{List}
+use lib.Dec.{leb, eqb}
+use lib.ListN.{length, getD, take, drop}
+use Rattle.wire.specs.Little.{little}
+use Rattle.wire.specs.declared.varuint.VarUInt.{VarUInt}
+use Rattle.wire.specs.declared.varuint.VarUInt.the-variants.{Number, Cut, Malformed}
+use Rattle.wire.specs.Varuint.{front}
+use Rattle.frame.specs.declared.Header.{Header}
+use Rattle.frame.specs.declared.FrameRead.{FrameRead}
+use Rattle.frame.specs.declared.FrameRead.the-variants.{More, Frame, Refused}
+
+-- the n bytes at the front of s, once they are there, and what is left after them
+unfoldable pub whole : ℕ → List ℕ → (List ℕ → List ℕ → FrameRead) → FrameRead
+whole n s next = cond (leb n (length s)) (next (take n s) (drop n s)) More
+
+-- goes on where the test holds, and else refuses
+abbrev pub check : Bool → ℕ → FrameRead → FrameRead
+check right number next = cond right next (Refused number)
+
+-- AF 01
+abbrev pub isMagic : List ℕ → Bool
+isMagic b = eqb (getD b 0 0) 0xAF && eqb (getD b 1 0) 0x01
+
+-- the eight kinds
+abbrev pub knownKind : ℕ → Bool
+knownKind k = leb 1 k && leb k 8
+
+-- the payload, from its length on; the bytes end at `end`
+unfoldable pub payloadOf : ℕ → Header → VarUInt → FrameRead
+payloadOf end h Cut = More
+payloadOf end h Malformed = Refused 6
+payloadOf end h (Number n place) = check (leb n 16384) 7 (cond (leb (place + n) end) (Frame h place n) More)
+
+-- what is read at the front of the bytes: 25 bytes of fields, then the payload's length and the payload
+unfoldable pub frameOf : List ℕ → FrameRead
+frameOf bytes =
+    whole 2 bytes λ magic s. check (isMagic magic) 2
+    (whole 1 s λ version s. check (eqb (little version) 1) 3
+    (whole 1 s λ kind s. check (knownKind (little kind)) 4
+    (whole 1 s λ flags s. check (eqb (little flags) 0) 5
+    (whole 4 s λ «package» s.
+    whole 4 s λ service s.
+    whole 4 s λ method s.
+    whole 8 s λ correlation s.
+    payloadOf (length bytes)
+    (record {
+      kind = little kind;
+      «package» = little «package»;
+      service = little service;
+      method = little method;
+      correlation = little correlation;
+    })
+    (front s 25)))))
+
+-- 01's number of an answer
+abbrev pub readNumber : FrameRead → ℕ
+readNumber More = 1
+readNumber (Frame h place n) = 0
+readNumber (Refused number) = number
+
+-- 01's bytes used: the frame's length for a frame
+abbrev pub readUsed : FrameRead → ℕ
+readUsed More = 0
+readUsed (Frame h place n) = place + n
+readUsed (Refused number) = 0

@@ -1,0 +1,4 @@
+pub mod Frame
+pub mod Places
+pub mod Written
+pub mod IsFrame

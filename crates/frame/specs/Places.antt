@@ -1,0 +1,21 @@
+-- The header by the places of its fields, as the code finds it.
+-- Assumes nothing.
+use Prim.Native.Nat.{ℕ}
+use mathlib.Core.List.{List}
+use lib.ListN.{take, drop}
+use Rattle.wire.specs.Little.{little}
+use Rattle.frame.specs.declared.Header.{Header}
+
+-- the number in the n bytes from at on
+abbrev pub numberAt : List ℕ → ℕ → ℕ → ℕ
+numberAt s at n = little (take n (drop at s))
+
+abbrev pub headerAt : List ℕ → Header
+headerAt s =
+    record {
+      kind = numberAt s 3 1;
+      «package» = numberAt s 5 4;
+      service = numberAt s 9 4;
+      method = numberAt s 13 4;
+      correlation = numberAt s 17 8;
+    }

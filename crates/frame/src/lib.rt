@@ -1,0 +1,196 @@
+// Frames: the reader, which judges a field once it is whole, and the writer.
+use wire::little::number;
+use wire::little::store;
+use wire::varuint::VarUInt;
+ghost use mathlib.Core.Path.{_≡_};
+ghost use mathlib.Core.List.{[], _∷_};
+ghost use Prim.Native.Nat.{_+_, _≤_};
+ghost use lib.ListN.{length};
+ghost use Rattle.wire.specs.Little.{written};
+ghost use Rattle.wire.specs.Varuint.{varuint, varuintBytes};
+ghost use Rattle.frame.specs.Frame.{knownKind, payloadOf, frameOf};
+ghost use Rattle.frame.specs.Places.{numberAt, headerAt};
+ghost use Rattle.frame.specs.Written.{frontBytes, writtenOf, outputOf};
+
+// A frame's header. The kind of a frame that was read is 1 to 8; the writer may be handed any number.
+pub struct Header {
+    pub kind: u32,
+    pub package: u32,
+    pub service: u32,
+    pub method: u32,
+    pub correlation: u64,
+}
+
+pub enum FrameRead {
+    // More bytes are needed.
+    More,
+    // A whole frame: its header, and the payload's place and length in the bytes.
+    Frame {
+        header: Header,
+        place: usize,
+        length: usize,
+    },
+    // A refusal's number, 2 to 7.
+    Refused(u32),
+}
+
+pub enum FrameWritten {
+    // The frame's length.
+    Written(usize),
+    // A refusal's number: 4, 7 or 52.
+    Refused(u32),
+}
+
+// One of the eight kinds.
+fn known_kind(kind: u32) -> bool
+    ensures { λ r. ⌜ r ≡ knownKind kind ⌝ }
+{
+    (1 <= kind) & (kind <= 8)
+}
+
+// One byte as a number.
+fn byte(s: &[u8], at: usize) -> u32
+    requires { ⌜ at + 1 ≤ length (now s) ⌝ }
+    ensures { λ r. ⌜ r ≡ numberAt (now (s .entry)) at 1 ⌝ }
+{
+    s[at] as u32
+}
+
+// The little-endian number of four bytes.
+fn word(s: &[u8], at: usize) -> u32
+    requires { ⌜ at + 4 ≤ length (now s) ⌝ }
+    ensures { λ r. ⌜ r ≡ numberAt (now (s .entry)) at 4 ⌝ }
+{
+    number(s, at, 4) as u32
+}
+
+// The header, from the fields' places.
+fn header_at(s: &[u8]) -> Header
+    requires { ⌜ 25 ≤ length (now s) ⌝ }
+    ensures { λ r. ⌜ r ≡ headerAt (now (s .entry)) ⌝ }
+{
+    Header {
+        kind: byte(s, 3),
+        package: word(s, 5),
+        service: word(s, 9),
+        method: word(s, 13),
+        correlation: number(s, 17, 8),
+    }
+}
+
+// From the payload's length on: malformed is 6, above 16,384 is 7, whether or not the payload is there.
+fn read_payload(s: &[u8]) -> FrameRead
+    requires { ⌜ 25 ≤ length (now s) ⌝ }
+    ensures { λ r. ⌜ r ≡ payloadOf (length (now (s .entry))) (headerAt (now (s .entry))) (varuint (now (s .entry)) 25) ⌝ }
+{
+    match wire::varuint::read(s, 25) {
+        VarUInt::Number { value, next } => {
+            if 16384 < value {
+                return FrameRead::Refused(7);
+            }
+            let length = value as usize;
+            if s.len() - next < length {
+                return FrameRead::More;
+            }
+            FrameRead::Frame {
+                header: header_at(s),
+                place: next,
+                length,
+            }
+        }
+        VarUInt::Cut => FrameRead::More,
+        VarUInt::Malformed => FrameRead::Refused(6),
+    }
+}
+
+// Reads the frame at the front of the bytes. A field is judged once it is whole; bytes after the frame are not looked at.
+pub fn read_frame(bytes: &[u8]) -> FrameRead
+    ensures { λ r. ⌜ r ≡ frameOf (now (bytes .entry)) ⌝ }
+{
+    let n = bytes.len();
+    if n < 2 {
+        return FrameRead::More;
+    }
+    if !((bytes[0] == 0xAF) & (bytes[1] == 0x01)) {
+        return FrameRead::Refused(2);
+    }
+    if n < 3 {
+        return FrameRead::More;
+    }
+    if byte(bytes, 2) != 1 {
+        return FrameRead::Refused(3);
+    }
+    if n < 4 {
+        return FrameRead::More;
+    }
+    if !known_kind(byte(bytes, 3)) {
+        return FrameRead::Refused(4);
+    }
+    if n < 5 {
+        return FrameRead::More;
+    }
+    if byte(bytes, 4) != 0 {
+        return FrameRead::Refused(5);
+    }
+    if n < 25 {
+        return FrameRead::More;
+    }
+    read_payload(bytes)
+}
+
+// The bytes of src into d from at on.
+fn copy(d: &mut [u8], at: usize, src: &[u8])
+    requires { ⌜ at + length (now src) ≤ length (now d) ⌝ }
+    ensures { λ _. ⌜ now (d .exit) ≡ written (now (d .entry)) at (now (src .entry)) ⌝ }
+{
+    let mut i = 0;
+    while i < src.len() {
+        d[at + i] = src[i];
+        i += 1;
+    }
+}
+
+// The first five bytes of a frame: magic, version, kind and flags.
+fn write_start(out: &mut [u8], kind: u32)
+    requires { ⌜ (5 ≤ length (now out)) × (kind ≤ 8) ⌝ }
+    ensures { λ _. ⌜ now (out .exit) ≡ written (now (out .entry)) 0 (0xAF ∷ 0x01 ∷ 0x01 ∷ kind ∷ 0x00 ∷ []) ⌝ }
+{
+    out[0] = 0xAF;
+    out[1] = 0x01;
+    out[2] = 0x01;
+    out[3] = kind as u8;
+    out[4] = 0x00;
+}
+
+// All before the payload, of which there are n bytes.
+fn write_front(out: &mut [u8], header: Header, n: u64)
+    requires { ⌜ (25 + length (varuintBytes n) ≤ length (now out)) × (header .kind ≤ 8) ⌝ }
+    ensures { λ _. ⌜ now (out .exit) ≡ written (now (out .entry)) 0 (frontBytes header n) ⌝ }
+{
+    write_start(out, header.kind);
+    store(out, 5, 4, header.package as u64);
+    store(out, 9, 4, header.service as u64);
+    store(out, 13, 4, header.method as u64);
+    store(out, 17, 8, header.correlation);
+    wire::varuint::write(out, 25, n);
+}
+
+// Writes a frame with the shortest length. A refusal (4, 7, 52 in this order) leaves the output as it was.
+pub fn write_frame(header: Header, payload: &[u8], out: &mut [u8]) -> FrameWritten
+    ensures { λ r. ⌜ (r ≡ writtenOf header (now (payload .entry)) (length (now (out .entry)))) × (now (out .exit) ≡ outputOf r header (now (payload .entry)) (now (out .entry))) ⌝ }
+{
+    if !known_kind(header.kind) {
+        return FrameWritten::Refused(4);
+    }
+    let n = payload.len();
+    if 16384 < n {
+        return FrameWritten::Refused(7);
+    }
+    let place = 25 + wire::varuint::size(n as u64);
+    if out.len() < place + n {
+        return FrameWritten::Refused(52);
+    }
+    write_front(out, header, n as u64);
+    copy(out, place, payload);
+    FrameWritten::Written(place + n)
+}

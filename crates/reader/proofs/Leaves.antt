@@ -1,0 +1,204 @@
+-- Laws of the leaves: what each of their returns shows of the reading in the crate `value`.
+-- Assumes nothing.
+use mathlib.Core.Path.{_≡_, refl, sym, ap, _∙_}
+use mathlib.Core.Bool.{Bool, true, false, not, _&&_, _||_}
+use mathlib.Core.List.{List, [], _∷_}
+use Prim.Native.Nat.{ℕ, zero, suc, _+_, _-_, _*_, _/_, _%_, _^_, _≤_, _<_}
+use native.Mathlib.Nat.{mul-le-mul, one-mul}
+use native.Mathlib.Omega.{arith}
+use borrow.Author.Tests.{le-leb, lt-leb, lt-ltb, le-ltb, eq-eqb, ne-eqb}
+use lib.Dec.{T, leb, ltb, eqb, leb→le}
+use lib.ListN.{length, getD, take, drop, length-drop, length-take}
+use lib.Seq.{drop-drop, drop-cons, take-nil, slice, length-take-le}
+use Rattle.wire.specs.Little.{little}
+use Rattle.wire.specs.Varuint.{varuint}
+use Rattle.wire.specs.Utf8.{utf8}
+use Rattle.wire.specs.declared.varuint.VarUInt.the-variants.{Number, Cut, Malformed}
+use Rattle.wire.proofs.Varuints.{varuint-inside}
+use Rattle.wire.proofs.Numbers.{little-one}
+use Rattle.schema.specs.Table.{scalar, text, width}
+use Rattle.value.specs.Answer.{Cursor, Answer, refused, seen, Reader, andThen, check, cursorAt, block, varUInt}
+use Rattle.value.specs.Read.{Own, plain, count, own}
+use Rattle.reader.specs.declared.leaf.Count.{Count}
+use Rattle.reader.specs.declared.leaf.Count.the-variants.{Is, Not}
+use Rattle.reader.specs.declared.leaf.Span.{Span}
+use Rattle.reader.specs.declared.leaf.Span.the-variants.{At, Bad}
+use Rattle.reader.specs.Leaf.{Accepted, part, countOf, CountIn, Counted, leafShape, spanOf, SpanIn, Spanned}
+
+-- ---- answers that accept
+
+-- Where two readers one after the other accept, the first does.
+pub accepted-first : {A B : Type 0} (m : Answer A) (f : A → Reader B) → Accepted (andThen m f) → Accepted m
+unfolding andThen
+accepted-first (refused n q) f h = h
+accepted-first (seen a c) f h = tt
+
+pub accepted-check : {A : Type 0} (b : Bool) (n q : ℕ) (c : Cursor) (f : Unit {0} → Reader A) → Accepted (andThen (check b n q c) f) → b ≡ true
+unfolding andThen check
+accepted-check true n q c f h = refl
+accepted-check false n q c f h = absurd h
+
+-- ---- parts of the payload
+
+take-drop : (f t : ℕ) (l : List ℕ) → drop f (take t l) ≡ take (t - f) (drop f l)
+take-drop zero t l = let e : t - 0 ≡ t = omega arith in rw e
+take-drop (suc f) zero l = let e : 0 - suc f ≡ 0 = omega arith in rw e
+take-drop (suc f) (suc t) [] = sym (take-nil (suc t - suc f))
+take-drop (suc f) (suc t) (x ∷ l) = let e : suc t - suc f ≡ t - f = omega arith in rw e (take-drop f t l)
+
+pub slice-part : (p : List ℕ) (from to : ℕ) → slice from to p ≡ part p from to
+slice-part p from to = take-drop from to p
+
+pub length-part : (p : List ℕ) (from to : ℕ) → to ≤ length p → length (part p from to) ≡ to - from
+length-part p from to h = simp (length-take, length-drop) (omega arith)
+
+module _ (p : List ℕ) (at : ℕ) where
+  part-is : (n : ℕ) → take n (drop at p) ≡ part p at (at + n)
+  part-is n = let e : at + n - at ≡ n = omega arith in rw e
+
+  pub block-reads : (n : ℕ) → at + n ≤ length p → block n (cursorAt p at) ≡ seen (part p at (at + n)) (cursorAt p (at + n))
+  unfolding block check andThen
+  block-reads n h =
+      let l : n ≤ length (drop at p) = rw length-drop (omega arith) in
+      rw (le-leb n (length (drop at p)) l, drop-drop n at p, part-is n)
+
+  pub block-short : (n : ℕ) → length p - at < n → block n (cursorAt p at) ≡ refused 20 at
+  unfolding block check andThen
+  block-short n h =
+      let l : length (drop at p) < n = rw length-drop h in
+      rw (lt-leb n (length (drop at p)) l)
+
+  -- ---- counts
+
+  number-reads : (n next : ℕ) → varuint p at ≡ Number n next → varUInt (cursorAt p at) ≡ seen n (cursorAt p next)
+  unfolding varUInt
+  number-reads n next e =
+      let i = varuint-inside p at n next e in
+      let f : at + (next - at) ≡ next = omega arith in
+      rw (e, drop-drop (next - at) at p, f)
+
+  module _ (least : ℕ) where
+    pub count-cut : varuint p at ≡ Cut → Counted p at least (count least (cursorAt p at)) (Not 20)
+    unfolding count varUInt andThen
+    count-cut e = record { same = rw e; within = tt }
+
+    pub count-malformed : varuint p at ≡ Malformed → Counted p at least (count least (cursorAt p at)) (Not 21)
+    unfolding count varUInt andThen
+    count-malformed e = record { same = rw e; within = tt }
+
+    module _ (n next : ℕ) (is : varuint p at ≡ Number n next) where
+      pub count-large : length p - next < least * n → Counted p at least (count least (cursorAt p at)) (Not 20)
+      unfolding count andThen check
+      count-large h =
+          let l : length (drop next p) < least * n = rw length-drop h in
+          record { same = rw (number-reads n next is, lt-leb (least * n) (length (drop next p)) l); within = tt }
+
+      pub count-above : 0 < least → length p - next < n → Counted p at least (count least (cursorAt p at)) (Not 20)
+      count-above z h =
+          let m : 1 * n ≤ least * n = mul-le-mul {n₁ = 1} {m₁ = n} (omega arith) (omega arith) in
+          count-large (omega arith)
+
+      pub count-is : least * n ≤ length p - next → Counted p at least (count least (cursorAt p at)) (Is n next)
+      unfolding count andThen check
+      count-is h =
+          let l : least * n ≤ length (drop next p) = rw length-drop h in
+          let i = varuint-inside p at n next is in
+          record { same = rw (number-reads n next is, le-leb (least * n) (length (drop next p)) l); within = (i .0, omega arith) }
+
+-- ---- widths
+
+abbrev fits : List ℕ → Bool
+fits [] = true
+fits (w ∷ ws) = (leb 1 w && leb w 8) && fits ws
+
+both : (a b : Bool) → T (a && b) → T a × T b
+both true b t = (tt, t)
+both false b t = absurd t
+
+fits-at : (ws : List ℕ) (i : ℕ) → T (fits ws) → i < length ws → (1 ≤ getD ws i 0) × (getD ws i 0 ≤ 8)
+fits-at [] i t h = absurd (omega arith)
+fits-at (w ∷ ws) zero t h =
+    let r = both (leb 1 w) (leb w 8) (both (leb 1 w && leb w 8) (fits ws) t .0) in
+    (leb→le 1 w (r .0), leb→le w 8 (r .1))
+fits-at (w ∷ ws) (suc i) t h = fits-at ws i (both (leb 1 w && leb w 8) (fits ws) t .1) (omega arith)
+
+pub width-fits : (kind : ℕ) → 0 < kind → kind < 12 → (0 < width kind) × (width kind ≤ 8)
+width-fits zero z h = absurd (omega arith)
+width-fits (suc k) z h = fits-at (1 ∷ 1 ∷ 2 ∷ 4 ∷ 8 ∷ 1 ∷ 2 ∷ 4 ∷ 8 ∷ 4 ∷ 8 ∷ []) k tt (omega arith)
+
+-- ---- scalars
+
+module _ (p : List ℕ) (kind at w : ℕ) (is : w ≡ width kind) where
+  pub scalar-cut : length p - at < w → Spanned p at (own (scalar kind) (cursorAt p at)) (Bad 20 at)
+  unfolding andThen
+  scalar-cut h = record { same = rw (← is, block-short p at w h); within = tt }
+
+  module _ (room : at + w ≤ length p) where
+    pub scalar-at : (not (eqb kind 1) || ltb (little (part p at (at + w))) 2) ≡ true → 0 < w → Spanned p at (own (scalar kind) (cursorAt p at)) (At at (at + w))
+    unfolding andThen check
+    scalar-at t z = record { same = rw (← is, block-reads p at w room, t); within = (omega arith, room, omega arith) }
+
+    little-first : kind ≡ 1 → little (part p at (at + w)) ≡ getD p at 0
+    little-first k =
+        let e : w ≡ 1 = is ∙ ap width k in
+        let f : at + w - at ≡ 1 = omega arith in
+        rw f (little-one p at (omega arith))
+
+    pub scalar-truth : kind ≡ 1 → getD p at 0 ≤ 1 → (not (eqb kind 1) || ltb (little (part p at (at + w))) 2) ≡ true
+    scalar-truth k h = rw (eq-eqb kind 1 k, little-first k) (lt-ltb (getD p at 0) 2 (omega arith))
+
+    pub scalar-other : (kind ≡ 1 → ⊥) → (not (eqb kind 1) || ltb (little (part p at (at + w))) 2) ≡ true
+    scalar-other k = rw (ne-eqb kind 1 k)
+
+    pub scalar-bad : kind ≡ 1 → 1 < getD p at 0 → Spanned p at (own (scalar kind) (cursorAt p at)) (Bad 22 at)
+    unfolding andThen check
+    scalar-bad k h =
+        let f : ltb (little (part p at (at + w))) 2 ≡ false = rw (little-first k) (le-ltb (getD p at 0) 2 h) in
+        record { same = rw (← is, block-reads p at w room, f, eq-eqb kind 1 k); within = tt }
+
+-- ---- strings and bytes
+
+module _ (p : List ℕ) (kind at : ℕ) (r : Count) (counted : Counted p at 1 (count 1 (cursorAt p at)) r) where
+  pub text-refused : (number : ℕ) → r ≡ Not number → Spanned p at (own (text kind) (cursorAt p at)) (Bad number at)
+  unfolding andThen
+  text-refused number e = record { same = rw (sym (counted .same), e); within = tt }
+
+  module _ (n start : ℕ) (is : r ≡ Is n start) where
+    pub text-in : (at < start) × (start + n ≤ length p)
+    text-in =
+        let v : CountIn (length p) at 1 (Is n start) = rw is at (counted .within) in
+        omega arith
+
+    read-as : count 1 (cursorAt p at) ≡ seen n (cursorAt p start)
+    read-as = sym (counted .same) ∙ ap (countOf p at) is
+
+    pub text-known : kind ≡ 12 → Accepted (own (text kind) (cursorAt p at)) → utf8 (slice start (start + n) p) ≡ true
+    unfolding andThen
+    text-known k h =
+        rw (slice-part p start (start + n))
+        (accepted-check (utf8 (part p start (start + n))) 23 start (cursorAt p (start + n)) (λ _ c. seen (plain (part p start (start + n))) c)
+        (rw (read-as, block-reads p start n (text-in .1), eq-eqb kind 12 k) at h))
+
+    pub text-bad : kind ≡ 12 → utf8 (slice start (start + n) p) ≡ false → Spanned p at (own (text kind) (cursorAt p at)) (Bad 23 start)
+    unfolding andThen check
+    text-bad k e =
+        let f : utf8 (part p start (start + n)) ≡ false = rw (slice-part p start (start + n)) at e in
+        record { same = rw (read-as, block-reads p start n (text-in .1), f, eq-eqb kind 12 k); within = tt }
+
+    pub text-at : (not (eqb kind 12) || utf8 (part p start (start + n))) ≡ true → Spanned p at (own (text kind) (cursorAt p at)) (At start (start + n))
+    unfolding andThen check
+    text-at t = record { same = rw (read-as, block-reads p start n (text-in .1), t); within = (omega arith, text-in .1, omega (arith, text-in .0)) }
+
+    pub text-valid : kind ≡ 12 → utf8 (slice start (start + n) p) ≡ true → (not (eqb kind 12) || utf8 (part p start (start + n))) ≡ true
+    text-valid k e = rw (eq-eqb kind 12 k, ← slice-part p start (start + n)) e
+
+    pub text-plain : (kind ≡ 12 → ⊥) → (not (eqb kind 12) || utf8 (part p start (start + n))) ≡ true
+    text-plain k = rw (ne-eqb kind 12 k)
+
+pub leaf-scalar : (kind : ℕ) → kind < 12 → leafShape kind ≡ scalar kind
+unfolding leafShape
+leaf-scalar kind h = rw (lt-ltb kind 12 h)
+
+pub leaf-text : (kind : ℕ) → 12 ≤ kind → leafShape kind ≡ text kind
+unfolding leafShape
+leaf-text kind h = rw (le-ltb kind 12 h)

@@ -1,0 +1,9 @@
+pub mod Sheets
+pub mod Leaves
+pub mod Tables
+pub mod Heads
+pub mod Keys
+pub mod Steps
+pub mod Composites
+pub mod Roots
+pub mod Entries

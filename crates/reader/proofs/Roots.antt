@@ -1,0 +1,130 @@
+-- Laws of the root: its known fields as those of any struct, and what follows them.
+-- Assumes nothing.
+use mathlib.Core.Path.{_≡_, refl, sym, ap, _∙_}
+use mathlib.Core.List.{List, []}
+use Prim.Native.Nat.{ℕ, zero, suc, _-_, _≤_, _<_}
+use native.Mathlib.Omega.{arith}
+use borrow.Author.Tests.{eq-eqb, ne-eqb, le-leb, lt-leb}
+use lib.ListN.{length, drop, length-drop}
+use Rattle.schema.specs.declared.Field.{Field}
+use Rattle.schema.specs.Table.{Shape, struct}
+use Rattle.value.specs.Answer.{Cursor, Answer, refused, seen, Reader, andThen, check, cursorAt}
+use Rattle.value.specs.Value.{Tree, branch, Forest, rows}
+use Rattle.value.specs.Read.{present, counted, plan, bitmap, parts, walk, nodeRow, whole, parse, knownBits, unknownBits, ending, rootStruct}
+use Rattle.reader.specs.declared.leaf.Head.{Head}
+use Rattle.reader.specs.declared.leaf.Head.the-variants.{Bits, Fault}
+use Rattle.reader.specs.declared.walk.Walk.{Walk}
+use Rattle.reader.specs.declared.walk.Walk.the-variants.{Past, Refused}
+use Rattle.reader.specs.Leaf.{Accepted, headOf, HeadIn, Headed}
+use Rattle.reader.specs.Walk.{done, stopped, walkOf, Walked}
+use Rattle.reader.proofs.Leaves.{accepted-first}
+
+-- ---- what follows the known fields
+
+module _ (p : List ℕ) (next : ℕ) where
+  pub ending-surplus : (u : ℕ) → u ≡ 0 → (length p - next ≡ 0 → ⊥) → ending u (cursorAt p next) ≡ refused 27 next
+  unfolding ending check
+  ending-surplus zero e h =
+      let k : length (drop next p) ≡ 0 → ⊥ = λ z. h (sym (length-drop next p) ∙ z) in
+      rw (ne-eqb (length (drop next p)) 0 k)
+  ending-surplus (suc u) e h = absurd (omega arith)
+
+  pub ending-short : (u : ℕ) → length p - next < u → ending u (cursorAt p next) ≡ refused 20 next
+  unfolding ending check
+  ending-short zero h = absurd (omega arith)
+  ending-short (suc u) h =
+      let k : length (drop next p) < suc u = rw length-drop h in
+      rw (lt-leb (suc u) (length (drop next p)) k)
+
+  pub ending-fits : (u : ℕ) → u ≤ length p - next → (u ≡ 0 → length p - next ≡ 0) → ending u (cursorAt p next) ≡ seen tt (cursorAt p next)
+  unfolding ending check
+  ending-fits zero h z =
+      let k : length (drop next p) ≡ 0 = length-drop next p ∙ z refl in
+      rw (eq-eqb (length (drop next p)) 0 k)
+  ending-fits (suc u) h z =
+      let k : suc u ≤ length (drop next p) = rw length-drop h in
+      rw (le-leb (suc u) (length (drop next p)) k)
+
+-- ---- the root
+
+-- The end of a root with so many unknown bits, after its known fields.
+afterFields : ℕ → Tree → Reader Tree
+afterFields u tree c = andThen (ending u c) (λ _ c. seen tree c)
+
+module _ (t place n h u : ℕ) where
+  regrouped : (o : Answer Forest)
+      → andThen o (λ ts end. andThen (ending u end) (λ _ c. seen (branch (nodeRow t place (end .at) n) h ts) c))
+      ≡ andThen (andThen o (λ ts end. seen (branch (nodeRow t place (end .at) n) h ts) end)) (afterFields u)
+  unfolding andThen afterFields
+  regrouped (seen ts c) = refl
+  regrouped (refused m q) = refl
+
+module _ (p : List ℕ) (next row′ : ℕ) (l m : List ℕ) (u : ℕ) where
+  end-past : (o : Answer Tree) → done (cursorAt p next) row′ m ≡ walkOf rows o 0 l → ending u (cursorAt p next) ≡ seen tt (cursorAt p next)
+      → done (cursorAt p next) row′ m ≡ walkOf rows (andThen o (afterFields u)) 0 l
+  unfolding andThen afterFields
+  end-past (seen tree c) e f = let k : cursorAt p next ≡ c = cc in rw (← k, f) (rw (← k) at e)
+  end-past (refused a q) e f = let z : _≡_ {A = ℕ} 0 1 = cc in absurd (omega arith)
+
+  end-stop : (o : Answer Tree) → done (cursorAt p next) row′ m ≡ walkOf rows o 0 l → (a q : ℕ) → ending u (cursorAt p next) ≡ refused a q
+      → stopped a q ≡ walkOf rows (andThen o (afterFields u)) 0 l
+  unfolding andThen afterFields
+  end-stop (seen tree c) e a q f = let k : cursorAt p next ≡ c = cc in rw (← k, f)
+  end-stop (refused b r) e a q f = let z : _≡_ {A = ℕ} 0 1 = cc in absurd (omega arith)
+
+fields-stop : (l : List ℕ) (u a q : ℕ) (o : Answer Tree) → stopped a q ≡ walkOf rows o 0 l → stopped a q ≡ walkOf rows (andThen o (afterFields u)) 0 l
+unfolding andThen
+fields-stop l u a q (seen tree c) e = let z : _≡_ {A = ℕ} 0 1 = cc in absurd (omega arith)
+fields-stop l u a q (refused b r) e = e
+
+module _ (S : ℕ → Shape) (t : ℕ) (fs : List Field) (p : List ℕ) where
+  -- where the root is accepted, its bitmap is
+  pub root-bitmap : Accepted (rootStruct S t fs (cursorAt p 0)) → Accepted (bitmap fs (cursorAt p 0))
+  unfolding rootStruct
+  root-bitmap h = accepted-first (bitmap fs (cursorAt p 0)) _ h
+
+  module _ (r : Head) (read : Headed p 0 fs (bitmap fs (cursorAt p 0)) r) where
+    pub root-refused : (number : ℕ) → r ≡ Fault number → rootStruct S t fs (cursorAt p 0) ≡ refused number 0
+    unfolding rootStruct andThen
+    root-refused number e = rw (sym (read .same) ∙ ap (headOf p 0) e)
+
+    module _ (word known count unknown start : ℕ) (is : r ≡ Bits word known count unknown start) where
+      pub root-in : HeadIn (length p) 0 fs (Bits word known count unknown start)
+      root-in = rw is at (read .within)
+
+      -- the known fields are read as those of an inner struct
+      inner : Answer Tree
+      inner = whole (parse S 15) t (struct fs) (parts 0 known) (cursorAt p start)
+
+      root-step : rootStruct S t fs (cursorAt p 0) ≡ andThen inner (afterFields unknown)
+      unfolding rootStruct andThen inner
+      root-step =
+          rw (sym (read .same) ∙ ap (headOf p 0) is, ← root-in .0, ← root-in .2)
+          (regrouped t 0 (counted (struct fs) known) known unknown (walk (parse S 15) [] (plan (struct fs) known) (cursorAt p start)))
+
+      pub root-fields : Accepted (rootStruct S t fs (cursorAt p 0)) → Accepted (whole (parse S 15) t (struct fs) (parts 0 known) (cursorAt p start))
+      unfolding inner
+      root-fields h = accepted-first inner (afterFields unknown) (rw root-step at h)
+
+      pub root-stop : (a q : ℕ) (l m : List ℕ)
+          → Walked p start rows (whole (parse S 15) t (struct fs) (parts 0 known) (cursorAt p start)) 0 l (Refused a q) m
+          → Walked p 1 rows (rootStruct S t fs (cursorAt p 0)) 0 l (Refused a q) m
+      unfolding inner
+      root-stop a q l m w = record { same = rw root-step (fields-stop l unknown a q inner (w .same)); within = tt }
+
+      module _ (next row′ : ℕ) (l m : List ℕ)
+          (w : Walked p start rows (whole (parse S 15) t (struct fs) (parts 0 known) (cursorAt p start)) 0 l (Past next row′) m) where
+        pub root-end : (a q : ℕ) → ending unknown (cursorAt p next) ≡ refused a q
+            → Walked p 1 rows (rootStruct S t fs (cursorAt p 0)) 0 l (Refused a q) m
+        unfolding inner
+        root-end a q e = record { same = rw root-step (end-stop p next row′ l m unknown inner (w .same) a q e); within = tt }
+
+        pub root-past : unknown ≤ length p - next → (unknown ≡ 0 → length p - next ≡ 0)
+            → Walked p 1 rows (rootStruct S t fs (cursorAt p 0)) 0 l (Past next row′) m
+        unfolding inner
+        root-past fit none =
+            let v = w .within in
+            record {
+              same = rw root-step (end-past p next row′ l m unknown inner (w .same) (ending-fits p next unknown fit none));
+              within = (v .0, v .1, omega (arith, root-in .4));
+            }

@@ -1,0 +1,52 @@
+-- `reader::read_payload` meets its contract: each return says which case holds. The first walk is over no cells, so it writes none; the second is known to accept.
+-- Assumes nothing.
+use mathlib.Core.Path.{sym}
+use mathlib.Core.Bool.{false≢true}
+use native.Mathlib.Omega.{arith}
+use Rattle.reader.proofs.Tables.{struct-row}
+use Rattle.reader.proofs.Steps.{was}
+use Rattle.reader.proofs.Entries.{entry-type, entry-long, entry-refused, entry-judged, entry-full, entry-shown}
+use borrow.Author.Needs.{needs}
+use Rattle.reader.proofs.read_payload.Statement.{statement}
+use Rattle.reader.proofs.read_payload.Tie as tie
+
+pub read-payload-spec : {M : Type 1} → statement M
+read-payload-spec =
+    tie.close
+    (tie.spec
+    -- type-row-requires
+    (λ c κs. search needs)
+    -- returns
+    (λ c. entry-type (c .before .before .before .before .before .before .args .schema .now) (c .before .before .before .before .before .before .args .ty) (c .before .before .before .before .before .before .args .payload .now) (c .before .before .before .before .before .before .args .sheet .now) (c .before .before .type-row .result) (c .before .before .type-row .ensures) (c .if1 .taken))
+    -- returns-2
+    (λ c. entry-long (c .before .before .before .before .before .before .before .args .schema .now) (c .before .before .before .before .before .before .before .args .ty) (c .before .before .before .before .before .before .before .args .payload .now) (c .before .before .before .before .before .before .before .args .sheet .now) (c .before .before .before .type-row .result) (c .before .before .before .type-row .ensures) (c .before .if1 .left) (c .if2 .taken))
+    -- cast-first
+    (λ c. search needs)
+    -- cast-n
+    (λ c. search needs)
+    -- slice-relend-prefix-root
+    (λ c. search needs)
+    -- slice-aggregate-root
+    (λ c. search needs)
+    -- root-requires
+    (λ c κs. (record { good = c .before .before .before .before .before .before .before .before .before .before .pre; small = c .before .before .before .if2 .left; inside = omega arith; behind = omega arith; judged = λ j. absurd (false≢true (sym j)) }, struct-row (c .before .before .before .before .before .before .before .before .before .before .args .schema .now) (c .before .before .before .before .before .before .before .before .before .before .pre) (c .before .before .before .before .before .before .before .before .before .before .args .ty) _ (c .before .before .before .before .before .before .type-row .ensures) (c .before .before .before .before .if1 .left)))
+    -- enum-known-number
+    (λ c. search needs)
+    -- enum-known-next
+    (λ c. search needs)
+    -- same-length
+    (λ c. search needs)
+    -- returns-3
+    (λ c. entry-full (c .before .before .before .before .before .before .before .before .before .before .before .before .before .before .before .before .before .args .schema .now) (c .before .before .before .before .before .before .before .before .before .before .before .before .before .before .before .before .before .args .ty) (c .before .before .before .before .before .before .before .before .before .before .before .before .before .before .before .before .before .args .payload .now) (c .before .before .before .before .before .before .before .before .before .before .before .before .before .before .before .before .before .args .sheet .now) (c .before .before .before .before .before .before .before .before .before .before .before .before .before .type-row .result) (c .before .before .before .before .before .before .before .before .before .before .before .before .before .type-row .ensures) (c .before .before .before .before .before .before .before .before .before .before .before .if1 .left) (c .before .before .before .before .before .before .before .before .before .before .if2 .left) _ (c .before .before .before .before .before .before .root .kept .1 .1 .0) _ _ (was (c .before .before .before .before .before .before .root .ensures) (c .before .before .next .given .1)) (c .if3 .taken))
+    -- root-requires-2
+    (λ c κs. (record { good = c .before .before .before .before .before .before .before .before .before .before .before .before .before .before .before .before .before .before .pre; small = c .before .before .before .before .before .before .before .before .before .before .before .if2 .left; inside = omega arith; behind = omega arith; judged = λ j. entry-judged (c .before .before .before .before .before .before .before .before .before .before .before .before .before .before .before .before .before .before .args .schema .now) (c .before .before .before .before .before .before .before .before .before .before .before .before .before .before .before .before .before .before .args .ty) (c .before .before .before .before .before .before .before .before .before .before .before .before .before .before .before .before .before .before .args .payload .now) (c .before .before .before .before .before .before .before .before .before .before .before .before .before .before .before .before .before .before .args .sheet .now) (c .before .before .before .before .before .before .before .before .before .before .before .before .before .before .type-row .result) (c .before .before .before .before .before .before .before .before .before .before .before .before .before .before .type-row .ensures) (c .before .before .before .before .before .before .before .before .before .before .before .before .if1 .left) (c .before .before .before .before .before .before .before .before .before .before .before .if2 .left) _ (c .before .before .before .before .before .before .before .root .kept .1 .1 .0) _ _ (was (c .before .before .before .before .before .before .before .root .ensures) (c .before .before .before .next .given .1)) }, struct-row (c .before .before .before .before .before .before .before .before .before .before .before .before .before .before .before .before .before .before .args .schema .now) (c .before .before .before .before .before .before .before .before .before .before .before .before .before .before .before .before .before .before .pre) (c .before .before .before .before .before .before .before .before .before .before .before .before .before .before .before .before .before .before .args .ty) _ (c .before .before .before .before .before .before .before .before .before .before .before .before .before .before .type-row .ensures) (c .before .before .before .before .before .before .before .before .before .before .before .before .if1 .left)))
+    -- sub-t19
+    (λ c. was (c .before .before .before .before .before .before .before .before .before .before .root .ensures) (c .before .before .before .before .before .before .next .given .1) .within .0)
+    -- same-length-2
+    (λ c. search needs)
+    -- returns-4
+    (λ c. entry-refused (c .before .before .before .before .before .before .before .before .before .before .before .before .before .before .before .before .args .schema .now) (c .before .before .before .before .before .before .before .before .before .before .before .before .before .before .before .before .args .ty) (c .before .before .before .before .before .before .before .before .before .before .before .before .before .before .before .before .args .payload .now) (c .before .before .before .before .before .before .before .before .before .before .before .before .before .before .before .before .args .sheet .now) (c .before .before .before .before .before .before .before .before .before .before .before .before .type-row .result) (c .before .before .before .before .before .before .before .before .before .before .before .before .type-row .ensures) (c .before .before .before .before .before .before .before .before .before .before .if1 .left) (c .before .before .before .before .before .before .before .before .before .if2 .left) _ (c .before .before .before .before .before .root .kept .1 .1 .0) _ _ (was (c .before .before .before .before .before .root .ensures) (c .before .number .given .1)))
+    -- same-length-3
+    (λ c. search needs)
+    -- returns-5
+    (λ c. entry-shown (c .before .before .before .before .before .before .before .before .before .before .before .before .before .before .before .before .before .before .before .before .before .args .schema .now) (c .before .before .before .before .before .before .before .before .before .before .before .before .before .before .before .before .before .before .before .before .before .args .ty) (c .before .before .before .before .before .before .before .before .before .before .before .before .before .before .before .before .before .before .before .before .before .args .payload .now) (c .before .before .before .before .before .before .before .before .before .before .before .before .before .before .before .before .before .before .before .before .before .args .sheet .now) (c .before .before .before .before .before .before .before .before .before .before .before .before .before .before .before .before .before .type-row .result) (c .before .before .before .before .before .before .before .before .before .before .before .before .before .before .before .before .before .type-row .ensures) (c .before .before .before .before .before .before .before .before .before .before .before .before .before .before .before .if1 .left) (c .before .before .before .before .before .before .before .before .before .before .before .before .before .before .if2 .left) _ (c .before .before .before .before .before .before .before .before .before .before .root .kept .1 .1 .0) _ _ (was (c .before .before .before .before .before .before .before .before .before .before .root .ensures) (c .before .before .before .before .before .before .next .given .1)) _ _ (c .before .before .before .before .if3 .left) (c .before .before .root2 .ensures)))

@@ -1,0 +1,51 @@
+-- What the entries answer.
+-- Assumes nothing.
+use mathlib.Core.List.{List}
+use Prim.Native.Nat.{ℕ, _/_}
+use lib.ListN.{length}
+use Rattle.schema.specs.declared.Checked.{Checked}
+use Rattle.schema.specs.declared.Checked.the-variants.{Good, Refused as Faulty}
+use Rattle.schema.specs.File.{tableOf}
+use Rattle.schema.specs.Check.{checked}
+use Rattle.value.specs.Read as value
+use Rattle.reader.specs.declared.Reading.{Reading}
+use Rattle.reader.specs.declared.Reading.the-variants.{Shown, Refused}
+use Rattle.reader.specs.Sheet.{shownIn}
+
+-- An answer with the sheet as it is left.
+pub data Outcome : Type 0 where
+  outcome : Reading → (sheet : List ℕ) → Outcome
+
+-- A refusal leaves the sheet as it was; rows are written from the first on.
+abbrev pub outcomeOf : List ℕ → value.Reading → Outcome
+outcomeOf sheet (value.refusal n q) = outcome (Refused n q) sheet
+outcomeOf sheet (value.accepted rs place size) = outcome (Shown (length rs) place size) (shownIn sheet rs)
+
+-- The whole rows that a sheet has.
+abbrev pub room : List ℕ → ℕ
+room sheet = length sheet / 4
+
+-- A payload read by a good table.
+unfoldable pub payloadOutcome : (schema : List ℕ) (ty : ℕ) (payload sheet : List ℕ) → Outcome
+payloadOutcome schema ty payload sheet = outcomeOf sheet (value.read (tableOf schema) ty payload (room sheet))
+
+-- By a table with this verdict: its fault comes first.
+abbrev pub byTable : Checked → (schema : List ℕ) (ty : ℕ) (payload sheet : List ℕ) → Outcome
+byTable Good schema ty payload sheet = payloadOutcome schema ty payload sheet
+byTable (Faulty n q) schema ty payload sheet = outcome (Refused n q) sheet
+
+-- A payload read by any table.
+unfoldable pub readOutcome : (schema : List ℕ) (ty : ℕ) (payload sheet : List ℕ) → Outcome
+readOutcome schema ty payload sheet = byTable (checked schema) schema ty payload sheet
+
+-- 01's numbers for each case of the answer: number, place, rows, and the tail's place and length.
+pub record Numbers : Type 0 where
+  pub number : ℕ
+  pub place : ℕ
+  pub rows : ℕ
+  pub tailPlace : ℕ
+  pub tailLength : ℕ
+
+abbrev pub numbers : Reading → Numbers
+numbers (Shown rows place size) = record { number = 0; place = 0; rows = rows; tailPlace = place; tailLength = size }
+numbers (Refused n q) = record { number = n; place = q; rows = 0; tailPlace = 0; tailLength = 0 }

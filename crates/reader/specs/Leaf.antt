@@ -1,0 +1,97 @@
+-- What the leaves of the reader answer: a count, a content, a bitmap; and the keys that a map's walk keeps.
+-- Assumes nothing.
+use mathlib.Core.Path.{_≡_}
+use mathlib.Core.Bool.{Bool, false, cond}
+use mathlib.Core.List.{List, [], _∷_}
+use Prim.Native.Nat.{ℕ, zero, suc, _+_, _-_, _*_, _^_, _≤_, _<_}
+use lib.Dec.{eqb, ltb}
+use lib.ListN.{length, getD, take, drop}
+use Rattle.schema.specs.declared.Field.{Field}
+use Rattle.schema.specs.Table.{Table, Shape, scalar, text}
+use Rattle.value.specs.Answer.{Answer, refused, seen, cursorAt}
+use Rattle.value.specs.Read.{Own, plain, present, knownBits, unknownBits}
+use Rattle.reader.specs.declared.leaf.Count.{Count}
+use Rattle.reader.specs.declared.leaf.Count.the-variants.{Is, Not}
+use Rattle.reader.specs.declared.leaf.Span.{Span}
+use Rattle.reader.specs.declared.leaf.Span.the-variants.{At, Bad}
+use Rattle.reader.specs.declared.leaf.Head.{Head}
+use Rattle.reader.specs.declared.leaf.Head.the-variants.{Bits, Fault}
+
+-- The answer accepts.
+abbrev pub Accepted : {A : Type 0} → Answer A → Type 0
+Accepted (refused n q) = ⊥
+Accepted (seen a c) = Unit {0}
+
+-- The bytes from one place up to another.
+abbrev pub part : List ℕ → ℕ → ℕ → List ℕ
+part p from to = take (to - from) (drop from p)
+
+-- ---- counts
+
+-- A count's answer as the answer of a reader at `at`.
+abbrev pub countOf : List ℕ → ℕ → Count → Answer ℕ
+countOf p at (Is n start) = seen n (cursorAt p start)
+countOf p at (Not number) = refused number at
+
+abbrev pub CountIn : (size at least : ℕ) → Count → Type 0
+CountIn size at least (Is n start) = (at < start) × (start + least * n ≤ size)
+CountIn size at least (Not number) = Unit {0}
+
+pub record Counted (p : List ℕ) (at least : ℕ) (o : Answer ℕ) (r : Count) : Type 0 where
+  pub same : countOf p at r ≡ o
+  pub within : CountIn (length p) at least r
+
+-- ---- contents
+
+-- The shape of a kind from 1 to 13.
+unfoldable pub leafShape : ℕ → Shape
+leafShape kind = cond (ltb kind 12) (scalar kind) (text kind)
+
+abbrev pub spanOf : List ℕ → Span → Answer Own
+spanOf p (At from to) = seen (plain (part p from to)) (cursorAt p to)
+spanOf p (Bad number place) = refused number place
+
+abbrev pub SpanIn : (size at : ℕ) → Span → Type 0
+SpanIn size at (At from to) = (from ≤ to) × (to ≤ size) × (at < to)
+SpanIn size at (Bad number place) = Unit {0}
+
+pub record Spanned (p : List ℕ) (at : ℕ) (o : Answer Own) (r : Span) : Type 0 where
+  pub same : spanOf p r ≡ o
+  pub within : SpanIn (length p) at r
+
+-- ---- presence bits
+
+-- A struct's fields: n from the first on.
+unfoldable pub fieldsFrom : Table → ℕ → ℕ → List Field
+fieldsFrom T first n = take n (drop first (T .fields))
+
+abbrev pub headOf : List ℕ → ℕ → Head → Answer ℕ
+headOf p at (Bits word known count unknown start) = seen word (cursorAt p start)
+headOf p at (Fault number) = refused number at
+
+-- The known bits and their count, the number of unknown ones, and that there is none exactly where the word is below 2 ^ fields.
+abbrev pub HeadIn : (size at : ℕ) → List Field → Head → Type 0
+HeadIn size at fs (Bits word known count unknown start) =
+    (known ≡ knownBits fs word)
+    × (count ≡ length (present fs known))
+    × (unknown ≡ unknownBits fs word)
+    × (ltb word (2 ^ length fs) ≡ eqb unknown 0)
+    × (at < start)
+    × (start ≤ size)
+    × (count ≤ 64)
+HeadIn size at fs (Fault number) = Unit {0}
+
+pub record Headed (p : List ℕ) (at : ℕ) (fs : List Field) (o : Answer ℕ) (r : Head) : Type 0 where
+  pub same : headOf p at r ≡ o
+  pub within : HeadIn (length p) at fs r
+
+-- ---- keys kept while a map is walked
+
+-- The contents of the first i keys, the latest first, from where each starts and ends.
+unfoldable pub keysIn : (p starts ends : List ℕ) → ℕ → List (List ℕ)
+keysIn p starts ends zero = []
+keysIn p starts ends (suc i) = part p (getD starts i 0) (getD ends i 0) ∷ keysIn p starts ends i
+
+-- The first i spans lie in the payload.
+abbrev pub Spans : (p starts ends : List ℕ) → ℕ → Type 0
+Spans p starts ends i = (j : ℕ) → j < i → (getD starts j 0 ≤ getD ends j 0) × (getD ends j 0 ≤ length p)

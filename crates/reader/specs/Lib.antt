@@ -1,0 +1,5 @@
+-- The reader in code: its sheet, what its leaves and walkers answer, and what its entries answer.
+pub mod Sheet
+pub mod Leaf
+pub mod Walk
+pub mod Entry

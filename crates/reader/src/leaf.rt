@@ -1,0 +1,195 @@
+// A value's own bytes: counts, contents of scalars and strings, and presence bits.
+use wire::bitmap;
+use wire::utf8;
+use wire::varuint;
+use wire::varuint::VarUInt;
+ghost use mathlib.Core.Path.{_≡_};
+ghost use mathlib.Core.Bool.{true, false};
+ghost use Prim.Native.Nat.{_+_, _≤_, _<_};
+ghost use lib.ListN.{length};
+ghost use lib.Seq.{slice};
+ghost use Rattle.wire.specs.Utf8.{utf8};
+ghost use Rattle.schema.specs.Table.{scalar, text, width};
+ghost use Rattle.schema.specs.File.{tableOf};
+ghost use Rattle.schema.specs.Check.{IsGood};
+ghost use Rattle.value.specs.Answer.{cursorAt};
+ghost use Rattle.value.specs.Read.{count, own, bitmap, complete};
+ghost use Rattle.reader.specs.Leaf.{Accepted, Counted, leafShape, Spanned, fieldsFrom, Headed};
+
+// A count and where what it counts starts, or a refusal at the count's own place.
+pub enum Count {
+    Is { n: usize, start: usize },
+    Not { number: u32 },
+}
+
+// Where a content starts and ends, or a refusal.
+pub enum Span {
+    At { from: usize, to: usize },
+    Bad { number: u32, place: usize },
+}
+
+// A bitmap's word, the known fields' bits of it and their count, the number of unknown bits set, and the place after it;
+// or a refusal at the bitmap's own place.
+pub enum Head {
+    Bits {
+        word: u64,
+        known: u64,
+        count: usize,
+        unknown: usize,
+        start: usize,
+    },
+    Fault {
+        number: u32,
+    },
+}
+
+// A count of what takes at least `least` bytes each.
+pub fn read_count(p: &[u8], at: usize, least: usize) -> Count
+    requires { ⌜ (length (now p) ≤ 16384) × (0 < least) × (least ≤ 2) ⌝ }
+    ensures { λ r. ⌜ Counted (now (p .entry)) at least (count least (cursorAt (now (p .entry)) at)) r ⌝ }
+{
+    match varuint::read(p, at) {
+        VarUInt::Cut => Count::Not { number: 20 },
+        VarUInt::Malformed => Count::Not { number: 21 },
+        VarUInt::Number { value, next } => {
+            let rest = p.len() - next;
+            if (rest as u64) < value {
+                return Count::Not { number: 20 };
+            }
+            let n = value as usize;
+            if rest < least * n {
+                return Count::Not { number: 20 };
+            }
+            Count::Is { n: n, start: next }
+        }
+    }
+}
+
+const WIDTH: [usize; 12] = [0, 1, 1, 2, 4, 8, 1, 2, 4, 8, 4, 8];
+
+// The width in bytes of a scalar of a kind.
+fn width_of(kind: usize) -> usize
+    requires { ⌜ (0 < kind) × (kind < 12) ⌝ }
+    ensures { λ r. ⌜ (r ≡ width kind) × (0 < r) × (r ≤ 8) ⌝ }
+{
+    WIDTH[kind]
+}
+
+// A scalar's content.
+fn scalar(p: &[u8], kind: usize, at: usize) -> Span
+    requires { ⌜ (at ≤ length (now p)) × (0 < kind) × (kind < 12) ⌝ }
+    ensures { λ r. ⌜ Spanned (now (p .entry)) at (own (scalar kind) (cursorAt (now (p .entry)) at)) r ⌝ }
+{
+    let w = width_of(kind);
+    if p.len() - at < w {
+        return Span::Bad {
+            number: 20,
+            place: at,
+        };
+    }
+    if kind == 1 {
+        if 1 < p[at] {
+            return Span::Bad {
+                number: 22,
+                place: at,
+            };
+        }
+    }
+    Span::At {
+        from: at,
+        to: at + w,
+    }
+}
+
+// Whether a content is UTF-8; where nothing is judged, it is known to be.
+fn is_utf8(p: &[u8], from: usize, to: usize, judge: bool) -> bool
+    requires { ⌜ (from ≤ to) × (to ≤ length (now p)) × (judge ≡ false → utf8 (slice from to (now p)) ≡ true) ⌝ }
+    ensures { λ r. ⌜ r ≡ utf8 (slice from to (now (p .entry))) ⌝ }
+{
+    if judge {
+        return utf8::valid(p, from, to);
+    }
+    true
+}
+
+// The content of a string or of bytes.
+fn text(p: &[u8], kind: usize, at: usize, judge: bool) -> Span
+    requires { ⌜ (length (now p) ≤ 16384) × (judge ≡ false → Accepted (own (text kind) (cursorAt (now p) at))) ⌝ }
+    ensures { λ r. ⌜ Spanned (now (p .entry)) at (own (text kind) (cursorAt (now (p .entry)) at)) r ⌝ }
+{
+    match read_count(p, at, 1) {
+        Count::Not { number } => Span::Bad { number, place: at },
+        Count::Is { n, start } => {
+            let to = start + n;
+            if kind == 12 {
+                if !is_utf8(p, start, to, judge) {
+                    return Span::Bad {
+                        number: 23,
+                        place: start,
+                    };
+                }
+            }
+            Span::At {
+                from: start,
+                to: to,
+            }
+        }
+    }
+}
+
+// The content of a scalar, a string or bytes, of a kind from 1 to 13.
+pub fn content(p: &[u8], kind: usize, at: usize, judge: bool) -> Span
+    requires { ⌜ (length (now p) ≤ 16384) × (at ≤ length (now p)) × (0 < kind) × (kind < 14) × (judge ≡ false → Accepted (own (leafShape kind) (cursorAt (now p) at))) ⌝ }
+    ensures { λ r. ⌜ Spanned (now (p .entry)) at (own (leafShape kind) (cursorAt (now (p .entry)) at)) r ⌝ }
+{
+    if kind < 12 {
+        scalar(p, kind, at)
+    } else {
+        text(p, kind, at, judge)
+    }
+}
+
+// Whether each of n fields from the first on that is not optional has its bit; where nothing is judged, they are known to.
+fn is_complete(s: &[u8], first: usize, n: usize, word: u64, judge: bool) -> bool
+    requires { ⌜ IsGood (now s) × (first + n ≤ length (tableOf (now s) .fields)) × (judge ≡ false → complete (fieldsFrom (tableOf (now s)) first n) word ≡ true) ⌝ }
+    ensures { λ r. ⌜ r ≡ complete (fieldsFrom (tableOf (now (s .entry))) first n) word ⌝ }
+{
+    if !judge {
+        return true;
+    }
+    let mut i = first;
+    let mut left = n;
+    let mut bits = word;
+    while 0 < left {
+        let f = schema::access::field(s, i);
+        if !((f.optional == 1) | (bits % 2 == 1)) {
+            return false;
+        }
+        bits = bits / 2;
+        i = i + 1;
+        left = left - 1;
+    }
+    true
+}
+
+// The bitmap of a struct that has n fields from the first on.
+pub fn presence(s: &[u8], p: &[u8], first: usize, n: usize, at: usize, judge: bool) -> Head
+    requires { ⌜ IsGood (now s) × (0 < n) × (n ≤ 64) × (first + n ≤ length (tableOf (now s) .fields)) × (at ≤ length (now p)) × (judge ≡ false → Accepted (bitmap (fieldsFrom (tableOf (now s)) first n) (cursorAt (now p) at))) ⌝ }
+    ensures { λ r. ⌜ Headed (now (p .entry)) at (fieldsFrom (tableOf (now (s .entry))) first n) (bitmap (fieldsFrom (tableOf (now (s .entry))) first n) (cursorAt (now (p .entry)) at)) r ⌝ }
+{
+    let size = (n + 7) / 8;
+    if p.len() - at < size {
+        return Head::Fault { number: 20 };
+    }
+    let b = bitmap::read(p, at, n);
+    if !is_complete(s, first, n, b.bits, judge) {
+        return Head::Fault { number: 25 };
+    }
+    Head::Bits {
+        word: b.bits,
+        known: b.known,
+        count: b.count as usize,
+        unknown: b.unknown as usize,
+        start: at + size,
+    }
+}

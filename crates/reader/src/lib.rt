@@ -1,0 +1,76 @@
+// The payload reader: values of a schema table's types, shown as rows of a sheet.
+pub mod key;
+pub mod leaf;
+pub mod sheet;
+pub mod walk;
+
+use crate::walk::Walk;
+use crate::walk::root;
+use schema::Checked;
+use schema::access::type_row;
+use schema::check::check;
+ghost use mathlib.Core.Path.{_≡_};
+ghost use Rattle.schema.specs.Check.{IsGood};
+ghost use Rattle.reader.specs.Entry.{Outcome, payloadOutcome, readOutcome};
+
+// The answer: the number of rows with the tail's place and length, or the refusal's number and place.
+pub enum Reading {
+    Shown {
+        rows: usize,
+        tail_place: usize,
+        tail_length: usize,
+    },
+    Refused {
+        number: u32,
+        place: usize,
+    },
+}
+
+// Reads a payload as a struct of type ty by a good table: first a walk that judges and writes nothing, then, where all rows have room, one that writes.
+pub fn read_payload(schema: &[u8], ty: u32, payload: &[u8], sheet: &mut [u32]) -> Reading
+    requires { ⌜ IsGood (now schema) ⌝ }
+    ensures { λ r. ⌜ Outcome.outcome r (now (sheet .exit)) ≡ payloadOutcome (now (schema .entry)) ty (now (payload .entry)) (now (sheet .entry)) ⌝ }
+{
+    let t = type_row(schema, ty as usize);
+    if t.kind != 16 {
+        return Reading::Refused {
+            number: 46,
+            place: 0,
+        };
+    }
+    if 16384 < payload.len() {
+        return Reading::Refused {
+            number: 7,
+            place: 0,
+        };
+    }
+    let first = t.a as usize;
+    let n = t.b as usize;
+    match root(schema, payload, &mut sheet[..0], ty, first, n, true) {
+        Walk::Refused { number, place } => Reading::Refused { number, place },
+        Walk::Past { next, row } => {
+            if sheet.len() / 4 < row {
+                return Reading::Refused {
+                    number: 30,
+                    place: 0,
+                };
+            }
+            root(schema, payload, sheet, ty, first, n, false);
+            Reading::Shown {
+                rows: row,
+                tail_place: next,
+                tail_length: payload.len() - next,
+            }
+        }
+    }
+}
+
+// Reads a payload by any table: the table's own refusal comes first.
+pub fn read(schema: &[u8], ty: u32, payload: &[u8], sheet: &mut [u32]) -> Reading
+    ensures { λ r. ⌜ Outcome.outcome r (now (sheet .exit)) ≡ readOutcome (now (schema .entry)) ty (now (payload .entry)) (now (sheet .entry)) ⌝ }
+{
+    match check(schema) {
+        Checked::Refused { number, place } => Reading::Refused { number, place },
+        Checked::Good => read_payload(schema, ty, payload, sheet),
+    }
+}

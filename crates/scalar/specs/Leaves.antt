@@ -1,0 +1,32 @@
+-- What the reader's rows hand out: each leaf's row over the payload shows the leaf's content.
+-- Assumes nothing.
+use mathlib.Core.Path.{_≡_}
+use mathlib.Core.List.{List}
+use Prim.Native.Nat.{ℕ}
+use lib.ListN.{length}
+use Rattle.schema.specs.Table.{Shape, unknown, scalar, text, array, map, struct}
+use Rattle.value.specs.declared.Row.{Row}
+use Rattle.value.specs.Value.{Tree, tip, branch, Forest, stop, plus}
+use Rattle.scalar.specs.declared.Scalar.the-variants.{Span}
+use Rattle.scalar.specs.declared.Answer.{Answer}
+use Rattle.scalar.specs.declared.Answer.the-variants.{Is}
+use Rattle.scalar.specs.Scalar.{valueOf, span}
+
+-- The answer shows a leaf of a shape with the content x: its value, or the span of the bytes where it stands. A composite is no leaf.
+abbrev pub Shows : List ℕ → Shape → Row → List ℕ → Answer → Type 0
+Shows bytes (scalar kind) r x a = a ≡ Is (valueOf kind x)
+Shows bytes (text kind) r x a = (a ≡ Is (Span (r .place) (r .length))) × (span bytes (r .place) (r .length) ≡ x)
+Shows bytes unknown r x a = ⊥
+Shows bytes (array _) r x a = ⊥
+Shows bytes (map _ _) r x a = ⊥
+Shows bytes (struct _) r x a = ⊥
+
+-- P holds of each leaf of a tree, by its row and content.
+unfoldable mutual
+  pub EachLeaf : (Row → List ℕ → Type 0) → Tree → Type 0
+  EachLeaf P (tip r x) = P r x
+  EachLeaf P (branch r h ts) = EachOf P ts
+
+  pub EachOf : (Row → List ℕ → Type 0) → Forest → Type 0
+  EachOf P stop = Unit {0}
+  EachOf P (plus t ts) = EachLeaf P t × EachOf P ts

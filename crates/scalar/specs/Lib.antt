@@ -1,0 +1,3 @@
+-- A row over its bytes as a scalar value.
+pub mod Scalar
+pub mod Leaves

@@ -1,0 +1,94 @@
+// A row over its bytes by a schema table. The refusals, after the table's own: 50, 51, 22, 23.
+use crate::Answer;
+use crate::Scalar;
+use crate::number::value;
+use crate::number::width_of;
+use schema::Checked;
+use schema::access::type_row;
+use schema::check::check;
+use value::Row;
+use wire::utf8::valid;
+ghost use mathlib.Core.Path.{_≡_};
+ghost use Prim.Native.Nat.{_<_};
+ghost use Rattle.schema.specs.File.{tableOf};
+ghost use Rattle.schema.specs.Check.{IsGood};
+ghost use Rattle.scalar.specs.declared.Answer.the-variants.{Refused};
+ghost use Rattle.scalar.specs.Scalar.{inside, numberAt, textAt, scalarOf, scalarBy};
+
+fn refuse(number: u32, place: usize) -> Answer
+    ensures { λ r. ⌜ r ≡ Refused number place ⌝ }
+{
+    Answer::Refused { number, place }
+}
+
+// The span lies in the bytes.
+fn is_inside(bytes: &[u8], place: usize, length: usize) -> bool
+    requires { ⌜ (place < 4294967296) × (length < 4294967296) ⌝ }
+    ensures { λ r. ⌜ r ≡ inside (now (bytes .entry)) place length ⌝ }
+{
+    place + length <= bytes.len()
+}
+
+// A scalar of a kind, whose row has this place and length.
+fn number_at(bytes: &[u8], kind: usize, place: usize, length: usize) -> Answer
+    requires { ⌜ (0 < kind) × (kind < 12) × (place < 4294967296) × (length < 4294967296) ⌝ }
+    ensures { λ r. ⌜ r ≡ numberAt kind place length (now (bytes .entry)) ⌝ }
+{
+    if length != width_of(kind) {
+        return refuse(50, 0);
+    }
+    if !is_inside(bytes, place, length) {
+        return refuse(51, 0);
+    }
+    if kind == 1 {
+        if 1 < bytes[place] {
+            return refuse(22, place);
+        }
+    }
+    Answer::Is(value(bytes, kind, place))
+}
+
+// A string (kind 12) or bytes (kind 13).
+fn text_at(bytes: &[u8], kind: usize, place: usize, length: usize) -> Answer
+    requires { ⌜ (place < 4294967296) × (length < 4294967296) ⌝ }
+    ensures { λ r. ⌜ r ≡ textAt kind place length (now (bytes .entry)) ⌝ }
+{
+    if !is_inside(bytes, place, length) {
+        return refuse(51, 0);
+    }
+    if kind == 12 {
+        if !valid(bytes, place, place + length) {
+            return refuse(23, place);
+        }
+    }
+    Answer::Is(Scalar::Span { place, length })
+}
+
+// By a good table.
+pub fn scalar_of(schema: &[u8], row: Row, bytes: &[u8]) -> Answer
+    requires { ⌜ IsGood (now schema) ⌝ }
+    ensures { λ r. ⌜ r ≡ scalarOf (tableOf (now (schema .entry))) row (now (bytes .entry)) ⌝ }
+{
+    let t = type_row(schema, row.ty as usize);
+    let kind = t.kind as usize;
+    let place = row.place as usize;
+    let length = row.length as usize;
+    if (kind == 0) | ((13 < kind) | (row.count != 0)) {
+        return refuse(50, 0);
+    }
+    if kind < 12 {
+        number_at(bytes, kind, place, length)
+    } else {
+        text_at(bytes, kind, place, length)
+    }
+}
+
+// By any schema file: its own refusals come first.
+pub fn scalar(schema: &[u8], row: Row, bytes: &[u8]) -> Answer
+    ensures { λ r. ⌜ r ≡ scalarBy (now (schema .entry)) row (now (bytes .entry)) ⌝ }
+{
+    match check(schema) {
+        Checked::Refused { number, place } => Answer::Refused { number, place },
+        Checked::Good => scalar_of(schema, row, bytes),
+    }
+}

@@ -1,0 +1,44 @@
+// The numbers of the scalar kinds: 1 bool, 2 to 5 signed, 6 to 9 unsigned, 10 and 11 floats.
+use crate::Scalar;
+use crate::float::float32;
+use crate::float::float64;
+use wire::little::number;
+use wire::little::signed;
+ghost use mathlib.Core.Path.{_≡_};
+ghost use Prim.Native.Nat.{_+_, _≤_, _<_};
+ghost use lib.ListN.{length, take, drop};
+ghost use Rattle.schema.specs.Table.{width};
+ghost use Rattle.scalar.specs.Scalar.{valueOf};
+
+const WIDTH: [usize; 12] = [0, 1, 1, 2, 4, 8, 1, 2, 4, 8, 4, 8];
+
+// The width in bytes of a scalar kind.
+pub fn width_of(kind: usize) -> usize
+    requires { ⌜ (0 < kind) × (kind < 12) ⌝ }
+    ensures { λ r. ⌜ (r ≡ width kind) × (0 < r) × (r ≤ 8) ⌝ }
+{
+    WIDTH[kind]
+}
+
+// The value of a scalar kind at a place.
+pub fn value(s: &[u8], kind: usize, place: usize) -> Scalar
+    requires { ⌜ (0 < kind) × (kind < 12) × (place + width kind ≤ length (now s)) ⌝ }
+    ensures { λ r. ⌜ r ≡ valueOf kind (take (width kind) (drop place (now (s .entry)))) ⌝ }
+{
+    let w = width_of(kind);
+    let x = number(s, place, w);
+    if kind == 1 {
+        return Scalar::Truth(x == 1);
+    }
+    if kind <= 5 {
+        return Scalar::Signed(signed(x, 1 << (8 * w - 1)));
+    }
+    if kind <= 9 {
+        return Scalar::Unsigned(x);
+    }
+    if kind == 10 {
+        let n = x as u32;
+        return Scalar::Float32(float32(n), n);
+    }
+    Scalar::Float64(float64(x), x)
+}

@@ -1,0 +1,174 @@
+-- Laws of a file of the right shape: its layout fills it, and its rows by number.
+-- Assumes nothing.
+use mathlib.Core.Path.{_≡_, refl, sym, ap, _∙_}
+use mathlib.Core.Bool.{true, false, _&&_}
+use mathlib.Core.List.{List}
+use Prim.Native.Nat.{ℕ, zero, suc, _+_, _-_, _*_, _%_, _≤_, _<_}
+use native.Mathlib.Nat.{not-suc-le-zero, le-of-suc-le-suc}
+use native.Mathlib.Omega.{arith}
+use lib.ListN.{length, getD, List·getD-eq-default}
+use lib.Dec.{leb, eqb}
+use borrow.Author.Tests.{leb-true, eqb-true, le-leb, lt-leb}
+use Rattle.schema.specs.declared.Layout.{Layout}
+use Rattle.schema.specs.Table.{Table, rowAt}
+use Rattle.schema.specs.File.{cell, typeAt, fieldAt, methodAt, trailerAt, fieldsAt, methodsAt, shaped, layoutOf, tabulate, sections, tableOf, Laid}
+use Rattle.schema.specs.Check.{field, methodRow, noRow, noField, noMethod}
+use Rattle.schema.proofs.Bools.{and-left, and-right}
+
+module _ (s : List ℕ) where
+  -- ---- the shape's tests, as code makes them
+
+  pub short : length s < 16 → false ≡ shaped s
+  unfolding shaped
+  short h = sym (rw (lt-leb 16 (length s) h))
+
+  module _ (f m o n : ℕ) (long : 16 ≤ length s) (is-f : f ≡ cell s (trailerAt s)) (is-m : m ≡ cell s (trailerAt s + 4)) where
+    pub crossed : m < f → false ≡ shaped s
+    unfolding shaped
+    crossed h = sym (rw (le-leb 16 (length s) long, ← is-f, ← is-m, lt-leb f m h))
+
+    pub beyond : f ≤ m → trailerAt s < m → false ≡ shaped s
+    unfolding shaped
+    beyond h k = sym (rw (le-leb 16 (length s) long, ← is-f, ← is-m, le-leb f m h, lt-leb m (trailerAt s) k))
+
+    pub rest : o ≡ cell s (trailerAt s + 8) → n ≡ cell s (trailerAt s + 12) → f ≤ m → m ≤ trailerAt s
+        → (eqb n 1 && (eqb o (trailerAt s) && (eqb (f % 12) 0 && (eqb ((m - f) % 8) 0 && eqb ((trailerAt s - m) % 32) 0)))) ≡ shaped s
+    unfolding shaped
+    rest is-o is-n h k =
+        sym (rw (le-leb 16 (length s) long, ← is-f, ← is-m, ← is-o, ← is-n, le-leb f m h, le-leb m (trailerAt s) k))
+
+  -- ---- the shape, as facts
+
+  pub record Tests : Type 0 where
+    pub trailer : 16 ≤ length s
+    pub fields : fieldsAt s ≤ methodsAt s
+    pub methods : methodsAt s ≤ trailerAt s
+    pub number : cell s (trailerAt s + 12) ≡ 1
+    pub own : cell s (trailerAt s + 8) ≡ trailerAt s
+    pub wholeTypes : fieldsAt s % 12 ≡ 0
+    pub wholeFields : (methodsAt s - fieldsAt s) % 8 ≡ 0
+    pub wholeMethods : (trailerAt s - methodsAt s) % 32 ≡ 0
+
+  pub tests-of : shaped s ≡ true → Tests
+  unfolding shaped
+  tests-of h =
+      let h1 = and-right (leb 16 (length s)) _ h in
+      let h2 = and-right (leb (fieldsAt s) (methodsAt s)) _ h1 in
+      let h3 = and-right (leb (methodsAt s) (trailerAt s)) _ h2 in
+      let h4 = and-right (eqb (cell s (trailerAt s + 12)) 1) _ h3 in
+      let h5 = and-right (eqb (cell s (trailerAt s + 8)) (trailerAt s)) _ h4 in
+      let h6 = and-right (eqb (fieldsAt s % 12) 0) _ h5 in
+      record {
+        trailer = leb-true _ _ (and-left _ _ h);
+        fields = leb-true _ _ (and-left _ _ h1);
+        methods = leb-true _ _ (and-left _ _ h2);
+        number = eqb-true _ _ (and-left _ _ h3);
+        own = eqb-true _ _ (and-left _ _ h4);
+        wholeTypes = eqb-true _ _ (and-left _ _ h5);
+        wholeFields = eqb-true _ _ (and-left _ _ h6);
+        wholeMethods = eqb-true _ _ (and-right (eqb ((methodsAt s - fieldsAt s) % 8) 0) _ h6);
+      }
+
+  -- the layout fills the file
+  pub record Filled : Type 0 where
+    pub types : 12 * layoutOf s .types ≡ layoutOf s .«fields_at»
+    pub fields : layoutOf s .«fields_at» + 8 * layoutOf s .fields ≡ layoutOf s .«methods_at»
+    pub methods : layoutOf s .«methods_at» + 32 * layoutOf s .methods + 16 ≡ length s
+
+  pub filled : shaped s ≡ true → Filled
+  unfolding layoutOf
+  filled h =
+      let t = tests-of h in
+      record { types = omega arith; fields = omega arith; methods = omega arith }
+
+-- ---- rows by number
+
+module _ {A : Type 0} where
+  pub length-tabulate : (f : ℕ → A) (n : ℕ) → length (tabulate f n) ≡ n
+  unfolding tabulate
+  length-tabulate f zero = refl
+  length-tabulate f (suc n) = ap suc (length-tabulate (λ i. f (suc i)) n)
+
+  pub getD-tabulate : (f : ℕ → A) (n i : ℕ) (d : A) → i < n → getD (tabulate f n) i d ≡ f i
+  unfolding tabulate
+  getD-tabulate f zero i d h = absurd (not-suc-le-zero h)
+  getD-tabulate f (suc n) zero d h = refl
+  getD-tabulate f (suc n) (suc i) d h = getD-tabulate (λ j. f (suc j)) n i d (le-of-suc-le-suc h)
+
+  past : (f : ℕ → A) (n i : ℕ) (d : A) → n ≤ i → getD (tabulate f n) i d ≡ d
+  past f n i d h = List·getD-eq-default (tabulate f n) d (rw (length-tabulate f n) h)
+
+module _ (s : List ℕ) (h : shaped s ≡ true) where
+  pub table-is : tableOf s ≡ sections s
+  unfolding tableOf
+  table-is = rw h
+
+  pub type-count : length (tableOf s .types) ≡ layoutOf s .types
+  type-count = ap (λ (T : Table). length (T .types)) table-is ∙ length-tabulate _ (layoutOf s .types)
+
+  pub field-count : length (tableOf s .fields) ≡ layoutOf s .fields
+  field-count = ap (λ (T : Table). length (T .fields)) table-is ∙ length-tabulate _ (layoutOf s .fields)
+
+  pub method-count : length (tableOf s .methods) ≡ layoutOf s .methods
+  method-count = ap (λ (T : Table). length (T .methods)) table-is ∙ length-tabulate _ (layoutOf s .methods)
+
+  module _ (i : ℕ) where
+    pub row-in : i < layoutOf s .types → rowAt (tableOf s) i ≡ typeAt s (12 * i)
+    row-in k = ap (λ (T : Table). rowAt T i) table-is ∙ getD-tabulate _ (layoutOf s .types) i _ k
+
+    pub row-out : layoutOf s .types ≤ i → rowAt (tableOf s) i ≡ noRow
+    row-out k = ap (λ (T : Table). rowAt T i) table-is ∙ past _ (layoutOf s .types) i _ k
+
+    pub field-in : i < layoutOf s .fields → field (tableOf s) i ≡ fieldAt s (layoutOf s .«fields_at» + 8 * i)
+    field-in k = ap (λ (T : Table). field T i) table-is ∙ getD-tabulate _ (layoutOf s .fields) i _ k
+
+    pub field-out : layoutOf s .fields ≤ i → field (tableOf s) i ≡ noField
+    field-out k = ap (λ (T : Table). field T i) table-is ∙ past _ (layoutOf s .fields) i _ k
+
+    pub method-in : i < layoutOf s .methods → methodRow (tableOf s) i ≡ methodAt s (layoutOf s .«methods_at» + 32 * i)
+    method-in k = ap (λ (T : Table). methodRow T i) table-is ∙ getD-tabulate _ (layoutOf s .methods) i _ k
+
+    pub method-out : layoutOf s .methods ≤ i → methodRow (tableOf s) i ≡ noMethod
+    method-out k = ap (λ (T : Table). methodRow T i) table-is ∙ past _ (layoutOf s .methods) i _ k
+
+-- ---- the same where the layout is at hand
+
+-- how far the sections reach
+pub record Reach (s : List ℕ) (l : Layout) : Type 0 where
+  pub types : 12 * l .types ≤ length s
+  pub fields : l .«fields_at» + 8 * l .fields ≤ length s
+  pub methods : l .«methods_at» + 32 * l .methods ≤ length s
+
+module _ (s : List ℕ) (l : Layout) (h : Laid s l) where
+  pub reach : Reach s l
+  reach =
+      let f = filled s (h .shape) in
+      rw (h .is) (record { types = omega arith; fields = omega arith; methods = omega arith })
+
+  pub laid-types : l .types ≡ length (tableOf s .types)
+  laid-types = ap (λ (x : Layout). x .types) (h .is) ∙ sym (type-count s (h .shape))
+
+  pub laid-fields : l .fields ≡ length (tableOf s .fields)
+  laid-fields = ap (λ (x : Layout). x .fields) (h .is) ∙ sym (field-count s (h .shape))
+
+  pub laid-methods : l .methods ≡ length (tableOf s .methods)
+  laid-methods = ap (λ (x : Layout). x .methods) (h .is) ∙ sym (method-count s (h .shape))
+
+  module _ (i : ℕ) where
+    pub laid-row : i < l .types → typeAt s (12 * i) ≡ rowAt (tableOf s) i
+    laid-row k = sym (row-in s (h .shape) i (rw (h .is) at k))
+
+    pub laid-no-row : l .types ≤ i → noRow ≡ rowAt (tableOf s) i
+    laid-no-row k = sym (row-out s (h .shape) i (rw (h .is) at k))
+
+    pub laid-field : i < l .fields → fieldAt s (l .«fields_at» + 8 * i) ≡ field (tableOf s) i
+    laid-field k = rw (h .is) (sym (field-in s (h .shape) i (rw (h .is) at k)))
+
+    pub laid-no-field : l .fields ≤ i → noField ≡ field (tableOf s) i
+    laid-no-field k = sym (field-out s (h .shape) i (rw (h .is) at k))
+
+    pub laid-method : i < l .methods → methodAt s (l .«methods_at» + 32 * i) ≡ methodRow (tableOf s) i
+    laid-method k = rw (h .is) (sym (method-in s (h .shape) i (rw (h .is) at k)))
+
+    pub laid-no-method : l .methods ≤ i → noMethod ≡ methodRow (tableOf s) i
+    laid-no-method k = sym (method-out s (h .shape) i (rw (h .is) at k))

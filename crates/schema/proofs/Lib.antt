@@ -1,0 +1,10 @@
+pub mod Bools
+pub mod Files
+pub mod Lowest
+pub mod Checks
+pub mod Examples
+pub mod Goods
+pub mod Shapes
+pub mod Methods
+pub mod Extensions
+pub mod Extending

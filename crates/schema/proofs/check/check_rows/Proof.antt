@@ -1,0 +1,40 @@
+-- `schema::check::check_rows` meets its contract: each return is the verdict from what was found. Assumes nothing.
+use mathlib.Core.Path.{_≡_, sym, _∙_}
+use mathlib.Core.Bool.{true}
+use borrow.Author.Needs.{needs}
+use borrow.Author.Tests.{not-true, not-false}
+use Rattle.schema.specs.File.{tableOf}
+use Rattle.schema.specs.Check.{small}
+use Rattle.schema.proofs.Checks.{small-judged, too-many, row-fault, field-fault, method-fault, no-faults}
+use Rattle.schema.proofs.check.check_rows.Statement.{statement}
+use Rattle.schema.proofs.check.check_rows.Tie as tie
+
+few : (c : tie.Else1) → small (tableOf (c .before .before .before .before .before .args .s .now)) ≡ true
+few c = sym (small-judged _ _ (c .before .before .before .before .before .pre)) ∙ not-false _ (c .if1 .left)
+
+pub check-rows-spec : {M : Type 1} → statement M
+check-rows-spec =
+    tie.close
+    (tie.spec
+    (λ c. too-many _ (sym (small-judged _ _ (c .before .before .before .before .before .pre)) ∙ not-true _ (c .if1 .taken)))
+    (λ c κs. search needs)
+    (λ c. search needs)
+    (λ c. row-fault _ (few (c .before .before .before .before)) _ (sym (c .before .before .before .bad-row .ensures) ∙ c .before .types .given .1))
+    (λ c. search needs)
+    (λ c κs. search needs)
+    (λ c. search needs)
+    (λ c.
+    field-fault _ (few (c .before .before .before .before .before .before .before)) (sym (c .before .before .before .before .before .before .bad-row .ensures) ∙ c .before .before .before .before .enum-told .given .1)
+    _ (sym (c .before .before .before .bad-field .ensures) ∙ c .before .fields .given .1))
+    (λ c. search needs)
+    (λ c κs. search needs)
+    (λ c. search needs)
+    (λ c. search needs)
+    (λ c.
+    method-fault _ (few (c .before .before .before .before .before .before .before .before .before .before)) (sym (c .before .before .before .before .before .before .before .before .before .bad-row .ensures) ∙ c .before .before .before .before .before .before .before .enum-told .given .1)
+    (sym (c .before .before .before .before .before .before .bad-field .ensures) ∙ c .before .before .before .before .enum-told2 .given .1)
+    _ (sym (c .before .before .before .bad-method .ensures) ∙ c .before .i .given .1))
+    (λ c.
+    no-faults _ (few (c .before .before .before .before .before .before .before .before .before)) (sym (c .before .before .before .before .before .before .before .before .bad-row .ensures) ∙ c .before .before .before .before .before .before .enum-told .given .1)
+    (sym (c .before .before .before .before .before .bad-field .ensures) ∙ c .before .before .before .enum-told2 .given .1)
+    (sym (c .before .before .bad-method .ensures) ∙ c .enum-told3 .given .1)))

@@ -1,0 +1,26 @@
+-- `schema::check::row_is_good` meets its contract: the tests, where the rows read are the table's. Assumes nothing.
+use mathlib.Core.Path.{_∙_}
+use mathlib.Core.Bool.{_||_}
+use borrow.Author.Needs.{needs}
+use Rattle.schema.proofs.Checks.{row-judged}
+use Rattle.schema.proofs.check.row_is_good.Statement.{statement}
+use Rattle.schema.proofs.check.row_is_good.Tie as tie
+
+returns : tie.Need-returns
+returns c =
+    let a = c .before .before .before .before .before .before .before .before in
+    (λ i. (c .before .before .before .is-plain .ensures) i || ((c .before .before .is-array .ensures) i || ((c .before .is-map .ensures) i || (c .is-struct .ensures) i)))
+    ∙ row-judged (a .args .s .now) (a .args .l) (a .pre) (a .args .t) (c .before .before .before .before .before .before .row .result) (c .before .before .before .before .row2 .result) (c .before .before .before .before .before .before .row .ensures) (c .before .before .before .before .row2 .ensures)
+
+pub row-is-good-spec : {M : Type 1} → statement M
+row-is-good-spec =
+    tie.close
+    (tie.spec
+    (λ c κs. search needs)
+    (λ c. search needs)
+    (λ c κs. search needs)
+    (λ c κs. search needs)
+    (λ c κs. search needs)
+    (λ c κs. search needs)
+    (λ c κs. search needs)
+    returns)

@@ -1,0 +1,6 @@
+-- The schema table and what its type numbers stand for; its file; its check; and when one table extends another.
+pub mod Table
+pub mod File
+pub mod Check
+pub mod Good
+pub mod Extend

@@ -1,0 +1,190 @@
+// The check of a schema file: its shape, its counts, then each type row, field and method, the lowest at fault.
+use crate::Checked;
+use crate::Found;
+use crate::Layout;
+use crate::Method;
+use crate::TypeRow;
+use crate::file::is_shaped;
+use crate::file::layout_of;
+use crate::rows::field_row;
+use crate::rows::find_among;
+use crate::rows::method_row;
+use crate::rows::row;
+ghost use mathlib.Core.Path.{_≡_};
+ghost use Prim.Native.Nat.{_≤_};
+ghost use Rattle.schema.specs.File.{Laid, tableOf};
+ghost use Rattle.schema.specs.Check.{plainRow, arrayRow, mapRow, structRow, goodRow, goodField, letter, formed, isMissing, goodMethod, badRow, badField, badMethod, checkedTable, checked};
+
+fn is_plain(r: TypeRow) -> bool
+    ensures { λ x. ⌜ x ≡ plainRow r ⌝ }
+{
+    ((1 <= r.kind) & (r.kind <= 13)) & ((r.a == 0) & (r.b == 0))
+}
+
+fn is_array(types: usize, r: TypeRow) -> bool
+    ensures { λ x. ⌜ x ≡ arrayRow types r ⌝ }
+{
+    (r.kind == 14) & (((r.a as usize) < types) & (r.b == 0))
+}
+
+fn is_map(types: usize, key: u32, r: TypeRow) -> bool
+    ensures { λ x. ⌜ x ≡ mapRow types key r ⌝ }
+{
+    (r.kind == 15)
+        & ((((1 <= key) & (key <= 9)) | ((key == 12) | (key == 13))) & ((r.b as usize) < types))
+}
+
+fn is_struct(fields: usize, r: TypeRow) -> bool
+    ensures { λ x. ⌜ x ≡ structRow fields r ⌝ }
+{
+    (r.kind == 16) & (((1 <= r.b) & (r.b <= 64)) & ((r.a as usize) + (r.b as usize) <= fields))
+}
+
+fn row_is_good(s: &[u8], l: Layout, t: usize) -> bool
+    requires { ⌜ Laid (now s) l ⌝ }
+    ensures { λ x. ⌜ x ≡ goodRow (tableOf (now (s .entry))) t ⌝ }
+{
+    let r = row(s, l, t);
+    let a = r.a as usize;
+    let key = row(s, l, a);
+    is_plain(r) | (is_array(l.types, r) | (is_map(l.types, key.kind, r) | is_struct(l.fields, r)))
+}
+
+fn field_is_good(s: &[u8], l: Layout, i: usize) -> bool
+    requires { ⌜ Laid (now s) l ⌝ }
+    ensures { λ x. ⌜ x ≡ goodField (tableOf (now (s .entry))) i ⌝ }
+{
+    let f = field_row(s, l, i);
+    ((f.ty as usize) < l.types) & (f.optional <= 1)
+}
+
+// A letter of a form and its type: Y (1) has a struct type, N (0) has none.
+fn letter_fits(s: &[u8], l: Layout, bit: u32, t: u32) -> bool
+    requires { ⌜ Laid (now s) l ⌝ }
+    ensures { λ x. ⌜ x ≡ letter (tableOf (now (s .entry))) bit t ⌝ }
+{
+    if bit == 1 {
+        let r = row(s, l, t as usize);
+        r.kind == 16
+    } else {
+        t == 4294967295
+    }
+}
+
+fn is_formed(s: &[u8], l: Layout, m: Method) -> bool
+    requires { ⌜ Laid (now s) l ⌝ }
+    ensures { λ x. ⌜ x ≡ formed (tableOf (now (s .entry))) m ⌝ }
+{
+    (m.form <= 15)
+        & (letter_fits(s, l, m.form / 8 % 2, m.input)
+            & (letter_fits(s, l, m.form / 4 % 2, m.output)
+                & (letter_fits(s, l, m.form / 2 % 2, m.input_stream)
+                    & letter_fits(s, l, m.form % 2, m.output_stream))))
+}
+
+fn is_missing(f: Found) -> bool
+    ensures { λ x. ⌜ x ≡ isMissing f ⌝ }
+{
+    match f {
+        Found::At(_) => false,
+        Found::Missing => true,
+    }
+}
+
+fn method_is_good(s: &[u8], l: Layout, i: usize) -> bool
+    requires { ⌜ Laid (now s) l × (i ≤ l .methods) ⌝ }
+    ensures { λ x. ⌜ x ≡ goodMethod (tableOf (now (s .entry))) i ⌝ }
+{
+    let m = method_row(s, l, i);
+    is_formed(s, l, m) & is_missing(find_among(s, l, i, m.package, m.service, m.method))
+}
+
+fn bad_row(s: &[u8], l: Layout) -> Found
+    requires { ⌜ Laid (now s) l ⌝ }
+    ensures { λ x. ⌜ x ≡ badRow (tableOf (now (s .entry))) ⌝ }
+{
+    let mut i = 0;
+    while i < l.types {
+        if !row_is_good(s, l, i) {
+            return Found::At(i);
+        }
+        i += 1;
+    }
+    Found::Missing
+}
+
+fn bad_field(s: &[u8], l: Layout) -> Found
+    requires { ⌜ Laid (now s) l ⌝ }
+    ensures { λ x. ⌜ x ≡ badField (tableOf (now (s .entry))) ⌝ }
+{
+    let mut i = 0;
+    while i < l.fields {
+        if !field_is_good(s, l, i) {
+            return Found::At(i);
+        }
+        i += 1;
+    }
+    Found::Missing
+}
+
+fn bad_method(s: &[u8], l: Layout) -> Found
+    requires { ⌜ Laid (now s) l ⌝ }
+    ensures { λ x. ⌜ x ≡ badMethod (tableOf (now (s .entry))) ⌝ }
+{
+    let mut i = 0;
+    while i < l.methods {
+        if !method_is_good(s, l, i) {
+            return Found::At(i);
+        }
+        i += 1;
+    }
+    Found::Missing
+}
+
+// The counts, then the rows.
+fn check_rows(s: &[u8], l: Layout) -> Checked
+    requires { ⌜ Laid (now s) l ⌝ }
+    ensures { λ x. ⌜ x ≡ checkedTable (tableOf (now (s .entry))) ⌝ }
+{
+    if !((l.types <= 256) & ((l.fields <= 2048) & (l.methods <= 256))) {
+        return Checked::Refused {
+            number: 41,
+            place: 0,
+        };
+    }
+    let types = bad_row(s, l);
+    if let Found::At(i) = types {
+        return Checked::Refused {
+            number: 42,
+            place: i,
+        };
+    }
+    let fields = bad_field(s, l);
+    if let Found::At(i) = fields {
+        return Checked::Refused {
+            number: 43,
+            place: i,
+        };
+    }
+    match bad_method(s, l) {
+        Found::At(i) => Checked::Refused {
+            number: 44,
+            place: i,
+        },
+        Found::Missing => Checked::Good,
+    }
+}
+
+// The verdict on a file, whatever its bytes.
+pub fn check(schema: &[u8]) -> Checked
+    ensures { λ x. ⌜ x ≡ checked (now (schema .entry)) ⌝ }
+{
+    if is_shaped(schema) {
+        check_rows(schema, layout_of(schema))
+    } else {
+        Checked::Refused {
+            number: 40,
+            place: 0,
+        }
+    }
+}

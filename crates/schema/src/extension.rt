@@ -1,0 +1,158 @@
+// Whether a new table extends an old one, so that what was written by the old can be read by the new.
+use crate::Checked;
+use crate::Extended;
+use crate::Field;
+use crate::Found;
+use crate::Method;
+use crate::TypeRow;
+use crate::access::field;
+use crate::access::find_method;
+use crate::access::method;
+use crate::access::method_count;
+use crate::access::type_count;
+use crate::access::type_row;
+use crate::check::check;
+ghost use mathlib.Core.Path.{_≡_};
+ghost use Prim.Native.Nat.{_<_, _^_};
+ghost use Rattle.schema.specs.Table.{bitmapBytes};
+ghost use Rattle.schema.specs.File.{tableOf};
+ghost use Rattle.schema.specs.Check.{IsGood};
+ghost use Rattle.schema.specs.Extend.{every, sameField, fieldKept, structKept, rowKept, rowsKept, sameMethod, methodKept, methodsKept, extended, extension};
+
+fn same_field(f: Field, g: Field) -> bool
+    ensures { λ x. ⌜ x ≡ sameField f g ⌝ }
+{
+    (f.ty == g.ty) & (f.optional == g.optional)
+}
+
+// Field i of a struct that had row r and has row q.
+fn keeps_field(old: &[u8], new: &[u8], r: TypeRow, q: TypeRow, i: usize) -> bool
+    requires { ⌜ IsGood (now old) × IsGood (now new) × (i < 2 ^ 32) ⌝ }
+    ensures { λ x. ⌜ x ≡ fieldKept (tableOf (now (old .entry))) (tableOf (now (new .entry))) r q i ⌝ }
+{
+    let g = field(new, (q.a as usize) + i);
+    if i < r.b as usize {
+        same_field(g, field(old, (r.a as usize) + i))
+    } else {
+        g.optional == 1
+    }
+}
+
+fn keeps_fields(old: &[u8], new: &[u8], r: TypeRow, q: TypeRow) -> bool
+    requires { ⌜ IsGood (now old) × IsGood (now new) ⌝ }
+    ensures { λ x. ⌜ x ≡ every (fieldKept (tableOf (now (old .entry))) (tableOf (now (new .entry))) r q) (q .b) ⌝ }
+{
+    let n = q.b as usize;
+    let mut i = 0;
+    while i < n {
+        if !keeps_field(old, new, r, q, i) {
+            return false;
+        }
+        i += 1;
+    }
+    true
+}
+
+// The whole bytes of a bitmap with a bit for each of n fields.
+fn bitmap_bytes(n: u32) -> u64
+    ensures { λ x. ⌜ x ≡ bitmapBytes n ⌝ }
+{
+    ((n as u64) + 7) / 8
+}
+
+fn keeps_struct(old: &[u8], new: &[u8], r: TypeRow, q: TypeRow) -> bool
+    requires { ⌜ IsGood (now old) × IsGood (now new) ⌝ }
+    ensures { λ x. ⌜ x ≡ structKept (tableOf (now (old .entry))) (tableOf (now (new .entry))) r q ⌝ }
+{
+    (r.b <= q.b) & ((bitmap_bytes(q.b) == bitmap_bytes(r.b)) & keeps_fields(old, new, r, q))
+}
+
+fn keeps_row(old: &[u8], new: &[u8], r: TypeRow, q: TypeRow) -> bool
+    requires { ⌜ IsGood (now old) × IsGood (now new) ⌝ }
+    ensures { λ x. ⌜ x ≡ rowKept (tableOf (now (old .entry))) (tableOf (now (new .entry))) r q ⌝ }
+{
+    if q.kind != r.kind {
+        return false;
+    }
+    if r.kind == 16 {
+        keeps_struct(old, new, r, q)
+    } else {
+        (q.a == r.a) & (q.b == r.b)
+    }
+}
+
+fn keeps_rows(old: &[u8], new: &[u8]) -> bool
+    requires { ⌜ IsGood (now old) × IsGood (now new) ⌝ }
+    ensures { λ x. ⌜ x ≡ rowsKept (tableOf (now (old .entry))) (tableOf (now (new .entry))) ⌝ }
+{
+    let n = type_count(old);
+    let mut i = 0;
+    while i < n {
+        let r = type_row(old, i);
+        let q = type_row(new, i);
+        if !keeps_row(old, new, r, q) {
+            return false;
+        }
+        i += 1;
+    }
+    true
+}
+
+fn same_method(m: Method, n: Method) -> bool
+    ensures { λ x. ⌜ x ≡ sameMethod m n ⌝ }
+{
+    ((m.package == n.package)
+        & ((m.service == n.service) & ((m.method == n.method) & (m.form == n.form))))
+        & (((m.input == n.input) & (m.output == n.output))
+            & ((m.input_stream == n.input_stream) & (m.output_stream == n.output_stream)))
+}
+
+fn keeps_method(new: &[u8], m: Method) -> bool
+    requires { ⌜ IsGood (now new) ⌝ }
+    ensures { λ x. ⌜ x ≡ methodKept (tableOf (now (new .entry))) m ⌝ }
+{
+    match find_method(new, m.package, m.service, m.method) {
+        Found::At(j) => same_method(method(new, j), m),
+        Found::Missing => false,
+    }
+}
+
+fn keeps_methods(old: &[u8], new: &[u8]) -> bool
+    requires { ⌜ IsGood (now old) × IsGood (now new) ⌝ }
+    ensures { λ x. ⌜ x ≡ methodsKept (tableOf (now (old .entry))) (tableOf (now (new .entry))) ⌝ }
+{
+    let n = method_count(old);
+    let mut i = 0;
+    while i < n {
+        let m = method(old, i);
+        if !keeps_method(new, m) {
+            return false;
+        }
+        i += 1;
+    }
+    true
+}
+
+fn is_extended(old: &[u8], new: &[u8]) -> bool
+    requires { ⌜ IsGood (now old) × IsGood (now new) ⌝ }
+    ensures { λ x. ⌜ x ≡ extended (tableOf (now (old .entry))) (tableOf (now (new .entry))) ⌝ }
+{
+    (type_count(old) <= type_count(new)) & (keeps_rows(old, new) & keeps_methods(old, new))
+}
+
+// The answer for any two files.
+pub fn extends(old: &[u8], new: &[u8]) -> Extended
+    ensures { λ x. ⌜ x ≡ extension (now (old .entry)) (now (new .entry)) ⌝ }
+{
+    if let Checked::Refused { number, place } = check(old) {
+        return Extended::Refused { number, place };
+    }
+    if let Checked::Refused { number, place } = check(new) {
+        return Extended::Refused { number, place };
+    }
+    if is_extended(old, new) {
+        Extended::Yes
+    } else {
+        Extended::No
+    }
+}

@@ -1,0 +1,214 @@
+-- The worked examples of 01, cases of each refusal, and pairs of tables, computed from the definitions.
+-- Assumes nothing.
+use mathlib.Core.Path.{_≡_, refl}
+use mathlib.Core.List.{List, [], _∷_, _++_, map}
+use Prim.Native.Nat.{ℕ}
+use lib.Count.{onesIn}
+use lib.ListN.{replicate}
+use Rattle.wire.specs.Little as little
+use Rattle.wire.specs.Varuint as varuint
+use Rattle.wire.specs.Utf8 as utf8
+use Rattle.schema.specs.declared.TypeRow.{TypeRow}
+use Rattle.schema.specs.declared.Field.{Field}
+use Rattle.schema.specs.Table as table
+use Rattle.schema.specs.Table.{Table}
+use Rattle.value.specs.declared.Row.{Row}
+use Rattle.value.specs.Answer as answer
+use Rattle.value.specs.Value as value
+use Rattle.value.specs.Read as read
+use Rattle.value.specs.Read.{Reading, refusal, accepted}
+use Rattle.value.specs.Spell as spell
+use Rattle.value.specs.Write as write
+use Rattle.value.specs.Write.{Writing, refusal as unwritten, written}
+
+abbrev type : ℕ → ℕ → ℕ → TypeRow
+type k a b = record { kind = k; a = a; b = b }
+
+abbrev field : ℕ → ℕ → Field
+field t o = record { ty = t; optional = o }
+
+abbrev row : ℕ → ℕ → ℕ → ℕ → Row
+row t p l n = record { ty = t; place = p; length = l; count = n }
+
+-- ---- the reader: a type, a payload, the sheet's room and the answer
+pub record Case : Type 0 where
+  pub type : ℕ
+  pub payload : List ℕ
+  pub room : ℕ
+  pub answer : Reading
+
+abbrev case : ℕ → List ℕ → ℕ → Reading → Case
+case t p n a = record { type = t; payload = p; room = n; answer = a }
+
+abbrev Hold : Table → List Case → Type 0
+Hold T cases = map (λ (c : Case). read.read T (c .type) (c .payload) (c .room)) cases ≡ map (λ (c : Case). c .answer) cases
+
+-- 01's table T, and P1 to P10.
+unfoldable pub T : Table
+T = record {
+  types = type 6 0 0 ∷ type 12 0 0 ∷ type 16 0 2 ∷ type 14 2 0 ∷ type 16 2 2 ∷ [];
+  fields = field 0 0 ∷ field 1 1 ∷ field 3 0 ∷ field 0 1 ∷ [];
+  methods = [];
+}
+
+abbrev worked : List Case
+worked =
+    case 4 (0x01 ∷ 0x02 ∷ 0x03 ∷ 0x07 ∷ 0x02 ∷ 0x6F ∷ 0x6B ∷ 0x01 ∷ 0x00 ∷ []) 4096
+    (accepted (row 4 0 9 1 ∷ row 3 2 7 2 ∷ row 2 2 5 2 ∷ row 0 3 1 0 ∷ row 1 5 2 0 ∷ row 2 7 2 1 ∷ row 0 8 1 0 ∷ []) 9 0)
+    ∷ case 4 (0x01 ∷ 0x00 ∷ []) 4096 (accepted (row 4 0 2 1 ∷ row 3 2 0 0 ∷ []) 2 0)
+    ∷ case 4 [] 4096 (refusal 20 0)
+    ∷ case 4 (0x00 ∷ []) 4096 (refusal 25 0)
+    ∷ case 4 (0x01 ∷ 0x02 ∷ 0x05 ∷ 0x00 ∷ 0x05 ∷ 0x01 ∷ 0x07 ∷ []) 4096 (refusal 26 2)
+    ∷ case 4 (0x05 ∷ 0x01 ∷ 0x01 ∷ 0x07 ∷ 0x09 ∷ []) 4096 (accepted (row 4 0 4 1 ∷ row 3 2 2 1 ∷ row 2 2 2 1 ∷ row 0 3 1 0 ∷ []) 4 1)
+    ∷ case 4 (0x01 ∷ 0x01 ∷ 0x01 ∷ 0x07 ∷ 0x09 ∷ []) 4096 (refusal 27 4)
+    ∷ case 4 (0x05 ∷ 0x01 ∷ 0x01 ∷ 0x07 ∷ []) 4096 (refusal 20 4)
+    ∷ case 4 (0x01 ∷ 0x80 ∷ 0x00 ∷ []) 4096 (accepted (row 4 0 3 1 ∷ row 3 3 0 0 ∷ []) 3 0)
+    ∷ case 4 (0x01 ∷ 0x02 ∷ 0x01 ∷ 0x07 ∷ []) 4096 (refusal 20 4)
+    ∷ []
+
+pub p1-to-p10 : Hold T worked
+unfolding T read.read read.rootStruct read.ending onesIn read.parse read.walk read.bitmap read.count read.present read.complete table.shape answer.andThen answer.check answer.block answer.varUInt little.little varuint.front varuint.groups utf8.run utf8.next utf8.leadOf utf8.rows value.rows value.value
+p1-to-p10 = refl
+
+-- T with a field added to the struct inside the answer's array, and T with one added to the answer itself. Both are an optional uint8.
+unfoldable pub innerAdded : Table
+innerAdded = record {
+  types = type 6 0 0 ∷ type 12 0 0 ∷ type 16 0 3 ∷ type 14 2 0 ∷ type 16 3 2 ∷ [];
+  fields = field 0 0 ∷ field 1 1 ∷ field 0 1 ∷ field 3 0 ∷ field 0 1 ∷ [];
+  methods = [];
+}
+
+unfoldable pub rootAdded : Table
+rootAdded = record {
+  types = type 6 0 0 ∷ type 12 0 0 ∷ type 16 0 2 ∷ type 14 2 0 ∷ type 16 2 3 ∷ [];
+  fields = field 0 0 ∷ field 1 1 ∷ field 3 0 ∷ field 0 1 ∷ field 0 1 ∷ [];
+  methods = [];
+}
+
+-- By the new tables P5 and P6 have no unknown bit. By T, P5 is 26 at the bitmap of the first struct that carries the field, and P6 has a tail.
+pub inner-added : Hold innerAdded
+    (case 4 (0x01 ∷ 0x02 ∷ 0x05 ∷ 0x00 ∷ 0x05 ∷ 0x01 ∷ 0x07 ∷ []) 4096
+    (accepted (row 4 0 7 1 ∷ row 3 2 5 2 ∷ row 2 2 3 2 ∷ row 0 3 1 0 ∷ row 0 4 1 0 ∷ row 2 5 2 1 ∷ row 0 6 1 0 ∷ []) 7 0) ∷ [])
+unfolding innerAdded read.read read.rootStruct read.ending onesIn read.parse read.walk read.bitmap read.count read.present read.complete table.shape answer.andThen answer.check answer.block answer.varUInt little.little varuint.front varuint.groups utf8.run utf8.next utf8.leadOf utf8.rows value.rows value.value
+inner-added = refl
+
+pub root-added : Hold rootAdded
+    (case 4 (0x05 ∷ 0x01 ∷ 0x01 ∷ 0x07 ∷ 0x09 ∷ []) 4096
+    (accepted (row 4 0 5 2 ∷ row 3 2 2 1 ∷ row 2 2 2 1 ∷ row 0 3 1 0 ∷ row 0 4 1 0 ∷ []) 5 0) ∷ [])
+unfolding rootAdded read.read read.rootStruct read.ending onesIn read.parse read.walk read.bitmap read.count read.present read.complete table.shape answer.andThen answer.check answer.block answer.varUInt little.little varuint.front varuint.groups utf8.run utf8.next utf8.leadOf utf8.rows value.rows value.value
+root-added = refl
+
+-- 0 bool, 1 uint8, 2 string, 3 map of string to uint8, 4 array of itself, 5 struct (optional 5, 3, 2, 0, 4, 6), 6 struct of nine fields, the first
+-- a uint8, the others optional bools.
+unfoldable pub U : Table
+U = record {
+  types = type 1 0 0 ∷ type 6 0 0 ∷ type 12 0 0 ∷ type 15 2 1 ∷ type 14 4 0 ∷ type 16 0 6 ∷ type 16 6 9 ∷ [];
+  fields = field 5 1 ∷ field 3 1 ∷ field 2 1 ∷ field 0 1 ∷ field 4 1 ∷ field 6 1 ∷ field 1 0 ∷ replicate 8 (field 0 1);
+  methods = [];
+}
+
+abbrev faults : List Case
+faults =
+    -- A bitmap: cut, though its required bit lacks already; then 25, before 26; then 26.
+    case 5 (0x20 ∷ 0x00 ∷ []) 9 (refusal 20 1)
+    ∷ case 5 (0x20 ∷ 0x00 ∷ 0x01 ∷ []) 9 (refusal 25 1)
+    ∷ case 5 (0x20 ∷ 0x00 ∷ 0xFE ∷ []) 9 (refusal 25 1)
+    ∷ case 5 (0x20 ∷ 0x01 ∷ 0x02 ∷ 0x07 ∷ []) 9 (refusal 26 1)
+    ∷ case 5 (0x20 ∷ 0x01 ∷ 0x01 ∷ 0x07 ∷ 0x01 ∷ []) 9 (accepted (row 5 0 5 1 ∷ row 6 1 4 2 ∷ row 1 3 1 0 ∷ row 0 4 1 0 ∷ []) 5 0)
+    -- A scalar that is missing; a bool.
+    ∷ case 5 (0x08 ∷ []) 9 (refusal 20 1)
+    ∷ case 5 (0x08 ∷ 0x02 ∷ []) 9 (refusal 22 1)
+    -- A string: its content; a length above what remains; a malformed length, and one that is cut.
+    ∷ case 5 (0x04 ∷ 0x01 ∷ 0xFF ∷ []) 9 (refusal 23 2)
+    ∷ case 5 (0x04 ∷ 0x02 ∷ 0x61 ∷ []) 9 (refusal 20 1)
+    ∷ case 5 (0x04 ∷ (replicate 9 0x80 ++ (0x02 ∷ []))) 9 (refusal 21 1)
+    ∷ case 5 (0x04 ∷ replicate 9 0x80) 9 (refusal 20 1)
+    -- A map: twice its count is above what remains; a key that was there before, with its length spelled otherwise and its value missing.
+    ∷ case 5 (0x02 ∷ 0x01 ∷ 0x00 ∷ []) 9 (refusal 20 1)
+    ∷ case 5 (0x02 ∷ 0x02 ∷ 0x01 ∷ 0x61 ∷ 0x05 ∷ 0x81 ∷ 0x00 ∷ 0x61 ∷ []) 9 (refusal 24 5)
+    ∷ case 5 (0x02 ∷ 0x02 ∷ 0x01 ∷ 0x61 ∷ 0x05 ∷ 0x01 ∷ 0x62 ∷ 0x06 ∷ []) 9
+    (accepted (row 5 0 8 1 ∷ row 3 2 6 2 ∷ row 2 3 1 0 ∷ row 1 4 1 0 ∷ row 2 6 1 0 ∷ row 1 7 1 0 ∷ []) 8 0)
+    -- The tail: a byte for each unknown bit. Surplus bytes without one.
+    ∷ case 5 (0xC0 ∷ 0x09 ∷ []) 9 (refusal 20 1)
+    ∷ case 5 (0xC0 ∷ 0x09 ∷ 0x09 ∷ []) 9 (accepted (row 5 0 1 0 ∷ []) 1 2)
+    ∷ case 5 (0x00 ∷ 0x09 ∷ []) 9 (refusal 27 1)
+    -- Depth 16 is allowed. 28 comes before a missing child, and a count above what remains before 28.
+    ∷ case 5 (replicate 15 0x01 ++ (0x00 ∷ [])) 15 (refusal 30 0)
+    ∷ case 5 (replicate 16 0x01) 99 (refusal 28 16)
+    ∷ case 5 (0x10 ∷ replicate 15 0x01) 99 (refusal 20 15)
+    ∷ case 5 (0x10 ∷ (replicate 15 0x01 ++ (0x00 ∷ []))) 99 (refusal 28 16)
+    -- No struct, before a payload that is too long, before what it holds. Too few rows is last.
+    ∷ case 4 (replicate 16385 0x10) 0 (refusal 46 0)
+    ∷ case 7 [] 0 (refusal 46 0)
+    ∷ case 5 (replicate 16385 0x10) 0 (refusal 7 0)
+    ∷ case 5 (0x08 ∷ 0x02 ∷ []) 0 (refusal 22 1)
+    ∷ case 5 (0x00 ∷ []) 0 (refusal 30 0)
+    ∷ []
+
+pub read-faults : Hold U faults
+unfolding U read.read read.rootStruct read.ending onesIn read.parse read.walk read.bitmap read.count read.present read.complete table.shape answer.andThen answer.check answer.block answer.varUInt little.little varuint.front varuint.groups utf8.run utf8.next utf8.leadOf utf8.rows value.rows value.value
+read-faults = refl
+
+-- ---- the writer: a type, a sheet, its bytes, the room for the output and the answer
+pub record Sheet : Type 0 where
+  pub type : ℕ
+  pub rows : List Row
+  pub over : List ℕ
+  pub room : ℕ
+  pub answer : Writing
+
+abbrev sheet : ℕ → List Row → List ℕ → ℕ → Writing → Sheet
+sheet t rs B room w = record { type = t; rows = rs; over = B; room = room; answer = w }
+
+-- T, and after it: 5 bool, 6 map of string to bool, 7 struct (bool, optional map), 8 struct (optional 8), 9 bytes, 10 struct (bytes).
+unfoldable pub W : Table
+W = record {
+  types =
+      type 6 0 0 ∷ type 12 0 0 ∷ type 16 0 2 ∷ type 14 2 0 ∷ type 16 2 2 ∷ type 1 0 0 ∷ type 15 1 5 ∷ type 16 4 2 ∷ type 16 6 1 ∷ type 13 0 0 ∷ type 16 7 1 ∷ [];
+  fields = field 0 0 ∷ field 1 1 ∷ field 3 0 ∷ field 0 1 ∷ field 5 0 ∷ field 6 1 ∷ field 8 1 ∷ field 9 0 ∷ [];
+  methods = [];
+}
+
+abbrev sheets : List Sheet
+sheets =
+    -- P1; P6 without its unknown bit and tail. Array and map places and composite lengths are not used; bytes may be shared.
+    sheet 4 (row 4 0 9 1 ∷ row 3 2 7 2 ∷ row 2 2 5 2 ∷ row 0 3 1 0 ∷ row 1 5 2 0 ∷ row 2 7 2 1 ∷ row 0 8 1 0 ∷ [])
+    (0x01 ∷ 0x02 ∷ 0x03 ∷ 0x07 ∷ 0x02 ∷ 0x6F ∷ 0x6B ∷ 0x01 ∷ 0x00 ∷ []) 9 (written (0x01 ∷ 0x02 ∷ 0x03 ∷ 0x07 ∷ 0x02 ∷ 0x6F ∷ 0x6B ∷ 0x01 ∷ 0x00 ∷ []))
+    ∷ sheet 4 (row 4 0 4 1 ∷ row 3 2 2 1 ∷ row 2 2 2 1 ∷ row 0 3 1 0 ∷ []) (0x05 ∷ 0x01 ∷ 0x01 ∷ 0x07 ∷ 0x09 ∷ []) 4 (written (0x01 ∷ 0x01 ∷ 0x01 ∷ 0x07 ∷ []))
+    ∷ sheet 4 (row 4 0 99 1 ∷ row 3 99 99 2 ∷ row 2 0 0 1 ∷ row 0 0 1 0 ∷ row 2 0 0 1 ∷ row 0 1 1 0 ∷ []) (0x01 ∷ 0x07 ∷ []) 6
+    (written (0x01 ∷ 0x02 ∷ 0x01 ∷ 0x01 ∷ 0x01 ∷ 0x07 ∷ []))
+    -- No struct. A row missing: at the root, and in an array.
+    ∷ sheet 3 [] [] 0 (unwritten 46 0)
+    ∷ sheet 4 [] [] 0 (unwritten 50 0)
+    ∷ sheet 4 (row 4 0 2 1 ∷ row 3 2 0 1 ∷ []) (0x01 ∷ 0x00 ∷ []) 9 (unwritten 50 2)
+    -- Another type; a scalar's length, before 51; a count of a scalar, and of a string.
+    ∷ sheet 4 (row 4 0 2 1 ∷ row 2 2 0 0 ∷ []) (0x01 ∷ 0x00 ∷ []) 9 (unwritten 50 1)
+    ∷ sheet 7 (row 7 0 2 1 ∷ row 5 9 2 0 ∷ []) (0x01 ∷ 0x00 ∷ []) 9 (unwritten 50 1)
+    ∷ sheet 7 (row 7 0 2 1 ∷ row 5 1 1 1 ∷ []) (0x01 ∷ 0x00 ∷ []) 9 (unwritten 50 1)
+    ∷ sheet 7 (row 7 0 0 2 ∷ row 5 1 1 0 ∷ row 6 0 0 1 ∷ row 1 0 1 1 ∷ []) (0x03 ∷ 0x00 ∷ []) 9 (unwritten 50 3)
+    -- A span outside the bytes: a bitmap, a scalar, a string. An empty one at the end is right, beyond it is not.
+    ∷ sheet 4 (row 4 1 2 1 ∷ row 3 2 0 0 ∷ []) (0x01 ∷ []) 9 (unwritten 51 0)
+    ∷ sheet 7 (row 7 0 2 1 ∷ row 5 1 1 0 ∷ []) (0x01 ∷ []) 9 (unwritten 51 1)
+    ∷ sheet 7 (row 7 0 0 2 ∷ row 5 1 1 0 ∷ row 6 0 0 1 ∷ row 1 1 2 0 ∷ []) (0x03 ∷ 0x00 ∷ []) 9 (unwritten 51 3)
+    ∷ sheet 10 (row 10 0 0 1 ∷ row 9 1 0 0 ∷ []) (0x01 ∷ []) 9 (written (0x01 ∷ 0x00 ∷ []))
+    ∷ sheet 10 (row 10 0 0 1 ∷ row 9 2 0 0 ∷ []) (0x01 ∷ []) 9 (unwritten 51 1)
+    -- A bool, UTF-8. A required field absent, before an unknown bit and the count; an unknown bit in an inner struct; a struct's count.
+    ∷ sheet 7 (row 7 0 2 1 ∷ row 5 1 1 0 ∷ []) (0x01 ∷ 0x02 ∷ []) 9 (unwritten 22 1)
+    ∷ sheet 7 (row 7 0 0 2 ∷ row 5 1 1 0 ∷ row 6 0 0 1 ∷ row 1 2 1 0 ∷ []) (0x03 ∷ 0x00 ∷ 0xFF ∷ []) 9 (unwritten 23 3)
+    ∷ sheet 4 (row 4 0 2 1 ∷ row 3 2 0 1 ∷ row 2 1 0 9 ∷ row 0 0 1 0 ∷ []) (0x01 ∷ 0x04 ∷ []) 9 (unwritten 25 2)
+    ∷ sheet 4 (row 4 0 2 1 ∷ row 3 2 0 1 ∷ row 2 1 0 1 ∷ row 0 0 1 0 ∷ []) (0x01 ∷ 0x05 ∷ []) 9 (unwritten 50 2)
+    ∷ sheet 4 (row 4 0 2 2 ∷ row 3 2 0 0 ∷ []) (0x01 ∷ 0x00 ∷ []) 9 (unwritten 50 0)
+    -- A key that was there before, though the row of its value is missing.
+    ∷ sheet 7 (row 7 0 0 2 ∷ row 5 1 1 0 ∷ row 6 0 0 2 ∷ row 1 2 1 0 ∷ row 5 1 1 0 ∷ row 1 2 1 0 ∷ []) (0x03 ∷ 0x00 ∷ 0x61 ∷ []) 9 (unwritten 24 5)
+    -- Depth 17, though its row is missing; a row missing at depth 16.
+    ∷ sheet 8 (replicate 16 (row 8 0 0 1)) (0x01 ∷ []) 99 (unwritten 28 16)
+    ∷ sheet 8 (replicate 15 (row 8 0 0 1)) (0x01 ∷ []) 99 (unwritten 50 15)
+    -- Rows left over, before 7; a payload that is too long, before the room; the room.
+    ∷ sheet 10 (row 10 0 0 1 ∷ row 9 0 16384 0 ∷ row 9 0 0 0 ∷ []) (replicate 16384 1) 0 (unwritten 50 2)
+    ∷ sheet 10 (row 10 0 0 1 ∷ row 9 0 16384 0 ∷ []) (replicate 16384 1) 0 (unwritten 7 0)
+    ∷ sheet 4 (row 4 0 2 1 ∷ row 3 2 0 0 ∷ []) (0x01 ∷ 0x00 ∷ []) 1 (unwritten 52 0)
+    ∷ []
+
+pub write-cases : map (λ (c : Sheet). write.write W (c .type) (c .rows) (c .over) (c .room)) sheets ≡ map (λ (c : Sheet). c .answer) sheets
+unfolding W write.write write.showRoot write.show write.rowOf write.nextRow write.bitsAt spell.encode little.little little.bytes varuint.shortest varuint.varuintBytes read.walk read.present read.complete table.shape answer.andThen answer.check utf8.run utf8.next utf8.leadOf utf8.rows value.value
+write-cases = refl

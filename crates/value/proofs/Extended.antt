@@ -1,0 +1,156 @@
+-- A payload that a new table's rules allow, read by an old table that the new one extends; and the other way round.
+-- Assumes nothing.
+use mathlib.Core.Path.{_≡_, sym, ap, ap₂, _∙_}
+use mathlib.Core.Logic.{_↔_}
+use mathlib.Core.List.{List, [], _∷_, _++_, append-nil, append-assoc}
+use mathlib.Core.Option.{Option, none, some}
+use mathlib.Core.Bool.{Bool, true, false, cond}
+use Prim.Native.Nat.{ℕ, _+_, _/_, _^_, _≤_, _<_}
+use native.Mathlib.Omega.{arith}
+use native.Mathlib.Nat.{div-eq-of-lt}
+use lib.Dec.{leb}
+use lib.ListN.{length, length-append}
+use borrow.Author.Tests.{leb-false}
+use Rattle.schema.specs.declared.Field.{Field}
+use Rattle.schema.specs.Table.{Shape, struct, bitmapBytes}
+use Rattle.value.specs.declared.Row.{Row}
+use Rattle.value.specs.Answer.{Cursor, seen, cursorAt}
+use Rattle.value.specs.Value.{Value, node, Values, none as empty, some as and, Tree, tip, branch, Forest, rows, value, values}
+use Rattle.value.specs.Read.{Item, present, rootOf, rootStruct, refusal, accepted, reading}
+use Rattle.value.specs.Spell.{AllSpell, Spells, RootSpells}
+use Rattle.value.proofs.Shapes.{FieldsBelow, Optional, Extension}
+use Rattle.schema.specs.Extend.{Grows, same, gains}
+use Rattle.value.specs.Fits.{Shows}
+use Rattle.value.specs.Added.{carries, inner, reachedAll, firstAdded, without, addedValues}
+use Rattle.value.specs.Claims.{ByOld}
+use Rattle.value.proofs.Answers.{seen-end, yields-end}
+use Rattle.value.proofs.Bits.{present-mod, present-none}
+use Rattle.value.proofs.Root.{root-sound, root-complete}
+use Rattle.value.proofs.TwoTables.{outcome}
+use Rattle.value.proofs.Without.{_⧺_, trees, spelled-kept, without-first, after-first}
+use Rattle.value.proofs.RootTables.{rootTree, OldSays, new-then-old-root, old-then-new-root}
+use Rattle.value.proofs.Reading.{as-root, accepts, accepted-of, root-in}
+
+-- ---- what a struct gains
+
+cancel : (fs gs hs : List Field) → fs ++ gs ≡ fs ++ hs → gs ≡ hs
+cancel [] gs hs e = e
+cancel (f ∷ fs) gs hs e = cancel fs gs hs (cc)
+
+grown : (fs : List Field) {s s′ : Shape} → Grows s s′ → s ≡ struct fs
+    → (gs : List Field) × (s′ ≡ struct (fs ++ gs)) × (bitmapBytes (length (fs ++ gs)) ≡ bitmapBytes (length fs)) × Optional gs
+grown fs (same s) e = ([], rw append-nil e, rw append-nil, λ i l. absurd (omega arith))
+grown fs (gains fs′ gs o b) e = let f : fs′ ≡ fs = cc in (gs, rw f, rw f at b, o)
+
+-- A struct of the old table has its fields in the new one too, and perhaps more.
+pub gained-fields : (S S′ : ℕ → Shape) (n : ℕ) → Extension S S′ n → (t : ℕ) → t < n → (fs : List Field) → S t ≡ struct fs → (gs : List Field) × (S′ t ≡ struct (fs ++ gs))
+gained-fields S S′ n x t l fs st = let w = grown fs (x .grows t l) st in (w .0, w .1)
+
+module _ (S S′ : ℕ → Shape) (n : ℕ) (x : Extension S S′ n) (t : ℕ) (l : t < n) (fs gs : List Field) (st : S t ≡ struct fs) (st′ : S′ t ≡ struct (fs ++ gs)) where
+  gained : (bitmapBytes (length (fs ++ gs)) ≡ bitmapBytes (length fs)) × Optional gs
+  gained =
+      let w = grown fs (x .grows t l) st in
+      let e : fs ++ w .0 ≡ fs ++ gs = cc (w .1, st′) in
+      let k : w .0 ≡ gs = cancel fs (w .0) gs e in
+      (rw k at (w .2), rw k at (w .3))
+
+  below : FieldsBelow n fs
+  below = rw st at (x .closed t l)
+
+  -- A root that carries no added field has no bytes of any.
+  no-added : (P : ℕ → Value → List ℕ → Type 0) (h : ℕ) (vs : Values) (w : List ℕ) → carries (struct fs) h ≡ false → AllSpell P (present gs (h / 2 ^ length fs)) vs w → w ≡ []
+  no-added P h vs w f q = go (present gs (h / 2 ^ length fs)) vs (rw (div-eq-of-lt (leb-false (2 ^ length fs) h f)) (present-none gs)) q
+    where
+      go : (is : List Item) (vs : Values) → is ≡ [] → AllSpell P is vs w → w ≡ []
+      go [] empty e q = q
+      go [] (and v vs) e q = absurd q
+      go (i ∷ is) vs e q = absurd (let z : _≡_ {A = ℕ} 0 1 = cc in omega arith)
+
+  -- ---- from the new table to the old one
+
+  module _ (payload : List ℕ) (room : ℕ) where
+    abbrev Answered : Value → Option ℕ → Type 0
+    Answered v f = ByOld S S′ t fs gs payload room v (reading room (rootOf S t payload)) f
+
+    -- The old root's value is the new one's without the added fields.
+    kept-value : (r : Row) (h : ℕ) (us vs : Forest) (c′ : Cursor) → trees us ≡ length (present fs h)
+        → rootStruct S t fs (cursorAt payload 0) ≡ seen (rootTree t fs 0 h us c′) c′ → value (rootTree t fs 0 h us c′) ≡ without S (value (branch r h (us ⧺ vs))) t
+    unfolding value without
+    kept-value r h us vs c′ z e =
+        let q = seen-end (root-sound S t fs (cursorAt payload 0)) e in
+        rw (st, without-first S us vs (present fs h) z, spelled-kept S 15 (present fs h) (values us) (q .2) (rw (present-mod fs h) at (q .6)))
+
+    -- Where the old reader accepts: the payload's known and added bytes.
+    split : (h : ℕ) (us : Forest) (c′ : Cursor) → rootStruct S t fs (cursorAt payload 0) ≡ seen (rootTree t fs 0 h us c′) c′
+        → (known : List ℕ) × (payload ≡ known ++ c′ .left) × (c′ .at ≡ length known)
+    unfolding value
+    split h us c′ e =
+        let q = seen-end (root-sound S t fs (cursorAt payload 0)) e in
+        let k : payload ≡ (q .1 ++ q .2) ++ c′ .left = q .3 ∙ sym (append-assoc (q .1) (q .2) (c′ .left)) in
+        let w = root-in S t fs payload (rootTree t fs 0 h us c′) c′ e in
+        let n : length payload ≡ length (q .1 ++ q .2) + length (c′ .left) = ap length k ∙ length-append (q .1 ++ q .2) (c′ .left) in
+        (q .1 ++ q .2, k, omega (arith, w .1))
+
+    answer : (r : Row) (h : ℕ) (ts : Forest) (end : Cursor) → length payload ≤ 16384 → end .left ≡ []
+        → OldSays S S′ n x t fs gs below (gained .0) (gained .1) (cursorAt payload 0) (branch r h ts) end
+        → Answered (value (branch r h ts)) (firstAdded (inner S (branch r h ts) t))
+    unfolding value
+    answer r h ts end short none-left (us, vs, w, c′, a, s, z, k, q) =
+        let i : firstAdded (inner S (branch r h ts) t) ≡ firstAdded (reachedAll S ts (present fs h)) = rw st in
+        rw i (go (firstAdded (reachedAll S ts (present fs h))) a)
+      where
+        go : (f : Option ℕ) → rootStruct S t fs (cursorAt payload 0) ≡ outcome f (rootTree t fs 0 h us c′) c′ → Answered (value (branch r h ts)) f
+        go (some p) a = as-root S t payload room fs st short ∙ rw a
+        go none a =
+            let (known, e, m) = split h us c′ a in
+            let e′ : c′ .left ≡ w = rw (none-left, append-nil) at k in
+            let i = root-in S t fs payload (rootTree t fs 0 h us c′) c′ a in
+            let b : values vs ≡ addedValues fs (node h (values ts)) = rw s (sym (after-first us vs (length (present fs h)) z)) in (
+              rows (rootTree t fs 0 h us c′),
+              known,
+              w,
+              e ∙ ap (λ (y : List ℕ). known ++ y) e′,
+              rw b at q,
+              λ f. no-added (Spells S′ 15) h (values vs) w f q,
+              rw (kept-value r h us vs c′ z a, ← s) at (i .0),
+              as-root S t payload room fs st short ∙ ap (reading room) a
+                  ∙ ap₂ (λ (i : ℕ) (y : List ℕ). cond (leb (length (rows (rootTree t fs 0 h us c′))) room) (accepted (rows (rootTree t fs 0 h us c′)) i (length y)) (refusal 30 0)) m e′,
+            )
+
+    -- The old reader's answer for a value that the new rules allow, without unknown bits; the tree has its places.
+    pub new-by-old : (v : Value) → RootSpells S′ (fs ++ gs) v payload [] → length payload ≤ 16384
+        → (tree : Tree) × (end : Cursor) × (rootStruct S′ t (fs ++ gs) (cursorAt payload 0) ≡ seen tree end) × (value tree ≡ v)
+        × Answered v (firstAdded (inner S tree t))
+    new-by-old v q short =
+        let (tree, end, e, (u, z)) = yields-end (root-complete S′ t (fs ++ gs) (x .solid) v [] (cursorAt payload 0) q) in
+        (tree, end, e, u, rw u at (go tree end z (seen-end (new-then-old-root S S′ n x t fs gs below (gained .0) (gained .1) (cursorAt payload 0)) e)))
+      where
+        go : (tree : Tree) (end : Cursor) → end .left ≡ [] → OldSays S S′ n x t fs gs below (gained .0) (gained .1) (cursorAt payload 0) tree end
+            → Answered (value tree) (firstAdded (inner S tree t))
+        go (tip r y) end z o = absurd o
+        go (branch r h ts) end z o = answer r h ts end short z o
+
+    -- 26 is answered exactly for an inner struct that carries an added field, at the first.
+    pub refused-iff : (v : Value) (f : Option ℕ) → Answered v f → (p : ℕ) → (reading room (rootOf S t payload) ≡ refusal 26 p) ↔ (f ≡ some p)
+    refused-iff v (some p′) a p = (λ e. cc, λ e. a ∙ cc)
+    refused-iff v none (rs, known, added, k, q, z, s, a) p = (λ e. go (leb (length rs) room) (sym a ∙ e), λ e. absurd (let z : _≡_ {A = ℕ} 0 1 = cc in omega arith))
+      where
+        go : (b : Bool) → cond b (accepted rs (length known) (length added)) (refusal 30 0) ≡ refusal 26 p → none ≡ some p
+        go true e = absurd (let z : _≡_ {A = ℕ} 0 1 = cc in omega arith)
+        go false e = absurd (let z : _≡_ {A = ℕ} 30 26 = cc in omega arith)
+
+    -- ---- from the old table to the new one
+
+    -- What the old reader accepts without a tail, the new one accepts with the same rows, which show the same value.
+    pub old-by-new : (rs : List Row) → reading room (rootOf S t payload) ≡ accepted rs (length payload) 0
+        → (reading room (rootOf S′ t payload) ≡ accepted rs (length payload) 0)
+        × ((v : Value) × Shows S payload t fs rs v × Shows S′ payload t (fs ++ gs) rs v)
+    old-by-new rs e =
+        let a = accepts S t payload room rs (length payload) 0 e in
+        let f : a .fs ≡ fs = cc (a .is-struct) in
+        let k : rootStruct S t fs (cursorAt payload 0) ≡ seen (a .tree) (a .end) = rw f at (a .reads) in
+        let k′ = seen-end (old-then-new-root S S′ n x t fs gs below (gained .0) (gained .1) (cursorAt payload 0)) k (a .has-length) in (
+          accepted-of S′ t payload room rs (length payload) 0
+              (record { fs = fs ++ gs; tree = a .tree; end = a .end; is-struct = st′; reads = k′; has-rows = a .has-rows; has-place = a .has-place; has-length = a .has-length; short = a .short; fits = a .fits }),
+          (value (a .tree), rw (a .has-rows) at (root-in S t fs payload (a .tree) (a .end) k .0), rw (a .has-rows) at (root-in S′ t (fs ++ gs) payload (a .tree) (a .end) k′ .0)),
+        )

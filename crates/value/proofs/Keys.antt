@@ -1,0 +1,90 @@
+-- The test of keys one after the other, against the keys before, says that no two of them are equal.
+-- Assumes nothing.
+use mathlib.Core.Path.{_≡_, refl, sym, _∙_}
+use mathlib.Core.List.{List, [], _∷_}
+use mathlib.Core.Bool.{Bool, true, false, _&&_, _||_, and-eq-true-iff, false≢true}
+use Prim.Native.Nat.{ℕ, zero, suc, _<_}
+use native.Mathlib.Omega.{arith}
+use lib.Dec.{eqb}
+use lib.ListN.{length, getD}
+use borrow.Author.Tests.{eqb-true, eq-eqb}
+use Rattle.value.specs.Value.{Values, none, some, content}
+use Rattle.value.specs.Read.{Item, same, among, withKey}
+use Rattle.value.specs.Spell.{keysOf, Apart}
+
+-- Each key of a plan is not among those before it.
+abbrev pub Fresh : List (List ℕ) → List Item → Values → Type 0
+Fresh keys [] vs = Unit {0}
+Fresh keys (i ∷ is) none = Unit {0}
+Fresh keys (i ∷ is) (some v vs) = (i .key && among (content v) keys ≡ false) × Fresh (withKey (i .key) (content v) keys) is vs
+
+same-refl : (x : List ℕ) → same x x ≡ true
+same-refl [] = refl
+same-refl (a ∷ x) = rw (eq-eqb a a refl, same-refl x)
+
+same-eq : (x y : List ℕ) → same x y ≡ true → x ≡ y
+same-eq [] [] e = refl
+same-eq [] (b ∷ y) e = absurd (false≢true e)
+same-eq (a ∷ x) [] e = absurd (false≢true e)
+same-eq (a ∷ x) (b ∷ y) e =
+    let w = and-eq-true-iff (eqb a b) (same x y) .0 e in
+    cc (eqb-true a b (w .0), same-eq x y (w .1))
+
+same-not : (x y : List ℕ) → (x ≡ y → ⊥) → same x y ≡ false
+same-not x y h = go (same x y) refl
+  where
+    go : (t : Bool) → same x y ≡ t → t ≡ false
+    go true e = absurd (h (same-eq x y e))
+    go false e = refl
+
+-- The keys to come are not among those before, and no two of them are equal.
+abbrev Apart₂ : List (List ℕ) → List (List ℕ) → Type 0
+Apart₂ keys ks = ((j : ℕ) → j < length ks → among (getD ks j []) keys ≡ false) × Apart ks
+
+neither : (a b : Bool) → a || b ≡ false → (a ≡ false) × (b ≡ false)
+neither true b e = absurd (false≢true (sym e))
+neither false b e = (refl, e)
+
+apart-more : (keys : List (List ℕ)) (x : List ℕ) (ks : List (List ℕ)) → among x keys ≡ false → Apart₂ (x ∷ keys) ks → Apart₂ keys (x ∷ ks)
+apart-more keys x ks e (f, a) = (before, apart)
+  where
+    before : (j : ℕ) → j < suc (length ks) → among (getD (x ∷ ks) j []) keys ≡ false
+    before zero h = e
+    before (suc j) h = neither (same (getD ks j []) x) _ (f j (omega arith)) .1
+
+    apart : Apart (x ∷ ks)
+    apart i zero h l k = omega arith
+    apart zero (suc j) h l k =
+        let z : same (getD ks j []) x ≡ true = rw (← k) (same-refl x) in
+        false≢true (sym (neither (same (getD ks j []) x) _ (f j (omega arith)) .0) ∙ z)
+    apart (suc i) (suc j) h l k = a i j (omega arith) (omega arith) k
+
+apart-less : (keys : List (List ℕ)) (x : List ℕ) (ks : List (List ℕ)) → Apart₂ keys (x ∷ ks) → (among x keys ≡ false) × Apart₂ (x ∷ keys) ks
+apart-less keys x ks (f, a) =
+    (f 0 (omega arith), (λ j h. rw (same-not (getD ks j []) x (λ e. a 0 (suc j) (omega arith) (omega arith) (sym e))) (f (suc j) (omega arith)), λ i j h l k. a (suc i) (suc j) (omega arith) (omega arith) k))
+
+fresh-apart₂ : (keys : List (List ℕ)) (is : List Item) (vs : Values) → Fresh keys is vs → Apart₂ keys (keysOf is vs)
+fresh-apart₂ keys [] vs f = (λ j h. absurd (omega arith), λ i j h l k. omega arith)
+fresh-apart₂ keys (i ∷ is) none f = (λ j h. absurd (omega arith), λ i j h l k. omega arith)
+fresh-apart₂ keys (i ∷ is) (some v vs) f = go (i .key) (f .0) (fresh-apart₂ (withKey (i .key) (content v) keys) is vs (f .1))
+  where
+    go : (b : Bool) → b && among (content v) keys ≡ false → Apart₂ (withKey b (content v) keys) (keysOf is vs) → Apart₂ keys (withKey b (content v) (keysOf is vs))
+    go true e a = apart-more keys (content v) (keysOf is vs) e a
+    go false e a = a
+
+apart-fresh₂ : (keys : List (List ℕ)) (is : List Item) (vs : Values) → Apart₂ keys (keysOf is vs) → Fresh keys is vs
+apart-fresh₂ keys [] vs a = tt
+apart-fresh₂ keys (i ∷ is) none a = tt
+apart-fresh₂ keys (i ∷ is) (some v vs) a =
+    let w = go (i .key) a in
+    (w .0, apart-fresh₂ (withKey (i .key) (content v) keys) is vs (w .1))
+  where
+    go : (b : Bool) → Apart₂ keys (withKey b (content v) (keysOf is vs)) → (b && among (content v) keys ≡ false) × Apart₂ (withKey b (content v) keys) (keysOf is vs)
+    go true a = apart-less keys (content v) (keysOf is vs) a
+    go false a = (refl, a)
+
+pub fresh-apart : (is : List Item) (vs : Values) → Fresh [] is vs → Apart (keysOf is vs)
+fresh-apart is vs f = fresh-apart₂ [] is vs f .1
+
+pub apart-fresh : (is : List Item) (vs : Values) → Apart (keysOf is vs) → Fresh [] is vs
+apart-fresh is vs a = apart-fresh₂ [] is vs (λ j h. refl, a)

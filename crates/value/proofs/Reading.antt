@@ -1,0 +1,157 @@
+-- The whole reader's answers, taken apart and put together.
+-- Assumes nothing.
+use mathlib.Core.Path.{_≡_, refl, ap, _∙_}
+use mathlib.Core.List.{List, []}
+use mathlib.Core.Bool.{Bool, true, false, cond}
+use Prim.Native.Nat.{ℕ, _+_, _-_, _≤_}
+use native.Mathlib.Omega.{arith}
+use lib.Dec.{leb}
+use lib.ListN.{length, length-append, length-drop}
+use borrow.Author.Tests.{leb-true, le-leb}
+use Rattle.schema.specs.declared.Field.{Field}
+use Rattle.schema.specs.Table.{Shape, unknown, scalar, text, array, map, struct}
+use Rattle.value.specs.declared.Row.{Row}
+use Rattle.value.specs.Answer.{Cursor, Answer, refused, seen, cursorAt}
+use Rattle.value.specs.Value.{Tree, tip, branch, Forest, stop, plus, rows, rowsAll, Value, value, values, size, sizeAll}
+use Rattle.value.specs.Read.{onStruct, rootOf, rootStruct, refusal, accepted, reading}
+use Rattle.value.proofs.Shapes.{Solid}
+use Rattle.value.specs.Fits.{Shows}
+use Rattle.value.specs.Claims.{Rightful, ReadAs}
+use Rattle.value.proofs.Answers.{seen-end, yields-end}
+use Rattle.value.proofs.Root.{root-sound, root-complete}
+use Rattle.value.proofs.Placed.{root-placed}
+use Rattle.value.proofs.Telling.{root-once}
+use Rattle.value.proofs.Places.{Within, before, goes-on, root-within}
+
+-- There are as many rows as values.
+mutual
+  unfolding rows rowsAll value values size sizeAll
+
+  pub sized : (tree : Tree) → length (rows tree) ≡ size (value tree)
+  sized (tip r x) = refl
+  sized (branch r h ts) = omega (arith, sizedAll ts)
+
+  sizedAll : (ts : Forest) → length (rowsAll ts) ≡ sizeAll (values ts)
+  sizedAll stop = refl
+  sizedAll (plus t ts) = simp length-append (omega (arith, sized t, sizedAll ts))
+
+never : {A : Type 0} {n p tp tl : ℕ} {rs : List Row} → refusal n p ≡ accepted rs tp tl → A
+never e = absurd (let z : _≡_ {A = ℕ} 0 1 = cc in omega arith)
+
+module _ (S : ℕ → Shape) (t : ℕ) (payload : List ℕ) (room : ℕ) where
+  -- A payload that is not too long is judged by the root reader.
+  pub as-root : (fs : List Field) → S t ≡ struct fs → length payload ≤ 16384 → reading room (rootOf S t payload) ≡ reading room (rootStruct S t fs (cursorAt payload 0))
+  as-root fs st l = let a : leb (length payload) 16384 ≡ true = le-leb _ _ l in rw (st, a)
+
+  -- What is accepted, with its tree and the cursor at its tail.
+  pub record Accepts (rs : List Row) (place n : ℕ) : Type 0 where
+    pub fs : List Field
+    pub tree : Tree
+    pub end : Cursor
+    pub is-struct : S t ≡ struct fs
+    pub reads : rootStruct S t fs (cursorAt payload 0) ≡ seen tree end
+    pub has-rows : rows tree ≡ rs
+    pub has-place : end .at ≡ place
+    pub has-length : length (end .left) ≡ n
+    pub short : length payload ≤ 16384
+    pub fits : length rs ≤ room
+
+  roomy : (rs rs′ : List Row) (p l place n : ℕ) → cond (leb (length rs′) room) (accepted rs′ p l) (refusal 30 0) ≡ accepted rs place n
+      → (rs′ ≡ rs) × (p ≡ place) × (l ≡ n) × (length rs ≤ room)
+  roomy rs rs′ p l place n e = go (leb (length rs′) room) refl e
+    where
+      go : (b : Bool) → leb (length rs′) room ≡ b → cond b (accepted rs′ p l) (refusal 30 0) ≡ accepted rs place n → (rs′ ≡ rs) × (p ≡ place) × (l ≡ n) × (length rs ≤ room)
+      go true q e = let k : rs′ ≡ rs = cc in (k, cc, cc, rw (← k) (leb-true _ _ q))
+      go false q e = never e
+
+  pub accepts : (rs : List Row) (place n : ℕ) → reading room (rootOf S t payload) ≡ accepted rs place n → Accepts rs place n
+  accepts rs place n e = go (S t) refl e
+    where
+      inside : (fs : List Field) → S t ≡ struct fs → (a : Bool) (m : Answer Tree) → leb (length payload) 16384 ≡ a → rootStruct S t fs (cursorAt payload 0) ≡ m
+          → reading room (cond a m (refused 7 0)) ≡ accepted rs place n → Accepts rs place n
+      inside fs st false m p k e = never e
+      inside fs st true (refused _ _) p k e = never e
+      inside fs st true (seen tree end) p k e =
+          let w = roomy rs (rows tree) _ _ place n e in
+          record { fs = fs; tree = tree; end = end; is-struct = st; reads = k; has-rows = w .0; has-place = w .1; has-length = w .2; short = leb-true _ _ p; fits = w .3 }
+
+      go : (s : Shape) → S t ≡ s
+          → reading room (onStruct s (refused 46 0) (λ fs. cond (leb (length payload) 16384) (rootStruct S t fs (cursorAt payload 0)) (refused 7 0))) ≡ accepted rs place n
+          → Accepts rs place n
+      go (struct fs) st e = inside fs st _ _ refl refl e
+      go unknown st e = never e
+      go (scalar _) st e = never e
+      go (text _) st e = never e
+      go (array _) st e = never e
+      go (map _ _) st e = never e
+
+  pub accepted-of : (rs : List Row) (place n : ℕ) → Accepts rs place n → reading room (rootOf S t payload) ≡ accepted rs place n
+  accepted-of rs place n a =
+      let b : leb (length rs) room ≡ true = le-leb _ _ (a .fits) in
+      as-root (a .fs) (a .is-struct) (a .short) ∙ rw (a .reads, a .has-rows, b, a .has-place, a .has-length)
+
+  -- A refusal's place is within the payload or at its end.
+  pub refused-inside : (n p : ℕ) → reading room (rootOf S t payload) ≡ refusal n p → p ≤ length payload
+  refused-inside n p e = go (S t) e
+    where
+      zero-place : (k : ℕ) → refusal k 0 ≡ refusal n p → p ≤ length payload
+      zero-place k e = let z : p ≡ 0 = cc in omega arith
+
+      fitting : (b : Bool) (rs : List Row) (x y : ℕ) → cond b (accepted rs x y) (refusal 30 0) ≡ refusal n p → p ≤ length payload
+      fitting true rs x y e = absurd (let z : _≡_ {A = ℕ} 0 1 = cc in omega arith)
+      fitting false rs x y e = zero-place 30 e
+
+      judged : (m : Answer Tree) → Within (length payload) m → reading room m ≡ refusal n p → p ≤ length payload
+      judged m (before {p = q} h) e = let z : p ≡ q = cc in omega arith
+      judged m (goes-on {a = tree} {c = end} h) e = fitting (leb (length (rows tree)) room) (rows tree) (end .at) (length (end .left)) e
+
+      inside : (fs : List Field) (a : Bool) → reading room (cond a (rootStruct S t fs (cursorAt payload 0)) (refused 7 0)) ≡ refusal n p → p ≤ length payload
+      inside fs true e = judged _ (root-within (length payload) S t fs (cursorAt payload 0) (omega arith)) e
+      inside fs false e = zero-place 7 e
+
+      go : (s : Shape) → reading room (onStruct s (refused 46 0) (λ fs. cond (leb (length payload) 16384) (rootStruct S t fs (cursorAt payload 0)) (refused 7 0))) ≡ refusal n p → p ≤ length payload
+      go (struct fs) e = inside fs (leb (length payload) 16384) e
+      go unknown e = zero-place 46 e
+      go (scalar _) e = zero-place 46 e
+      go (text _) e = zero-place 46 e
+      go (array _) e = zero-place 46 e
+      go (map _ _) e = zero-place 46 e
+
+-- ---- values
+
+-- What a root reader reads stands in the payload: its rows show its value, and the tail reaches to the end.
+pub root-in : (S : ℕ → Shape) (t : ℕ) (fs : List Field) (payload : List ℕ) (tree : Tree) (end : Cursor) → rootStruct S t fs (cursorAt payload 0) ≡ seen tree end
+    → Shows S payload t fs (rows tree) (value tree) × (end .at + length (end .left) ≡ length payload)
+root-in S t fs payload tree end e =
+    let w = seen-end (root-placed payload S t fs (cursorAt payload 0) (refl, omega arith)) e in
+    let l : length (end .left) ≡ length payload - end .at = ap length (w .0 .0) ∙ length-drop (end .at) payload in
+    ((tree, refl, w .1, refl), omega (arith, w .0 .1))
+
+module _ (S : ℕ → Shape) (t : ℕ) (fs : List Field) (st : S t ≡ struct fs) (payload : List ℕ) (room : ℕ) (v : Value) (place n : ℕ) where
+  pub read-rightful : ReadAs S t fs payload (reading room (rootOf S t payload)) v place n → Rightful S t fs payload room v place n
+  read-rightful (rs, e, s) =
+      let a = accepts S t payload room rs place n e in
+      let f : a .fs ≡ fs = cc (a .is-struct) in
+      let k : rootStruct S t fs (cursorAt payload 0) ≡ seen (a .tree) (a .end) = rw f at (a .reads) in
+      let w = root-in S t fs payload (a .tree) (a .end) k in
+      let u : value (a .tree) ≡ v = root-once S t fs st payload (value (a .tree)) v rs (rw (a .has-rows) at (w .0)) s in
+      let z : length (rows (a .tree)) ≡ length rs = ap length (a .has-rows) in (
+        a .end .left,
+        rw u at (seen-end (root-sound S t fs (cursorAt payload 0)) k),
+        a .short,
+        rw (← u) (omega (arith, sized (a .tree), a .fits)),
+        a .has-length,
+        omega (arith, w .1, a .has-place, a .has-length),
+      )
+
+  pub rightful-read : ((t : ℕ) → Solid (S t)) → Rightful S t fs payload room v place n → ReadAs S t fs payload (reading room (rootOf S t payload)) v place n
+  rightful-read solid (tail, q, l, b, h, p) =
+      let (tree, end, e, (u, z)) = yields-end (root-complete S t fs solid v tail (cursorAt payload 0) q) in
+      let w = root-in S t fs payload tree end e in
+      let i : length (end .left) ≡ n = ap length z ∙ h in
+      let r : length (rows tree) ≤ room = omega (arith, sized tree, ap size u) in (
+        rows tree,
+        accepted-of S t payload room (rows tree) place n
+            (record { fs = fs; tree = tree; end = end; is-struct = st; reads = e; has-rows = refl; has-place = omega (arith, w .1); has-length = i; short = l; fits = r }),
+        rw u at (w .0),
+      )

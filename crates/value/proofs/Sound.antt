@@ -1,0 +1,100 @@
+-- What the reader accepts, the bytes spell.
+-- Assumes nothing.
+use mathlib.Core.Path.{_≡_, refl, sym, ap, _∙_}
+use mathlib.Core.List.{List, [], _∷_, _++_, append-nil}
+use mathlib.Core.Bool.{Bool, true, not, _||_}
+use Prim.Native.Nat.{ℕ, zero, suc, _+_, _-_, _≤_}
+use native.Mathlib.Omega.{arith}
+use lib.Dec.{eqb}
+use lib.ListN.{length, take, drop, take-append-drop}
+use lib.Seq.{length-take-le, drop-append-seam}
+use borrow.Author.Tests.{ltb-true, leb-true, not-true, eq-eqb}
+use Rattle.wire.specs.Varuint.{front, Spelled}
+use Rattle.wire.specs.declared.varuint.VarUInt.{VarUInt}
+use Rattle.wire.specs.declared.varuint.VarUInt.the-variants.{Number, Cut, Malformed}
+use Rattle.wire.proofs.Varuints.{read-spelled}
+use Rattle.schema.specs.declared.Field.{Field}
+use Rattle.schema.specs.Table.{Shape, unknown, scalar, text, array, map, struct}
+use Rattle.value.specs.Answer.{Cursor, Reader, numberAt, block, varUInt}
+use Rattle.value.specs.Value.{Tree, Value, value, values}
+use Rattle.value.specs.Read.{Item, Own, plain, parts, plan, bitmap, count, own, walk, whole, parse}
+use Rattle.value.specs.Spell.{LeafSpells, BitmapSpells, HeadSpells, AllSpell, WholeSpells, Spells}
+use Rattle.value.proofs.Answers.{Reads, not-ok, ok, stay, reads-then, reads-check}
+use Rattle.value.proofs.Keys.{Fresh, fresh-apart}
+
+pub block-reads : (n : ℕ) (c : Cursor) → Reads c (λ x u. (u ≡ x) × (length x ≡ n)) (block n c)
+unfolding block
+block-reads n c =
+    reads-check _ _ _ _ _ (λ e.
+    let l : n ≤ length (c .left) = leb-true n _ e in
+    ok (take n (c .left)) (sym (take-append-drop n (c .left))) (rw (length-take-le n (c .left) l)) (refl, length-take-le n (c .left) l))
+
+-- What is left after the bytes u.
+pub past : (s u rest : List ℕ) (at next : ℕ) → s ≡ u ++ rest → next ≡ at + length u → drop (next - at) s ≡ rest
+past s u rest at next e h =
+    let k : next - at ≡ length u = omega arith in
+    rw (k, e, drop-append-seam)
+
+var-reads : (c : Cursor) → Reads c (λ n u. Spelled n u) (varUInt c)
+unfolding varUInt
+var-reads c = go (front (c .left) (c .at)) refl
+  where
+    go : (r : VarUInt) → front (c .left) (c .at) ≡ r → Reads c (λ n u. Spelled n u) (numberAt c r)
+    go (Number n next) e =
+        let s = read-spelled (c .left) (c .at) n next e in
+        ok (s .bytes) (s .split ∙ ap (λ (l : List ℕ). s .bytes ++ l) (sym (past (c .left) (s .bytes) (s .rest) (c .at) next (s .split) (s .place)))) (s .place) (s .spells)
+    go Cut e = not-ok
+    go Malformed e = not-ok
+
+pub count-reads : (least : ℕ) (c : Cursor) → Reads c (λ n u. Spelled n u) (count least c)
+unfolding count
+count-reads least c = reads-then (var-reads c) (λ n c′ u s. reads-check _ _ _ _ _ (λ e. stay (rw append-nil s)))
+
+pub bitmap-reads : (fs : List Field) (c : Cursor) → Reads c (BitmapSpells fs) (bitmap fs c)
+unfolding bitmap
+bitmap-reads fs c =
+    reads-then (block-reads _ c) (λ x c′ u q. reads-check _ _ _ _ _ (λ e. stay (rw (append-nil, q .0) (q .1, refl, e))))
+
+-- What the own bytes of a value say.
+abbrev OwnSpells : Shape → Own → List ℕ → Type 0
+OwnSpells s (plain x) u = LeafSpells s x u
+OwnSpells s (parts start h) u = HeadSpells s h u
+
+-- A test that asks only where the kind is k.
+pub asked : (k kind : ℕ) (b : Bool) → not (eqb kind k) || b ≡ true → kind ≡ k → b ≡ true
+asked k kind b e h = rw (eq-eqb kind k h) at e
+
+own-reads : (s : Shape) (c : Cursor) → Reads c (OwnSpells s) (own s c)
+own-reads unknown c = not-ok
+own-reads (scalar kind) c =
+    reads-then (block-reads _ c) (λ x c′ u q. reads-check _ _ _ _ _ (λ e.
+    stay (rw (append-nil, q .0) (refl, q .1, λ k. ltb-true _ 2 (asked 1 kind _ e k)))))
+own-reads (text kind) c =
+    reads-then (count-reads _ c) (λ n c′ v s. reads-then (block-reads n c′) (λ x c″ u q. reads-check _ _ _ _ _ (λ e.
+    stay (v, rw (append-nil, q .0), rw (q .1) s, asked 12 kind _ e))))
+own-reads (array e) c = reads-then (count-reads _ c) (λ n c′ u s. stay (rw append-nil s))
+own-reads (map k v) c = reads-then (count-reads _ c) (λ n c′ u s. stay (rw append-nil s))
+own-reads (struct fs) c =
+    reads-then (bitmap-reads fs c) (λ m c′ u q. reads-check _ _ _ _ _ (λ e. stay (rw append-nil (q, ltb-true m _ e))))
+
+module _ (P : ℕ → Value → List ℕ → Type 0) (p : ℕ → Reader Tree) (pP : (t : ℕ) (c : Cursor) → Reads c (λ tree u. P t (value tree) u) (p t c)) where
+  pub walk-reads : (keys : List (List ℕ)) (is : List Item) (c : Cursor)
+      → Reads c (λ ts u. AllSpell P is (values ts) u × Fresh keys is (values ts)) (walk p keys is c)
+  unfolding walk values
+  walk-reads keys [] c = stay (refl, tt)
+  walk-reads keys (i ∷ is) c =
+      reads-then (pP (i .type) c) (λ t c′ u r. reads-check _ _ _ _ _ (λ e.
+      reads-then (walk-reads _ is c′) (λ ts c″ u′ r′. stay ((u, u′, rw append-nil, r, r′ .0), (not-true _ e, r′ .1)))))
+
+  whole-reads : (t : ℕ) (s : Shape) (o : Own) (u : List ℕ) → OwnSpells s o u → (c : Cursor)
+      → Reads c (λ tree u′. WholeSpells P s (value tree) (u ++ u′)) (whole p t s o c)
+  unfolding value
+  whole-reads t s (plain x) u q c = stay (rw append-nil q)
+  whole-reads t s (parts start h) u q c =
+      reads-then (walk-reads [] (plan s h) c) (λ ts c′ u′ r. stay (u, u′, rw append-nil, q, r .0, fresh-apart (plan s h) (values ts) (r .1)))
+
+module _ (S : ℕ → Shape) where
+  pub parse-reads : (d t : ℕ) (c : Cursor) → Reads c (λ tree u. Spells S d t (value tree) u) (parse S d t c)
+  unfolding parse
+  parse-reads zero t c = not-ok
+  parse-reads (suc d) t c = reads-then (own-reads (S t) c) (λ o c′ u q. whole-reads (Spells S d) (parse S d) (parse-reads d) t (S t) o u q c′)

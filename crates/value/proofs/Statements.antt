@@ -1,0 +1,190 @@
+-- The theorems about values, of tables. The other files prove them.
+-- Assumes nothing.
+use mathlib.Core.Path.{_≡_, refl, sym, ap, _∙_, subst}
+use mathlib.Core.Logic.{_↔_}
+use mathlib.Core.List.{List, [], _++_, append-nil, map as each}
+use mathlib.Core.Option.{some}
+use mathlib.Core.Bool.{true}
+use Prim.Native.Nat.{ℕ, _+_, _/_, _%_, _^_, _≤_, _<_}
+use native.Mathlib.Omega.{arith}
+use lib.ListN.{length}
+use borrow.Author.Tests.{leb-true, le-leb}
+use Rattle.wire.proofs.Numbers.{Bytes}
+use Rattle.schema.specs.declared.Field.{Field}
+use Rattle.schema.specs.Table.{Table, struct, shape}
+use Rattle.value.specs.declared.Row.{Row}
+use Rattle.value.specs.Answer.{Cursor, seen, cursorAt}
+use Rattle.value.specs.Value.{Tree, Value, value}
+use Rattle.value.specs.Read.{parse, rootStruct, refusal, accepted, read}
+use Rattle.value.specs.Spell.{Spells, RootSpells, KeysDiffer, encode}
+use Rattle.schema.specs.Good.{GoodTable}
+use Rattle.schema.specs.Extend.{Extends}
+use Rattle.schema.proofs.Shapes.{shape-known}
+use Rattle.value.proofs.Shapes.{Solid, good-solid, Extension, good-extension}
+use Rattle.value.specs.Write.{written, write}
+use Rattle.value.specs.Fits.{Shows, told, used}
+use Rattle.value.specs.Added.{carries, inner, firstAdded}
+use Rattle.value.specs.Claims.{Rightful, ReadAs, Writes, ByOld}
+use Rattle.value.proofs.Answers.{reads-end, yields-end}
+use Rattle.value.proofs.Bits.{bit-beyond}
+use Rattle.value.proofs.Sound.{parse-reads}
+use Rattle.value.proofs.Complete.{takes, parse-complete}
+use Rattle.value.proofs.Encode.{encoded}
+use Rattle.value.proofs.Root.{root-complete}
+use Rattle.value.proofs.Differ.{root-differs}
+use Rattle.value.proofs.Telling as telling
+use Rattle.value.proofs.Ignored.{ignored}
+use Rattle.value.proofs.Reading.{refused-inside, root-in, read-rightful, rightful-read, accepts}
+use Rattle.value.proofs.Writing.{written-shown, shown-written, encoding-read, spelled-written}
+use Rattle.value.proofs.Extended as extended
+
+module _ (T : Table) (good : GoodTable T) (t : ℕ) where
+  solid : (t : ℕ) → Solid (shape T t)
+  solid = good-solid T good
+
+  -- ---- inner values, at any depth
+
+  -- A value is read from the bytes exactly when they start with bytes that spell it; the rest is left.
+  pub read-iff-spelled : (d : ℕ) (v : Value) (rest : List ℕ) (c : Cursor)
+      → ((tree : Tree) × (end : Cursor) × (parse (shape T) d t c ≡ seen tree end) × (value tree ≡ v) × (end .left ≡ rest))
+      ↔ ((u : List ℕ) × (c .left ≡ u ++ rest) × Spells (shape T) d t v u)
+  read-iff-spelled d v rest c = (
+    λ w. let r = reads-end (parse-reads (shape T) d t c) (w .2) in
+        (r .0, r .1 ∙ ap (λ (l : List ℕ). r .0 ++ l) (w .4), subst (λ (x : Value). Spells (shape T) d t x (r .0)) (w .3) (r .2)),
+    λ w. let y = yields-end (parse-complete (shape T) solid d t v (w .0) rest c (w .2) (w .1)) in (y .0, y .1, y .2, y .3 .0, y .3 .1),
+  )
+
+  -- Every value takes at least one byte.
+  pub takes-a-byte : (d : ℕ) (v : Value) (u : List ℕ) → Spells (shape T) d t v u → 0 < length u
+  takes-a-byte d v u q = takes (shape T) solid d t v u q
+
+  -- Bytes spell one value.
+  pub spelled-once : (d : ℕ) (v v′ : Value) (u : List ℕ) → Spells (shape T) d t v u → Spells (shape T) d t v′ u → v ≡ v′
+  spelled-once d v v′ u q q′ =
+      let y = yields-end (parse-complete (shape T) solid d t v u [] (cursorAt u 0) q (sym (append-nil u))) in
+      let y′ = yields-end (parse-complete (shape T) solid d t v′ u [] (cursorAt u 0) q′ (sym (append-nil u))) in
+      cc (y .2, y′ .2, y .3 .0, y′ .3 .0)
+
+  -- The encoding of a value that bytes spell, with anything after it, is read as that value, up to its end.
+  pub round-trip : (d : ℕ) (v : Value) (u rest : List ℕ) (at : ℕ) → Bytes u → Spells (shape T) d t v u
+      → (tree : Tree) × (end : Cursor) × (parse (shape T) d t (record { left = encode (shape T) v t ++ rest; at = at }) ≡ seen tree end)
+      × (value tree ≡ v)
+      × (end .left ≡ rest)
+  round-trip d v u rest at b q = read-iff-spelled d v rest _ .1 (encode (shape T) v t, refl, encoded (shape T) d t v u b q)
+
+  -- ---- payloads
+
+  -- A refusal's place lies within the payload or at its end.
+  pub refused-within : (payload : List ℕ) (room n p : ℕ) → read T t payload room ≡ refusal n p → p ≤ length payload
+  unfolding read
+  refused-within payload room n p e = refused-inside (shape T) t payload room n p e
+
+  module _ (fs : List Field) (st : shape T t ≡ struct fs) where
+    -- The reader accepts, with rows that show v, exactly the payloads that spell v within the limits; the tail is what follows the known fields.
+    pub accepted-iff-spelled : (payload : List ℕ) (room : ℕ) (v : Value) (place n : ℕ)
+        → ReadAs (shape T) t fs payload (read T t payload room) v place n ↔ Rightful (shape T) t fs payload room v place n
+    unfolding read
+    accepted-iff-spelled payload room v place n =
+        (read-rightful (shape T) t fs st payload room v place n, rightful-read (shape T) t fs st payload room v place n solid)
+
+    -- A payload spells one value, with one tail.
+    pub payload-once : (payload : List ℕ) (v v′ : Value) (z z′ : List ℕ) → RootSpells (shape T) fs v payload z → RootSpells (shape T) fs v′ payload z′ → (v ≡ v′) × (z ≡ z′)
+    payload-once payload v v′ z z′ q q′ =
+        let y = yields-end (root-complete (shape T) t fs solid v z (cursorAt payload 0) q) in
+        let y′ = yields-end (root-complete (shape T) t fs solid v′ z′ (cursorAt payload 0) q′) in
+        (cc (y .2, y′ .2, y .3 .0, y′ .3 .0), cc (y .2, y′ .2, y .3 .1, y′ .3 .1))
+
+    -- The keys of every map of an accepted payload differ as values, however their lengths are spelled.
+    pub keys-differ : (payload : List ℕ) (v : Value) (z : List ℕ) → RootSpells (shape T) fs v payload z → KeysDiffer (shape T) v t
+    keys-differ payload v z q = root-differs (shape T) t fs st v payload z q
+
+    -- Rows that tell the same types, counts, contents and known bits, over whatever bytes, show the same value.
+    pub told-once : (B B′ : List ℕ) (v v′ : Value) (rs rs′ : List Row) → Shows (shape T) B t fs rs v → Shows (shape T) B′ t fs rs′ v′
+        → each (told (shape T) B) rs ≡ each (told (shape T) B′) rs′ → v ≡ v′
+    told-once = telling.told-once (shape T) t fs st
+
+  -- ---- sheets
+
+  -- The writer accepts exactly when the sheet shows a value whose encoding is short enough; that is written.
+  pub written-iff-shown : (rs : List Row) (B : List ℕ) (room : ℕ) (out : List ℕ) → (write T t rs B room ≡ written out) ↔ Writes (shape T) t rs B room out
+  unfolding write
+  written-iff-shown rs B room out = (written-shown (shape T) t rs B room out, shown-written (shape T) t rs B room out)
+
+  -- Array and map places and composite lengths do not matter.
+  pub only-used : (rs rs′ : List Row) (B : List ℕ) (room : ℕ) → each (used (shape T)) rs ≡ each (used (shape T)) rs′ → write T t rs B room ≡ write T t rs′ B room
+  unfolding write
+  only-used rs rs′ B room l = ignored (shape T) B t room rs rs′ l
+
+  -- What is written is read back as the value that the sheet shows, with no tail, given room for as many rows.
+  pub read-back : (rs : List Row) (B : List ℕ) (room : ℕ) (out : List ℕ) → write T t rs B room ≡ written out → (room′ : ℕ) → length rs ≤ room′
+      → (fs : List Field) × (v : Value)
+      × (shape T t ≡ struct fs)
+      × Shows (shape T) B t fs rs v
+      × ReadAs (shape T) t fs out (read T t out room′) v (length out) 0
+  unfolding read
+  read-back rs B room out e room′ l =
+      let (fs, v, st, s, o, short, _) = written-iff-shown rs B room out .0 e in
+      (fs, v, st, s, encoding-read (shape T) solid t fs st B rs v s out o short room′ l)
+
+  -- The rows of a reading, over the payload, are written in no more bytes, and what is written is read as the same value, with no tail.
+  pub read-then-write : (payload : List ℕ) (room : ℕ) (rs : List Row) (place n : ℕ) → Bytes payload → read T t payload room ≡ accepted rs place n
+      → (room′ : ℕ) → length payload ≤ room′
+      → (fs : List Field) × (v : Value) × (out : List ℕ)
+      × (shape T t ≡ struct fs)
+      × Shows (shape T) payload t fs rs v
+      × (write T t rs payload room′ ≡ written out)
+      × (length out ≤ length payload)
+      × ReadAs (shape T) t fs out (read T t out room) v (length out) 0
+  unfolding read write
+  read-then-write payload room rs place n b e room′ l =
+      let a = accepts (shape T) t payload room rs place n e in
+      let s = subst (λ (x : List Row). Shows (shape T) payload t (a .fs) x (value (a .tree))) (a .has-rows) (root-in (shape T) t (a .fs) payload (a .tree) (a .end) (a .reads) .0) in
+      let (z, q, _, _, _, _) = accepted-iff-spelled (a .fs) (a .is-struct) payload room (value (a .tree)) place n .0 (rs, e, s) in
+      let w = spelled-written (shape T) solid t (a .fs) (a .is-struct) payload z (value (a .tree)) b q (a .short) rs s room′ l in (
+        a .fs,
+        value (a .tree),
+        encode (shape T) (value (a .tree)) t,
+        a .is-struct,
+        s,
+        w .0,
+        w .1,
+        encoding-read (shape T) solid t (a .fs) (a .is-struct) payload rs (value (a .tree)) s _ refl (omega (arith, w .1, a .short)) room (a .fits),
+      )
+
+-- ---- an old table and a new one that extends it
+
+-- A struct carries an added field exactly when a bit beyond its known fields is set.
+pub carries-iff : (fs : List Field) (m : ℕ) → (carries (struct fs) m ≡ true) ↔ ((i : ℕ) × (length fs ≤ i) × (m / 2 ^ i % 2 ≡ 1))
+carries-iff fs m = (λ e. bit-beyond (length fs) m .0 (leb-true _ m e), λ w. le-leb _ m (bit-beyond (length fs) m .1 w))
+
+module _ (old new : Table) (good : GoodTable old) (good′ : GoodTable new) (extends : Extends old new) (t : ℕ) (fs : List Field) (st : shape old t ≡ struct fs) where
+  x : Extension (shape old) (shape new) (length (old .types))
+  x = good-extension old new good good′ extends
+
+  l : t < length (old .types)
+  l = shape-known old good t (λ e. let z : _≡_ {A = ℕ} 0 1 = cc in omega arith)
+
+  -- A struct of the old table has its fields in the new one too, and perhaps more.
+  pub gains : (gs : List Field) × (shape new t ≡ struct (fs ++ gs))
+  gains = extended.gained-fields (shape old) (shape new) (length (old .types)) x t l fs st
+
+  module _ (gs : List Field) (st′ : shape new t ≡ struct (fs ++ gs)) (payload : List ℕ) (room : ℕ) where
+    -- A payload without unknown bits that the new rules allow as v, however its lengths are spelled: what the old reader answers. It refuses with 26
+    -- exactly where an inner struct, reached through known fields, carries an added field, at the first such struct. The places are those that the
+    -- new reader shows.
+    pub new-by-old : (v : Value) → RootSpells (shape new) (fs ++ gs) v payload [] → length payload ≤ 16384
+        → (tree : Tree) × (end : Cursor) × (rootStruct (shape new) t (fs ++ gs) (cursorAt payload 0) ≡ seen tree end)
+        × (value tree ≡ v)
+        × ByOld (shape old) (shape new) t fs gs payload room v (read old t payload room) (firstAdded (inner (shape old) tree t))
+        × ((p : ℕ) → (read old t payload room ≡ refusal 26 p) ↔ (firstAdded (inner (shape old) tree t) ≡ some p))
+    unfolding read
+    new-by-old v q short =
+        let (tree, end, e, u, a) = extended.new-by-old (shape old) (shape new) (length (old .types)) x t l fs gs st st′ payload room v q short in
+        (tree, end, e, u, a, extended.refused-iff (shape old) (shape new) (length (old .types)) x t l fs gs st st′ payload room v _ a)
+
+    -- A payload that the old reader accepts without a tail, so without unknown bits: the new reader shows the same rows, which show the same value.
+    pub old-by-new : (rs : List Row) → read old t payload room ≡ accepted rs (length payload) 0
+        → (read new t payload room ≡ accepted rs (length payload) 0)
+        × ((v : Value) × Shows (shape old) payload t fs rs v × Shows (shape new) payload t (fs ++ gs) rs v)
+    unfolding read
+    old-by-new rs e = extended.old-by-new (shape old) (shape new) (length (old .types)) x t l fs gs st st′ payload room rs e

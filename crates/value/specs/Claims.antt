@@ -1,0 +1,55 @@
+-- What the theorems of proofs/Statements.antt claim of the reader's and the writer's answers.
+-- Assumes nothing.
+use mathlib.Core.Path.{_≡_}
+use mathlib.Core.List.{List, [], _++_}
+use mathlib.Core.Option.{Option, none, some}
+use mathlib.Core.Bool.{false, cond}
+use Prim.Native.Nat.{ℕ, _+_, _≤_}
+use lib.Dec.{leb}
+use lib.ListN.{length}
+use Rattle.schema.specs.declared.Field.{Field}
+use Rattle.schema.specs.Table.{Shape, struct}
+use Rattle.value.specs.declared.Row.{Row}
+use Rattle.value.specs.Value.{Value, size}
+use Rattle.value.specs.Read.{Reading, refusal, accepted}
+use Rattle.value.specs.Spell.{AllSpell, Spells, RootSpells, encode}
+use Rattle.value.specs.Fits.{Shows}
+use Rattle.value.specs.Added.{rootCarries, without, addedItems, addedValues}
+
+-- A root of type t with the fields fs, by the shapes S.
+module _ (S : ℕ → Shape) (t : ℕ) (fs : List Field) where
+  -- The payload spells v within the limits; its tail is at a place, of n bytes.
+  abbrev pub Rightful : (payload : List ℕ) (room : ℕ) → Value → (place n : ℕ) → Type 0
+  Rightful payload room v place n =
+      (tail : List ℕ) × RootSpells S fs v payload tail
+      × (length payload ≤ 16384)
+      × (size v ≤ room)
+      × (length tail ≡ n)
+      × (place + n ≡ length payload)
+
+  -- The answer accepts the payload with rows that show v.
+  abbrev pub ReadAs : (payload : List ℕ) → Reading → Value → (place n : ℕ) → Type 0
+  ReadAs payload answer v place n = (rs : List Row) × (answer ≡ accepted rs place n) × Shows S payload t fs rs v
+
+-- The sheet shows a value; what is written is its encoding, and that is a payload and fits into the room.
+abbrev pub Writes : (ℕ → Shape) → (t : ℕ) → List Row → List ℕ → (room : ℕ) → (out : List ℕ) → Type 0
+Writes S t rs B room out =
+    (fs : List Field) × (v : Value)
+    × (S t ≡ struct fs)
+    × Shows S B t fs rs v
+    × (out ≡ encode S v t)
+    × (length out ≤ 16384)
+    × (length out ≤ room)
+
+-- What a reader by the old shapes S answers where the new ones S′ allow the payload as the value v, a root of type t with the fields fs ++ gs:
+-- 26 at the place of the first inner struct that carries an added field; without one the value without the added fields. The tail is the bytes of
+-- the added fields that the root carries.
+abbrev pub ByOld : (S S′ : ℕ → Shape) (t : ℕ) (fs gs : List Field) (payload : List ℕ) (room : ℕ) → Value → Reading → (first : Option ℕ) → Type 0
+ByOld S S′ t fs gs payload room v answer (some p) = answer ≡ refusal 26 p
+ByOld S S′ t fs gs payload room v answer none =
+    (rs : List Row) × (known : List ℕ) × (added : List ℕ)
+    × (payload ≡ known ++ added)
+    × AllSpell (Spells S′ 15) (addedItems fs gs v) (addedValues fs v) added
+    × (rootCarries fs v ≡ false → added ≡ [])
+    × Shows S payload t fs rs (without S v t)
+    × (answer ≡ cond (leb (length rs) room) (accepted rs (length known) (length added)) (refusal 30 0))

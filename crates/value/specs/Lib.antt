@@ -1,0 +1,10 @@
+-- Values, the reading of payloads, and the reading of sheets for the writer.
+pub mod Answer
+pub mod Value
+pub mod Read
+pub mod Spell
+pub mod Sheet
+pub mod Write
+pub mod Fits
+pub mod Added
+pub mod Claims

@@ -1,0 +1,205 @@
+-- The reader: a value of a type, with places, or a refusal with its number and place.
+-- Assumes nothing.
+use mathlib.Core.List.{List, [], _∷_}
+use mathlib.Core.Bool.{Bool, true, false, not, _&&_, _||_, cond}
+use Prim.Native.Nat.{ℕ, zero, suc, _-_, _*_, _/_, _%_, _^_}
+use lib.Dec.{leb, ltb, eqb}
+use lib.Count.{onesIn}
+use lib.ListN.{length, replicate}
+use Rattle.wire.specs.Little.{little}
+use Rattle.wire.specs.Utf8.{utf8}
+use Rattle.schema.specs.declared.Field.{Field}
+use Rattle.schema.specs.Table.{Table, Shape, unknown, scalar, text, array, map, struct, shape, width, bitmapBytes}
+use Rattle.value.specs.declared.Row.{Row}
+use Rattle.value.specs.Answer.{Answer, refused, seen, Reader, ReaderOf, _>>=_, _>>_, return, at, refuse, check, cursorAt, block, varUInt}
+use Rattle.value.specs.Value.{Tree, tip, branch, Forest, stop, plus, rows, value, content}
+
+-- ---- what a composite holds
+
+-- A value that a composite holds: its type, and whether it is a map's key.
+pub record Item : Type 0 where
+  pub type : ℕ
+  pub key : Bool
+
+abbrev pub plainItem : ℕ → Item
+plainItem t = record { type = t; key = false }
+
+abbrev pub pairs : ℕ → ℕ → ℕ → List Item
+pairs zero k v = []
+pairs (suc n) k v = record { type = k; key = true } ∷ plainItem v ∷ pairs n k v
+
+-- The fields whose bits are set in m, least bit first.
+unfoldable pub present : List Field → ℕ → List Item
+present [] m = []
+present (f ∷ fs) m = cond (eqb (m % 2) 1) (plainItem (f .ty) ∷ present fs (m / 2)) (present fs (m / 2))
+
+-- The items after a composite's head, in wire order. The head is the count, or the presence bits.
+abbrev pub plan : Shape → ℕ → List Item
+plan (array e) n = replicate n (plainItem e)
+plan (map k v) n = pairs n k v
+plan (struct fs) m = present fs m
+plan unknown h = []
+plan (scalar _) h = []
+plan (text _) h = []
+
+-- The count of a composite's row: of elements, of pairs, of known fields whose bit is set.
+abbrev pub counted : Shape → ℕ → ℕ
+counted (struct fs) m = length (present fs m)
+counted (array _) n = n
+counted (map _ _) n = n
+counted unknown h = 0
+counted (scalar _) h = 0
+counted (text _) h = 0
+
+-- ---- a value's own bytes
+
+-- What they say: a content; or where a composite's place is, and its head.
+pub data Own : Type 0 where
+  plain : (content : List ℕ) → Own
+  parts : (start head : ℕ) → Own
+
+-- What remains has room for n items of at least `least` bytes each.
+abbrev pub enough : (least n : ℕ) → List ℕ → Bool
+enough least n left = leb (least * n) (length left)
+
+-- A length or a count; above what remains it is refused at its VarUInt.
+unfoldable pub count : (least : ℕ) → Reader ℕ
+count least = at λ start. do
+  n ← varUInt
+  at λ rest. check (enough least n (rest .left)) 20 (start .at)
+  return n
+
+-- Each field that is not optional has its bit set in m.
+unfoldable pub complete : List Field → ℕ → Bool
+complete [] m = true
+complete (f ∷ fs) m = (eqb (f .optional) 1 || eqb (m % 2) 1) && complete fs (m / 2)
+
+-- A struct's presence bits as a number, unknown ones too.
+unfoldable pub bitmap : List Field → Reader ℕ
+bitmap fs = at λ start. do
+  bits ← block (bitmapBytes (length fs))
+  check (complete fs (little bits)) 25 (start .at)
+  return (little bits)
+
+-- The own bytes of a value of each shape. (A good table has no child of an unknown type.)
+abbrev pub own : Shape → Reader Own
+own unknown = refuse 42 0
+own (scalar kind) = at λ start. do
+  x ← block (width kind)
+  check (not (eqb kind 1) || ltb (little x) 2) 22 (start .at)
+  return (plain x)
+own (text kind) = do
+  n ← count 1
+  at λ start. do
+    x ← block n
+    check (not (eqb kind 12) || utf8 x) 23 (start .at)
+    return (plain x)
+own (array e) = do
+  n ← count 1
+  at λ start. return (parts (start .at) n)
+own (map k v) = do
+  n ← count 2
+  at λ start. return (parts (start .at) n)
+own (struct fs) = at λ start. do
+  m ← bitmap fs
+  check (ltb m (2 ^ length fs)) 26 (start .at)
+  return (parts (start .at) m)
+
+-- ---- whole values
+
+-- Two contents are the same; a content is among others.
+abbrev pub same : List ℕ → List ℕ → Bool
+same [] [] = true
+same [] (y ∷ ys) = false
+same (x ∷ xs) [] = false
+same (x ∷ xs) (y ∷ ys) = eqb x y && same xs ys
+
+abbrev pub among : List ℕ → List (List ℕ) → Bool
+among x [] = false
+among x (y ∷ ys) = same x y || among x ys
+
+abbrev pub withKey : Bool → List ℕ → List (List ℕ) → List (List ℕ)
+withKey true x keys = x ∷ keys
+withKey false x keys = keys
+
+-- The items of a plan one after the other, each by the reader p of its type. A key equal to one before it is refused at its start, once it is whole.
+unfoldable pub walk : {E : Type 0} → (ℕ → ReaderOf E Tree) → (keys : List (List ℕ)) → List Item → ReaderOf E Forest
+walk p keys [] = return stop
+walk p keys (i ∷ is) = at λ here. do
+  t ← p (i .type)
+  check (not (i .key && among (content (value t)) keys)) 24 (here .at)
+  ts ← walk p (withKey (i .key) (content (value t)) keys) is
+  return (plus t ts)
+
+-- The row of a leaf whose content ends at `end`, and of a composite that reaches from `start` to `end`.
+abbrev pub leafRow : (t end size : ℕ) → Row
+leafRow t end size = record { ty = t; place = end - size; length = size; count = 0 }
+
+abbrev pub nodeRow : (t start end n : ℕ) → Row
+nodeRow t start end n = record { ty = t; place = start; length = end - start; count = n }
+
+-- A value of type t and shape s from what its own bytes say, with the reader p for what it holds.
+abbrev pub whole : (ℕ → Reader Tree) → ℕ → Shape → Own → Reader Tree
+whole p t s (plain x) = at λ end. return (tip (leafRow t (end .at) (length x)) x)
+whole p t s (parts start head) = do
+  ts ← walk p [] (plan s head)
+  at λ end. return (branch (nodeRow t start (end .at) (counted s head)) head ts)
+
+-- A value of type t, with d levels of depth still allowed.
+unfoldable pub parse : (ℕ → Shape) → (d t : ℕ) → Reader Tree
+parse S zero t = at λ here. refuse 28 (here .at)
+parse S (suc d) t = do
+  o ← own (S t)
+  whole (parse S d) t (S t) o
+
+-- ---- the root
+
+-- The presence bits of the known fields, and how many bits beyond them are set.
+abbrev pub knownBits : List Field → ℕ → ℕ
+knownBits fs m = m % 2 ^ length fs
+
+abbrev pub unknownBits : List Field → ℕ → ℕ
+unknownBits fs m = onesIn (8 * bitmapBytes (length fs) - length fs) (m / 2 ^ length fs)
+
+-- What follows the root's known fields. Each unknown bit that is set asks for a byte or more of a tail (01's term), which is not read.
+unfoldable pub ending : (unknown : ℕ) → Reader (Unit {0})
+ending zero = at λ end. check (eqb (length (end .left)) 0) 27 (end .at)
+ending (suc k) = at λ end. check (leb (suc k) (length (end .left))) 20 (end .at)
+
+-- The root, a struct of the fields fs, at depth 1; 16 is the greatest depth. The cursor in the answer is at the tail.
+unfoldable pub rootStruct : (ℕ → Shape) → ℕ → List Field → Reader Tree
+rootStruct S t fs = at λ start. do
+  m ← bitmap fs
+  ts ← walk (parse S 15) [] (plan (struct fs) (knownBits fs m))
+  at λ end. do
+    ending (unknownBits fs m)
+    return (branch (nodeRow t (start .at) (end .at) (counted (struct fs) (knownBits fs m))) (knownBits fs m) ts)
+
+-- ---- the whole reader
+
+-- The one or the other, for a struct's shape.
+abbrev pub onStruct : {A : Type 0} → Shape → (other : A) → (List Field → A) → A
+onStruct (struct fs) other f = f fs
+onStruct unknown other f = other
+onStruct (scalar _) other f = other
+onStruct (text _) other f = other
+onStruct (array _) other f = other
+onStruct (map _ _) other f = other
+
+abbrev pub rootOf : (ℕ → Shape) → ℕ → List ℕ → Answer Tree
+rootOf S t payload =
+    onStruct (S t) (refused 46 0) (λ fs. cond (leb (length payload) 16384) (rootStruct S t fs (cursorAt payload 0)) (refused 7 0))
+
+-- The answer: a number with a place, or the rows with the tail's place and length.
+pub data Reading : Type 0 where
+  refusal : (number place : ℕ) → Reading
+  accepted : List Row → (tailPlace tailLength : ℕ) → Reading
+
+-- The rows have to fit into a sheet with room for so many.
+abbrev pub reading : (room : ℕ) → Answer Tree → Reading
+reading room (refused n p) = refusal n p
+reading room (seen tree end) = cond (leb (length (rows tree)) room) (accepted (rows tree) (end .at) (length (end .left))) (refusal 30 0)
+
+-- A payload read as a struct of type t by a good table.
+unfoldable pub read : Table → ℕ → List ℕ → (room : ℕ) → Reading
+read T t payload room = reading room (rootOf (shape T) t payload)

@@ -1,0 +1,75 @@
+-- Characters of one byte: laws of `ascii` of `specs/Utf8.antt`, over any number of bytes.
+-- Assumes nothing.
+use mathlib.Core.Path.{_≡_, refl, sym, ap, ap₂, subst, _∙_}
+use mathlib.Core.Bool.{Bool, false, _&&_, not, and-true, and-false}
+use mathlib.Core.List.{List, [], _∷_}
+use Prim.Native.Nat.{ℕ, zero, suc, _+_, _-_, _*_, _^_, _<_, _≤_}
+use native.Mathlib.Nat.{suc-inj, zero-add}
+use native.Mathlib.Decide.{decLt}
+use native.Mathlib.Omega.{arith}
+use borrow.Author.Tests.{eq-eqb, ne-eqb, lt-ltb, le-ltb, not-false}
+use lib.Bits.{bitAnd, and-comm, and-shifted, and-block}
+use lib.Dec.{T, eqb, ltb, lit<}
+use lib.ListN.{length, getD, take, drop, take-append-drop}
+use lib.Seq.{slice, take-take, drop-drop, drop-cons}
+use Rattle.wire.specs.Little.{little}
+use Rattle.wire.specs.Utf8.{utf8, ascii}
+use Rattle.wire.proofs.Numbers.{Bytes}
+use Rattle.wire.proofs.Utf8s.{ascii-skip}
+
+-- ---- the top bits of n bytes, as one number
+
+abbrev pub tops : ℕ → ℕ
+tops zero = 0
+tops (suc n) = 128 + 256 * tops n
+
+top-bit : (b : ℕ) → b < 256 → eqb (bitAnd b 128) 0 ≡ ltb b 128
+top-bit b h = elim (decLt b 128) [
+  | yes l ↦ eq-eqb (bitAnd b 128) 0 (and-comm b 128 ∙ and-shifted 1 7 b l) ∙ sym (lt-ltb b 128 l)
+  | no n ↦
+      let r = b - 128 in
+      let is : b ≡ 1 * 2 ^ 7 + r = omega arith in
+      let set : bitAnd b 128 ≡ 1 * 2 ^ 7 + bitAnd r 0 = ap (λ (x : ℕ). bitAnd x 128) is ∙ and-block 7 1 1 r 0 (omega arith) (lit< tt) in
+      ne-eqb (bitAnd b 128) 0 (λ z. omega arith) ∙ sym (le-ltb b 128 (omega arith))
+]
+
+zero-sum : (x y : ℕ) → eqb (x * 2 ^ 8 + y) 0 ≡ eqb y 0 && eqb x 0
+zero-sum zero y = rw (zero-add y) (sym (and-true (eqb y 0)))
+zero-sum (suc x) y = rw (ne-eqb (suc x * 2 ^ 8 + y) 0 (λ e. omega arith), ne-eqb (suc x) 0 (λ e. omega arith)) (sym (and-false (eqb y 0)))
+
+-- none of them is set exactly when the bytes are ASCII
+pub tops-ascii : (n : ℕ) (s : List ℕ) → Bytes s → length s ≡ n → eqb (bitAnd (little s) (tops n)) 0 ≡ ascii s
+unfolding little ascii
+tops-ascii n [] h e = refl
+tops-ascii zero (b ∷ s) h e = absurd (omega arith)
+tops-ascii (suc n) (b ∷ s) h e =
+    let left : b + 256 * little s ≡ little s * 2 ^ 8 + b = omega arith in
+    let right : 128 + 256 * tops n ≡ tops n * 2 ^ 8 + 128 = omega arith in
+    ap (λ (x : ℕ). eqb x 0) (ap₂ bitAnd left right ∙ and-block 8 (little s) (tops n) b 128 (h 0) (lit< tt))
+    ∙ zero-sum (bitAnd (little s) (tops n)) (bitAnd b 128)
+    ∙ ap₂ _&&_ (top-bit b (h 0)) (tops-ascii n s (λ i. h (suc i)) (suc-inj e))
+
+-- ---- a part of ASCII in front is passed
+
+part : (k i t : ℕ) (l : List ℕ) → i + k ≤ t → take k (slice i t l) ≡ take k (drop i l)
+part k zero t l h = take-take k t l (omega arith)
+part k (suc i) zero l h = absurd (omega arith)
+part k (suc i) (suc t) [] h = refl
+part k (suc i) (suc t) (x ∷ l) h = part k i t l (omega arith)
+
+pub ascii-pass : (s : List ℕ) (i k to : ℕ) → i + k ≤ to → T (ascii (take k (drop i s))) → utf8 (slice (i + k) to s) ≡ utf8 (slice i to s)
+ascii-pass s i k to h t =
+    let l = slice i to s in
+    sym (ap utf8 (sym (take-append-drop k l)) ∙ ascii-skip (take k l) (drop k l) (rw (part k i to s h) t) ∙ ap utf8 (drop-drop k i (take to s)))
+
+-- a word that the test r found to be ASCII
+pub word-pass : (s : List ℕ) (i next to : ℕ) (r : Bool) → next ≡ i + 8 → next ≤ to → r ≡ ascii (take 8 (drop i s)) → not r ≡ false
+    → utf8 (slice next to s) ≡ utf8 (slice i to s)
+word-pass s i next to r e l is t =
+    ap (λ (j : ℕ). utf8 (slice j to s)) e ∙ ascii-pass s i 8 to (omega arith) (subst T (sym (not-false r t) ∙ is) tt)
+
+pub byte-pass : (s : List ℕ) (i to : ℕ) → i < to → to ≤ length s → getD s i 0 < 0x80 → utf8 (slice (i + 1) to s) ≡ utf8 (slice i to s)
+unfolding ascii
+byte-pass s i to l h b =
+    let inside : i < length s = omega arith in
+    ascii-pass s i 1 to (omega arith) (rw (drop-cons s i 0 inside, lt-ltb (getD s i 0) 0x80 b) tt)

@@ -1,0 +1,9 @@
+pub mod Numbers
+pub mod Varuints
+pub mod Utf8s
+pub mod Bitmaps
+pub mod Examples
+pub mod Cases
+pub mod Unicodes
+pub mod Asciis
+pub mod Table

@@ -1,0 +1,5 @@
+pub mod Little
+pub mod Varuint
+pub mod Utf8
+pub mod Unicode
+pub mod Bitmap

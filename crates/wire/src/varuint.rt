@@ -1,0 +1,100 @@
+// VarUInt: seven bits a byte, least group first, the top bit set on all but the last byte; at most ten bytes, the tenth 0 or 1.
+use crate::little::wide;
+ghost use mathlib.Core.Path.{_≡_};
+ghost use Prim.Native.Nat.{_+_, _≤_, _<_};
+ghost use lib.ListN.{length, drop};
+ghost use Rattle.wire.specs.Little.{written};
+ghost use Rattle.wire.specs.Varuint.{before, groups, varuint, varuintBytes};
+
+// What stands at a place.
+pub enum VarUInt {
+    Number { value: u64, next: usize },
+    // The bytes end before the last group.
+    Cut,
+    // A tenth byte above 1.
+    Malformed,
+}
+
+// The groups after a first one of the value `first`, from at on.
+fn read_more(s: &[u8], at: usize, first: u64) -> VarUInt
+    requires { ⌜ first < 128 ⌝ }
+    ensures { λ r. ⌜ r ≡ before first (groups 9 (drop at (now (s .entry))) at) ⌝ }
+{
+    let mut value = first;
+    let mut weight: u64 = 128;
+    let mut i = at;
+    let mut left: usize = 9;
+    while 1 < left {
+        if s.len() <= i {
+            return VarUInt::Cut;
+        }
+        let b = wide(s[i]);
+        if b < 128 {
+            return VarUInt::Number {
+                value: value + weight * b,
+                next: i + 1,
+            };
+        }
+        value += weight * (b - 128);
+        weight *= 128;
+        i += 1;
+        left -= 1;
+    }
+    if s.len() <= i {
+        return VarUInt::Cut;
+    }
+    let b = wide(s[i]);
+    if b < 2 {
+        return VarUInt::Number {
+            value: value + weight * b,
+            next: i + 1,
+        };
+    }
+    VarUInt::Malformed
+}
+
+// The VarUInt at a place. Most are a single byte, which is answered at once.
+pub fn read(s: &[u8], at: usize) -> VarUInt
+    ensures { λ r. ⌜ r ≡ varuint (now (s .entry)) at ⌝ }
+{
+    if s.len() <= at {
+        return VarUInt::Cut;
+    }
+    let b = wide(s[at]);
+    if b < 128 {
+        return VarUInt::Number {
+            value: b,
+            next: at + 1,
+        };
+    }
+    read_more(s, at + 1, b - 128)
+}
+
+// The shortest VarUInt of x into d from at on; the place after it.
+pub fn write(d: &mut [u8], at: usize, x: u64) -> usize
+    requires { ⌜ at + length (varuintBytes x) ≤ length (now d) ⌝ }
+    ensures { λ r. ⌜ (r ≡ at + length (varuintBytes x)) × (now (d .exit) ≡ written (now (d .entry)) at (varuintBytes x)) ⌝ }
+{
+    let mut y = x;
+    let mut i = at;
+    while 128 <= y {
+        d[i] = (y % 128 + 128) as u8;
+        y = y / 128;
+        i += 1;
+    }
+    d[i] = y as u8;
+    i + 1
+}
+
+// The length of the shortest VarUInt of x.
+pub fn size(x: u64) -> usize
+    ensures { λ r. ⌜ r ≡ length (varuintBytes x) ⌝ }
+{
+    let mut y = x;
+    let mut n = 1;
+    while 128 <= y {
+        y = y / 128;
+        n += 1;
+    }
+    n
+}

@@ -1,0 +1,121 @@
+//! Case files: a plain binary format of inputs, and one line of answers each.
+//!
+//! A case is a code byte and the inputs of one entry. Its answer is a line of
+//! decimal numbers; a run of frames has a line a frame.
+
+mod entries;
+mod format;
+
+pub use entries::{
+    ExtendsCase, FrameCase, FrameWriteCase, ReadCase, ReceiveCase, RunCase, ScalarCase, TableCase,
+    WriteCase,
+};
+pub use format::{MAX_BYTES, MAX_CELLS, MAX_FRAMES, MAX_OUTPUT};
+
+use entries::Entry;
+use format::Input;
+
+/// One case: the inputs of one entry.
+#[derive(Clone, Debug, PartialEq, Eq)]
+pub enum Case {
+    Table(TableCase),
+    Extends(ExtendsCase),
+    Read(ReadCase),
+    Scalar(ScalarCase),
+    Write(WriteCase),
+    Frame(FrameCase),
+    FrameWrite(FrameWriteCase),
+    Run(RunCase),
+    Receive(ReceiveCase),
+}
+
+impl Case {
+    /// The number that stands for the entry in a case file.
+    pub const fn code(&self) -> u8 {
+        match self {
+            Case::Table(_) => 1,
+            Case::Extends(_) => 2,
+            Case::Read(_) => 3,
+            Case::Scalar(_) => 4,
+            Case::Write(_) => 5,
+            Case::Frame(_) => 6,
+            Case::FrameWrite(_) => 7,
+            Case::Run(_) => 8,
+            Case::Receive(_) => 9,
+        }
+    }
+
+    fn entry(&self) -> &dyn Entry {
+        match self {
+            Case::Table(case) => case,
+            Case::Extends(case) => case,
+            Case::Read(case) => case,
+            Case::Scalar(case) => case,
+            Case::Write(case) => case,
+            Case::Frame(case) => case,
+            Case::FrameWrite(case) => case,
+            Case::Run(case) => case,
+            Case::Receive(case) => case,
+        }
+    }
+
+    /// Takes the next case, or none if it is cut, unknown or beyond a limit.
+    fn take(input: &mut Input) -> Option<Case> {
+        Some(match input.u8()? {
+            1 => Case::Table(TableCase::take(input)?),
+            2 => Case::Extends(ExtendsCase::take(input)?),
+            3 => Case::Read(ReadCase::take(input)?),
+            4 => Case::Scalar(ScalarCase::take(input)?),
+            5 => Case::Write(WriteCase::take(input)?),
+            6 => Case::Frame(FrameCase::take(input)?),
+            7 => Case::FrameWrite(FrameWriteCase::take(input)?),
+            8 => Case::Run(RunCase::take(input)?),
+            9 => Case::Receive(ReceiveCase::take(input)?),
+            _ => return None,
+        })
+    }
+
+    /// Adds the case to a case file.
+    pub fn put(&self, out: &mut Vec<u8>) {
+        out.push(self.code());
+        self.entry().put(out);
+    }
+
+    /// Runs the case and adds its line, or lines, to the text.
+    pub fn answer(&self, text: &mut String) {
+        self.entry().answer(text);
+    }
+
+    /// The number of each answer: one, or one a frame for a run.
+    pub fn numbers(&self) -> Vec<u32> {
+        let mut text = String::new();
+        self.answer(&mut text);
+        let first = |line: &str| line.split(' ').next()?.parse().ok();
+        text.lines().filter_map(first).collect()
+    }
+}
+
+/// Reads a whole case file; none if a case is cut, unknown or beyond a limit.
+pub fn read_file(bytes: &[u8]) -> Option<Vec<Case>> {
+    let mut input = Input::new(bytes);
+    let mut cases = Vec::new();
+    while !input.is_empty() {
+        cases.push(Case::take(&mut input)?);
+    }
+    Some(cases)
+}
+
+/// Answers a whole case file. A cut case, an unknown code or a case beyond the
+/// limits gives the line `cut` and ends the answers.
+pub fn answer_file(bytes: &[u8]) -> String {
+    let mut input = Input::new(bytes);
+    let mut text = String::new();
+    while !input.is_empty() {
+        let Some(case) = Case::take(&mut input) else {
+            text.push_str("cut\n");
+            break;
+        };
+        case.answer(&mut text);
+    }
+    text
+}

@@ -1,0 +1,252 @@
+//! Cases for frames against a call table: runs from the fresh one, and single
+//! frames against any.
+
+use super::damage::Damage;
+use super::line::{damaged, either, end, open, spoilt, step, Line, Sent};
+use super::rng::Rng;
+use crate::calls::{FORMS, SLOTS};
+use crate::cases::{Case, ReceiveCase, RunCase};
+
+/// The sheet's cells of a line: enough, with odd ones, or very few.
+fn cells(rng: &mut Rng) -> usize {
+    match rng.below(10) {
+        0 => rng.below(9),
+        1 => rng.range(9, 40),
+        _ => rng.range(160, 400),
+    }
+}
+
+/// Sends a frame and keeps what it does to the calls.
+fn send(line: &mut Line, schema: &[u8], cells: usize, sent: &Sent) {
+    let mut sheet = vec![0; cells];
+    line.calls.receive(schema, sent.0, &sent.1, &mut sheet);
+}
+
+/// A run of so many frames by the given actions; where an action has no
+/// occasion, the run goes on in a right way.
+pub fn run(
+    rng: &mut Rng,
+    frames: usize,
+    cells: usize,
+    next: impl Fn(&mut Rng, &Line) -> Option<Sent>,
+) -> Case {
+    let mut line = Line::fresh(rng);
+    let schema = line.table.bytes();
+    let mut all = Vec::new();
+    while all.len() < frames {
+        let sent = next(rng, &line).or_else(|| either(rng, &line));
+        if let Some(sent) = sent {
+            send(&mut line, &schema, cells, &sent);
+            all.push(sent);
+        }
+    }
+    Case::Run(RunCase {
+        schema,
+        cells,
+        frames: all,
+    })
+}
+
+/// A run that keeps the order of calls.
+pub fn run_good(rng: &mut Rng) -> Case {
+    let frames = rng.range(4, 16);
+    run(rng, frames, 400, |rng, line| match rng.below(4) {
+        0 => open(rng, line),
+        _ => step(rng, line),
+    })
+}
+
+/// A run in which one sort of frame comes up again and again.
+pub fn run_with(rng: &mut Rng, action: impl Fn(&mut Rng, &Line) -> Option<Sent>) -> Case {
+    let frames = rng.range(4, 10);
+    let cells = cells(rng);
+    run(rng, frames, cells, |rng, line| match rng.below(5) {
+        0 => open(rng, line),
+        1 | 2 => step(rng, line),
+        _ => action(rng, line),
+    })
+}
+
+/// A run in which payloads are damaged in one way.
+pub fn run_damaged(rng: &mut Rng, damage: Damage) -> Case {
+    run_with(rng, |rng, line| damaged(rng, line, damage))
+}
+
+/// A run in which one field of the header is wrong in some frames.
+pub fn run_spoilt(rng: &mut Rng, number: u32) -> Case {
+    run_with(rng, |rng, line| spoilt(rng, line, number))
+}
+
+/// A run with a sheet of very few rows (30).
+pub fn run_small_sheet(rng: &mut Rng) -> Case {
+    let frames = rng.range(4, 8);
+    let cells = rng.below(12);
+    run(rng, frames, cells, either)
+}
+
+/// A run that opens 128 calls, goes on opening (13), ends some and opens again.
+pub fn run_full(rng: &mut Rng) -> Case {
+    let frames = rng.range(134, 140);
+    run(rng, frames, 80, |rng, line| match line.calls.open_count() {
+        SLOTS => match rng.below(4) {
+            0 => end(rng, line),
+            _ => open(rng, line),
+        },
+        _ => open(rng, line),
+    })
+}
+
+/// A few frames under a table with a fault.
+pub fn run_bad_table(rng: &mut Rng, fault: fn(&mut Rng) -> Vec<u8>) -> Case {
+    let line = Line::fresh(rng);
+    let frames = rng.range(1, 2);
+    Case::Run(RunCase {
+        schema: fault(rng),
+        cells: rng.below(20),
+        frames: (0..frames).filter_map(|_| open(rng, &line)).collect(),
+    })
+}
+
+fn receive_case(line: Line, cells: usize, sent: Sent) -> Case {
+    Case::Receive(ReceiveCase {
+        schema: line.table.bytes(),
+        cells,
+        table: Box::new(line.calls),
+        side: sent.0,
+        data: sent.1,
+    })
+}
+
+fn open_count(rng: &mut Rng) -> usize {
+    rng.pick(&[0, 1, 1, 2, 3, 5, 9, 40, 127, 128])
+}
+
+/// One frame by an action against a busy line.
+pub fn receive_with(rng: &mut Rng, action: impl Fn(&mut Rng, &Line) -> Option<Sent>) -> Case {
+    loop {
+        let open = open_count(rng);
+        let line = Line::busy(rng, open);
+        if let Some(mut sent) = action(rng, &line) {
+            if rng.one_in(6) {
+                sent.1.push(0xAF);
+            }
+            let cells = cells(rng);
+            return receive_case(line, cells, sent);
+        }
+    }
+}
+
+/// A frame whose payload is damaged in one way.
+pub fn receive_damaged(rng: &mut Rng, damage: Damage) -> Case {
+    receive_with(rng, |rng, line| damaged(rng, line, damage))
+}
+
+/// A frame with one wrong field of its header.
+pub fn receive_spoilt(rng: &mut Rng, number: u32) -> Case {
+    receive_with(rng, |rng, line| spoilt(rng, line, number))
+}
+
+/// A frame with too small a sheet (30).
+pub fn receive_small_sheet(rng: &mut Rng) -> Case {
+    loop {
+        let open = rng.range(0, 4);
+        let line = Line::busy(rng, open);
+        if let Some(sent) = either(rng, &line) {
+            let cells = rng.below(9);
+            return receive_case(line, cells, sent);
+        }
+    }
+}
+
+/// An INVOKE when all slots are taken (13).
+pub fn receive_full(rng: &mut Rng) -> Case {
+    loop {
+        let line = Line::busy(rng, SLOTS);
+        if let Some(sent) = open(rng, &line) {
+            return receive_case(line, 40, sent);
+        }
+    }
+}
+
+/// A call table that breaks one of its rules (15), with any frame.
+pub fn receive_bad_calls(rng: &mut Rng) -> Case {
+    loop {
+        let open = rng.pick(&[0, 1, 2, 4, 60, 127, 128]);
+        let mut line = Line::busy(rng, open);
+        let fault = rng.range(2, 7) as u32;
+        let sent = match rng.one_in(4) {
+            true => spoilt(rng, &line, fault),
+            false => either(rng, &line),
+        };
+        if let Some(sent) = sent.filter(|_| spoil_calls(rng, &mut line).is_some()) {
+            return receive_case(line, 40, sent);
+        }
+    }
+}
+
+/// Breaks one rule of the call table; none where it has no record for it.
+fn spoil_calls(rng: &mut Rng, line: &mut Line) -> Option<()> {
+    if rng.one_in(3) {
+        return spoil_free(rng, line);
+    }
+    let open: Vec<usize> = (0..SLOTS)
+        .filter(|&slot| line.calls.slots[slot].open)
+        .collect();
+    if open.is_empty() {
+        return None;
+    }
+    let methods = line.table.methods.len() as u32;
+    let (slot, other) = (rng.pick(&open), rng.pick(&open));
+    let correlation = line.calls.slots[other].correlation;
+    let call = &mut line.calls.slots[slot];
+    let form = FORMS[line.table.methods[call.method as usize][3] as usize];
+    match rng.below(7) {
+        0 if slot != other => call.correlation = correlation,
+        1 => call.method = rng.pick(&[methods, methods + 1, 256, u32::MAX]),
+        2 if !form.in_close => call.input_closed = true,
+        3 if !form.out_close => (call.response, call.output_closed) = (true, true),
+        4 if form.out_close => (call.response, call.output_closed) = (false, true),
+        5 => {
+            call.response = true;
+            call.input_closed = form.in_close;
+            call.output_closed = form.out_close;
+        }
+        _ => return None,
+    }
+    Some(())
+}
+
+/// Makes a free slot differ from zero in one member.
+fn spoil_free(rng: &mut Rng, line: &mut Line) -> Option<()> {
+    let slots = &mut line.calls.slots;
+    let free: Vec<usize> = (0..SLOTS).filter(|&slot| !slots[slot].open).collect();
+    if free.is_empty() {
+        return None;
+    }
+    let call = &mut slots[rng.pick(&free)];
+    match rng.below(5) {
+        0 => call.correlation = rng.pick(&[1, 1 << 32, 1 << 63]),
+        1 => call.method = rng.pick(&[1, u32::MAX]),
+        2 => call.response = true,
+        3 => call.input_closed = true,
+        _ => call.output_closed = true,
+    }
+    Some(())
+}
+
+/// A frame under a table with a fault, the call table good or not.
+pub fn receive_bad_table(rng: &mut Rng, fault: fn(&mut Rng) -> Vec<u8>) -> Case {
+    let open = rng.pick(&[0, 1, 3]);
+    let mut line = Line::busy(rng, open);
+    let sent = either(rng, &line).unwrap_or((b'C', Vec::new()));
+    if rng.one_in(3) {
+        spoil_calls(rng, &mut line);
+    }
+    Case::Receive(ReceiveCase {
+        schema: fault(rng),
+        cells: 20,
+        table: Box::new(line.calls),
+        side: sent.0,
+        data: sent.1,
+    })
+}

@@ -1,0 +1,278 @@
+//! The sorts of case of each code, and their shares.
+
+use super::{
+    aim, any, damage, fault, frames, line, pair, reading, runs, scalars, sheet, table, Wheel,
+};
+use crate::cases::{Case, TableCase};
+
+/// The codes of the case file, how often each comes up among all codes, and
+/// its wheel.
+pub const CODES: &[(u8, usize, Wheel)] = &[
+    (1, 10, TABLE),
+    (2, 10, EXTENDS),
+    (3, 22, READ),
+    (4, 12, SCALAR),
+    (5, 20, WRITE),
+    (6, 8, FRAME),
+    (7, 5, FRAME_WRITE),
+    (8, 8, RUN),
+    (9, 8, RECEIVE),
+];
+
+const TABLE: Wheel = &[
+    aim(60, 0, |rng| table_case(table::good_table(rng).bytes())),
+    aim(1, 0, |rng| table_case(table::large_table(rng).bytes())),
+    aim(30, 40, |rng| table_case(fault::bad_shape(rng))),
+    aim(3, 41, |rng| table_case(fault::too_many_rows(rng))),
+    aim(40, 42, |rng| table_case(fault::bad_type(rng))),
+    aim(24, 43, |rng| table_case(fault::bad_field(rng))),
+    aim(36, 44, |rng| table_case(fault::bad_method(rng))),
+    any(4, |rng| {
+        let length = rng.below(80);
+        table_case(rng.bytes(length))
+    }),
+];
+
+const EXTENDS: Wheel = &[
+    aim(48, 0, pair::good_pair),
+    aim(32, 0, pair::changed_types),
+    aim(40, 0, pair::changed_fields),
+    aim(28, 0, pair::changed_methods),
+    aim(10, 0, pair::unrelated_pair),
+    any(16, pair::bad_pair),
+    aim(6, 40, |rng| pair::pair_with_fault(rng, fault::bad_shape)),
+    aim(3, 41, |rng| {
+        pair::pair_with_fault(rng, fault::too_many_rows)
+    }),
+    aim(6, 42, |rng| pair::pair_with_fault(rng, fault::bad_type)),
+    aim(6, 43, |rng| pair::pair_with_fault(rng, fault::bad_field)),
+    aim(6, 44, |rng| pair::pair_with_fault(rng, fault::bad_method)),
+];
+
+const READ: Wheel = &[
+    any(50, |rng| reading::read_any(rng, damage::whole)),
+    any(30, |rng| reading::read_sized(rng, damage::whole)),
+    any(24, |rng| reading::read_any(rng, damage::tail)),
+    any(20, |rng| reading::read_across(rng, true)),
+    aim(8, 26, |rng| reading::read_across(rng, true)),
+    any(10, |rng| reading::read_across(rng, false)),
+    aim(18, 20, |rng| reading::read_any(rng, damage::cut)),
+    aim(6, 20, |rng| reading::read_sized(rng, damage::cut)),
+    aim(18, 20, |rng| reading::read_sized(rng, damage::oversized)),
+    aim(8, 20, |rng| reading::read_any(rng, damage::short_tail)),
+    aim(16, 21, |rng| reading::read_sized(rng, damage::malformed)),
+    aim(14, 22, |rng| {
+        reading::read_holding(rng, 1, damage::not_bool)
+    }),
+    aim(22, 23, |rng| {
+        reading::read_holding(rng, table::STRING, damage::not_utf8)
+    }),
+    aim(22, 24, |rng| {
+        reading::read_holding(rng, table::MAP, damage::repeated_key)
+    }),
+    aim(18, 25, |rng| reading::read_any(rng, damage::absent)),
+    aim(18, 26, |rng| {
+        reading::read_holding(rng, table::STRUCT, damage::inner_bit)
+    }),
+    aim(14, 27, |rng| reading::read_any(rng, damage::surplus)),
+    any(6, |rng| reading::read_deep(rng, 15, damage::whole)),
+    aim(8, 0, |rng| reading::read_deep(rng, 16, damage::whole)),
+    aim(12, 28, |rng| reading::read_deep(rng, 17, damage::whole)),
+    any(6, |rng| reading::read_deep(rng, 17, damage::cut)),
+    any(4, |rng| reading::read_deep(rng, 18, damage::noise)),
+    aim(18, 30, reading::read_small_sheet),
+    any(30, |rng| reading::read_any(rng, damage::noise)),
+    any(10, |rng| reading::read_sized(rng, damage::noise)),
+    any(16, |rng| reading::read_any(rng, damage::twice)),
+    any(8, |rng| reading::read_sized(rng, damage::twice)),
+    any(10, reading::read_random),
+    aim(5, 40, |rng| reading::read_bad_table(rng, fault::bad_shape)),
+    aim(3, 41, |rng| {
+        reading::read_bad_table(rng, fault::too_many_rows)
+    }),
+    aim(5, 42, |rng| reading::read_bad_table(rng, fault::bad_type)),
+    aim(5, 43, |rng| reading::read_bad_table(rng, fault::bad_field)),
+    aim(5, 44, |rng| reading::read_bad_table(rng, fault::bad_method)),
+    aim(8, 46, reading::read_no_struct),
+    aim(3, 7, reading::read_too_long),
+    aim(1, 0, |rng| reading::read_long(rng, crate::MAX_PAYLOAD)),
+    any(1, reading::read_large_map),
+];
+
+const SCALAR: Wheel = &[
+    aim(60, 0, scalars::scalar_good),
+    aim(40, 50, scalars::scalar_misfit),
+    any(20, scalars::scalar_outside),
+    aim(24, 51, scalars::scalar_outside),
+    aim(12, 22, scalars::scalar_not_bool),
+    aim(24, 23, scalars::scalar_not_utf8),
+    any(20, scalars::scalar_random),
+    aim(4, 40, |rng| {
+        scalars::scalar_bad_table(rng, fault::bad_shape)
+    }),
+    aim(3, 41, |rng| {
+        scalars::scalar_bad_table(rng, fault::too_many_rows)
+    }),
+    aim(4, 42, |rng| scalars::scalar_bad_table(rng, fault::bad_type)),
+    aim(4, 43, |rng| {
+        scalars::scalar_bad_table(rng, fault::bad_field)
+    }),
+    aim(4, 44, |rng| {
+        scalars::scalar_bad_table(rng, fault::bad_method)
+    }),
+];
+
+const WRITE: Wheel = &[
+    any(40, |rng| sheet::write_any(rng, sheet::as_read)),
+    any(30, |rng| sheet::write_any(rng, sheet::made_up)),
+    aim(10, 0, |rng| {
+        sheet::write_holding(rng, table::MAP, sheet::made_up)
+    }),
+    aim(10, 50, |rng| sheet::write_any(rng, sheet::missing_row)),
+    aim(8, 50, |rng| sheet::write_any(rng, sheet::extra_row)),
+    aim(10, 50, |rng| sheet::write_any(rng, sheet::other_type)),
+    aim(8, 50, |rng| sheet::write_any(rng, sheet::other_width)),
+    aim(8, 50, |rng| sheet::write_any(rng, sheet::leaf_count)),
+    aim(8, 50, |rng| sheet::write_any(rng, sheet::struct_count)),
+    aim(10, 50, |rng| sheet::write_sized(rng, sheet::list_count)),
+    any(12, |rng| sheet::write_any(rng, sheet::presence)),
+    aim(10, 50, |rng| {
+        sheet::write_holding(rng, table::STRUCT, sheet::inner_bit)
+    }),
+    aim(14, 25, |rng| sheet::write_any(rng, sheet::absent)),
+    aim(18, 51, |rng| sheet::write_any(rng, sheet::outside)),
+    any(8, |rng| sheet::write_any(rng, sheet::short_data)),
+    aim(14, 22, |rng| sheet::write_holding(rng, 1, sheet::not_bool)),
+    aim(16, 23, |rng| {
+        sheet::write_holding(rng, table::STRING, sheet::not_utf8)
+    }),
+    aim(18, 24, |rng| {
+        sheet::write_holding(rng, table::MAP, sheet::repeated_key)
+    }),
+    any(6, |rng| sheet::write_deep(rng, 15)),
+    any(8, |rng| sheet::write_deep(rng, 16)),
+    aim(12, 28, |rng| sheet::write_deep(rng, 17)),
+    aim(10, 7, sheet::write_long),
+    any(4, sheet::write_long),
+    aim(14, 52, sheet::write_small_output),
+    any(40, |rng| sheet::write_any(rng, sheet::noise)),
+    any(24, |rng| sheet::write_any(rng, sheet::twice)),
+    any(8, |rng| sheet::write_sized(rng, sheet::twice)),
+    any(8, sheet::write_random),
+    aim(5, 40, |rng| sheet::write_bad_table(rng, fault::bad_shape)),
+    aim(3, 41, |rng| {
+        sheet::write_bad_table(rng, fault::too_many_rows)
+    }),
+    aim(5, 42, |rng| sheet::write_bad_table(rng, fault::bad_type)),
+    aim(5, 43, |rng| sheet::write_bad_table(rng, fault::bad_field)),
+    aim(5, 44, |rng| sheet::write_bad_table(rng, fault::bad_method)),
+    aim(8, 46, sheet::write_no_struct),
+];
+
+const FRAME: Wheel = &[
+    aim(30, 0, frames::frame_good),
+    aim(30, 1, frames::frame_cut),
+    aim(12, 2, |rng| frames::frame_spoilt(rng, 2)),
+    aim(10, 3, |rng| frames::frame_spoilt(rng, 3)),
+    aim(10, 4, |rng| frames::frame_spoilt(rng, 4)),
+    aim(10, 5, |rng| frames::frame_spoilt(rng, 5)),
+    aim(12, 6, |rng| frames::frame_spoilt(rng, 6)),
+    aim(12, 7, |rng| frames::frame_spoilt(rng, 7)),
+    any(10, |rng| frames::frame_spoilt(rng, 7)),
+    any(14, frames::frame_random),
+];
+
+const FRAME_WRITE: Wheel = &[
+    aim(90, 0, frames::frame_write_good),
+    aim(1, 0, frames::frame_write_longest),
+    aim(55, 4, frames::frame_write_kind),
+    aim(6, 7, frames::frame_write_long),
+    aim(60, 52, frames::frame_write_small),
+];
+
+const RUN: Wheel = &[
+    any(40, runs::run_good),
+    any(2, runs::run_full),
+    aim(6, 30, runs::run_small_sheet),
+    any(5, |rng| runs::run_with(rng, line::wrong_side)),
+    any(5, |rng| runs::run_with(rng, line::unknown_method)),
+    any(5, |rng| runs::run_with(rng, line::already_open)),
+    any(6, |rng| runs::run_with(rng, line::not_open)),
+    any(6, |rng| runs::run_with(rng, line::other_identifiers)),
+    any(20, |rng| runs::run_with(rng, line::out_of_order)),
+    any(10, |rng| runs::run_with(rng, line::unexpected_payload)),
+    any(5, |rng| runs::run_with(rng, line::cut_frame)),
+    aim(3, 2, |rng| runs::run_spoilt(rng, 2)),
+    aim(3, 3, |rng| runs::run_spoilt(rng, 3)),
+    aim(3, 4, |rng| runs::run_spoilt(rng, 4)),
+    aim(3, 5, |rng| runs::run_spoilt(rng, 5)),
+    aim(3, 6, |rng| runs::run_spoilt(rng, 6)),
+    aim(3, 7, |rng| runs::run_spoilt(rng, 7)),
+    aim(4, 20, |rng| runs::run_damaged(rng, damage::cut)),
+    aim(3, 20, |rng| runs::run_with(rng, line::empty_payload)),
+    aim(3, 20, |rng| runs::run_damaged(rng, damage::oversized)),
+    any(5, |rng| runs::run_damaged(rng, damage::tail)),
+    aim(4, 21, |rng| runs::run_damaged(rng, damage::malformed)),
+    aim(4, 22, |rng| runs::run_damaged(rng, damage::not_bool)),
+    aim(4, 23, |rng| runs::run_damaged(rng, damage::not_utf8)),
+    aim(5, 24, |rng| runs::run_damaged(rng, damage::repeated_key)),
+    aim(4, 25, |rng| runs::run_damaged(rng, damage::absent)),
+    aim(4, 26, |rng| runs::run_damaged(rng, damage::inner_bit)),
+    aim(4, 27, |rng| runs::run_damaged(rng, damage::surplus)),
+    aim(5, 28, |rng| runs::run_with(rng, line::deep)),
+    aim(4, 40, |rng| runs::run_bad_table(rng, fault::bad_shape)),
+    aim(3, 41, |rng| runs::run_bad_table(rng, fault::too_many_rows)),
+    aim(4, 42, |rng| runs::run_bad_table(rng, fault::bad_type)),
+    aim(4, 43, |rng| runs::run_bad_table(rng, fault::bad_field)),
+    aim(4, 44, |rng| runs::run_bad_table(rng, fault::bad_method)),
+];
+
+const RECEIVE: Wheel = &[
+    any(10, |rng| runs::receive_with(rng, line::open)),
+    any(16, |rng| runs::receive_with(rng, line::step)),
+    aim(4, 0, |rng| runs::receive_with(rng, line::end)),
+    aim(4, 1, |rng| runs::receive_with(rng, line::cut_frame)),
+    aim(3, 2, |rng| runs::receive_spoilt(rng, 2)),
+    aim(3, 3, |rng| runs::receive_spoilt(rng, 3)),
+    aim(3, 4, |rng| runs::receive_spoilt(rng, 4)),
+    aim(3, 5, |rng| runs::receive_spoilt(rng, 5)),
+    aim(3, 6, |rng| runs::receive_spoilt(rng, 6)),
+    aim(3, 7, |rng| runs::receive_spoilt(rng, 7)),
+    aim(4, 8, |rng| runs::receive_with(rng, line::wrong_side)),
+    aim(4, 9, |rng| runs::receive_with(rng, line::unknown_method)),
+    aim(4, 10, |rng| runs::receive_with(rng, line::already_open)),
+    aim(4, 11, |rng| runs::receive_with(rng, line::not_open)),
+    aim(5, 12, |rng| {
+        runs::receive_with(rng, line::other_identifiers)
+    }),
+    aim(4, 13, runs::receive_full),
+    aim(12, 14, |rng| runs::receive_with(rng, line::out_of_order)),
+    aim(16, 15, runs::receive_bad_calls),
+    aim(4, 20, |rng| runs::receive_damaged(rng, damage::cut)),
+    aim(3, 21, |rng| runs::receive_damaged(rng, damage::malformed)),
+    aim(3, 22, |rng| runs::receive_damaged(rng, damage::not_bool)),
+    aim(3, 23, |rng| runs::receive_damaged(rng, damage::not_utf8)),
+    aim(3, 24, |rng| {
+        runs::receive_damaged(rng, damage::repeated_key)
+    }),
+    aim(3, 25, |rng| runs::receive_damaged(rng, damage::absent)),
+    aim(3, 26, |rng| runs::receive_damaged(rng, damage::inner_bit)),
+    aim(3, 27, |rng| runs::receive_damaged(rng, damage::surplus)),
+    aim(3, 28, |rng| runs::receive_with(rng, line::deep)),
+    aim(6, 29, |rng| {
+        runs::receive_with(rng, line::unexpected_payload)
+    }),
+    aim(4, 30, runs::receive_small_sheet),
+    any(3, |rng| runs::receive_damaged(rng, damage::tail)),
+    aim(3, 40, |rng| runs::receive_bad_table(rng, fault::bad_shape)),
+    aim(3, 41, |rng| {
+        runs::receive_bad_table(rng, fault::too_many_rows)
+    }),
+    aim(3, 42, |rng| runs::receive_bad_table(rng, fault::bad_type)),
+    aim(3, 43, |rng| runs::receive_bad_table(rng, fault::bad_field)),
+    aim(3, 44, |rng| runs::receive_bad_table(rng, fault::bad_method)),
+];
+
+fn table_case(schema: Vec<u8>) -> Case {
+    Case::Table(TableCase { schema })
+}

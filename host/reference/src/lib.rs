@@ -1,0 +1,44 @@
+//! A plain implementation of the arf rules: the schema table, the reader and
+//! writer of values, frames, the call table and the listing.
+//!
+//! Every entry answers with a value or a [`Refusal`]: a numbered reason and a
+//! place. A refusal leaves the lent sheet and the lent output untouched.
+//!
+//! [`cases`] answers case files and [`generate`] makes them, so that any other
+//! implementation of the same rules can be compared with this one.
+
+#![forbid(unsafe_code)]
+
+pub mod bitmap;
+pub mod calls;
+pub mod cases;
+pub mod extension;
+pub mod frame;
+pub mod generate;
+pub mod keys;
+pub mod listing;
+pub mod reader;
+pub mod receive;
+pub mod refusal;
+pub mod scalar;
+pub mod schema;
+pub mod utf8;
+pub mod varuint;
+pub mod writer;
+
+pub use calls::{Call, CallTable};
+pub use extension::extends;
+pub use frame::{read_frame, write_frame, Frame, FrameAnswer, Header};
+pub use listing::list;
+pub use reader::{read, Reading};
+pub use receive::{Outcome, Received};
+pub use refusal::{Reason, Refusal};
+pub use scalar::{scalar, Scalar};
+pub use schema::{check_table, Schema};
+pub use writer::write;
+
+/// The most bytes a payload may have.
+pub const MAX_PAYLOAD: usize = 16_384;
+
+/// The deepest a value may stand; the root stands at depth 1.
+pub const MAX_DEPTH: u32 = 16;

@@ -1,0 +1,108 @@
+//! The command line of the reference implementation.
+//!
+//! ```text
+//! reference list SCHEMA RECORD        print the listing of a record
+//! reference cases SEED N [CODES]      write a case file of N cases
+//! reference answers                   answer a case file from standard input
+//! reference count SEED N [CODES]      count the answers to those cases
+//! ```
+//!
+//! SCHEMA and RECORD are files. CODES is a list such as `1,2` and selects the
+//! entries the cases are about; without it all nine come up. The same SEED, N
+//! and CODES always give the same case file. `count` prints a line for each
+//! entry and answer: the code, the answer's number, and how often it is given.
+
+#![forbid(unsafe_code)]
+
+use std::collections::BTreeMap;
+use std::io::{self, Read, Write};
+use std::process::ExitCode;
+
+use reference::cases::answer_file;
+use reference::generate::Generator;
+
+const USAGE: &str = "usage: reference list SCHEMA RECORD
+       reference cases SEED N [CODES]
+       reference answers
+       reference count SEED N [CODES]";
+
+fn main() -> ExitCode {
+    let arguments: Vec<String> = std::env::args().skip(1).collect();
+    let arguments: Vec<&str> = arguments.iter().map(String::as_str).collect();
+    match run(&arguments) {
+        Ok(output) => match io::stdout().lock().write_all(&output) {
+            Ok(()) => ExitCode::SUCCESS,
+            Err(_) => ExitCode::FAILURE,
+        },
+        Err(message) => {
+            eprintln!("{message}");
+            ExitCode::FAILURE
+        }
+    }
+}
+
+/// Runs one command and gives what it prints.
+fn run(arguments: &[&str]) -> Result<Vec<u8>, String> {
+    match *arguments {
+        ["list", schema, record] => {
+            let (schema, record) = (read_file(schema)?, read_file(record)?);
+            Ok(reference::list(&schema, &record).into_bytes())
+        }
+        ["answers"] => {
+            let mut input = Vec::new();
+            let read = io::stdin().lock().read_to_end(&mut input);
+            read.map_err(|error| format!("standard input: {error}"))?;
+            Ok(answer_file(&input).into_bytes())
+        }
+        ["cases", seed, number] => make(seed, number, ""),
+        ["cases", seed, number, codes] => make(seed, number, codes),
+        ["count", seed, number] => count(seed, number, ""),
+        ["count", seed, number, codes] => count(seed, number, codes),
+        _ => Err(USAGE.to_string()),
+    }
+}
+
+fn read_file(path: &str) -> Result<Vec<u8>, String> {
+    std::fs::read(path).map_err(|error| format!("{path}: {error}"))
+}
+
+/// The generator and the number of cases that the arguments ask for.
+fn generator(seed: &str, number: &str, codes: &str) -> Result<(Generator, usize), String> {
+    let seed = seed.parse().map_err(|_| format!("bad seed {seed}"))?;
+    let number = number.parse().map_err(|_| format!("bad number {number}"))?;
+    let known = |code: &str| code.parse().ok().filter(|code| (1..=9).contains(code));
+    let codes: Option<Vec<u8>> = match codes {
+        "" => Some(Vec::new()),
+        list => list.split(',').map(known).collect(),
+    };
+    let codes = codes.ok_or("codes are numbers from 1 to 9 with commas between")?;
+    Ok((Generator::new(seed, &codes), number))
+}
+
+/// A case file.
+fn make(seed: &str, number: &str, codes: &str) -> Result<Vec<u8>, String> {
+    let (mut generator, number) = generator(seed, number, codes)?;
+    let mut file = Vec::new();
+    for _ in 0..number {
+        if let Some(case) = generator.case() {
+            case.put(&mut file);
+        }
+    }
+    Ok(file)
+}
+
+/// A line a code and number: the code, the number, how often it is the answer.
+fn count(seed: &str, number: &str, codes: &str) -> Result<Vec<u8>, String> {
+    let (mut generator, number) = generator(seed, number, codes)?;
+    let mut counts = BTreeMap::new();
+    for _ in 0..number {
+        if let Some(case) = generator.case() {
+            for answer in case.numbers() {
+                *counts.entry((case.code(), answer)).or_insert(0u64) += 1;
+            }
+        }
+    }
+    let lines = counts.iter();
+    let lines = lines.map(|((code, answer), times)| format!("{code} {answer} {times}\n"));
+    Ok(lines.collect::<String>().into_bytes())
+}

@@ -1,0 +1,101 @@
+//! The command line.
+
+mod common;
+
+use std::io::Write;
+use std::path::PathBuf;
+use std::process::{Command, Output, Stdio};
+
+fn reference(arguments: &[&str], input: &[u8]) -> Output {
+    let mut child = Command::new(env!("CARGO_BIN_EXE_reference"))
+        .args(arguments)
+        .stdin(Stdio::piped())
+        .stdout(Stdio::piped())
+        .stderr(Stdio::piped())
+        .spawn()
+        .unwrap();
+    let mut stdin = child.stdin.take().unwrap();
+    let input = input.to_vec();
+    let feed = std::thread::spawn(move || {
+        let _ = stdin.write_all(&input);
+    });
+    let output = child.wait_with_output().unwrap();
+    feed.join().unwrap();
+    output
+}
+
+fn file(name: &str, bytes: &[u8]) -> PathBuf {
+    let path = PathBuf::from(env!("CARGO_TARGET_TMPDIR")).join(name);
+    std::fs::write(&path, bytes).unwrap();
+    path
+}
+
+#[test]
+fn listing_of_an_empty_record() {
+    let schema = file("schema", &common::table_t());
+    let record = file("record", &[]);
+    let paths = [schema.to_str().unwrap(), record.to_str().unwrap()];
+    let output = reference(&["list", paths[0], paths[1]], &[]);
+    assert!(output.status.success());
+    let expected = "frame side kind call answer place rows open\nstopped 0 left 0\n";
+    assert_eq!(output.stdout, expected.as_bytes());
+    assert!(output.stderr.is_empty());
+}
+
+#[test]
+fn a_file_that_cannot_be_read() {
+    let schema = file("other_schema", &common::table_t());
+    let schema = schema.to_str().unwrap();
+    for arguments in [
+        ["list", schema, "/no/such/record"],
+        ["list", "/no/such/schema", schema],
+    ] {
+        let output = reference(&arguments, &[]);
+        assert!(!output.status.success());
+        assert!(output.stdout.is_empty());
+        assert!(!output.stderr.is_empty());
+    }
+}
+
+#[test]
+fn wrong_arguments() {
+    let wrong: [&[&str]; 6] = [
+        &[],
+        &["list"],
+        &["cases", "1"],
+        &["cases", "x", "1"],
+        &["cases", "1", "1", "10"],
+        &["count", "1", "1", "1,,2"],
+    ];
+    for arguments in wrong {
+        let output = reference(arguments, &[]);
+        assert!(!output.status.success());
+        assert!(output.stdout.is_empty());
+        assert!(!output.stderr.is_empty());
+    }
+}
+
+#[test]
+fn cases_and_answers() {
+    let first = reference(&["cases", "7", "300"], &[]);
+    let second = reference(&["cases", "7", "300"], &[]);
+    assert_eq!(first.stdout, second.stdout);
+    let answers = reference(&["answers"], &first.stdout);
+    assert!(answers.status.success());
+    let text = String::from_utf8(answers.stdout).unwrap();
+    assert!(text.lines().count() >= 300 && text.ends_with('\n'));
+    let few = reference(&["cases", "7", "50", "1,2"], &[]);
+    assert!(matches!(few.stdout[0], 1 | 2));
+    let answers = reference(&["answers"], &few.stdout);
+    let text = String::from_utf8(answers.stdout).unwrap();
+    assert_eq!(text.lines().count(), 50);
+    let count = reference(&["count", "7", "50", "1,2"], &[]);
+    let text = String::from_utf8(count.stdout).unwrap();
+    let times = text.lines().map(|line| line.split(' ').nth(2).unwrap());
+    assert_eq!(
+        times
+            .map(|times| times.parse::<u32>().unwrap())
+            .sum::<u32>(),
+        50
+    );
+}

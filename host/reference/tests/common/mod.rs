@@ -1,0 +1,54 @@
+//! Tables and helpers that several test files share.
+
+#![allow(dead_code)]
+
+use reference::generate::table::Table;
+use reference::{read, Reason, Refusal};
+
+/// What stands in every cell and byte that must stay untouched.
+pub const CELL: u32 = 0xA5A5_A5A5;
+pub const BYTE: u8 = 0xA5;
+
+pub const NO_TYPE: u32 = u32::MAX;
+
+/// The length of table T's file.
+pub const T_BYTES: usize = 140;
+
+/// Table T of the worked examples.
+pub fn table_t() -> Vec<u8> {
+    Table {
+        types: vec![[6, 0, 0], [12, 0, 0], [16, 0, 2], [14, 2, 0], [16, 2, 2]],
+        fields: vec![[0, 0], [1, 1], [3, 0], [0, 1]],
+        methods: vec![[1, 2, 3, 12, 2, 4, NO_TYPE, NO_TYPE]],
+    }
+    .bytes()
+}
+
+/// A reading's rows, tail place and tail length.
+pub type Rows = Result<(Vec<[u32; 4]>, usize, usize), Refusal>;
+
+/// A refusal as the result of [`read_rows`].
+pub fn refusal(reason: Reason, place: usize) -> Rows {
+    Err(reason.at(place))
+}
+
+/// Reads with a sheet of exactly enough rows and some odd cells, and checks
+/// that nothing else is touched and that one row less is too few.
+pub fn read_rows(schema: &[u8], type_number: u32, payload: &[u8]) -> Rows {
+    let mut sheet = vec![CELL; 4 * 16_400];
+    let reading = match read(schema, type_number, payload, &mut sheet) {
+        Ok(reading) => reading,
+        Err(refusal) => {
+            assert!(sheet.iter().all(|&cell| cell == CELL));
+            return Err(refusal);
+        }
+    };
+    let (used, rest) = sheet.split_at(4 * reading.rows);
+    assert!(rest.iter().all(|&cell| cell == CELL));
+    let mut small = vec![CELL; 4 * reading.rows - 1];
+    let answer = read(schema, type_number, payload, &mut small);
+    assert_eq!(answer, Err(Reason::SheetTooSmall.at(0)));
+    assert!(small.iter().all(|&cell| cell == CELL));
+    let rows = used.as_chunks::<4>().0.to_vec();
+    Ok((rows, reading.tail_place, reading.tail_length))
+}

@@ -1,0 +1,348 @@
+//! Random and generated cases: nothing panics, refusals leave buffers alone,
+//! what is read writes back, and every answer number comes up.
+
+mod common;
+
+use std::collections::BTreeMap;
+
+use common::{table_t, BYTE, CELL};
+use reference::cases::{answer_file, read_file, Case, ReadCase, WriteCase};
+use reference::generate::rng::Rng;
+use reference::generate::Generator;
+use reference::*;
+
+/// Cases of all codes from a seed.
+fn cases(seed: u64, number: usize) -> Vec<Case> {
+    let mut generator = Generator::new(seed, &[]);
+    (0..number).filter_map(|_| generator.case()).collect()
+}
+
+/// The numbers that the entry of a code can give.
+fn numbers(code: u8) -> Vec<u32> {
+    let table = 40..=44;
+    match code {
+        1 | 2 => [0].into_iter().chain(table).collect(),
+        3 => [0, 7, 30, 46]
+            .into_iter()
+            .chain(20..=28)
+            .chain(table)
+            .collect(),
+        4 => [0, 22, 23, 50, 51].into_iter().chain(table).collect(),
+        5 => {
+            let own = [0, 7, 22, 23, 24, 25, 28, 46, 50, 51, 52];
+            own.into_iter().chain(table).collect()
+        }
+        6 => (0..=7).collect(),
+        7 => vec![0, 4, 7, 52],
+        8 => (0..=14).chain(20..=30).chain(table).collect(),
+        _ => (0..=15).chain(20..=30).chain(table).collect(),
+    }
+}
+
+#[test]
+fn every_number_comes_up() {
+    let mut counts = BTreeMap::new();
+    for case in cases(1, 20_000) {
+        for number in case.numbers() {
+            *counts.entry((case.code(), number)).or_insert(0) += 1;
+        }
+    }
+    for code in 1..=9 {
+        for number in numbers(code) {
+            let count = counts.remove(&(code, number)).unwrap_or(0);
+            assert!(count >= 20, "code {code} number {number}: {count}");
+        }
+    }
+    assert!(counts.is_empty(), "{counts:?}");
+}
+
+#[test]
+fn case_files_read_back_and_keep_the_limits() {
+    let cases = cases(2, 3_000);
+    let mut file = Vec::new();
+    cases.iter().for_each(|case| case.put(&mut file));
+    assert_eq!(read_file(&file), Some(cases.clone()));
+    let answers = answer_file(&file);
+    assert!(!answers.contains("cut"));
+    let mut text = String::new();
+    cases.iter().for_each(|case| case.answer(&mut text));
+    assert_eq!(answers, text);
+    let cut = answer_file(&file[..file.len() - 1]);
+    assert!(cut.ends_with("cut\n"));
+    assert_eq!(answer_file(&[77]), "cut\n");
+    assert_eq!(answer_file(&[]), "");
+}
+
+#[test]
+fn case_files_stay_small() {
+    for (codes, limit) in [(&[1, 2][..], 2_500_000), (&[3, 4], 2_000_000)] {
+        let mut generator = Generator::new(3, codes);
+        let mut file = Vec::new();
+        for _ in 0..5_000 {
+            generator.case().unwrap().put(&mut file);
+        }
+        assert!(file.len() < limit, "{codes:?}: {}", file.len());
+    }
+}
+
+/// The sheet of an accepted reading.
+fn rows(case: &ReadCase) -> Option<(Vec<u32>, Reading)> {
+    let mut sheet = vec![CELL; 4 * (case.payload.len() + 1)];
+    let reading = read(&case.schema, case.type_number, &case.payload, &mut sheet).ok()?;
+    sheet.truncate(4 * reading.rows);
+    Some((sheet, reading))
+}
+
+#[test]
+fn what_is_read_writes_back_with_the_same_known_fields() {
+    let mut seen = 0;
+    for case in cases(4, 20_000) {
+        let Case::Read(case) = case else { continue };
+        let Some((sheet, reading)) = rows(&case) else {
+            continue;
+        };
+        let mut out = vec![BYTE; 16_384];
+        let length = write(
+            &case.schema,
+            case.type_number,
+            &sheet,
+            &case.payload,
+            &mut out,
+        );
+        let payload = out[..length.unwrap()].to_vec();
+        assert!(payload.len() <= reading.tail_place);
+        let again = ReadCase {
+            payload: payload.clone(),
+            ..case.clone()
+        };
+        let (second, tail) = rows(&again).unwrap();
+        assert_eq!((tail.rows, tail.tail_length), (reading.rows, 0));
+        same_values(&case, &sheet, &payload, &second);
+        let mut third = vec![BYTE; payload.len()];
+        write(
+            &case.schema,
+            case.type_number,
+            &second,
+            &payload,
+            &mut third,
+        )
+        .unwrap();
+        assert_eq!(third, payload);
+        seen += 1;
+    }
+    assert!(seen > 1_000);
+}
+
+/// Rows of two sheets show the same types, counts and contents.
+fn same_values(case: &ReadCase, sheet: &[u32], payload: &[u8], second: &[u32]) {
+    let pairs = sheet.chunks(4).zip(second.chunks(4));
+    for (first, second) in pairs {
+        assert_eq!((first[0], first[3]), (second[0], second[3]));
+        let row = |row: &[u32]| [row[0], row[1], row[2], row[3]];
+        let before = scalar(&case.schema, row(first), &case.payload);
+        let after = scalar(&case.schema, row(second), payload);
+        match (before, after) {
+            (Ok(Scalar::Span { place, length }), Ok(Scalar::Span { place: other, .. })) => {
+                let span =
+                    |bytes: &[u8], place: u32| bytes[place as usize..][..length as usize].to_vec();
+                assert_eq!(span(&case.payload, place), span(payload, other));
+            }
+            (before, after) => assert_eq!(before, after),
+        }
+    }
+}
+
+#[test]
+fn what_is_written_reads_back() {
+    let mut seen = 0;
+    for case in cases(5, 20_000) {
+        let Case::Write(WriteCase {
+            schema,
+            type_number,
+            sheet,
+            data,
+            room,
+        }) = case
+        else {
+            continue;
+        };
+        let mut out = vec![BYTE; room];
+        let Ok(length) = write(&schema, type_number, &sheet, &data, &mut out) else {
+            assert!(out.iter().all(|&byte| byte == BYTE));
+            continue;
+        };
+        assert!(out[length..].iter().all(|&byte| byte == BYTE));
+        let mut cells = vec![CELL; sheet.len()];
+        let reading = read(&schema, type_number, &out[..length], &mut cells).unwrap();
+        assert_eq!(reading.rows, sheet.len() / 4);
+        assert_eq!((reading.tail_place, reading.tail_length), (length, 0));
+        let shape = |row: &[u32]| (row[0], row[3]);
+        assert!(sheet
+            .chunks_exact(4)
+            .map(shape)
+            .eq(cells.chunks_exact(4).map(shape)));
+        seen += 1;
+    }
+    assert!(seen > 500);
+}
+
+#[test]
+fn an_extension_reads_what_the_old_table_writes() {
+    let mut generator = Generator::new(6, &[2]);
+    let mut rng = Rng::new(6);
+    let mut seen = 0;
+    for _ in 0..3_000 {
+        let Some(Case::Extends(pair)) = generator.case() else {
+            continue;
+        };
+        if extends(&pair.old, &pair.new) != Ok(true) {
+            continue;
+        }
+        for _ in 0..100 {
+            let payload: Vec<u8> = (0..rng.below(6)).map(|_| rng.below(4) as u8).collect();
+            let root = rng.below(6) as u32;
+            let mut old = vec![CELL; 64];
+            let mut new = old.clone();
+            let by_old = read(&pair.old, root, &payload, &mut old);
+            let by_new = read(&pair.new, root, &payload, &mut new);
+            if by_old.is_ok_and(|reading| reading.tail_length == 0) {
+                assert_eq!((by_old, old), (by_new, new));
+                seen += 1;
+            }
+        }
+    }
+    assert!(seen > 100, "{seen}");
+}
+
+/// A table with one more method, whose input is the given type.
+fn with_method(schema: &[u8], input: u32) -> Vec<u8> {
+    let (body, trailer) = schema.split_at(schema.len() - 16);
+    let words = |words: &[u32]| -> Vec<u8> {
+        let bytes = words.iter().map(|word| word.to_le_bytes());
+        bytes.collect::<Vec<_>>().concat()
+    };
+    let method = [77, 77, 77, 8, input, u32::MAX, u32::MAX, u32::MAX];
+    let end = [body.len() as u32 + 32, 1];
+    [body, &words(&method), &trailer[..8], &words(&end)].concat()
+}
+
+#[test]
+fn a_frame_carries_what_the_reader_says() {
+    let mut seen = BTreeMap::new();
+    for case in cases(9, 20_000) {
+        let Case::Read(case) = case else { continue };
+        let alone = read(&case.schema, case.type_number, &case.payload, &mut []);
+        if alone.is_err_and(|refusal| !matches!(refusal.number(), 20..=30)) {
+            continue;
+        }
+        let schema = with_method(&case.schema, case.type_number);
+        let header = Header {
+            kind: 1,
+            identifiers: [77, 77, 77],
+            correlation: 5,
+        };
+        let mut frame = vec![0; case.payload.len() + 28];
+        let length = write_frame(&header, &case.payload, &mut frame).unwrap();
+        let mut sheet = vec![CELL; case.cells];
+        let mut other = sheet.clone();
+        let by_reader = read(&case.schema, case.type_number, &case.payload, &mut sheet);
+        let mut calls = CallTable::fresh();
+        let received = calls.receive(&schema, b'C', &frame[..length], &mut other);
+        let expected = match by_reader {
+            Ok(reading) => Outcome::Accepted(reading),
+            Err(refusal) => Outcome::Refused(refusal),
+        };
+        assert_eq!((received.outcome, other), (expected, sheet));
+        let number = received.number();
+        assert_eq!(received.open, usize::from(number == 0));
+        assert_eq!(received.used, if number == 30 { 0 } else { length });
+        *seen.entry(number).or_insert(0) += 1;
+    }
+    let numbers: Vec<u32> = seen.keys().copied().collect();
+    assert_eq!(numbers, [0, 20, 21, 22, 23, 24, 25, 26, 27, 28, 30]);
+}
+
+/// Bytes that are close to something meaningful.
+fn near(rng: &mut Rng, base: &[u8]) -> Vec<u8> {
+    let mut bytes = base.to_vec();
+    for _ in 0..rng.below(4) {
+        let at = rng.below(bytes.len());
+        if let Some(byte) = bytes.get_mut(at) {
+            *byte = rng.byte();
+        }
+    }
+    if rng.one_in(4) {
+        let length = rng.below(bytes.len() + 1);
+        bytes.truncate(length);
+    }
+    bytes
+}
+
+#[test]
+fn nothing_panics_on_random_bytes() {
+    let mut rng = Rng::new(7);
+    let table = table_t();
+    let frame = {
+        let mut out = [0; 40];
+        let header = Header {
+            kind: 1,
+            identifiers: [1, 2, 3],
+            correlation: 4,
+        };
+        let length = write_frame(&header, &[1, 7], &mut out).unwrap();
+        out[..length].to_vec()
+    };
+    for _ in 0..30_000 {
+        let length = rng.below(60);
+        let bytes = rng.bytes(length);
+        let schema = match rng.one_in(3) {
+            true => bytes.clone(),
+            false => near(&mut rng, &table),
+        };
+        let sheet: Vec<u32> = (0..rng.below(30))
+            .map(|_| rng.word() >> rng.pick(&[0, 16, 29, 30, 31]))
+            .collect();
+        let root = rng.below(7) as u32;
+        let mut cells = [CELL; 30];
+        let mut out = [BYTE; 30];
+        let _ = check_table(&schema);
+        let _ = extends(&table, &schema);
+        if read(&schema, root, &bytes, &mut cells).is_err() {
+            assert_eq!(cells, [CELL; 30]);
+        }
+        let row = [root, rng.word() >> 28, rng.word() >> 28, rng.word() >> 31];
+        let _ = scalar(&schema, row, &bytes);
+        if write(&schema, root, &sheet, &bytes, &mut out).is_err() {
+            assert_eq!(out, [BYTE; 30]);
+        }
+        let data = near(&mut rng, &frame);
+        let _ = read_frame(&data);
+        let mut calls = CallTable::fresh();
+        calls.receive(&schema, b'C', &data, &mut cells);
+        let record = [b"C", &data[..], b"S", &frame].concat();
+        assert!(list(&schema, &record).ends_with('\n'));
+    }
+}
+
+#[test]
+fn random_call_tables() {
+    let mut rng = Rng::new(8);
+    let schema = table_t();
+    for _ in 0..2_000 {
+        let mut table = CallTable::fresh();
+        for _ in 0..rng.below(4) {
+            let slot = rng.below(128);
+            table.slots[slot] = Call {
+                open: rng.one_in(2),
+                correlation: rng.below(3) as u64,
+                method: rng.below(2) as u32,
+                response: rng.one_in(4),
+                input_closed: rng.one_in(4),
+                output_closed: rng.one_in(4),
+            };
+        }
+        let good = Schema::check(&schema).is_ok_and(|schema| table.is_good(&schema));
+        let answer = table.receive(&schema, b'C', &[], &mut []);
+        assert_eq!(answer.number(), if good { 1 } else { 15 });
+    }
+}

@@ -1,0 +1,365 @@
+//! The payload reader, number by number.
+
+mod common;
+
+use common::{read_rows, refusal, table_t, CELL};
+use reference::generate::table::Table;
+use reference::{read, Reason, Refusal};
+use Reason::*;
+
+/// A table whose type 1 is a struct with one required field of type 0.
+fn holding(kind: u32) -> Vec<u8> {
+    Table {
+        types: vec![[kind, 0, 0], [16, 0, 1]],
+        fields: vec![[0, 0]],
+        methods: vec![],
+    }
+    .bytes()
+}
+
+/// A table whose type 3 is a struct with one required map.
+fn mapping(key: u32, value: u32) -> Vec<u8> {
+    Table {
+        types: vec![[key, 0, 0], [value, 0, 0], [15, 0, 1], [16, 0, 1]],
+        fields: vec![[2, 0]],
+        methods: vec![],
+    }
+    .bytes()
+}
+
+fn fault(schema: &[u8], root: u32, payload: &[u8]) -> Option<(Reason, u32)> {
+    let fault = read_rows(schema, root, payload).err();
+    fault.map(|Refusal { reason, place }| (reason, place))
+}
+
+#[test]
+fn scalars_of_every_width() {
+    let widths = [1, 1, 2, 4, 8, 1, 2, 4, 8, 4, 8];
+    for (kind, width) in (1..).zip(widths) {
+        let schema = holding(kind);
+        let mut payload = vec![1];
+        payload.resize(1 + width, 0);
+        let rows = vec![[1, 0, 1 + width as u32, 1], [0, 1, width as u32, 0]];
+        assert_eq!(read_rows(&schema, 1, &payload), Ok((rows, 1 + width, 0)));
+        for length in 1..=width {
+            assert_eq!(
+                fault(&schema, 1, &payload[..length]),
+                Some((ExceedsRemaining, 1))
+            );
+        }
+        payload.push(0);
+        let surplus = Some((SurplusBytes, 1 + width as u32));
+        assert_eq!(fault(&schema, 1, &payload), surplus);
+    }
+}
+
+#[test]
+fn bools() {
+    let schema = holding(1);
+    for byte in 0..=255 {
+        let expected = (byte > 1).then_some((NotABool, 1));
+        assert_eq!(fault(&schema, 1, &[1, byte]), expected);
+    }
+}
+
+#[test]
+fn lengths_in_one_to_eleven_bytes() {
+    for kind in [12, 13] {
+        let schema = holding(kind);
+        for spelling in 1..=10 {
+            let mut payload = vec![0x80; spelling + 1];
+            payload[0] = 1;
+            payload[spelling] = 0;
+            payload[1] |= 2;
+            payload.extend(b"ok");
+            let place = 1 + spelling as u32;
+            let rows = vec![[1, 0, place + 2, 1], [0, place, 2, 0]];
+            let end = payload.len();
+            assert_eq!(read_rows(&schema, 1, &payload), Ok((rows, end, 0)));
+            let cut = &payload[..spelling];
+            assert_eq!(fault(&schema, 1, cut), Some((ExceedsRemaining, 1)));
+        }
+        for tenth in 2..=255 {
+            let payload = [&[1][..], &[0x80; 9], &[tenth, 0]].concat();
+            assert_eq!(fault(&schema, 1, &payload), Some((MalformedVarUint, 1)));
+        }
+        let nine = [&[1][..], &[0x80; 9]].concat();
+        assert_eq!(fault(&schema, 1, &nine), Some((ExceedsRemaining, 1)));
+        let huge = [&[1][..], &[0xFF; 9], &[1]].concat();
+        assert_eq!(fault(&schema, 1, &huge), Some((ExceedsRemaining, 1)));
+        let one_more = [1, 3, b'o', b'k'];
+        assert_eq!(fault(&schema, 1, &one_more), Some((ExceedsRemaining, 1)));
+    }
+}
+
+#[test]
+fn strings() {
+    let schema = holding(12);
+    let bad = [1, 0x82, 0, b'a', 0x80];
+    assert_eq!(fault(&schema, 1, &bad), Some((NotUtf8, 3)));
+    assert_eq!(fault(&holding(13), 1, &bad), None);
+    for text in ["\0", "\u{FFFE}", "\u{FFFF}", "\u{10FFFF}", ""] {
+        let payload = [&[1, text.len() as u8], text.as_bytes()].concat();
+        assert_eq!(fault(&schema, 1, &payload), None);
+    }
+}
+
+#[test]
+fn counts_above_what_remains() {
+    let list = Table {
+        types: vec![[1, 0, 0], [14, 0, 0], [16, 0, 1]],
+        fields: vec![[1, 0]],
+        methods: vec![],
+    }
+    .bytes();
+    assert_eq!(fault(&list, 2, &[1, 2, 0, 0]), None);
+    assert_eq!(fault(&list, 2, &[1, 3, 0, 0]), Some((ExceedsRemaining, 1)));
+    assert_eq!(fault(&list, 2, &[1, 3, 9, 0]), Some((ExceedsRemaining, 1)));
+    assert_eq!(fault(&list, 2, &[1, 2, 9, 0]), Some((NotABool, 2)));
+    let map = mapping(6, 1);
+    assert_eq!(fault(&map, 3, &[1, 1, 7, 0]), None);
+    assert_eq!(fault(&map, 3, &[1, 1, 7]), Some((ExceedsRemaining, 1)));
+    assert_eq!(
+        fault(&map, 3, &[1, 2, 7, 0, 8]),
+        Some((ExceedsRemaining, 1))
+    );
+    let half = [&[1][..], &[0x80; 9], &[1, 7, 0]].concat();
+    assert_eq!(fault(&map, 3, &half), Some((ExceedsRemaining, 1)));
+}
+
+#[test]
+fn repeated_keys() {
+    let map = mapping(6, 1);
+    assert_eq!(fault(&map, 3, &[1, 2, 7, 0, 8, 0]), None);
+    assert_eq!(fault(&map, 3, &[1, 2, 7, 0, 7, 9]), Some((DuplicateKey, 4)));
+    let text = mapping(12, 1);
+    let short = [1, 2, 1, b'k', 0, 0x81, 0, b'k', 0];
+    assert_eq!(fault(&text, 3, &short), Some((DuplicateKey, 5)));
+    let long = [1, 2, 0x81, 0x80, 0, b'k', 0, 1, b'k', 0];
+    assert_eq!(fault(&text, 3, &long), Some((DuplicateKey, 7)));
+    let differ = [1, 2, 1, b'k', 0, 2, b'k', 0, 0];
+    assert_eq!(fault(&text, 3, &differ), None);
+    let bad_later = [1, 2, 1, b'k', 0, 1, 0x80, 0];
+    assert_eq!(fault(&text, 3, &bad_later), Some((NotUtf8, 6)));
+    let empty = [1, 2, 0, 1, 0x80, 0, 1];
+    assert_eq!(fault(&text, 3, &empty), Some((DuplicateKey, 4)));
+}
+
+#[test]
+fn keys_of_inner_maps_stand_apart() {
+    let schema = Table {
+        types: vec![[6, 0, 0], [15, 0, 0], [15, 0, 1], [16, 0, 1]],
+        fields: vec![[2, 0]],
+        methods: vec![],
+    }
+    .bytes();
+    let good = [1, 2, 5, 2, 5, 0, 6, 0, 6, 1, 5, 0];
+    assert_eq!(fault(&schema, 3, &good), None);
+    let inner = [1, 2, 5, 2, 5, 0, 5, 0, 6, 1, 5, 0];
+    assert_eq!(fault(&schema, 3, &inner), Some((DuplicateKey, 6)));
+    let outer = [1, 2, 5, 2, 5, 0, 6, 0, 5, 1, 5, 0];
+    assert_eq!(fault(&schema, 3, &outer), Some((DuplicateKey, 8)));
+}
+
+#[test]
+fn large_maps() {
+    let schema = mapping(7, 6);
+    let pairs = 5_460u16;
+    let mut payload = vec![1, 0xD4, 0x2A];
+    for key in 0..pairs {
+        payload.extend(key.to_le_bytes());
+        payload.push(0);
+    }
+    assert_eq!(fault(&schema, 3, &payload), None);
+    let last = payload.len() - 3;
+    payload[last..last + 2].copy_from_slice(&[0, 0]);
+    assert_eq!(
+        fault(&schema, 3, &payload),
+        Some((DuplicateKey, last as u32))
+    );
+    let bytes = mapping(6, 6);
+    let many = [&[1, 0xFE, 0x3F][..], &[3, 3].repeat(8_190)].concat();
+    assert_eq!(fault(&bytes, 3, &many), Some((DuplicateKey, 5)));
+}
+
+#[test]
+fn bitmaps() {
+    let schema = Table {
+        types: vec![[6, 0, 0], [16, 0, 9], [16, 9, 1]],
+        fields: [vec![[0, 1]; 8], vec![[0, 0]], vec![[1, 0]]].concat(),
+        methods: vec![],
+    }
+    .bytes();
+    assert_eq!(fault(&schema, 1, &[0]), Some((ExceedsRemaining, 0)));
+    assert_eq!(fault(&schema, 1, &[0, 0]), Some((RequiredFieldAbsent, 0)));
+    assert_eq!(fault(&schema, 1, &[0, 2]), Some((RequiredFieldAbsent, 0)));
+    assert_eq!(fault(&schema, 1, &[0, 1, 7]), None);
+    assert_eq!(fault(&schema, 1, &[0, 3, 7, 7]), None);
+    assert_eq!(
+        fault(&schema, 1, &[0, 0xFF, 7, 1, 2, 3, 4, 5, 6]),
+        Some((ExceedsRemaining, 3))
+    );
+    assert_eq!(fault(&schema, 1, &[0, 0xFF, 7, 1, 2, 3, 4, 5, 6, 7]), None);
+    assert_eq!(fault(&schema, 2, &[1, 0]), Some((ExceedsRemaining, 1)));
+    assert_eq!(
+        fault(&schema, 2, &[1, 0, 2]),
+        Some((RequiredFieldAbsent, 1))
+    );
+    assert_eq!(fault(&schema, 2, &[1, 0, 3, 7]), Some((UnknownInnerBit, 1)));
+    assert_eq!(fault(&schema, 2, &[1, 0, 1, 7]), None);
+}
+
+#[test]
+fn sixty_four_fields() {
+    let schema = Table {
+        types: vec![[6, 0, 0], [16, 0, 64]],
+        fields: vec![[0, 1]; 64],
+        methods: vec![],
+    }
+    .bytes();
+    let payload = [&[0xFF; 8][..], &[7; 64]].concat();
+    let (rows, end, tail) = read_rows(&schema, 1, &payload).unwrap();
+    assert_eq!(
+        (rows.len(), rows[0], end, tail),
+        (65, [1, 0, 72, 64], 72, 0)
+    );
+    assert_eq!(
+        read_rows(&schema, 1, &[0; 8]),
+        Ok((vec![[1, 0, 8, 0]], 8, 0))
+    );
+}
+
+#[test]
+fn tails() {
+    let schema = holding(6);
+    let rows = vec![[1, 0, 2, 1], [0, 1, 1, 0]];
+    for (bits, set) in [(0x03, 1), (0x81, 1), (0x07, 2), (0xFF, 7)] {
+        for length in 0..12usize {
+            let payload = [&[bits, 9][..], &vec![0xEE; length]].concat();
+            let expected = match length < set {
+                true => refusal(ExceedsRemaining, 2),
+                false => Ok((rows.clone(), 2, length)),
+            };
+            assert_eq!(read_rows(&schema, 1, &payload), expected);
+        }
+    }
+    assert_eq!(fault(&schema, 1, &[3]), Some((ExceedsRemaining, 1)));
+}
+
+/// Table: type 0 a struct that may hold itself, an array, a map or a byte.
+fn nest() -> Vec<u8> {
+    Table {
+        types: vec![[16, 0, 4], [14, 1, 0], [15, 3, 2], [6, 0, 0]],
+        fields: vec![[0, 1], [1, 1], [2, 1], [3, 1]],
+        methods: vec![],
+    }
+    .bytes()
+}
+
+#[test]
+fn depth_16_and_17() {
+    let schema = nest();
+    let structs = |levels: usize| [&vec![1; levels - 1][..], &[0]].concat();
+    assert_eq!(read_rows(&schema, 0, &structs(16)).unwrap().0.len(), 16);
+    assert_eq!(fault(&schema, 0, &structs(17)), Some((TooDeep, 16)));
+    assert_eq!(fault(&schema, 0, &[1; 16]), Some((TooDeep, 16)));
+    assert_eq!(fault(&schema, 0, &[1; 15]), Some((ExceedsRemaining, 15)));
+    let arrays = |levels: usize| [&[2][..], &vec![1; levels - 2], &[0]].concat();
+    assert_eq!(read_rows(&schema, 0, &arrays(16)).unwrap().0.len(), 16);
+    assert_eq!(fault(&schema, 0, &arrays(17)), Some((TooDeep, 16)));
+    let maps = |levels: usize| [&[4][..], &[1, 9].repeat(levels - 2), &[0]].concat();
+    assert_eq!(read_rows(&schema, 0, &maps(16)).unwrap().0.len(), 30);
+    assert_eq!(fault(&schema, 0, &maps(17)), Some((TooDeep, 30)));
+    let leaf = |levels: usize| [&vec![1; levels - 2][..], &[8, 7]].concat();
+    assert_eq!(fault(&schema, 0, &leaf(16)), None);
+    assert_eq!(fault(&schema, 0, &leaf(17)), Some((TooDeep, 16)));
+}
+
+#[test]
+fn counts_are_judged_before_children_too_deep() {
+    let schema = nest();
+    let at_16 = [&[2][..], &[1; 14], &[1]].concat();
+    assert_eq!(fault(&schema, 0, &at_16), Some((ExceedsRemaining, 15)));
+    let whole = [&at_16[..], &[0]].concat();
+    assert_eq!(fault(&schema, 0, &whole), Some((TooDeep, 16)));
+}
+
+#[test]
+fn payloads_of_16384_and_16385_bytes() {
+    let schema = holding(13);
+    let payload = |length: usize| {
+        let content = length - 4;
+        let size = [
+            content as u8 | 0x80,
+            (content >> 7) as u8 | 0x80,
+            (content >> 14) as u8,
+        ];
+        [&[1][..], &size, &vec![0xEE; content]].concat()
+    };
+    let rows = vec![[1, 0, 16_384, 1], [0, 4, 16_380, 0]];
+    assert_eq!(
+        read_rows(&schema, 1, &payload(16_384)),
+        Ok((rows, 16_384, 0))
+    );
+    assert_eq!(
+        fault(&schema, 1, &payload(16_385)),
+        Some((PayloadTooLong, 0))
+    );
+    assert_eq!(fault(&schema, 0, &payload(16_385)), Some((NotAStruct, 0)));
+    let list = Table {
+        types: vec![[6, 0, 0], [14, 0, 0], [16, 0, 1]],
+        fields: vec![[1, 0]],
+        methods: vec![],
+    }
+    .bytes();
+    let (rows, ..) = read_rows(&list, 2, &payload(16_384)).unwrap();
+    assert_eq!(rows.len(), 16_382);
+}
+
+#[test]
+fn types_that_are_no_struct_and_bad_tables() {
+    let schema = table_t();
+    for number in [0, 1, 3, 5, u32::MAX] {
+        assert_eq!(fault(&schema, number, &[]), Some((NotAStruct, 0)));
+    }
+    assert_eq!(fault(&[], 4, &[]), Some((SchemaShape, 0)));
+    let mut bad = schema.clone();
+    bad[12] = 99;
+    assert_eq!(fault(&bad, 77, &[0; 16_385]), Some((TypeRow, 1)));
+}
+
+#[test]
+fn sheets_with_too_few_rows() {
+    let schema = table_t();
+    for cells in 0..8 {
+        let mut sheet = vec![CELL; cells];
+        let answer = read(&schema, 4, &[1, 0], &mut sheet);
+        assert_eq!(answer, Err(SheetTooSmall.at(0)));
+        assert!(sheet.iter().all(|&cell| cell == CELL));
+        let faulty = read(&schema, 4, &[1, 0, 0], &mut sheet);
+        assert_eq!(faulty, Err(SurplusBytes.at(2)));
+    }
+    for cells in 8..13 {
+        let mut sheet = vec![CELL; cells];
+        assert!(read(&schema, 4, &[1, 0], &mut sheet).is_ok());
+        assert!(sheet[8..].iter().all(|&cell| cell == CELL));
+    }
+}
+
+#[test]
+fn an_old_table_and_added_fields() {
+    let old = table_t();
+    let new = Table {
+        types: vec![[6, 0, 0], [12, 0, 0], [16, 0, 3], [14, 2, 0], [16, 3, 3]],
+        fields: vec![[0, 0], [1, 1], [0, 1], [3, 0], [0, 1], [1, 1]],
+        methods: vec![],
+    }
+    .bytes();
+    let inner = [1, 1, 5, 7, 8];
+    assert!(read_rows(&new, 4, &inner).is_ok());
+    assert_eq!(fault(&old, 4, &inner), Some((UnknownInnerBit, 2)));
+    let root = [5, 0, 1, b'x'];
+    assert!(read_rows(&new, 4, &root).is_ok());
+    let rows = vec![[4, 0, 2, 1], [3, 2, 0, 0]];
+    assert_eq!(read_rows(&old, 4, &root), Ok((rows, 2, 2)));
+}
