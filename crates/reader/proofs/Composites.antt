@@ -1,30 +1,30 @@
 -- Laws of the walkers of arrays, maps and structs: their heads, and the turns of their loops.
 -- Assumes nothing.
 use mathlib.Core.Path.{_≡_, refl, sym, ap, _∙_}
-use mathlib.Core.Bool.{Bool, true, false}
+use mathlib.Core.Bool.{true, false}
 use mathlib.Core.List.{List, [], _∷_}
-use Prim.Native.Nat.{ℕ, zero, suc, _+_, _-_, _/_, _%_, _^_, _≤_, _<_}
+use Prim.Native.Nat.{ℕ, suc, _+_, _-_, _/_, _%_, _^_, _≤_, _<_}
 use native.Mathlib.Nat.{mod-eq-of-lt}
 use native.Mathlib.Omega.{arith}
 use borrow.Author.Tests.{ltb-true, eq-eqb, ne-eqb}
-use lib.Dec.{ltb, eqb}
+use lib.Dec.{ltb}
 use lib.ListN.{length, replicate, set}
 use Rattle.schema.specs.declared.Field.{Field}
 use Rattle.schema.specs.Table.{Table, Shape, array, map, struct}
 use Rattle.schema.specs.Check.{field}
-use Rattle.value.specs.Answer.{Cursor, Answer, refused, seen, Reader, andThen, check, cursorAt}
+use Rattle.value.specs.Answer.{Cursor, refused, seen, Reader, andThen, check, cursorAt}
 use Rattle.value.specs.Value.{Tree, tip, rows, rowsAll}
-use Rattle.value.specs.Read.{Item, plainItem, pairs, present, parts, count, bitmap, own, among, walk, whole, parse}
+use Rattle.value.specs.Read.{Item, plainItem, pairs, present, parts, count, bitmap, among, walk, whole, parse}
 use Rattle.reader.specs.declared.leaf.Count.{Count}
 use Rattle.reader.specs.declared.leaf.Count.the-variants.{Is, Not}
 use Rattle.reader.specs.declared.leaf.Head.{Head}
 use Rattle.reader.specs.declared.leaf.Head.the-variants.{Bits, Fault}
-use Rattle.reader.specs.declared.walk.Walk.the-variants.{Past, Refused}
+use Rattle.reader.specs.declared.walk.Walk.the-variants.{Past}
 use Rattle.reader.specs.Sheet.{putRow}
 use Rattle.reader.specs.Leaf.{Accepted, part, countOf, CountIn, Counted, fieldsFrom, headOf, HeadIn, Headed, keysIn}
-use Rattle.reader.specs.Walk.{Final, done, stopped, walkOf, endOf, Walked}
+use Rattle.reader.specs.Walk.{Final, done, stopped, walkOf, Walked}
 use Rattle.reader.proofs.Leaves.{accepted-first}
-use Rattle.reader.proofs.Heads.{length-fields, present-set, present-clear, present-end}
+use Rattle.reader.proofs.Heads.{present-set, present-clear}
 use Rattle.reader.proofs.Keys.{keys-more}
 use Rattle.reader.proofs.Steps.{keyItem, spanRow, walk-length, item-past, item-stop, item-accepted, key-accepted, key-stop, key-again, key-new, key-known, accepted-along, parse-refused, parse-whole, own-accepted}
 

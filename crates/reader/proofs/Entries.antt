@@ -1,31 +1,30 @@
 -- Laws of the entries: what each of their returns shows.
 -- Assumes nothing.
-use mathlib.Core.Path.{_≡_, refl, sym, ap, _∙_}
+use mathlib.Core.Path.{_≡_, refl, _∙_}
 use mathlib.Core.List.{List, [], _∷_, _++_}
-use Prim.Native.Nat.{ℕ, zero, suc, _+_, _-_, _*_, _/_, _≤_, _<_}
+use Prim.Native.Nat.{ℕ, _+_, _-_, _/_, _≤_, _<_}
 use native.Mathlib.Omega.{arith}
 use native.Mathlib.Decide.{decLt, ℕ-discrete}
 use borrow.Author.Tests.{le-leb, lt-leb}
-use lib.ListN.{length, drop, length-drop}
+use lib.ListN.{length, length-drop}
 use Rattle.schema.specs.declared.TypeRow.{TypeRow}
 use Rattle.schema.specs.declared.Field.{Field}
 use Rattle.schema.specs.declared.Checked.{Checked}
 use Rattle.schema.specs.declared.Checked.the-variants.{Good, Refused as Faulty}
 use Rattle.schema.specs.Table.{Table, Shape, unknown, scalar, text, array, map, struct, rowAt, shape}
 use Rattle.schema.specs.File.{tableOf}
-use Rattle.schema.specs.Check.{checked, IsGood}
-use Rattle.value.specs.Answer.{Cursor, Answer, refused, seen, cursorAt}
+use Rattle.schema.specs.Check.{checked}
+use Rattle.value.specs.Answer.{Answer, refused, seen, cursorAt}
 use Rattle.value.specs.Value.{Tree, rows}
 use Rattle.value.specs.Read as value
 use Rattle.value.specs.Read.{onStruct}
-use Rattle.reader.specs.declared.Reading.{Reading}
 use Rattle.reader.specs.declared.Reading.the-variants.{Shown, Refused}
 use Rattle.reader.specs.declared.walk.Walk.{Walk}
 use Rattle.reader.specs.declared.walk.Walk.the-variants.{Past, Refused as Stop}
-use Rattle.reader.specs.Sheet.{putRows, shownIn}
+use Rattle.reader.specs.Sheet.{putRows}
 use Rattle.reader.specs.Leaf.{Accepted, fieldsFrom}
 use Rattle.reader.specs.Walk.{done, stopped, walkOf, endOf, rootIn, Walked}
-use Rattle.reader.specs.Entry.{Outcome, outcome, outcomeOf, room, payloadOutcome, byTable, readOutcome}
+use Rattle.reader.specs.Entry.{outcome, outcomeOf, room, payloadOutcome, readOutcome}
 use Rattle.reader.proofs.Sheets.{rows-shown}
 use Rattle.reader.proofs.Leaves.{leaf-scalar, leaf-text}
 use Rattle.reader.proofs.Tables.{shape-array, shape-map, shape-struct, shape-none, shape-past, shape-leaf}

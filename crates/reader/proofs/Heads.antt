@@ -1,32 +1,29 @@
 -- Laws of a struct's presence bits: the test for required fields, the fields present, and what each return of `presence` shows.
 -- Assumes nothing.
-use mathlib.Core.Path.{_≡_, refl, sym, ap, ap₂, _∙_}
-use mathlib.Core.Logic.{⊎-elim}
-use mathlib.Core.Bool.{Bool, true, false, not, _&&_, _||_, cond}
+use mathlib.Core.Path.{_≡_, refl, sym, ap, _∙_}
+use mathlib.Core.Bool.{Bool, true, false, not, _&&_, _||_}
 use mathlib.Core.List.{List, [], _∷_}
 use Prim.Native.Nat.{ℕ, zero, suc, _+_, _-_, _*_, _/_, _%_, _^_, _≤_, _<_}
-use native.Mathlib.Nat.{mod-lt, mod-eq-of-lt, div-eq-of-lt, le-refl, div-lt-iff-lt-mul, one-mul}
+use native.Mathlib.Nat.{mod-lt, mod-eq-of-lt, div-eq-of-lt, le-refl, div-lt-iff-lt-mul}
 use native.Mathlib.Numerals.{add-one}
 use native.Mathlib.Omega.{arith}
 use native.Mathlib.Decide.{decLt, ℕ-discrete}
 use borrow.Author.Tests.{le-ltb, lt-ltb, eq-eqb, ne-eqb, not-true, not-false}
 use lib.Count.{ones, onesIn}
 use lib.Dec.{ltb, eqb}
-use lib.ListN.{length, getD, take, drop, length-drop}
+use lib.ListN.{length, take, drop, length-drop}
 use lib.Pow.{pow-pos, shr-lt}
 use lib.Seq.{drop-cons, length-take-le}
-use Rattle.wire.specs.Little.{little}
 use Rattle.wire.specs.Bitmap.{Present}
 use Rattle.wire.proofs.Numbers.{Bytes, bytes-drop, bytes-take, little-below, pow-bytes}
 use Rattle.wire.proofs.Bitmaps.{ones-low, known-count, unknown-count}
 use Rattle.schema.specs.declared.Field.{Field}
-use Rattle.schema.specs.Table.{Table, bitmapBytes}
+use Rattle.schema.specs.Table.{Table}
 use Rattle.schema.specs.Check.{noField, field}
-use Rattle.value.specs.Answer.{refused, seen, andThen, check, cursorAt}
-use Rattle.value.specs.Read.{Item, plainItem, present, complete, bitmap, knownBits, unknownBits}
-use Rattle.reader.specs.declared.leaf.Head.{Head}
+use Rattle.value.specs.Answer.{seen, andThen, check, cursorAt}
+use Rattle.value.specs.Read.{plainItem, present, complete, bitmap}
 use Rattle.reader.specs.declared.leaf.Head.the-variants.{Bits, Fault}
-use Rattle.reader.specs.Leaf.{Accepted, part, fieldsFrom, HeadIn, Headed}
+use Rattle.reader.specs.Leaf.{Accepted, part, fieldsFrom, Headed}
 use Rattle.reader.proofs.Leaves.{accepted-check, block-reads, block-short}
 
 -- ---- the fields of a struct, one after the other

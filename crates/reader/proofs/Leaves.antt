@@ -1,15 +1,15 @@
 -- Laws of the leaves: what each of their returns shows of the reading in the crate `value`.
 -- Assumes nothing.
 use mathlib.Core.Path.{_≡_, refl, sym, ap, _∙_}
-use mathlib.Core.Bool.{Bool, true, false, not, _&&_, _||_}
+use mathlib.Core.Bool.{Bool, true, false, not, _||_}
 use mathlib.Core.List.{List, [], _∷_}
-use Prim.Native.Nat.{ℕ, zero, suc, _+_, _-_, _*_, _/_, _%_, _^_, _≤_, _<_}
-use native.Mathlib.Nat.{mul-le-mul, one-mul}
+use Prim.Native.Nat.{ℕ, zero, suc, _+_, _-_, _*_, _≤_, _<_}
+use native.Mathlib.Nat.{mul-le-mul}
 use native.Mathlib.Omega.{arith}
 use borrow.Author.Tests.{le-leb, lt-leb, lt-ltb, le-ltb, eq-eqb, ne-eqb}
-use lib.Dec.{T, leb, ltb, eqb, leb→le}
+use lib.Dec.{T, leb, ltb, eqb}
 use lib.ListN.{length, getD, take, drop, length-drop, length-take}
-use lib.Seq.{drop-drop, drop-cons, take-nil, slice, length-take-le}
+use lib.Seq.{drop-drop, take-nil, slice}
 use Rattle.wire.specs.Little.{little}
 use Rattle.wire.specs.Varuint.{varuint}
 use Rattle.wire.specs.Utf8.{utf8}
@@ -18,12 +18,11 @@ use Rattle.wire.proofs.Varuints.{varuint-inside}
 use Rattle.wire.proofs.Numbers.{little-one}
 use Rattle.schema.specs.Table.{scalar, text, width}
 use Rattle.value.specs.Answer.{Cursor, Answer, refused, seen, Reader, andThen, check, cursorAt, block, varUInt}
-use Rattle.value.specs.Read.{Own, plain, count, own}
+use Rattle.value.specs.Read.{plain, count, own}
 use Rattle.reader.specs.declared.leaf.Count.{Count}
 use Rattle.reader.specs.declared.leaf.Count.the-variants.{Is, Not}
-use Rattle.reader.specs.declared.leaf.Span.{Span}
 use Rattle.reader.specs.declared.leaf.Span.the-variants.{At, Bad}
-use Rattle.reader.specs.Leaf.{Accepted, part, countOf, CountIn, Counted, leafShape, spanOf, SpanIn, Spanned}
+use Rattle.reader.specs.Leaf.{Accepted, part, countOf, CountIn, Counted, leafShape, Spanned}
 
 -- ---- answers that accept
 
@@ -104,27 +103,6 @@ module _ (p : List ℕ) (at : ℕ) where
           let l : least * n ≤ length (drop next p) = rw length-drop h in
           let i = varuint-inside p at n next is in
           record { same = rw (number-reads n next is, le-leb (least * n) (length (drop next p)) l); within = (i .0, omega arith) }
-
--- ---- widths
-
-abbrev fits : List ℕ → Bool
-fits [] = true
-fits (w ∷ ws) = (leb 1 w && leb w 8) && fits ws
-
-both : (a b : Bool) → T (a && b) → T a × T b
-both true b t = (tt, t)
-both false b t = absurd t
-
-fits-at : (ws : List ℕ) (i : ℕ) → T (fits ws) → i < length ws → (1 ≤ getD ws i 0) × (getD ws i 0 ≤ 8)
-fits-at [] i t h = absurd (omega arith)
-fits-at (w ∷ ws) zero t h =
-    let r = both (leb 1 w) (leb w 8) (both (leb 1 w && leb w 8) (fits ws) t .0) in
-    (leb→le 1 w (r .0), leb→le w 8 (r .1))
-fits-at (w ∷ ws) (suc i) t h = fits-at ws i (both (leb 1 w && leb w 8) (fits ws) t .1) (omega arith)
-
-pub width-fits : (kind : ℕ) → 0 < kind → kind < 12 → (0 < width kind) × (width kind ≤ 8)
-width-fits zero z h = absurd (omega arith)
-width-fits (suc k) z h = fits-at (1 ∷ 1 ∷ 2 ∷ 4 ∷ 8 ∷ 1 ∷ 2 ∷ 4 ∷ 8 ∷ 4 ∷ 8 ∷ []) k tt (omega arith)
 
 -- ---- scalars
 

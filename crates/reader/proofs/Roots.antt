@@ -8,12 +8,11 @@ use borrow.Author.Tests.{eq-eqb, ne-eqb, le-leb, lt-leb}
 use lib.ListN.{length, drop, length-drop}
 use Rattle.schema.specs.declared.Field.{Field}
 use Rattle.schema.specs.Table.{Shape, struct}
-use Rattle.value.specs.Answer.{Cursor, Answer, refused, seen, Reader, andThen, check, cursorAt}
+use Rattle.value.specs.Answer.{Answer, refused, seen, Reader, andThen, check, cursorAt}
 use Rattle.value.specs.Value.{Tree, branch, Forest, rows}
-use Rattle.value.specs.Read.{present, counted, plan, bitmap, parts, walk, nodeRow, whole, parse, knownBits, unknownBits, ending, rootStruct}
+use Rattle.value.specs.Read.{counted, plan, bitmap, parts, walk, nodeRow, whole, parse, ending, rootStruct}
 use Rattle.reader.specs.declared.leaf.Head.{Head}
 use Rattle.reader.specs.declared.leaf.Head.the-variants.{Bits, Fault}
-use Rattle.reader.specs.declared.walk.Walk.{Walk}
 use Rattle.reader.specs.declared.walk.Walk.the-variants.{Past, Refused}
 use Rattle.reader.specs.Leaf.{Accepted, headOf, HeadIn, Headed}
 use Rattle.reader.specs.Walk.{done, stopped, walkOf, Walked}

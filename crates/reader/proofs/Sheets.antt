@@ -1,10 +1,9 @@
 -- Laws of the sheet: rows at different places commute, rows written one run after another are the runs joined, and rows that fit are shown.
 -- Assumes nothing.
 use mathlib.Core.Path.{_≡_, refl, sym, ap, _∙_}
-use mathlib.Core.Logic.{_≢_, ⊎-elim}
+use mathlib.Core.Logic.{_≢_}
 use mathlib.Core.List.{List, [], _∷_, _++_, append-assoc, append-nil}
-use mathlib.Core.Bool.{true, false}
-use Prim.Native.Nat.{ℕ, zero, suc, _+_, _*_, _≤_, _<_}
+use Prim.Native.Nat.{ℕ, suc, _+_, _*_, _≤_, _<_}
 use native.Mathlib.Omega.{arith}
 use native.Mathlib.Decide.{decLe}
 use borrow.Author.Tests.{le-leb, lt-leb}
@@ -12,7 +11,8 @@ use native.Mathlib.Numerals.{add-one, add-two, add-three}
 use lib.ListN.{length, set, take, drop, length-set, take-append-drop}
 use lib.Seq.{set-comm, sets-eq, length-take-le, take-append-le, take-take, drop-at}
 use Rattle.value.specs.declared.Row.{Row}
-use Rattle.reader.specs.Sheet.{cells4, cells, put4, putRow, putRows, shownIn}
+use Rattle.value.specs.Sheet.{cellsOf}
+use Rattle.reader.specs.Sheet.{put4, putRow, putRows, shownIn}
 
 length-put4 : (l : List ℕ) (b : ℕ) (r : Row) → length (put4 l b r) ≡ length l
 unfolding put4
@@ -91,8 +91,11 @@ length-rows l i (r ∷ rs) = length-put (putRows l (i + 1) rs) i r ∙ length-ro
 
 -- ---- where all rows fit, they are one run of cells pasted over the sheet
 
-length-cells : (rs : List Row) → length (cells rs) ≡ 4 * length rs
-unfolding cells
+abbrev cells4 : Row → List ℕ
+cells4 r = r .ty ∷ r .place ∷ r .length ∷ r .count ∷ []
+
+length-cells : (rs : List Row) → length (cellsOf rs) ≡ 4 * length rs
+unfolding cellsOf
 length-cells [] = refl
 length-cells (r ∷ rs) = let h = length-cells rs in omega arith
 
@@ -103,8 +106,8 @@ put4-cells l b r h = rw (add-one, add-two, add-three) (sets-eq (r .ty ∷ r .pla
 rows-paste :
     (l : List ℕ) (i : ℕ) (rs : List Row) →
     4 * (i + length rs) ≤ length l →
-    putRows l i rs ≡ take (4 * i) l ++ cells rs ++ drop (4 * (i + length rs)) l
-unfolding putRows cells
+    putRows l i rs ≡ take (4 * i) l ++ cellsOf rs ++ drop (4 * (i + length rs)) l
+unfolding putRows cellsOf
 rows-paste l i [] h =
     let e : i + 0 ≡ i = omega arith in
     rw (e, append-nil) (sym (take-append-drop (4 * i) l))
@@ -112,17 +115,17 @@ rows-paste l i (r ∷ rs) h =
     let e : i + suc (length rs) ≡ i + 1 + length rs = omega arith in
     let f : 4 * (i + 1) ≡ 4 * i + 4 = omega arith in
     let ih = rows-paste l (i + 1) rs (omega arith) in
-    let tail : List ℕ = cells rs ++ drop (4 * (i + 1 + length rs)) l in
+    let tail : List ℕ = cellsOf rs ++ drop (4 * (i + 1 + length rs)) l in
     let m : List ℕ = take (4 * (i + 1)) l ++ tail in
-    let same : putRows l (i + 1) rs ≡ m = ih ∙ append-assoc (take (4 * (i + 1)) l) (cells rs) (drop (4 * (i + 1 + length rs)) l) in
+    let same : putRows l (i + 1) rs ≡ m = ih ∙ append-assoc (take (4 * (i + 1)) l) (cellsOf rs) (drop (4 * (i + 1 + length rs)) l) in
     let long : length m ≡ length l = ap length (sym same) ∙ length-rows l (i + 1) rs in
     let front : length (take (4 * (i + 1)) l) ≡ 4 * i + 4 = length-take-le (4 * (i + 1)) l (omega arith) ∙ f in
     let one : take (4 * i) m ≡ take (4 * i) l =
     take-append-le (4 * i) (take (4 * (i + 1)) l) tail (omega arith) ∙ take-take (4 * i) (4 * (i + 1)) l (omega arith) in
     let two : drop (4 * i + 4) m ≡ tail = drop-at (take (4 * (i + 1)) l) tail (4 * i + 4) front in
     rw (e, same, put-fits m i r (omega arith), put4-cells m (4 * i) r (omega arith), one, two)
-    (sym (append-assoc (take (4 * i) l ++ cells4 r) (cells rs) (drop (4 * (i + 1 + length rs)) l))
-    ∙ ap (λ (x : List ℕ). x ++ drop (4 * (i + 1 + length rs)) l) (append-assoc (take (4 * i) l) (cells4 r) (cells rs)))
+    (sym (append-assoc (take (4 * i) l ++ cells4 r) (cellsOf rs) (drop (4 * (i + 1 + length rs)) l))
+    ∙ ap (λ (x : List ℕ). x ++ drop (4 * (i + 1 + length rs)) l) (append-assoc (take (4 * i) l) (cells4 r) (cellsOf rs)))
 
 -- From the first row on they are shown.
 pub rows-shown : (l : List ℕ) (rs : List Row) → 4 * length rs ≤ length l → putRows l 0 rs ≡ shownIn l rs

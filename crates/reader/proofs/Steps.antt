@@ -1,25 +1,25 @@
 -- Laws of the walkers: what one step of a walk does to its end.
 -- Assumes nothing.
 use mathlib.Core.Path.{_≡_, refl, sym, ap, _∙_}
-use mathlib.Core.Bool.{Bool, true, false, not}
-use mathlib.Core.List.{List, [], _∷_, _++_}
+use mathlib.Core.Bool.{true, false, not}
+use mathlib.Core.List.{List, [], _∷_}
 use Prim.Native.Nat.{ℕ, zero, suc, _+_, _-_, _≤_, _<_}
 use native.Mathlib.Omega.{arith}
 use borrow.Author.Tests.{not-true}
-use lib.ListN.{length, length-append, replicate}
+use lib.ListN.{length, length-append}
 use Rattle.schema.specs.Table.{Shape}
 use Rattle.value.specs.declared.Row.{Row}
 use Rattle.value.specs.Answer.{Cursor, Answer, refused, seen, Reader, andThen, check, cursorAt}
 use Rattle.value.specs.Value as tree
-use Rattle.value.specs.Value.{Tree, tip, branch, Forest, stop, plus, rows, rowsAll, content}
-use Rattle.value.specs.Read.{Item, plainItem, pairs, plan, counted, Own, plain, parts, own, among, walk, leafRow, nodeRow, whole, parse}
+use Rattle.value.specs.Value.{Tree, tip, branch, Forest, plus, rows, rowsAll, content}
+use Rattle.value.specs.Read.{Item, plainItem, plan, counted, Own, plain, parts, own, among, walk, leafRow, nodeRow, whole, parse}
 use Rattle.reader.specs.declared.leaf.Span.{Span}
 use Rattle.reader.specs.declared.leaf.Span.the-variants.{At, Bad}
 use Rattle.reader.specs.declared.walk.Walk.{Walk}
 use Rattle.reader.specs.declared.walk.Walk.the-variants.{Past, Refused}
 use Rattle.reader.specs.Sheet.{putRow, putRows}
-use Rattle.reader.specs.Leaf.{Accepted, part, spanOf, SpanIn, Spanned}
-use Rattle.reader.specs.Walk.{Final, done, stopped, walkOf, endOf, Within, Walked}
+use Rattle.reader.specs.Leaf.{Accepted, part, spanOf, Spanned}
+use Rattle.reader.specs.Walk.{done, stopped, walkOf, Walked}
 use Rattle.reader.proofs.Sheets.{rows-append, length-rows}
 use Rattle.reader.proofs.Leaves.{accepted-first, accepted-check, length-part}
 
@@ -53,7 +53,10 @@ pub as-refused : {A : Type 0} {f : A → List Row} {p : List ℕ} {least : ℕ} 
     → o ≡ refused n q → Walked p least f o row l (Refused n q) m
 as-refused o n q e = record { same = rw e; within = tt }
 
--- more is asked of the place where a walk ends
+pub stop-at : {A : Type 0} (f : A → List Row) (o : Answer A) (row : ℕ) (l : List ℕ) (n q : ℕ) → o ≡ refused n q → stopped n q ≡ walkOf f o row l
+stop-at f o row l n q e = rw e
+
+-- less is asked of the place where a walk ends
 pub further : {A : Type 0} {f : A → List Row} {p : List ℕ} (least least′ : ℕ) {o : Answer A} {row : ℕ} {l : List ℕ} (r : Walk) {m : List ℕ}
     → least′ ≤ least → Walked p least f o row l r m → Walked p least′ f o row l r m
 further least least′ (Past next row) h w = record { same = w .same; within = let v = w .within in (v .0, v .1, omega arith) }

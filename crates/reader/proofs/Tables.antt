@@ -38,6 +38,12 @@ module _ (s : List ℕ) (good : IsGood s) where
     pub struct-row : r .kind ≡ 16 → (0 < r .b) × (r .b ≤ 64) × (r .a + r .b ≤ length (tableOf s .fields))
     struct-row k = rw is (good-table s good .rows t (there (omega arith)) .struct (rw is at k))
 
+    pub array-row : r .kind ≡ 14 → 0 < rowAt (tableOf s) (r .a) .kind
+    array-row k =
+        let g = good-table s good in
+        let a : r .a < length (tableOf s .types) = rw is (g .rows t (there (omega arith)) .array (rw is at k) .0) in
+        g .rows (r .a) a .kind .0
+
     -- the kind of a map's key is that of a scalar, a string or bytes
     pub map-row : r .kind ≡ 15 → (0 < rowAt (tableOf s) (r .a) .kind) × (rowAt (tableOf s) (r .a) .kind < 14)
     map-row k =

@@ -6,18 +6,11 @@ use Prim.Native.Nat.{ℕ, _+_, _*_}
 use lib.Dec.{leb}
 use lib.ListN.{length, set, drop}
 use Rattle.value.specs.declared.Row.{Row}
-
-abbrev pub cells4 : Row → List ℕ
-cells4 r = r .ty ∷ r .place ∷ r .length ∷ r .count ∷ []
-
--- The cells of rows, one row after the other.
-unfoldable pub cells : List Row → List ℕ
-cells [] = []
-cells (r ∷ rs) = cells4 r ++ cells rs
+use Rattle.value.specs.Sheet.{cellsOf}
 
 -- A sheet whose first rows are these, and whose other cells are as they were.
 abbrev pub shownIn : List ℕ → List Row → List ℕ
-shownIn sheet rs = cells rs ++ drop (4 * length rs) sheet
+shownIn sheet rs = cellsOf rs ++ drop (4 * length rs) sheet
 
 -- ---- as a walk writes it: a row is written where the sheet has it
 

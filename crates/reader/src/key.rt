@@ -6,13 +6,21 @@ ghost use lib.ListN.{length};
 ghost use Rattle.value.specs.Read.{same, among};
 ghost use Rattle.reader.specs.Leaf.{part, keysIn, Spans};
 
-// Two parts of the payload have the same bytes.
+// Two parts of the payload have the same bytes. The first and the last are looked at before the others: keys often differ there.
 fn is_same(p: &[u8], a: usize, e: usize, b: usize, f: usize) -> bool
     requires { ⌜ (a ≤ e) × (e ≤ length (now p)) × (b ≤ f) × (f ≤ length (now p)) ⌝ }
     ensures { λ r. ⌜ r ≡ same (part (now (p .entry)) a e) (part (now (p .entry)) b f) ⌝ }
 {
     if e - a != f - b {
         return false;
+    }
+    if a < e {
+        if p[a] != p[b] {
+            return false;
+        }
+        if p[e - 1] != p[f - 1] {
+            return false;
+        }
     }
     let mut x = a;
     let mut y = b;

@@ -1,4 +1,5 @@
 // A value's own bytes: counts, contents of scalars and strings, and presence bits.
+use schema::kind::width_of;
 use wire::bitmap;
 use wire::utf8;
 use wire::varuint;
@@ -63,16 +64,6 @@ pub fn read_count(p: &[u8], at: usize, least: usize) -> Count
             Count::Is { n: n, start: next }
         }
     }
-}
-
-const WIDTH: [usize; 12] = [0, 1, 1, 2, 4, 8, 1, 2, 4, 8, 4, 8];
-
-// The width in bytes of a scalar of a kind.
-fn width_of(kind: usize) -> usize
-    requires { ⌜ (0 < kind) × (kind < 12) ⌝ }
-    ensures { λ r. ⌜ (r ≡ width kind) × (0 < r) × (r ≤ 8) ⌝ }
-{
-    WIDTH[kind]
 }
 
 // A scalar's content.

@@ -9,6 +9,7 @@ use crate::leaf::content;
 use crate::leaf::presence;
 use crate::leaf::read_count;
 use crate::sheet::put_row;
+use schema::TypeRow;
 use schema::access::field;
 use schema::access::type_row;
 ghost use mathlib.Core.Path.{_≡_};
@@ -50,37 +51,14 @@ fn value(
     }
     let t = type_row(s, ty as usize);
     let kind = t.kind as usize;
-    if kind == 14 {
-        return array(s, p, sheet, ty, t.a, at, depth - 1, row, judge);
-    }
-    if kind == 15 {
-        return mapping(s, p, sheet, ty, t.a, t.b, at, depth - 1, row, judge);
-    }
-    if kind == 16 {
-        return structure(
-            s,
-            p,
-            sheet,
-            ty,
-            t.a as usize,
-            t.b as usize,
-            at,
-            depth - 1,
-            row,
-            judge,
-        );
-    }
     if kind == 0 {
         return Walk::Refused {
             number: 42,
             place: 0,
         };
     }
-    if 16 < kind {
-        return Walk::Refused {
-            number: 42,
-            place: 0,
-        };
+    if 13 < kind {
+        return composite(s, p, sheet, ty, t, at, depth - 1, row, judge);
     }
     match content(p, kind, at, judge) {
         Span::Bad { number, place } => Walk::Refused { number, place },
@@ -94,7 +72,49 @@ fn value(
     }
 }
 
-// An array of type ty, whose elements have the type elem and so many levels of depth.
+// An array, a map or a struct of type ty, whose row is t; what it holds has so many levels of depth.
+fn composite(
+    s: &[u8],
+    p: &[u8],
+    sheet: &mut [u32],
+    ty: u32,
+    t: TypeRow,
+    at: usize,
+    depth: usize,
+    row: usize,
+    judge: bool,
+) -> Walk
+    requires { ⌜ Ready (now s) (now p) at row judge (valueIn (now s) (now p) (suc depth) ty at) × (t ≡ rowAt (tableOf (now s)) ty) × (13 < t .kind) ⌝ }
+    ensures { λ r. ⌜ Walked (now (p .entry)) (at + 1) rows (valueIn (now (s .entry)) (now (p .entry)) (suc depth) ty at) row (now (sheet .entry)) r (now (sheet .exit)) ⌝ }
+{
+    let kind = t.kind;
+    if kind == 14 {
+        return array(s, p, sheet, ty, t.a, at, depth, row, judge);
+    }
+    if kind == 15 {
+        return mapping(s, p, sheet, ty, t.a, t.b, at, depth, row, judge);
+    }
+    if kind == 16 {
+        return structure(
+            s,
+            p,
+            sheet,
+            ty,
+            t.a as usize,
+            t.b as usize,
+            at,
+            depth,
+            row,
+            judge,
+        );
+    }
+    Walk::Refused {
+        number: 42,
+        place: 0,
+    }
+}
+
+// An array of type ty, whose elements have the type elem.
 fn array(
     s: &[u8],
     p: &[u8],
@@ -106,17 +126,28 @@ fn array(
     row: usize,
     judge: bool,
 ) -> Walk
-    requires { ⌜ Ready (now s) (now p) at row judge (valueIn (now s) (now p) (suc depth) ty at) × (shapeIn (now s) ty ≡ array elem) ⌝ }
+    requires { ⌜ Ready (now s) (now p) at row judge (valueIn (now s) (now p) (suc depth) ty at) × (shapeIn (now s) ty ≡ array elem) × (0 < rowAt (tableOf (now s)) elem .kind) ⌝ }
     ensures { λ r. ⌜ Walked (now (p .entry)) (at + 1) rows (valueIn (now (s .entry)) (now (p .entry)) (suc depth) ty at) row (now (sheet .entry)) r (now (sheet .exit)) ⌝ }
 {
     match read_count(p, at, 1) {
         Count::Not { number } => Walk::Refused { number, place: at },
         Count::Is { n, start } => {
+            let t = type_row(s, elem as usize);
+            let kind = t.kind;
+            if kind < 14 {
+                return leaves(s, p, sheet, ty, elem, n, start, depth, row, judge);
+            }
             let mut left = n;
             let mut here = start;
             let mut below = row + 1;
             while 0 < left {
-                match value(s, p, sheet, elem, here, depth, below, judge) {
+                if depth == 0 {
+                    return Walk::Refused {
+                        number: 28,
+                        place: here,
+                    };
+                }
+                match composite(s, p, sheet, elem, t, here, depth - 1, below, judge) {
                     Walk::Refused { number, place } => {
                         return Walk::Refused { number, place };
                     }
@@ -133,6 +164,54 @@ fn array(
                 row: below,
             }
         }
+    }
+}
+
+// The n elements of an array from a place on that are scalars, strings or bytes.
+fn leaves(
+    s: &[u8],
+    p: &[u8],
+    sheet: &mut [u32],
+    ty: u32,
+    elem: u32,
+    n: usize,
+    start: usize,
+    depth: usize,
+    row: usize,
+    judge: bool,
+) -> Walk
+    requires { ⌜ Ready (now s) (now p) start (row + 1) judge (wholeIn (now s) (now p) depth ty (array elem) start n start) ⌝ }
+    requires { ⌜ (0 < rowAt (tableOf (now s)) elem .kind) × (rowAt (tableOf (now s)) elem .kind < 14) × (n ≤ 16384) ⌝ }
+    ensures { λ r. ⌜ Walked (now (p .entry)) start rows (wholeIn (now (s .entry)) (now (p .entry)) depth ty (array elem) start n start) row (now (sheet .entry)) r (now (sheet .exit)) ⌝ }
+{
+    let t = type_row(s, elem as usize);
+    let kind = t.kind as usize;
+    let mut left = n;
+    let mut here = start;
+    let mut below = row + 1;
+    while 0 < left {
+        if depth == 0 {
+            return Walk::Refused {
+                number: 28,
+                place: here,
+            };
+        }
+        match content(p, kind, here, judge) {
+            Span::Bad { number, place } => {
+                return Walk::Refused { number, place };
+            }
+            Span::At { from, to } => {
+                put_row(sheet, below, elem, from, to - from, 0);
+                here = to;
+                below = below + 1;
+            }
+        }
+        left = left - 1;
+    }
+    put_row(sheet, row, ty, start, here - start, n);
+    Walk::Past {
+        next: here,
+        row: below,
     }
 }
 

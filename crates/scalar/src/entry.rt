@@ -2,10 +2,10 @@
 use crate::Answer;
 use crate::Scalar;
 use crate::number::value;
-use crate::number::width_of;
 use schema::Checked;
 use schema::access::type_row;
 use schema::check::check;
+use schema::kind::width_of;
 use value::Row;
 use wire::utf8::valid;
 ghost use mathlib.Core.Path.{_≡_};

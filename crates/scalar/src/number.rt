@@ -2,6 +2,7 @@
 use crate::Scalar;
 use crate::float::float32;
 use crate::float::float64;
+use schema::kind::width_of;
 use wire::little::number;
 use wire::little::signed;
 ghost use mathlib.Core.Path.{_≡_};
@@ -9,16 +10,6 @@ ghost use Prim.Native.Nat.{_+_, _≤_, _<_};
 ghost use lib.ListN.{length, take, drop};
 ghost use Rattle.schema.specs.Table.{width};
 ghost use Rattle.scalar.specs.Scalar.{valueOf};
-
-const WIDTH: [usize; 12] = [0, 1, 1, 2, 4, 8, 1, 2, 4, 8, 4, 8];
-
-// The width in bytes of a scalar kind.
-pub fn width_of(kind: usize) -> usize
-    requires { ⌜ (0 < kind) × (kind < 12) ⌝ }
-    ensures { λ r. ⌜ (r ≡ width kind) × (0 < r) × (r ≤ 8) ⌝ }
-{
-    WIDTH[kind]
-}
 
 // The value of a scalar kind at a place.
 pub fn value(s: &[u8], kind: usize, place: usize) -> Scalar

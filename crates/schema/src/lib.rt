@@ -3,6 +3,7 @@ pub mod access;
 pub mod check;
 pub mod extension;
 pub mod file;
+pub mod kind;
 pub mod rows;
 
 // A type row: the kind, and the two numbers that its kind uses.

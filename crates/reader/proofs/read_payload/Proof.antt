@@ -29,7 +29,10 @@ read-payload-spec =
     -- slice-aggregate-root
     (λ c. search needs)
     -- root-requires
-    (λ c κs. (record { good = c .before .before .before .before .before .before .before .before .before .before .pre; small = c .before .before .before .if2 .left; inside = omega arith; behind = omega arith; judged = λ j. absurd (false≢true (sym j)) }, struct-row (c .before .before .before .before .before .before .before .before .before .before .args .schema .now) (c .before .before .before .before .before .before .before .before .before .before .pre) (c .before .before .before .before .before .before .before .before .before .before .args .ty) _ (c .before .before .before .before .before .before .type-row .ensures) (c .before .before .before .before .if1 .left)))
+    (λ c κs.
+    let asked = c .before .before .before .before .before .before .before .before .before .before .pre in
+    let args = c .before .before .before .before .before .before .before .before .before .before .args in
+    (record { good = asked; small = c .before .before .before .if2 .left; inside = omega arith; behind = omega arith; judged = λ j. absurd (false≢true (sym j)) }, struct-row (args .schema .now) (asked) (args .ty) _ (c .before .before .before .before .before .before .type-row .ensures) (c .before .before .before .before .if1 .left)))
     -- enum-known-number
     (λ c. search needs)
     -- enum-known-next
@@ -37,16 +40,35 @@ read-payload-spec =
     -- same-length
     (λ c. search needs)
     -- returns-3
-    (λ c. entry-full (c .before .before .before .before .before .before .before .before .before .before .before .before .before .before .before .before .before .args .schema .now) (c .before .before .before .before .before .before .before .before .before .before .before .before .before .before .before .before .before .args .ty) (c .before .before .before .before .before .before .before .before .before .before .before .before .before .before .before .before .before .args .payload .now) (c .before .before .before .before .before .before .before .before .before .before .before .before .before .before .before .before .before .args .sheet .now) (c .before .before .before .before .before .before .before .before .before .before .before .before .before .type-row .result) (c .before .before .before .before .before .before .before .before .before .before .before .before .before .type-row .ensures) (c .before .before .before .before .before .before .before .before .before .before .before .if1 .left) (c .before .before .before .before .before .before .before .before .before .before .if2 .left) _ (c .before .before .before .before .before .before .root .kept .1 .1 .0) _ _ (was (c .before .before .before .before .before .before .root .ensures) (c .before .before .next .given .1)) (c .if3 .taken))
+    (λ c.
+    let args = c .before .before .before .before .before .before .before .before .before .before .before .before .before .before .before .before .before .args in
+    let type-row = c .before .before .before .before .before .before .before .before .before .before .before .before .before .type-row in
+    let root = c .before .before .before .before .before .before .root in
+    entry-full (args .schema .now) (args .ty) (args .payload .now) (args .sheet .now) (type-row .result) (type-row .ensures) (c .before .before .before .before .before .before .before .before .before .before .before .if1 .left) (c .before .before .before .before .before .before .before .before .before .before .if2 .left) _ (root .kept .1 .1 .0) _ _ (was (root .ensures) (c .before .before .next .given .1)) (c .if3 .taken))
     -- root-requires-2
-    (λ c κs. (record { good = c .before .before .before .before .before .before .before .before .before .before .before .before .before .before .before .before .before .before .pre; small = c .before .before .before .before .before .before .before .before .before .before .before .if2 .left; inside = omega arith; behind = omega arith; judged = λ j. entry-judged (c .before .before .before .before .before .before .before .before .before .before .before .before .before .before .before .before .before .before .args .schema .now) (c .before .before .before .before .before .before .before .before .before .before .before .before .before .before .before .before .before .before .args .ty) (c .before .before .before .before .before .before .before .before .before .before .before .before .before .before .before .before .before .before .args .payload .now) (c .before .before .before .before .before .before .before .before .before .before .before .before .before .before .before .before .before .before .args .sheet .now) (c .before .before .before .before .before .before .before .before .before .before .before .before .before .before .type-row .result) (c .before .before .before .before .before .before .before .before .before .before .before .before .before .before .type-row .ensures) (c .before .before .before .before .before .before .before .before .before .before .before .before .if1 .left) (c .before .before .before .before .before .before .before .before .before .before .before .if2 .left) _ (c .before .before .before .before .before .before .before .root .kept .1 .1 .0) _ _ (was (c .before .before .before .before .before .before .before .root .ensures) (c .before .before .before .next .given .1)) }, struct-row (c .before .before .before .before .before .before .before .before .before .before .before .before .before .before .before .before .before .before .args .schema .now) (c .before .before .before .before .before .before .before .before .before .before .before .before .before .before .before .before .before .before .pre) (c .before .before .before .before .before .before .before .before .before .before .before .before .before .before .before .before .before .before .args .ty) _ (c .before .before .before .before .before .before .before .before .before .before .before .before .before .before .type-row .ensures) (c .before .before .before .before .before .before .before .before .before .before .before .before .if1 .left)))
+    (λ c κs.
+    let asked = c .before .before .before .before .before .before .before .before .before .before .before .before .before .before .before .before .before .before .pre in
+    let if2 = c .before .before .before .before .before .before .before .before .before .before .before .if2 in
+    let args = c .before .before .before .before .before .before .before .before .before .before .before .before .before .before .before .before .before .before .args in
+    let type-row = c .before .before .before .before .before .before .before .before .before .before .before .before .before .before .type-row in
+    let if1 = c .before .before .before .before .before .before .before .before .before .before .before .before .if1 in
+    let root = c .before .before .before .before .before .before .before .root in
+    (record { good = asked; small = if2 .left; inside = omega arith; behind = omega arith; judged = λ j. entry-judged (args .schema .now) (args .ty) (args .payload .now) (args .sheet .now) (type-row .result) (type-row .ensures) (if1 .left) (if2 .left) _ (root .kept .1 .1 .0) _ _ (was (root .ensures) (c .before .before .before .next .given .1)) }, struct-row (args .schema .now) (asked) (args .ty) _ (type-row .ensures) (if1 .left)))
     -- sub-t19
     (λ c. was (c .before .before .before .before .before .before .before .before .before .before .root .ensures) (c .before .before .before .before .before .before .next .given .1) .within .0)
     -- same-length-2
     (λ c. search needs)
     -- returns-4
-    (λ c. entry-refused (c .before .before .before .before .before .before .before .before .before .before .before .before .before .before .before .before .args .schema .now) (c .before .before .before .before .before .before .before .before .before .before .before .before .before .before .before .before .args .ty) (c .before .before .before .before .before .before .before .before .before .before .before .before .before .before .before .before .args .payload .now) (c .before .before .before .before .before .before .before .before .before .before .before .before .before .before .before .before .args .sheet .now) (c .before .before .before .before .before .before .before .before .before .before .before .before .type-row .result) (c .before .before .before .before .before .before .before .before .before .before .before .before .type-row .ensures) (c .before .before .before .before .before .before .before .before .before .before .if1 .left) (c .before .before .before .before .before .before .before .before .before .if2 .left) _ (c .before .before .before .before .before .root .kept .1 .1 .0) _ _ (was (c .before .before .before .before .before .root .ensures) (c .before .number .given .1)))
+    (λ c.
+    let args = c .before .before .before .before .before .before .before .before .before .before .before .before .before .before .before .before .args in
+    let type-row = c .before .before .before .before .before .before .before .before .before .before .before .before .type-row in
+    let root = c .before .before .before .before .before .root in
+    entry-refused (args .schema .now) (args .ty) (args .payload .now) (args .sheet .now) (type-row .result) (type-row .ensures) (c .before .before .before .before .before .before .before .before .before .before .if1 .left) (c .before .before .before .before .before .before .before .before .before .if2 .left) _ (root .kept .1 .1 .0) _ _ (was (root .ensures) (c .before .number .given .1)))
     -- same-length-3
     (λ c. search needs)
     -- returns-5
-    (λ c. entry-shown (c .before .before .before .before .before .before .before .before .before .before .before .before .before .before .before .before .before .before .before .before .before .args .schema .now) (c .before .before .before .before .before .before .before .before .before .before .before .before .before .before .before .before .before .before .before .before .before .args .ty) (c .before .before .before .before .before .before .before .before .before .before .before .before .before .before .before .before .before .before .before .before .before .args .payload .now) (c .before .before .before .before .before .before .before .before .before .before .before .before .before .before .before .before .before .before .before .before .before .args .sheet .now) (c .before .before .before .before .before .before .before .before .before .before .before .before .before .before .before .before .before .type-row .result) (c .before .before .before .before .before .before .before .before .before .before .before .before .before .before .before .before .before .type-row .ensures) (c .before .before .before .before .before .before .before .before .before .before .before .before .before .before .before .if1 .left) (c .before .before .before .before .before .before .before .before .before .before .before .before .before .before .if2 .left) _ (c .before .before .before .before .before .before .before .before .before .before .root .kept .1 .1 .0) _ _ (was (c .before .before .before .before .before .before .before .before .before .before .root .ensures) (c .before .before .before .before .before .before .next .given .1)) _ _ (c .before .before .before .before .if3 .left) (c .before .before .root2 .ensures)))
+    (λ c.
+    let args = c .before .before .before .before .before .before .before .before .before .before .before .before .before .before .before .before .before .before .before .before .before .args in
+    let type-row = c .before .before .before .before .before .before .before .before .before .before .before .before .before .before .before .before .before .type-row in
+    let root = c .before .before .before .before .before .before .before .before .before .before .root in
+    entry-shown (args .schema .now) (args .ty) (args .payload .now) (args .sheet .now) (type-row .result) (type-row .ensures) (c .before .before .before .before .before .before .before .before .before .before .before .before .before .before .before .if1 .left) (c .before .before .before .before .before .before .before .before .before .before .before .before .before .before .if2 .left) _ (root .kept .1 .1 .0) _ _ (was (root .ensures) (c .before .before .before .before .before .before .next .given .1)) _ _ (c .before .before .before .before .if3 .left) (c .before .before .root2 .ensures)))

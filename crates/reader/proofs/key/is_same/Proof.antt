@@ -6,7 +6,7 @@ use Prim.Native.Nat.{_≤_, _-_}
 use native.Mathlib.Omega.{arith}
 use Rattle.value.specs.Read.{same}
 use Rattle.reader.specs.Leaf.{part}
-use Rattle.reader.proofs.Keys.{same-short, same-other, same-more, same-all}
+use Rattle.reader.proofs.Keys.{same-short, same-last, same-other, same-more, same-all}
 use Rattle.reader.proofs.key.is_same.Statement.{statement}
 use Rattle.reader.proofs.key.is_same.Tie as tie
 
@@ -29,14 +29,30 @@ is-same-spec =
     (λ c. search needs)
     -- returns
     (λ c. same-short _ _ _ _ _ (c .before .pre .1) (c .before .pre .3) (c .if1 .taken))
-    -- loop-holds
-    (λ c. (refl, c .if1 .left, c .before .pre .0, c .before .pre .2))
-    -- shared-slice-read-if2
+    -- shared-slice-read-if3
     (λ c. search needs)
-    -- shared-slice-read-if2-2
+    -- shared-slice-read-if3-2
     (λ c. search needs)
     -- returns-2
-    (λ c. same-other _ _ _ _ _ (c .before .before .before .before .before .before .pre .1) (c .before .before .before .before .before .before .pre .3) _ _ (c .before .before .before .before .loop .inv .0) (c .before .before .before .before .loop .inv .1) (c .before .before .before .loop-test .taken) (c .if2 .taken))
+    (λ c. same-other _ _ _ _ _ (c .before .before .before .before .before .pre .1) (c .before .before .before .before .before .pre .3) _ _ refl (c .before .before .before .before .if1 .left) (c .before .before .before .if2 .taken) (c .if3 .taken))
+    -- sub-if4
+    (λ c. search needs)
+    -- shared-slice-read-if4
+    (λ c. search needs)
+    -- sub-if4-2
+    (λ c. search needs)
+    -- shared-slice-read-if4-2
+    (λ c. search needs)
+    -- returns-3
+    (λ c. same-last _ _ _ _ _ (c .before .before .before .before .before .before .before .before .pre .1) (c .before .before .before .before .before .before .before .before .pre .3) (c .before .before .before .before .before .before .if2 .taken) (c .before .before .before .before .before .before .before .if1 .left) (c .if4 .taken))
+    -- loop-holds
+    (λ c. (refl, c .before .if1 .left, c .before .before .pre .0, c .before .before .pre .2))
+    -- shared-slice-read-if5
+    (λ c. search needs)
+    -- shared-slice-read-if5-2
+    (λ c. search needs)
+    -- returns-4
+    (λ c. same-other _ _ _ _ _ (c .before .before .before .before .before .before .before .pre .1) (c .before .before .before .before .before .before .before .pre .3) _ _ (c .before .before .before .before .loop .inv .0) (c .before .before .before .before .loop .inv .1) (c .before .before .before .loop-test .taken) (c .if5 .taken))
     -- add-x
     (λ c. search needs)
     -- add-y
@@ -44,6 +60,6 @@ is-same-spec =
     -- loop-less
     (λ c. search needs)
     -- loop-again
-    (λ c. (same-more _ _ _ _ _ (c .before .before .before .before .before .before .pre .1) (c .before .before .before .before .before .before .pre .3) _ _ (c .before .before .before .before .loop .inv .0) (c .before .before .before .before .loop .inv .1) (c .before .before .before .loop-test .taken) (c .if2 .left), omega arith, omega arith, omega arith))
-    -- returns-3
-    (λ c. same-all _ _ _ _ _ (c .before .before .before .pre .1) (c .before .before .before .pre .3) _ _ (c .before .loop .inv .0) (c .before .loop .inv .1) (c .loop-test .left)))
+    (λ c. (same-more _ _ _ _ _ (c .before .before .before .before .before .before .before .pre .1) (c .before .before .before .before .before .before .before .pre .3) _ _ (c .before .before .before .before .loop .inv .0) (c .before .before .before .before .loop .inv .1) (c .before .before .before .loop-test .taken) (c .if5 .left), omega arith, omega arith, omega arith))
+    -- returns-5
+    (λ c. same-all _ _ _ _ _ (c .before .before .before .before .pre .1) (c .before .before .before .before .pre .3) _ _ (c .before .loop .inv .0) (c .before .loop .inv .1) (c .loop-test .left)))
