@@ -5,6 +5,8 @@ use Rattle.schema.specs.declared.Checked.{Checked}
 use Rattle.schema.specs.declared.Checked.the-variants.{Good, Refused}
 use Rattle.schema.specs.declared.Extended.{Extended}
 use Rattle.schema.specs.declared.Extended.the-variants.{Yes, No, Refused as Faulty}
+use Rattle.writer.specs.declared.Writing.{Writing}
+use Rattle.writer.specs.declared.Writing.the-variants.{Written, Refused as Unwritten}
 
 -- ---- the table check
 
@@ -32,3 +34,17 @@ abbrev pub extendAnswer : Extended → ℕ
 extendAnswer Yes = 1
 extendAnswer No = 0
 extendAnswer (Faulty number place) = 0
+
+-- ---- the value writer; those of the payload reader, the scalar and the frames stand in their crates' specs
+
+abbrev pub writeNumber : Writing → ℕ
+writeNumber (Written length) = 0
+writeNumber (Unwritten number place) = number
+
+abbrev pub writePlace : Writing → ℕ
+writePlace (Written length) = 0
+writePlace (Unwritten number place) = place
+
+abbrev pub writeLength : Writing → ℕ
+writeLength (Written length) = length
+writeLength (Unwritten number place) = 0

@@ -8,6 +8,7 @@ use scalar::Answer;
 use schema::Checked;
 use schema::Extended;
 use value::Row;
+use writer::Writing;
 ghost use mathlib.Core.Path.{_≡_};
 ghost use lib.ListN.{length};
 ghost use Rattle.frame.specs.Frame.{frameOf};
@@ -16,6 +17,7 @@ ghost use Rattle.reader.specs.Entry.{Outcome, readOutcome};
 ghost use Rattle.scalar.specs.Scalar.{scalarBy};
 ghost use Rattle.schema.specs.Check.{checked};
 ghost use Rattle.schema.specs.Extend.{extension};
+ghost use Rattle.writer.specs.Entry as writer;
 
 // The verdict on a schema table: good, or the first fault's number and place.
 pub fn check_table(schema: &[u8]) -> Checked
@@ -44,6 +46,14 @@ pub fn scalar(schema: &[u8], row: Row, bytes: &[u8]) -> Answer
     ensures { λ r. ⌜ r ≡ scalarBy (now (schema .entry)) row (now (bytes .entry)) ⌝ }
 {
     scalar::entry::scalar(schema, row, bytes)
+}
+
+// Writes the sheet's rows over the source as a struct of type ty: the length written, or the refusal's number and place, which leaves the output as it
+// was.
+pub fn write(schema: &[u8], ty: u32, sheet: &[u32], source: &[u8], out: &mut [u8]) -> Writing
+    ensures { λ r. ⌜ writer.outcome r (now (out .exit)) ≡ writer.fileOutcome (now (schema .entry)) ty (now (sheet .entry)) (now (source .entry)) (now (out .entry)) ⌝ }
+{
+    writer::write(schema, ty, sheet, source, out)
 }
 
 // Reads the frame at the front of the bytes: its header with the payload's place and length, more bytes needed, or a refusal's number.

@@ -70,3 +70,20 @@ pub fn room(buf: &[u8], whole: &mut bool) -> usize
     }
     n
 }
+
+// A number of cells and the cells, which it puts at the start of the sheet.
+pub fn sheet(sheet: &mut [u32], whole: &mut bool) -> usize
+    ensures { λ r. ⌜ Counts r (now (sheet .exit)) ⌝ }
+{
+    let n = cells(sheet, whole);
+    fill(&mut sheet[..n], whole);
+    n
+}
+
+fn fill(sheet: &mut [u32], whole: &mut bool) {
+    let mut i = 0;
+    while i < sheet.len() {
+        sheet[i] = word(whole);
+        i += 1;
+    }
+}

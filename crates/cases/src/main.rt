@@ -18,6 +18,7 @@ fn run_case() -> bool {
         2 => tables::extends(),
         3 => values::read(),
         4 => values::scalar(),
+        5 => values::write(),
         6 => frames::read(),
         7 => frames::write(),
         _ => false,

@@ -1,4 +1,6 @@
-// Cases of the payload reader and of the scalar entry.
+// Cases of the payload reader, of the scalar entry and of the payload writer.
+use crate::frames::BYTE;
+use crate::frames::ROOM;
 use crate::input;
 use crate::output;
 use crate::sums;
@@ -130,4 +132,44 @@ fn bits64(x: f64) -> u64 {
 
 fn wide(x: u32) -> u64 {
     x as u64
+}
+
+// Code 5: a table, a type, a sheet, its bytes and the output's length. The line has number, place, the payload's length and the output's sum.
+pub fn write() -> bool {
+    let mut schema = [0u8; MOST];
+    let mut sheet = [CELL; MOST];
+    let mut data = [0u8; MOST];
+    let mut out = [BYTE; ROOM];
+    let mut whole = true;
+    let n = input::bytes(&mut schema, &mut whole);
+    let ty = input::word(&mut whole);
+    let cells = input::sheet(&mut sheet, &mut whole);
+    let m = input::bytes(&mut data, &mut whole);
+    let room = input::room(&out, &mut whole);
+    if whole {
+        show_written(
+            &schema[..n],
+            ty,
+            &sheet[..cells],
+            &data[..m],
+            &mut out[..room],
+        );
+    }
+    whole
+}
+
+fn show_written(schema: &[u8], ty: u32, sheet: &[u32], data: &[u8], out: &mut [u8]) {
+    match arf::write(schema, ty, sheet, data, out) {
+        writer::Writing::Written { length } => {
+            output::number(0);
+            output::number(0);
+            output::number(length as u64);
+        }
+        writer::Writing::Refused { number, place } => {
+            output::number(number as u64);
+            output::number(place as u64);
+            output::number(0);
+        }
+    }
+    output::last(sums::of_bytes(out));
 }

@@ -8,9 +8,11 @@
 //! ```
 //!
 //! SCHEMA and RECORD are files. CODES is a list such as `1,2` and selects the
-//! entries the cases are about; without it all nine come up. The same SEED, N
-//! and CODES always give the same case file. `count` prints a line for each
-//! entry and answer: the code, the answer's number, and how often it is given.
+//! entries the cases are about; without it all nine come up. The word `across`
+//! in its place asks for payloads of one table that are read by another, where
+//! one of the two extends the other. The same SEED, N and CODES always give the
+//! same case file. `count` prints a line for each entry and answer: the code,
+//! the answer's number, and how often it is given.
 
 #![forbid(unsafe_code)]
 
@@ -70,6 +72,9 @@ fn read_file(path: &str) -> Result<Vec<u8>, String> {
 fn generator(seed: &str, number: &str, codes: &str) -> Result<(Generator, usize), String> {
     let seed = seed.parse().map_err(|_| format!("bad seed {seed}"))?;
     let number = number.parse().map_err(|_| format!("bad number {number}"))?;
+    if codes == "across" {
+        return Ok((Generator::across(seed), number));
+    }
     let known = |code: &str| code.parse().ok().filter(|code| (1..=9).contains(code));
     let codes: Option<Vec<u8>> = match codes {
         "" => Some(Vec::new()),

@@ -21,7 +21,7 @@ mod wheels;
 
 use crate::cases::Case;
 use rng::Rng;
-use wheels::CODES;
+use wheels::{ACROSS, CODES};
 
 /// Makes one case.
 type Maker = fn(&mut Rng) -> Case;
@@ -73,6 +73,16 @@ impl Generator {
                 .filter(|(code, ..)| wanted(code))
                 .copied()
                 .collect(),
+            turns: [0; 256],
+        }
+    }
+
+    /// A generator for the reader's cases in which table and payload are of
+    /// two tables, one of which extends the other.
+    pub fn across(seed: u64) -> Self {
+        Generator {
+            rng: Rng::new(seed),
+            codes: vec![(3, 1, ACROSS)],
             turns: [0; 256],
         }
     }

@@ -99,6 +99,13 @@ const READ: Wheel = &[
     any(1, reading::read_large_map),
 ];
 
+/// Payloads of one table read by another that extends it, or that it extends.
+pub const ACROSS: Wheel = &[
+    any(6, |rng| reading::read_across(rng, true)),
+    aim(1, 26, |rng| reading::read_across(rng, true)),
+    any(2, |rng| reading::read_across(rng, false)),
+];
+
 const SCALAR: Wheel = &[
     aim(60, 0, scalars::scalar_good),
     aim(40, 50, scalars::scalar_misfit),

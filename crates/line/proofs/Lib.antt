@@ -1,0 +1,10 @@
+pub mod Returns
+pub mod Ways
+pub mod Payloads
+pub mod Kept
+pub mod Apart
+pub mod Records
+pub mod Answers
+pub mod Numbers
+pub mod Listed
+pub mod Runs

@@ -1,0 +1,139 @@
+-- Every answer has one of 01's numbers for a frame, with its place. The payload of a frame is read as a struct type of the good table, and it is not too
+-- long, so that neither 46 nor 7 comes from it. Assumes nothing.
+use mathlib.Core.Path.{_≡_, sym, subst}
+use mathlib.Core.Bool.{Bool, true, false, cond}
+use mathlib.Core.List.{List}
+use mathlib.Core.Logic.{⊎-elim}
+use Prim.Native.Nat.{ℕ, _+_, _≤_}
+use native.Mathlib.Omega.{arith}
+use lib.Dec.{eqb, leb, ltb, lit≤}
+use lib.ListN.{length, take, drop, length-take}
+use borrow.Author.Tests.{le-leb, ltb-true, ltb-false}
+use Rattle.wire.proofs.Cases.{cond-case}
+use Rattle.schema.specs.declared.Found.{Found}
+use Rattle.schema.specs.declared.Found.the-variants.{At, Missing}
+use Rattle.schema.specs.Table.{Table, rowAt, fieldsOf}
+use Rattle.schema.specs.File.{tableOf}
+use Rattle.schema.specs.Check.{methodRow, named, findMethod, IsGood}
+use Rattle.schema.proofs.Bools.{cases}
+use Rattle.schema.proofs.Goods.{good-table}
+use Rattle.schema.proofs.Shapes.{shape-struct}
+use Rattle.frame.proofs.Answers.{read-bounds}
+use Rattle.calls.specs.declared.Call.{Call}
+use Rattle.calls.specs.declared.Frame.{Frame}
+use Rattle.calls.specs.declared.Payload.{Payload}
+use Rattle.calls.specs.declared.Judged.{Judged}
+use Rattle.calls.specs.declared.Judged.the-variants.{Stop, Opens, Goes}
+use Rattle.calls.specs.Forms.{rowOf}
+use Rattle.calls.specs.Record.{allowed, afterFrame}
+use Rattle.calls.specs.Slots.{goodTable}
+use Rattle.calls.specs.Judge.{rightSide, payloadOf, judgeOf}
+use Rattle.calls.specs.Step.{stepOf, dueOf}
+use Rattle.calls.specs.Apart.{Own, none, one, ownOf, full, Verdict, stop, opens, goes, verdict, invokeVerdict, otherVerdict, verdictOf}
+use Rattle.calls.proofs.Goodness.{good-clauses}
+use Rattle.calls.proofs.Apart.{judged-by}
+use Rattle.calls.proofs.Payloads.{Sound, struct, empty, unread, due-sound}
+use Rattle.value.specs.Answer.{Answer, refused, seen, cursorAt}
+use Rattle.value.specs.Value.{Tree, rows}
+use Rattle.value.specs.Read as value
+use Rattle.reader.specs.declared.Reading.{Reading}
+use Rattle.reader.specs.declared.Reading.the-variants.{Shown, Refused}
+use Rattle.reader.specs.Entry.{Outcome, outcome, outcomeOf, room, payloadOutcome, numbers}
+use Rattle.line.specs.Answer.{Line, stopped, payloadRead, readingIn, numberIn, answered}
+use Rattle.line.specs.Receive.{frameFrom, frameLine, received}
+use Rattle.line.specs.Claims.{Listed, accepted, frame, call, value as fault, payload, shape as formed, row}
+use Rattle.line.proofs.Numbers.{Numbered, refuses, goes-on, root-numbered}
+use Rattle.line.proofs.Ways.{Early, schema, calls, frame as early, Way, stops, judges, ways}
+
+-- ---- the payload
+
+-- the number and place of a payload's reading
+abbrev Told : Outcome → Type 0
+Told o = Listed (numberIn o) (numbers (readingIn o) .place)
+
+told-of : (space : ℕ) (a : Answer Tree) → Numbered a → (sheet : List ℕ) → Told (outcomeOf sheet (value.reading space a))
+told-of space (refused k p) (refuses low high) sheet = fault p low high
+told-of space (seen tree c) goes-on sheet =
+    cond-case (λ (r : value.Reading). Told (outcomeOf sheet r)) (leb (length (rows tree)) space) _ (value.refusal 30 0) (λ _. accepted) (λ _. payload (lit≤ tt) (lit≤ tt))
+
+payload-told : (s p sheet : List ℕ) → IsGood s → length p ≤ 16384 → {d : Payload} → Sound (tableOf s) d → Told (payloadRead s d p sheet)
+unfolding payloadRead payloadOutcome value.read
+payload-told s p sheet g small (struct t h k) =
+    let T = tableOf s in
+    let e = shape-struct T t k in
+    rw (e, le-leb (length p) 16384 small)
+    (told-of (room sheet) _ (root-numbered T (good-table s g) t (fieldsOf T (rowAt T t)) e (cursorAt p 0)) sheet)
+payload-told s p sheet g small empty =
+    cond-case (λ (r : Reading). Told (outcome r sheet)) (eqb (length p) 0) (Shown 0 0 0) (Refused 29 0) (λ _. accepted) (λ _. payload (lit≤ tt) (lit≤ tt))
+payload-told s p sheet g small unread = accepted
+
+-- ---- the side and the call
+
+Stops : Verdict → Type 0
+Stops (stop n) = (8 ≤ n) × (n ≤ 14)
+Stops (opens c d) = Unit {0}
+Stops (goes c d) = Unit {0}
+
+module _ (T : Table) (f : Frame) where
+  invoke-stops : (m : Found) (own : Own) (b : Bool) → Stops (invokeVerdict T (f .correlation) m own b)
+  unfolding Stops
+  invoke-stops Missing own b = (lit≤ tt, lit≤ tt)
+  invoke-stops (At m) (one c) b = (lit≤ tt, lit≤ tt)
+  invoke-stops (At m) none true = (lit≤ tt, lit≤ tt)
+  invoke-stops (At m) none false = tt
+
+  other-stops : (own : Own) → Stops (otherVerdict T f own)
+  unfolding Stops
+  other-stops none = (lit≤ tt, lit≤ tt)
+  other-stops (one c) =
+      let m = methodRow T (c .method) in
+      let next = goes (afterFrame (rowOf (m .form)) (f .kind) c) (payloadOf m (f .kind)) in
+      cond-case Stops (named (f .«package») (f .service) (f .method) m) (cond (allowed (rowOf (m .form)) (f .kind) c) next (stop 14)) (stop 12)
+      (λ _. cond-case Stops (allowed (rowOf (m .form)) (f .kind) c) next (stop 14) (λ _. tt) (λ _. (lit≤ tt, lit≤ tt)))
+      (λ _. (lit≤ tt, lit≤ tt))
+
+  verdict-stops : (own : Own) (b : Bool) → Stops (verdictOf T f own b)
+  unfolding verdictOf Stops
+  verdict-stops own b =
+      let invoke = invokeVerdict T (f .correlation) (findMethod T (f .«package») (f .service) (f .method)) own b in
+      cond-case Stops (rightSide (f .side) (f .kind)) (cond (eqb (f .kind) 1) invoke (otherVerdict T f own)) (stop 8)
+      (λ _. cond-case Stops (eqb (f .kind) 1) invoke (otherVerdict T f own) (λ _. invoke-stops (findMethod T (f .«package») (f .service) (f .method)) own b) (λ _. other-stops own))
+      (λ _. (lit≤ tt, lit≤ tt))
+
+-- ---- the whole answer
+
+answered-listed : (s p sheet : List ℕ) (size : ℕ) (l : List Call) (J : Judged) → Stops (verdict J) → Told (payloadRead s (dueOf J) p sheet)
+    → let a = answered size l J (payloadRead s (dueOf J) p sheet) in Listed (a .answer .number) (a .answer .place)
+unfolding answered stepOf Stops payloadRead
+answered-listed s p sheet size l (Stop n) w t = call (w .0) (omega arith)
+answered-listed s p sheet size l (Opens j c d) w t = t
+answered-listed s p sheet size l (Goes i c d) w t = t
+
+frame-listed : (s : List ℕ) (f : Frame) (p : List ℕ) (size : ℕ) (sheet : List ℕ) (l : List Call) → IsGood s → goodTable (tableOf s) l ≡ true → length p ≤ 16384
+    → let a = frameLine s f p size sheet l in Listed (a .answer .number) (a .answer .place)
+unfolding frameLine
+frame-listed s f p size sheet l g t small =
+    let J = judgeOf (tableOf s) f l in
+    answered-listed s p sheet size l J
+    (subst Stops (sym (judged-by (tableOf s) f l)) (verdict-stops (tableOf s) f (ownOf (f .correlation) l) (full l)))
+    (payload-told s p sheet g small (due-sound s g f l (good-clauses (tableOf s) l t)))
+
+stop-listed : (l : List Call) {n q : ℕ} → Early n q → Listed (stopped l n q .number) (stopped l n q .place)
+unfolding stopped
+stop-listed l calls = call (lit≤ tt) (lit≤ tt)
+stop-listed l (early low high) = frame low high
+stop-listed l (schema {n} {q} low high e) =
+    ⊎-elim
+    (λ h. let k = ltb-true n 42 h in subst (Listed n) (sym (e k)) (formed low (omega arith)))
+    (λ h. row q (ltb-false n 42 h) high)
+    (cases (ltb n 42))
+
+pub listed : (s : List ℕ) (side : ℕ) (bytes sheet : List ℕ) (l : List Call)
+    → let a = received s side bytes sheet l in Listed (a .answer .number) (a .answer .place)
+listed s side bytes sheet l = go (ways s side bytes sheet l)
+  where
+    go : {x : Line} → Way s side bytes sheet l x → Listed (x .answer .number) (x .answer .place)
+    go (stops w) = stop-listed l w
+    go (judges h place n g t e) =
+        let small : length (take n (drop place bytes)) ≤ 16384 = simp length-take (omega (arith, read-bounds bytes e .small)) in
+        frame-listed s (frameFrom side h) (take n (drop place bytes)) (place + n) sheet l g t small

@@ -1,0 +1,89 @@
+-- The payload's reading: what a sheet shows afterwards, what a refusal leaves, and that it depends on the sheet's room alone.
+-- Assumes nothing.
+use mathlib.Core.Path.{_≡_, refl}
+use mathlib.Core.List.{List, []}
+use mathlib.Core.Bool.{Bool, true, false, cond}
+use Prim.Native.Nat.{ℕ}
+use lib.Dec.{eqb}
+use lib.ListN.{length}
+use Rattle.schema.specs.File.{tableOf}
+use Rattle.calls.specs.declared.Payload.{Payload}
+use Rattle.calls.specs.declared.Payload.the-variants.{Struct, Empty, Unread}
+use Rattle.value.specs.declared.Row.{Row}
+use Rattle.value.specs.Read as value
+use Rattle.reader.specs.declared.Reading.{Reading}
+use Rattle.reader.specs.declared.Reading.the-variants.{Shown, Refused}
+use Rattle.value.specs.Sheet.{cellsOf}
+use Rattle.reader.specs.Sheet.{shownIn}
+use Rattle.reader.specs.Entry.{Outcome, outcome, outcomeOf, room, payloadOutcome, numbers}
+use Rattle.line.specs.Answer.{emptyRead, payloadRead, readingIn, sheetIn, numberIn}
+
+-- no rows leave a sheet as it is
+pub none-shown : (sheet : List ℕ) → sheet ≡ shownIn sheet []
+unfolding cellsOf
+none-shown sheet = refl
+
+-- a reading without rows and tail
+pub record Bare (r : Reading) : Type 0 where
+  pub rows : numbers r .rows ≡ 0
+  pub tailPlace : numbers r .tailPlace ≡ 0
+  pub tailLength : numbers r .tailLength ≡ 0
+
+refused-bare : (n q : ℕ) → Bare (Refused n q)
+refused-bare n q = record { rows = refl; tailPlace = refl; tailLength = refl }
+
+pub nothing-bare : Bare (Shown 0 0 0)
+nothing-bare = record { rows = refl; tailPlace = refl; tailLength = refl }
+
+-- ---- two sheets with as much room
+
+-- the same reading, and both sheets show the same rows
+pub record Both (sheet₁ sheet₂ : List ℕ) (o₁ o₂ : Outcome) : Type 0 where
+  pub reading : readingIn o₁ ≡ readingIn o₂
+  pub rows : List Row
+  pub count : numbers (readingIn o₁) .rows ≡ length rows
+  pub first : sheetIn o₁ ≡ shownIn sheet₁ rows
+  pub second : sheetIn o₂ ≡ shownIn sheet₂ rows
+
+module _ (sheet₁ sheet₂ : List ℕ) where
+  both-of : (r : value.Reading) → Both sheet₁ sheet₂ (outcomeOf sheet₁ r) (outcomeOf sheet₂ r)
+  both-of (value.refusal n q) = record { reading = refl; rows = []; count = refl; first = none-shown sheet₁; second = none-shown sheet₂ }
+  both-of (value.accepted rs place n) = record { reading = refl; rows = rs; count = refl; first = refl; second = refl }
+
+  both-bare : (r : Reading) → Bare r → Both sheet₁ sheet₂ (outcome r sheet₁) (outcome r sheet₂)
+  both-bare r b = record { reading = refl; rows = []; count = b .rows; first = none-shown sheet₁; second = none-shown sheet₂ }
+
+empty-bare : (payload : List ℕ) → Bare (emptyRead payload)
+empty-bare payload = go (eqb (length payload) 0)
+  where
+    go : (b : Bool) → Bare (cond b (Shown 0 0 0) (Refused 29 0))
+    go true = nothing-bare
+    go false = refused-bare 29 0
+
+pub both-read : (s payload sheet₁ sheet₂ : List ℕ) → room sheet₁ ≡ room sheet₂ → (d : Payload)
+    → Both sheet₁ sheet₂ (payloadRead s d payload sheet₁) (payloadRead s d payload sheet₂)
+unfolding payloadRead payloadOutcome
+both-read s payload sheet₁ sheet₂ e (Struct t) = rw e (both-of sheet₁ sheet₂ (value.read (tableOf s) t payload (room sheet₂)))
+both-read s payload sheet₁ sheet₂ e Empty = both-bare sheet₁ sheet₂ (emptyRead payload) (empty-bare payload)
+both-read s payload sheet₁ sheet₂ e Unread = both-bare sheet₁ sheet₂ (Shown 0 0 0) nothing-bare
+
+-- ---- a refusal
+
+-- a refused payload has no rows and no tail, and leaves the sheet as it was
+pub record Untouched (sheet : List ℕ) (o : Outcome) : Type 0 where
+  pub bare : Bare (readingIn o)
+  pub same : sheetIn o ≡ sheet
+
+refused-of : (sheet : List ℕ) (r : value.Reading) → (numberIn (outcomeOf sheet r) ≡ 0 → ⊥) → Untouched sheet (outcomeOf sheet r)
+refused-of sheet (value.refusal n q) h = record { bare = refused-bare n q; same = refl }
+refused-of sheet (value.accepted rs place n) h = absurd (h refl)
+
+pub refused-read : (s payload sheet : List ℕ) (d : Payload) → (numberIn (payloadRead s d payload sheet) ≡ 0 → ⊥) → Untouched sheet (payloadRead s d payload sheet)
+unfolding payloadRead payloadOutcome
+refused-read s payload sheet (Struct t) h = refused-of sheet (value.read (tableOf s) t payload (room sheet)) h
+refused-read s payload sheet Empty h = record { bare = empty-bare payload; same = refl }
+refused-read s payload sheet Unread h = record { bare = nothing-bare; same = refl }
+
+pub unread : (s payload sheet : List ℕ) → Untouched sheet (payloadRead s Unread payload sheet)
+unfolding payloadRead
+unread s payload sheet = record { bare = nothing-bare; same = refl }

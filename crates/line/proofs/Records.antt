@@ -1,0 +1,162 @@
+-- The records of the calls after a frame: its own, the others, what frees a slot, and what changes no call.
+-- Assumes nothing.
+use mathlib.Core.Path.{_≡_, refl, sym, ap, subst, _∙_}
+use mathlib.Core.Logic.{_⊎_, inl, inr, ⊎-elim}
+use mathlib.Core.Bool.{true, false}
+use mathlib.Core.List.{List}
+use Prim.Native.Nat.{ℕ, _≤_, _<_}
+use native.Mathlib.Omega.{arith}
+use lib.Dec.{eqb, leb}
+use borrow.Author.Tests.{eqb-true, eqb-false, ne-eqb, leb-true}
+use Rattle.schema.specs.declared.Found.the-variants.{At, Missing}
+use Rattle.schema.specs.Table.{Table}
+use Rattle.schema.specs.File.{tableOf}
+use Rattle.schema.proofs.Bools.{cases, clash, and-left, and-right}
+use Rattle.calls.specs.declared.Call.{Call}
+use Rattle.calls.specs.declared.Frame.{Frame}
+use Rattle.calls.specs.declared.Payload.{Payload}
+use Rattle.calls.specs.declared.Judged.{Judged}
+use Rattle.calls.specs.declared.Judged.the-variants.{Stop, Opens, Goes}
+use Rattle.calls.specs.Record.{isCall}
+use Rattle.calls.specs.Slots.{slot}
+use Rattle.calls.specs.Judge.{judgeOf}
+use Rattle.calls.specs.Step.{numberOf, endsCall, slotsAfter, stepOf, dueOf, receive}
+use Rattle.calls.specs.Apart.{Own, none, ownOf, full, Verdict, stop, opens, goes, verdictOf, verdictDue, verdictNumber, verdictOwn, touched, Freed}
+use Rattle.calls.proofs.Bools.{is-false}
+use Rattle.calls.proofs.Goodness.{good-clauses}
+use Rattle.calls.proofs.Searches.{found-passes}
+use Rattle.calls.proofs.Judgement.{judged-goes}
+use Rattle.calls.proofs.Kept.{call-open}
+use Rattle.calls.proofs.Apart as calls
+use Rattle.line.specs.Receive.{frameFrom, received}
+use Rattle.line.specs.Claims.{Front}
+use Rattle.line.proofs.Ways.{Early, schema, calls, frame}
+use Rattle.line.proofs.Kept.{holds}
+
+-- the payload's number matters only where the payload is read
+own-by : (v : Verdict) (p : ℕ) (own : Own) → verdictOwn v p own ≡ verdictOwn v (verdictNumber v p) own
+own-by (stop n) p own = refl
+own-by (opens c d) p own = refl
+own-by (goes c d) p own = refl
+
+-- an answer that stops has no number that changes a call
+early-small : {n q : ℕ} → Early n q → 20 ≤ n → n ≤ 29 → ⊥
+early-small (schema a b e) low high = omega arith
+early-small calls low high = omega arith
+early-small (frame a b) low high = omega arith
+
+early-zero : {n q : ℕ} → Early n q → n ≡ 0 → ⊥
+early-zero (schema a b e) z = omega arith
+early-zero calls z = omega arith
+early-zero (frame a b) z = omega arith
+
+own-kept : (v : Verdict) (own : Own) {n q : ℕ} → Early n q → verdictOwn v n own ≡ own
+own-kept (stop m) own e = refl
+own-kept (opens c d) own {n} e = rw (ne-eqb n 0 (early-zero e))
+own-kept (goes c d) own {n} e = rw (
+  ne-eqb n 0 (early-zero e),
+  is-false (endsCall n) (λ t.
+      early-small e (leb-true 20 n (and-left (leb 20 n) (leb n 29) t)) (leb-true n 29 (and-right (leb 20 n) (leb n 29) t))),
+)
+
+-- a slot is freed only by a frame whose payload is read
+module _ (T : Table) (f : Frame) (l : List Call) (i : ℕ) (o : slot l i .«open» ≡ true) where
+  freed-by : (p : ℕ) (J : Judged) → slot (slotsAfter J p l) i .«open» ≡ false → Freed T f p (slot l i) → Freed T f (numberOf J p) (slot l i)
+  freed-by p (Stop n) q w = clash (slot l i .«open») o q
+  freed-by p (Opens j c d) q w = w
+  freed-by p (Goes j c d) q w = w
+
+  freed-number : (reading : Payload → ℕ) → slot (receive T f reading l .table .slots) i .«open» ≡ false → Freed T f (receive T f reading l .number) (slot l i)
+  unfolding receive stepOf
+  freed-number reading q = freed-by (reading (dueOf (judgeOf T f l))) (judgeOf T f l) q (calls.freed T f l reading i o q)
+
+-- a slot that a step opens is the lowest free one
+opened-by : (T : Table) (f : Frame) (l : List Call) (reading : Payload → ℕ) (i : ℕ) → slot l i .«open» ≡ false
+    → slot (receive T f reading l .table .slots) i .«open» ≡ true → (k : ℕ) → k < i → slot l k .«open» ≡ true
+opened-by T f l reading i z o = go (judgeOf T f l) refl
+  where
+    kept : {A : Type 0} → (touched (judgeOf T f l) ≡ At i → ⊥) → A
+    kept h = clash (slot l i .«open») (subst (λ (c : Call). c .«open» ≡ true) (calls.other-slots T f l reading i h) o) z
+
+    other : (j : ℕ) → touched (judgeOf T f l) ≡ At j → eqb i j ≡ false → touched (judgeOf T f l) ≡ At i → ⊥
+    other j e q t = let same : i ≡ j = cc in eqb-false i j q same
+
+    go : (J : Judged) → judgeOf T f l ≡ J → (k : ℕ) → k < i → slot l k .«open» ≡ true
+    go (Stop n) e k h = kept (λ t. let bad : Missing ≡ At i = sym (ap touched e) ∙ t in let one : _≡_ {A = ℕ} 0 1 = cc bad in omega arith)
+    go (Opens j c d) e k h =
+        ⊎-elim
+        (λ q. let same = eqb-true i j q in calls.lowest-free T f l j c d e .1 k (omega arith))
+        (λ q. kept (other j (ap touched e) q))
+        (cases (eqb i j))
+    go (Goes j c d) e k h =
+        ⊎-elim
+        (λ q. clash (slot l i .«open») (rw (eqb-true i j q) (call-open (f .correlation) (slot l j) (found-passes (isCall (f .correlation)) l j (judged-goes T f l j c d e .isOwn)))) z)
+        (λ q. kept (other j (ap touched e) q))
+        (cases (eqb i j))
+
+-- the frame at the front of the bytes is one
+front-once : {side : ℕ} {bytes : List ℕ} {f f′ : Frame} → Front side bytes f → Front side bytes f′ → f ≡ f′
+front-once {side = side} w w′ = let same : w .header ≡ w′ .header = cc (sym (w .whole) ∙ w′ .whole) in w .is ∙ ap (frameFrom side) same ∙ sym (w′ .is)
+
+module _ (s : List ℕ) (side : ℕ) (bytes sheet : List ℕ) (l : List Call) where
+  abbrev T : Table
+  T = tableOf s
+
+  abbrev number : ℕ
+  number = received s side bytes sheet l .answer .number
+
+  abbrev slots : List Call
+  slots = received s side bytes sheet l .answer .table .slots
+
+  -- The record of every other identifier is unchanged.
+  pub others-kept : (k : ℕ) → ((f : Frame) → Front side bytes f → k ≡ f .correlation → ⊥) → ownOf k slots ≡ ownOf k l
+  others-kept k other = holds s side bytes sheet l (λ _ l′. ownOf k l′ ≡ ownOf k l) (λ n q e. refl) (λ f w g t r. calls.others-kept T f l r k (other f w))
+
+  -- No slot is changed but that of the frame's own call, or the one where INVOKE opens a call.
+  pub slots-kept : (j : ℕ) → ((f : Frame) → Front side bytes f → touched (judgeOf T f l) ≡ At j → ⊥) → slot slots j ≡ slot l j
+  slots-kept j other = holds s side bytes sheet l (λ _ l′. slot l′ j ≡ slot l j) (λ n q e. refl) (λ f w g t r. calls.other-slots T f l r j (other f w))
+
+  -- A new call takes the lowest free slot.
+  pub opened-lowest : (i : ℕ) → slot l i .«open» ≡ false → slot slots i .«open» ≡ true → (k : ℕ) → k < i → slot l k .«open» ≡ true
+  opened-lowest i z =
+      holds s side bytes sheet l (λ _ l′. slot l′ i .«open» ≡ true → (k : ℕ) → k < i → slot l k .«open» ≡ true)
+      (λ n q e o. clash (slot l i .«open») o z) (λ f w g t r. opened-by T f l r i z)
+
+  -- Only a payload refusal 20 to 29, an end or a completion frees a slot, and its own.
+  pub freed : (i : ℕ) → slot l i .«open» ≡ true → slot slots i .«open» ≡ false → (f : Frame) × Front side bytes f × Freed T f number (slot l i)
+  freed i o =
+      holds s side bytes sheet l (λ n l′. slot l′ i .«open» ≡ false → (f : Frame) × Front side bytes f × Freed T f n (slot l i))
+      (λ n q e z. clash (slot l i .«open») o z) (λ f w g t r z. (f, w, freed-number T f l i o r z))
+
+  -- A refusal other than 20 to 29 changes no call, 30 among them.
+  pub refused-kept : (number ≡ 0 → ⊥) → (number < 20) ⊎ (29 < number) → slots ≡ l
+  refused-kept =
+      holds s side bytes sheet l (λ n l′. (n ≡ 0 → ⊥) → (n < 20) ⊎ (29 < n) → l′ ≡ l)
+      (λ n q e z r. refl) (λ f w g t reading z r. calls.refused-same T f reading l z (inl r))
+
+  -- ---- the call of a frame
+  module _ (f : Frame) (w : Front side bytes f) where
+    -- An INVOKE that is refused opens no call.
+    pub opens-none : f .kind ≡ 1 → (number ≡ 0 → ⊥) → slots ≡ l
+    opens-none k =
+        holds s side bytes sheet l (λ n l′. (n ≡ 0 → ⊥) → l′ ≡ l)
+        (λ n q e z. refl) (λ f′ w′ g t r z. calls.refused-same T f′ r l z (inr (rw (front-once w′ w) k)))
+
+    -- The own record afterwards, by the judgement without a slot and the answer's number.
+    pub own-after : let own = ownOf (f .correlation) l in ownOf (f .correlation) slots ≡ verdictOwn (verdictOf T f own (full l)) number own
+    own-after =
+        let own = ownOf (f .correlation) l in
+        let v = verdictOf T f own (full l) in
+        holds s side bytes sheet l (λ n l′. ownOf (f .correlation) l′ ≡ verdictOwn v n own)
+        (λ n q e. sym (own-kept v own e))
+        (λ f′ w′ g t r. rw (front-once w′ w) (
+        calls.own-after T f l (good-clauses T l t) r
+        ∙ own-by v (r (verdictDue v)) own
+        ∙ ap (λ (n : ℕ). verdictOwn v n own) (sym (calls.answered T f r l))))
+
+    -- Payload refusals 20 to 29 end the open call.
+    pub refused-ends : (f .kind ≡ 1 → ⊥) → 20 ≤ number → number ≤ 29 → ownOf (f .correlation) slots ≡ none
+    refused-ends other =
+        holds s side bytes sheet l (λ n l′. 20 ≤ n → n ≤ 29 → ownOf (f .correlation) l′ ≡ none)
+        (λ n q e low high. absurd (early-small e low high))
+        (λ f′ w′ g t r. rw (front-once w′ w) (calls.refused-ends T f l (good-clauses T l t) other r))

@@ -1,0 +1,30 @@
+-- `line::answer::answer` meets its contract: the step gives number and table, the reading place, rows and tail.
+-- Assumes nothing.
+use borrow.Author.Needs.{needs}
+use Rattle.line.proofs.answer.answer.Statement.{statement}
+use Rattle.line.proofs.answer.answer.Tie as tie
+
+returns : tie.Need-returns
+returns c =
+    let counted = c .before .before .before in
+    let stepped = counted .before .before .before in
+    rw (counted .open-count .ensures .0, counted .before .used-of .ensures, stepped .step .ensures, stepped .before .number-of .ensures, c .before .reading .given .1)
+
+returns-2 : tie.Need-returns-2
+returns-2 c =
+    let counted = c .before .before .before in
+    let stepped = counted .before .before .before in
+    rw (counted .open-count .ensures .0, counted .before .used-of .ensures, stepped .step .ensures, stepped .before .number-of .ensures, c .before .reading2 .given .1)
+
+pub answer-spec : {M : Type 1} → statement M
+answer-spec =
+    tie.close
+    (tie.spec
+    (λ c κs. search needs)
+    (λ c κs. search needs)
+    (λ c κs. search needs)
+    (λ c κs. search needs)
+    (λ c. search needs)
+    (λ c. search needs)
+    returns
+    returns-2)

@@ -1,0 +1,91 @@
+-- The answer to a frame: its numbers by the step of the call table and the reading of the payload.
+-- Assumes nothing.
+use Prim.Native.Nat.{ℕ}
+use mathlib.Core.Bool.{Bool, cond, _&&_, _||_}
+use mathlib.Core.List.{List}
+use lib.Dec.{eqb, leb}
+use lib.ListN.{length}
+use Rattle.calls.specs.declared.Call.{Call}
+use Rattle.calls.specs.declared.Judged.{Judged}
+use Rattle.calls.specs.declared.Payload.{Payload}
+use Rattle.calls.specs.declared.Payload.the-variants.{Struct, Empty, Unread}
+use Rattle.calls.specs.declared.Stepped.{Stepped}
+use Rattle.calls.specs.Slots.{countOpen}
+use Rattle.calls.specs.Step.{stepOf}
+use Rattle.reader.specs.declared.Reading.{Reading}
+use Rattle.reader.specs.declared.Reading.the-variants.{Shown, Refused}
+use Rattle.reader.specs.Entry.{Outcome, outcome, payloadOutcome, numbers}
+use Rattle.line.specs.declared.Received.{Received}
+
+-- An answer with the sheet (01's term: the cells that show a read value) as it is left.
+pub record Line : Type 0 where
+  pub answer : Received
+  pub sheet : List ℕ
+
+abbrev pub line : Received → List ℕ → Line
+line r sheet = record { answer = r; sheet = sheet }
+
+-- ---- a refusal before the frame is known, and 1
+
+-- It uses no bytes, has no rows and no tail, and changes no call.
+unfoldable pub stopped : List Call → (number place : ℕ) → Received
+stopped l number place =
+    record {
+      number = number;
+      place = place;
+      used = 0;
+      rows = 0;
+      «tail_place» = 0;
+      «tail_length» = 0;
+      «open» = countOpen l;
+      table = record { slots = l };
+    }
+
+-- ---- the payload of a whole frame
+
+-- Nothing belongs there: any byte is 29.
+abbrev pub emptyRead : (payload : List ℕ) → Reading
+emptyRead payload = cond (eqb (length payload) 0) (Shown 0 0 0) (Refused 29 0)
+
+-- By what the payload holds. Without a value there are no rows, and the tail is 0, 0.
+unfoldable pub payloadRead : (schema : List ℕ) → Payload → (payload sheet : List ℕ) → Outcome
+payloadRead schema (Struct t) payload sheet = payloadOutcome schema t payload sheet
+payloadRead schema Empty payload sheet = outcome (emptyRead payload) sheet
+payloadRead schema Unread payload sheet = outcome (Shown 0 0 0) sheet
+
+abbrev pub readingIn : Outcome → Reading
+readingIn (outcome r sheet) = r
+
+abbrev pub sheetIn : Outcome → List ℕ
+sheetIn (outcome r sheet) = sheet
+
+-- The payload's number.
+abbrev pub numberIn : Outcome → ℕ
+numberIn o = numbers (readingIn o) .number
+
+-- ---- the answer to a whole frame
+
+-- Bytes used: the frame's length for 0, 8 to 14 and 20 to 29; otherwise 0.
+abbrev pub usesFrame : ℕ → Bool
+usesFrame number = eqb number 0 || ((leb 8 number && leb number 14) || (leb 20 number && leb number 29))
+
+abbrev pub usedOf : (number size : ℕ) → ℕ
+usedOf number size = cond (usesFrame number) size 0
+
+-- By the step of the call table and the reading of the payload; the calls open are those of the next table.
+abbrev pub answerOf : (size : ℕ) → Stepped → Reading → Received
+answerOf size stepped reading =
+    record {
+      number = stepped .number;
+      place = numbers reading .place;
+      used = usedOf (stepped .number) size;
+      rows = numbers reading .rows;
+      «tail_place» = numbers reading .tailPlace;
+      «tail_length» = numbers reading .tailLength;
+      «open» = countOpen (stepped .table .slots);
+      table = stepped .table;
+    }
+
+-- A judged frame whose payload was read so.
+unfoldable pub answered : (size : ℕ) → List Call → Judged → Outcome → Line
+answered size l J o = line (answerOf size (stepOf J (numberIn o) l) (readingIn o)) (sheetIn o)

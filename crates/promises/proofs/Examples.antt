@@ -1,0 +1,122 @@
+-- The worked pair of schema files: 01's table T, and T with an optional uint8 added to the struct inside the answer's array, or to the answer itself.
+-- Assumes nothing.
+use mathlib.Core.Path.{_≡_, refl, ap, _∙_}
+use mathlib.Core.List.{List, [], _∷_}
+use Prim.Native.Nat.{ℕ, _≤_}
+use lib.Count.{onesIn}
+use lib.ListN.{length}
+use Rattle.wire.specs.Little as little
+use Rattle.wire.specs.Varuint as varuint
+use Rattle.wire.specs.Utf8 as utf8
+use Rattle.schema.specs.declared.Checked.the-variants.{Good}
+use Rattle.schema.specs.declared.Extended.the-variants.{Yes}
+use Rattle.schema.specs.Table as table
+use Rattle.schema.specs.Table.{Table}
+use Rattle.schema.specs.File.{cell, shaped, layoutOf, tabulate, tableOf}
+use Rattle.schema.specs.Check.{lowest, goodRow, goodField, findAmong, goodMethod, small, badRow, badField, badMethod, checkedTable, checked}
+use Rattle.schema.specs.Extend.{every, fieldKept, rowKept, methodKept, extended, extension}
+use Rattle.schema.proofs.Examples.{T, file, longer, T-good, T-rows}
+use Rattle.value.specs.declared.Row.{Row}
+use Rattle.value.specs.Answer as answer
+use Rattle.value.specs.Value as value
+use Rattle.value.specs.Read as read
+use Rattle.value.specs.Read.{Reading, refusal, accepted}
+use Rattle.value.proofs.Reading.{accepts, accepted-of}
+use Rattle.value.proofs.Examples.{innerAdded, rootAdded}
+use Rattle.reader.specs.declared.Reading.the-variants.{Shown, Refused}
+use Rattle.reader.specs.Sheet.{shownIn}
+use Rattle.reader.specs.Entry.{outcome, outcomeOf, room, readOutcome}
+use Rattle.promises.proofs.Entries.{read-by}
+
+abbrev row : ℕ → ℕ → ℕ → ℕ → Row
+row t p l n = record { ty = t; place = p; length = l; count = n }
+
+abbrev P5 : List ℕ
+P5 = 0x01 ∷ 0x02 ∷ 0x05 ∷ 0x00 ∷ 0x05 ∷ 0x01 ∷ 0x07 ∷ []
+
+abbrev P6 : List ℕ
+P6 = 0x05 ∷ 0x01 ∷ 0x01 ∷ 0x07 ∷ 0x09 ∷ []
+
+-- The rows of P5 by the new table; those of P6 by the new one, and by T.
+abbrev pub innerRows : List Row
+innerRows = row 4 0 7 1 ∷ row 3 2 5 2 ∷ row 2 2 3 2 ∷ row 0 3 1 0 ∷ row 0 4 1 0 ∷ row 2 5 2 1 ∷ row 0 6 1 0 ∷ []
+
+abbrev pub rootRows : List Row
+rootRows = row 4 0 5 2 ∷ row 3 2 2 1 ∷ row 2 2 2 1 ∷ row 0 3 1 0 ∷ row 0 4 1 0 ∷ []
+
+abbrev pub knownRows : List Row
+knownRows = row 4 0 4 1 ∷ row 3 2 2 1 ∷ row 2 2 2 1 ∷ row 0 3 1 0 ∷ []
+
+-- T with a third field in type 4, an optional uint8.
+abbrev pub wider : List ℕ
+wider =
+    6 ∷ 0 ∷ 0 ∷ 0 ∷ 0 ∷ 0 ∷ 0 ∷ 0 ∷ 0 ∷ 0 ∷ 0 ∷ 0 ∷
+    12 ∷ 0 ∷ 0 ∷ 0 ∷ 0 ∷ 0 ∷ 0 ∷ 0 ∷ 0 ∷ 0 ∷ 0 ∷ 0 ∷
+    16 ∷ 0 ∷ 0 ∷ 0 ∷ 0 ∷ 0 ∷ 0 ∷ 0 ∷ 2 ∷ 0 ∷ 0 ∷ 0 ∷
+    14 ∷ 0 ∷ 0 ∷ 0 ∷ 2 ∷ 0 ∷ 0 ∷ 0 ∷ 0 ∷ 0 ∷ 0 ∷ 0 ∷
+    16 ∷ 0 ∷ 0 ∷ 0 ∷ 2 ∷ 0 ∷ 0 ∷ 0 ∷ 3 ∷ 0 ∷ 0 ∷ 0 ∷
+    0 ∷ 0 ∷ 0 ∷ 0 ∷ 0 ∷ 0 ∷ 0 ∷ 0 ∷ 1 ∷ 0 ∷ 0 ∷ 0 ∷
+    1 ∷ 0 ∷ 0 ∷ 0 ∷ 3 ∷ 0 ∷ 0 ∷ 0 ∷ 0 ∷ 0 ∷ 0 ∷ 0 ∷
+    0 ∷ 0 ∷ 0 ∷ 0 ∷ 1 ∷ 0 ∷ 0 ∷ 0 ∷ 0 ∷ 0 ∷ 0 ∷ 0 ∷
+    1 ∷ 0 ∷ 0 ∷ 0 ∷ 1 ∷ 0 ∷ 0 ∷ 0 ∷ 2 ∷ 0 ∷ 0 ∷ 0 ∷
+    3 ∷ 0 ∷ 0 ∷ 0 ∷ 12 ∷ 0 ∷ 0 ∷ 0 ∷ 2 ∷ 0 ∷ 0 ∷ 0 ∷
+    4 ∷ 0 ∷ 0 ∷ 0 ∷ 255 ∷ 255 ∷ 255 ∷ 255 ∷ 255 ∷ 255 ∷ 255 ∷ 255 ∷
+    60 ∷ 0 ∷ 0 ∷ 0 ∷ 100 ∷ 0 ∷ 0 ∷ 0 ∷ 132 ∷ 0 ∷ 0 ∷ 0 ∷
+    1 ∷ 0 ∷ 0 ∷ 0 ∷ []
+
+-- Both new files are good, and extend T's (the other one by schema's T-extended).
+pub new-good : (checked longer ≡ Good) × (checked wider ≡ Good)
+unfolding little.little cell shaped layoutOf tabulate tableOf lowest goodRow goodField findAmong goodMethod small badRow badField badMethod checkedTable checked
+new-good = (refl, refl)
+
+pub wider-extends : extension file wider ≡ Yes
+unfolding little.little cell shaped layoutOf tabulate tableOf lowest goodRow goodField findAmong goodMethod small badRow badField badMethod checkedTable checked every fieldKept rowKept methodKept extended extension
+wider-extends = refl
+
+-- What they hold.
+abbrev innerTable : Table
+innerTable = record { types = innerAdded .types; fields = innerAdded .fields; methods = T .methods }
+
+abbrev rootTable : Table
+rootTable = record { types = rootAdded .types; fields = rootAdded .fields; methods = T .methods }
+
+new-rows : (tableOf longer ≡ innerTable) × (tableOf wider ≡ rootTable)
+unfolding little.little cell shaped layoutOf tabulate tableOf innerAdded rootAdded
+new-rows = (refl, refl)
+
+-- The answers by the tables, with just room enough.
+computed : (read.read innerTable 4 P5 7 ≡ accepted innerRows 7 0)
+    × ((n : ℕ) → read.read T 4 P5 n ≡ refusal 26 2)
+    × (read.read rootTable 4 P6 5 ≡ accepted rootRows 5 0)
+    × (read.read T 4 P6 4 ≡ accepted knownRows 4 1)
+unfolding innerAdded rootAdded read.read read.rootStruct read.ending onesIn read.parse read.walk read.bitmap read.count read.present read.complete table.shape answer.andThen answer.check answer.block answer.varUInt little.little varuint.front varuint.groups utf8.run utf8.next utf8.leadOf utf8.rows value.rows value.value
+computed = (refl, λ n. refl, refl, refl)
+
+-- More room does not matter.
+roomier : (T : Table) (t : ℕ) (payload : List ℕ) (n : ℕ) (rs : List Row) (p l : ℕ) → read.read T t payload n ≡ accepted rs p l
+    → (m : ℕ) → length rs ≤ m → read.read T t payload m ≡ accepted rs p l
+unfolding read.read
+roomier T t payload n rs p l e m h =
+    let a = accepts (table.shape T) t payload n rs p l e in
+    accepted-of (table.shape T) t payload m rs p l
+    (record { fs = a .fs; tree = a .tree; end = a .end; is-struct = a .is-struct; reads = a .reads; has-rows = a .has-rows; has-place = a .has-place; has-length = a .has-length; short = a .short; fits = h })
+
+module _ (sheet : List ℕ) where
+  by-rows : (s : List ℕ) (T : Table) (payload : List ℕ) (a : Reading) → checked s ≡ Good → tableOf s ≡ T → read.read T 4 payload (room sheet) ≡ a
+      → readOutcome s 4 payload sheet ≡ outcomeOf sheet a
+  by-rows s T payload a good is e =
+      read-by s 4 payload sheet good ∙ ap (λ (U : Table). outcomeOf sheet (read.read U 4 payload (room sheet))) is ∙ ap (outcomeOf sheet) e
+
+  -- The added field is in an inner struct: the new reader shows P5, and the old one answers 26 at the bitmap of the first struct that carries the field.
+  pub inner-by-new : 7 ≤ room sheet → readOutcome longer 4 P5 sheet ≡ outcome (Shown 7 7 0) (shownIn sheet innerRows)
+  inner-by-new h = by-rows longer innerTable P5 _ (new-good .0) (new-rows .0) (roomier innerTable 4 P5 7 innerRows 7 0 (computed .0) (room sheet) h)
+
+  pub inner-by-old : readOutcome file 4 P5 sheet ≡ outcome (Refused 26 2) sheet
+  inner-by-old = by-rows file T P5 _ T-good T-rows (computed .1 (room sheet))
+
+  -- The added field is in the root: the new reader shows it in P6, and for the old one it is the tail.
+  pub root-by-new : 5 ≤ room sheet → readOutcome wider 4 P6 sheet ≡ outcome (Shown 5 5 0) (shownIn sheet rootRows)
+  root-by-new h = by-rows wider rootTable P6 _ (new-good .1) (new-rows .1) (roomier rootTable 4 P6 5 rootRows 5 0 (computed .2) (room sheet) h)
+
+  pub root-by-old : 4 ≤ room sheet → readOutcome file 4 P6 sheet ≡ outcome (Shown 4 4 1) (shownIn sheet knownRows)
+  root-by-old h = by-rows file T P6 _ T-good T-rows (roomier T 4 P6 4 knownRows 4 1 (computed .3) (room sheet) h)

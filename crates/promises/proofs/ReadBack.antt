@@ -1,0 +1,106 @@
+-- Demand 2, the writer and both together: what `write` writes is read back as the value of its sheet, and what `read` shows is written.
+-- Assumes nothing.
+use mathlib.Core.Path.{_≡_, ap, _∙_}
+use mathlib.Core.Logic.{_↔_}
+use mathlib.Core.List.{List, _++_}
+use Prim.Native.Nat.{ℕ, _*_, _/_, _≤_}
+use native.Mathlib.Omega.{arith}
+use lib.ListN.{length, take, drop}
+use Rattle.wire.proofs.Numbers.{Bytes}
+use Rattle.schema.specs.declared.Field.{Field}
+use Rattle.schema.specs.declared.Checked.{Checked}
+use Rattle.schema.specs.declared.Checked.the-variants.{Good, Refused as Faulty}
+use Rattle.schema.specs.Table.{struct}
+use Rattle.schema.specs.File.{tableOf}
+use Rattle.schema.specs.Check.{checked, IsGood}
+use Rattle.schema.proofs.Goods.{good-table}
+use Rattle.value.specs.declared.Row.{Row}
+use Rattle.value.specs.Value.{Value}
+use Rattle.value.specs.Write.{Writing, refusal, written, write}
+use Rattle.value.specs.Sheet.{rowsOf}
+use Rattle.value.specs.Fits.{Shows}
+use Rattle.value.specs.Claims.{Writes}
+use Rattle.value.proofs.Sheets.{length-rows}
+use Rattle.value.proofs.Statements as value
+use Rattle.reader.specs.declared.Reading.the-variants.{Shown}
+use Rattle.reader.specs.Entry.{outcome, room, readOutcome}
+use Rattle.writer.specs.declared.Writing.the-variants.{Written, Refused}
+use Rattle.writer.specs.Entry as writer
+use Rattle.writer.specs.Entry.{fileOutcome}
+use Rattle.promises.specs.Claims.{shapes, firstRows, ReadsAs}
+use Rattle.promises.proofs.Entries.{rows-back, shown-good, shown-from, reads-of, write-by, written-good, written-is}
+
+-- By a good file a sheet over its bytes is accepted exactly when it shows a value whose encoding is a payload and fits into the output. The encoding
+-- stands at the output's front, and past it nothing changes. This rules out a writer that refuses all or writes nothing.
+pub written-iff-shown : (s : List ℕ) → IsGood s → (ty : ℕ) (sheet B out : List ℕ) (n : ℕ) (out′ : List ℕ)
+    → (fileOutcome s ty sheet B out ≡ writer.outcome (Written n) out′)
+    ↔ ((bs : List ℕ) × Writes (shapes s) ty (rowsOf sheet) B (length out) bs × (length bs ≡ n) × (out′ ≡ bs ++ drop n out))
+written-iff-shown s good ty sheet B out n out′ = (
+  λ e. let (bs, w, l, _, o) = written-is s ty sheet B out n out′ e in (bs, iff bs .0 w, l, o),
+  λ (bs, w, l, o).
+      let a = write-by s ty sheet B out good ∙ ap (writer.outcomeOf out) (iff bs .1 w) in
+      rw (o, ← l) a,
+)
+  where
+    iff : (bs : List ℕ) → (write (tableOf s) ty (rowsOf sheet) B (length out) ≡ written bs) ↔ Writes (shapes s) ty (rowsOf sheet) B (length out) bs
+    iff bs = value.written-iff-shown (tableOf s) (good-table s good) ty (rowsOf sheet) B (length out) bs
+
+unwritten : (out : List ℕ) (a : Writing) (n q : ℕ) (out′ : List ℕ) → writer.outcomeOf out a ≡ writer.outcome (Refused n q) out′ → out′ ≡ out
+unwritten out (refusal m p) n q out′ e = cc
+unwritten out (written bs) n q out′ e = absurd (let z : _≡_ {A = ℕ} 0 1 = cc in omega arith)
+
+refused-by : (c : Checked) (s : List ℕ) (ty : ℕ) (sheet B out : List ℕ) (n q : ℕ) (out′ : List ℕ)
+    → writer.byVerdict c (writer.sheetOutcome s ty sheet B out) out ≡ writer.outcome (Refused n q) out′ → out′ ≡ out
+unfolding writer.sheetOutcome
+refused-by Good s ty sheet B out n q out′ e = unwritten out (write (tableOf s) ty (rowsOf sheet) B (length out)) n q out′ e
+refused-by (Faulty m p) s ty sheet B out n q out′ e = cc
+
+-- At every refusal, the schema file's too, the output stays untouched.
+pub refused-untouched : (s : List ℕ) (ty : ℕ) (sheet B out : List ℕ) (n q : ℕ) (out′ : List ℕ)
+    → fileOutcome s ty sheet B out ≡ writer.outcome (Refused n q) out′ → out′ ≡ out
+unfolding fileOutcome
+refused-untouched s ty sheet B out n q out′ e = refused-by (checked s) s ty sheet B out n q out′ e
+
+whole : (s : List ℕ) (ty : ℕ) (fs : List Field) (v : Value) (sheet bs payload : List ℕ) (n : ℕ) → payload ≡ bs → length bs ≡ n
+    → ReadsAs s ty fs bs sheet v (length bs) 0 → ReadsAs s ty fs payload sheet v n 0
+whole s ty fs v sheet bs payload n e l r = rw (e, ← l) r
+
+module _ (s : List ℕ) (ty : ℕ) (sheet B out : List ℕ) (n : ℕ) (out′ : List ℕ) where
+  -- What is written is read back, by the same file and type and into a sheet with rows enough, as the value that the writer's sheet shows over its
+  -- bytes, with no tail. This rules out one fixed answer, a writer that writes nothing, and invented rows.
+  pub read-back : fileOutcome s ty sheet B out ≡ writer.outcome (Written n) out′ → (sheet′ : List ℕ) → length sheet / 4 ≤ room sheet′
+      → (fs : List Field) × (v : Value)
+      × (shapes s ty ≡ struct fs)
+      × Shows (shapes s) B ty fs (rowsOf sheet) v
+      × ReadsAs s ty fs (take n out′) sheet′ v n 0
+  read-back e sheet′ h =
+      let good = written-good s ty sheet B out n out′ e in
+      let (bs, w, l, t, _) = written-is s ty sheet B out n out′ e in
+      let (fs, v, st, shows, r) = value.read-back (tableOf s) (good-table s good) ty (rowsOf sheet) B (length out) bs w (room sheet′) (omega (arith, length-rows sheet, h)) in
+      (fs, v, st, shows, whole s ty fs v sheet′ bs (take n out′) n t l (reads-of s ty bs sheet′ good fs v (length bs) 0 r))
+
+-- What is read, given to the writer as just the rows shown over the payload, is accepted where the output is as long as the payload, and written in
+-- no more bytes. These are read as the same value, the root's unknown bits and tail gone. Every lent slice of bytes meets `Bytes`.
+pub read-then-write : (s : List ℕ) (ty : ℕ) (payload sheet : List ℕ) (k place n : ℕ) (after : List ℕ) → Bytes payload
+    → readOutcome s ty payload sheet ≡ outcome (Shown k place n) after
+    → (out : List ℕ) → length payload ≤ length out → (sheet′ : List ℕ) → k ≤ room sheet′
+    → (m : ℕ) × (out′ : List ℕ) × (fileOutcome s ty (take (4 * k) after) payload out ≡ writer.outcome (Written m) out′)
+    × (m ≤ length payload)
+    × ((fs : List Field) × (v : Value)
+    × (shapes s ty ≡ struct fs)
+    × Shows (shapes s) payload ty fs (firstRows k after) v
+    × ReadsAs s ty fs (take m out′) sheet′ v m 0)
+read-then-write s ty payload sheet k place n after b e out h sheet′ h′ =
+    let good = shown-good s ty payload sheet k place n after e in
+    let (rs, a, k-is, after-is) = shown-from s ty payload sheet good k place n after e in
+    let same : firstRows k after ≡ rs = rows-back sheet rs k after k-is after-is in
+    let (_, _, bs, _, _, w, short, _) = value.read-then-write (tableOf s) (good-table s good) ty payload (room sheet) rs place n b a (length out) h in
+    let w′ : write (tableOf s) ty (firstRows k after) payload (length out) ≡ written bs = ap (λ (l : List Row). write (tableOf s) ty l payload (length out)) same ∙ w in
+    let f = write-by s ty (take (4 * k) after) payload out good ∙ ap (writer.outcomeOf out) w′ in
+    let rows : length (firstRows k after) ≡ k = ap length same ∙ k-is in (
+      length bs,
+      bs ++ drop (length bs) out,
+      f,
+      short,
+      read-back s ty (take (4 * k) after) payload out (length bs) (bs ++ drop (length bs) out) f sheet′ (omega (arith, length-rows (take (4 * k) after), rows, h′)),
+    )

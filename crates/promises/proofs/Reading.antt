@@ -1,0 +1,78 @@
+-- Demand 2, the reader: what `read` answers and leaves in the sheet.
+-- Assumes nothing.
+use mathlib.Core.Path.{_≡_, sym, ap, _∙_}
+use mathlib.Core.Logic.{_↔_}
+use mathlib.Core.List.{List}
+use mathlib.Core.Bool.{false}
+use Prim.Native.Nat.{ℕ, _≤_, _<_}
+use native.Mathlib.Omega.{arith}
+use borrow.Author.Tests.{lt-leb}
+use lib.Dec.{leb}
+use lib.ListN.{length}
+use Rattle.schema.specs.declared.Field.{Field}
+use Rattle.schema.specs.declared.Checked.{Checked}
+use Rattle.schema.specs.declared.Checked.the-variants.{Good, Refused as Faulty}
+use Rattle.schema.specs.Table.{struct}
+use Rattle.schema.specs.File.{tableOf}
+use Rattle.schema.specs.Check.{checked, IsGood}
+use Rattle.schema.proofs.Goods.{good-table}
+use Rattle.value.specs.Value.{Value, rows, size}
+use Rattle.value.specs.Read.{refusal, read}
+use Rattle.value.specs.Claims.{Rightful}
+use Rattle.value.proofs.Reading.{as-root, accepts}
+use Rattle.value.proofs.Statements as value
+use Rattle.reader.specs.declared.Reading.{Reading}
+use Rattle.reader.specs.declared.Reading.the-variants.{Shown, Refused}
+use Rattle.reader.specs.Entry.{outcome, outcomeOf, room, byTable, readOutcome, payloadOutcome, Numbers, numbers}
+use Rattle.promises.specs.Claims.{shapes, ReadsAs}
+use Rattle.promises.proofs.Entries.{shown-size, read-by, refused-from, reads-of, of-reads}
+
+-- A payload is accepted and shown as v exactly when it spells v within the limits and the rows fit into the sheet; the tail is what follows the known
+-- fields. This rules out a reader that refuses all (every rightful payload is accepted) and invented rows (they show the value that is spelled).
+pub shown-iff-spelled : (s : List ℕ) → IsGood s → (ty : ℕ) (fs : List Field) → shapes s ty ≡ struct fs → (payload sheet : List ℕ) (v : Value) (place n : ℕ)
+    → ReadsAs s ty fs payload sheet v place n ↔ Rightful (shapes s) ty fs payload (room sheet) v place n
+shown-iff-spelled s good ty fs st payload sheet v place n =
+    let iff = value.accepted-iff-spelled (tableOf s) (good-table s good) ty fs st payload (room sheet) v place n in
+    (λ r. iff .0 (of-reads s ty payload sheet good fs v place n r), λ w. reads-of s ty payload sheet good fs v place n (iff .1 w))
+
+-- A payload that is otherwise right, which spells v, is refused with 30 where the sheet has too few rows: one row a value is enough.
+pub too-few-rows : (s : List ℕ) → IsGood s → (ty : ℕ) (fs : List Field) → shapes s ty ≡ struct fs → (payload sheet : List ℕ) (v : Value) (place n : ℕ)
+    → Rightful (shapes s) ty fs payload (size v) v place n → room sheet < size v → readOutcome s ty payload sheet ≡ outcome (Refused 30 0) sheet
+unfolding read
+too-few-rows s good ty fs st payload sheet v place n q h =
+    let (rs, e, shows) = value.accepted-iff-spelled (tableOf s) (good-table s good) ty fs st payload (size v) v place n .1 q in
+    let a = accepts (shapes s) ty payload (size v) rs place n e in
+    let l : length (rows (a .tree)) ≡ size v = ap length (a .has-rows) ∙ shown-size s payload ty fs rs v shows in
+    let b : leb (length (rows (a .tree))) (room sheet) ≡ false = lt-leb (length (rows (a .tree))) (room sheet) (omega (arith, l, h)) in
+    let f : read (tableOf s) ty payload (room sheet) ≡ refusal 30 0 = as-root (shapes s) ty payload (room sheet) (a .fs) (a .is-struct) (a .short) ∙ rw (a .reads, b) in
+    read-by s ty payload sheet good ∙ ap (outcomeOf sheet) f
+
+refused-by : (c : Checked) (s : List ℕ) (ty : ℕ) (payload sheet : List ℕ) (n q : ℕ) (after : List ℕ)
+    → byTable c s ty payload sheet ≡ outcome (Refused n q) after → after ≡ sheet
+unfolding payloadOutcome
+refused-by Good s ty payload sheet n q after e = refused-from sheet (read (tableOf s) ty payload (room sheet)) n q after e .1
+refused-by (Faulty m p) s ty payload sheet n q after e = cc
+
+-- At every refusal, the schema file's too, the sheet stays untouched.
+pub refused-untouched : (s : List ℕ) (ty : ℕ) (payload sheet : List ℕ) (n q : ℕ) (after : List ℕ)
+    → readOutcome s ty payload sheet ≡ outcome (Refused n q) after → after ≡ sheet
+unfolding readOutcome
+refused-untouched s ty payload sheet n q after e = refused-by (checked s) s ty payload sheet n q after e
+
+-- By a good file a refusal's place lies within the payload or at its end.
+pub refused-within : (s : List ℕ) → IsGood s → (ty : ℕ) (payload sheet : List ℕ) (n q : ℕ) (after : List ℕ)
+    → readOutcome s ty payload sheet ≡ outcome (Refused n q) after → q ≤ length payload
+refused-within s good ty payload sheet n q after e =
+    value.refused-within (tableOf s) (good-table s good) ty payload (room sheet) n q
+    (refused-from sheet (read (tableOf s) ty payload (room sheet)) n q after (sym (read-by s ty payload sheet good) ∙ e) .0)
+
+-- ---- 01's numbers
+
+-- The answers are known by 01's numbers: rows come only where a value is shown, and every other answer but 0 is a refusal.
+pub shown-by-numbers : (r : Reading) (k place n : ℕ) → 0 < k → numbers r ≡ numbers (Shown k place n) → r ≡ Shown k place n
+shown-by-numbers (Shown k′ place′ n′) k place n h e = cc (ap (λ (x : Numbers). x .rows) e, ap (λ (x : Numbers). x .tailPlace) e, ap (λ (x : Numbers). x .tailLength) e)
+shown-by-numbers (Refused m q) k place n h e = absurd (omega (arith, ap (λ (x : Numbers). x .rows) e))
+
+pub refused-by-numbers : (r : Reading) (m q : ℕ) → 0 < m → numbers r ≡ numbers (Refused m q) → r ≡ Refused m q
+refused-by-numbers (Shown k place n) m q h e = absurd (omega (arith, ap (λ (x : Numbers). x .number) e))
+refused-by-numbers (Refused m′ q′) m q h e = cc (ap (λ (x : Numbers). x .number) e, ap (λ (x : Numbers). x .place) e)

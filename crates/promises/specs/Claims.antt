@@ -1,0 +1,63 @@
+-- What the theorems of proofs/ claim of the answers of the entries `read` and `write`, which their contracts fix by `readOutcome` and `fileOutcome`.
+-- Assumes nothing.
+use mathlib.Core.Path.{_≡_}
+use mathlib.Core.Logic.{_↔_}
+use mathlib.Core.List.{List, [], _++_}
+use mathlib.Core.Option.{Option, none, some}
+use mathlib.Core.Bool.{false}
+use Prim.Native.Nat.{ℕ, _*_, _≤_, _<_}
+use lib.ListN.{length, take, drop}
+use Rattle.schema.specs.declared.Field.{Field}
+use Rattle.schema.specs.Table.{Shape, shape}
+use Rattle.schema.specs.File.{tableOf}
+use Rattle.value.specs.declared.Row.{Row}
+use Rattle.value.specs.Answer.{Cursor, seen, cursorAt}
+use Rattle.value.specs.Value.{Tree, Value, value, size}
+use Rattle.value.specs.Read.{rootStruct}
+use Rattle.value.specs.Sheet.{rowsOf}
+use Rattle.value.specs.Spell.{AllSpell, Spells}
+use Rattle.value.specs.Fits.{Shows}
+use Rattle.value.specs.Added.{inner, firstAdded, rootCarries, without, addedItems, addedValues}
+use Rattle.reader.specs.declared.Reading.the-variants.{Shown, Refused}
+use Rattle.reader.specs.Entry.{outcome, room, readOutcome}
+
+-- The shapes of the types that a schema file holds.
+abbrev pub shapes : List ℕ → ℕ → Shape
+shapes schema = shape (tableOf schema)
+
+-- The first k rows of a sheet (01's term), given as its cells.
+abbrev pub firstRows : (k : ℕ) → List ℕ → List Row
+firstRows k cells = rowsOf (take (4 * k) cells)
+
+-- The reader shows v, a root of type ty with the fields fs, one row a value: the first rows of the sheet afterwards show v over the payload, and the
+-- cells after them are as they were; the tail is at a place, of n bytes.
+abbrev pub ReadsAs : (schema : List ℕ) (ty : ℕ) (fs : List Field) (payload sheet : List ℕ) → Value → (place n : ℕ) → Type 0
+ReadsAs schema ty fs payload sheet v place n =
+    (after : List ℕ) × (readOutcome schema ty payload sheet ≡ outcome (Shown (size v) place n) after)
+    × Shows (shapes schema) payload ty fs (firstRows (size v) after) v
+    × (length after ≡ length sheet)
+    × (drop (4 * size v) after ≡ drop (4 * size v) sheet)
+
+-- ---- an old file and a new one that extends it: a root of type ty has the fields fs in the old one and fs ++ gs in the new one
+
+module _ (old new : List ℕ) (ty : ℕ) (fs gs : List Field) (payload sheet : List ℕ) (v : Value) where
+  -- What the old reader answers where the new rules allow the payload as v: 26 at the place of the first inner struct that carries an added field.
+  -- Without one the payload is the bytes of what is known and then those of the added fields that the root carries, which are the tail, and the
+  -- reader shows the value without the added fields, or answers 30 where the sheet has too few rows for it.
+  abbrev pub OldAnswers : (first : Option ℕ) → Type 0
+  OldAnswers (some p) = readOutcome old ty payload sheet ≡ outcome (Refused 26 p) sheet
+  OldAnswers none =
+      (known : List ℕ) × (added : List ℕ)
+      × (payload ≡ known ++ added)
+      × AllSpell (Spells (shapes new) 15) (addedItems fs gs v) (addedValues fs v) added
+      × (rootCarries fs v ≡ false → added ≡ [])
+      × (size (without (shapes old) v ty) ≤ room sheet → ReadsAs old ty fs payload sheet (without (shapes old) v ty) (length known) (length added))
+      × (room sheet < size (without (shapes old) v ty) → readOutcome old ty payload sheet ≡ outcome (Refused 30 0) sheet)
+
+  -- The same, with the tree of v by the new rules, which has the places.
+  abbrev pub NewByOld : Type 0
+  NewByOld =
+      (tree : Tree) × (end : Cursor) × (rootStruct (shapes new) ty (fs ++ gs) (cursorAt payload 0) ≡ seen tree end)
+      × (value tree ≡ v)
+      × OldAnswers (firstAdded (inner (shapes old) tree ty))
+      × ((p : ℕ) → (readOutcome old ty payload sheet ≡ outcome (Refused 26 p) sheet) ↔ (firstAdded (inner (shapes old) tree ty) ≡ some p))

@@ -1,0 +1,2 @@
+-- What the theorems claim.
+pub mod Claims

@@ -1,0 +1,202 @@
+-- Laws of the leaves: what each of their returns shows of the crate `value`'s reading of a row.
+-- Assumes nothing.
+use mathlib.Core.Path.{_≡_, refl, sym, ap, _∙_}
+use mathlib.Core.Bool.{Bool, true, false, not, _||_}
+use mathlib.Core.List.{List, [], _∷_}
+use Prim.Native.Nat.{ℕ, zero, suc, _+_, _-_, _*_, _/_, _≤_, _<_}
+use native.Mathlib.Omega.{arith}
+use native.Mathlib.Numerals.{add-one}
+use borrow.Author.Tests.{le-leb, lt-leb, lt-ltb, le-ltb, eq-eqb, ne-eqb}
+use lib.Dec.{ltb, eqb}
+use lib.ListN.{length, getD, take, drop}
+use lib.Seq.{slice, take-nil}
+use Rattle.wire.specs.Little.{little}
+use Rattle.wire.specs.Utf8.{utf8}
+use Rattle.wire.proofs.Numbers.{little-one}
+use Rattle.schema.specs.Table.{scalar, text, width}
+use Rattle.value.specs.declared.Row.{Row}
+use Rattle.value.specs.Answer.{CursorOf, AnswerOf, ReaderOf, refused, seen, andThen, check}
+use Rattle.value.specs.Write.{nextRow, rowOf, span, says}
+use Rattle.value.proofs.Sheets.{rows-from, no-rows}
+use Rattle.writer.specs.declared.leaf.Due.{Due}
+use Rattle.writer.specs.declared.leaf.Due.the-variants.{Found, Missing}
+use Rattle.writer.specs.declared.leaf.Verdict.{Verdict}
+use Rattle.writer.specs.declared.leaf.Verdict.the-variants.{Fine, Bad}
+use Rattle.writer.specs.declared.leaf.Leaf.the-variants.{At, Bad as BadLeaf}
+use Rattle.writer.specs.Leaf.{Accepted, rowsAt, placeAt, lengthAt, dueOf, DueIn, RowDue, leafShape, saidOf, VerdictIn, Judged, rowSays, LeafRow}
+
+-- ---- answers that accept
+
+pub accepted-first : {E A B : Type 0} (m : AnswerOf E A) (f : A → ReaderOf E B) → Accepted (andThen m f) → Accepted m
+unfolding andThen
+accepted-first (refused n q) f h = h
+accepted-first (seen a c) f h = tt
+
+pub accepted-check : {E A : Type 0} (b : Bool) (n q : ℕ) (c : CursorOf E) (f : Unit {0} → ReaderOf E A) → Accepted (andThen (check b n q c) f) → (b ≡ true) × Accepted (f tt c)
+unfolding andThen check
+accepted-check true n q c f h = (refl, h)
+accepted-check false n q c f h = absurd h
+
+-- ---- spans
+
+take-drop : (f t : ℕ) (l : List ℕ) → drop f (take t l) ≡ take (t - f) (drop f l)
+take-drop zero t l = let e : t - 0 ≡ t = omega arith in rw e
+take-drop (suc f) zero l = let e : 0 - suc f ≡ 0 = omega arith in rw e
+take-drop (suc f) (suc t) [] = sym (take-nil (suc t - suc f))
+take-drop (suc f) (suc t) (x ∷ l) = let e : suc t - suc f ≡ t - f = omega arith in rw e (take-drop f t l)
+
+pub slice-span : (B : List ℕ) (p n : ℕ) → slice p (p + n) B ≡ span B p n
+slice-span B p n = let e : p + n - p ≡ n = omega arith in take-drop p (p + n) B ∙ rw e
+
+-- ---- rows
+
+module _ (cells : List ℕ) (k t : ℕ) where
+  pub row-missing : length cells / 4 ≤ k → RowDue cells k t Missing
+  unfolding rowOf nextRow andThen
+  row-missing h = record { same = rw (no-rows cells k h); within = tt }
+
+  module _ (h : k < length cells / 4) where
+    pub row-other : (getD cells (4 * k) 0 ≡ t → ⊥) → RowDue cells k t Missing
+    unfolding rowOf nextRow andThen check
+    row-other e = record { same = rw (rows-from cells k h, ne-eqb (getD cells (4 * k) 0) t e); within = tt }
+
+    pub row-found : getD cells (4 * k) 0 ≡ t → (p n c : ℕ) → (p ≡ placeAt cells k) × (p < 4294967296) → (n ≡ lengthAt cells k) × (n < 4294967296) → c ≡ getD cells (4 * k + 3) 0
+        → RowDue cells k t (Found p n c)
+    unfolding rowOf nextRow andThen check
+    row-found e p n c ep en ec =
+        record {
+          same = rw (rows-from cells k h, eq-eqb (getD cells (4 * k) 0) t e, e, ep .0, en .0, ec, add-one k);
+          within = (h, ep .0, en .0, ep .1, en .1);
+        }
+
+-- ---- scalars, strings and bytes
+
+pub leaf-scalar : (kind : ℕ) → kind < 12 → leafShape kind ≡ scalar kind
+unfolding leafShape
+leaf-scalar kind h = rw (lt-ltb kind 12 h)
+
+pub leaf-text : (kind : ℕ) → 12 ≤ kind → leafShape kind ≡ text kind
+unfolding leafShape
+leaf-text kind h = rw (le-ltb kind 12 h)
+
+module _ (B : List ℕ) (kind p n c : ℕ) where
+  module _ (is : kind < 12) where
+    pub scalar-wide : (n ≡ width kind → ⊥) → Judged B kind p n c (Bad 50)
+    unfolding andThen check
+    scalar-wide e = record { same = λ k cur. rw (leaf-scalar kind is, ne-eqb n (width kind) e); within = tt }
+
+    module _ (w : n ≡ width kind) where
+      pub scalar-counted : (c ≡ 0 → ⊥) → Judged B kind p n c (Bad 50)
+      unfolding andThen check
+      scalar-counted e = record { same = λ k cur. rw (leaf-scalar kind is, eq-eqb n (width kind) w, ne-eqb c 0 e); within = tt }
+
+      module _ (z : c ≡ 0) where
+        pub scalar-outside : length B < p + n → Judged B kind p n c (Bad 51)
+        unfolding andThen check
+        scalar-outside h = record { same = λ k cur. rw (leaf-scalar kind is, eq-eqb n (width kind) w, eq-eqb c 0 z, lt-leb (p + n) (length B) h); within = tt }
+
+        module _ (inside : p + n ≤ length B) where
+          pub scalar-fine : (not (eqb kind 1) || ltb (little (span B p n)) 2) ≡ true → Judged B kind p n c Fine
+          unfolding andThen check
+          scalar-fine t =
+              record {
+                same = λ k cur. rw (leaf-scalar kind is, eq-eqb n (width kind) w, eq-eqb c 0 z, le-leb (p + n) (length B) inside, t);
+                within = inside;
+              }
+
+          pub one-byte : kind ≡ 1 → p < length B
+          one-byte k = let e : n ≡ 1 = w ∙ ap width k in omega arith
+
+          little-first : kind ≡ 1 → little (span B p n) ≡ getD B p 0
+          little-first k =
+              let e : n ≡ 1 = w ∙ ap width k in
+              let l : p < length B = omega arith in
+              rw e (little-one B p l)
+
+          pub scalar-truth : kind ≡ 1 → getD B p 0 ≤ 1 → (not (eqb kind 1) || ltb (little (span B p n)) 2) ≡ true
+          scalar-truth k h = rw (eq-eqb kind 1 k, little-first k) (lt-ltb (getD B p 0) 2 (omega arith))
+
+          pub scalar-other : (kind ≡ 1 → ⊥) → (not (eqb kind 1) || ltb (little (span B p n)) 2) ≡ true
+          scalar-other k = rw (ne-eqb kind 1 k)
+
+          pub scalar-bad : kind ≡ 1 → 1 < getD B p 0 → Judged B kind p n c (Bad 22)
+          unfolding andThen check
+          scalar-bad k h =
+              let f : ltb (little (span B p n)) 2 ≡ false = rw (little-first k) (le-ltb (getD B p 0) 2 h) in
+              record {
+                same = λ row cur. rw (leaf-scalar kind is, eq-eqb n (width kind) w, eq-eqb c 0 z, le-leb (p + n) (length B) inside, f, eq-eqb kind 1 k);
+                within = tt;
+              }
+
+  module _ (is : 12 ≤ kind) where
+    pub text-counted : (c ≡ 0 → ⊥) → Judged B kind p n c (Bad 50)
+    unfolding andThen check
+    text-counted e = record { same = λ k cur. rw (leaf-text kind is, ne-eqb c 0 e); within = tt }
+
+    module _ (z : c ≡ 0) where
+      pub text-outside : length B < p + n → Judged B kind p n c (Bad 51)
+      unfolding andThen check
+      text-outside h = record { same = λ k cur. rw (leaf-text kind is, eq-eqb c 0 z, lt-leb (p + n) (length B) h); within = tt }
+
+      module _ (inside : p + n ≤ length B) where
+        text-fine : (not (eqb kind 12) || utf8 (span B p n)) ≡ true → Judged B kind p n c Fine
+        unfolding andThen check
+        text-fine t = record { same = λ k cur. rw (leaf-text kind is, eq-eqb c 0 z, le-leb (p + n) (length B) inside, t); within = inside }
+
+        pub text-valid : kind ≡ 12 → utf8 (span B p n) ≡ true → Judged B kind p n c Fine
+        text-valid k e = text-fine (rw (eq-eqb kind 12 k) e)
+
+        pub text-plain : (kind ≡ 12 → ⊥) → Judged B kind p n c Fine
+        text-plain k = text-fine (rw (ne-eqb kind 12 k))
+
+        pub text-bad : kind ≡ 12 → utf8 (span B p n) ≡ false → Judged B kind p n c (Bad 23)
+        unfolding andThen check
+        text-bad k e =
+            record {
+              same = λ row cur. rw (leaf-text kind is, eq-eqb c 0 z, le-leb (p + n) (length B) inside, eq-eqb kind 12 k, e);
+              within = tt;
+            }
+
+-- a string's row that is accepted has UTF-8
+text-known : (B : List ℕ) (kind p n c k : ℕ) (cur : CursorOf Row) → kind ≡ 12 → Accepted (says B k (leafShape kind) p n c cur) → utf8 (span B p n) ≡ true
+text-known B kind p n c k cur e h =
+    let w = accepted-check (eqb c 0) 50 k cur _ (rw (leaf-text kind (omega arith)) at h) in
+    let v = accepted-check _ 51 k cur _ (w .1) in
+    rw (eq-eqb kind 12 e) at (accepted-check _ 23 k cur _ (v .1) .0)
+
+-- ---- a whole row of such a value
+
+module _ (cells B : List ℕ) (kind t k : ℕ) (d : Due) (due : RowDue cells k t d) where
+  pub leaf-missing : d ≡ Missing → LeafRow cells B kind t k (BadLeaf 50)
+  unfolding rowSays andThen
+  leaf-missing e = record { same = rw (sym (due .same) ∙ ap (dueOf cells k t) e); within = tt }
+
+  module _ (p n c : ℕ) (e : d ≡ Found p n c) where
+    due-in : DueIn cells k (Found p n c)
+    due-in = rw e at (due .within)
+
+    row-read : rowOf t (rowsAt cells k) ≡ seen (record { ty = t; place = p; length = n; count = c }) (rowsAt cells (k + 1))
+    row-read = sym (due .same) ∙ ap (dueOf cells k t) e
+
+    pub row-small : (p < 4294967296) × (n < 4294967296)
+    row-small = (due-in .3, due-in .4)
+
+    row-says : rowSays B t (leafShape kind) (rowsAt cells k) ≡ says B k (leafShape kind) p n c (rowsAt cells (k + 1))
+    unfolding rowSays andThen
+    row-says = rw row-read
+
+    pub row-utf8 : Accepted (rowSays B t (leafShape kind) (rowsAt cells k)) → kind ≡ 12 → utf8 (span B p n) ≡ true
+    row-utf8 h q = text-known B kind p n c k (rowsAt cells (k + 1)) q (rw row-says at h)
+
+    module _ (v : Verdict) (judged : Judged B kind p n c v) where
+      pub leaf-fine : v ≡ Fine → LeafRow cells B kind t k (At p n)
+      leaf-fine f =
+          let w : VerdictIn (length B) p n Fine = rw f at (judged .within) in
+          record {
+            same = sym (row-says ∙ sym (judged .same k (rowsAt cells (k + 1))) ∙ ap (saidOf B p n k (rowsAt cells (k + 1))) f);
+            within = (due-in .0, due-in .1, due-in .2, w);
+          }
+
+      pub leaf-bad : (number : ℕ) → v ≡ Bad number → LeafRow cells B kind t k (BadLeaf number)
+      leaf-bad number f =
+          record { same = sym (row-says ∙ sym (judged .same k (rowsAt cells (k + 1))) ∙ ap (saidOf B p n k (rowsAt cells (k + 1))) f); within = tt }

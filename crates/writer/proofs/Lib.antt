@@ -1,0 +1,9 @@
+pub mod Puts
+pub mod Leaves
+pub mod Heads
+pub mod Tables
+pub mod Keys
+pub mod Steps
+pub mod Composites
+pub mod Roots
+pub mod Entries

@@ -1,0 +1,135 @@
+-- Laws of the root: its row, its known fields, and that no row is left over; and of the two walks over a whole sheet.
+-- Assumes nothing.
+use mathlib.Core.Path.{_≡_, refl, sym, ap, _∙_}
+use mathlib.Core.Bool.{true, false}
+use mathlib.Core.List.{List, []}
+use Prim.Native.Nat.{ℕ, _+_, _/_, _≤_, _<_}
+use native.Mathlib.Omega.{arith}
+use borrow.Author.Tests.{eq-eqb, ne-eqb}
+use lib.Dec.{eqb}
+use lib.ListN.{length, drop, length-drop}
+use Rattle.wire.specs.Little.{little, bytes}
+use Rattle.schema.specs.declared.Field.{Field}
+use Rattle.schema.specs.Table.{Shape, struct, bitmapBytes}
+use Rattle.value.specs.declared.Row.{Row}
+use Rattle.value.specs.Answer.{AnswerOf, refused, seen, andThen, check}
+use Rattle.value.specs.Sheet.{rowsOf}
+use Rattle.value.specs.Value.{Tree, branch, Forest, values}
+use Rattle.value.specs.Read.{present, complete, knownBits, walk}
+use Rattle.value.specs.Spell.{encodeAll}
+use Rattle.value.specs.Write.{RowReader, rowOf, span, inside, bitsAt, show, showRoot}
+use Rattle.value.proofs.Sheets.{length-rows}
+use Rattle.writer.specs.declared.leaf.Due.{Due}
+use Rattle.writer.specs.declared.leaf.Due.the-variants.{Found, Missing}
+use Rattle.writer.specs.declared.leaf.Head.{Head}
+use Rattle.writer.specs.declared.leaf.Head.the-variants.{Bits, Fault}
+use Rattle.writer.specs.Emit.{PutAt, done, stopped, emit, emitAll}
+use Rattle.writer.specs.Leaf.{Accepted, rowsAt, dueOf, RowDue, headOf, HeadIn, Headed}
+use Rattle.writer.proofs.Leaves.{accepted-first, accepted-check}
+use Rattle.writer.proofs.Steps.{done-put, branch-bytes}
+use Rattle.writer.proofs.Composites.{row-read}
+
+module _ (S : ℕ → Shape) (B : List ℕ) (t : ℕ) (fs : List Field) (cells : List ℕ) (due : Due) (found : RowDue cells 0 t due) where
+  -- what follows the row, the presence bits and the fields
+  afterFields : Row → ℕ → Forest → RowReader Tree
+  afterFields r h ts c = andThen (check (eqb (length (c .left)) 0) 50 (c .at) c) (λ _ c₁. seen (branch r h ts) c₁)
+
+  afterBits : Row → ℕ → RowReader Tree
+  afterBits r m c =
+      andThen (check (eqb (r .count) (length (present fs (knownBits fs m)))) 50 0 c)
+      (λ _ c₁. andThen (walk (show S B 15) [] (present fs (knownBits fs m)) c₁) (afterFields r (knownBits fs m)))
+
+  root-step : showRoot S B t fs (rowsAt cells 0) ≡ andThen (rowOf t (rowsAt cells 0)) (λ r c. andThen (bitsAt B 0 fs (r .place) c) (afterBits r))
+  unfolding showRoot afterFields afterBits
+  root-step = refl
+
+  pub root-absent : due ≡ Missing → showRoot S B t fs (rowsAt cells 0) ≡ refused 50 0
+  unfolding andThen
+  root-absent e = rw (root-step, sym (found .same) ∙ ap (dueOf cells 0 t) e)
+
+  module _ (p n c : ℕ) (e : due ≡ Found p n c) where
+    abbrev own : Row
+    own = record { ty = t; place = p; length = n; count = c }
+
+    root-row : showRoot S B t fs (rowsAt cells 0) ≡ andThen (bitsAt B 0 fs p (rowsAt cells 1)) (afterBits own)
+    unfolding andThen
+    root-row = rw (root-step, row-read S B 0 t cells 0 due found p n c e)
+
+    pub root-known : Accepted (showRoot S B t fs (rowsAt cells 0)) → complete fs (little (span B p (bitmapBytes (length fs)))) ≡ true
+    unfolding bitsAt
+    root-known a =
+        let w = accepted-first (bitsAt B 0 fs p (rowsAt cells 1)) _ (rw root-row at a) in
+        let v = accepted-check (inside B p (bitmapBytes (length fs))) 51 0 (rowsAt cells 1) _ w in
+        accepted-check (complete fs (little (span B p (bitmapBytes (length fs))))) 25 0 (rowsAt cells 1) _ (v .1) .0
+
+    module _ (head : Head) (headed : Headed B fs p head) where
+      pub root-fault : (number : ℕ) → head ≡ Fault number → showRoot S B t fs (rowsAt cells 0) ≡ refused number 0
+      unfolding andThen
+      root-fault number q = rw (root-row, sym (headed .same 0 (rowsAt cells 1)) ∙ ap (headOf 0 (rowsAt cells 1)) q)
+
+      module _ (word known ones unknown : ℕ) (q : head ≡ Bits word known ones unknown) where
+        root-in : HeadIn fs (Bits word known ones unknown)
+        root-in = rw q at (headed .within)
+
+        root-bits : showRoot S B t fs (rowsAt cells 0) ≡ afterBits own word (rowsAt cells 1)
+        unfolding andThen
+        root-bits = rw (root-row, sym (headed .same 0 (rowsAt cells 1)) ∙ ap (headOf 0 (rowsAt cells 1)) q)
+
+        pub root-miscounted : (c ≡ ones → ⊥) → showRoot S B t fs (rowsAt cells 0) ≡ refused 50 0
+        unfolding andThen check afterBits
+        root-miscounted h =
+            let f : eqb c (length (present fs known)) ≡ false = rw (← root-in .1) (ne-eqb c ones h) in
+            rw (root-bits, ← root-in .0, f)
+
+        module _ (k : c ≡ ones) where
+          root-walk : showRoot S B t fs (rowsAt cells 0) ≡ andThen (walk (show S B 15) [] (present fs known) (rowsAt cells 1)) (afterFields own known)
+          unfolding andThen check afterBits
+          root-walk =
+              let f : eqb c (length (present fs known)) ≡ true = rw (← root-in .1) (eq-eqb c ones k) in
+              rw (root-bits, ← root-in .0, f)
+
+          pub root-accepted : Accepted (showRoot S B t fs (rowsAt cells 0)) → Accepted (walk (show S B 15) [] (present fs known) (rowsAt cells 1))
+          root-accepted a = accepted-first _ _ (rw root-walk at a)
+
+          module _ (out : List ℕ) (next : ℕ) (mid : List ℕ) where
+            pub root-stopped : (number place : ℕ) → stopped number place ≡ emitAll S (present fs known) (walk (show S B 15) [] (present fs known) (rowsAt cells 1)) next mid
+                → stopped number place ≡ emit S t (showRoot S B t fs (rowsAt cells 0)) 0 out
+            unfolding andThen emit emitAll
+            root-stopped number place h = rw root-walk (go (walk (show S B 15) [] (present fs known) (rowsAt cells 1)) h)
+              where
+                go : (m : AnswerOf Row Forest) → stopped number place ≡ emitAll S (present fs known) m next mid → stopped number place ≡ emit S t (andThen m (afterFields own known)) 0 out
+                go (refused _ _) h = h
+                go (seen ts c₁) h = let z : _≡_ {A = ℕ} 0 1 = cc in absurd (omega arith)
+
+            module _ (row pos : ℕ) (out′ : List ℕ)
+                (h : done (rowsAt cells row) pos out′ ≡ emitAll S (present fs known) (walk (show S B 15) [] (present fs known) (rowsAt cells 1)) next mid) where
+              left-over : row ≤ length cells / 4 → length (drop row (rowsOf cells)) + row ≡ length cells / 4
+              left-over l = rw (length-drop, length-rows cells) (omega arith)
+
+              pub root-left : row < length cells / 4 → stopped 50 row ≡ emit S t (showRoot S B t fs (rowsAt cells 0)) 0 out
+              unfolding andThen check emit emitAll afterFields
+              root-left l = rw root-walk (go (walk (show S B 15) [] (present fs known) (rowsAt cells 1)) h)
+                where
+                  go : (m : AnswerOf Row Forest) → done (rowsAt cells row) pos out′ ≡ emitAll S (present fs known) m next mid → stopped 50 row ≡ emit S t (andThen m (afterFields own known)) 0 out
+                  go (seen ts c₁) h =
+                      let g : c₁ ≡ rowsAt cells row = cc in
+                      let some = left-over (omega arith) in
+                      let f : eqb (length (drop row (rowsOf cells))) 0 ≡ false = ne-eqb (length (drop row (rowsOf cells))) 0 (λ z. omega arith) in
+                      rw (g, f)
+                  go (refused _ _) h = let z : _≡_ {A = ℕ} 0 1 = cc in absurd (omega arith)
+
+              -- its encoding is that of a struct with the known bits
+              pub root-done : row ≤ length cells / 4 → length cells / 4 ≤ row → S t ≡ struct fs → length out ≤ 16384 → PutAt out 0 (bytes (bitmapBytes (length fs)) known) next mid
+                  → done (rowsAt cells row) pos out′ ≡ emit S t (showRoot S B t fs (rowsAt cells 0)) 0 out
+              unfolding andThen check emit emitAll afterFields
+              root-done l l′ is small p = rw root-walk (go (walk (show S B 15) [] (present fs known) (rowsAt cells 1)) h)
+                where
+                  go : (m : AnswerOf Row Forest) → done (rowsAt cells row) pos out′ ≡ emitAll S (present fs known) m next mid
+                      → done (rowsAt cells row) pos out′ ≡ emit S t (andThen m (afterFields own known)) 0 out
+                  go (seen ts c₁) h =
+                      let g : c₁ ≡ rowsAt cells row = cc in
+                      let none = left-over l in
+                      let f : eqb (length (drop row (rowsOf cells))) 0 ≡ true = eq-eqb (length (drop row (rowsOf cells))) 0 (omega arith) in
+                      rw (g, f, branch-bytes S t own known ts, is)
+                      (h ∙ rw g (done-put (rowsAt cells row) out 0 (bytes (bitmapBytes (length fs)) known) (encodeAll S (values ts) (present fs known)) next mid small p))
+                  go (refused _ _) h = let z : _≡_ {A = ℕ} 0 1 = cc in absurd (omega arith)

@@ -1,0 +1,241 @@
+-- Laws of the walkers: what one step of a walk does to its end.
+-- Assumes nothing.
+use mathlib.Core.Path.{_≡_, refl, _∙_}
+use mathlib.Core.Bool.{Bool, true, false, not}
+use mathlib.Core.List.{List, [], _∷_, _++_}
+use Prim.Native.Nat.{ℕ, zero, suc, _+_, _-_, _/_, _≤_}
+use native.Mathlib.Omega.{arith}
+use borrow.Author.Tests.{not-true}
+use lib.Dec.{eqb}
+use lib.ListN.{length}
+use Rattle.schema.specs.Table.{Shape, unknown}
+use Rattle.value.specs.declared.Row.{Row}
+use Rattle.value.specs.Answer.{CursorOf, AnswerOf, refused, seen, andThen, check}
+use Rattle.value.specs.Value.{Tree, tip, branch, Forest, plus, value, values, content}
+use Rattle.value.specs.Read.{Item, plainItem, plan, plain, parts, among, walk}
+use Rattle.value.specs.Spell.{leafBytes, headBytes, encode, encodeAll}
+use Rattle.value.specs.Write.{RowReader, nextRow, rowOf, says, held, show}
+use Rattle.writer.specs.declared.walk.Walk.{Walk}
+use Rattle.writer.specs.declared.walk.Walk.the-variants.{Past, Refused}
+use Rattle.writer.specs.Emit.{put, cap, PutAt, Final, done, stopped, emit, emitAll}
+use Rattle.writer.specs.Leaf.{Accepted, rowsAt, rowSays}
+use Rattle.writer.specs.Walk.{Walked}
+use Rattle.writer.proofs.Puts.{put-after}
+use Rattle.writer.proofs.Leaves.{accepted-first, accepted-check}
+
+-- ---- ends
+
+pub was : {cells : List ℕ} {end : Final} {r r′ : Walk} {out : List ℕ} → Walked cells end r out → r ≡ r′ → Walked cells end r′ out
+was w e = rw e at w
+
+pub renamed : {cells : List ℕ} {end end′ : Final} {r : Walk} {out : List ℕ} → end ≡ end′ → Walked cells end r out → Walked cells end′ r out
+renamed e w = rw e at w
+
+pub as-stopped : {cells : List ℕ} {end : Final} {out : List ℕ} (n q : ℕ) → stopped n q ≡ end → Walked cells end (Refused n q) out
+as-stopped n q e = record { same = e; within = tt }
+
+pub stopped-at : (S : ℕ → Shape) (t : ℕ) (o : AnswerOf Row Tree) (pos : ℕ) (out : List ℕ) (n q : ℕ) → o ≡ refused n q → stopped n q ≡ emit S t o pos out
+unfolding emit
+stopped-at S t o pos out n q e = rw e
+
+-- where two walks have the same end, one accepts where the other does
+pub accepted-along : (S : ℕ → Shape) (is is′ : List Item) (o o′ : AnswerOf Row Forest) (pos pos′ : ℕ) (l m : List ℕ)
+    → emitAll S is o pos l ≡ emitAll S is′ o′ pos′ m → Accepted o′ → Accepted o
+unfolding emitAll
+accepted-along S is is′ (seen a c) o′ pos pos′ l m e h = tt
+accepted-along S is is′ (refused n q) (seen b c) pos pos′ l m e h = let z : _≡_ {A = ℕ} 0 1 = cc in absurd (omega arith)
+accepted-along S is is′ (refused n q) (refused n′ q′) pos pos′ l m e h = h
+
+pub done-put : (c : CursorOf Row) (out : List ℕ) (pos : ℕ) (a b : List ℕ) (next : ℕ) (mid : List ℕ) → length out ≤ 16384 → PutAt out pos a next mid
+    → done c (cap (next + length b)) (put mid next b) ≡ done c (cap (pos + length (a ++ b))) (put out pos (a ++ b))
+done-put c out pos a b next mid h p =
+    let w = put-after out pos a b next mid (cap (next + length b)) (put mid next b) h p (record { holds = refl; further = refl; capped = omega arith }) in
+    let e : put mid next b ≡ put out pos (a ++ b) = w .holds in
+    let f : cap (next + length b) ≡ cap (pos + length (a ++ b)) = w .further in
+    cc
+
+all-plus : (S : ℕ → Shape) (i : Item) (is : List Item) (t : Tree) (ts : Forest) → encodeAll S (values (plus t ts)) (i ∷ is) ≡ encode S (value t) (i .type) ++ encodeAll S (values ts) is
+unfolding encodeAll values
+all-plus S i is t ts = refl
+
+pub branch-bytes : (S : ℕ → Shape) (t : ℕ) (r : Row) (h : ℕ) (ts : Forest) → encode S (value (branch r h ts)) t ≡ headBytes (S t) h ++ encodeAll S (values ts) (plan (S t) h)
+unfolding encode value
+branch-bytes S t r h ts = refl
+
+pub tip-bytes : (S : ℕ → Shape) (t : ℕ) (r : Row) (x : List ℕ) → encode S (value (tip r x)) t ≡ leafBytes (S t) x
+unfolding encode value
+tip-bytes S t r x = refl
+
+-- ---- items one after the other
+
+abbrev pub keyItem : ℕ → Item
+keyItem k = record { type = k; key = true }
+
+module _ (S : ℕ → Shape) (P : ℕ → RowReader Tree) (keys : List (List ℕ)) (is : List Item) where
+  afterItem : Tree → RowReader Forest
+  afterItem t c = andThen (walk P keys is c) (λ ts c. seen (plus t ts) c)
+
+  afterKey : ℕ → Tree → RowReader Forest
+  afterKey q t c =
+      andThen (check (not (among (content (value t)) keys)) 24 q c)
+      (λ _ c. andThen (walk P (content (value t) ∷ keys) is c) (λ ts c. seen (plus t ts) c))
+
+  item-step : (t : ℕ) (c : CursorOf Row) → walk P keys (plainItem t ∷ is) c ≡ andThen (P t c) afterItem
+  unfolding walk afterItem check andThen
+  item-step t c = refl
+
+  key-step : (k : ℕ) (c : CursorOf Row) → walk P keys (keyItem k ∷ is) c ≡ andThen (P k c) (afterKey (c .at))
+  unfolding walk afterKey
+  key-step k c = refl
+
+  -- the values of the items after one
+  then-plus : (i : Item) (t : Tree) (o : AnswerOf Row Forest) (pos : ℕ) (out : List ℕ) (next : ℕ) (mid : List ℕ) → length out ≤ 16384 → PutAt out pos (encode S (value t) (i .type)) next mid
+      → emitAll S is o next mid ≡ emitAll S (i ∷ is) (andThen o (λ ts c. seen (plus t ts) c)) pos out
+  unfolding andThen emitAll
+  then-plus i t (seen ts c) pos out next mid h p = rw (all-plus S i is t ts) (done-put c out pos (encode S (value t) (i .type)) (encodeAll S (values ts) is) next mid h p)
+  then-plus i t (refused n q) pos out next mid h p = refl
+
+  put-by : (t : ℕ) (tree : Tree) (pos : ℕ) (out : List ℕ) → PutAt out pos (encode S (value tree) t) (cap (pos + length (encode S (value tree) t))) (put out pos (encode S (value tree) t))
+  put-by t tree pos out = record { holds = refl; further = refl; capped = omega arith }
+
+  module _ (t : ℕ) (c : CursorOf Row) (pos : ℕ) (out : List ℕ) where
+    pub item-past : length out ≤ 16384 → (c′ : CursorOf Row) (next : ℕ) (mid : List ℕ) → done c′ next mid ≡ emit S t (P t c) pos out
+        → emitAll S is (walk P keys is c′) next mid ≡ emitAll S (plainItem t ∷ is) (walk P keys (plainItem t ∷ is) c) pos out
+    unfolding andThen emit afterItem
+    item-past h c′ next mid e = rw (item-step t c) (go (P t c) e)
+      where
+        go : (o : AnswerOf Row Tree) → done c′ next mid ≡ emit S t o pos out
+            → emitAll S is (walk P keys is c′) next mid ≡ emitAll S (plainItem t ∷ is) (andThen o afterItem) pos out
+        go (seen tree c₁) e =
+            let k : c₁ ≡ c′ = cc in
+            let a : next ≡ cap (pos + length (encode S (value tree) t)) = cc in
+            let b : mid ≡ put out pos (encode S (value tree) t) = cc in
+            rw (a, b, k) (then-plus (plainItem t) tree (walk P keys is c′) pos out _ _ h (put-by t tree pos out))
+        go (refused n q) e = let z : _≡_ {A = ℕ} 0 1 = cc in absurd (omega arith)
+
+    pub item-stop : (n q : ℕ) → stopped n q ≡ emit S t (P t c) pos out → stopped n q ≡ emitAll S (plainItem t ∷ is) (walk P keys (plainItem t ∷ is) c) pos out
+    unfolding andThen emit emitAll
+    item-stop n q e = rw (item-step t c) (go (P t c) e)
+      where
+        go : (o : AnswerOf Row Tree) → stopped n q ≡ emit S t o pos out → stopped n q ≡ emitAll S (plainItem t ∷ is) (andThen o afterItem) pos out
+        go (seen tree c₁) e = let z : _≡_ {A = ℕ} 0 1 = cc in absurd (omega arith)
+        go (refused n′ q′) e = e
+
+  pub item-accepted : (t : ℕ) (c : CursorOf Row) → Accepted (walk P keys (plainItem t ∷ is) c) → Accepted (P t c)
+  item-accepted t c h = accepted-first (P t c) afterItem (rw (item-step t c) at h)
+
+  pub key-accepted : (k : ℕ) (c : CursorOf Row) → Accepted (walk P keys (keyItem k ∷ is) c) → Accepted (P k c)
+  key-accepted k c h = accepted-first (P k c) (afterKey (c .at)) (rw (key-step k c) at h)
+
+  pub key-stop : (k : ℕ) (c : CursorOf Row) (pos : ℕ) (out : List ℕ) (n q : ℕ) → P k c ≡ refused n q
+      → stopped n q ≡ emitAll S (keyItem k ∷ is) (walk P keys (keyItem k ∷ is) c) pos out
+  unfolding andThen emitAll
+  key-stop k c pos out n q e = rw (key-step k c, e)
+
+  module _ (k : ℕ) (c : CursorOf Row) (r : Row) (x : List ℕ) (c′ : CursorOf Row) (read : P k c ≡ seen (tip r x) c′) where
+    pub key-again : (pos : ℕ) (out : List ℕ) → among x keys ≡ true → stopped 24 (c .at) ≡ emitAll S (keyItem k ∷ is) (walk P keys (keyItem k ∷ is) c) pos out
+    unfolding andThen check afterKey value emitAll
+    key-again pos out e = rw (key-step k c, read, e)
+
+    pub key-new : (pos : ℕ) (out : List ℕ) (next : ℕ) (mid : List ℕ) → length out ≤ 16384 → PutAt out pos (leafBytes (S k) x) next mid → among x keys ≡ false
+        → emitAll S is (walk P (x ∷ keys) is c′) next mid ≡ emitAll S (keyItem k ∷ is) (walk P keys (keyItem k ∷ is) c) pos out
+    unfolding andThen check afterKey value
+    key-new pos out next mid h p e =
+        rw (key-step k c, read, e) (then-plus (keyItem k) (tip r x) (walk P (x ∷ keys) is c′) pos out next mid h (rw (tip-bytes S k r x) p))
+
+    pub key-known : Accepted (walk P keys (keyItem k ∷ is) c) → (among x keys ≡ false) × Accepted (walk P (x ∷ keys) is c′)
+    unfolding andThen afterKey value
+    key-known h =
+        let w = accepted-check _ 24 (c .at) c′ _ (rw (key-step k c, read) at h) in
+        (not-true (among x keys) (w .0), accepted-first (walk P (x ∷ keys) is c′) _ (w .1))
+
+walk-end : (S : ℕ → Shape) (P : ℕ → RowReader Tree) (keys : List (List ℕ)) (c : CursorOf Row) (pos : ℕ) (out : List ℕ) → pos ≤ 16385
+    → done c pos out ≡ emitAll S [] (walk P keys [] c) pos out
+unfolding walk emitAll encodeAll values put
+walk-end S P keys c pos out h = let e : cap (pos + 0) ≡ pos = omega arith in rw e
+
+-- where no item is left, the end is here
+pub walk-done : (S : ℕ → Shape) (P : ℕ → RowReader Tree) (keys : List (List ℕ)) (is : List Item) (cells : List ℕ) (row pos : ℕ) (out : List ℕ) (end : Final)
+    → is ≡ [] → emitAll S is (walk P keys is (rowsAt cells row)) pos out ≡ end → row ≤ length cells / 4 → pos ≤ 16385 → Walked cells end (Past row pos) out
+walk-done S P keys is cells row pos out end e h i p =
+    record { same = walk-end S P keys (rowsAt cells row) pos out p ∙ (rw e at h); within = (i, p) }
+
+-- ---- a value by its row
+
+module _ (S : ℕ → Shape) (B : List ℕ) (d t : ℕ) (c : CursorOf Row) where
+  afterRow : Shape → Row → RowReader Tree
+  afterRow sh r c₁ = andThen (says B (c .at) sh (r .place) (r .length) (r .count) c₁) (λ o. held (show S B d) r sh o)
+
+  show-step : show S B (suc d) t c ≡ andThen (rowOf t c) (afterRow (S t))
+  unfolding show afterRow
+  show-step = refl
+
+  pub show-refused : (n q : ℕ) → rowOf t c ≡ refused n q → show S B (suc d) t c ≡ refused n q
+  unfolding andThen
+  show-refused n q e = rw (show-step, e)
+
+  module _ (sh : Shape) (is : S t ≡ sh) (r : Row) (c₁ : CursorOf Row) (row : rowOf t c ≡ seen r c₁) where
+    show-row : show S B (suc d) t c ≡ andThen (says B (c .at) sh (r .place) (r .length) (r .count) c₁) (λ o. held (show S B d) r sh o)
+    unfolding andThen afterRow
+    show-row = rw (show-step, is, row)
+
+    pub show-bad : (n q : ℕ) → says B (c .at) sh (r .place) (r .length) (r .count) c₁ ≡ refused n q → show S B (suc d) t c ≡ refused n q
+    unfolding andThen
+    show-bad n q e = rw (show-row, e)
+
+    pub show-parts : (z h : ℕ) → says B (c .at) sh (r .place) (r .length) (r .count) c₁ ≡ seen (parts z h) c₁
+        → show S B (suc d) t c ≡ andThen (walk (show S B d) [] (plan sh h) c₁) (λ ts c. seen (branch r h ts) c)
+    unfolding andThen
+    show-parts z h e = rw (show-row, e)
+
+    pub says-accepted : Accepted (show S B (suc d) t c) → Accepted (says B (c .at) sh (r .place) (r .length) (r .count) c₁)
+    says-accepted a = accepted-first _ _ (rw show-row at a)
+
+  -- ---- a leaf
+
+  module _ (sh : Shape) (is : S t ≡ sh) where
+    leaf-cases : (x : List ℕ) (c′ : CursorOf Row) (o : AnswerOf Row Row) → andThen o (λ r. says B (c .at) sh (r .place) (r .length) (r .count)) ≡ seen (plain x) c′
+        → (r : Row) × (andThen o (afterRow sh) ≡ seen (tip r x) c′)
+    unfolding andThen afterRow
+    leaf-cases x c′ (seen r c₁) e = (r, rw e)
+    leaf-cases x c′ (refused n q) e = let z : _≡_ {A = ℕ} 0 1 = cc in absurd (omega arith)
+
+    leaf-none : (n q : ℕ) (o : AnswerOf Row Row) → andThen o (λ r. says B (c .at) sh (r .place) (r .length) (r .count)) ≡ refused n q
+        → andThen o (afterRow sh) ≡ refused n q
+    unfolding andThen afterRow
+    leaf-none n q (seen r c₁) e = rw e
+    leaf-none n q (refused n′ q′) e = cc
+
+    pub leaf-shown : (x : List ℕ) (c′ : CursorOf Row) → rowSays B t sh c ≡ seen (plain x) c′ → (r : Row) × (show S B (suc d) t c ≡ seen (tip r x) c′)
+    unfolding rowSays
+    leaf-shown x c′ e =
+        let w = leaf-cases x c′ (rowOf t c) e in
+        (w .0, rw (show-step, is) (w .1))
+
+    pub leaf-refused : (n q : ℕ) → rowSays B t sh c ≡ refused n q → show S B (suc d) t c ≡ refused n q
+    unfolding rowSays
+    leaf-refused n q e = rw (show-step, is) (leaf-none n q (rowOf t c) e)
+
+    leaf-first : (o : AnswerOf Row Row) → Accepted (andThen o (afterRow sh)) → Accepted (andThen o (λ r. says B (c .at) sh (r .place) (r .length) (r .count)))
+    unfolding andThen afterRow
+    leaf-first (seen r c₁) h = accepted-first (says B (c .at) sh (r .place) (r .length) (r .count) c₁) _ h
+    leaf-first (refused n q) h = h
+
+    pub leaf-accepted : Accepted (show S B (suc d) t c) → Accepted (rowSays B t sh c)
+    unfolding rowSays
+    leaf-accepted h = leaf-first (rowOf t c) (rw (show-step, is) at h)
+
+-- a row of an unknown type is refused, whatever it is
+pub show-unknown : (S : ℕ → Shape) (B : List ℕ) (d t : ℕ) → S t ≡ unknown → (rs : List Row) (k : ℕ) → show S B (suc d) t (record { left = rs; at = k }) ≡ refused 50 k
+unfolding andThen rowOf nextRow check
+show-unknown S B d t is [] k = show-refused S B d t (record { left = []; at = k }) 50 k refl
+show-unknown S B d t is (r ∷ rs) k = go (eqb (r .ty) t) refl
+  where
+    go : (b : Bool) → eqb (r .ty) t ≡ b → show S B (suc d) t (record { left = r ∷ rs; at = k }) ≡ refused 50 k
+    go true e = show-bad S B d t (record { left = r ∷ rs; at = k }) unknown is r (record { left = rs; at = k + 1 }) (rw e) 50 k refl
+    go false e = show-refused S B d t (record { left = r ∷ rs; at = k }) 50 k (rw e)
+
+pub show-deep : (S : ℕ → Shape) (B : List ℕ) (d t : ℕ) (c : CursorOf Row) → d ≡ 0 → show S B d t c ≡ refused 28 (c .at)
+unfolding show
+show-deep S B zero t c e = refl
+show-deep S B (suc d) t c e = absurd (omega arith)

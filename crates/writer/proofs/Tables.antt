@@ -1,0 +1,99 @@
+-- Laws of a good table: what the walkers need of its rows, and the shape of each kind.
+-- Assumes nothing.
+use mathlib.Core.Path.{_≡_, refl, sym, ap}
+use mathlib.Core.Logic.{⊎-elim}
+use mathlib.Core.List.{List}
+use Prim.Native.Nat.{ℕ, suc, _+_, _≤_, _<_}
+use native.Mathlib.Omega.{arith}
+use native.Mathlib.Decide.{decLt}
+use borrow.Author.Tests.{lt-ltb, le-ltb}
+use lib.ListN.{length, List·getD-eq-default}
+use Rattle.schema.specs.declared.TypeRow.{TypeRow}
+use Rattle.schema.specs.declared.Field.{Field}
+use Rattle.schema.specs.Table.{Table, Shape, unknown, scalar, text, array, map, struct, rowAt, shapes as allShapes, shape}
+use Rattle.schema.specs.File.{tableOf}
+use Rattle.schema.specs.Check.{IsGood, noRow}
+use Rattle.schema.specs.Good.{KeyKind}
+use Rattle.schema.proofs.Goods.{good-table}
+use Rattle.schema.proofs.Shapes as shapes
+use Rattle.value.specs.Read.{onStruct}
+use Rattle.writer.specs.Leaf.{leafShape, fieldsFrom}
+
+-- ---- rows
+
+module _ (s : List ℕ) (good : IsGood s) where
+  pub few-fields : length (tableOf s .fields) ≤ 2048
+  few-fields = good-table s good .fewFields
+
+  -- a row of a kind other than 0 is one of the table's
+  row-there : (t : ℕ) → 0 < rowAt (tableOf s) t .kind → t < length (tableOf s .types)
+  row-there t h = elim (decLt t (length (tableOf s .types))) [
+    | yes l ↦ l
+    | no g ↦
+        let d : length (tableOf s .types) ≤ t = omega arith in
+        let z : rowAt (tableOf s) t .kind ≡ 0 = ap (λ (r : TypeRow). r .kind) (List·getD-eq-default (tableOf s .types) noRow d) in
+        absurd (omega arith)
+  ]
+
+  module _ (t : ℕ) (r : TypeRow) (is : r ≡ rowAt (tableOf s) t) where
+    there : 0 < r .kind → t < length (tableOf s .types)
+    there h = row-there t (rw is at h)
+
+    pub struct-row : r .kind ≡ 16 → (0 < r .b) × (r .b ≤ 64) × (r .a + r .b ≤ length (tableOf s .fields))
+    struct-row k = rw is (good-table s good .rows t (there (omega arith)) .struct (rw is at k))
+
+    -- the kind of a map's key is that of a scalar, a string or bytes
+    pub map-row : r .kind ≡ 15 → (0 < rowAt (tableOf s) (r .a) .kind) × (rowAt (tableOf s) (r .a) .kind < 14)
+    map-row k =
+        let h : KeyKind (rowAt (tableOf s) (r .a) .kind) = rw is (good-table s good .rows t (there (omega arith)) .map (rw is at k) .1) in
+        ⊎-elim (λ a. omega arith) (λ b. ⊎-elim (λ x. omega arith) (λ y. omega arith) b) h
+
+-- ---- shapes
+
+module _ (T : Table) (t : ℕ) (r : TypeRow) (is : r ≡ rowAt T t) where
+  pub shape-array : r .kind ≡ 14 → shape T t ≡ array (r .a)
+  shape-array k = rw is (shapes.shape-array T t (rw is at k))
+
+  pub shape-map : r .kind ≡ 15 → shape T t ≡ map (r .a) (r .b)
+  shape-map k = rw is (shapes.shape-map T t (rw is at k))
+
+  pub shape-struct : r .kind ≡ 16 → shape T t ≡ struct (fieldsFrom T (r .a) (r .b))
+  unfolding fieldsFrom
+  shape-struct k = rw is (shapes.shape-struct T t (rw is at k))
+
+  pub shape-none : r .kind ≡ 0 → shape T t ≡ unknown
+  unfolding shape
+  shape-none k = rw (← is, k)
+
+  pub shape-past : 16 < r .kind → shape T t ≡ unknown
+  unfolding shape
+  shape-past k = rw (← is) (List·getD-eq-default (allShapes T r) unknown k)
+
+  pub shape-leaf : 0 < r .kind → r .kind < 14 → shape T t ≡ leafShape (r .kind)
+  unfolding leafShape
+  shape-leaf z h = elim (decLt (r .kind) 12) [
+    | yes l ↦ rw (lt-ltb (r .kind) 12 l, is) (shapes.shape-scalar T t (rw is at z) (rw is at (below 11 l)))
+    | no g ↦ rw (le-ltb (r .kind) 12 (omega arith), is) (shapes.shape-text T t (rw is at (above g)) (rw is at (below 13 h)))
+  ]
+    where
+      below : (n : ℕ) → r .kind < suc n → r .kind ≤ n
+      below n l = omega arith
+
+      above : (r .kind < 12 → ⊥) → 12 ≤ r .kind
+      above g = omega arith
+
+-- a type whose row has another kind than 16 has not the shape of a struct
+pub no-struct : (s : List ℕ) → IsGood s → (t : ℕ) (r : TypeRow) → r ≡ rowAt (tableOf s) t → (r .kind ≡ 16 → ⊥) → {A : Type 0} (other : A) (f : List Field → A)
+    → onStruct (shape (tableOf s) t) other f ≡ other
+no-struct s good t r is h other f = go (shape (tableOf s) t) (shapes.kind-of (tableOf s) (good-table s good) t)
+  where
+    go : (sh : Shape) → shapes.kindOf sh ≡ rowAt (tableOf s) t .kind → onStruct sh other f ≡ other
+    go (struct fs) e = absurd (h (rw is (sym e)))
+    go unknown e = refl
+    go (scalar _) e = refl
+    go (text _) e = refl
+    go (array _) e = refl
+    go (map _ _) e = refl
+
+pub shape-kind : (T : Table) (t kind : ℕ) → kind ≡ rowAt T t .kind → 0 < kind → kind < 14 → shape T t ≡ leafShape kind
+shape-kind T t kind e z h = rw e (shape-leaf T t (rowAt T t) refl (rw e at z) (rw e at h))

@@ -1,0 +1,47 @@
+-- `writer::key::is_kept` meets its contract. The invariant: the keys not yet looked at decide.
+-- Assumes nothing.
+use borrow.Author.Needs.{needs}
+use mathlib.Core.Path.{_≡_, refl, sym, _∙_}
+use Prim.Native.Nat.{_-_, _≤_}
+use native.Mathlib.Omega.{arith}
+use borrow.Author.Tests.{not-true}
+use Rattle.value.specs.Read.{among}
+use Rattle.value.specs.Write.{span}
+use Rattle.writer.specs.Keys.{keysIn}
+use Rattle.writer.proofs.Keys.{kept-found, kept-other, kept-none}
+use Rattle.writer.proofs.key.is_kept.Statement.{statement}
+use Rattle.writer.proofs.key.is_kept.Tie as tie
+
+abbrev Inv-loop : tie.InvT-loop
+Inv-loop sheet source kept held place n judge j₀ j =
+    (among (span source place n) (keysIn sheet source kept j) ≡ among (span source place n) (keysIn sheet source kept held)) × (j ≤ held)
+
+abbrev μ-loop : tie.MeasureT-loop
+μ-loop sheet source kept held place n judge j₀ j = j
+
+pub is-kept-spec : {M : Type 1} → statement M
+is-kept-spec =
+    tie.close
+    (tie.spec
+    Inv-loop
+    μ-loop
+    -- returns
+    (λ c. sym (c .before .before .before .before .pre .3 (not-true _ (c .if1 .taken))))
+    -- loop-holds
+    (λ c. (refl, omega arith))
+    -- sub-j
+    (λ c. search needs)
+    -- mul-is-key
+    (λ c. search needs)
+    -- shared-slice-read-is-key
+    (λ c. search needs)
+    -- is-key-requires
+    (λ c κs. (c .before .before .before .before .before .before .before .pre .2 (c .before .before .loop .j - 1) (omega arith), c .before .before .before .before .before .before .before .pre .1))
+    -- returns-2
+    (λ c. kept-found (c .before .before .before .before .before .before .before .before .before .args .sheet .now) (c .before .before .before .before .before .before .before .before .before .args .source .now) (c .before .before .before .before .before .before .before .before .before .args .kept .now) _ (c .before .before .before .before .loop .j) _ (c .before .is-key .ensures) (c .before .before .before .loop-test .taken) (c .if2 .taken) ∙ c .before .before .before .before .loop .inv .0)
+    -- loop-less
+    (λ c. omega arith)
+    -- loop-again
+    (λ c. (kept-other (c .before .before .before .before .before .before .before .before .before .args .sheet .now) (c .before .before .before .before .before .before .before .before .before .args .source .now) (c .before .before .before .before .before .before .before .before .before .args .kept .now) _ (c .before .before .before .before .loop .j) _ (c .before .is-key .ensures) (c .before .before .before .loop-test .taken) (c .if2 .left) ∙ c .before .before .before .before .loop .inv .0, omega arith))
+    -- returns-3
+    (λ c. kept-none (c .before .before .before .before .before .before .args .sheet .now) (c .before .before .before .before .before .before .args .source .now) (c .before .before .before .before .before .before .args .kept .now) _ (c .before .loop .j) (c .loop-test .left) ∙ c .before .loop .inv .0))

@@ -1,0 +1,30 @@
+-- `writer::leaf::scalar` meets its contract.
+-- Assumes nothing.
+use mathlib.Core.Path.{sym, _∙_}
+use Rattle.writer.proofs.Leaves.{scalar-wide, scalar-counted, scalar-outside, scalar-fine, one-byte, scalar-truth, scalar-other, scalar-bad}
+use borrow.Author.Needs.{needs}
+use Rattle.writer.proofs.leaf.scalar.Statement.{statement}
+use Rattle.writer.proofs.leaf.scalar.Tie as tie
+
+pub scalar-spec : {M : Type 1} → statement M
+scalar-spec =
+    tie.close
+    (tie.spec
+    -- width-of-requires
+    (λ c κs. search needs)
+    -- returns
+    (λ c. scalar-wide (c .before .before .before .args .source .now) (c .before .before .before .args .kind) (c .before .before .before .args .place) (c .before .before .before .args .n) (c .before .before .before .args .count) (c .before .before .before .pre .0) (λ e. c .if1 .taken (e ∙ sym (c .before .width-of .ensures))))
+    -- returns-2
+    (λ c. scalar-counted (c .before .before .before .before .args .source .now) (c .before .before .before .before .args .kind) (c .before .before .before .before .args .place) (c .before .before .before .before .args .n) (c .before .before .before .before .args .count) (c .before .before .before .before .pre .0) (c .before .if1 .left ∙ c .before .before .width-of .ensures) (c .if2 .taken))
+    -- add-if3
+    (λ c. search needs)
+    -- returns-3
+    (λ c. scalar-outside (c .before .before .before .before .before .args .source .now) (c .before .before .before .before .before .args .kind) (c .before .before .before .before .before .args .place) (c .before .before .before .before .before .args .n) (c .before .before .before .before .before .args .count) (c .before .before .before .before .before .pre .0) (c .before .before .if1 .left ∙ c .before .before .before .width-of .ensures) (c .before .if2 .left) (c .if3 .taken))
+    -- shared-slice-read-if5
+    (λ c. one-byte (c .before .before .before .before .before .before .before .args .source .now) (c .before .before .before .before .before .before .before .args .kind) (c .before .before .before .before .before .before .before .args .place) (c .before .before .before .before .before .before .before .args .n) (c .before .before .before .before .before .before .before .args .count) (c .before .before .before .before .before .before .before .pre .0) (c .before .before .before .before .if1 .left ∙ c .before .before .before .before .before .width-of .ensures) (c .before .before .before .if2 .left) (c .before .before .if3 .left) (c .before .if4 .taken))
+    -- returns-4
+    (λ c. scalar-bad (c .before .before .before .before .before .before .before .before .args .source .now) (c .before .before .before .before .before .before .before .before .args .kind) (c .before .before .before .before .before .before .before .before .args .place) (c .before .before .before .before .before .before .before .before .args .n) (c .before .before .before .before .before .before .before .before .args .count) (c .before .before .before .before .before .before .before .before .pre .0) (c .before .before .before .before .before .if1 .left ∙ c .before .before .before .before .before .before .width-of .ensures) (c .before .before .before .before .if2 .left) (c .before .before .before .if3 .left) (c .before .before .if4 .taken) (c .if5 .taken))
+    -- returns-5
+    (λ c. scalar-fine (c .before .before .before .before .before .before .before .before .args .source .now) (c .before .before .before .before .before .before .before .before .args .kind) (c .before .before .before .before .before .before .before .before .args .place) (c .before .before .before .before .before .before .before .before .args .n) (c .before .before .before .before .before .before .before .before .args .count) (c .before .before .before .before .before .before .before .before .pre .0) (c .before .before .before .before .before .if1 .left ∙ c .before .before .before .before .before .before .width-of .ensures) (c .before .before .before .before .if2 .left) (c .before .before .before .if3 .left) (scalar-truth (c .before .before .before .before .before .before .before .before .args .source .now) (c .before .before .before .before .before .before .before .before .args .kind) (c .before .before .before .before .before .before .before .before .args .place) (c .before .before .before .before .before .before .before .before .args .n) (c .before .before .before .before .before .before .before .before .args .count) (c .before .before .before .before .before .before .before .before .pre .0) (c .before .before .before .before .before .if1 .left ∙ c .before .before .before .before .before .before .width-of .ensures) (c .before .before .before .before .if2 .left) (c .before .before .before .if3 .left) (c .before .before .if4 .taken) (c .if5 .left)))
+    -- returns-6
+    (λ c. scalar-fine (c .before .before .before .before .before .before .args .source .now) (c .before .before .before .before .before .before .args .kind) (c .before .before .before .before .before .before .args .place) (c .before .before .before .before .before .before .args .n) (c .before .before .before .before .before .before .args .count) (c .before .before .before .before .before .before .pre .0) (c .before .before .before .if1 .left ∙ c .before .before .before .before .width-of .ensures) (c .before .before .if2 .left) (c .before .if3 .left) (scalar-other (c .before .before .before .before .before .before .args .source .now) (c .before .before .before .before .before .before .args .kind) (c .before .before .before .before .before .before .args .place) (c .before .before .before .before .before .before .args .n) (c .before .before .before .before .before .before .args .count) (c .before .before .before .before .before .before .pre .0) (c .before .before .before .if1 .left ∙ c .before .before .before .before .width-of .ensures) (c .before .before .if2 .left) (c .before .if3 .left) (c .if4 .left))))

@@ -1,0 +1,19 @@
+-- `writer::put::put_byte` meets its contract.
+-- Assumes nothing.
+use Rattle.writer.proofs.Puts.{put-one, put-none}
+use borrow.Author.Needs.{needs}
+use Rattle.writer.proofs.put.put_byte.Statement.{statement}
+use Rattle.writer.proofs.put.put_byte.Tie as tie
+
+pub put-byte-spec : {M : Type 1} → statement M
+put-byte-spec =
+    tie.close
+    (tie.spec
+    -- slice-write-out
+    (λ c. search needs)
+    -- same-length
+    (λ c. search needs)
+    -- returns
+    (λ c. put-one _ _ _)
+    -- returns-2
+    (λ c. put-none _ _ _ (c .if1 .left)))

@@ -1,0 +1,26 @@
+-- `writer::write` meets its contract.
+-- Assumes nothing.
+use mathlib.Core.Path.{sym, _∙_}
+use Rattle.writer.proofs.Entries.{file-refused, file-good}
+use borrow.Author.Needs.{needs}
+use Rattle.writer.proofs.write.Statement.{statement}
+use Rattle.writer.proofs.write.Tie as tie
+
+pub write-spec : {M : Type 1} → statement M
+write-spec =
+    tie.close
+    (tie.spec
+    -- check-requires
+    (λ c κs. search needs)
+    -- enum-known-number
+    (λ c. search needs)
+    -- enum-told
+    (λ c. search needs)
+    -- write-sheet-requires
+    (λ c κs. sym (c .before .before .before .check .ensures) ∙ c .before .enum-told .given .1)
+    -- returns
+    (λ c. file-refused (c .before .before .before .before .before .before .before .before .args .s .now) (c .before .before .before .before .before .before .before .before .args .ty) (c .before .before .before .before .before .before .before .before .args .sheet .now) (c .before .before .before .before .before .before .before .before .args .source .now) (c .before .before .before .before .before .before .before .before .args .out .now) _ _ (sym (c .before .before .before .check .ensures) ∙ c .before .number .given .1))
+    -- same-length
+    (λ c. search needs)
+    -- returns-2
+    (λ c. file-good (c .before .before .before .before .before .before .before .before .before .before .before .args .s .now) (c .before .before .before .before .before .before .before .before .before .before .before .args .ty) (c .before .before .before .before .before .before .before .before .before .before .before .args .sheet .now) (c .before .before .before .before .before .before .before .before .before .before .before .args .source .now) (c .before .before .before .before .before .before .before .before .before .before .before .args .out .now) _ (sym (c .before .before .before .before .before .before .check .ensures) ∙ c .before .before .before .before .enum-told .given .1) (c .before .before .write-sheet .ensures)))

@@ -1,0 +1,58 @@
+-- `writer::write_sheet` meets its contract.
+-- Assumes nothing.
+use mathlib.Core.Path.{sym}
+use mathlib.Core.Bool.{false≢true}
+use native.Mathlib.Omega.{arith}
+use lib.Seq.{length-take-le}
+use Rattle.schema.specs.File.{tableOf}
+use Rattle.writer.specs.Leaf.{fieldsFrom}
+use Rattle.writer.proofs.Tables.{shape-struct, struct-row}
+use Rattle.writer.proofs.Entries.{entry-other, entry-refused, entry-accepted, entry-long, entry-room, entry-written}
+use borrow.Author.Needs.{needs}
+use Rattle.writer.proofs.write_sheet.Statement.{statement}
+use Rattle.writer.proofs.write_sheet.Tie as tie
+
+pub write-sheet-spec : {M : Type 1} → statement M
+write-sheet-spec =
+    tie.close
+    (tie.spec
+    -- type-row-requires
+    (λ c κs. search needs)
+    -- returns
+    (λ c. entry-other (c .before .before .before .before .before .before .before .args .s .now) (c .before .before .before .before .before .before .before .pre) (c .before .before .before .before .before .before .before .args .ty) (c .before .before .before .before .before .before .before .args .sheet .now) (c .before .before .before .before .before .before .before .args .source .now) (c .before .before .before .before .before .before .before .args .out .now) _ (c .before .before .type-row .ensures) (c .if1 .taken))
+    -- cast-first
+    (λ c. search needs)
+    -- cast-n
+    (λ c. search needs)
+    -- slice-relend-prefix-root
+    (λ c. search needs)
+    -- slice-aggregate-root
+    (λ c. search needs)
+    -- root-requires
+    (λ c κs. ((record { good = c .before .before .before .before .before .before .before .before .before .before .pre; inside = omega arith; behind = omega arith; small = omega arith; judged = λ j. absurd (false≢true (sym j)) }, (shape-struct (tableOf (c .before .before .before .before .before .before .before .before .before .before .args .s .now)) (c .before .before .before .before .before .before .before .before .before .before .args .ty) _ (c .before .before .before .before .before .type-row .ensures) (c .before .before .before .if1 .left))), struct-row (c .before .before .before .before .before .before .before .before .before .before .args .s .now) (c .before .before .before .before .before .before .before .before .before .before .pre) (c .before .before .before .before .before .before .before .before .before .before .args .ty) _ (c .before .before .before .before .before .type-row .ensures) (c .before .before .before .if1 .left)))
+    -- enum-known-number
+    (λ c. search needs)
+    -- enum-known-pos
+    (λ c. search needs)
+    -- same-length
+    (λ c. search needs)
+    -- returns-2
+    (λ c. entry-long (c .before .before .before .before .before .before .before .before .before .before .before .before .before .before .before .before .before .args .s .now) (c .before .before .before .before .before .before .before .before .before .before .before .before .before .before .before .before .before .args .ty) (c .before .before .before .before .before .before .before .before .before .before .before .before .before .before .before .before .before .args .sheet .now) (c .before .before .before .before .before .before .before .before .before .before .before .before .before .before .before .before .before .args .source .now) (c .before .before .before .before .before .before .before .before .before .before .before .before .before .before .before .before .before .args .out .now) (fieldsFrom (tableOf (c .before .before .before .before .before .before .before .before .before .before .before .before .before .before .before .before .before .args .s .now)) (c .before .before .before .before .before .before .before .before .before .before .before .before .type-row .result .a) (c .before .before .before .before .before .before .before .before .before .before .before .before .type-row .result .b)) (shape-struct (tableOf (c .before .before .before .before .before .before .before .before .before .before .before .before .before .before .before .before .before .args .s .now)) (c .before .before .before .before .before .before .before .before .before .before .before .before .before .before .before .before .before .args .ty) _ (c .before .before .before .before .before .before .before .before .before .before .before .before .type-row .ensures) (c .before .before .before .before .before .before .before .before .before .before .if1 .left)) _ _ _ (c .before .before .before .before .before .before .root .ensures) (c .before .before .before .before .before .before .root .kept .1 .1 .1 .0) _ _ (c .before .before .pos .given .1) (c .if2 .taken))
+    -- same-length-2
+    (λ c. search needs)
+    -- returns-3
+    (λ c. entry-room (c .before .before .before .before .before .before .before .before .before .before .before .before .before .before .before .before .before .before .args .s .now) (c .before .before .before .before .before .before .before .before .before .before .before .before .before .before .before .before .before .before .args .ty) (c .before .before .before .before .before .before .before .before .before .before .before .before .before .before .before .before .before .before .args .sheet .now) (c .before .before .before .before .before .before .before .before .before .before .before .before .before .before .before .before .before .before .args .source .now) (c .before .before .before .before .before .before .before .before .before .before .before .before .before .before .before .before .before .before .args .out .now) (fieldsFrom (tableOf (c .before .before .before .before .before .before .before .before .before .before .before .before .before .before .before .before .before .before .args .s .now)) (c .before .before .before .before .before .before .before .before .before .before .before .before .before .type-row .result .a) (c .before .before .before .before .before .before .before .before .before .before .before .before .before .type-row .result .b)) (shape-struct (tableOf (c .before .before .before .before .before .before .before .before .before .before .before .before .before .before .before .before .before .before .args .s .now)) (c .before .before .before .before .before .before .before .before .before .before .before .before .before .before .before .before .before .before .args .ty) _ (c .before .before .before .before .before .before .before .before .before .before .before .before .before .type-row .ensures) (c .before .before .before .before .before .before .before .before .before .before .before .if1 .left)) _ _ _ (c .before .before .before .before .before .before .before .root .ensures) (c .before .before .before .before .before .before .before .root .kept .1 .1 .1 .0) _ _ (c .before .before .before .pos .given .1) (c .before .if2 .left) (c .if3 .taken))
+    -- slice-relend-prefix-root-2
+    (λ c. search needs)
+    -- slice-aggregate-root-2
+    (λ c. sym (length-take-le _ _ (c .before .if3 .left)))
+    -- root-requires-2
+    (λ c κs. ((record { good = c .before .before .before .before .before .before .before .before .before .before .before .before .before .before .before .before .before .before .before .pre; inside = omega arith; behind = omega arith; small = rw (length-take-le _ _ (c .before .if3 .left)) (c .before .before .if2 .left); judged = λ j. entry-accepted (c .before .before .before .before .before .before .before .before .before .before .before .before .before .before .before .before .before .before .before .args .s .now) (c .before .before .before .before .before .before .before .before .before .before .before .before .before .before .before .before .before .before .before .args .ty) (c .before .before .before .before .before .before .before .before .before .before .before .before .before .before .before .before .before .before .before .args .sheet .now) (c .before .before .before .before .before .before .before .before .before .before .before .before .before .before .before .before .before .before .before .args .source .now) (c .before .before .before .before .before .before .before .before .before .before .before .before .before .before .before .before .before .before .before .args .out .now) (fieldsFrom (tableOf (c .before .before .before .before .before .before .before .before .before .before .before .before .before .before .before .before .before .before .before .args .s .now)) (c .before .before .before .before .before .before .before .before .before .before .before .before .before .before .type-row .result .a) (c .before .before .before .before .before .before .before .before .before .before .before .before .before .before .type-row .result .b)) (shape-struct (tableOf (c .before .before .before .before .before .before .before .before .before .before .before .before .before .before .before .before .before .before .before .args .s .now)) (c .before .before .before .before .before .before .before .before .before .before .before .before .before .before .before .before .before .before .before .args .ty) _ (c .before .before .before .before .before .before .before .before .before .before .before .before .before .before .type-row .ensures) (c .before .before .before .before .before .before .before .before .before .before .before .before .if1 .left)) _ _ _ (c .before .before .before .before .before .before .before .before .root .ensures) (c .before .before .before .before .before .before .before .before .root .kept .1 .1 .1 .0) _ _ (c .before .before .before .before .pos .given .1) }, (shape-struct (tableOf (c .before .before .before .before .before .before .before .before .before .before .before .before .before .before .before .before .before .before .before .args .s .now)) (c .before .before .before .before .before .before .before .before .before .before .before .before .before .before .before .before .before .before .before .args .ty) _ (c .before .before .before .before .before .before .before .before .before .before .before .before .before .before .type-row .ensures) (c .before .before .before .before .before .before .before .before .before .before .before .before .if1 .left))), struct-row (c .before .before .before .before .before .before .before .before .before .before .before .before .before .before .before .before .before .before .before .args .s .now) (c .before .before .before .before .before .before .before .before .before .before .before .before .before .before .before .before .before .before .before .pre) (c .before .before .before .before .before .before .before .before .before .before .before .before .before .before .before .before .before .before .before .args .ty) _ (c .before .before .before .before .before .before .before .before .before .before .before .before .before .before .type-row .ensures) (c .before .before .before .before .before .before .before .before .before .before .before .before .if1 .left)))
+    -- same-length-3
+    (λ c. search needs)
+    -- returns-4
+    (λ c. entry-refused (c .before .before .before .before .before .before .before .before .before .before .before .before .before .before .before .before .args .s .now) (c .before .before .before .before .before .before .before .before .before .before .before .before .before .before .before .before .args .ty) (c .before .before .before .before .before .before .before .before .before .before .before .before .before .before .before .before .args .sheet .now) (c .before .before .before .before .before .before .before .before .before .before .before .before .before .before .before .before .args .source .now) (c .before .before .before .before .before .before .before .before .before .before .before .before .before .before .before .before .args .out .now) (fieldsFrom (tableOf (c .before .before .before .before .before .before .before .before .before .before .before .before .before .before .before .before .args .s .now)) (c .before .before .before .before .before .before .before .before .before .before .before .type-row .result .a) (c .before .before .before .before .before .before .before .before .before .before .before .type-row .result .b)) (shape-struct (tableOf (c .before .before .before .before .before .before .before .before .before .before .before .before .before .before .before .before .args .s .now)) (c .before .before .before .before .before .before .before .before .before .before .before .before .before .before .before .before .args .ty) _ (c .before .before .before .before .before .before .before .before .before .before .before .type-row .ensures) (c .before .before .before .before .before .before .before .before .before .if1 .left)) _ _ _ (c .before .before .before .before .before .root .ensures) (c .before .before .before .before .before .root .kept .1 .1 .1 .0) _ _ (c .before .number .given .1))
+    -- same-length-4
+    (λ c. search needs)
+    -- returns-5
+    (λ c. entry-written (c .before .before .before .before .before .before .before .before .before .before .before .before .before .before .before .before .before .before .before .before .before .before .args .s .now) (c .before .before .before .before .before .before .before .before .before .before .before .before .before .before .before .before .before .before .before .before .before .before .args .ty) (c .before .before .before .before .before .before .before .before .before .before .before .before .before .before .before .before .before .before .before .before .before .before .args .sheet .now) (c .before .before .before .before .before .before .before .before .before .before .before .before .before .before .before .before .before .before .before .before .before .before .args .source .now) (c .before .before .before .before .before .before .before .before .before .before .before .before .before .before .before .before .before .before .before .before .before .before .args .out .now) (fieldsFrom (tableOf (c .before .before .before .before .before .before .before .before .before .before .before .before .before .before .before .before .before .before .before .before .before .before .args .s .now)) (c .before .before .before .before .before .before .before .before .before .before .before .before .before .before .before .before .before .type-row .result .a) (c .before .before .before .before .before .before .before .before .before .before .before .before .before .before .before .before .before .type-row .result .b)) (shape-struct (tableOf (c .before .before .before .before .before .before .before .before .before .before .before .before .before .before .before .before .before .before .before .before .before .before .args .s .now)) (c .before .before .before .before .before .before .before .before .before .before .before .before .before .before .before .before .before .before .before .before .before .before .args .ty) _ (c .before .before .before .before .before .before .before .before .before .before .before .before .before .before .before .before .before .type-row .ensures) (c .before .before .before .before .before .before .before .before .before .before .before .before .before .before .before .if1 .left)) _ _ _ (c .before .before .before .before .before .before .before .before .before .before .before .root .ensures) (c .before .before .before .before .before .before .before .before .before .before .before .root .kept .1 .1 .1 .0) _ _ (c .before .before .before .before .before .before .before .pos .given .1) (c .before .before .before .before .before .if2 .left) (c .before .before .before .before .if3 .left) _ _ (c .before .before .root2 .ensures)))

@@ -1,0 +1,41 @@
+-- The encoding of a value as a walk puts it into the output: row by row, each value's bytes after those before it.
+-- Assumes nothing.
+use mathlib.Core.Path.{_≡_}
+use mathlib.Core.List.{List, [], _∷_}
+use Prim.Native.Nat.{ℕ, _+_, _≤_, min}
+use lib.ListN.{length, set}
+use Rattle.schema.specs.Table.{Shape}
+use Rattle.value.specs.declared.Row.{Row}
+use Rattle.value.specs.Answer.{CursorOf, AnswerOf, refused, seen}
+use Rattle.value.specs.Value.{Tree, Forest, value, values}
+use Rattle.value.specs.Read.{Item}
+use Rattle.value.specs.Spell.{encode, encodeAll}
+
+-- Bytes stored one after the other. A store past the end is none.
+unfoldable pub put : List ℕ → ℕ → List ℕ → List ℕ
+put out pos [] = out
+put out pos (b ∷ bs) = put (set out pos b) (pos + 1) bs
+
+-- A length as far as it matters: above 16,384 it is 16,385. (Rows may share bytes, so that lengths add up to more than a number of the machine holds.)
+abbrev pub cap : ℕ → ℕ
+cap n = min n 16385
+
+-- What is left of an output after bytes were put from a place on, and the place after them.
+pub record PutAt (out : List ℕ) (pos : ℕ) (bs : List ℕ) (next : ℕ) (after : List ℕ) : Type 0 where
+  pub holds : after ≡ put out pos bs
+  pub further : next ≡ cap (pos + length bs)
+  pub capped : next ≤ 16385
+
+-- Where a walk ends: past its rows, with the place after its bytes and the output; or at a refusal.
+pub data Final : Type 0 where
+  done : CursorOf Row → (pos : ℕ) → (out : List ℕ) → Final
+  stopped : (number place : ℕ) → Final
+
+-- The end of a walk that shows a value of type t by the shapes S, and of one that shows the values of the items.
+unfoldable pub emit : (ℕ → Shape) → (t : ℕ) → AnswerOf Row Tree → ℕ → List ℕ → Final
+emit S t (refused n p) pos out = stopped n p
+emit S t (seen tree c) pos out = done c (cap (pos + length (encode S (value tree) t))) (put out pos (encode S (value tree) t))
+
+unfoldable pub emitAll : (ℕ → Shape) → List Item → AnswerOf Row Forest → ℕ → List ℕ → Final
+emitAll S is (refused n p) pos out = stopped n p
+emitAll S is (seen ts c) pos out = done c (cap (pos + length (encodeAll S (values ts) is))) (put out pos (encodeAll S (values ts) is))

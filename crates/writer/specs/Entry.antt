@@ -1,0 +1,34 @@
+-- What the entries answer.
+-- Assumes nothing.
+use mathlib.Core.List.{List, _++_}
+use Prim.Native.Nat.{ℕ}
+use lib.ListN.{length, drop}
+use Rattle.schema.specs.declared.Checked.{Checked}
+use Rattle.schema.specs.declared.Checked.the-variants.{Good, Refused as TableRefused}
+use Rattle.schema.specs.File.{tableOf}
+use Rattle.schema.specs.Check.{checked}
+use Rattle.value.specs.Sheet.{rowsOf}
+use Rattle.value.specs.Write as value
+use Rattle.writer.specs.declared.Writing.{Writing}
+use Rattle.writer.specs.declared.Writing.the-variants.{Written, Refused}
+
+-- An answer with the output as it is left.
+pub data Outcome : Type 0 where
+  outcome : Writing → (out : List ℕ) → Outcome
+
+-- A refusal leaves the output as it was; what is written stands at its front, and past it nothing changes.
+abbrev pub outcomeOf : List ℕ → value.Writing → Outcome
+outcomeOf out (value.refusal n q) = outcome (Refused n q) out
+outcomeOf out (value.written bs) = outcome (Written (length bs)) (bs ++ drop (length bs) out)
+
+-- A sheet's cells over the bytes B, written by a good table.
+unfoldable pub sheetOutcome : (schema : List ℕ) (ty : ℕ) (cells B out : List ℕ) → Outcome
+sheetOutcome schema ty cells B out = outcomeOf out (value.write (tableOf schema) ty (rowsOf cells) B (length out))
+
+-- The table's refusals come first.
+abbrev pub byVerdict : Checked → (other : Outcome) → List ℕ → Outcome
+byVerdict (TableRefused n q) other out = outcome (Refused n q) out
+byVerdict Good other out = other
+
+unfoldable pub fileOutcome : (schema : List ℕ) (ty : ℕ) (cells B out : List ℕ) → Outcome
+fileOutcome schema ty cells B out = byVerdict (checked schema) (sheetOutcome schema ty cells B out) out

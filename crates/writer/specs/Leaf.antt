@@ -1,0 +1,113 @@
+-- What the leaves of the writer answer: a row, a content, a bitmap.
+-- Assumes nothing.
+use mathlib.Core.Path.{_≡_}
+use mathlib.Core.Bool.{cond}
+use mathlib.Core.List.{List}
+use Prim.Native.Nat.{ℕ, _+_, _*_, _/_, _^_, _≤_, _<_}
+use lib.Dec.{eqb, ltb}
+use lib.ListN.{length, getD, take, drop}
+use Rattle.schema.specs.declared.Field.{Field}
+use Rattle.schema.specs.Table.{Table, Shape, scalar, text}
+use Rattle.value.specs.declared.Row.{Row}
+use Rattle.value.specs.Answer.{CursorOf, AnswerOf, refused, seen, _>>=_, at}
+use Rattle.value.specs.Sheet.{rowsOf}
+use Rattle.value.specs.Read.{Own, plain, present, knownBits}
+use Rattle.value.specs.Write.{RowReader, rowOf, span, bitsAt, says}
+use Rattle.writer.specs.declared.leaf.Due.{Due}
+use Rattle.writer.specs.declared.leaf.Due.the-variants.{Found, Missing}
+use Rattle.writer.specs.declared.leaf.Verdict.{Verdict}
+use Rattle.writer.specs.declared.leaf.Verdict.the-variants.{Fine, Bad}
+use Rattle.writer.specs.declared.leaf.Leaf.{Leaf}
+use Rattle.writer.specs.declared.leaf.Leaf.the-variants.{At, Bad as BadLeaf}
+use Rattle.writer.specs.declared.leaf.Head.{Head}
+use Rattle.writer.specs.declared.leaf.Head.the-variants.{Bits, Fault}
+
+-- The answer accepts.
+abbrev pub Accepted : {E A : Type 0} → AnswerOf E A → Type 0
+Accepted (refused n q) = ⊥
+Accepted (seen a c) = Unit {0}
+
+-- The cursor at a row of a sheet's cells.
+abbrev pub rowsAt : List ℕ → ℕ → CursorOf Row
+rowsAt cells k = record { left = drop k (rowsOf cells); at = k }
+
+-- ---- rows
+
+-- The second and third cell of row k: its place and its length.
+abbrev pub placeAt : List ℕ → ℕ → ℕ
+placeAt cells k = getD cells (4 * k + 1) 0
+
+abbrev pub lengthAt : List ℕ → ℕ → ℕ
+lengthAt cells k = getD cells (4 * k + 2) 0
+
+-- The answer for row k, of type t, as the answer of a reader there.
+abbrev pub dueOf : List ℕ → (k t : ℕ) → Due → AnswerOf Row Row
+dueOf cells k t (Found p n c) = seen (record { ty = t; place = p; length = n; count = c }) (rowsAt cells (k + 1))
+dueOf cells k t Missing = refused 50 k
+
+abbrev pub DueIn : List ℕ → ℕ → Due → Type 0
+DueIn cells k (Found p n c) = (k < length cells / 4) × (p ≡ placeAt cells k) × (n ≡ lengthAt cells k) × (p < 4294967296) × (n < 4294967296)
+DueIn cells k Missing = Unit {0}
+
+pub record RowDue (cells : List ℕ) (k t : ℕ) (r : Due) : Type 0 where
+  pub same : dueOf cells k t r ≡ rowOf t (rowsAt cells k)
+  pub within : DueIn cells k r
+
+-- ---- contents
+
+-- The shape of a kind from 1 to 13.
+unfoldable pub leafShape : ℕ → Shape
+leafShape kind = cond (ltb kind 12) (scalar kind) (text kind)
+
+-- A verdict on row k with the n bytes at place p, as the answer of a reader.
+abbrev pub saidOf : (B : List ℕ) (p n k : ℕ) → CursorOf Row → Verdict → AnswerOf Row Own
+saidOf B p n k cur Fine = seen (plain (span B p n)) cur
+saidOf B p n k cur (Bad number) = refused number k
+
+abbrev pub VerdictIn : (size p n : ℕ) → Verdict → Type 0
+VerdictIn size p n Fine = p + n ≤ size
+VerdictIn size p n (Bad number) = Unit {0}
+
+-- It is what the row says, whichever row it is.
+pub record Judged (B : List ℕ) (kind p n c : ℕ) (r : Verdict) : Type 0 where
+  pub same : (k : ℕ) (cur : CursorOf Row) → saidOf B p n k cur r ≡ says B k (leafShape kind) p n c cur
+  pub within : VerdictIn (length B) p n r
+
+-- What the next row, of type t and shape s, says.
+unfoldable pub rowSays : List ℕ → (t : ℕ) → Shape → RowReader Own
+rowSays B t s = at λ here. do
+  r ← rowOf t
+  says B (here .at) s (r .place) (r .length) (r .count)
+
+abbrev pub leafOf : (cells B : List ℕ) (k : ℕ) → Leaf → AnswerOf Row Own
+leafOf cells B k (At p n) = seen (plain (span B p n)) (rowsAt cells (k + 1))
+leafOf cells B k (BadLeaf number) = refused number k
+
+abbrev pub LeafIn : (cells B : List ℕ) (k : ℕ) → Leaf → Type 0
+LeafIn cells B k (At p n) = (k < length cells / 4) × (p ≡ placeAt cells k) × (n ≡ lengthAt cells k) × (p + n ≤ length B)
+LeafIn cells B k (BadLeaf number) = Unit {0}
+
+pub record LeafRow (cells B : List ℕ) (kind t k : ℕ) (r : Leaf) : Type 0 where
+  pub same : leafOf cells B k r ≡ rowSays B t (leafShape kind) (rowsAt cells k)
+  pub within : LeafIn cells B k r
+
+-- ---- presence bits
+
+-- A struct's fields: n from the first on.
+unfoldable pub fieldsFrom : Table → ℕ → ℕ → List Field
+fieldsFrom T first n = take n (drop first (T .fields))
+
+abbrev pub headOf : (k : ℕ) → CursorOf Row → Head → AnswerOf Row ℕ
+headOf k cur (Bits word known ones unknown) = seen word cur
+headOf k cur (Fault number) = refused number k
+
+-- The known bits and their count, and that there is no unknown one exactly where the word is below 2 ^ fields.
+abbrev pub HeadIn : List Field → Head → Type 0
+HeadIn fs (Bits word known ones unknown) =
+    (known ≡ knownBits fs word) × (ones ≡ length (present fs known)) × (ltb word (2 ^ length fs) ≡ eqb unknown 0)
+HeadIn fs (Fault number) = Unit {0}
+
+-- They are what the bitmap at place p says, whichever row it is of.
+pub record Headed (B : List ℕ) (fs : List Field) (p : ℕ) (r : Head) : Type 0 where
+  pub same : (k : ℕ) (cur : CursorOf Row) → headOf k cur r ≡ bitsAt B k fs p cur
+  pub within : HeadIn fs r

@@ -1,0 +1,62 @@
+// The keys of a map, known by the numbers of their rows.
+use crate::leaf::wide;
+ghost use mathlib.Core.Path.{_≡_};
+ghost use mathlib.Core.Bool.{false};
+ghost use Prim.Native.Nat.{_+_, _≤_};
+ghost use lib.ListN.{length};
+ghost use Rattle.value.specs.Read.{same, among};
+ghost use Rattle.value.specs.Write.{span};
+ghost use Rattle.writer.specs.Keys.{KeyIn, keyAt, Kept, keysIn};
+
+// Two spans of the source have the same bytes.
+fn is_same(source: &[u8], a: usize, n: usize, b: usize, m: usize) -> bool
+    requires { ⌜ (a + n ≤ length (now source)) × (b + m ≤ length (now source)) ⌝ }
+    ensures { λ r. ⌜ r ≡ same (span (now (source .entry)) a n) (span (now (source .entry)) b m) ⌝ }
+{
+    if n != m {
+        return false;
+    }
+    let mut i = 0;
+    while i < n {
+        if source[a + i] != source[b + i] {
+            return false;
+        }
+        i = i + 1;
+    }
+    true
+}
+
+// The n bytes at a place are the content of the key in a row.
+pub fn is_key(sheet: &[u32], source: &[u8], row: usize, place: usize, n: usize) -> bool
+    requires { ⌜ KeyIn (now sheet) (now source) row × (place + n ≤ length (now source)) ⌝ }
+    ensures { λ r. ⌜ r ≡ same (span (now (source .entry)) place n) (keyAt (now (sheet .entry)) (now (source .entry)) row) ⌝ }
+{
+    let k = 4 * row;
+    is_same(source, place, n, wide(sheet[k + 1]), wide(sheet[k + 2]))
+}
+
+// Whether the n bytes at a place are the content of one of the first held keys; where nothing is judged, they are known not to be.
+pub fn is_kept(
+    sheet: &[u32],
+    source: &[u8],
+    kept: &[usize],
+    held: usize,
+    place: usize,
+    n: usize,
+    judge: bool,
+) -> bool
+    requires { ⌜ (held ≤ length (now kept)) × (place + n ≤ length (now source)) × Kept (now sheet) (now source) (now kept) held × (judge ≡ false → among (span (now source) place n) (keysIn (now sheet) (now source) (now kept) held) ≡ false) ⌝ }
+    ensures { λ r. ⌜ r ≡ among (span (now (source .entry)) place n) (keysIn (now (sheet .entry)) (now (source .entry)) (now (kept .entry)) held) ⌝ }
+{
+    if !judge {
+        return false;
+    }
+    let mut j = held;
+    while 0 < j {
+        j = j - 1;
+        if is_key(sheet, source, kept[j], place, n) {
+            return true;
+        }
+    }
+    false
+}

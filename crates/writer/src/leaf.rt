@@ -1,0 +1,218 @@
+// What one row says: its cells, the content of a scalar, string or bytes, and the presence bits of a struct.
+use wire::bitmap;
+use wire::utf8;
+ghost use mathlib.Core.Path.{_≡_};
+ghost use mathlib.Core.Bool.{true, false};
+ghost use Prim.Native.Nat.{_+_, _*_, _/_, _≤_, _<_};
+ghost use lib.ListN.{length};
+ghost use Rattle.wire.specs.Little.{little};
+ghost use Rattle.wire.specs.Utf8.{utf8};
+ghost use Rattle.schema.specs.Table.{width, bitmapBytes};
+ghost use Rattle.schema.specs.File.{tableOf};
+ghost use Rattle.schema.specs.Check.{IsGood};
+ghost use Rattle.value.specs.Read.{complete};
+ghost use Rattle.value.specs.Write.{span};
+ghost use Rattle.writer.specs.Leaf.{Accepted, rowsAt, RowDue, leafShape, Judged, rowSays, LeafRow, fieldsFrom, Headed};
+
+// A row of the type due, by its place, length and count; or none: the row is missing or of another type.
+pub enum Due {
+    Found {
+        place: usize,
+        length: usize,
+        count: usize,
+    },
+    Missing,
+}
+
+// Whether a row is right, or the number of its first fault.
+pub enum Verdict {
+    Fine,
+    Bad { number: u32 },
+}
+
+// A bitmap's word, the known fields' bits of it and their count, and the number of unknown bits set; or the number of its fault.
+pub enum Head {
+    Bits {
+        word: u64,
+        known: u64,
+        ones: usize,
+        unknown: usize,
+    },
+    Fault {
+        number: u32,
+    },
+}
+
+pub fn wide(x: u32) -> usize
+    ensures { λ r. ⌜ (r ≡ x) × (r < 4294967296) ⌝ }
+{
+    x as usize
+}
+
+// The row of a number, which is to be of type ty.
+pub fn row_due(sheet: &[u32], row: usize, ty: u32) -> Due
+    ensures { λ r. ⌜ RowDue (now (sheet .entry)) row ty r ⌝ }
+{
+    if sheet.len() / 4 <= row {
+        return Due::Missing;
+    }
+    let k = 4 * row;
+    if sheet[k] != ty {
+        return Due::Missing;
+    }
+    Due::Found {
+        place: wide(sheet[k + 1]),
+        length: wide(sheet[k + 2]),
+        count: wide(sheet[k + 3]),
+    }
+}
+
+// The width in bytes of a scalar of a kind; kind 0 is none, and has none.
+fn width_of(kind: usize) -> usize
+    requires { ⌜ kind < 12 ⌝ }
+    ensures { λ r. ⌜ r ≡ width kind ⌝ }
+{
+    if kind == 0 {
+        return 0;
+    }
+    schema::kind::width_of(kind)
+}
+
+// Whether a content is UTF-8; where nothing is judged, it is known to be.
+fn is_utf8(source: &[u8], from: usize, n: usize, judge: bool) -> bool
+    requires { ⌜ (from + n ≤ length (now source)) × (judge ≡ false → utf8 (span (now source) from n) ≡ true) ⌝ }
+    ensures { λ r. ⌜ r ≡ utf8 (span (now (source .entry)) from n) ⌝ }
+{
+    if judge {
+        return utf8::valid(source, from, from + n);
+    }
+    true
+}
+
+// A scalar by its row.
+fn scalar(source: &[u8], kind: usize, place: usize, n: usize, count: usize) -> Verdict
+    requires { ⌜ (kind < 12) × (place < 4294967296) × (n < 4294967296) ⌝ }
+    ensures { λ r. ⌜ Judged (now (source .entry)) kind place n count r ⌝ }
+{
+    if n != width_of(kind) {
+        return Verdict::Bad { number: 50 };
+    }
+    if count != 0 {
+        return Verdict::Bad { number: 50 };
+    }
+    if source.len() < place + n {
+        return Verdict::Bad { number: 51 };
+    }
+    if kind == 1 {
+        if 1 < source[place] {
+            return Verdict::Bad { number: 22 };
+        }
+    }
+    Verdict::Fine
+}
+
+// A string or bytes by its row.
+fn text(source: &[u8], kind: usize, place: usize, n: usize, count: usize, judge: bool) -> Verdict
+    requires { ⌜ (12 ≤ kind) × (place < 4294967296) × (n < 4294967296) × (judge ≡ false → kind ≡ 12 → utf8 (span (now source) place n) ≡ true) ⌝ }
+    ensures { λ r. ⌜ Judged (now (source .entry)) kind place n count r ⌝ }
+{
+    if count != 0 {
+        return Verdict::Bad { number: 50 };
+    }
+    if source.len() < place + n {
+        return Verdict::Bad { number: 51 };
+    }
+    if kind == 12 {
+        if !is_utf8(source, place, n, judge) {
+            return Verdict::Bad { number: 23 };
+        }
+    }
+    Verdict::Fine
+}
+
+// A value of a kind from 1 to 13 by its row.
+pub fn content(
+    source: &[u8],
+    kind: usize,
+    place: usize,
+    n: usize,
+    count: usize,
+    judge: bool,
+) -> Verdict
+    requires { ⌜ (place < 4294967296) × (n < 4294967296) × (judge ≡ false → kind ≡ 12 → utf8 (span (now source) place n) ≡ true) ⌝ }
+    ensures { λ r. ⌜ Judged (now (source .entry)) kind place n count r ⌝ }
+{
+    if kind < 12 {
+        scalar(source, kind, place, n, count)
+    } else {
+        text(source, kind, place, n, count, judge)
+    }
+}
+
+// Whether each of n fields from the first on that is not optional has its bit; where nothing is judged, they are known to.
+fn is_complete(s: &[u8], first: usize, n: usize, word: u64, judge: bool) -> bool
+    requires { ⌜ IsGood (now s) × (first + n ≤ length (tableOf (now s) .fields)) × (judge ≡ false → complete (fieldsFrom (tableOf (now s)) first n) word ≡ true) ⌝ }
+    ensures { λ r. ⌜ r ≡ complete (fieldsFrom (tableOf (now (s .entry))) first n) word ⌝ }
+{
+    if !judge {
+        return true;
+    }
+    let mut i = first;
+    let mut left = n;
+    let mut bits = word;
+    while 0 < left {
+        let f = schema::access::field(s, i);
+        if !((f.optional == 1) | (bits % 2 == 1)) {
+            return false;
+        }
+        bits = bits / 2;
+        i = i + 1;
+        left = left - 1;
+    }
+    true
+}
+
+// The presence bytes at a struct's place, of n fields from the first on.
+pub fn presence(s: &[u8], source: &[u8], first: usize, n: usize, place: usize, judge: bool) -> Head
+    requires { ⌜ IsGood (now s) × (0 < n) × (n ≤ 64) × (first + n ≤ length (tableOf (now s) .fields)) × (place < 4294967296) × (judge ≡ false → complete (fieldsFrom (tableOf (now s)) first n) (little (span (now source) place (bitmapBytes n))) ≡ true) ⌝ }
+    ensures { λ r. ⌜ Headed (now (source .entry)) (fieldsFrom (tableOf (now (s .entry))) first n) place r ⌝ }
+{
+    let size = (n + 7) / 8;
+    if source.len() < place + size {
+        return Head::Fault { number: 51 };
+    }
+    let b = bitmap::read(source, place, n);
+    if !is_complete(s, first, n, b.bits, judge) {
+        return Head::Fault { number: 25 };
+    }
+    Head::Bits {
+        word: b.bits,
+        known: b.known,
+        ones: b.count as usize,
+        unknown: b.unknown as usize,
+    }
+}
+
+// A content's place and length, or the number of the row's first fault.
+pub enum Leaf {
+    At { place: usize, length: usize },
+    Bad { number: u32 },
+}
+
+// A row of a value of type ty, which is of a kind from 1 to 13.
+pub fn leaf_row(sheet: &[u32], source: &[u8], kind: usize, ty: u32, row: usize, judge: bool) -> Leaf
+    requires { ⌜ (judge ≡ false → Accepted (rowSays (now source) ty (leafShape kind) (rowsAt (now sheet) row))) ⌝ }
+    ensures { λ r. ⌜ LeafRow (now (sheet .entry)) (now (source .entry)) kind ty row r ⌝ }
+{
+    match row_due(sheet, row, ty) {
+        Due::Missing => Leaf::Bad { number: 50 },
+        Due::Found {
+            place,
+            length,
+            count,
+        } => match content(source, kind, place, length, count, judge) {
+            Verdict::Bad { number } => Leaf::Bad { number },
+            Verdict::Fine => Leaf::At { place, length },
+        },
+    }
+}

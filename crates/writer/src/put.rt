@@ -1,0 +1,101 @@
+// Bytes put into the output, each where the output has a place for it; and the place after them, as far as it matters.
+ghost use mathlib.Core.Path.{_≡_};
+ghost use mathlib.Core.List.{[], _∷_};
+ghost use Prim.Native.Nat.{_+_, _≤_, _<_};
+ghost use lib.ListN.{length};
+ghost use Rattle.wire.specs.Little.{bytes};
+ghost use Rattle.wire.specs.Varuint.{varuintBytes};
+ghost use Rattle.value.specs.Spell.{leafBytes};
+ghost use Rattle.value.specs.Write.{span};
+ghost use Rattle.writer.specs.Emit.{put, cap, PutAt};
+ghost use Rattle.writer.specs.Leaf.{leafShape};
+
+fn put_byte(out: &mut [u8], pos: usize, b: u8)
+    ensures { λ _. ⌜ now (out .exit) ≡ put (now (out .entry)) pos (b ∷ []) ⌝ }
+{
+    if pos < out.len() {
+        out[pos] = b;
+    }
+}
+
+// A place n bytes further.
+fn further(pos: usize, n: usize) -> usize
+    requires { ⌜ pos ≤ 16385 ⌝ }
+    ensures { λ r. ⌜ (r ≡ cap (pos + n)) × (r ≤ 16385) ⌝ }
+{
+    if 16385 - pos <= n { 16385 } else { pos + n }
+}
+
+// The shortest VarUInt of x.
+pub fn put_number(out: &mut [u8], pos: usize, x: u64) -> usize
+    requires { ⌜ pos ≤ 16385 ⌝ }
+    ensures { λ r. ⌜ PutAt (now (out .entry)) pos (varuintBytes x) r (now (out .exit)) ⌝ }
+{
+    let mut y = x;
+    let mut at = pos;
+    while 128 <= y {
+        put_byte(out, at, (y % 128 + 128) as u8);
+        y = y / 128;
+        at = at + 1;
+    }
+    put_byte(out, at, y as u8);
+    further(pos, at + 1 - pos)
+}
+
+// The n lowest bytes of x.
+pub fn put_bits(out: &mut [u8], pos: usize, n: usize, x: u64) -> usize
+    requires { ⌜ (pos ≤ 16385) × (n ≤ 8) ⌝ }
+    ensures { λ r. ⌜ PutAt (now (out .entry)) pos (bytes n x) r (now (out .exit)) ⌝ }
+{
+    let mut y = x;
+    let mut i = 0;
+    while i < n {
+        put_byte(out, pos + i, (y % 256) as u8);
+        y = y / 256;
+        i = i + 1;
+    }
+    further(pos, n)
+}
+
+// How many of n bytes from pos on have a place among size.
+fn fitting(size: usize, pos: usize, n: usize) -> usize
+    ensures { λ r. ⌜ (r ≤ n) × (0 < r → pos + r ≤ size) × (r < n → size ≤ pos + r) ⌝ }
+{
+    if size <= pos {
+        return 0;
+    }
+    if size - pos < n { size - pos } else { n }
+}
+
+// The n bytes of the source at a place.
+pub fn put_span(out: &mut [u8], pos: usize, source: &[u8], from: usize, n: usize) -> usize
+    requires { ⌜ (pos ≤ 16385) × (from + n ≤ length (now source)) ⌝ }
+    ensures { λ r. ⌜ PutAt (now (out .entry)) pos (span (now (source .entry)) from n) r (now (out .exit)) ⌝ }
+{
+    let m = fitting(out.len(), pos, n);
+    let mut i = 0;
+    while i < m {
+        out[pos + i] = source[from + i];
+        i = i + 1;
+    }
+    further(pos, n)
+}
+
+// A value of a kind from 1 to 13 with the n bytes of the source at a place: a string or bytes has its length in front.
+pub fn put_content(
+    out: &mut [u8],
+    pos: usize,
+    kind: usize,
+    source: &[u8],
+    from: usize,
+    n: usize,
+) -> usize
+    requires { ⌜ (pos ≤ 16385) × (length (now out) ≤ 16384) × (from + n ≤ length (now source)) ⌝ }
+    ensures { λ r. ⌜ PutAt (now (out .entry)) pos (leafBytes (leafShape kind) (span (now (source .entry)) from n)) r (now (out .exit)) ⌝ }
+{
+    if kind < 12 {
+        return put_span(out, pos, source, from, n);
+    }
+    let next = put_number(out, pos, n as u64);
+    put_span(out, next, source, from, n)
+}

@@ -1,0 +1,608 @@
+// The walkers: a value, and the arrays, maps and structs that hold values, call each other in a cycle; the depth still allowed falls.
+// They go over the rows of the sheet by the schema table s and put each value's encoding into the output, from `pos` on, where it has a place.
+// A walk that does not judge trusts that the same walk has been judged: it skips the tests that would read contents or keys again.
+use crate::key::is_kept;
+use crate::key::is_key;
+use crate::leaf::Due;
+use crate::leaf::Head;
+use crate::leaf::Leaf;
+use crate::leaf::leaf_row;
+use crate::leaf::presence;
+use crate::leaf::row_due;
+use crate::put::put_bits;
+use crate::put::put_content;
+use crate::put::put_number;
+use schema::access::field;
+use schema::access::type_row;
+ghost use mathlib.Core.Path.{_≡_};
+ghost use mathlib.Core.Bool.{false, cond};
+ghost use mathlib.Core.List.{[]};
+ghost use Prim.Native.Nat.{suc, _+_, _≤_, _<_, min};
+ghost use lib.ListN.{length, set, replicate};
+ghost use Rattle.schema.specs.Table.{rowAt, array, map, struct};
+ghost use Rattle.schema.specs.File.{tableOf};
+ghost use Rattle.schema.specs.Check.{IsGood};
+ghost use Rattle.value.specs.Read.{plainItem, pairs, present, among};
+ghost use Rattle.value.specs.Write.{span};
+ghost use Rattle.writer.specs.Leaf.{fieldsFrom};
+ghost use Rattle.writer.specs.Keys.{Stands, keysPast};
+ghost use Rattle.writer.specs.Walk.{shapeIn, valueIn, itemsIn, rootIn, valueEnd, itemsEnd, rootEnd, Walked, Ready};
+
+// The row and the place in the output after what was written, or a refusal with its row.
+pub enum Walk {
+    Past { row: usize, pos: usize },
+    Refused { number: u32, place: usize },
+}
+
+// A value of type ty in a row, with so many levels of depth still allowed.
+fn value(
+    s: &[u8],
+    sheet: &[u32],
+    source: &[u8],
+    out: &mut [u8],
+    ty: u32,
+    row: usize,
+    pos: usize,
+    depth: usize,
+    judge: bool,
+) -> Walk
+    requires { ⌜ Ready (now s) (now sheet) (now out) row pos judge (valueIn (now s) (now source) (now sheet) depth ty row) ⌝ }
+    ensures { λ r. ⌜ Walked (now (sheet .entry)) (valueEnd (now (s .entry)) (now (source .entry)) (now (sheet .entry)) depth ty row pos (now (out .entry))) r (now (out .exit)) ⌝ }
+{
+    if depth == 0 {
+        return Walk::Refused {
+            number: 28,
+            place: row,
+        };
+    }
+    let t = type_row(s, ty as usize);
+    let kind = t.kind as usize;
+    if kind == 14 {
+        return array(s, sheet, source, out, ty, t.a, row, pos, depth - 1, judge);
+    }
+    if kind == 15 {
+        return mapping(
+            s,
+            sheet,
+            source,
+            out,
+            ty,
+            t.a,
+            t.b,
+            row,
+            pos,
+            depth - 1,
+            judge,
+        );
+    }
+    if kind == 16 {
+        return structure(
+            s,
+            sheet,
+            source,
+            out,
+            ty,
+            t.a as usize,
+            t.b as usize,
+            row,
+            pos,
+            depth - 1,
+            judge,
+        );
+    }
+    if kind == 0 {
+        return Walk::Refused {
+            number: 50,
+            place: row,
+        };
+    }
+    if 16 < kind {
+        return Walk::Refused {
+            number: 50,
+            place: row,
+        };
+    }
+    match leaf_row(sheet, source, kind, ty, row, judge) {
+        Leaf::Bad { number } => Walk::Refused { number, place: row },
+        Leaf::At { place, length } => {
+            let next = put_content(out, pos, kind, source, place, length);
+            Walk::Past {
+                row: row + 1,
+                pos: next,
+            }
+        }
+    }
+}
+
+// The kind of a type whose values are leaves, of a kind from 1 to 13, where depth is left for them; or else 0.
+fn leaf_kind(s: &[u8], ty: u32, depth: usize) -> usize
+    requires { ⌜ IsGood (now s) ⌝ }
+    ensures { λ r. ⌜ (0 < r → (r ≡ rowAt (tableOf (now (s .entry))) ty .kind) × (r < 14) × (0 < depth)) ⌝ }
+{
+    let t = type_row(s, ty as usize);
+    let kind = t.kind as usize;
+    if depth == 0 {
+        return 0;
+    }
+    if kind < 14 { kind } else { 0 }
+}
+
+// So many elements of an array from a row on, which are leaves of a kind: a loop without the cycle of walkers.
+fn leaves(
+    s: &[u8],
+    sheet: &[u32],
+    source: &[u8],
+    out: &mut [u8],
+    kind: usize,
+    elem: u32,
+    n: usize,
+    start: usize,
+    pos: usize,
+    depth: usize,
+    judge: bool,
+) -> Walk
+    requires { ⌜ Ready (now s) (now sheet) (now out) start pos judge (itemsIn (now s) (now source) (now sheet) depth [] (replicate n (plainItem elem)) start) ⌝ }
+    requires { ⌜ (0 < kind) × (kind ≡ rowAt (tableOf (now s)) elem .kind) × (kind < 14) × (0 < depth) ⌝ }
+    ensures { λ r. ⌜ Walked (now (sheet .entry)) (itemsEnd (now (s .entry)) (now (source .entry)) (now (sheet .entry)) depth [] (replicate n (plainItem elem)) start pos (now (out .entry))) r (now (out .exit)) ⌝ }
+{
+    let mut left = n;
+    let mut here = start;
+    let mut to = pos;
+    while 0 < left {
+        match leaf_row(sheet, source, kind, elem, here, judge) {
+            Leaf::Bad { number } => {
+                return Walk::Refused {
+                    number,
+                    place: here,
+                };
+            }
+            Leaf::At { place, length } => {
+                to = put_content(out, to, kind, source, place, length);
+            }
+        }
+        here = here + 1;
+        left = left - 1;
+    }
+    Walk::Past { row: here, pos: to }
+}
+
+// An array of type ty, whose elements have the type elem and so many levels of depth.
+fn array(
+    s: &[u8],
+    sheet: &[u32],
+    source: &[u8],
+    out: &mut [u8],
+    ty: u32,
+    elem: u32,
+    row: usize,
+    pos: usize,
+    depth: usize,
+    judge: bool,
+) -> Walk
+    requires { ⌜ Ready (now s) (now sheet) (now out) row pos judge (valueIn (now s) (now source) (now sheet) (suc depth) ty row) × (shapeIn (now s) ty ≡ array elem) ⌝ }
+    ensures { λ r. ⌜ Walked (now (sheet .entry)) (valueEnd (now (s .entry)) (now (source .entry)) (now (sheet .entry)) (suc depth) ty row pos (now (out .entry))) r (now (out .exit)) ⌝ }
+{
+    match row_due(sheet, row, ty) {
+        Due::Missing => Walk::Refused {
+            number: 50,
+            place: row,
+        },
+        Due::Found {
+            place: _,
+            length: _,
+            count,
+        } => {
+            let next = put_number(out, pos, count as u64);
+            let kind = leaf_kind(s, elem, depth);
+            if 0 < kind {
+                return leaves(
+                    s,
+                    sheet,
+                    source,
+                    out,
+                    kind,
+                    elem,
+                    count,
+                    row + 1,
+                    next,
+                    depth,
+                    judge,
+                );
+            }
+            let mut left = count;
+            let mut here = row + 1;
+            let mut to = next;
+            while 0 < left {
+                match value(s, sheet, source, out, elem, here, to, depth, judge) {
+                    Walk::Refused { number, place } => {
+                        return Walk::Refused { number, place };
+                    }
+                    Walk::Past { row, pos } => {
+                        here = row;
+                        to = pos;
+                    }
+                }
+                left = left - 1;
+            }
+            Walk::Past { row: here, pos: to }
+        }
+    }
+}
+
+fn least(a: usize, b: usize) -> usize
+    ensures { λ r. ⌜ r ≡ min a b ⌝ }
+{
+    if a < b { a } else { b }
+}
+
+fn either(t: bool, a: usize, b: usize) -> usize
+    ensures { λ r. ⌜ r ≡ cond t a b ⌝ }
+{
+    if t { a } else { b }
+}
+
+// Keeps a key's row as number i, where there is a place for it.
+fn keep(kept: &mut [usize], i: usize, row: usize)
+    ensures { λ _. ⌜ now (kept .exit) ≡ set (now (kept .entry)) i row ⌝ }
+{
+    if i < kept.len() {
+        kept[i] = row;
+    }
+}
+
+// Whether one of m pairs from a row on, whose values have the type val, has the key of the n bytes at a place; where nothing is judged, none has.
+// Values are passed by a walk into an output of one byte, which is not looked at.
+fn has_key(
+    s: &[u8],
+    sheet: &[u32],
+    source: &[u8],
+    val: u32,
+    from: usize,
+    m: usize,
+    place: usize,
+    n: usize,
+    depth: usize,
+    judge: bool,
+) -> bool
+    requires { ⌜ IsGood (now s) × (place + n ≤ length (now source)) × Stands (now s) (now source) (now sheet) depth val m from × (judge ≡ false → among (span (now source) place n) (keysPast (now s) (now source) (now sheet) depth val m from []) ≡ false) ⌝ }
+    ensures { λ r. ⌜ r ≡ among (span (now (source .entry)) place n) (keysPast (now (s .entry)) (now (source .entry)) (now (sheet .entry)) depth val m from []) ⌝ }
+{
+    if !judge {
+        return false;
+    }
+    let mut spare = [0u8; 1];
+    let mut left = m;
+    let mut here = from;
+    while 0 < left {
+        if is_key(sheet, source, here, place, n) {
+            return true;
+        }
+        match value(s, sheet, source, &mut spare, val, here + 1, 0, depth, false) {
+            Walk::Refused {
+                number: _,
+                place: _,
+            } => {
+                return false;
+            }
+            Walk::Past { row, pos: _ } => {
+                here = row;
+            }
+        }
+        left = left - 1;
+    }
+    false
+}
+
+// A map of type ty. The rows of its keys are kept in an array: few pairs need only a short one.
+fn mapping(
+    s: &[u8],
+    sheet: &[u32],
+    source: &[u8],
+    out: &mut [u8],
+    ty: u32,
+    key: u32,
+    val: u32,
+    row: usize,
+    pos: usize,
+    depth: usize,
+    judge: bool,
+) -> Walk
+    requires { ⌜ Ready (now s) (now sheet) (now out) row pos judge (valueIn (now s) (now source) (now sheet) (suc depth) ty row) × (shapeIn (now s) ty ≡ map key val) ⌝ }
+    requires { ⌜ (0 < rowAt (tableOf (now s)) key .kind) × (rowAt (tableOf (now s)) key .kind < 14) ⌝ }
+    ensures { λ r. ⌜ Walked (now (sheet .entry)) (valueEnd (now (s .entry)) (now (source .entry)) (now (sheet .entry)) (suc depth) ty row pos (now (out .entry))) r (now (out .exit)) ⌝ }
+{
+    match row_due(sheet, row, ty) {
+        Due::Missing => Walk::Refused {
+            number: 50,
+            place: row,
+        },
+        Due::Found {
+            place: _,
+            length: _,
+            count,
+        } => {
+            let next = put_number(out, pos, count as u64);
+            if (count <= 64) | !judge {
+                let mut kept = [0usize; 64];
+                return pairs(
+                    s,
+                    sheet,
+                    source,
+                    out,
+                    &mut kept,
+                    key,
+                    val,
+                    count,
+                    row + 1,
+                    next,
+                    depth,
+                    judge,
+                );
+            }
+            let mut kept = [0usize; 4096];
+            pairs(
+                s,
+                sheet,
+                source,
+                out,
+                &mut kept,
+                key,
+                val,
+                count,
+                row + 1,
+                next,
+                depth,
+                judge,
+            )
+        }
+    }
+}
+
+// The n pairs of a map from a row on. The rows of the first keys are kept, as many as there is room for; `from` is the row after their pairs.
+// The array is scratch: what it holds afterwards means nothing.
+fn pairs(
+    s: &[u8],
+    sheet: &[u32],
+    source: &[u8],
+    out: &mut [u8],
+    kept: &mut [usize],
+    key: u32,
+    val: u32,
+    n: usize,
+    start: usize,
+    pos: usize,
+    depth: usize,
+    judge: bool,
+) -> Walk
+    requires { ⌜ Ready (now s) (now sheet) (now out) start pos judge (itemsIn (now s) (now source) (now sheet) depth [] (pairs n key val) start) ⌝ }
+    requires { ⌜ (0 < rowAt (tableOf (now s)) key .kind) × (rowAt (tableOf (now s)) key .kind < 14) ⌝ }
+    ensures { λ r. ⌜ Walked (now (sheet .entry)) (itemsEnd (now (s .entry)) (now (source .entry)) (now (sheet .entry)) depth [] (pairs n key val) start pos (now (out .entry))) r (now (out .exit)) ⌝ }
+{
+    let t = type_row(s, key as usize);
+    let kind = t.kind as usize;
+    let mut i = 0;
+    let mut here = start;
+    let mut to = pos;
+    let mut from = start;
+    while i < n {
+        if depth == 0 {
+            return Walk::Refused {
+                number: 28,
+                place: here,
+            };
+        }
+        match leaf_row(sheet, source, kind, key, here, judge) {
+            Leaf::Bad { number } => {
+                return Walk::Refused {
+                    number,
+                    place: here,
+                };
+            }
+            Leaf::At { place, length } => {
+                let held = least(i, kept.len());
+                if is_kept(sheet, source, kept, held, place, length, judge) {
+                    return Walk::Refused {
+                        number: 24,
+                        place: here,
+                    };
+                }
+                if has_key(
+                    s,
+                    sheet,
+                    source,
+                    val,
+                    from,
+                    i - held,
+                    place,
+                    length,
+                    depth,
+                    judge,
+                ) {
+                    return Walk::Refused {
+                        number: 24,
+                        place: here,
+                    };
+                }
+                let next = put_content(out, to, kind, source, place, length);
+                match value(s, sheet, source, out, val, here + 1, next, depth, judge) {
+                    Walk::Refused { number, place } => {
+                        return Walk::Refused { number, place };
+                    }
+                    Walk::Past { row, pos } => {
+                        keep(kept, i, here);
+                        from = either(i < kept.len(), row, from);
+                        here = row;
+                        to = pos;
+                    }
+                }
+            }
+        }
+        i = i + 1;
+    }
+    Walk::Past { row: here, pos: to }
+}
+
+// An inner struct of type ty, which has n fields from the first on. An unknown bit is refused.
+fn structure(
+    s: &[u8],
+    sheet: &[u32],
+    source: &[u8],
+    out: &mut [u8],
+    ty: u32,
+    first: usize,
+    n: usize,
+    row: usize,
+    pos: usize,
+    depth: usize,
+    judge: bool,
+) -> Walk
+    requires { ⌜ Ready (now s) (now sheet) (now out) row pos judge (valueIn (now s) (now source) (now sheet) (suc depth) ty row) × (shapeIn (now s) ty ≡ struct (fieldsFrom (tableOf (now s)) first n)) ⌝ }
+    requires { ⌜ (0 < n) × (n ≤ 64) × (first + n ≤ length (tableOf (now s) .fields)) ⌝ }
+    ensures { λ r. ⌜ Walked (now (sheet .entry)) (valueEnd (now (s .entry)) (now (source .entry)) (now (sheet .entry)) (suc depth) ty row pos (now (out .entry))) r (now (out .exit)) ⌝ }
+{
+    match row_due(sheet, row, ty) {
+        Due::Missing => Walk::Refused {
+            number: 50,
+            place: row,
+        },
+        Due::Found {
+            place,
+            length: _,
+            count,
+        } => match presence(s, source, first, n, place, judge) {
+            Head::Fault { number } => Walk::Refused { number, place: row },
+            Head::Bits {
+                word: _,
+                known,
+                ones,
+                unknown,
+            } => {
+                if unknown != 0 {
+                    return Walk::Refused {
+                        number: 50,
+                        place: row,
+                    };
+                }
+                if count != ones {
+                    return Walk::Refused {
+                        number: 50,
+                        place: row,
+                    };
+                }
+                let next = put_bits(out, pos, (n + 7) / 8, known);
+                fields(
+                    s,
+                    sheet,
+                    source,
+                    out,
+                    first,
+                    n,
+                    known,
+                    row + 1,
+                    next,
+                    depth,
+                    judge,
+                )
+            }
+        },
+    }
+}
+
+// The fields of a struct whose bits are set in `known`, from the row `start` on.
+fn fields(
+    s: &[u8],
+    sheet: &[u32],
+    source: &[u8],
+    out: &mut [u8],
+    first: usize,
+    n: usize,
+    known: u64,
+    start: usize,
+    pos: usize,
+    depth: usize,
+    judge: bool,
+) -> Walk
+    requires { ⌜ Ready (now s) (now sheet) (now out) start pos judge (itemsIn (now s) (now source) (now sheet) depth [] (present (fieldsFrom (tableOf (now s)) first n) known) start) ⌝ }
+    requires { ⌜ first + n ≤ length (tableOf (now s) .fields) ⌝ }
+    ensures { λ r. ⌜ Walked (now (sheet .entry)) (itemsEnd (now (s .entry)) (now (source .entry)) (now (sheet .entry)) depth [] (present (fieldsFrom (tableOf (now (s .entry))) first n) known) start pos (now (out .entry))) r (now (out .exit)) ⌝ }
+{
+    let mut i = first;
+    let mut left = n;
+    let mut bits = known;
+    let mut here = start;
+    let mut to = pos;
+    while 0 < left {
+        if bits % 2 == 1 {
+            let f = field(s, i);
+            match value(s, sheet, source, out, f.ty, here, to, depth, judge) {
+                Walk::Refused { number, place } => {
+                    return Walk::Refused { number, place };
+                }
+                Walk::Past { row, pos } => {
+                    here = row;
+                    to = pos;
+                }
+            }
+        }
+        bits = bits / 2;
+        i = i + 1;
+        left = left - 1;
+    }
+    Walk::Past { row: here, pos: to }
+}
+
+// The root, a struct of type ty that has n fields from the first on, in row 0. Its unknown bits are left out, and no row is left over.
+pub fn root(
+    s: &[u8],
+    sheet: &[u32],
+    source: &[u8],
+    out: &mut [u8],
+    ty: u32,
+    first: usize,
+    n: usize,
+    judge: bool,
+) -> Walk
+    requires { ⌜ Ready (now s) (now sheet) (now out) 0 0 judge (rootIn (now s) (now source) (now sheet) ty (fieldsFrom (tableOf (now s)) first n)) × (shapeIn (now s) ty ≡ struct (fieldsFrom (tableOf (now s)) first n)) ⌝ }
+    requires { ⌜ (0 < n) × (n ≤ 64) × (first + n ≤ length (tableOf (now s) .fields)) ⌝ }
+    ensures { λ r. ⌜ Walked (now (sheet .entry)) (rootEnd (now (s .entry)) (now (source .entry)) (now (sheet .entry)) ty (fieldsFrom (tableOf (now (s .entry))) first n) (now (out .entry))) r (now (out .exit)) ⌝ }
+{
+    match row_due(sheet, 0, ty) {
+        Due::Missing => Walk::Refused {
+            number: 50,
+            place: 0,
+        },
+        Due::Found {
+            place,
+            length: _,
+            count,
+        } => match presence(s, source, first, n, place, judge) {
+            Head::Fault { number } => Walk::Refused { number, place: 0 },
+            Head::Bits {
+                word: _,
+                known,
+                ones,
+                unknown: _,
+            } => {
+                if count != ones {
+                    return Walk::Refused {
+                        number: 50,
+                        place: 0,
+                    };
+                }
+                let next = put_bits(out, 0, (n + 7) / 8, known);
+                match fields(s, sheet, source, out, first, n, known, 1, next, 15, judge) {
+                    Walk::Refused { number, place } => Walk::Refused { number, place },
+                    Walk::Past { row, pos } => {
+                        if row < sheet.len() / 4 {
+                            return Walk::Refused {
+                                number: 50,
+                                place: row,
+                            };
+                        }
+                        Walk::Past { row, pos }
+                    }
+                }
+            }
+        },
+    }
+}
