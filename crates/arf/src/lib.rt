@@ -1,8 +1,10 @@
 // The public entries. None of them asks anything of its caller: whatever the bytes and numbers, each ends and answers, and its statement fixes the answer
 // and every cell of lent memory.
+use calls::CallTable;
 use frame::FrameRead;
 use frame::FrameWritten;
 use frame::Header;
+use line::Received;
 use reader::Reading;
 use scalar::Answer;
 use schema::Checked;
@@ -11,8 +13,11 @@ use value::Row;
 use writer::Writing;
 ghost use mathlib.Core.Path.{_≡_};
 ghost use lib.ListN.{length};
+ghost use Rattle.calls.specs.Slots.{freshTable};
 ghost use Rattle.frame.specs.Frame.{frameOf};
 ghost use Rattle.frame.specs.Written.{writtenOf, outputOf};
+ghost use Rattle.line.specs.Answer.{line};
+ghost use Rattle.line.specs.Receive.{received};
 ghost use Rattle.reader.specs.Entry.{Outcome, readOutcome};
 ghost use Rattle.scalar.specs.Scalar.{scalarBy};
 ghost use Rattle.schema.specs.Check.{checked};
@@ -68,4 +73,24 @@ pub fn write_frame(header: Header, payload: &[u8], out: &mut [u8]) -> FrameWritt
     ensures { λ r. ⌜ (r ≡ writtenOf header (now (payload .entry)) (length (now (out .entry)))) × (now (out .exit) ≡ outputOf r header (now (payload .entry)) (now (out .entry))) ⌝ }
 {
     frame::write_frame(header, payload, out)
+}
+
+// The call table at the start: all slots free and zero.
+pub fn fresh() -> CallTable
+    ensures { λ r. ⌜ r ≡ freshTable ⌝ }
+{
+    CallTable::fresh()
+}
+
+// The frame at the front of the bytes from a side (the byte C or S): the answer with the next call table. Only an accepted payload changes the sheet.
+pub fn receive(
+    table: CallTable,
+    schema: &[u8],
+    side: u8,
+    bytes: &[u8],
+    sheet: &mut [u32],
+) -> Received
+    ensures { λ r. ⌜ line r (now (sheet .exit)) ≡ received (now (schema .entry)) side (now (bytes .entry)) (now (sheet .entry)) (table .slots) ⌝ }
+{
+    line::receive::receive(table, schema, side, bytes, sheet)
 }

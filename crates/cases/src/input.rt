@@ -2,13 +2,13 @@
 use libc::STDIN_FILENO;
 ghost use Rattle.io.specs.Counts.{Counts};
 
-pub fn byte(whole: &mut bool) -> u64 {
+pub fn byte(whole: &mut bool) -> u8 {
     let mut b = [0u8; 1];
     let n = io::read_full(STDIN_FILENO, &mut b);
     if n < 1 {
         *whole = false;
     }
-    wire::little::number(&b, 0, 1)
+    b[0]
 }
 
 // Four bytes, the least first.
@@ -47,11 +47,18 @@ pub fn bytes(buf: &mut [u8], whole: &mut bool) -> usize
     n
 }
 
-// A number of cells, at most as many as the sheet has. A greater one counts as a cut file.
+// A number of cells.
 pub fn cells(sheet: &[u32], whole: &mut bool) -> usize
     ensures { λ r. ⌜ Counts r (now (sheet .entry)) ⌝ }
 {
     let n = word(whole) as usize;
+    within(sheet, n, whole)
+}
+
+// The number n of cells, at most as many as the sheet has. A greater one counts as a cut file.
+pub fn within(sheet: &[u32], n: usize, whole: &mut bool) -> usize
+    ensures { λ r. ⌜ Counts r (now (sheet .entry)) ⌝ }
+{
     if sheet.len() < n {
         *whole = false;
         return 0;

@@ -1,6 +1,7 @@
 // Runs the case file on standard input through the public entries, and prints a line of numbers for each case.
 mod frames;
 mod input;
+mod lines;
 mod output;
 mod sums;
 mod tables;
@@ -21,6 +22,8 @@ fn run_case() -> bool {
         5 => values::write(),
         6 => frames::read(),
         7 => frames::write(),
+        8 => lines::run(),
+        9 => lines::receive(),
         _ => false,
     };
     if !done {

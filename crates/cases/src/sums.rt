@@ -15,20 +15,48 @@ fn add(h: u64, x: u64) -> u64 {
     times(h ^ x)
 }
 
-// A cell as its four little-endian bytes.
-fn add_cell(h: u64, c: u32) -> u64 {
-    let x = c as u64;
+// A number below 2^32 as its four little-endian bytes.
+fn add_word(h: u64, x: u64) -> u64 {
     add(
         add(add(add(h, x % 256), x / 256 % 256), x / 65536 % 256),
-        x / 16777216,
+        x / 16777216 % 256,
     )
+}
+
+fn add_mark(h: u64, mark: bool) -> u64 {
+    add(h, if mark { 1 } else { 0 })
+}
+
+// A record of the call table, as it stands in a case.
+fn add_call(start: u64, call: calls::Call) -> u64 {
+    let mut h = add_mark(start, call.open);
+    h = add_word(h, call.correlation % 4294967296);
+    h = add_word(h, call.correlation / 4294967296);
+    h = add_word(h, call.method as u64);
+    h = add_mark(h, call.responded);
+    h = add_mark(h, call.input_closed);
+    add_mark(h, call.output_closed)
+}
+
+pub fn of_calls(table: calls::CallTable) -> u64 {
+    let mut h = START;
+    let mut i = 0;
+    while i < 128 {
+        h = add_call(h, table.at(i));
+        i += 1;
+    }
+    h
+}
+
+fn wide(x: u32) -> u64 {
+    x as u64
 }
 
 pub fn of_cells(cells: &[u32]) -> u64 {
     let mut h = START;
     let mut i = 0;
     while i < cells.len() {
-        h = add_cell(h, cells[i]);
+        h = add_word(h, wide(cells[i]));
         i += 1;
     }
     h

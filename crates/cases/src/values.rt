@@ -7,7 +7,7 @@ use crate::sums;
 use crate::tables::MOST;
 
 // What the lent cells hold before the call.
-const CELL: u32 = 2779096485;
+pub const CELL: u32 = 2779096485;
 
 // Code 3: a table, a type, a payload and the number of the sheet's cells. The line has number, place, rows, the tail's place and length, and the sheet's sum.
 pub fn read() -> bool {

@@ -1,0 +1,125 @@
+// Cases of the frames of a line: a run from the fresh call table, and one frame on any call table.
+use crate::input;
+use crate::output;
+use crate::sums;
+use crate::tables::MOST;
+use crate::values::CELL;
+use calls::Call;
+use calls::CallTable;
+
+// The most frames of a run.
+const FRAMES: u32 = 1000;
+
+// The next call table, and the sheet's sum.
+struct Next {
+    table: CallTable,
+    sum: u64,
+}
+
+// Code 8: a table, the number of the sheet's cells, and frames with their sides. A line for each has number, place, bytes used, rows, the tail's place
+// and length, calls open, and the sheet's sum.
+pub fn run() -> bool {
+    let mut schema = [0u8; MOST];
+    let mut whole = true;
+    let n = input::bytes(&mut schema, &mut whole);
+    let cells = input::word(&mut whole) as usize;
+    let frames = input::word(&mut whole);
+    if (MOST < cells) | (FRAMES < frames) {
+        whole = false;
+    }
+    if whole {
+        run_frames(&schema[..n], cells, frames, &mut whole);
+    }
+    whole
+}
+
+fn run_frames(schema: &[u8], cells: usize, frames: u32, whole: &mut bool) {
+    let mut table = arf::fresh();
+    let mut left = frames;
+    while left > 0 {
+        table = run_frame(table, schema, cells, whole);
+        left -= 1;
+    }
+}
+
+// The next frame of the file; a frame that is cut leaves the table as it was.
+fn run_frame(table: CallTable, schema: &[u8], cells: usize, whole: &mut bool) -> CallTable {
+    let mut data = [0u8; MOST];
+    let mut sheet = [CELL; MOST];
+    let side = input::byte(whole);
+    let n = input::bytes(&mut data, whole);
+    let room = input::within(&sheet, cells, whole);
+    if !*whole {
+        return table;
+    }
+    let next = answer(table, schema, side, &data[..n], &mut sheet[..room]);
+    output::last(next.sum);
+    next.table
+}
+
+// Prints all but the sum.
+fn answer(table: CallTable, schema: &[u8], side: u8, data: &[u8], sheet: &mut [u32]) -> Next {
+    let r = arf::receive(table, schema, side, data, sheet);
+    output::number(r.number as u64);
+    output::number(r.place as u64);
+    output::number(r.used as u64);
+    output::number(r.rows as u64);
+    output::number(r.tail_place as u64);
+    output::number(r.tail_length as u64);
+    output::number(r.open as u64);
+    let table = r.table;
+    Next {
+        table,
+        sum: sums::of_cells(sheet),
+    }
+}
+
+// Code 9: a table, the number of the sheet's cells, a call table, a side and a frame. The line is a run's with the next call table's sum after it.
+pub fn receive() -> bool {
+    let mut schema = [0u8; MOST];
+    let mut data = [0u8; MOST];
+    let mut sheet = [CELL; MOST];
+    let mut whole = true;
+    let n = input::bytes(&mut schema, &mut whole);
+    let cells = input::cells(&sheet, &mut whole);
+    let table = read_table(&mut whole);
+    let side = input::byte(&mut whole);
+    let m = input::bytes(&mut data, &mut whole);
+    if whole {
+        let next = answer(table, &schema[..n], side, &data[..m], &mut sheet[..cells]);
+        output::number(next.sum);
+        output::last(sums::of_calls(next.table));
+    }
+    whole
+}
+
+fn read_table(whole: &mut bool) -> CallTable {
+    let mut table = arf::fresh();
+    let mut i = 0;
+    while i < 128 {
+        table = table.with_slot(i, read_call(whole));
+        i += 1;
+    }
+    table
+}
+
+fn read_call(whole: &mut bool) -> Call {
+    let open = read_mark(whole);
+    let correlation = input::long(whole);
+    let method = input::word(whole);
+    let responded = read_mark(whole);
+    let input_closed = read_mark(whole);
+    let output_closed = read_mark(whole);
+    Call {
+        correlation,
+        method,
+        open,
+        responded,
+        input_closed,
+        output_closed,
+    }
+}
+
+fn read_mark(whole: &mut bool) -> bool {
+    input::byte(whole) != 0
+}
