@@ -12,8 +12,8 @@ use crate::scalar::Scalar;
 use crate::{check_table, extends, read, scalar, write, Reading};
 
 /// What each sheet cell and each output byte holds before a call.
-const CELL_FILL: u32 = 2_779_096_485;
-const BYTE_FILL: u8 = 165;
+pub const CELL_FILL: u32 = 2_779_096_485;
+pub const BYTE_FILL: u8 = 165;
 
 /// What every sort of case can do.
 pub trait Entry {

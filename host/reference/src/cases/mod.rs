@@ -8,9 +8,11 @@ mod format;
 
 pub use entries::{
     ExtendsCase, FrameCase, FrameWriteCase, ReadCase, ReceiveCase, RunCase, ScalarCase, TableCase,
-    WriteCase,
+    WriteCase, BYTE_FILL, CELL_FILL,
 };
-pub use format::{MAX_BYTES, MAX_CELLS, MAX_FRAMES, MAX_OUTPUT};
+pub use format::{
+    call_table_sum, line, sheet_sum, sum, MAX_BYTES, MAX_CELLS, MAX_FRAMES, MAX_OUTPUT,
+};
 
 use entries::Entry;
 use format::Input;

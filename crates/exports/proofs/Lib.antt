@@ -1,0 +1,4 @@
+-- Laws of the cells, of the numbers that stand for signed numbers and floats, and of the call table in cells.
+pub mod Stores
+pub mod Bits
+pub mod Tables

@@ -1,0 +1,13 @@
+-- `exports::records::call_of` meets its contract. Assumes nothing.
+use mathlib.Core.Path.{refl}
+use borrow.Author.Needs.{needs}
+use Rattle.exports.specs.Records.{callOf}
+use Rattle.exports.proofs.records.call_of.Statement.{statement}
+use Rattle.exports.proofs.records.call_of.Tie as tie
+
+returns : tie.Need-returns
+unfolding callOf
+returns c = refl
+
+pub call-of-spec : {M : Type 1} → statement M
+call-of-spec = tie.close (tie.spec (λ c. search needs) returns)

@@ -1,0 +1,143 @@
+-- The numbers that each answer is stored as beside 01's number, case by case; 0 where 01 gives no value.
+-- Assumes nothing.
+use mathlib.Core.Bool.{cond}
+use mathlib.Core.List.{List, [], _∷_}
+use Prim.Native.Nat.{ℕ, suc, _-_, _^_}
+use lib.IntN.{ℤ, pos, negsuc}
+use lib.Ieee.{Float, Format, binary32, binary64, isNan, toBits}
+use lib.ListN.{length, replicate}
+use Rattle.schema.specs.declared.Checked.{Checked}
+use Rattle.schema.specs.declared.Extended.{Extended}
+use Rattle.arf.specs.Numbers.{checkPlace, extendPlace, extendAnswer}
+use Rattle.frame.specs.declared.Header.{Header}
+use Rattle.frame.specs.declared.FrameRead.{FrameRead}
+use Rattle.frame.specs.declared.FrameRead.the-variants as frame
+use Rattle.frame.specs.declared.FrameWritten.{FrameWritten}
+use Rattle.frame.specs.Written.{writtenOf, writeLength}
+use Rattle.value.specs.declared.Row.{Row}
+use Rattle.reader.specs.declared.Reading.{Reading}
+use Rattle.reader.specs.declared.Reading.the-variants as reader
+use Rattle.reader.specs.Entry.{Outcome, outcome, readOutcome, numbers}
+use Rattle.writer.specs.declared.Writing.{Writing}
+use Rattle.writer.specs.declared.Writing.the-variants.{Written, Refused as Unwritten}
+use Rattle.writer.specs.Entry as writer
+use Rattle.line.specs.declared.Received.{Received}
+use Rattle.line.specs.Answer.{Line}
+use Rattle.line.specs.Receive.{received}
+use Rattle.scalar.specs.declared.Scalar.{Scalar}
+use Rattle.scalar.specs.declared.Scalar.the-variants.{Truth, Signed, Unsigned, Float32, Float64, Span}
+use Rattle.scalar.specs.declared.Answer.{Answer}
+use Rattle.scalar.specs.declared.Answer.the-variants.{Is, Refused}
+use Rattle.exports.specs.Records.{callsOf}
+
+-- ---- tables
+
+-- The table check: place.
+abbrev pub checkCells : Checked → List ℕ
+checkCells a = checkPlace a ∷ []
+
+-- The extension test: place, 1 for yes or 0.
+abbrev pub extendCells : Extended → List ℕ
+extendCells a = extendPlace a ∷ extendAnswer a ∷ []
+
+-- ---- frames
+
+abbrev pub headerOf : (kind «package» service method correlation : ℕ) → Header
+headerOf k p s m c = record { kind = k; «package» = p; service = s; method = m; correlation = c }
+
+-- A frame with this header and payload, written into this output.
+abbrev pub wrote : Header → (payload out : List ℕ) → FrameWritten
+wrote h payload out = writtenOf h payload (length out)
+
+-- A frame read: kind, package, service, method, correlation, the payload's place and length.
+abbrev pub frameCells : FrameRead → List ℕ
+frameCells frame.More = replicate 7 0
+frameCells (frame.Frame h place n) =
+    h .kind ∷ h .«package» ∷ h .service ∷ h .method ∷ h .correlation ∷ place ∷ n ∷ []
+frameCells (frame.Refused number) = replicate 7 0
+
+-- A frame written: its length.
+abbrev pub writtenCells : FrameWritten → List ℕ
+writtenCells a = writeLength a ∷ []
+
+-- ---- payloads
+
+-- The two parts of the reader's outcome: its answer, and the sheet as it is left.
+abbrev pub answerOf : Outcome → Reading
+answerOf (outcome a sheet) = a
+
+abbrev pub sheetOf : Outcome → List ℕ
+sheetOf (outcome a sheet) = sheet
+
+abbrev pub reading : (schema : List ℕ) (ty : ℕ) (payload sheet : List ℕ) → Reading
+reading schema ty payload sheet = answerOf (readOutcome schema ty payload sheet)
+
+abbrev pub sheetAfter : (schema : List ℕ) (ty : ℕ) (payload sheet : List ℕ) → List ℕ
+sheetAfter schema ty payload sheet = sheetOf (readOutcome schema ty payload sheet)
+
+abbrev pub readNumber : Reading → ℕ
+readNumber a = numbers a .number
+
+-- A payload read: place, rows, the tail's place and length.
+abbrev pub readCells : Reading → List ℕ
+readCells a = numbers a .place ∷ numbers a .rows ∷ numbers a .tailPlace ∷ numbers a .tailLength ∷ []
+
+-- The two parts of the writer's outcome: its answer, and the output as it is left.
+abbrev pub writingOf : writer.Outcome → Writing
+writingOf (writer.outcome a out) = a
+
+abbrev pub outputOf : writer.Outcome → List ℕ
+outputOf (writer.outcome a out) = out
+
+abbrev pub writing : (schema : List ℕ) (ty : ℕ) (sheet bytes out : List ℕ) → Writing
+writing schema ty sheet bytes out = writingOf (writer.fileOutcome schema ty sheet bytes out)
+
+abbrev pub outputAfter : (schema : List ℕ) (ty : ℕ) (sheet bytes out : List ℕ) → List ℕ
+outputAfter schema ty sheet bytes out = outputOf (writer.fileOutcome schema ty sheet bytes out)
+
+abbrev pub writeNumber : Writing → ℕ
+writeNumber (Written n) = 0
+writeNumber (Unwritten number place) = number
+
+-- A payload written: place, length.
+abbrev pub writeCells : Writing → List ℕ
+writeCells (Written n) = 0 ∷ n ∷ []
+writeCells (Unwritten number place) = place ∷ 0 ∷ []
+
+-- ---- scalars
+
+abbrev pub rowOf : (ty place length count : ℕ) → Row
+rowOf t p n c = record { ty = t; place = p; length = n; count = c }
+
+-- A whole number as the 64 bits of its two's complement. `negsuc n` is -(n + 1).
+abbrev pub bitsOf : ℤ → ℕ
+bitsOf (pos n) = n
+bitsOf (negsuc n) = 2 ^ 64 - suc n
+
+-- A float's own bits, and 0 for a NaN, whose bits are not fixed.
+unfoldable pub floatBits : Format → Float → ℕ
+floatBits f x = cond (isNan x) 0 (toBits f x)
+
+-- Which case it is, and its two numbers. The bits beside a float come first.
+abbrev pub valueCells : Scalar → List ℕ
+valueCells (Truth b) = 1 ∷ cond b 1 0 ∷ 0 ∷ []
+valueCells (Signed z) = 2 ∷ bitsOf z ∷ 0 ∷ []
+valueCells (Unsigned n) = 3 ∷ n ∷ 0 ∷ []
+valueCells (Float32 x bits) = 4 ∷ bits ∷ floatBits binary32 x ∷ []
+valueCells (Float64 x bits) = 5 ∷ bits ∷ floatBits binary64 x ∷ []
+valueCells (Span place n) = 6 ∷ place ∷ n ∷ []
+
+-- A scalar: place, then its case and two numbers.
+abbrev pub scalarCells : Answer → List ℕ
+scalarCells (Is x) = 0 ∷ valueCells x
+scalarCells (Refused number place) = place ∷ 0 ∷ 0 ∷ 0 ∷ []
+
+-- ---- calls
+
+-- One frame against the call table that these cells hold.
+abbrev pub receiving : (table schema : List ℕ) (side : ℕ) (bytes sheet : List ℕ) → Line
+receiving table schema side bytes sheet = received schema side bytes sheet (callsOf table)
+
+-- The answer to a frame: place, bytes used, rows, the tail's place and length, calls open.
+abbrev pub receivedCells : Received → List ℕ
+receivedCells r = r .place ∷ r .used ∷ r .rows ∷ r .«tail_place» ∷ r .«tail_length» ∷ r .«open» ∷ []

@@ -1,0 +1,4 @@
+-- What the exported functions answer, how they store it, and the call table in cells.
+pub mod Cells
+pub mod Records
+pub mod Answers

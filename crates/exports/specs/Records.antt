@@ -1,0 +1,44 @@
+-- The call table as cells that a caller lends: three a record, for the correlation, the method number and the marks.
+-- Assumes nothing.
+use mathlib.Core.Bool.{Bool, cond}
+use mathlib.Core.List.{List, [], _∷_}
+use Prim.Native.Nat.{ℕ, zero, suc, _+_, _*_, _/_, _%_}
+use lib.Dec.{eqb}
+use lib.ListN.{getD}
+use Rattle.calls.specs.declared.Call.{Call}
+
+-- The marks count 1 open, 2 RESPONSE, 4 input closed, 8 output closed. A method number has 32 bits.
+unfoldable pub callOf : (correlation method marks : ℕ) → Call
+callOf id method marks =
+    record {
+      correlation = id;
+      method = method % 4294967296;
+      «open» = eqb (marks % 2) 1;
+      responded = eqb (marks / 2 % 2) 1;
+      «input_closed» = eqb (marks / 4 % 2) 1;
+      «output_closed» = eqb (marks / 8 % 2) 1;
+    }
+
+-- The i-th record; a cell past the last is 0.
+abbrev pub callAt : List ℕ → ℕ → Call
+callAt cells i = callOf (getD cells (3 * i) 0) (getD cells (3 * i + 1) 0) (getD cells (3 * i + 2) 0)
+
+-- n records, from the i-th on.
+unfoldable pub callsFrom : List ℕ → (i n : ℕ) → List Call
+callsFrom cells i zero = []
+callsFrom cells i (suc n) = callAt cells i ∷ callsFrom cells (suc i) n
+
+-- The call table that the cells hold.
+abbrev pub callsOf : List ℕ → List Call
+callsOf cells = callsFrom cells 0 128
+
+abbrev pub marksOf : Call → ℕ
+marksOf c = cond (c .«open») 1 0 + 2 * cond (c .responded) 1 0 + 4 * cond (c .«input_closed») 1 0 + 8 * cond (c .«output_closed») 1 0
+
+abbrev pub recordCells : Call → List ℕ
+recordCells c = c .correlation ∷ c .method ∷ marksOf c ∷ []
+
+-- The cells of these records.
+unfoldable pub cellsOf : List Call → List ℕ
+cellsOf [] = []
+cellsOf (c ∷ cs) = c .correlation ∷ c .method ∷ marksOf c ∷ cellsOf cs

@@ -1,0 +1,90 @@
+// The payload reader and the payload writer.
+use crate::cells::store;
+use reader::Reading;
+use writer::Writing;
+ghost use mathlib.Core.Path.{_≡_};
+ghost use Rattle.exports.specs.Cells.{stored};
+ghost use Rattle.exports.specs.Answers.{readNumber, readCells, reading, sheetAfter, writeNumber, writeCells, writing, outputAfter};
+
+fn read_number(a: Reading) -> u32
+    ensures { λ r. ⌜ r ≡ readNumber a ⌝ }
+{
+    match a {
+        Reading::Shown {
+            rows: _,
+            tail_place: _,
+            tail_length: _,
+        } => 0,
+        Reading::Refused { number, place: _ } => number,
+    }
+}
+
+fn read_cells(a: Reading) -> [u64; 4]
+    ensures { λ r. ⌜ r ≡ readCells a ⌝ }
+{
+    match a {
+        Reading::Shown {
+            rows,
+            tail_place,
+            tail_length,
+        } => [0, rows as u64, tail_place as u64, tail_length as u64],
+        Reading::Refused { number: _, place } => [place as u64, 0, 0, 0],
+    }
+}
+
+// Reads a payload and shows it on the sheet. answer: place, rows, the tail's place and length.
+#[no_mangle]
+pub extern "C" fn arf_read(
+    schema: &[u8],
+    ty: u32,
+    payload: &[u8],
+    sheet: &mut [u32],
+    answer: &mut [u64],
+) -> u32
+    ensures { λ r. ⌜ r ≡ readNumber (reading (now (schema .entry)) ty (now (payload .entry)) (now (sheet .entry))) ⌝ }
+    ensures { λ _. ⌜ now (sheet .exit) ≡ sheetAfter (now (schema .entry)) ty (now (payload .entry)) (now (sheet .entry)) ⌝ }
+    ensures { λ _. ⌜ now (answer .exit) ≡ stored (now (answer .entry)) (readCells (reading (now (schema .entry)) ty (now (payload .entry)) (now (sheet .entry)))) ⌝ }
+{
+    let a = arf::read(schema, ty, payload, sheet);
+    let cells = read_cells(a);
+    store(answer, &cells);
+    read_number(a)
+}
+
+fn write_number(a: Writing) -> u32
+    ensures { λ r. ⌜ r ≡ writeNumber a ⌝ }
+{
+    match a {
+        Writing::Written { length: _ } => 0,
+        Writing::Refused { number, place: _ } => number,
+    }
+}
+
+fn write_cells(a: Writing) -> [u64; 2]
+    ensures { λ r. ⌜ r ≡ writeCells a ⌝ }
+{
+    match a {
+        Writing::Written { length } => [0, length as u64],
+        Writing::Refused { number: _, place } => [place as u64, 0],
+    }
+}
+
+// Writes the value that a sheet shows over its bytes. answer: place, the payload's length.
+#[no_mangle]
+pub extern "C" fn arf_write(
+    schema: &[u8],
+    ty: u32,
+    sheet: &[u32],
+    bytes: &[u8],
+    out: &mut [u8],
+    answer: &mut [u64],
+) -> u32
+    ensures { λ r. ⌜ r ≡ writeNumber (writing (now (schema .entry)) ty (now (sheet .entry)) (now (bytes .entry)) (now (out .entry))) ⌝ }
+    ensures { λ _. ⌜ now (out .exit) ≡ outputAfter (now (schema .entry)) ty (now (sheet .entry)) (now (bytes .entry)) (now (out .entry)) ⌝ }
+    ensures { λ _. ⌜ now (answer .exit) ≡ stored (now (answer .entry)) (writeCells (writing (now (schema .entry)) ty (now (sheet .entry)) (now (bytes .entry)) (now (out .entry)))) ⌝ }
+{
+    let a = arf::write(schema, ty, sheet, bytes, out);
+    let cells = write_cells(a);
+    store(answer, &cells);
+    write_number(a)
+}

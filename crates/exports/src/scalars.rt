@@ -1,0 +1,98 @@
+// One row over its bytes as a scalar.
+use crate::cells::store;
+use scalar::Answer;
+use scalar::Scalar;
+use value::Row;
+ghost use mathlib.Core.Path.{_≡_};
+ghost use mathlib.Core.List.{_∷_};
+ghost use lib.Ieee.{binary32, binary64};
+ghost use Rattle.scalar.specs.Scalar.{scalarBy, numberOf};
+ghost use Rattle.exports.specs.Cells.{stored};
+ghost use Rattle.exports.specs.Answers.{bitsOf, floatBits, rowOf, valueCells, scalarCells};
+
+fn scalar_number(a: Answer) -> u32
+    ensures { λ r. ⌜ r ≡ numberOf a ⌝ }
+{
+    match a {
+        Answer::Is(_) => 0,
+        Answer::Refused { number, place: _ } => number,
+    }
+}
+
+// A whole number as the 64 bits of its two's complement.
+fn bits_of(x: i64) -> u64
+    ensures { λ r. ⌜ r ≡ bitsOf x ⌝ }
+{
+    if x < 0 {
+        18446744073709551615 - ((-1 - x) as u64)
+    } else {
+        x as u64
+    }
+}
+
+// A float's own bits, and 0 for a NaN, which does not equal itself.
+fn bits32(x: f32) -> u32
+    ensures { λ r. ⌜ r ≡ floatBits binary32 x ⌝ }
+{
+    if x != x {
+        return 0;
+    }
+    f32::to_bits(x)
+}
+
+fn bits64(x: f64) -> u64
+    ensures { λ r. ⌜ r ≡ floatBits binary64 x ⌝ }
+{
+    if x != x {
+        return 0;
+    }
+    f64::to_bits(x)
+}
+
+fn value_cells(s: Scalar) -> [u64; 4]
+    ensures { λ r. ⌜ r ≡ 0 ∷ valueCells s ⌝ }
+{
+    match s {
+        Scalar::Truth(b) => [0, 1, b as u64, 0],
+        Scalar::Signed(x) => [0, 2, bits_of(x), 0],
+        Scalar::Unsigned(x) => [0, 3, x, 0],
+        Scalar::Float32(x, bits) => [0, 4, bits as u64, bits32(x) as u64],
+        Scalar::Float64(x, bits) => [0, 5, bits, bits64(x)],
+        Scalar::Span { place, length } => [0, 6, place as u64, length as u64],
+    }
+}
+
+fn scalar_cells(a: Answer) -> [u64; 4]
+    ensures { λ r. ⌜ r ≡ scalarCells a ⌝ }
+{
+    match a {
+        Answer::Is(s) => value_cells(s),
+        Answer::Refused { number: _, place } => [place as u64, 0, 0, 0],
+    }
+}
+
+// One row over its bytes as a value. answer: place, the case (1 truth value, 2 signed, 3 unsigned, 4 float32, 5 float64, 6 span) and its two numbers.
+#[no_mangle]
+pub extern "C" fn arf_scalar(
+    schema: &[u8],
+    ty: u32,
+    place: u32,
+    length: u32,
+    count: u32,
+    bytes: &[u8],
+    answer: &mut [u64],
+) -> u32
+    ensures { λ r. ⌜ r ≡ numberOf (scalarBy (now (schema .entry)) (rowOf ty place length count) (now (bytes .entry))) ⌝ }
+    ensures { λ _. ⌜ now (answer .exit) ≡ stored (now (answer .entry)) (scalarCells (scalarBy (now (schema .entry)) (rowOf ty place length count) (now (bytes .entry)))) ⌝ }
+{
+    let row = Row {
+        ty,
+        place,
+        length,
+        count,
+    };
+    let a = arf::scalar(schema, row, bytes);
+    let cells = scalar_cells(a);
+    store(answer, &cells);
+    scalar_number(a)
+}

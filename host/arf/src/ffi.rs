@@ -1,0 +1,313 @@
+//! The functions of the static library, with a safe call of each.
+//!
+//! A Rattle slice crosses as a pointer and a length. `crates/exports` asks
+//! nothing more of its callers, so a call is right for any Rust slices: their
+//! pointers are aligned and never null, also where they are empty; their
+//! lengths are those of memory that is there; what is lent as `&mut` is nobody
+//! else's during the call, and the library keeps no pointer.
+//!
+//! Nothing holds these declarations to the Rattle source: they repeat its
+//! parameters in order, and the tests below and `compare` look at the answers.
+
+extern "C" {
+    fn arf_check_table(
+        schema: *const u8,
+        schema_n: usize,
+        answer: *mut u64,
+        answer_n: usize,
+    ) -> u32;
+
+    fn arf_extends(
+        old: *const u8,
+        old_n: usize,
+        new: *const u8,
+        new_n: usize,
+        answer: *mut u64,
+        answer_n: usize,
+    ) -> u32;
+
+    fn arf_read(
+        schema: *const u8,
+        schema_n: usize,
+        ty: u32,
+        payload: *const u8,
+        payload_n: usize,
+        sheet: *mut u32,
+        sheet_n: usize,
+        answer: *mut u64,
+        answer_n: usize,
+    ) -> u32;
+
+    fn arf_write(
+        schema: *const u8,
+        schema_n: usize,
+        ty: u32,
+        sheet: *const u32,
+        sheet_n: usize,
+        bytes: *const u8,
+        bytes_n: usize,
+        out: *mut u8,
+        out_n: usize,
+        answer: *mut u64,
+        answer_n: usize,
+    ) -> u32;
+
+    fn arf_scalar(
+        schema: *const u8,
+        schema_n: usize,
+        ty: u32,
+        place: u32,
+        length: u32,
+        count: u32,
+        bytes: *const u8,
+        bytes_n: usize,
+        answer: *mut u64,
+        answer_n: usize,
+    ) -> u32;
+
+    fn arf_receive(
+        table: *mut u64,
+        table_n: usize,
+        schema: *const u8,
+        schema_n: usize,
+        side: u8,
+        bytes: *const u8,
+        bytes_n: usize,
+        sheet: *mut u32,
+        sheet_n: usize,
+        answer: *mut u64,
+        answer_n: usize,
+    ) -> u32;
+
+    fn arf_read_frame(bytes: *const u8, bytes_n: usize, answer: *mut u64, answer_n: usize) -> u32;
+
+    fn arf_write_frame(
+        kind: u32,
+        package: u32,
+        service: u32,
+        method: u32,
+        correlation: u64,
+        payload: *const u8,
+        payload_n: usize,
+        out: *mut u8,
+        out_n: usize,
+        answer: *mut u64,
+        answer_n: usize,
+    ) -> u32;
+}
+
+/// Stores the place.
+pub fn check_table(schema: &[u8], answer: &mut [u64]) -> u32 {
+    // SAFETY: each pointer and length are those of a Rust slice.
+    unsafe {
+        arf_check_table(
+            schema.as_ptr(),
+            schema.len(),
+            answer.as_mut_ptr(),
+            answer.len(),
+        )
+    }
+}
+
+/// Stores the place, and 1 for yes or 0.
+pub fn extends(old: &[u8], new: &[u8], answer: &mut [u64]) -> u32 {
+    // SAFETY: each pointer and length are those of a Rust slice.
+    unsafe {
+        arf_extends(
+            old.as_ptr(),
+            old.len(),
+            new.as_ptr(),
+            new.len(),
+            answer.as_mut_ptr(),
+            answer.len(),
+        )
+    }
+}
+
+/// Stores the place, the rows, and the tail's place and length.
+pub fn read(schema: &[u8], ty: u32, payload: &[u8], sheet: &mut [u32], answer: &mut [u64]) -> u32 {
+    // SAFETY: each pointer and length are those of a Rust slice; the two that
+    // are written do not overlap, since both are `&mut`.
+    unsafe {
+        arf_read(
+            schema.as_ptr(),
+            schema.len(),
+            ty,
+            payload.as_ptr(),
+            payload.len(),
+            sheet.as_mut_ptr(),
+            sheet.len(),
+            answer.as_mut_ptr(),
+            answer.len(),
+        )
+    }
+}
+
+/// Stores the place and the length written.
+pub fn write(
+    schema: &[u8],
+    ty: u32,
+    sheet: &[u32],
+    bytes: &[u8],
+    out: &mut [u8],
+    answer: &mut [u64],
+) -> u32 {
+    // SAFETY: each pointer and length are those of a Rust slice; the two that
+    // are written do not overlap, since both are `&mut`.
+    unsafe {
+        arf_write(
+            schema.as_ptr(),
+            schema.len(),
+            ty,
+            sheet.as_ptr(),
+            sheet.len(),
+            bytes.as_ptr(),
+            bytes.len(),
+            out.as_mut_ptr(),
+            out.len(),
+            answer.as_mut_ptr(),
+            answer.len(),
+        )
+    }
+}
+
+/// Stores the place, the case and its two numbers. The row is type, place,
+/// length and count.
+pub fn scalar(schema: &[u8], row: [u32; 4], bytes: &[u8], answer: &mut [u64]) -> u32 {
+    let [ty, place, length, count] = row;
+    // SAFETY: each pointer and length are those of a Rust slice.
+    unsafe {
+        arf_scalar(
+            schema.as_ptr(),
+            schema.len(),
+            ty,
+            place,
+            length,
+            count,
+            bytes.as_ptr(),
+            bytes.len(),
+            answer.as_mut_ptr(),
+            answer.len(),
+        )
+    }
+}
+
+/// Stores kind, package, service, method, correlation, and the payload's place
+/// and length.
+pub fn read_frame(bytes: &[u8], answer: &mut [u64]) -> u32 {
+    // SAFETY: each pointer and length are those of a Rust slice.
+    unsafe {
+        arf_read_frame(
+            bytes.as_ptr(),
+            bytes.len(),
+            answer.as_mut_ptr(),
+            answer.len(),
+        )
+    }
+}
+
+/// Stores the frame's length. The identifiers are package, service and method.
+pub fn write_frame(
+    kind: u32,
+    identifiers: [u32; 3],
+    correlation: u64,
+    payload: &[u8],
+    out: &mut [u8],
+    answer: &mut [u64],
+) -> u32 {
+    let [package, service, method] = identifiers;
+    // SAFETY: each pointer and length are those of a Rust slice; the two that
+    // are written do not overlap, since both are `&mut`.
+    unsafe {
+        arf_write_frame(
+            kind,
+            package,
+            service,
+            method,
+            correlation,
+            payload.as_ptr(),
+            payload.len(),
+            out.as_mut_ptr(),
+            out.len(),
+            answer.as_mut_ptr(),
+            answer.len(),
+        )
+    }
+}
+
+/// Stores the place, the bytes used, the rows, the tail's place and length, and
+/// the calls open. The table has three cells a record, for the correlation, the
+/// method number and the marks.
+pub fn receive(
+    table: &mut [u64],
+    schema: &[u8],
+    side: u8,
+    bytes: &[u8],
+    sheet: &mut [u32],
+    answer: &mut [u64],
+) -> u32 {
+    // SAFETY: each pointer and length are those of a Rust slice; the three that
+    // are written do not overlap, since all are `&mut`.
+    unsafe {
+        arf_receive(
+            table.as_mut_ptr(),
+            table.len(),
+            schema.as_ptr(),
+            schema.len(),
+            side,
+            bytes.as_ptr(),
+            bytes.len(),
+            sheet.as_mut_ptr(),
+            sheet.len(),
+            answer.as_mut_ptr(),
+            answer.len(),
+        )
+    }
+}
+
+#[cfg(test)]
+mod tests {
+    use super::*;
+
+    const FILL: u64 = 0xA5A5_A5A5_A5A5_A5A5;
+
+    /// Runs a call with every number of cells from none to more than it
+    /// stores, and holds each run to the longest one: the first cells hold the
+    /// answer, as far as there are cells, and no other cell is touched.
+    fn with_any_room(stores: usize, mut call: impl FnMut(&mut [u64]) -> u32) {
+        let mut whole = [FILL; 9];
+        let number = call(&mut whole);
+        assert!(whole[stores..].iter().all(|&cell| cell == FILL));
+        for room in 0..whole.len() {
+            let mut cells = [FILL; 9];
+            assert_eq!(call(&mut cells[..room]), number);
+            let stored = stores.min(room);
+            assert_eq!(cells[..stored], whole[..stored]);
+            assert!(cells[stored..].iter().all(|&cell| cell == FILL));
+        }
+    }
+
+    #[test]
+    fn answers_fill_the_cells_that_there_are() {
+        with_any_room(1, |cells| check_table(&[], cells));
+        with_any_room(2, |cells| extends(&[], &[], cells));
+        with_any_room(4, |cells| read(&[], 0, &[], &mut [], cells));
+        with_any_room(2, |cells| write(&[], 0, &[], &[], &mut [], cells));
+        with_any_room(4, |cells| scalar(&[], [0; 4], &[], cells));
+        with_any_room(7, |cells| read_frame(&[], cells));
+        with_any_room(6, |cells| receive(&mut [], &[], b'C', &[], &mut [], cells));
+        with_any_room(1, |cells| write_frame(9, [0; 3], 0, &[], &mut [], cells));
+    }
+
+    #[test]
+    fn every_parameter_crosses_in_its_place() {
+        let (mut out, mut cells) = ([0; 40], [0; 7]);
+        let correlation = 0x0807_0605_0403_0201;
+        let number = write_frame(4, [5, 6, 7], correlation, &[9, 8], &mut out, &mut cells);
+        assert_eq!((number, cells[0]), (0, 28));
+        assert_eq!(read_frame(&out[..28], &mut cells), 0);
+        assert_eq!(cells, [4, 5, 6, 7, correlation, 26, 2]);
+        assert_eq!(out[26..28], [9, 8]);
+        assert!(out[28..].iter().all(|&byte| byte == 0));
+    }
+}

@@ -1,0 +1,466 @@
+//! The proved arf entries for Rust programs.
+//!
+//! Each function lends its slices to the static library of `crates/exports`,
+//! whose Rattle source is proved, and hands its answer on as a Rust value. No
+//! function panics or fails for any input: what the rules do not allow comes
+//! back as a [`Refusal`] with the number and the place that they give it.
+//!
+//! ```
+//! // uint8, a struct with one such field, and no method.
+//! let words = [6u32, 0, 0, 16, 0, 1, 0, 0, 24, 32, 32, 1];
+//! let schema: Vec<u8> = words.iter().flat_map(|word| word.to_le_bytes()).collect();
+//! assert_eq!(arf::check_table(&schema), Ok(()));
+//!
+//! let mut sheet = [0; 8];
+//! let reading = arf::read(&schema, 1, &[0x01, 0x07], &mut sheet).unwrap();
+//! assert_eq!((reading.rows, reading.tail_length), (2, 0));
+//! assert_eq!(sheet, [1, 0, 2, 1, 0, 1, 1, 0]);
+//!
+//! let row = arf::Row { type_number: 0, place: 1, length: 1, count: 0 };
+//! let value = arf::scalar(&schema, row, &[0x01, 0x07]);
+//! assert_eq!(value, Ok(arf::Scalar::Unsigned(7)));
+//! ```
+
+#![deny(unsafe_op_in_unsafe_fn)]
+
+mod ffi;
+
+/// Why something was refused: the number of the reason, and the place.
+#[derive(Clone, Copy, Debug, PartialEq, Eq)]
+pub struct Refusal {
+    pub number: u32,
+    pub place: usize,
+}
+
+/// A value for the number 0, and a refusal for any other.
+fn answer<T>(number: u32, place: u64, value: T) -> Result<T, Refusal> {
+    match number {
+        0 => Ok(value),
+        _ => Err(Refusal {
+            number,
+            place: place as usize,
+        }),
+    }
+}
+
+/// Whether the bytes are a good schema table.
+///
+/// ```
+/// let empty = [0, 0, 0, 0, 0, 0, 0, 0, 0, 0, 0, 0, 1, 0, 0, 0];
+/// assert_eq!(arf::check_table(&empty), Ok(()));
+/// assert_eq!(arf::check_table(&[]), Err(arf::Refusal { number: 40, place: 0 }));
+/// ```
+pub fn check_table(schema: &[u8]) -> Result<(), Refusal> {
+    let mut cells = [0];
+    let number = ffi::check_table(schema, &mut cells);
+    answer(number, cells[0], ())
+}
+
+/// Whether the new table extends the old one. A table that is not good gives
+/// its refusal, the old table first.
+///
+/// ```
+/// let empty = [0, 0, 0, 0, 0, 0, 0, 0, 0, 0, 0, 0, 1, 0, 0, 0];
+/// assert_eq!(arf::extends(&empty, &empty), Ok(true));
+/// assert_eq!(arf::extends(&empty, &[]).unwrap_err().number, 40);
+/// ```
+pub fn extends(old: &[u8], new: &[u8]) -> Result<bool, Refusal> {
+    let mut cells = [0; 2];
+    let number = ffi::extends(old, new, &mut cells);
+    answer(number, cells[0], cells[1] == 1)
+}
+
+/// What an accepted payload shows beside the rows of its sheet.
+#[derive(Clone, Copy, Debug, Default, PartialEq, Eq)]
+pub struct Reading {
+    /// The number of rows written to the sheet.
+    pub rows: usize,
+    /// Where the tail starts; the payload's end if there is none.
+    pub tail_place: usize,
+    /// How many bytes the tail has.
+    pub tail_length: usize,
+}
+
+impl Reading {
+    fn from_cells([rows, tail_place, tail_length]: [u64; 3]) -> Reading {
+        Reading {
+            rows: rows as usize,
+            tail_place: tail_place as usize,
+            tail_length: tail_length as usize,
+        }
+    }
+}
+
+/// Reads a payload of a struct type and shows it as rows of four cells on the
+/// sheet. A refusal leaves the sheet as it was.
+///
+/// ```
+/// let words = [6u32, 0, 0, 16, 0, 1, 0, 0, 24, 32, 32, 1];
+/// let schema: Vec<u8> = words.iter().flat_map(|word| word.to_le_bytes()).collect();
+/// let mut sheet = [0; 8];
+/// // A required field is absent.
+/// let refused = arf::read(&schema, 1, &[0x00], &mut sheet).unwrap_err();
+/// assert_eq!((refused.number, refused.place), (25, 0));
+/// assert_eq!(sheet, [0; 8]);
+/// ```
+pub fn read(
+    schema: &[u8],
+    type_number: u32,
+    payload: &[u8],
+    sheet: &mut [u32],
+) -> Result<Reading, Refusal> {
+    let mut cells = [0; 4];
+    let number = ffi::read(schema, type_number, payload, sheet, &mut cells);
+    let [place, reading @ ..] = cells;
+    answer(number, place, Reading::from_cells(reading))
+}
+
+/// Writes the value that a sheet shows over its bytes, and gives its length. A
+/// refusal leaves the output as it was.
+///
+/// ```
+/// let words = [6u32, 0, 0, 16, 0, 1, 0, 0, 24, 32, 32, 1];
+/// let schema: Vec<u8> = words.iter().flat_map(|word| word.to_le_bytes()).collect();
+/// let sheet = [1, 0, 2, 1, 0, 1, 1, 0];
+/// let mut out = [0; 2];
+/// assert_eq!(arf::write(&schema, 1, &sheet, &[0x01, 0x07], &mut out), Ok(2));
+/// assert_eq!(out, [0x01, 0x07]);
+/// // The second row is missing.
+/// let refused = arf::write(&schema, 1, &sheet[..4], &[0x01, 0x07], &mut out).unwrap_err();
+/// assert_eq!((refused.number, refused.place), (50, 1));
+/// ```
+pub fn write(
+    schema: &[u8],
+    type_number: u32,
+    sheet: &[u32],
+    bytes: &[u8],
+    out: &mut [u8],
+) -> Result<usize, Refusal> {
+    let mut cells = [0; 2];
+    let number = ffi::write(schema, type_number, sheet, bytes, out, &mut cells);
+    answer(number, cells[0], cells[1] as usize)
+}
+
+/// A row of a sheet.
+#[derive(Clone, Copy, Debug, PartialEq, Eq)]
+pub struct Row {
+    pub type_number: u32,
+    pub place: u32,
+    pub length: u32,
+    pub count: u32,
+}
+
+/// The value of a scalar, string or bytes row.
+#[derive(Clone, Copy, Debug)]
+pub enum Scalar {
+    Truth(bool),
+    Signed(i64),
+    Unsigned(u64),
+    /// A float with its bits beside it; the bits decide equality.
+    Float32 {
+        value: f32,
+        bits: u32,
+    },
+    Float64 {
+        value: f64,
+        bits: u64,
+    },
+    /// Place and length of a string or bytes.
+    Span {
+        place: usize,
+        length: usize,
+    },
+}
+
+impl Scalar {
+    /// The case and its two numbers, as the library stores them. A NaN's own
+    /// bits are stored as 0, and no other float has them beside other bits.
+    fn from_cells([case, a, b]: [u64; 3]) -> Scalar {
+        match case {
+            1 => Scalar::Truth(a == 1),
+            2 => Scalar::Signed(a as i64),
+            3 => Scalar::Unsigned(a),
+            4 => Scalar::Float32 {
+                value: match b {
+                    0 if a != 0 => f32::NAN,
+                    own => f32::from_bits(own as u32),
+                },
+                bits: a as u32,
+            },
+            5 => Scalar::Float64 {
+                value: match b {
+                    0 if a != 0 => f64::NAN,
+                    own => f64::from_bits(own),
+                },
+                bits: a,
+            },
+            _ => Scalar::Span {
+                place: a as usize,
+                length: b as usize,
+            },
+        }
+    }
+}
+
+impl PartialEq for Scalar {
+    fn eq(&self, other: &Self) -> bool {
+        use Scalar::*;
+        match (*self, *other) {
+            (Truth(a), Truth(b)) => a == b,
+            (Signed(a), Signed(b)) => a == b,
+            (Unsigned(a), Unsigned(b)) => a == b,
+            (Float32 { bits: a, .. }, Float32 { bits: b, .. }) => a == b,
+            (Float64 { bits: a, .. }, Float64 { bits: b, .. }) => a == b,
+            (
+                Span {
+                    place: a,
+                    length: n,
+                },
+                Span {
+                    place: b,
+                    length: m,
+                },
+            ) => (a, n) == (b, m),
+            _ => false,
+        }
+    }
+}
+
+impl Eq for Scalar {}
+
+/// Hands out one row over its bytes as a value.
+///
+/// ```
+/// // A table with one type, int8.
+/// let words = [2u32, 0, 0, 12, 12, 12, 1];
+/// let schema: Vec<u8> = words.iter().flat_map(|word| word.to_le_bytes()).collect();
+/// let row = arf::Row { type_number: 0, place: 0, length: 1, count: 0 };
+/// assert_eq!(arf::scalar(&schema, row, &[0x80]), Ok(arf::Scalar::Signed(-128)));
+/// assert_eq!(arf::scalar(&schema, row, &[]).unwrap_err().number, 51);
+/// ```
+pub fn scalar(schema: &[u8], row: Row, bytes: &[u8]) -> Result<Scalar, Refusal> {
+    let row = [row.type_number, row.place, row.length, row.count];
+    let mut cells = [0; 4];
+    let number = ffi::scalar(schema, row, bytes, &mut cells);
+    let [place, value @ ..] = cells;
+    answer(number, place, Scalar::from_cells(value))
+}
+
+/// The fields of a frame that its sender chooses.
+#[derive(Clone, Copy, Debug, Default, PartialEq, Eq)]
+pub struct Header {
+    pub kind: u32,
+    pub package: u32,
+    pub service: u32,
+    pub method: u32,
+    pub correlation: u64,
+}
+
+/// What the bytes at hand say about the frame that starts at the first of them.
+#[derive(Clone, Copy, Debug, PartialEq, Eq)]
+pub enum FrameRead {
+    /// More bytes are needed.
+    More,
+    /// A whole frame, with the place and length of its payload in the bytes.
+    Whole {
+        header: Header,
+        place: usize,
+        length: usize,
+    },
+}
+
+/// Reads the first frame; each field is judged once it is whole.
+///
+/// ```
+/// use arf::{read_frame, write_frame, FrameRead, Header};
+///
+/// let header = Header { kind: 1, package: 1, service: 2, method: 3, correlation: 9 };
+/// let mut out = [0; 64];
+/// let n = write_frame(&header, &[0x01, 0x07], &mut out).unwrap();
+/// let whole = FrameRead::Whole { header, place: 26, length: 2 };
+/// assert_eq!(read_frame(&out[..n]), Ok(whole));
+/// assert_eq!(read_frame(&out[..n - 1]), Ok(FrameRead::More));
+/// assert_eq!(read_frame(&[0xAF, 0x02]).unwrap_err().number, 2);
+/// ```
+pub fn read_frame(bytes: &[u8]) -> Result<FrameRead, Refusal> {
+    let mut cells = [0; 7];
+    let number = ffi::read_frame(bytes, &mut cells);
+    let [kind, package, service, method, correlation, place, length] = cells;
+    if number == 1 {
+        return Ok(FrameRead::More);
+    }
+    let header = Header {
+        kind: kind as u32,
+        package: package as u32,
+        service: service as u32,
+        method: method as u32,
+        correlation,
+    };
+    let whole = FrameRead::Whole {
+        header,
+        place: place as usize,
+        length: length as usize,
+    };
+    answer(number, 0, whole)
+}
+
+/// Writes a frame and gives its length. A refusal leaves the output as it was.
+///
+/// ```
+/// let header = arf::Header { kind: 3, ..Default::default() };
+/// let mut out = [0; 26];
+/// assert_eq!(arf::write_frame(&header, &[], &mut out), Ok(26));
+/// assert_eq!(arf::write_frame(&header, &[], &mut []).unwrap_err().number, 52);
+/// ```
+pub fn write_frame(header: &Header, payload: &[u8], out: &mut [u8]) -> Result<usize, Refusal> {
+    let identifiers = [header.package, header.service, header.method];
+    let mut cells = [0];
+    let number = ffi::write_frame(
+        header.kind,
+        identifiers,
+        header.correlation,
+        payload,
+        out,
+        &mut cells,
+    );
+    answer(number, 0, cells[0] as usize)
+}
+
+/// The number of slots of a call table.
+pub const SLOTS: usize = 128;
+
+/// The record of one slot. A free slot is zero in every member.
+#[derive(Clone, Copy, Debug, Default, PartialEq, Eq)]
+pub struct Call {
+    pub open: bool,
+    pub correlation: u64,
+    /// The number of the method entry.
+    pub method: u32,
+    pub response: bool,
+    pub input_closed: bool,
+    pub output_closed: bool,
+}
+
+impl Call {
+    fn cells(&self) -> [u64; 3] {
+        let marks = u64::from(self.open)
+            | u64::from(self.response) << 1
+            | u64::from(self.input_closed) << 2
+            | u64::from(self.output_closed) << 3;
+        [self.correlation, self.method.into(), marks]
+    }
+
+    fn from_cells([correlation, method, marks]: [u64; 3]) -> Call {
+        Call {
+            open: marks & 1 != 0,
+            correlation,
+            method: method as u32,
+            response: marks & 2 != 0,
+            input_closed: marks & 4 != 0,
+            output_closed: marks & 8 != 0,
+        }
+    }
+}
+
+/// The calls of one connection, as the library reads and writes them.
+#[derive(Clone, Copy, Debug, PartialEq, Eq)]
+pub struct CallTable {
+    cells: [[u64; 3]; SLOTS],
+}
+
+impl Default for CallTable {
+    fn default() -> Self {
+        CallTable::fresh()
+    }
+}
+
+/// What became of a frame.
+#[derive(Clone, Copy, Debug, PartialEq, Eq)]
+pub enum Outcome {
+    /// Accepted; a frame without a value has a reading of zeros.
+    Accepted(Reading),
+    /// The frame is not whole yet.
+    More,
+    Refused(Refusal),
+}
+
+/// The answer to a frame.
+#[derive(Clone, Copy, Debug, PartialEq, Eq)]
+pub struct Received {
+    pub outcome: Outcome,
+    /// How many bytes were used.
+    pub used: usize,
+    /// How many calls are open afterwards.
+    pub open: usize,
+}
+
+impl CallTable {
+    /// The table of a new connection: all slots free.
+    pub fn fresh() -> Self {
+        CallTable {
+            cells: [[0; 3]; SLOTS],
+        }
+    }
+
+    /// The table with these records.
+    pub fn from_calls(calls: &[Call; SLOTS]) -> Self {
+        CallTable {
+            cells: calls.map(|call| call.cells()),
+        }
+    }
+
+    /// The records.
+    pub fn calls(&self) -> [Call; SLOTS] {
+        self.cells.map(Call::from_cells)
+    }
+
+    /// Judges the first frame of the bytes, from a side (the byte C or S). The
+    /// table changes only by what the frame does to its own call.
+    ///
+    /// ```
+    /// use arf::{CallTable, Header, Outcome};
+    ///
+    /// // uint8, a struct with one such field, and a method that takes and gives it.
+    /// let words = [
+    ///     6u32, 0, 0, 16, 0, 1, 0, 0, 1, 2, 3, 12, 1, 1, u32::MAX, u32::MAX, 24, 32, 64, 1,
+    /// ];
+    /// let schema: Vec<u8> = words.iter().flat_map(|word| word.to_le_bytes()).collect();
+    /// let mut header = Header { kind: 1, package: 1, service: 2, method: 3, correlation: 9 };
+    /// let (mut frame, mut sheet) = ([0; 28], [0; 8]);
+    /// let mut table = CallTable::fresh();
+    ///
+    /// arf::write_frame(&header, &[0x01, 0x07], &mut frame).unwrap();
+    /// let received = table.receive(&schema, b'C', &frame, &mut sheet);
+    /// assert!(matches!(received.outcome, Outcome::Accepted(reading) if reading.rows == 2));
+    /// assert_eq!((received.used, received.open), (28, 1));
+    ///
+    /// // The response ends the call.
+    /// header.kind = 6;
+    /// arf::write_frame(&header, &[0x01, 0x07], &mut frame).unwrap();
+    /// assert_eq!(table.receive(&schema, b'S', &frame, &mut sheet).open, 0);
+    /// assert_eq!(table, CallTable::fresh());
+    /// ```
+    pub fn receive(
+        &mut self,
+        schema: &[u8],
+        side: u8,
+        bytes: &[u8],
+        sheet: &mut [u32],
+    ) -> Received {
+        let table = self.cells.as_flattened_mut();
+        let mut cells = [0; 6];
+        let number = ffi::receive(table, schema, side, bytes, sheet, &mut cells);
+        let [place, used, rows, tail_place, tail_length, open] = cells;
+        let reading = Reading::from_cells([rows, tail_place, tail_length]);
+        let outcome = match answer(number, place, reading) {
+            Ok(reading) => Outcome::Accepted(reading),
+            Err(_) if number == 1 => Outcome::More,
+            Err(refusal) => Outcome::Refused(refusal),
+        };
+        Received {
+            outcome,
+            used: used as usize,
+            open: open as usize,
+        }
+    }
+}

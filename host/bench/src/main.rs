@@ -1,0 +1,208 @@
+//! Prints the figures of docs/SPEED.md: each entry of the static library beside
+//! the reference implementation, on the same input, in one run.
+
+#![forbid(unsafe_code)]
+
+mod measure;
+mod samples;
+
+use std::hint::black_box;
+
+use reference::MAX_PAYLOAD;
+
+use measure::{side_by_side, Times};
+use samples::Sample;
+
+/// The sheet has room for the rows of any payload.
+const CELLS: usize = 4 * 16_384;
+
+fn main() {
+    println!("| entry | input | library | reference | library / reference |");
+    println!("|---|---|---|---|---|");
+    table_check();
+    let payloads = samples::payloads();
+    payloads.iter().for_each(read);
+    payloads.iter().for_each(write);
+    let receipt = samples::receipt();
+    frame(&receipt);
+    receive("INVOKE with a 100-byte receipt", 1, 1_000, &receipt);
+    let cancel = Sample {
+        payload: Vec::new(),
+        ..receipt
+    };
+    receive("CANCEL, no payload", 8, 50, &cancel);
+}
+
+/// A line of the table.
+fn figure(entry: &str, input: &str, times: Times) {
+    let ratio = times.library / times.reference;
+    let (library, reference) = (show(times.library), show(times.reference));
+    println!("| {entry} | {input} | {library} | {reference} | {ratio:.2} |");
+}
+
+/// Nanoseconds, or microseconds where there are many.
+fn show(nanoseconds: f64) -> String {
+    match nanoseconds < 1_000.0 {
+        true => format!("{nanoseconds:.1} ns"),
+        false => format!("{:.1} µs", nanoseconds / 1_000.0),
+    }
+}
+
+fn table_check() {
+    let schema = samples::full_table();
+    assert_eq!(arf::check_table(&schema), Ok(()));
+    assert_eq!(reference::check_table(&schema), Ok(()));
+    let times = side_by_side(
+        |_| arf::check_table(black_box(&schema)),
+        |_| reference::check_table(black_box(&schema)),
+    );
+    figure("table check", "256 types, 2,048 fields, 256 methods", times);
+}
+
+fn read(sample: &Sample) {
+    let (schema, payload) = (&sample.schema[..], &sample.payload[..]);
+    let (mut ours, mut theirs) = (vec![0; CELLS], vec![0; CELLS]);
+    let reading = arf::read(schema, sample.type_number, payload, &mut ours);
+    let rows = reading.expect("the payload is right").rows;
+    let expected = reference::read(schema, sample.type_number, payload, &mut theirs);
+    assert_eq!(expected.map(|reading| reading.rows), Ok(rows));
+    assert_eq!(ours, theirs);
+    let times = side_by_side(
+        |clear| {
+            if clear {
+                ours.fill(0);
+            }
+            let (schema, payload) = black_box((schema, payload));
+            arf::read(schema, sample.type_number, payload, &mut ours)
+        },
+        |clear| {
+            if clear {
+                theirs.fill(0);
+            }
+            let (schema, payload) = black_box((schema, payload));
+            reference::read(schema, sample.type_number, payload, &mut theirs)
+        },
+    );
+    figure("read", &format!("{}, {rows} rows", sample.name), times);
+}
+
+fn write(sample: &Sample) {
+    let (schema, payload) = (&sample.schema[..], &sample.payload[..]);
+    let mut sheet = vec![0; CELLS];
+    let reading = reference::read(schema, sample.type_number, payload, &mut sheet);
+    sheet.truncate(4 * reading.expect("the payload is right").rows);
+    let (mut ours, mut theirs) = (vec![0; MAX_PAYLOAD], vec![0; MAX_PAYLOAD]);
+    let length = arf::write(schema, sample.type_number, &sheet, payload, &mut ours);
+    let expected = reference::write(schema, sample.type_number, &sheet, payload, &mut theirs);
+    assert_eq!(length, Ok(payload.len()));
+    assert_eq!(expected, Ok(payload.len()));
+    assert_eq!(ours[..payload.len()], *payload);
+    assert_eq!(ours, theirs);
+    let times = side_by_side(
+        |clear| {
+            if clear {
+                ours.fill(0);
+            }
+            let (schema, sheet, payload) = black_box((schema, &sheet[..], payload));
+            arf::write(schema, sample.type_number, sheet, payload, &mut ours)
+        },
+        |clear| {
+            if clear {
+                theirs.fill(0);
+            }
+            let (schema, sheet, payload) = black_box((schema, &sheet[..], payload));
+            reference::write(schema, sample.type_number, sheet, payload, &mut theirs)
+        },
+    );
+    figure("write", sample.name, times);
+}
+
+fn frame(sample: &Sample) {
+    let header = reference::Header {
+        kind: 1,
+        identifiers: [1, 2, 3],
+        correlation: 9,
+    };
+    let mut bytes = vec![0; 26 + sample.payload.len()];
+    let written = reference::write_frame(&header, &sample.payload, &mut bytes);
+    assert_eq!(written, Ok(bytes.len()));
+    let whole = arf::read_frame(&bytes);
+    assert!(matches!(
+        whole,
+        Ok(arf::FrameRead::Whole { length: 100, .. })
+    ));
+    let times = side_by_side(
+        |_| arf::read_frame(black_box(&bytes)),
+        |_| reference::read_frame(black_box(&bytes)),
+    );
+    figure("frame read", "frame of a 100-byte receipt", times);
+    let ours = arf::Header {
+        kind: 1,
+        package: 1,
+        service: 2,
+        method: 3,
+        correlation: 9,
+    };
+    let (mut out, mut other) = (vec![0; 200], vec![0; 200]);
+    let length = arf::write_frame(&ours, &sample.payload, &mut out);
+    assert_eq!((length, &out[..bytes.len()]), (Ok(bytes.len()), &bytes[..]));
+    let times = side_by_side(
+        |clear| {
+            if clear {
+                out.fill(0);
+            }
+            arf::write_frame(black_box(&ours), black_box(&sample.payload), &mut out)
+        },
+        |clear| {
+            if clear {
+                other.fill(0);
+            }
+            reference::write_frame(black_box(&header), black_box(&sample.payload), &mut other)
+        },
+    );
+    figure("frame write", "frame of a 100-byte receipt", times);
+}
+
+/// One frame of a kind with 100 calls open. Each call starts from a copy of the
+/// same call table, on both sides.
+fn receive(input: &str, kind: u32, correlation: u64, sample: &Sample) {
+    let header = reference::Header {
+        kind,
+        identifiers: [1, 2, 3],
+        correlation,
+    };
+    let mut bytes = vec![0; 26 + sample.payload.len()];
+    let written = reference::write_frame(&header, &sample.payload, &mut bytes);
+    assert_eq!(written, Ok(bytes.len()));
+    let mut calls = [arf::Call::default(); arf::SLOTS];
+    let mut other = reference::CallTable::fresh();
+    for (correlation, (call, record)) in (0..100).zip(calls.iter_mut().zip(&mut other.slots)) {
+        (call.open, call.correlation) = (true, correlation);
+        (record.open, record.correlation) = (true, correlation);
+    }
+    let table = arf::CallTable::from_calls(&calls);
+    let (mut ours, mut theirs) = (vec![0; CELLS], vec![0; CELLS]);
+    let (mut first, mut second) = (table, other);
+    let received = first.receive(&sample.schema, b'C', &bytes, &mut ours);
+    let expected = second.receive(&sample.schema, b'C', &bytes, &mut theirs);
+    assert!(matches!(received.outcome, arf::Outcome::Accepted(_)));
+    assert_eq!((expected.number(), expected.open), (0, received.open));
+    assert_eq!(ours, theirs);
+    let times = side_by_side(
+        |clear| {
+            if clear {
+                ours.fill(0);
+            }
+            let mut table = black_box(table);
+            table.receive(&sample.schema, b'C', black_box(&bytes), &mut ours)
+        },
+        |clear| {
+            if clear {
+                theirs.fill(0);
+            }
+            let mut table = black_box(other);
+            table.receive(&sample.schema, b'C', black_box(&bytes), &mut theirs)
+        },
+    );
+    figure("receive, 100 calls open", input, times);
+}

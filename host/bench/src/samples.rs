@@ -1,0 +1,211 @@
+//! What is measured: schema tables, and payloads of many shapes.
+
+use reference::generate::table::{Table, ARRAY, MAP, STRING, STRUCT};
+use reference::schema::{MAX_FIELDS, MAX_METHODS, MAX_TYPES};
+use reference::MAX_PAYLOAD;
+
+/// A payload with the table and the type that it is read by.
+pub struct Sample {
+    pub name: &'static str,
+    pub schema: Vec<u8>,
+    pub type_number: u32,
+    pub payload: Vec<u8>,
+}
+
+const UINT8: u32 = 6;
+const UINT32: u32 = 8;
+const UINT64: u32 = 9;
+const BOOL: u32 = 1;
+
+/// A good table that is full in all three sections.
+pub fn full_table() -> Vec<u8> {
+    let mut table = Table::default();
+    for kind in 1..=13 {
+        table.add_type(kind, 0, 0);
+    }
+    for element in 0..96 {
+        table.add_type(ARRAY, element, 0);
+    }
+    for value in 0..83 {
+        table.add_type(MAP, value % 9, value);
+    }
+    while table.types.len() < MAX_TYPES {
+        let first = table.fields.len() as u32;
+        let fields = (first..first + 32).map(|field| [field % MAX_TYPES as u32, field % 2]);
+        let fields: Vec<_> = fields.collect();
+        table.add_struct(&fields);
+    }
+    table.fields.resize(MAX_FIELDS, [0, 1]);
+    for method in 0..MAX_METHODS as u32 {
+        table.methods.push([1, 2, method, 15, 200, 210, 220, 230]);
+    }
+    table.bytes()
+}
+
+/// The shortest VarUInt of a number.
+fn size(number: usize) -> Vec<u8> {
+    let mut out = vec![0; 10];
+    let length = reference::varuint::encode(number as u64, &mut out);
+    out.truncate(length);
+    out
+}
+
+/// A length and that many bytes.
+fn text(content: &[u8]) -> Vec<u8> {
+    [&size(content.len()), content].concat()
+}
+
+/// As many items as there is room for, with their count before them.
+fn counted(room: usize, item: impl Fn(usize) -> Vec<u8>) -> Vec<u8> {
+    let (mut count, mut items) = (0, Vec::new());
+    loop {
+        let next = item(count);
+        if size(count + 1).len() + items.len() + next.len() > room {
+            return [size(count), items].concat();
+        }
+        items.extend(next);
+        count += 1;
+    }
+}
+
+/// A payload of exactly the longest length: a struct of one field, which takes
+/// the room it is given, and of bytes that fill the rest.
+fn longest(
+    name: &'static str,
+    mut table: Table,
+    field: u32,
+    content: impl Fn(usize) -> Vec<u8>,
+) -> Sample {
+    let bytes = table.add_type(13, 0, 0);
+    let type_number = table.add_struct(&[[field, 0], [bytes, 0]]);
+    let mut payload = vec![3];
+    payload.extend(content(MAX_PAYLOAD - 4));
+    let left = MAX_PAYLOAD - payload.len();
+    let length = match left {
+        0..=128 => left - 1,
+        _ => left - 2,
+    };
+    payload.extend(text(&vec![0; length]));
+    assert_eq!(payload.len(), MAX_PAYLOAD);
+    Sample {
+        name,
+        schema: table.bytes(),
+        type_number,
+        payload,
+    }
+}
+
+/// A struct of a byte and a word, many times.
+fn small_structs() -> Sample {
+    let mut table = Table::default();
+    let byte = table.add_type(UINT8, 0, 0);
+    let word = table.add_type(UINT32, 0, 0);
+    let small = table.add_struct(&[[byte, 0], [word, 1]]);
+    let array = table.add_type(ARRAY, small, 0);
+    longest("small structs", table, array, |room| {
+        counted(room, |index| vec![3, index as u8, 1, 2, 3, 4])
+    })
+}
+
+/// One string of a character over and over.
+fn string(name: &'static str, character: &str) -> Sample {
+    let mut table = Table::default();
+    let string = table.add_type(STRING, 0, 0);
+    longest(name, table, string, |room| {
+        let times = (room - 2) / character.len();
+        text(character.repeat(times).as_bytes())
+    })
+}
+
+/// Arrays of arrays of arrays of bytes.
+fn nested_arrays() -> Sample {
+    let mut table = Table::default();
+    let byte = table.add_type(UINT8, 0, 0);
+    let inner = table.add_type(ARRAY, byte, 0);
+    let middle = table.add_type(ARRAY, inner, 0);
+    let outer = table.add_type(ARRAY, middle, 0);
+    longest("nested arrays", table, outer, |room| {
+        counted(room, |_| counted(33, |_| vec![3, 7, 8, 9]))
+    })
+}
+
+/// Maps of 64 pairs each, from keys of a kind to words.
+fn maps(name: &'static str, kind: u32, key: fn(usize) -> Vec<u8>) -> Sample {
+    let mut table = Table::default();
+    let keys = table.add_type(kind, 0, 0);
+    let word = table.add_type(UINT32, 0, 0);
+    let map = table.add_type(MAP, keys, word);
+    let array = table.add_type(ARRAY, map, 0);
+    longest(name, table, array, |room| {
+        let pair = |index| [key(index), vec![4, 3, 2, 1]].concat();
+        let pairs: Vec<u8> = (0..64).flat_map(pair).collect();
+        counted(room, |_| [size(64), pairs.clone()].concat())
+    })
+}
+
+/// The table of a receipt, with a method that takes one and gives one back.
+pub fn receipt_table() -> Table {
+    let mut table = Table::default();
+    let truth = table.add_type(BOOL, 0, 0);
+    let number = table.add_type(UINT32, 0, 0);
+    let amount = table.add_type(UINT64, 0, 0);
+    let name = table.add_type(STRING, 0, 0);
+    let item = table.add_struct(&[[name, 0], [number, 0], [amount, 0], [name, 1]]);
+    let items = table.add_type(ARRAY, item, 0);
+    let receipt = table.add_struct(&[
+        [amount, 0],
+        [name, 0],
+        [items, 0],
+        [amount, 0],
+        [truth, 1],
+        [name, 1],
+    ]);
+    table
+        .methods
+        .push([1, 2, 3, 12, receipt, receipt, u32::MAX, u32::MAX]);
+    assert_eq!(table.types[receipt as usize][0], STRUCT);
+    table
+}
+
+/// A receipt of 100 bytes: a number, a shop, three items, a sum, a mark,
+/// a note.
+pub fn receipt() -> Sample {
+    let table = receipt_table();
+    let mut payload = vec![0x3F];
+    payload.extend(20_260_704u64.to_le_bytes());
+    payload.extend(text("Zur alten Mühle".as_bytes()));
+    payload.extend(size(3));
+    for (item, price) in [("bread", 380u64), ("milk", 145), ("apples", 299)] {
+        payload.push(0x07);
+        payload.extend(text(item.as_bytes()));
+        payload.extend(2u32.to_le_bytes());
+        payload.extend(price.to_le_bytes());
+    }
+    payload.extend(1_648u64.to_le_bytes());
+    payload.push(1);
+    payload.extend(text(b"thanks"));
+    assert_eq!(payload.len(), 100);
+    Sample {
+        name: "receipt of 100 bytes",
+        schema: table.bytes(),
+        type_number: 6,
+        payload,
+    }
+}
+
+/// The payloads that the reader and the writer are measured on.
+pub fn payloads() -> Vec<Sample> {
+    vec![
+        small_structs(),
+        string("long string, ASCII", "a"),
+        string("long string, two-byte characters", "é"),
+        nested_arrays(),
+        maps("64-pair maps, uint32 keys", UINT32, |index| {
+            (index as u32).to_le_bytes().to_vec()
+        }),
+        maps("64-pair maps, string keys", STRING, |index| {
+            text(format!("key-{index:02}").as_bytes())
+        }),
+        receipt(),
+    ]
+}

@@ -1,0 +1,212 @@
+//! The answers of the static library to cases, in the words of the case file.
+
+use reference::cases::{
+    call_table_sum, line, sheet_sum, sum, Case, ExtendsCase, FrameCase, FrameWriteCase, ReadCase,
+    ReceiveCase, RunCase, ScalarCase, TableCase, WriteCase, BYTE_FILL, CELL_FILL,
+};
+
+/// The codes of the entries that the library has.
+pub const CODES: &[u8] = &[1, 2, 3, 4, 5, 6, 7, 8, 9];
+
+/// How many cells or bytes before and after a lent buffer are watched.
+const MARGIN: usize = 16;
+
+/// Runs a case and adds its line, or lines, to the text.
+pub fn answer(case: &Case, text: &mut String) {
+    match case {
+        Case::Table(case) => table(case, text),
+        Case::Extends(case) => extends(case, text),
+        Case::Read(case) => read(case, text),
+        Case::Scalar(case) => scalar(case, text),
+        Case::Write(case) => write(case, text),
+        Case::Frame(case) => frame(case, text),
+        Case::FrameWrite(case) => frame_write(case, text),
+        Case::Run(case) => run(case, text),
+        Case::Receive(case) => receive_one(case, text),
+    }
+}
+
+/// Lends a filled buffer to a call, and gives what the call answers and the
+/// buffer afterwards. What stands around the buffer must stay as it was.
+fn lend<T: Copy + PartialEq, A>(
+    fill: T,
+    length: usize,
+    call: impl FnOnce(&mut [T]) -> A,
+) -> (A, Vec<T>) {
+    let mut buffer = vec![fill; MARGIN + length + MARGIN];
+    let answer = call(&mut buffer[MARGIN..MARGIN + length]);
+    let after = buffer.split_off(MARGIN + length);
+    let lent = buffer.split_off(MARGIN);
+    let untouched = buffer.iter().chain(&after).all(|item| *item == fill);
+    assert!(untouched, "memory beside the lent buffer was written");
+    (answer, lent)
+}
+
+/// The number and place of a result, and its value, or the given one.
+fn outcome<T>(result: Result<T, arf::Refusal>, refused: T) -> (u64, u64, T) {
+    match result {
+        Ok(value) => (0, 0, value),
+        Err(refusal) => (refusal.number.into(), refusal.place as u64, refused),
+    }
+}
+
+fn table(case: &TableCase, text: &mut String) {
+    let (number, place, ()) = outcome(arf::check_table(&case.schema), ());
+    line(text, &[number, place]);
+}
+
+fn extends(case: &ExtendsCase, text: &mut String) {
+    let (number, place, yes) = outcome(arf::extends(&case.old, &case.new), false);
+    line(text, &[number, place, yes.into()]);
+}
+
+fn reading_numbers(reading: arf::Reading) -> [u64; 3] {
+    [reading.rows, reading.tail_place, reading.tail_length].map(|number| number as u64)
+}
+
+fn read(case: &ReadCase, text: &mut String) {
+    let (result, sheet) = lend(CELL_FILL, case.cells, |sheet| {
+        arf::read(&case.schema, case.type_number, &case.payload, sheet)
+    });
+    let (number, place, reading) = outcome(result, arf::Reading::default());
+    let [rows, tail_place, tail_length] = reading_numbers(reading);
+    let sum = sheet_sum(&sheet);
+    line(text, &[number, place, rows, tail_place, tail_length, sum]);
+}
+
+/// A scalar's case and two numbers; the own bits of a NaN show as 0.
+fn scalar_numbers(value: arf::Scalar) -> [u64; 3] {
+    use arf::Scalar::*;
+    match value {
+        Truth(truth) => [1, truth.into(), 0],
+        Signed(number) => [2, number as u64, 0],
+        Unsigned(number) => [3, number, 0],
+        Float32 { value, bits } if value.is_nan() => [4, bits.into(), 0],
+        Float32 { value, bits } => [4, bits.into(), value.to_bits().into()],
+        Float64 { value, bits } if value.is_nan() => [5, bits, 0],
+        Float64 { value, bits } => [5, bits, value.to_bits()],
+        Span { place, length } => [6, place as u64, length as u64],
+    }
+}
+
+fn scalar(case: &ScalarCase, text: &mut String) {
+    let [type_number, place, length, count] = case.row;
+    let row = arf::Row {
+        type_number,
+        place,
+        length,
+        count,
+    };
+    let result = arf::scalar(&case.schema, row, &case.data).map(scalar_numbers);
+    let (number, place, [which, a, b]) = outcome(result, [0; 3]);
+    line(text, &[number, place, which, a, b]);
+}
+
+fn write(case: &WriteCase, text: &mut String) {
+    let (result, out) = lend(BYTE_FILL, case.room, |out| {
+        let (schema, sheet, data) = (&case.schema, &case.sheet, &case.data);
+        arf::write(schema, case.type_number, sheet, data, out)
+    });
+    let (number, place, length) = outcome(result, 0);
+    line(text, &[number, place, length as u64, sum(out)]);
+}
+
+fn frame(case: &FrameCase, text: &mut String) {
+    let numbers = match arf::read_frame(&case.data) {
+        Ok(arf::FrameRead::More) => [1, 0, 0, 0, 0, 0, 0, 0],
+        Ok(arf::FrameRead::Whole {
+            header,
+            place,
+            length,
+        }) => [
+            0,
+            header.kind.into(),
+            header.package.into(),
+            header.service.into(),
+            header.method.into(),
+            header.correlation,
+            place as u64,
+            length as u64,
+        ],
+        Err(refusal) => [refusal.number.into(), 0, 0, 0, 0, 0, 0, 0],
+    };
+    line(text, &numbers);
+}
+
+fn frame_write(case: &FrameWriteCase, text: &mut String) {
+    let [package, service, method] = case.header.identifiers;
+    let header = arf::Header {
+        kind: case.header.kind,
+        package,
+        service,
+        method,
+        correlation: case.header.correlation,
+    };
+    let (result, out) = lend(BYTE_FILL, case.room, |out| {
+        arf::write_frame(&header, &case.payload, out)
+    });
+    let (number, _, length) = outcome(result, 0);
+    line(text, &[number, length as u64, sum(out)]);
+}
+
+/// One frame against a call table, with a newly filled sheet.
+fn receive(
+    table: &mut arf::CallTable,
+    schema: &[u8],
+    cells: usize,
+    (side, data): (u8, &[u8]),
+) -> [u64; 8] {
+    let (received, sheet) = lend(CELL_FILL, cells, |sheet| {
+        table.receive(schema, side, data, sheet)
+    });
+    let (number, place, reading) = match received.outcome {
+        arf::Outcome::Accepted(reading) => (0, 0, reading),
+        arf::Outcome::More => (1, 0, arf::Reading::default()),
+        arf::Outcome::Refused(refusal) => outcome(Err(refusal), arf::Reading::default()),
+    };
+    let [rows, tail_place, tail_length] = reading_numbers(reading);
+    [
+        number,
+        place,
+        received.used as u64,
+        rows,
+        tail_place,
+        tail_length,
+        received.open as u64,
+        sheet_sum(&sheet),
+    ]
+}
+
+fn run(case: &RunCase, text: &mut String) {
+    let mut table = arf::CallTable::fresh();
+    for (side, data) in &case.frames {
+        let numbers = receive(&mut table, &case.schema, case.cells, (*side, data));
+        line(text, &numbers);
+    }
+}
+
+fn receive_one(case: &ReceiveCase, text: &mut String) {
+    let calls = case.table.slots.map(|call| arf::Call {
+        open: call.open,
+        correlation: call.correlation,
+        method: call.method,
+        response: call.response,
+        input_closed: call.input_closed,
+        output_closed: call.output_closed,
+    });
+    let mut table = arf::CallTable::from_calls(&calls);
+    let sent = (case.side, &case.data[..]);
+    let numbers = receive(&mut table, &case.schema, case.cells, sent);
+    let slots = table.calls().map(|call| reference::Call {
+        open: call.open,
+        correlation: call.correlation,
+        method: call.method,
+        response: call.response,
+        input_closed: call.input_closed,
+        output_closed: call.output_closed,
+    });
+    let next = call_table_sum(&reference::CallTable { slots });
+    let mut all = numbers.to_vec();
+    all.push(next);
+    line(text, &all);
+}
