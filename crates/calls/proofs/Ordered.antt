@@ -17,7 +17,7 @@ use Rattle.calls.specs.declared.FormRow.{FormRow}
 use Rattle.calls.specs.declared.Frame.{Frame}
 use Rattle.calls.specs.declared.Payload.{Payload}
 use Rattle.calls.specs.Forms.{letter, lettersRow, rowOf}
-use Rattle.calls.specs.Record.{emptyCall, openedCall, complete, allowed, marked, ends, afterFrame}
+use Rattle.calls.specs.Record.{implies, emptyCall, openedCall, complete, allowed, marked, ends, afterFrame}
 use Rattle.calls.specs.Slots.{freshTable, holds}
 use Rattle.calls.specs.Judge.{rightSide, payloadOf}
 use Rattle.calls.specs.Step.{endsCall, receive}
@@ -106,7 +106,7 @@ module _ (form : ℕ) (h : List ℕ) (c : Call) (m : ℕ) (w : Marks m h c) wher
         let r : (c .responded || eqb kind 6) ≡ (eqb kind 6 || holds 6 h) = or-comm (c .responded) (eqb kind 6) ∙ ap (λ (b : Bool). eqb kind 6 || b) (w .responded) in
         let i : (c .«input_closed» || eqb kind 3) ≡ (eqb kind 3 || holds 3 h) = or-comm (c .«input_closed») (eqb kind 3) ∙ ap (λ (b : Bool). eqb kind 3 || b) (w .inputClosed) in
         let o : (c .«output_closed» || eqb kind 5) ≡ (eqb kind 5 || holds 5 h) = or-comm (c .«output_closed») (eqb kind 5) ∙ ap (λ (b : Bool). eqb kind 5 || b) (w .outputClosed) in
-        rw (r, i, o)
+        λ k. (r k) && (implies (row .1) (i k) && implies (row .3) (o k))
 
     last-two : 2 ≤ kind → kind ≤ 8 → leb 7 kind ≡ (eqb kind 7 || eqb kind 8)
     last-two = kinds (λ k. leb 7 k ≡ (eqb k 7 || eqb k 8)) refl refl refl refl refl refl refl kind
