@@ -24,13 +24,9 @@
 #![deny(unsafe_op_in_unsafe_fn)]
 
 mod ffi;
+mod refusal;
 
-/// Why something was refused: the number of the reason, and the place.
-#[derive(Clone, Copy, Debug, PartialEq, Eq)]
-pub struct Refusal {
-    pub number: u32,
-    pub place: usize,
-}
+pub use refusal::Refusal;
 
 /// A value for the number 0, and a refusal for any other.
 fn answer<T>(number: u32, place: u64, value: T) -> Result<T, Refusal> {
