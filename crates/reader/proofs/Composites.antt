@@ -12,19 +12,20 @@ use lib.ListN.{length, replicate, set}
 use Rattle.schema.specs.declared.Field.{Field}
 use Rattle.schema.specs.Table.{Table, Shape, array, map, struct}
 use Rattle.schema.specs.Check.{field}
-use Rattle.value.specs.Answer.{Cursor, refused, seen, Reader, andThen, check, cursorAt}
+use Rattle.value.specs.Answer.{Cursor, refused, seen, Reader, andThen, check, cursorAt, Accepted}
 use Rattle.value.specs.Value.{Tree, tip, rows, rowsAll}
 use Rattle.value.specs.Read.{Item, plainItem, pairs, present, parts, count, bitmap, among, walk, whole, parse}
+use Rattle.value.proofs.Answers.{accepted-first}
+use Rattle.parts.specs.Shape.{fieldsFrom}
+use Rattle.parts.proofs.Presence.{present-set, present-clear}
 use Rattle.reader.specs.declared.leaf.Count.{Count}
 use Rattle.reader.specs.declared.leaf.Count.the-variants.{Is, Not}
 use Rattle.reader.specs.declared.leaf.Head.{Head}
 use Rattle.reader.specs.declared.leaf.Head.the-variants.{Bits, Fault}
 use Rattle.reader.specs.declared.walk.Walk.the-variants.{Past}
 use Rattle.reader.specs.Sheet.{putRow}
-use Rattle.reader.specs.Leaf.{Accepted, part, countOf, CountIn, Counted, fieldsFrom, headOf, HeadIn, Headed, keysIn}
+use Rattle.reader.specs.Leaf.{part, countOf, CountIn, Counted, headOf, HeadIn, Headed, keysIn}
 use Rattle.reader.specs.Walk.{Final, done, stopped, walkOf, Walked}
-use Rattle.reader.proofs.Leaves.{accepted-first}
-use Rattle.reader.proofs.Heads.{present-set, present-clear}
 use Rattle.reader.proofs.Keys.{keys-more}
 use Rattle.reader.proofs.Steps.{keyItem, spanRow, walk-length, item-past, item-stop, item-accepted, key-accepted, key-stop, key-again, key-new, key-known, accepted-along, parse-refused, parse-whole, own-accepted}
 

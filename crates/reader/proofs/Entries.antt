@@ -14,20 +14,19 @@ use Rattle.schema.specs.declared.Checked.the-variants.{Good, Refused as Faulty}
 use Rattle.schema.specs.Table.{Table, Shape, unknown, scalar, text, array, map, struct, rowAt, shape}
 use Rattle.schema.specs.File.{tableOf}
 use Rattle.schema.specs.Check.{checked}
-use Rattle.value.specs.Answer.{Answer, refused, seen, cursorAt}
+use Rattle.value.specs.Answer.{Answer, refused, seen, cursorAt, Accepted}
 use Rattle.value.specs.Value.{Tree, rows}
 use Rattle.value.specs.Read as value
 use Rattle.value.specs.Read.{onStruct}
+use Rattle.parts.specs.Shape.{fieldsFrom}
+use Rattle.parts.proofs.Tables.{leaf-scalar, leaf-text, shape-array, shape-map, shape-struct, shape-none, shape-past, shape-leaf}
 use Rattle.reader.specs.declared.Reading.the-variants.{Shown, Refused}
 use Rattle.reader.specs.declared.walk.Walk.{Walk}
 use Rattle.reader.specs.declared.walk.Walk.the-variants.{Past, Refused as Stop}
 use Rattle.reader.specs.Sheet.{putRows}
-use Rattle.reader.specs.Leaf.{Accepted, fieldsFrom}
 use Rattle.reader.specs.Walk.{done, stopped, walkOf, endOf, rootIn, Walked}
 use Rattle.reader.specs.Entry.{outcome, outcomeOf, room, payloadOutcome, readOutcome}
 use Rattle.reader.proofs.Sheets.{rows-shown}
-use Rattle.reader.proofs.Leaves.{leaf-scalar, leaf-text}
-use Rattle.reader.proofs.Tables.{shape-array, shape-map, shape-struct, shape-none, shape-past, shape-leaf}
 
 -- a part of no cells comes back with no cells
 back : (k l : List ℕ) → length k ≡ 0 → k ++ l ≡ l

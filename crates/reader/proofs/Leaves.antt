@@ -1,13 +1,13 @@
 -- Laws of the leaves: what each of their returns shows of the reading in the crate `value`.
 -- Assumes nothing.
-use mathlib.Core.Path.{_≡_, refl, sym, ap, _∙_}
-use mathlib.Core.Bool.{Bool, true, false, not, _||_}
+use mathlib.Core.Path.{_≡_, sym, ap, _∙_}
+use mathlib.Core.Bool.{true, false, not, _||_}
 use mathlib.Core.List.{List, [], _∷_}
 use Prim.Native.Nat.{ℕ, zero, suc, _+_, _-_, _*_, _≤_, _<_}
 use native.Mathlib.Nat.{mul-le-mul}
 use native.Mathlib.Omega.{arith}
 use borrow.Author.Tests.{le-leb, lt-leb, lt-ltb, le-ltb, eq-eqb, ne-eqb}
-use lib.Dec.{T, leb, ltb, eqb}
+use lib.Dec.{ltb, eqb}
 use lib.ListN.{length, getD, take, drop, length-drop, length-take}
 use lib.Seq.{drop-drop, take-nil, slice}
 use Rattle.wire.specs.Little.{little}
@@ -17,25 +17,13 @@ use Rattle.wire.specs.declared.varuint.VarUInt.the-variants.{Number, Cut, Malfo
 use Rattle.wire.proofs.Varuints.{varuint-inside}
 use Rattle.wire.proofs.Numbers.{little-one}
 use Rattle.schema.specs.Table.{scalar, text, width}
-use Rattle.value.specs.Answer.{Cursor, Answer, refused, seen, Reader, andThen, check, cursorAt, block, varUInt}
+use Rattle.value.specs.Answer.{refused, seen, andThen, check, cursorAt, block, varUInt, Accepted}
 use Rattle.value.specs.Read.{plain, count, own}
+use Rattle.value.proofs.Answers.{accepted-check}
 use Rattle.reader.specs.declared.leaf.Count.{Count}
 use Rattle.reader.specs.declared.leaf.Count.the-variants.{Is, Not}
 use Rattle.reader.specs.declared.leaf.Span.the-variants.{At, Bad}
-use Rattle.reader.specs.Leaf.{Accepted, part, countOf, CountIn, Counted, leafShape, Spanned}
-
--- ---- answers that accept
-
--- Where two readers one after the other accept, the first does.
-pub accepted-first : {A B : Type 0} (m : Answer A) (f : A → Reader B) → Accepted (andThen m f) → Accepted m
-unfolding andThen
-accepted-first (refused n q) f h = h
-accepted-first (seen a c) f h = tt
-
-pub accepted-check : {A : Type 0} (b : Bool) (n q : ℕ) (c : Cursor) (f : Unit {0} → Reader A) → Accepted (andThen (check b n q c) f) → b ≡ true
-unfolding andThen check
-accepted-check true n q c f h = refl
-accepted-check false n q c f h = absurd h
+use Rattle.reader.specs.Leaf.{part, countOf, CountIn, Counted, Spanned}
 
 -- ---- parts of the payload
 
@@ -155,7 +143,7 @@ module _ (p : List ℕ) (kind at : ℕ) (r : Count) (counted : Counted p at 1 (c
     text-known k h =
         rw (slice-part p start (start + n))
         (accepted-check (utf8 (part p start (start + n))) 23 start (cursorAt p (start + n)) (λ _ c. seen (plain (part p start (start + n))) c)
-        (rw (read-as, block-reads p start n (text-in .1), eq-eqb kind 12 k) at h))
+        (rw (read-as, block-reads p start n (text-in .1), eq-eqb kind 12 k) at h) .0)
 
     pub text-bad : kind ≡ 12 → utf8 (slice start (start + n) p) ≡ false → Spanned p at (own (text kind) (cursorAt p at)) (Bad 23 start)
     unfolding andThen check
@@ -172,11 +160,3 @@ module _ (p : List ℕ) (kind at : ℕ) (r : Count) (counted : Counted p at 1 (c
 
     pub text-plain : (kind ≡ 12 → ⊥) → (not (eqb kind 12) || utf8 (part p start (start + n))) ≡ true
     text-plain k = rw (ne-eqb kind 12 k)
-
-pub leaf-scalar : (kind : ℕ) → kind < 12 → leafShape kind ≡ scalar kind
-unfolding leafShape
-leaf-scalar kind h = rw (lt-ltb kind 12 h)
-
-pub leaf-text : (kind : ℕ) → 12 ≤ kind → leafShape kind ≡ text kind
-unfolding leafShape
-leaf-text kind h = rw (le-ltb kind 12 h)

@@ -1,6 +1,5 @@
 pub mod Sheets
 pub mod Leaves
-pub mod Tables
 pub mod Heads
 pub mod Keys
 pub mod Steps

@@ -8,15 +8,15 @@ use borrow.Author.Tests.{eq-eqb, ne-eqb, le-leb, lt-leb}
 use lib.ListN.{length, drop, length-drop}
 use Rattle.schema.specs.declared.Field.{Field}
 use Rattle.schema.specs.Table.{Shape, struct}
-use Rattle.value.specs.Answer.{Answer, refused, seen, Reader, andThen, check, cursorAt}
+use Rattle.value.specs.Answer.{Answer, refused, seen, Reader, andThen, check, cursorAt, Accepted}
 use Rattle.value.specs.Value.{Tree, branch, Forest, rows}
 use Rattle.value.specs.Read.{counted, plan, bitmap, parts, walk, nodeRow, whole, parse, ending, rootStruct}
+use Rattle.value.proofs.Answers.{accepted-first}
 use Rattle.reader.specs.declared.leaf.Head.{Head}
 use Rattle.reader.specs.declared.leaf.Head.the-variants.{Bits, Fault}
 use Rattle.reader.specs.declared.walk.Walk.the-variants.{Past, Refused}
-use Rattle.reader.specs.Leaf.{Accepted, headOf, HeadIn, Headed}
+use Rattle.reader.specs.Leaf.{headOf, HeadIn, Headed}
 use Rattle.reader.specs.Walk.{done, stopped, walkOf, Walked}
-use Rattle.reader.proofs.Leaves.{accepted-first}
 
 -- ---- what follows the known fields
 

@@ -9,19 +9,20 @@ use borrow.Author.Tests.{not-true}
 use lib.ListN.{length, length-append}
 use Rattle.schema.specs.Table.{Shape}
 use Rattle.value.specs.declared.Row.{Row}
-use Rattle.value.specs.Answer.{Cursor, Answer, refused, seen, Reader, andThen, check, cursorAt}
+use Rattle.value.specs.Answer.{Cursor, Answer, refused, seen, Reader, andThen, check, cursorAt, Accepted}
 use Rattle.value.specs.Value as tree
 use Rattle.value.specs.Value.{Tree, tip, branch, Forest, plus, rows, rowsAll, content}
 use Rattle.value.specs.Read.{Item, plainItem, plan, counted, Own, plain, parts, own, among, walk, leafRow, nodeRow, whole, parse}
+use Rattle.value.proofs.Answers.{accepted-first, accepted-check}
 use Rattle.reader.specs.declared.leaf.Span.{Span}
 use Rattle.reader.specs.declared.leaf.Span.the-variants.{At, Bad}
 use Rattle.reader.specs.declared.walk.Walk.{Walk}
 use Rattle.reader.specs.declared.walk.Walk.the-variants.{Past, Refused}
 use Rattle.reader.specs.Sheet.{putRow, putRows}
-use Rattle.reader.specs.Leaf.{Accepted, part, spanOf, Spanned}
+use Rattle.reader.specs.Leaf.{part, spanOf, Spanned}
 use Rattle.reader.specs.Walk.{done, stopped, walkOf, Walked}
 use Rattle.reader.proofs.Sheets.{rows-append, length-rows}
-use Rattle.reader.proofs.Leaves.{accepted-first, accepted-check, length-part}
+use Rattle.reader.proofs.Leaves.{length-part}
 
 -- ---- ends
 
@@ -133,7 +134,7 @@ module _ (P : ℕ → Reader Tree) (keys : List (List ℕ)) (is : List Item) whe
 
     pub key-known : Accepted (walk P keys (keyItem k ∷ is) c) → among x keys ≡ false
     unfolding andThen afterKey tree.value
-    key-known h = not-true (among x keys) (accepted-check _ 24 (c .at) c′ _ (rw (key-step k c, read) at h))
+    key-known h = not-true (among x keys) (accepted-check _ 24 (c .at) c′ _ (rw (key-step k c, read) at h) .0)
 
 pub walk-end : (P : ℕ → Reader Tree) (keys : List (List ℕ)) (c : Cursor) (row : ℕ) (l : List ℕ) → done c row l ≡ walkOf rowsAll (walk P keys [] c) row l
 unfolding walk rows putRows

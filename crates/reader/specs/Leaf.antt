@@ -1,13 +1,11 @@
 -- What the leaves of the reader answer: a count, a content, a bitmap; and the keys that a map's walk keeps.
 -- Assumes nothing.
 use mathlib.Core.Path.{_≡_}
-use mathlib.Core.Bool.{cond}
 use mathlib.Core.List.{List, [], _∷_}
 use Prim.Native.Nat.{ℕ, zero, suc, _+_, _-_, _*_, _^_, _≤_, _<_}
 use lib.Dec.{eqb, ltb}
 use lib.ListN.{length, getD, take, drop}
 use Rattle.schema.specs.declared.Field.{Field}
-use Rattle.schema.specs.Table.{Table, Shape, scalar, text}
 use Rattle.value.specs.Answer.{Answer, refused, seen, cursorAt}
 use Rattle.value.specs.Read.{Own, plain, present, knownBits, unknownBits}
 use Rattle.reader.specs.declared.leaf.Count.{Count}
@@ -16,11 +14,6 @@ use Rattle.reader.specs.declared.leaf.Span.{Span}
 use Rattle.reader.specs.declared.leaf.Span.the-variants.{At, Bad}
 use Rattle.reader.specs.declared.leaf.Head.{Head}
 use Rattle.reader.specs.declared.leaf.Head.the-variants.{Bits, Fault}
-
--- The answer accepts.
-abbrev pub Accepted : {A : Type 0} → Answer A → Type 0
-Accepted (refused n q) = ⊥
-Accepted (seen a c) = Unit {0}
 
 -- The bytes from one place up to another.
 abbrev pub part : List ℕ → ℕ → ℕ → List ℕ
@@ -43,10 +36,6 @@ pub record Counted (p : List ℕ) (at least : ℕ) (o : Answer ℕ) (r : Count) 
 
 -- ---- contents
 
--- The shape of a kind from 1 to 13.
-unfoldable pub leafShape : ℕ → Shape
-leafShape kind = cond (ltb kind 12) (scalar kind) (text kind)
-
 abbrev pub spanOf : List ℕ → Span → Answer Own
 spanOf p (At from to) = seen (plain (part p from to)) (cursorAt p to)
 spanOf p (Bad number place) = refused number place
@@ -60,10 +49,6 @@ pub record Spanned (p : List ℕ) (at : ℕ) (o : Answer Own) (r : Span) : Type 
   pub within : SpanIn (length p) at r
 
 -- ---- presence bits
-
--- A struct's fields: n from the first on.
-unfoldable pub fieldsFrom : Table → ℕ → ℕ → List Field
-fieldsFrom T first n = take n (drop first (T .fields))
 
 abbrev pub headOf : List ℕ → ℕ → Head → Answer ℕ
 headOf p at (Bits word known count unknown start) = seen word (cursorAt p start)

@@ -10,13 +10,12 @@ use Rattle.schema.specs.Table.{Shape, shape}
 use Rattle.schema.specs.File.{tableOf}
 use Rattle.schema.specs.Check.{IsGood}
 use Rattle.value.specs.declared.Row.{Row}
-use Rattle.value.specs.Answer.{Cursor, Answer, refused, seen, cursorAt}
+use Rattle.value.specs.Answer.{Cursor, Answer, refused, seen, cursorAt, Accepted}
 use Rattle.value.specs.Value.{Tree}
 use Rattle.value.specs.Read.{parts, whole, parse, rootStruct}
 use Rattle.reader.specs.declared.walk.Walk.{Walk}
 use Rattle.reader.specs.declared.walk.Walk.the-variants.{Past, Refused}
 use Rattle.reader.specs.Sheet.{putRows}
-use Rattle.reader.specs.Leaf.{Accepted}
 
 -- ---- the readings of the crate `value`, by the table in the file s, at a place of the payload p
 

@@ -1,4 +1,5 @@
 // A value's own bytes: counts, contents of scalars and strings, and presence bits.
+use parts::is_complete;
 use schema::kind::width_of;
 use wire::bitmap;
 use wire::utf8;
@@ -10,12 +11,13 @@ ghost use Prim.Native.Nat.{_+_, _≤_, _<_};
 ghost use lib.ListN.{length};
 ghost use lib.Seq.{slice};
 ghost use Rattle.wire.specs.Utf8.{utf8};
-ghost use Rattle.schema.specs.Table.{scalar, text, width};
+ghost use Rattle.schema.specs.Table.{scalar, text};
 ghost use Rattle.schema.specs.File.{tableOf};
 ghost use Rattle.schema.specs.Check.{IsGood};
-ghost use Rattle.value.specs.Answer.{cursorAt};
-ghost use Rattle.value.specs.Read.{count, own, bitmap, complete};
-ghost use Rattle.reader.specs.Leaf.{Accepted, Counted, leafShape, Spanned, fieldsFrom, Headed};
+ghost use Rattle.value.specs.Answer.{cursorAt, Accepted};
+ghost use Rattle.value.specs.Read.{count, own, bitmap};
+ghost use Rattle.parts.specs.Shape.{leafShape, fieldsFrom};
+ghost use Rattle.reader.specs.Leaf.{Counted, Spanned, Headed};
 
 // A count and where what it counts starts, or a refusal at the count's own place.
 pub enum Count {
@@ -138,29 +140,6 @@ pub fn content(p: &[u8], kind: usize, at: usize, judge: bool) -> Span
     } else {
         text(p, kind, at, judge)
     }
-}
-
-// Whether each of n fields from the first on that is not optional has its bit; where nothing is judged, they are known to.
-fn is_complete(s: &[u8], first: usize, n: usize, word: u64, judge: bool) -> bool
-    requires { ⌜ IsGood (now s) × (first + n ≤ length (tableOf (now s) .fields)) × (judge ≡ false → complete (fieldsFrom (tableOf (now s)) first n) word ≡ true) ⌝ }
-    ensures { λ r. ⌜ r ≡ complete (fieldsFrom (tableOf (now (s .entry))) first n) word ⌝ }
-{
-    if !judge {
-        return true;
-    }
-    let mut i = first;
-    let mut left = n;
-    let mut bits = word;
-    while 0 < left {
-        let f = schema::access::field(s, i);
-        if !((f.optional == 1) | (bits % 2 == 1)) {
-            return false;
-        }
-        bits = bits / 2;
-        i = i + 1;
-        left = left - 1;
-    }
-    true
 }
 
 // The bitmap of a struct that has n fields from the first on.

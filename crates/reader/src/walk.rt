@@ -20,7 +20,7 @@ ghost use Rattle.schema.specs.Table.{rowAt, array, map, struct};
 ghost use Rattle.schema.specs.File.{tableOf};
 ghost use Rattle.value.specs.Value.{rows};
 ghost use Rattle.value.specs.Read.{present};
-ghost use Rattle.reader.specs.Leaf.{fieldsFrom};
+ghost use Rattle.parts.specs.Shape.{fieldsFrom};
 ghost use Rattle.reader.specs.Walk.{shapeIn, valueIn, wholeIn, rootIn, Walked, Ready};
 
 // The place and the row after what was read, or a refusal.

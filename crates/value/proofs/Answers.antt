@@ -6,7 +6,7 @@ use mathlib.Core.Bool.{Bool, true, false}
 use Prim.Native.Nat.{ℕ, _+_}
 use native.Mathlib.Omega.{arith}
 use lib.ListN.{length, length-append}
-use Rattle.value.specs.Answer.{CursorOf, AnswerOf, ReaderOf, refused, seen, andThen, check}
+use Rattle.value.specs.Answer.{CursorOf, AnswerOf, Accepted, ReaderOf, refused, seen, andThen, check}
 
 -- What holds of an answer that accepts.
 pub data Seen {E A : Type 0} (P : A → CursorOf E → Type 0) : AnswerOf E A → Type 0 where
@@ -111,3 +111,14 @@ module _ {E A : Type 0} {P : A → CursorOf E → Type 0} where
   pub seen-map : {Q : A → CursorOf E → Type 0} {m : AnswerOf E A} → Seen Q m → ((a : A) (c : CursorOf E) → Q a c → P a c) → Seen P m
   seen-map nothing h = nothing
   seen-map (value {a} {c} q) h = value (h a c q)
+
+-- Where two readers one after the other accept, the first does; where a test stands first, it holds and the rest accepts.
+pub accepted-first : {E A B : Type 0} (m : AnswerOf E A) (f : A → ReaderOf E B) → Accepted (andThen m f) → Accepted m
+unfolding andThen
+accepted-first (refused n p) f h = h
+accepted-first (seen a c) f h = tt
+
+pub accepted-check : {E A : Type 0} (b : Bool) (n p : ℕ) (c : CursorOf E) (f : Unit {0} → ReaderOf E A) → Accepted (andThen (check b n p c) f) → (b ≡ true) × Accepted (f tt c)
+unfolding andThen check
+accepted-check true n p c f h = (refl, h)
+accepted-check false n p c f h = absurd h

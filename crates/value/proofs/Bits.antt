@@ -108,7 +108,7 @@ unknown-split fs gs m b =
     let d : m / 2 ^ length (fs ++ gs) ≡ m / 2 ^ length fs / 2 ^ length gs = rw (l, ← shr-shr m (length fs) (length gs)) in
     rw (k, ones-add (length gs), d, length-present gs)
 
-none-set : (k x : ℕ) → onesIn k x ≡ 0 → x % 2 ^ k ≡ 0
+pub none-set : (k x : ℕ) → onesIn k x ≡ 0 → x % 2 ^ k ≡ 0
 unfolding onesIn
 none-set zero x e = omega arith
 none-set (suc k) x e =

@@ -19,6 +19,11 @@ pub data AnswerOf (E A : Type 0) : Type 0 where
   refused : (number place : ℕ) → AnswerOf E A
   seen : A → CursorOf E → AnswerOf E A
 
+-- The answer accepts.
+abbrev pub Accepted : {E A : Type 0} → AnswerOf E A → Type 0
+Accepted (refused n p) = ⊥
+Accepted (seen a c) = Unit {0}
+
 abbrev pub ReaderOf : Type 0 → Type 0 → Type 0
 ReaderOf E A = CursorOf E → AnswerOf E A
 

@@ -15,11 +15,14 @@ use Rattle.schema.specs.declared.Field.{Field}
 use Rattle.schema.specs.Table.{Table, Shape, array, map, struct, bitmapBytes}
 use Rattle.schema.specs.Check.{field}
 use Rattle.value.specs.declared.Row.{Row}
-use Rattle.value.specs.Answer.{CursorOf, AnswerOf, refused, seen, andThen, check}
+use Rattle.value.specs.Answer.{CursorOf, AnswerOf, refused, seen, andThen, check, Accepted}
 use Rattle.value.specs.Value.{Tree, tip, branch, Forest, values}
 use Rattle.value.specs.Read.{plainItem, pairs, plan, present, complete, among, walk}
 use Rattle.value.specs.Spell.{leafBytes, headBytes, encodeAll}
 use Rattle.value.specs.Write.{RowReader, rowOf, span, inside, bitsAt, show}
+use Rattle.value.proofs.Answers.{accepted-first, accepted-check}
+use Rattle.parts.specs.Shape.{leafShape, fieldsFrom}
+use Rattle.parts.proofs.Presence.{present-set, present-clear}
 use Rattle.writer.specs.declared.leaf.Due.{Due}
 use Rattle.writer.specs.declared.leaf.Due.the-variants.{Found, Missing}
 use Rattle.writer.specs.declared.leaf.Leaf.{Leaf}
@@ -28,11 +31,9 @@ use Rattle.writer.specs.declared.leaf.Head.{Head}
 use Rattle.writer.specs.declared.leaf.Head.the-variants.{Bits, Fault}
 use Rattle.writer.specs.declared.walk.Walk.the-variants.{Past}
 use Rattle.writer.specs.Emit.{put, cap, PutAt, done, stopped, emit, emitAll}
-use Rattle.writer.specs.Leaf.{Accepted, rowsAt, dueOf, DueIn, RowDue, leafShape, leafOf, LeafIn, LeafRow, fieldsFrom, headOf, HeadIn, Headed}
+use Rattle.writer.specs.Leaf.{rowsAt, dueOf, DueIn, RowDue, leafOf, LeafIn, LeafRow, headOf, HeadIn, Headed}
 use Rattle.writer.specs.Keys.{KeyIn, keyAt}
 use Rattle.writer.specs.Walk.{Walked}
-use Rattle.writer.proofs.Leaves.{accepted-first, accepted-check}
-use Rattle.writer.proofs.Heads.{present-set, present-clear}
 use Rattle.writer.proofs.Keys.{key-is}
 use Rattle.writer.proofs.Steps.{keyItem, done-put, branch-bytes, tip-bytes, item-past, item-stop, item-accepted, key-accepted, key-stop, key-again, key-new, key-known, show-refused, show-bad, show-parts, says-accepted, leaf-shown, leaf-refused}
 

@@ -16,19 +16,19 @@ use Rattle.schema.specs.Table.{Shape, struct, rowAt, shape}
 use Rattle.schema.specs.File.{tableOf}
 use Rattle.schema.specs.Check.{IsGood, checked}
 use Rattle.value.specs.declared.Row.{Row}
-use Rattle.value.specs.Answer.{CursorOf, AnswerOf, refused, seen}
+use Rattle.value.specs.Answer.{CursorOf, AnswerOf, refused, seen, Accepted}
 use Rattle.value.specs.Value.{Tree, value}
 use Rattle.value.specs.Spell.{encode}
 use Rattle.value.specs.Write.{showRoot, fitted, writing, write}
+use Rattle.parts.proofs.Tables.{no-struct}
 use Rattle.writer.specs.declared.Writing.the-variants.{Written, Refused}
 use Rattle.writer.specs.declared.walk.Walk.{Walk}
 use Rattle.writer.specs.declared.walk.Walk.the-variants.{Past, Refused as Stopped}
 use Rattle.writer.specs.Emit.{put, cap, done, stopped, emit}
-use Rattle.writer.specs.Leaf.{Accepted, rowsAt}
+use Rattle.writer.specs.Leaf.{rowsAt}
 use Rattle.writer.specs.Walk.{endOf, Walked}
 use Rattle.writer.specs.Entry.{Outcome, outcome, outcomeOf, sheetOutcome, fileOutcome}
 use Rattle.writer.proofs.Puts.{put-whole}
-use Rattle.writer.proofs.Tables.{no-struct}
 
 -- ---- a type that is no struct
 

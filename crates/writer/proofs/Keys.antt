@@ -14,12 +14,12 @@ use lib.ListN.{length, getD, set, length-set}
 use lib.Seq.{drop-cons, getD-set-same, getD-set-other, set-out}
 use Rattle.schema.specs.Table.{Shape}
 use Rattle.value.specs.declared.Row.{Row}
-use Rattle.value.specs.Answer.{CursorOf, AnswerOf, refused, seen}
+use Rattle.value.specs.Answer.{CursorOf, AnswerOf, refused, seen, Accepted}
 use Rattle.value.specs.Value.{Tree}
 use Rattle.value.specs.Read.{same, among}
 use Rattle.value.specs.Write.{span}
 use Rattle.writer.specs.Emit.{done, stopped, emit}
-use Rattle.writer.specs.Leaf.{Accepted, rowsAt, placeAt, lengthAt}
+use Rattle.writer.specs.Leaf.{rowsAt, placeAt, lengthAt}
 use Rattle.writer.specs.Keys.{KeyIn, keyAt, keysIn, Kept, rowAfter, valueAfter, Stands, endPast, keysPast, Known, keysKnown}
 use Rattle.writer.proofs.Puts.{length-span}
 

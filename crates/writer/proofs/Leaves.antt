@@ -1,7 +1,7 @@
 -- Laws of the leaves: what each of their returns shows of the crate `value`'s reading of a row.
 -- Assumes nothing.
-use mathlib.Core.Path.{_≡_, refl, sym, ap, _∙_}
-use mathlib.Core.Bool.{Bool, true, false, not, _||_}
+use mathlib.Core.Path.{_≡_, sym, ap, _∙_}
+use mathlib.Core.Bool.{true, false, not, _||_}
 use mathlib.Core.List.{List, [], _∷_}
 use Prim.Native.Nat.{ℕ, zero, suc, _+_, _-_, _*_, _/_, _≤_, _<_}
 use native.Mathlib.Omega.{arith}
@@ -13,29 +13,20 @@ use lib.Seq.{slice, take-nil}
 use Rattle.wire.specs.Little.{little}
 use Rattle.wire.specs.Utf8.{utf8}
 use Rattle.wire.proofs.Numbers.{little-one}
-use Rattle.schema.specs.Table.{scalar, text, width}
+use Rattle.schema.specs.Table.{width}
 use Rattle.value.specs.declared.Row.{Row}
-use Rattle.value.specs.Answer.{CursorOf, AnswerOf, ReaderOf, refused, seen, andThen, check}
+use Rattle.value.specs.Answer.{CursorOf, seen, andThen, check, Accepted}
 use Rattle.value.specs.Write.{nextRow, rowOf, span, says}
+use Rattle.value.proofs.Answers.{accepted-check}
 use Rattle.value.proofs.Sheets.{rows-from, no-rows}
+use Rattle.parts.specs.Shape.{leafShape}
+use Rattle.parts.proofs.Tables.{leaf-scalar, leaf-text}
 use Rattle.writer.specs.declared.leaf.Due.{Due}
 use Rattle.writer.specs.declared.leaf.Due.the-variants.{Found, Missing}
 use Rattle.writer.specs.declared.leaf.Verdict.{Verdict}
 use Rattle.writer.specs.declared.leaf.Verdict.the-variants.{Fine, Bad}
 use Rattle.writer.specs.declared.leaf.Leaf.the-variants.{At, Bad as BadLeaf}
-use Rattle.writer.specs.Leaf.{Accepted, rowsAt, placeAt, lengthAt, dueOf, DueIn, RowDue, leafShape, saidOf, VerdictIn, Judged, rowSays, LeafRow}
-
--- ---- answers that accept
-
-pub accepted-first : {E A B : Type 0} (m : AnswerOf E A) (f : A → ReaderOf E B) → Accepted (andThen m f) → Accepted m
-unfolding andThen
-accepted-first (refused n q) f h = h
-accepted-first (seen a c) f h = tt
-
-pub accepted-check : {E A : Type 0} (b : Bool) (n q : ℕ) (c : CursorOf E) (f : Unit {0} → ReaderOf E A) → Accepted (andThen (check b n q c) f) → (b ≡ true) × Accepted (f tt c)
-unfolding andThen check
-accepted-check true n q c f h = (refl, h)
-accepted-check false n q c f h = absurd h
+use Rattle.writer.specs.Leaf.{rowsAt, placeAt, lengthAt, dueOf, DueIn, RowDue, saidOf, VerdictIn, Judged, rowSays, LeafRow}
 
 -- ---- spans
 
@@ -70,14 +61,6 @@ module _ (cells : List ℕ) (k t : ℕ) where
         }
 
 -- ---- scalars, strings and bytes
-
-pub leaf-scalar : (kind : ℕ) → kind < 12 → leafShape kind ≡ scalar kind
-unfolding leafShape
-leaf-scalar kind h = rw (lt-ltb kind 12 h)
-
-pub leaf-text : (kind : ℕ) → 12 ≤ kind → leafShape kind ≡ text kind
-unfolding leafShape
-leaf-text kind h = rw (le-ltb kind 12 h)
 
 module _ (B : List ℕ) (kind p n c : ℕ) where
   module _ (is : kind < 12) where

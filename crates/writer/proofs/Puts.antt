@@ -14,8 +14,8 @@ use Rattle.wire.proofs.Numbers.{length-bytes}
 use Rattle.wire.proofs.Varuints.{Rest, rest-more, rest-done, shortest-le}
 use Rattle.value.specs.Spell.{leafBytes}
 use Rattle.value.specs.Write.{span}
+use Rattle.parts.specs.Shape.{leafShape}
 use Rattle.writer.specs.Emit.{put, cap, PutAt}
-use Rattle.writer.specs.Leaf.{leafShape}
 
 pub put-one : (out : List ℕ) (pos b : ℕ) → set out pos b ≡ put out pos (b ∷ [])
 unfolding put

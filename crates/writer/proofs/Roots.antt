@@ -12,20 +12,20 @@ use Rattle.wire.specs.Little.{little, bytes}
 use Rattle.schema.specs.declared.Field.{Field}
 use Rattle.schema.specs.Table.{Shape, struct, bitmapBytes}
 use Rattle.value.specs.declared.Row.{Row}
-use Rattle.value.specs.Answer.{AnswerOf, refused, seen, andThen, check}
+use Rattle.value.specs.Answer.{AnswerOf, refused, seen, andThen, check, Accepted}
 use Rattle.value.specs.Sheet.{rowsOf}
 use Rattle.value.specs.Value.{Tree, branch, Forest, values}
 use Rattle.value.specs.Read.{present, complete, knownBits, walk}
 use Rattle.value.specs.Spell.{encodeAll}
 use Rattle.value.specs.Write.{RowReader, rowOf, span, inside, bitsAt, show, showRoot}
 use Rattle.value.proofs.Sheets.{length-rows}
+use Rattle.value.proofs.Answers.{accepted-first, accepted-check}
 use Rattle.writer.specs.declared.leaf.Due.{Due}
 use Rattle.writer.specs.declared.leaf.Due.the-variants.{Found, Missing}
 use Rattle.writer.specs.declared.leaf.Head.{Head}
 use Rattle.writer.specs.declared.leaf.Head.the-variants.{Bits, Fault}
 use Rattle.writer.specs.Emit.{PutAt, done, stopped, emit, emitAll}
-use Rattle.writer.specs.Leaf.{Accepted, rowsAt, dueOf, RowDue, headOf, HeadIn, Headed}
-use Rattle.writer.proofs.Leaves.{accepted-first, accepted-check}
+use Rattle.writer.specs.Leaf.{rowsAt, dueOf, RowDue, headOf, HeadIn, Headed}
 use Rattle.writer.proofs.Steps.{done-put, branch-bytes}
 use Rattle.writer.proofs.Composites.{row-read}
 

@@ -10,18 +10,18 @@ use lib.Dec.{eqb}
 use lib.ListN.{length}
 use Rattle.schema.specs.Table.{Shape, unknown}
 use Rattle.value.specs.declared.Row.{Row}
-use Rattle.value.specs.Answer.{CursorOf, AnswerOf, refused, seen, andThen, check}
+use Rattle.value.specs.Answer.{CursorOf, AnswerOf, refused, seen, andThen, check, Accepted}
 use Rattle.value.specs.Value.{Tree, tip, branch, Forest, plus, value, values, content}
 use Rattle.value.specs.Read.{Item, plainItem, plan, plain, parts, among, walk}
 use Rattle.value.specs.Spell.{leafBytes, headBytes, encode, encodeAll}
 use Rattle.value.specs.Write.{RowReader, nextRow, rowOf, says, held, show}
+use Rattle.value.proofs.Answers.{accepted-first, accepted-check}
 use Rattle.writer.specs.declared.walk.Walk.{Walk}
 use Rattle.writer.specs.declared.walk.Walk.the-variants.{Past, Refused}
 use Rattle.writer.specs.Emit.{put, cap, PutAt, Final, done, stopped, emit, emitAll}
-use Rattle.writer.specs.Leaf.{Accepted, rowsAt, rowSays}
+use Rattle.writer.specs.Leaf.{rowsAt, rowSays}
 use Rattle.writer.specs.Walk.{Walked}
 use Rattle.writer.proofs.Puts.{put-after}
-use Rattle.writer.proofs.Leaves.{accepted-first, accepted-check}
 
 -- ---- ends
 

@@ -7,10 +7,10 @@ use lib.ListN.{length, getD}
 use Rattle.schema.specs.Table.{shape}
 use Rattle.schema.specs.File.{tableOf}
 use Rattle.value.specs.declared.Row.{Row}
-use Rattle.value.specs.Answer.{AnswerOf, refused, seen}
+use Rattle.value.specs.Answer.{AnswerOf, refused, seen, Accepted}
 use Rattle.value.specs.Value.{Tree}
 use Rattle.value.specs.Write.{span, show}
-use Rattle.writer.specs.Leaf.{Accepted, rowsAt, placeAt, lengthAt}
+use Rattle.writer.specs.Leaf.{rowsAt, placeAt, lengthAt}
 
 -- ---- keys by their rows
 

@@ -1,18 +1,18 @@
 -- What the leaves of the writer answer: a row, a content, a bitmap.
 -- Assumes nothing.
 use mathlib.Core.Path.{_≡_}
-use mathlib.Core.Bool.{cond}
 use mathlib.Core.List.{List}
 use Prim.Native.Nat.{ℕ, _+_, _*_, _/_, _^_, _≤_, _<_}
 use lib.Dec.{eqb, ltb}
-use lib.ListN.{length, getD, take, drop}
+use lib.ListN.{length, getD, drop}
 use Rattle.schema.specs.declared.Field.{Field}
-use Rattle.schema.specs.Table.{Table, Shape, scalar, text}
+use Rattle.schema.specs.Table.{Shape}
 use Rattle.value.specs.declared.Row.{Row}
 use Rattle.value.specs.Answer.{CursorOf, AnswerOf, refused, seen, _>>=_, at}
 use Rattle.value.specs.Sheet.{rowsOf}
 use Rattle.value.specs.Read.{Own, plain, present, knownBits}
 use Rattle.value.specs.Write.{RowReader, rowOf, span, bitsAt, says}
+use Rattle.parts.specs.Shape.{leafShape}
 use Rattle.writer.specs.declared.leaf.Due.{Due}
 use Rattle.writer.specs.declared.leaf.Due.the-variants.{Found, Missing}
 use Rattle.writer.specs.declared.leaf.Verdict.{Verdict}
@@ -21,11 +21,6 @@ use Rattle.writer.specs.declared.leaf.Leaf.{Leaf}
 use Rattle.writer.specs.declared.leaf.Leaf.the-variants.{At, Bad as BadLeaf}
 use Rattle.writer.specs.declared.leaf.Head.{Head}
 use Rattle.writer.specs.declared.leaf.Head.the-variants.{Bits, Fault}
-
--- The answer accepts.
-abbrev pub Accepted : {E A : Type 0} → AnswerOf E A → Type 0
-Accepted (refused n q) = ⊥
-Accepted (seen a c) = Unit {0}
 
 -- The cursor at a row of a sheet's cells.
 abbrev pub rowsAt : List ℕ → ℕ → CursorOf Row
@@ -54,10 +49,6 @@ pub record RowDue (cells : List ℕ) (k t : ℕ) (r : Due) : Type 0 where
   pub within : DueIn cells k r
 
 -- ---- contents
-
--- The shape of a kind from 1 to 13.
-unfoldable pub leafShape : ℕ → Shape
-leafShape kind = cond (ltb kind 12) (scalar kind) (text kind)
 
 -- A verdict on row k with the n bytes at place p, as the answer of a reader.
 abbrev pub saidOf : (B : List ℕ) (p n k : ℕ) → CursorOf Row → Verdict → AnswerOf Row Own
@@ -92,10 +83,6 @@ pub record LeafRow (cells B : List ℕ) (kind t k : ℕ) (r : Leaf) : Type 0 whe
   pub within : LeafIn cells B k r
 
 -- ---- presence bits
-
--- A struct's fields: n from the first on.
-unfoldable pub fieldsFrom : Table → ℕ → ℕ → List Field
-fieldsFrom T first n = take n (drop first (T .fields))
 
 abbrev pub headOf : (k : ℕ) → CursorOf Row → Head → AnswerOf Row ℕ
 headOf k cur (Bits word known ones unknown) = seen word cur

@@ -10,14 +10,14 @@ use Rattle.schema.specs.Table.{Shape, shape}
 use Rattle.schema.specs.File.{tableOf}
 use Rattle.schema.specs.Check.{IsGood}
 use Rattle.value.specs.declared.Row.{Row}
-use Rattle.value.specs.Answer.{AnswerOf}
+use Rattle.value.specs.Answer.{AnswerOf, Accepted}
 use Rattle.value.specs.Value.{Tree, Forest}
 use Rattle.value.specs.Read.{Item, walk}
 use Rattle.value.specs.Write.{show, showRoot}
 use Rattle.writer.specs.declared.walk.Walk.{Walk}
 use Rattle.writer.specs.declared.walk.Walk.the-variants.{Past, Refused}
 use Rattle.writer.specs.Emit.{Final, done, stopped, emit, emitAll}
-use Rattle.writer.specs.Leaf.{Accepted, rowsAt}
+use Rattle.writer.specs.Leaf.{rowsAt}
 
 -- ---- what the rows show, by the table in the file s over the bytes B, from a row of the sheet's cells on
 

@@ -1,4 +1,5 @@
 // What one row says: its cells, the content of a scalar, string or bytes, and the presence bits of a struct.
+use parts::is_complete;
 use wire::bitmap;
 use wire::utf8;
 ghost use mathlib.Core.Path.{_≡_};
@@ -12,7 +13,9 @@ ghost use Rattle.schema.specs.File.{tableOf};
 ghost use Rattle.schema.specs.Check.{IsGood};
 ghost use Rattle.value.specs.Read.{complete};
 ghost use Rattle.value.specs.Write.{span};
-ghost use Rattle.writer.specs.Leaf.{Accepted, rowsAt, RowDue, leafShape, Judged, rowSays, LeafRow, fieldsFrom, Headed};
+ghost use Rattle.value.specs.Answer.{Accepted};
+ghost use Rattle.parts.specs.Shape.{leafShape, fieldsFrom};
+ghost use Rattle.writer.specs.Leaf.{rowsAt, RowDue, Judged, rowSays, LeafRow, Headed};
 
 // A row of the type due, by its place, length and count; or none: the row is missing or of another type.
 pub enum Due {
@@ -147,29 +150,6 @@ pub fn content(
     } else {
         text(source, kind, place, n, count, judge)
     }
-}
-
-// Whether each of n fields from the first on that is not optional has its bit; where nothing is judged, they are known to.
-fn is_complete(s: &[u8], first: usize, n: usize, word: u64, judge: bool) -> bool
-    requires { ⌜ IsGood (now s) × (first + n ≤ length (tableOf (now s) .fields)) × (judge ≡ false → complete (fieldsFrom (tableOf (now s)) first n) word ≡ true) ⌝ }
-    ensures { λ r. ⌜ r ≡ complete (fieldsFrom (tableOf (now (s .entry))) first n) word ⌝ }
-{
-    if !judge {
-        return true;
-    }
-    let mut i = first;
-    let mut left = n;
-    let mut bits = word;
-    while 0 < left {
-        let f = schema::access::field(s, i);
-        if !((f.optional == 1) | (bits % 2 == 1)) {
-            return false;
-        }
-        bits = bits / 2;
-        i = i + 1;
-        left = left - 1;
-    }
-    true
 }
 
 // The presence bytes at a struct's place, of n fields from the first on.

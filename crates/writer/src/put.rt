@@ -7,8 +7,8 @@ ghost use Rattle.wire.specs.Little.{bytes};
 ghost use Rattle.wire.specs.Varuint.{varuintBytes};
 ghost use Rattle.value.specs.Spell.{leafBytes};
 ghost use Rattle.value.specs.Write.{span};
+ghost use Rattle.parts.specs.Shape.{leafShape};
 ghost use Rattle.writer.specs.Emit.{put, cap, PutAt};
-ghost use Rattle.writer.specs.Leaf.{leafShape};
 
 fn put_byte(out: &mut [u8], pos: usize, b: u8)
     ensures { λ _. ⌜ now (out .exit) ≡ put (now (out .entry)) pos (b ∷ []) ⌝ }

@@ -24,7 +24,7 @@ ghost use Rattle.schema.specs.File.{tableOf};
 ghost use Rattle.schema.specs.Check.{IsGood};
 ghost use Rattle.value.specs.Read.{plainItem, pairs, present, among};
 ghost use Rattle.value.specs.Write.{span};
-ghost use Rattle.writer.specs.Leaf.{fieldsFrom};
+ghost use Rattle.parts.specs.Shape.{fieldsFrom};
 ghost use Rattle.writer.specs.Keys.{Stands, keysPast};
 ghost use Rattle.writer.specs.Walk.{shapeIn, valueIn, itemsIn, rootIn, valueEnd, itemsEnd, rootEnd, Walked, Ready};
 

@@ -3,7 +3,7 @@
 use mathlib.Core.Path.{sym}
 use mathlib.Core.Bool.{false≢true}
 use native.Mathlib.Omega.{arith}
-use Rattle.reader.proofs.Tables.{struct-row}
+use Rattle.parts.proofs.Tables.{struct-row}
 use Rattle.reader.proofs.Steps.{was}
 use Rattle.reader.proofs.Entries.{entry-type, entry-long, entry-refused, entry-judged, entry-full, entry-shown}
 use borrow.Author.Needs.{needs}

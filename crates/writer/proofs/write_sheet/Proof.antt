@@ -5,8 +5,8 @@ use mathlib.Core.Bool.{false≢true}
 use native.Mathlib.Omega.{arith}
 use lib.Seq.{length-take-le}
 use Rattle.schema.specs.File.{tableOf}
-use Rattle.writer.specs.Leaf.{fieldsFrom}
-use Rattle.writer.proofs.Tables.{shape-struct, struct-row}
+use Rattle.parts.specs.Shape.{fieldsFrom}
+use Rattle.parts.proofs.Tables.{shape-struct, struct-row}
 use Rattle.writer.proofs.Entries.{entry-other, entry-refused, entry-accepted, entry-long, entry-room, entry-written}
 use borrow.Author.Needs.{needs}
 use Rattle.writer.proofs.write_sheet.Statement.{statement}

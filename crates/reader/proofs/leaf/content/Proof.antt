@@ -1,7 +1,7 @@
 -- `reader::leaf::content` meets its contract.
 -- Assumes nothing.
-use Rattle.reader.proofs.Leaves.{leaf-scalar, leaf-text}
 use borrow.Author.Needs.{needs}
+use Rattle.parts.proofs.Tables.{leaf-scalar, leaf-text}
 use Rattle.reader.proofs.leaf.content.Statement.{statement}
 use Rattle.reader.proofs.leaf.content.Tie as tie
 

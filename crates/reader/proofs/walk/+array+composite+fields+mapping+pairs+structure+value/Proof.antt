@@ -10,13 +10,11 @@ use native.Mathlib.Omega.{arith}
 use lib.ListN.{length, replicate, length-set}
 use Rattle.schema.specs.Table.{unknown, array, map, struct, shape}
 use Rattle.schema.specs.File.{tableOf}
-use Rattle.value.specs.Answer.{refused, cursorAt}
+use Rattle.value.specs.Answer.{refused, cursorAt, Accepted}
 use Rattle.value.specs.Value.{rows, rowsAll}
 use Rattle.value.specs.Read.{plainItem, pairs, present, walk, parse}
-use Rattle.reader.specs.Leaf.{Accepted, leafShape, fieldsFrom, keysIn, Spans}
+use Rattle.reader.specs.Leaf.{keysIn, Spans}
 use Rattle.reader.specs.Walk.{walkOf}
-use Rattle.reader.proofs.Tables.{few-fields, array-row, struct-row, map-row, shape-array, shape-map, shape-struct, shape-none, shape-past, shape-leaf}
-use Rattle.reader.proofs.Heads.{present-end}
 use Rattle.reader.proofs.Keys.{spans-more}
 use Rattle.reader.proofs.Steps.{renamed, was, as-refused, stop-at, further, composite-past, composite-stop, rest-accepted, parse-refused, own-accepted, parse-deep, leaf-failed, leaf-in, leaf-parsed, leaf-past}
 use Rattle.reader.proofs.Composites.{count-in, array-refused, array-whole, map-refused, map-whole, bitmap-accepted, struct-refused, head-in, struct-unknown, struct-whole, elements-none, element-past, element-stop, element-accepted, Turned, field-stop, field-accepted, field-read, field-absent, pairs-none, pair-key-accepted, pair-key-stop, pair-known, pair-again, pair-value-accepted, pair-value-stop, pair-value-past, pairs-first, pairs-again, emptied, deeper, shallower, deep}
@@ -52,6 +50,9 @@ use Rattle.reader.proofs.sheet.put_row.Reads as put-row-reads
 use Rattle.reader.proofs.walk.leaves.Reads as leaves-reads
 use Rattle.schema.proofs.access.field.Reads as field-reads
 use Rattle.schema.proofs.access.type_row.Reads as type-row-reads
+use Rattle.parts.specs.Shape.{leafShape, fieldsFrom}
+use Rattle.parts.proofs.Tables.{few-fields, array-row, struct-row, map-row, shape-array, shape-map, shape-struct, shape-none, shape-past, shape-leaf}
+use Rattle.parts.proofs.Presence.{present-end}
 use Rattle.reader.proofs.walk.+array+composite+fields+mapping+pairs+structure+value.{statement}
 use Rattle.reader.proofs.walk.+array+composite+fields+mapping+pairs+structure+value.Tie.{close}
 

@@ -8,12 +8,12 @@ use native.Mathlib.Omega.{arith}
 use lib.ListN.{length, replicate}
 use Rattle.schema.specs.Table.{array, shape}
 use Rattle.schema.specs.File.{tableOf}
-use Rattle.value.specs.Answer.{cursorAt}
+use Rattle.value.specs.Answer.{cursorAt, Accepted}
 use Rattle.value.specs.Value.{rows, rowsAll}
 use Rattle.value.specs.Read.{plainItem, walk, parse}
-use Rattle.reader.specs.Leaf.{Accepted, leafShape}
+use Rattle.parts.specs.Shape.{leafShape}
+use Rattle.parts.proofs.Tables.{shape-leaf}
 use Rattle.reader.specs.Walk.{walkOf}
-use Rattle.reader.proofs.Tables.{shape-leaf}
 use Rattle.reader.proofs.Steps.{stop-at, composite-past, composite-stop, rest-accepted, own-accepted, parse-deep, leaf-failed, leaf-in, leaf-past}
 use Rattle.reader.proofs.Composites.{elements-none, element-past, element-stop, element-accepted, emptied, deeper}
 use Rattle.reader.proofs.walk.leaves.Statement.{statement}

@@ -5,7 +5,7 @@ use Prim.Native.Nat.{_-_}
 use native.Mathlib.Omega.{arith}
 use Rattle.schema.specs.Table.{shape}
 use Rattle.schema.specs.File.{tableOf}
-use Rattle.reader.specs.Leaf.{fieldsFrom}
+use Rattle.parts.specs.Shape.{fieldsFrom}
 use Rattle.reader.proofs.Steps.{was, as-refused}
 use Rattle.reader.proofs.Roots.{ending-surplus, ending-short, root-bitmap, root-refused, root-in, root-fields, root-stop, root-end, root-past}
 use borrow.Author.Needs.{needs}

@@ -10,9 +10,10 @@ use Rattle.schema.specs.Table.{shape}
 use Rattle.schema.specs.File.{tableOf}
 use Rattle.value.specs.Read.{plainItem, walk}
 use Rattle.value.specs.Write.{show}
+use Rattle.value.specs.Answer.{Accepted}
+use Rattle.parts.proofs.Tables.{shape-kind}
 use Rattle.writer.specs.Emit.{emitAll}
-use Rattle.writer.specs.Leaf.{Accepted, rowsAt}
-use Rattle.writer.proofs.Tables.{shape-kind}
+use Rattle.writer.specs.Leaf.{rowsAt}
 use Rattle.writer.proofs.Steps.{as-stopped, stopped-at, accepted-along, walk-done, leaf-accepted}
 use Rattle.writer.proofs.Composites.{deeper, leaf-failed, leaf-in, leaf-past, elements-none, element-past, element-stop, element-accepted}
 use Rattle.writer.proofs.walk.leaves.Statement.{statement}

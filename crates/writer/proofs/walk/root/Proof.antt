@@ -3,8 +3,8 @@
 use native.Mathlib.Omega.{arith}
 use Rattle.schema.specs.Table.{shape}
 use Rattle.schema.specs.File.{tableOf}
-use Rattle.writer.specs.Leaf.{fieldsFrom}
-use Rattle.writer.proofs.Heads.{length-fields}
+use Rattle.parts.specs.Shape.{fieldsFrom}
+use Rattle.parts.proofs.Presence.{length-fields}
 use Rattle.writer.proofs.Steps.{was, as-stopped, stopped-at}
 use Rattle.writer.proofs.Composites.{due-in}
 use Rattle.writer.proofs.Roots.{root-absent, root-known, root-fault, root-miscounted, root-accepted, root-stopped, root-left, root-done}

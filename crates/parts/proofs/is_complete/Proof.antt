@@ -1,4 +1,4 @@
--- `writer::leaf::is_complete` meets its contract. The invariant: the fields not yet looked at decide.
+-- `parts::is_complete` meets its contract. The invariant: the fields not yet looked at decide.
 -- Assumes nothing.
 use borrow.Author.Needs.{needs}
 use mathlib.Core.Path.{_≡_, refl, sym, _∙_}
@@ -8,11 +8,11 @@ use borrow.Author.Tests.{not-true}
 use lib.ListN.{length}
 use Rattle.schema.specs.File.{tableOf}
 use Rattle.value.specs.Read.{complete}
-use Rattle.writer.specs.Leaf.{fieldsFrom}
-use Rattle.writer.proofs.Tables.{few-fields}
-use Rattle.writer.proofs.Heads.{complete-stop, complete-on, complete-end}
-use Rattle.writer.proofs.leaf.is_complete.Statement.{statement}
-use Rattle.writer.proofs.leaf.is_complete.Tie as tie
+use Rattle.parts.specs.Shape.{fieldsFrom}
+use Rattle.parts.proofs.Tables.{few-fields}
+use Rattle.parts.proofs.Presence.{complete-stop, complete-on, complete-end}
+use Rattle.parts.proofs.is_complete.Statement.{statement}
+use Rattle.parts.proofs.is_complete.Tie as tie
 
 abbrev Inv-loop : tie.InvT-loop
 Inv-loop s first n word judge i₀ left₀ bits₀ i left bits =

@@ -17,7 +17,7 @@ use Rattle.schema.specs.Good.{KeyKind}
 use Rattle.schema.proofs.Goods.{good-table}
 use Rattle.schema.proofs.Shapes as shapes
 use Rattle.value.specs.Read.{onStruct}
-use Rattle.writer.specs.Leaf.{leafShape, fieldsFrom}
+use Rattle.parts.specs.Shape.{leafShape, fieldsFrom}
 
 -- ---- rows
 
@@ -42,6 +42,12 @@ module _ (s : List ℕ) (good : IsGood s) where
     pub struct-row : r .kind ≡ 16 → (0 < r .b) × (r .b ≤ 64) × (r .a + r .b ≤ length (tableOf s .fields))
     struct-row k = rw is (good-table s good .rows t (there (omega arith)) .struct (rw is at k))
 
+    pub array-row : r .kind ≡ 14 → 0 < rowAt (tableOf s) (r .a) .kind
+    array-row k =
+        let g = good-table s good in
+        let a : r .a < length (tableOf s .types) = rw is (g .rows t (there (omega arith)) .array (rw is at k) .0) in
+        g .rows (r .a) a .kind .0
+
     -- the kind of a map's key is that of a scalar, a string or bytes
     pub map-row : r .kind ≡ 15 → (0 < rowAt (tableOf s) (r .a) .kind) × (rowAt (tableOf s) (r .a) .kind < 14)
     map-row k =
@@ -49,6 +55,14 @@ module _ (s : List ℕ) (good : IsGood s) where
         ⊎-elim (λ a. omega arith) (λ b. ⊎-elim (λ x. omega arith) (λ y. omega arith) b) h
 
 -- ---- shapes
+
+pub leaf-scalar : (kind : ℕ) → kind < 12 → leafShape kind ≡ scalar kind
+unfolding leafShape
+leaf-scalar kind h = rw (lt-ltb kind 12 h)
+
+pub leaf-text : (kind : ℕ) → 12 ≤ kind → leafShape kind ≡ text kind
+unfolding leafShape
+leaf-text kind h = rw (le-ltb kind 12 h)
 
 module _ (T : Table) (t : ℕ) (r : TypeRow) (is : r ≡ rowAt T t) where
   pub shape-array : r .kind ≡ 14 → shape T t ≡ array (r .a)
@@ -70,10 +84,9 @@ module _ (T : Table) (t : ℕ) (r : TypeRow) (is : r ≡ rowAt T t) where
   shape-past k = rw (← is) (List·getD-eq-default (allShapes T r) unknown k)
 
   pub shape-leaf : 0 < r .kind → r .kind < 14 → shape T t ≡ leafShape (r .kind)
-  unfolding leafShape
   shape-leaf z h = elim (decLt (r .kind) 12) [
-    | yes l ↦ rw (lt-ltb (r .kind) 12 l, is) (shapes.shape-scalar T t (rw is at z) (rw is at (below 11 l)))
-    | no g ↦ rw (le-ltb (r .kind) 12 (omega arith), is) (shapes.shape-text T t (rw is at (above g)) (rw is at (below 13 h)))
+    | yes l ↦ rw (leaf-scalar (r .kind) l, is) (shapes.shape-scalar T t (rw is at z) (rw is at (below 11 l)))
+    | no g ↦ rw (leaf-text (r .kind) (above g), is) (shapes.shape-text T t (rw is at (above g)) (rw is at (below 13 h)))
   ]
     where
       below : (n : ℕ) → r .kind < suc n → r .kind ≤ n

@@ -1,0 +1,2 @@
+-- The definitions that the reader's and the writer's walks share.
+pub mod Shape
