@@ -10,4 +10,5 @@ pub mod Judgement
 pub mod Kept
 pub mod Apart
 pub mod Ordered
+pub mod Once
 pub mod Payloads

@@ -8,3 +8,4 @@ pub mod Answers
 pub mod Numbers
 pub mod Listed
 pub mod Runs
+pub mod Values

@@ -1,6 +1,7 @@
 -- Runs from the fresh call table: it stays good, and the answer to each frame is the one by the order of its call's frames.
 -- Assumes nothing.
-use mathlib.Core.Path.{_≡_, refl, _∙_}
+use mathlib.Core.Path.{_≡_, refl, _∙_, subst}
+use mathlib.Core.Logic.{_↔_}
 use mathlib.Core.Bool.{true}
 use mathlib.Core.List.{List, [], _∷_}
 use Prim.Native.Nat.{ℕ, _+_}
@@ -19,6 +20,7 @@ use Rattle.calls.specs.Order.{Sent, slotsOf, heardOf, pastOf, Answer}
 use Rattle.calls.proofs.Goodness.{fresh-good}
 use Rattle.calls.proofs.Schema.{sixteen-forms}
 use Rattle.calls.proofs.Ordered as calls
+use Rattle.calls.proofs.Once.{answer-once}
 use Rattle.line.specs.Answer.{line, stopped}
 use Rattle.line.specs.Receive.{onFrame, frameFrom, frameLine, bytesLine, received}
 use Rattle.line.specs.Claims.{Front}
@@ -86,3 +88,15 @@ module _ (s : List ℕ) (g : IsGood s) where
       rw (frame, ← w .is)
       (frame-holds (λ n _. Answer T f (readingOf s p (i .sheet)) (full l) (pastOf T (f .correlation) (heardOf T (sentOf s is))) n) s f p (w .place + w .size) (i .sheet) l
       (rw (run-sent is) (calls.in-order T (sixteen-forms s g) (sentOf s is) f (readingOf s p (i .sheet)))))
+
+  -- It is the only one that the order allows: a number is answered exactly where the order gives it.
+  pub by-order : (is : List Input) (i : Input) (f : Frame) (w : Front (i .side) (i .bytes) f) (n : ℕ) →
+      (received s (i .side) (i .bytes) (i .sheet) (runSlots s is) .answer .number ≡ n)
+      ↔ Answer (tableOf s) f (payloadNumber s i (w .place) (w .size)) (full (runSlots s is)) (pastOf (tableOf s) (f .correlation) (heardOf (tableOf s) (sentOf s is))) n
+  by-order is i f w n =
+      let T = tableOf s in
+      let reading = payloadNumber s i (w .place) (w .size) in
+      let past = pastOf T (f .correlation) (heardOf T (sentOf s is)) in
+      let m = received s (i .side) (i .bytes) (i .sheet) (runSlots s is) .answer .number in
+      let a = in-order is i f w in
+      (λ e. subst (λ (k : ℕ). Answer T f reading (full (runSlots s is)) past k) e a, λ b. answer-once T f reading (full (runSlots s is)) past m n a b)

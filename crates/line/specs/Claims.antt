@@ -14,8 +14,9 @@ use Rattle.calls.specs.Slots.{goodTable}
 use Rattle.calls.specs.Apart.{ownOf, full}
 use Rattle.value.specs.declared.Row.{Row}
 use Rattle.reader.specs.Sheet.{shownIn}
+use Rattle.reader.specs.Entry.{Outcome, numbers}
 use Rattle.line.specs.declared.Received.{Received}
-use Rattle.line.specs.Answer.{Line}
+use Rattle.line.specs.Answer.{Line, readingIn, sheetIn}
 use Rattle.line.specs.Receive.{frameFrom}
 
 -- The bytes start with a whole frame; f is what a step sees of it.
@@ -50,6 +51,15 @@ replyOf r =
 pub record Shows (rs : List Row) (sheet : List ℕ) (a : Line) : Type 0 where
   pub rows : a .answer .rows ≡ length rs
   pub cells : a .sheet ≡ shownIn sheet rs
+
+-- The answer has the numbers of a payload's reading, and the sheet is as the reading leaves it.
+pub record AnswersAs (o : Outcome) (a : Line) : Type 0 where
+  pub number : a .answer .number ≡ numbers (readingIn o) .number
+  pub place : a .answer .place ≡ numbers (readingIn o) .place
+  pub rows : a .answer .rows ≡ numbers (readingIn o) .rows
+  pub tailPlace : a .answer .«tail_place» ≡ numbers (readingIn o) .tailPlace
+  pub tailLength : a .answer .«tail_length» ≡ numbers (readingIn o) .tailLength
+  pub sheet : a .sheet ≡ sheetIn o
 
 -- No rows, tail 0, 0, and the sheet untouched.
 pub record Nothing (sheet : List ℕ) (a : Line) : Type 0 where

@@ -12,7 +12,7 @@ use Rattle.schema.specs.declared.TypeRow.{TypeRow}
 use Rattle.schema.specs.declared.Field.{Field}
 use Rattle.schema.specs.Table.{Table, Shape, unknown, scalar, text, array, map, struct, rowAt, shapes as allShapes, shape}
 use Rattle.schema.specs.File.{tableOf}
-use Rattle.schema.specs.Check.{IsGood, noRow}
+use Rattle.schema.specs.Check.{IsGood, noRow, field}
 use Rattle.schema.specs.Good.{KeyKind}
 use Rattle.schema.proofs.Goods.{good-table}
 use Rattle.schema.proofs.Shapes as shapes
@@ -34,6 +34,14 @@ module _ (s : List ℕ) (good : IsGood s) where
         let z : rowAt (tableOf s) t .kind ≡ 0 = ap (λ (r : TypeRow). r .kind) (List·getD-eq-default (tableOf s .types) noRow d) in
         absurd (omega arith)
   ]
+
+  -- the type of a field is one of the table's: here of the first of those left
+  pub field-row : (i left : ℕ) → 0 < left → i + left ≤ length (tableOf s .fields) → (f : Field) → f ≡ field (tableOf s) i
+      → (r : TypeRow) → r ≡ rowAt (tableOf s) (f .ty) → 0 < r .kind
+  field-row i left some room f is r row =
+      let g = good-table s good in
+      let l : f .ty < length (tableOf s .types) = rw is (g .fields i (omega arith) .type) in
+      rw row (g .rows (f .ty) l .kind .0)
 
   module _ (t : ℕ) (r : TypeRow) (is : r ≡ rowAt (tableOf s) t) where
     there : 0 < r .kind → t < length (tableOf s .types)

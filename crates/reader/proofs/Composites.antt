@@ -159,6 +159,11 @@ module _ (P : ℕ → Reader Tree) (p : List ℕ) (T : Table) (i left bits here 
           long = walk-length rows (P (f .ty) (cursorAt p here)) below l (cursorAt p next) row′ k (h .same);
         })
 
+  -- a present field that stops, whatever its type is
+  pub field-deep : bits % 2 ≡ 1 → (n q : ℕ) → ((ty : ℕ) → stopped n q ≡ walkOf rows (P ty (cursorAt p here)) below l)
+      → stopped n q ≡ walkOf rowsAll (walk P [] (present (fieldsFrom T i left) bits) (cursorAt p here)) below l
+  field-deep b n q h = field-stop (field T i) refl b n q (h (field T i .ty))
+
   pub field-absent : (bits % 2 ≡ 1 → ⊥) → here ≤ length p → below ≤ here
       → (here′ below′ : ℕ) (m : List ℕ) → here′ ≡ here → below′ ≡ below → m ≡ l → Turned P p T i left bits here below l here′ below′ m
   field-absent b inside behind here′ below′ m e₁ e₂ e₃ =

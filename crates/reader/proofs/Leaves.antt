@@ -95,7 +95,7 @@ module _ (p : List ℕ) (at : ℕ) where
 -- ---- scalars
 
 module _ (p : List ℕ) (kind at w : ℕ) (is : w ≡ width kind) where
-  pub scalar-cut : length p - at < w → Spanned p at (own (scalar kind) (cursorAt p at)) (Bad 20 at)
+  pub scalar-cut : length p - at < w → Spanned p at (own (scalar kind) (cursorAt p at)) (Bad at 20)
   unfolding andThen
   scalar-cut h = record { same = rw (← is, block-short p at w h); within = tt }
 
@@ -116,7 +116,7 @@ module _ (p : List ℕ) (kind at w : ℕ) (is : w ≡ width kind) where
     pub scalar-other : (kind ≡ 1 → ⊥) → (not (eqb kind 1) || ltb (little (part p at (at + w))) 2) ≡ true
     scalar-other k = rw (ne-eqb kind 1 k)
 
-    pub scalar-bad : kind ≡ 1 → 1 < getD p at 0 → Spanned p at (own (scalar kind) (cursorAt p at)) (Bad 22 at)
+    pub scalar-bad : kind ≡ 1 → 1 < getD p at 0 → Spanned p at (own (scalar kind) (cursorAt p at)) (Bad at 22)
     unfolding andThen check
     scalar-bad k h =
         let f : ltb (little (part p at (at + w))) 2 ≡ false = rw (little-first k) (le-ltb (getD p at 0) 2 h) in
@@ -125,7 +125,7 @@ module _ (p : List ℕ) (kind at w : ℕ) (is : w ≡ width kind) where
 -- ---- strings and bytes
 
 module _ (p : List ℕ) (kind at : ℕ) (r : Count) (counted : Counted p at 1 (count 1 (cursorAt p at)) r) where
-  pub text-refused : (number : ℕ) → r ≡ Not number → Spanned p at (own (text kind) (cursorAt p at)) (Bad number at)
+  pub text-refused : (number : ℕ) → r ≡ Not number → Spanned p at (own (text kind) (cursorAt p at)) (Bad at number)
   unfolding andThen
   text-refused number e = record { same = rw (sym (counted .same), e); within = tt }
 
@@ -145,7 +145,7 @@ module _ (p : List ℕ) (kind at : ℕ) (r : Count) (counted : Counted p at 1 (c
         (accepted-check (utf8 (part p start (start + n))) 23 start (cursorAt p (start + n)) (λ _ c. seen (plain (part p start (start + n))) c)
         (rw (read-as, block-reads p start n (text-in .1), eq-eqb kind 12 k) at h) .0)
 
-    pub text-bad : kind ≡ 12 → utf8 (slice start (start + n) p) ≡ false → Spanned p at (own (text kind) (cursorAt p at)) (Bad 23 start)
+    pub text-bad : kind ≡ 12 → utf8 (slice start (start + n) p) ≡ false → Spanned p at (own (text kind) (cursorAt p at)) (Bad start 23)
     unfolding andThen check
     text-bad k e =
         let f : utf8 (part p start (start + n)) ≡ false = rw (slice-part p start (start + n)) at e in

@@ -217,7 +217,7 @@ module _ (S : ℕ → Shape) (d t : ℕ) (sh : Shape) (is : S t ≡ sh) (some : 
   deep : d ≡ suc (d - 1)
   deep = omega (arith, some)
 
-  pub leaf-failed : (n q : ℕ) → r ≡ Bad n q → parse S d t (cursorAt p at) ≡ refused n q
+  pub leaf-failed : (n q : ℕ) → r ≡ Bad q n → parse S d t (cursorAt p at) ≡ refused n q
   leaf-failed n q e = rw deep (parse-refused S (d - 1) t (cursorAt p at) sh is n q (sym (read .same) ∙ ap (spanOf p) e))
 
   module _ (from to : ℕ) (e : r ≡ At from to) where

@@ -38,11 +38,11 @@ pub record Counted (p : List ℕ) (at least : ℕ) (o : Answer ℕ) (r : Count) 
 
 abbrev pub spanOf : List ℕ → Span → Answer Own
 spanOf p (At from to) = seen (plain (part p from to)) (cursorAt p to)
-spanOf p (Bad number place) = refused number place
+spanOf p (Bad place number) = refused number place
 
 abbrev pub SpanIn : (size at : ℕ) → Span → Type 0
 SpanIn size at (At from to) = (from ≤ to) × (to ≤ size) × (at < to)
-SpanIn size at (Bad number place) = Unit {0}
+SpanIn size at (Bad place number) = Unit {0}
 
 pub record Spanned (p : List ℕ) (at : ℕ) (o : Answer Own) (r : Span) : Type 0 where
   pub same : spanOf p r ≡ o

@@ -28,7 +28,7 @@ pub enum Count {
 // Where a content starts and ends, or a refusal.
 pub enum Span {
     At { from: usize, to: usize },
-    Bad { number: u32, place: usize },
+    Bad { place: usize, number: u32 },
 }
 
 // A bitmap's word, the known fields' bits of it and their count, the number of unknown bits set, and the place after it;

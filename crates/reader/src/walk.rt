@@ -419,14 +419,34 @@ fn fields(
     let mut below = row + 1;
     while 0 < left {
         if bits % 2 == 1 {
+            if depth == 0 {
+                return Walk::Refused {
+                    number: 28,
+                    place: here,
+                };
+            }
             let f = field(s, i);
-            match value(s, p, sheet, f.ty, here, depth, below, judge) {
-                Walk::Refused { number, place } => {
-                    return Walk::Refused { number, place };
+            let t = type_row(s, f.ty as usize);
+            if 13 < t.kind {
+                match composite(s, p, sheet, f.ty, t, here, depth - 1, below, judge) {
+                    Walk::Refused { number, place } => {
+                        return Walk::Refused { number, place };
+                    }
+                    Walk::Past { next, row } => {
+                        here = next;
+                        below = row;
+                    }
                 }
-                Walk::Past { next, row } => {
-                    here = next;
-                    below = row;
+            } else {
+                match content(p, t.kind as usize, here, judge) {
+                    Span::Bad { number, place } => {
+                        return Walk::Refused { number, place };
+                    }
+                    Span::At { from, to } => {
+                        put_row(sheet, below, f.ty, from, to - from, 0);
+                        here = to;
+                        below = below + 1;
+                    }
                 }
             }
         }

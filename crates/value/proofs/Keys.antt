@@ -30,7 +30,7 @@ same-eq (a ∷ x) (b ∷ y) e =
     let w = and-eq-true-iff (eqb a b) (same x y) .0 e in
     cc (eqb-true a b (w .0), same-eq x y (w .1))
 
-same-not : (x y : List ℕ) → (x ≡ y → ⊥) → same x y ≡ false
+pub same-not : (x y : List ℕ) → (x ≡ y → ⊥) → same x y ≡ false
 same-not x y h = go (same x y) refl
   where
     go : (t : Bool) → same x y ≡ t → t ≡ false

@@ -4,23 +4,25 @@ use mathlib.Core.Path.{_≡_, refl, sym, ap, _∙_}
 use mathlib.Core.Logic.{⊎-elim}
 use mathlib.Core.List.{List, [], _∷_}
 use mathlib.Core.Bool.{Bool, true, false, _&&_, _||_, cond}
-use Prim.Native.Nat.{ℕ, zero, suc, _+_, _-_, _≤_, _<_, min}
+use Prim.Native.Nat.{ℕ, zero, suc, _+_, _-_, _%_, _^_, _≤_, _<_, min}
 use native.Mathlib.Omega.{arith}
 use native.Mathlib.Nat.{eq-or-lt-of-le}
 use native.Mathlib.Decide.{decLt}
 use borrow.Author.Tests.{eq-eqb, ne-eqb, lt-ltb, le-ltb}
 use lib.Dec.{eqb, ltb}
-use lib.ListN.{length, getD, set, length-set}
-use lib.Seq.{drop-cons, getD-set-same, getD-set-other, set-out}
+use lib.ListN.{length, getD, set, take, drop, length-set}
+use lib.Seq.{drop-cons, take-take, drop-drop, take-add, drop-at, getD-set-same, getD-set-other, set-out}
+use Rattle.wire.specs.Little.{little}
 use Rattle.schema.specs.Table.{Shape}
 use Rattle.value.specs.declared.Row.{Row}
 use Rattle.value.specs.Answer.{CursorOf, AnswerOf, refused, seen, Accepted}
 use Rattle.value.specs.Value.{Tree}
 use Rattle.value.specs.Read.{same, among}
 use Rattle.value.specs.Write.{span}
+use Rattle.value.proofs.Keys.{same-not}
 use Rattle.writer.specs.Emit.{done, stopped, emit}
 use Rattle.writer.specs.Leaf.{rowsAt, placeAt, lengthAt}
-use Rattle.writer.specs.Keys.{KeyIn, keyAt, keysIn, Kept, rowAfter, valueAfter, Stands, endPast, keysPast, Known, keysKnown}
+use Rattle.writer.specs.Keys.{KeyIn, keyAt, keysIn, Kept, mark, Marked, rowAfter, valueAfter, Stands, endPast, keysPast, Known, keysKnown}
 use Rattle.writer.proofs.Puts.{length-span}
 
 -- ---- contents
@@ -74,6 +76,31 @@ module _ (B : List ℕ) (a n b m : ℕ) (ends : a + n ≤ length B) (ends′ : b
     pub same-all : n ≤ i → true ≡ o
     same-all h = let k : m ≤ i = omega arith in rw (span-none B a n i h, span-none B b m i k) at inv
 
+-- ---- marks
+
+module _ (B : List ℕ) (p n : ℕ) (ends : p + n ≤ length B) where
+  pub mark-short : n < 8 → little (span B p n) ≡ mark (span B p n)
+  unfolding mark
+  mark-short h = rw (length-span B p n ends, lt-ltb n 8 h)
+
+  last-eight : 8 ≤ n → drop (n - 8) (span B p n) ≡ span B (p + n - 8) 8
+  last-eight h =
+      let e : n ≡ n - 8 + 8 = omega arith in
+      let f : p + (n - 8) ≡ p + n - 8 = omega arith in
+      let l : length (take (n - 8) (drop p B)) ≡ n - 8 = length-span B p (n - 8) (omega arith) in
+      ap (λ (k : ℕ). drop (n - 8) (take k (drop p B))) e
+      ∙ ap (drop (n - 8)) (take-add (n - 8) 8 (drop p B))
+      ∙ drop-at (take (n - 8) (drop p B)) (take 8 (drop (n - 8) (drop p B))) (n - 8) l
+      ∙ ap (take 8) (drop-drop (n - 8) p B ∙ ap (λ (k : ℕ). drop k B) f)
+
+  pub mark-long : 8 ≤ n → (little (span B p 8) + little (span B (p + n - 8) 8)) % 2 ^ 64 ≡ mark (span B p n)
+  unfolding mark
+  mark-long h = rw (length-span B p n ends, le-ltb n 8 h, take-take 8 n (drop p B) h, last-eight h)
+
+-- contents with other marks are not the same
+pub marks-differ : (x y : List ℕ) → (mark y ≡ mark x → ⊥) → false ≡ same x y
+marks-differ x y h = sym (same-not x y (λ e. h (ap mark (sym e))))
+
 -- ---- keys by their rows
 
 pub key-is : (cells B : List ℕ) (k p n : ℕ) → p ≡ placeAt cells k → n ≡ lengthAt cells k → span B p n ≡ keyAt cells B k
@@ -111,6 +138,20 @@ module _ (cells B kept : List ℕ) (i k : ℕ) where
 
   kept-last : i < length kept → KeyIn cells B k → KeyIn cells B (getD (set kept i k) i 0)
   kept-last h new = rw (getD-set-same kept i k 0 h) new
+
+  -- its mark too
+  marked-last : (marks : List ℕ) → i < length kept → length marks ≡ length kept
+      → getD (set marks i (mark (keyAt cells B k))) i 0 ≡ mark (keyAt cells B (getD (set kept i k) i 0))
+  marked-last marks h even = rw (getD-set-same marks i (mark (keyAt cells B k)) 0 (rw even h), getD-set-same kept i k 0 h)
+
+  marked-more : (marks : List ℕ) → i < length kept → length marks ≡ length kept → Marked cells B kept marks i
+      → Marked cells B (set kept i k) (set marks i (mark (keyAt cells B k))) (suc i)
+  marked-more marks h even before j lt =
+      let m : j ≤ i = omega arith in
+      ⊎-elim
+      (λ q. rw q (marked-last marks h even))
+      (λ q. rw (getD-set-other kept i j k 0 (omega arith), getD-set-other marks i j (mark (keyAt cells B k)) 0 (omega arith)) (before j q))
+      (eq-or-lt-of-le m)
 
   kept-more : i < length kept → KeyIn cells B k → Kept cells B kept i → Kept cells B (set kept i k) (suc i)
   kept-more h new before j lt =
@@ -199,12 +240,12 @@ module _ (s B cells : List ℕ) (depth v : ℕ) where
 
   -- ---- all keys
 
-  pub known-first : (kept : List ℕ) (k : ℕ) → Known s B cells depth v kept 0 k k
+  pub known-first : (kept marks : List ℕ) (k : ℕ) → length marks ≡ length kept → Known s B cells depth v kept marks 0 k k
   unfolding Stands endPast
-  known-first kept k =
+  known-first kept marks k even =
       let e : min 0 (length kept) ≡ 0 = omega arith in
       let f : 0 - min 0 (length kept) ≡ 0 = omega arith in
-      record { first = λ j l. absurd (omega arith); stand = rw f tt; ends = rw f }
+      record { even = even; first = λ j l. absurd (omega arith); marked = λ j l. absurd (omega arith); stand = rw f tt; ends = rw f }
 
   pub keys-first : (kept : List ℕ) (k : ℕ) → keysKnown s B cells depth v kept 0 k ≡ []
   unfolding keysKnown keysPast keysIn
@@ -213,13 +254,18 @@ module _ (s B cells : List ℕ) (depth v : ℕ) where
       let f : 0 - min 0 (length kept) ≡ 0 = omega arith in
       rw (f, e)
 
+  -- the pairs of those that are not kept stand there
+  pub known-rest : (kept marks : List ℕ) (i from here held : ℕ) → Known s B cells depth v kept marks i from here → held ≡ min i (length kept)
+      → Stands s B cells depth v (i - held) from
+  known-rest kept marks i from here held known e = rw e (known .stand)
+
   -- whether a content is among them
   pub among-known : (kept : List ℕ) (i from held : ℕ) (x : List ℕ) → held ≡ min i (length kept)
       → among x (keysKnown s B cells depth v kept i from) ≡ (among x (keysPast s B cells depth v (i - held) from []) || among x (keysIn cells B kept held))
   unfolding keysKnown
   among-known kept i from held x e = rw e (among-past x (i - min i (length kept)) from (keysIn cells B kept (min i (length kept))))
 
-  module _ (kept : List ℕ) (i from here : ℕ) (known : Known s B cells depth v kept i from here)
+  module _ (kept marks : List ℕ) (i from here : ℕ) (known : Known s B cells depth v kept marks i from here)
       (new : KeyIn cells B here) (after : Accepted (valueAfter s B cells depth v here)) (next : ℕ) (is : rowAfter (valueAfter s B cells depth v here) ≡ next) where
     -- with room for it the key is kept
     module _ (h : i < length kept) where
@@ -235,10 +281,12 @@ module _ (s B cells : List ℕ) (depth v : ℕ) where
       none′ : i + 1 - min (i + 1) (length (set kept i here)) ≡ 0
       none′ = rw length-set (omega arith)
 
-      known-kept : Known s B cells depth v (set kept i here) (i + 1) next next
+      known-kept : Known s B cells depth v (set kept i here) (set marks i (mark (keyAt cells B here))) (i + 1) next next
       unfolding Stands endPast
       known-kept =
           record {
+            even = length-set marks i (mark (keyAt cells B here)) ∙ known .even ∙ sym (length-set kept i here);
+            marked = rw low′ (marked-more cells B kept i here marks h (known .even) (rw low at (known .marked)));
             first = rw low′ (kept-more cells B kept i here h new (rw low at (known .first)));
             stand = rw none′ tt;
             ends = rw none′;
@@ -259,10 +307,12 @@ module _ (s B cells : List ℕ) (depth v : ℕ) where
       one-more : i + 1 - min (i + 1) (length kept) ≡ suc (i - min i (length kept))
       one-more = omega arith
 
-      known-passed : Known s B cells depth v (set kept i here) (i + 1) from next
+      known-passed : Known s B cells depth v (set kept i here) (set marks i (mark (keyAt cells B here))) (i + 1) from next
       known-passed =
-          rw out
+          rw (out, set-out marks i (mark (keyAt cells B here)) (rw (known .even) h))
           (record {
+            even = known .even;
+            marked = rw same-low (known .marked);
             first = rw same-low (known .first);
             stand = rw one-more (stands-more (i - min i (length kept)) from (known .stand) here (known .ends) new after);
             ends = rw one-more (end-more (i - min i (length kept)) from here (known .ends) ∙ is);
@@ -275,7 +325,7 @@ module _ (s B cells : List ℕ) (depth v : ℕ) where
           (keys-end (i - min i (length kept)) from (keysIn cells B kept (min i (length kept))) here (known .ends))
 
     pub known-more : (from′ : ℕ) → from′ ≡ cond (ltb i (length kept)) next from
-        → Known s B cells depth v (set kept i here) (i + 1) from′ next
+        → Known s B cells depth v (set kept i here) (set marks i (mark (keyAt cells B here))) (i + 1) from′ next
         × (keysKnown s B cells depth v (set kept i here) (i + 1) from′ ≡ keyAt cells B here ∷ keysKnown s B cells depth v kept i from)
     known-more from′ e = elim (decLt i (length kept)) [
       | yes h ↦ rw (e, lt-ltb i (length kept) h) (known-kept h, keys-kept h)

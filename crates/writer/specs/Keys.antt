@@ -1,9 +1,12 @@
 -- The keys of a map as its walk finds them again: by the rows kept of the first ones, and by passing the pairs after those.
 -- Assumes nothing.
+use mathlib.Core.Bool.{cond}
 use mathlib.Core.List.{List, [], _∷_}
-use Prim.Native.Nat.{ℕ, zero, suc, _+_, _-_, _/_, _≤_, _<_, min}
+use Prim.Native.Nat.{ℕ, zero, suc, _+_, _-_, _/_, _%_, _^_, _≤_, _<_, min}
 use mathlib.Core.Path.{_≡_}
-use lib.ListN.{length, getD}
+use lib.Dec.{ltb}
+use lib.ListN.{length, getD, take, drop}
+use Rattle.wire.specs.Little.{little}
 use Rattle.schema.specs.Table.{shape}
 use Rattle.schema.specs.File.{tableOf}
 use Rattle.value.specs.declared.Row.{Row}
@@ -29,6 +32,15 @@ keysIn cells B kept (suc n) = keyAt cells B (getD kept n 0) ∷ keysIn cells B k
 
 abbrev pub Kept : (cells B kept : List ℕ) → ℕ → Type 0
 Kept cells B kept n = (j : ℕ) → j < n → KeyIn cells B (getD kept j 0)
+
+-- A number of a content, quickly compared: of fewer than eight bytes the number that they spell, of more the sum of what the first eight and
+-- the last eight spell.
+unfoldable pub mark : List ℕ → ℕ
+mark x = cond (ltb (length x) 8) (little x) ((little (take 8 x) + little (drop (length x - 8) x)) % 2 ^ 64)
+
+-- The marks of the first n keys whose rows are kept.
+abbrev pub Marked : (cells B kept marks : List ℕ) → ℕ → Type 0
+Marked cells B kept marks n = (j : ℕ) → j < n → getD marks j 0 ≡ mark (keyAt cells B (getD kept j 0))
 
 -- ---- pairs that stand one after the other
 
@@ -57,9 +69,12 @@ module _ (s B cells : List ℕ) (depth v : ℕ) where
   keysPast zero k keys = keys
   keysPast (suc m) k keys = keysPast m (rowAfter (valueAfter k)) (keyAt cells B k ∷ keys)
 
-  -- After i pairs the first keys are kept, as many as there is room for; from row `from` on stand the pairs of the others, up to row `here`.
-  pub record Known (kept : List ℕ) (i from here : ℕ) : Type 0 where
+  -- After i pairs the first keys are kept with their marks, as many as there is room for; from row `from` on stand the pairs of the others, up to
+  -- row `here`.
+  pub record Known (kept marks : List ℕ) (i from here : ℕ) : Type 0 where
+    pub even : length marks ≡ length kept
     pub first : Kept cells B kept (min i (length kept))
+    pub marked : Marked cells B kept marks (min i (length kept))
     pub stand : Stands (i - min i (length kept)) from
     pub ends : endPast (i - min i (length kept)) from ≡ here
 

@@ -3,6 +3,7 @@
 // A walk that does not judge trusts that the same walk has been judged: it skips the tests that would read contents or keys again.
 use crate::key::is_kept;
 use crate::key::is_key;
+use crate::key::mark_of;
 use crate::leaf::Due;
 use crate::leaf::Head;
 use crate::leaf::Leaf;
@@ -241,12 +242,12 @@ fn either(t: bool, a: usize, b: usize) -> usize
     if t { a } else { b }
 }
 
-// Keeps a key's row as number i, where there is a place for it.
-fn keep(kept: &mut [usize], i: usize, row: usize)
-    ensures { λ _. ⌜ now (kept .exit) ≡ set (now (kept .entry)) i row ⌝ }
+// Keeps a number of a key, its row or its mark, as number i, where there is a place for it.
+fn keep(kept: &mut [usize], i: usize, x: usize)
+    ensures { λ _. ⌜ now (kept .exit) ≡ set (now (kept .entry)) i x ⌝ }
 {
     if i < kept.len() {
-        kept[i] = row;
+        kept[i] = x;
     }
 }
 
@@ -293,7 +294,7 @@ fn has_key(
     false
 }
 
-// A map of type ty. The rows of its keys are kept in an array: few pairs need only a short one.
+// A map of type ty. The rows of its keys and their marks are kept in arrays: few pairs need only short ones.
 fn mapping(
     s: &[u8],
     sheet: &[u32],
@@ -324,12 +325,14 @@ fn mapping(
             let next = put_number(out, pos, count as u64);
             if (count <= 64) | !judge {
                 let mut kept = [0usize; 64];
+                let mut marks = [0usize; 64];
                 return pairs(
                     s,
                     sheet,
                     source,
                     out,
                     &mut kept,
+                    &mut marks,
                     key,
                     val,
                     count,
@@ -340,12 +343,14 @@ fn mapping(
                 );
             }
             let mut kept = [0usize; 4096];
+            let mut marks = [0usize; 4096];
             pairs(
                 s,
                 sheet,
                 source,
                 out,
                 &mut kept,
+                &mut marks,
                 key,
                 val,
                 count,
@@ -358,14 +363,15 @@ fn mapping(
     }
 }
 
-// The n pairs of a map from a row on. The rows of the first keys are kept, as many as there is room for; `from` is the row after their pairs.
-// The array is scratch: what it holds afterwards means nothing.
+// The n pairs of a map from a row on. The rows of the first keys and their marks are kept, as many as there is room for; `from` is the row after
+// their pairs. The arrays are scratch: what they hold afterwards means nothing.
 fn pairs(
     s: &[u8],
     sheet: &[u32],
     source: &[u8],
     out: &mut [u8],
     kept: &mut [usize],
+    marks: &mut [usize],
     key: u32,
     val: u32,
     n: usize,
@@ -375,7 +381,7 @@ fn pairs(
     judge: bool,
 ) -> Walk
     requires { ⌜ Ready (now s) (now sheet) (now out) start pos judge (itemsIn (now s) (now source) (now sheet) depth [] (pairs n key val) start) ⌝ }
-    requires { ⌜ (0 < rowAt (tableOf (now s)) key .kind) × (rowAt (tableOf (now s)) key .kind < 14) ⌝ }
+    requires { ⌜ (0 < rowAt (tableOf (now s)) key .kind) × (rowAt (tableOf (now s)) key .kind < 14) × (length (now marks) ≡ length (now kept)) ⌝ }
     ensures { λ r. ⌜ Walked (now (sheet .entry)) (itemsEnd (now (s .entry)) (now (source .entry)) (now (sheet .entry)) depth [] (pairs n key val) start pos (now (out .entry))) r (now (out .exit)) ⌝ }
 {
     let t = type_row(s, key as usize);
@@ -400,7 +406,8 @@ fn pairs(
             }
             Leaf::At { place, length } => {
                 let held = least(i, kept.len());
-                if is_kept(sheet, source, kept, held, place, length, judge) {
+                let mark = mark_of(source, place, length);
+                if is_kept(sheet, source, kept, marks, held, place, length, mark, judge) {
                     return Walk::Refused {
                         number: 24,
                         place: here,
@@ -430,6 +437,7 @@ fn pairs(
                     }
                     Walk::Past { row, pos } => {
                         keep(kept, i, here);
+                        keep(marks, i, mark);
                         from = either(i < kept.len(), row, from);
                         here = row;
                         to = pos;

@@ -17,7 +17,7 @@ use Rattle.reader.specs.Leaf.{keysIn, Spans}
 use Rattle.reader.specs.Walk.{walkOf}
 use Rattle.reader.proofs.Keys.{spans-more}
 use Rattle.reader.proofs.Steps.{renamed, was, as-refused, stop-at, further, composite-past, composite-stop, rest-accepted, parse-refused, own-accepted, parse-deep, leaf-failed, leaf-in, leaf-parsed, leaf-past}
-use Rattle.reader.proofs.Composites.{count-in, array-refused, array-whole, map-refused, map-whole, bitmap-accepted, struct-refused, head-in, struct-unknown, struct-whole, elements-none, element-past, element-stop, element-accepted, Turned, field-stop, field-accepted, field-read, field-absent, pairs-none, pair-key-accepted, pair-key-stop, pair-known, pair-again, pair-value-accepted, pair-value-stop, pair-value-past, pairs-first, pairs-again, emptied, deeper, shallower, deep}
+use Rattle.reader.proofs.Composites.{count-in, array-refused, array-whole, map-refused, map-whole, bitmap-accepted, struct-refused, head-in, struct-unknown, struct-whole, elements-none, element-past, element-stop, element-accepted, Turned, field-stop, field-deep, field-accepted, field-read, field-absent, pairs-none, pair-key-accepted, pair-key-stop, pair-known, pair-again, pair-value-accepted, pair-value-stop, pair-value-past, pairs-first, pairs-again, emptied, deeper, shallower, deep}
 use Prim.Native.Nat.{ℕ, _<_}
 use borrow.Fn.Kinds.{In}
 use borrow.Fn.PlainCycle.{Measures, is, falls, and}
@@ -51,7 +51,7 @@ use Rattle.reader.proofs.walk.leaves.Reads as leaves-reads
 use Rattle.schema.proofs.access.field.Reads as field-reads
 use Rattle.schema.proofs.access.type_row.Reads as type-row-reads
 use Rattle.parts.specs.Shape.{leafShape, fieldsFrom}
-use Rattle.parts.proofs.Tables.{few-fields, array-row, struct-row, map-row, shape-array, shape-map, shape-struct, shape-none, shape-past, shape-leaf}
+use Rattle.parts.proofs.Tables.{few-fields, field-row, array-row, struct-row, map-row, shape-array, shape-map, shape-struct, shape-none, shape-past, shape-leaf}
 use Rattle.parts.proofs.Presence.{present-end}
 use Rattle.reader.proofs.walk.+array+composite+fields+mapping+pairs+structure+value.{statement}
 use Rattle.reader.proofs.walk.+array+composite+fields+mapping+pairs+structure+value.Tie.{close}
@@ -340,53 +340,172 @@ composite-spec t =
     let T = tableOf (args .s .now) in
     as-refused _ _ _ (parse-refused (shape T) (args .depth) (args .ty) (cursorAt (args .p .now) (args .at)) unknown (shape-past T (args .ty) _ (asked .1 .1) (omega (arith, asked .1 .2, c .before .before .if1 .left, c .before .if2 .left, c .if3 .left))) 42 0 refl))
 
-fields-spec : {M : Type 1} (t : ℕ) → fields-lts.Closed (field-reads.Asked, field-reads.Learnt, value-below t, value.Post, put-row-reads.Asked, put-row-reads.Learnt) (fields-at t) fields.Post M
+fields-spec : {M : Type 1} (t : ℕ) → fields-lts.Closed (field-reads.Asked, field-reads.Learnt, type-row-reads.Asked, type-row-reads.Learnt, composite-below t, composite.Post, content-reads.Asked, content-reads.Learnt, put-row-reads.Asked, put-row-reads.Learnt) (fields-at t) fields.Post M
 fields-spec t =
-    fields-lts.spec (field-reads.Asked, field-reads.Learnt, value-below t, value.Post, put-row-reads.Asked, put-row-reads.Learnt) (fields-at t) fields.Post
+    fields-lts.spec (field-reads.Asked, field-reads.Learnt, type-row-reads.Asked, type-row-reads.Learnt, composite-below t, composite.Post, content-reads.Asked, content-reads.Learnt, put-row-reads.Asked, put-row-reads.Learnt) (fields-at t) fields.Post
     fields-Inv-loop
     fields-μ-loop
     -- add-below
     (λ c. search needs)
     -- loop-holds
     (λ c. let pre = c .before .before .before .pre .1 .0 in (refl, pre .inside, pre .behind, omega arith, refl, c .before .before .before .pre .1 .1 .0))
-    -- field-requires
-    (λ c κs. c .before .before .before .before .before .before .pre .1 .0 .good)
-    -- value-requires
-    (λ c κs.
-    let loop = c .before .before .before .before .loop in
-    let args = c .before .before .before .before .before .before .before .before .args in
-    let P = parse (shape (tableOf (args .s .now))) (args .depth) in
+    -- same-length
+    (λ c. c .before .before .before .loop .inv .4)
+    -- returns
+    (λ c.
+    let args = c .before .before .before .before .before .before .before .args in
+    let loop = c .before .before .before .loop in
+    let pre = c .before .before .before .before .before .before .before .pre .1 .0 in
+    let inv = loop .inv in
     let T = tableOf (args .s .now) in
+    let S = shape T in
+    let P = parse S (args .depth) in
     let p = args .p .now in
-    let pre = c .before .before .before .before .before .before .before .before .pre .1 .0 in
-    let inv = loop .inv in (
+    let here = cursorAt p (loop .here) in
+    composite-stop P (struct (fieldsFrom T (args .first) (args .n))) (args .ty) (args .place) (args .known) (cursorAt p (args .start)) (args .row) (args .sheet .now) p (args .start) _ _ _
+    (field-deep P p T (loop .i) (loop .left) (loop .bits) (loop .here) (loop .below) (loop .sheet) (c .before .before .loop-test .taken) (inv .5) (c .before .if1 .taken) _ _ (λ ty. stop-at rows _ (loop .below) (loop .sheet) _ _ (parse-deep S (args .depth) ty here (c .if2 .taken))) ∙ inv .0))
+    -- field-requires
+    (λ c κs. c .before .before .before .before .before .before .before .pre .1 .0 .good)
+    -- cast-type-row
+    (λ c. search needs)
+    -- type-row-requires
+    (λ c κs. c .before .before .before .before .before .before .before .before .before .pre .1 .0 .good)
+    -- sub-composite
+    (λ c. search needs)
+    -- composite-requires
+    (λ c κs.
+    let args = c .before .before .before .before .before .before .before .before .before .before .before .before .before .args in
+    let loop = c .before .before .before .before .before .before .before .before .before .loop in
+    let pre = c .before .before .before .before .before .before .before .before .before .before .before .before .before .pre .1 .0 in
+    let inv = loop .inv in
+    let T = tableOf (args .s .now) in
+    let S = shape T in
+    let P = parse S (args .depth) in
+    let p = args .p .now in
+    let here = cursorAt p (loop .here) in
+    let ty = c .before .before .before .before .before .field .result .ty in (
       omega arith,
-      record {
-        good = pre .good;
-        small = pre .small;
-        inside = inv .1;
-        behind = inv .2;
-        judged = λ j.
-            field-accepted P p T (loop .i) (loop .left) (loop .bits) (loop .here) (loop .below) (loop .sheet) (c .before .before .before .loop-test .taken) (inv .5) _ (c .before .field .ensures) (c .before .before .if1 .taken)
-            (rest-accepted P (struct (fieldsFrom T (args .first) (args .n))) (args .ty) (args .place) (args .known) (cursorAt p (args .start)) (args .row) (args .sheet .now)
-            (walk P [] (present (fieldsFrom T (loop .i) (loop .left)) (loop .bits)) (cursorAt p (loop .here))) (loop .below) (loop .sheet) (inv .0) (pre .judged j));
-      },
+      (
+        record {
+          good = pre .good;
+          small = pre .small;
+          inside = inv .1;
+          behind = inv .2;
+          judged = λ j.
+              deeper (λ k. Accepted (parse S k ty here)) (args .depth) (c .before .before .before .before .before .before .if2 .left)
+              (field-accepted P p T (loop .i) (loop .left) (loop .bits) (loop .here) (loop .below) (loop .sheet) (c .before .before .before .before .before .before .before .before .loop-test .taken) (inv .5) _ (c .before .before .before .before .before .field .ensures) (c .before .before .before .before .before .before .before .if1 .taken)
+              (rest-accepted P (struct (fieldsFrom T (args .first) (args .n))) (args .ty) (args .place) (args .known) (cursorAt p (args .start)) (args .row) (args .sheet .now)
+              (walk P [] (present (fieldsFrom T (loop .i) (loop .left)) (loop .bits)) here) (loop .below) (loop .sheet) (inv .0) (pre .judged j)));
+        },
+        c .before .before .before .type-row .ensures,
+        c .before .if3 .taken,
+      ),
     ))
     -- enum-known-number
     (λ c. search needs)
-    -- same-length
-    (λ c. c .before .before .before .before .before .value .kept .1 .1 .0 ∙ c .before .before .before .before .before .before .before .before .before .before .loop .inv .4)
-    -- returns
+    -- same-length-2
+    (λ c. c .before .before .before .before .before .composite .kept .1 .1 .0 ∙ c .before .before .before .before .before .before .before .before .before .before .before .before .before .before .before .loop .inv .4)
+    -- returns-2
     (λ c.
-    let args = c .before .before .before .before .before .before .before .before .before .before .before .before .before .before .args in
-    let loop = c .before .before .before .before .before .before .before .before .before .before .loop in
-    let P = parse (shape (tableOf (args .s .now))) (args .depth) in
+    let args = c .before .before .before .before .before .before .before .before .before .before .before .before .before .before .before .before .before .before .before .args in
+    let loop = c .before .before .before .before .before .before .before .before .before .before .before .before .before .before .before .loop in
+    let pre = c .before .before .before .before .before .before .before .before .before .before .before .before .before .before .before .before .before .before .before .pre .1 .0 in
+    let inv = loop .inv in
     let T = tableOf (args .s .now) in
+    let S = shape T in
+    let P = parse S (args .depth) in
     let p = args .p .now in
+    let here = cursorAt p (loop .here) in
+    let ty = c .before .before .before .before .before .before .before .before .before .before .before .field .result .ty in
     composite-stop P (struct (fieldsFrom T (args .first) (args .n))) (args .ty) (args .place) (args .known) (cursorAt p (args .start)) (args .row) (args .sheet .now) p (args .start) _ _ _
-    (field-stop P p T (loop .i) (loop .left) (loop .bits) (loop .here) (loop .below) (loop .sheet) (c .before .before .before .before .before .before .before .before .before .loop-test .taken) (loop .inv .5) _ (c .before .before .before .before .before .before .before .field .ensures) (c .before .before .before .before .before .before .before .before .if1 .taken) _ _ (was (c .before .before .before .before .before .value .ensures) (c .before .number .given .1) .same) ∙ loop .inv .0))
+    (field-stop P p T (loop .i) (loop .left) (loop .bits) (loop .here) (loop .below) (loop .sheet) (c .before .before .before .before .before .before .before .before .before .before .before .before .before .before .loop-test .taken) (inv .5) _ (c .before .before .before .before .before .before .before .before .before .before .before .field .ensures) (c .before .before .before .before .before .before .before .before .before .before .before .before .before .if1 .taken) _ _
+    (renamed (ap (λ (k : ℕ). parse S k ty here) (deep (args .depth) (c .before .before .before .before .before .before .before .before .before .before .before .before .if2 .left))) (was (c .before .before .before .before .before .composite .ensures) (c .before .number .given .1)) .same) ∙ inv .0))
     -- enum-known-next
     (λ c. search needs)
+    -- cast-content
+    (λ c. search needs)
+    -- content-requires
+    (λ c κs.
+    let args = c .before .before .before .before .before .before .before .before .before .before .before .before .before .args in
+    let loop = c .before .before .before .before .before .before .before .before .before .loop in
+    let pre = c .before .before .before .before .before .before .before .before .before .before .before .before .before .pre .1 .0 in
+    let inv = loop .inv in
+    let T = tableOf (args .s .now) in
+    let S = shape T in
+    let P = parse S (args .depth) in
+    let p = args .p .now in
+    let here = cursorAt p (loop .here) in
+    let field = c .before .before .before .before .before .field in
+    let type-row = c .before .before .before .type-row in
+    let some = field-row (args .s .now) (pre .good) (loop .i) (loop .left) (c .before .before .before .before .before .before .before .before .loop-test .taken) (inv .5) (field .result) (field .ensures) (type-row .result) (type-row .ensures) in (
+      pre .small,
+      inv .1,
+      some,
+      omega arith,
+      λ j.
+          own-accepted S (args .depth - 1) (field .result .ty) here (leafShape (type-row .result .kind)) (shape-leaf T (field .result .ty) (type-row .result) (type-row .ensures) some (omega arith))
+          (deeper (λ k. Accepted (parse S k (field .result .ty) here)) (args .depth) (c .before .before .before .before .before .before .if2 .left)
+          (field-accepted P p T (loop .i) (loop .left) (loop .bits) (loop .here) (loop .below) (loop .sheet) (c .before .before .before .before .before .before .before .before .loop-test .taken) (inv .5) _ (field .ensures) (c .before .before .before .before .before .before .before .if1 .taken)
+          (rest-accepted P (struct (fieldsFrom T (args .first) (args .n))) (args .ty) (args .place) (args .known) (cursorAt p (args .start)) (args .row) (args .sheet .now)
+          (walk P [] (present (fieldsFrom T (loop .i) (loop .left)) (loop .bits)) here) (loop .below) (loop .sheet) (inv .0) (pre .judged j)))),
+    ))
+    -- enum-known-place
+    (λ c. search needs)
+    -- same-length-3
+    (λ c. c .before .before .before .before .before .before .before .before .before .before .before .before .before .loop .inv .4)
+    -- returns-3
+    (λ c.
+    let args = c .before .before .before .before .before .before .before .before .before .before .before .before .before .before .before .before .before .args in
+    let loop = c .before .before .before .before .before .before .before .before .before .before .before .before .before .loop in
+    let pre = c .before .before .before .before .before .before .before .before .before .before .before .before .before .before .before .before .before .pre .1 .0 in
+    let inv = loop .inv in
+    let T = tableOf (args .s .now) in
+    let S = shape T in
+    let P = parse S (args .depth) in
+    let p = args .p .now in
+    let here = cursorAt p (loop .here) in
+    let field = c .before .before .before .before .before .before .before .before .before .field in
+    let type-row = c .before .before .before .before .before .before .before .type-row in
+    let some = field-row (args .s .now) (pre .good) (loop .i) (loop .left) (c .before .before .before .before .before .before .before .before .before .before .before .before .loop-test .taken) (inv .5) (field .result) (field .ensures) (type-row .result) (type-row .ensures) in
+    composite-stop P (struct (fieldsFrom T (args .first) (args .n))) (args .ty) (args .place) (args .known) (cursorAt p (args .start)) (args .row) (args .sheet .now) p (args .start) _ _ _
+    (field-stop P p T (loop .i) (loop .left) (loop .bits) (loop .here) (loop .below) (loop .sheet) (c .before .before .before .before .before .before .before .before .before .before .before .before .loop-test .taken) (inv .5) _ (field .ensures) (c .before .before .before .before .before .before .before .before .before .before .before .if1 .taken) _ _
+    (stop-at rows _ (loop .below) (loop .sheet) _ _ (leaf-failed S (args .depth) (field .result .ty) (leafShape (type-row .result .kind)) (shape-leaf T (field .result .ty) (type-row .result) (type-row .ensures) some (omega arith)) (c .before .before .before .before .before .before .before .before .before .before .if2 .left) p (loop .here) _ (c .before .before .before .content .ensures) _ _ (c .before .place .given .1))) ∙ inv .0))
+    -- enum-known-from
+    (λ c. search needs)
+    -- sub-put-row
+    (λ c.
+    let args = c .before .before .before .before .before .before .before .before .before .before .before .before .before .before .before .before .before .before .args in
+    let loop = c .before .before .before .before .before .before .before .before .before .before .before .before .before .before .loop in
+    let pre = c .before .before .before .before .before .before .before .before .before .before .before .before .before .before .before .before .before .before .pre .1 .0 in
+    let inv = loop .inv in
+    let T = tableOf (args .s .now) in
+    let S = shape T in
+    let P = parse S (args .depth) in
+    let p = args .p .now in
+    let here = cursorAt p (loop .here) in
+    let field = c .before .before .before .before .before .before .before .before .before .before .field in
+    let type-row = c .before .before .before .before .before .before .before .before .type-row in
+    let span = c .before .before .from in
+    let some = field-row (args .s .now) (pre .good) (loop .i) (loop .left) (c .before .before .before .before .before .before .before .before .before .before .before .before .before .loop-test .taken) (inv .5) (field .result) (field .ensures) (type-row .result) (type-row .ensures) in
+    let i = leaf-in S (args .depth) (field .result .ty) (leafShape (type-row .result .kind)) (shape-leaf T (field .result .ty) (type-row .result) (type-row .ensures) some (omega arith)) (c .before .before .before .before .before .before .before .before .before .before .before .if2 .left) p (loop .here) _ (c .before .before .before .before .content .ensures) (span .given .0 .0) (span .given .0 .1 .0) (span .given .1) in omega arith)
+    -- put-row-requires
+    (λ c κs.
+    let args = c .before .before .before .before .before .before .before .before .before .before .before .before .before .before .before .before .before .before .args in
+    let loop = c .before .before .before .before .before .before .before .before .before .before .before .before .before .before .loop in
+    let pre = c .before .before .before .before .before .before .before .before .before .before .before .before .before .before .before .before .before .before .pre .1 .0 in
+    let inv = loop .inv in
+    let T = tableOf (args .s .now) in
+    let S = shape T in
+    let P = parse S (args .depth) in
+    let p = args .p .now in
+    let here = cursorAt p (loop .here) in
+    let field = c .before .before .before .before .before .before .before .before .before .before .field in
+    let type-row = c .before .before .before .before .before .before .before .before .type-row in
+    let span = c .before .before .from in
+    let some = field-row (args .s .now) (pre .good) (loop .i) (loop .left) (c .before .before .before .before .before .before .before .before .before .before .before .before .before .loop-test .taken) (inv .5) (field .result) (field .ensures) (type-row .result) (type-row .ensures) in
+    let i = leaf-in S (args .depth) (field .result .ty) (leafShape (type-row .result .kind)) (shape-leaf T (field .result .ty) (type-row .result) (type-row .ensures) some (omega arith)) (c .before .before .before .before .before .before .before .before .before .before .before .if2 .left) p (loop .here) _ (c .before .before .before .before .content .ensures) (span .given .0 .0) (span .given .0 .1 .0) (span .given .1) in omega arith)
+    -- add-below-2
+    (λ c. let pre = c .before .before .before .before .before .before .before .before .before .before .before .before .before .before .before .before .before .before .before .before .before .pre .1 .0 in let inv = c .before .before .before .before .before .before .before .before .before .before .before .before .before .before .before .before .before .loop .inv in omega arith)
     -- add-i
     (λ c. let h = few-fields _ (c .before .before .before .before .before .before .pre .1 .0 .good) in let inv = c .before .before .loop .inv in omega arith)
     -- sub-left
@@ -395,30 +514,42 @@ fields-spec t =
     (λ c. omega arith)
     -- loop-again
     (λ c.
-    let loop = c .before .before .loop in
     let args = c .before .before .before .before .before .before .args in
+    let loop = c .before .before .loop in
+    let pre = c .before .before .before .before .before .before .pre .1 .0 in
+    let inv = loop .inv in
+    let T = tableOf (args .s .now) in
+    let S = shape T in
+    let P = parse S (args .depth) in
+    let p = args .p .now in
+    let here = cursorAt p (loop .here) in
     let if1 = c .if1 in
     let loop-test = c .before .loop-test in
-    let P = parse (shape (tableOf (args .s .now))) (args .depth) in
-    let T = tableOf (args .s .now) in
-    let p = args .p .now in
-    let inv = loop .inv in
     let t : Turned P p T (loop .i) (loop .left) (loop .bits) (loop .here) (loop .below) (loop .sheet) (if1 .here) (if1 .below) (if1 .sheet) =
     ⊎-elim
-    (λ w. field-read P p T (loop .i) (loop .left) (loop .bits) (loop .here) (loop .below) (loop .sheet) (loop-test .taken) (inv .5) _ (w .1 .ensures) (w .0 .taken) _ _ _ (was (w .3 .ensures) (w .7 .given .1)) _ _ _ (w .10) (w .11) (w .9))
-    (λ w. field-absent P p T (loop .i) (loop .left) (loop .bits) (loop .here) (loop .below) (loop .sheet) (loop-test .taken) (inv .5) (w .0 .left) (inv .1) (inv .2) _ _ _ (w .2) (w .3) (w .1))
+    (λ w.
+    field-read P p T (loop .i) (loop .left) (loop .bits) (loop .here) (loop .below) (loop .sheet) (loop-test .taken) (inv .5) _ (w .2 .ensures) (w .0 .taken) _ _ _
+    (renamed (ap (λ (k : ℕ). parse S k (w .2 .result .ty) here) (deep (args .depth) (w .1 .left))) (was (w .8 .ensures) (w .12 .given .1)))
+    _ _ _ (w .15) (w .16) (w .14))
+    (⊎-elim
+    (λ w.
+    let some = field-row (args .s .now) (pre .good) (loop .i) (loop .left) (loop-test .taken) (inv .5) (w .2 .result) (w .2 .ensures) (w .4 .result) (w .4 .ensures) in
+    field-read P p T (loop .i) (loop .left) (loop .bits) (loop .here) (loop .below) (loop .sheet) (loop-test .taken) (inv .5) _ (w .2 .ensures) (w .0 .taken) _ _ _
+    (leaf-past S (args .depth) (w .2 .result .ty) (leafShape (w .4 .result .kind)) (shape-leaf T (w .2 .result .ty) (w .4 .result) (w .4 .ensures) some (omega (arith, w .6 .left))) (w .1 .left) p (loop .here) _ (w .8 .ensures) (w .10 .given .0 .0) (w .10 .given .0 .1 .0) (w .10 .given .1) (loop .below) (loop .sheet) _ (inv .2) (w .13 .ensures))
+    _ _ _ (w .17) (w .18) (w .16))
+    (λ w. field-absent P p T (loop .i) (loop .left) (loop .bits) (loop .here) (loop .below) (loop .sheet) (loop-test .taken) (inv .5) (w .0 .left) (inv .1) (inv .2) _ _ _ (w .2) (w .3) (w .1)))
     (if1 .came) in
     (sym (t .same) ∙ inv .0, t .inside, t .behind, omega (arith, inv .3, t .forth), t .long ∙ inv .4, omega arith))
-    -- sub-put-row
+    -- sub-put-row-2
     (λ c. omega arith)
-    -- put-row-requires
+    -- put-row-requires-2
     (λ c κs.
     let pre = c .before .before .before .before .before .before .pre .1 .0 in
     let inv = c .before .before .loop .inv in
     omega arith)
-    -- same-length-2
-    (λ c. c .before .before .put-row .kept .0 ∙ c .before .before .before .before .before .loop .inv .4)
-    -- returns-2
+    -- same-length-4
+    (λ c. c .before .before .put-row2 .kept .0 ∙ c .before .before .before .before .before .loop .inv .4)
+    -- returns-4
     (λ c.
     let loop = c .before .before .before .before .before .loop in
     let args = c .before .before .before .before .before .before .before .before .before .args in
@@ -428,7 +559,7 @@ fields-spec t =
     let inv = loop .inv in
     composite-past P (struct (fieldsFrom T (args .first) (args .n))) (args .ty) (args .place) (args .known) (cursorAt p (args .start)) (args .row) (args .sheet .now) p (args .start) _ _ (loop .sheet) _ []
     (emptied P [] (present (fieldsFrom T (loop .i) (loop .left)) (loop .bits)) _ _ _ _ (present-end T (loop .i) (loop .left) (c .before .before .before .before .loop-test .left) (loop .bits)) (inv .0))
-    (rw (← c .before .before .before .before .before .before .before .before .before .pre .1 .1 .3) (c .before .before .put-row .ensures)) (inv .1) (inv .2) (inv .3))
+    (rw (← c .before .before .before .before .before .before .before .before .before .pre .1 .1 .3) (c .before .before .put-row2 .ensures)) (inv .1) (inv .2) (inv .3))
 
 mapping-spec : {M : Type 1} (t : ℕ) → mapping-lts.Closed (read-count-reads.Asked, read-count-reads.Learnt, pairs-below t, pairs.Post) (mapping-at t) mapping.Post M
 mapping-spec t =
@@ -573,7 +704,7 @@ pairs-spec t =
     let T = tableOf (args .s .now) in
     let p = args .p .now in
     composite-stop P (map (args .key) (args .val)) (args .ty) (args .start) (args .n) (cursorAt p (args .start)) (args .row) (args .sheet .now) p (args .start) _ _ _
-    (pair-key-stop P p (args .key) (args .val) (args .n) (loop .i) (keysIn p (loop .starts) (loop .ends) (loop .i)) (loop .here) (c .before .before .before .before .before .loop-test .taken) (loop .below) (loop .sheet) _ _ (leaf-failed (shape T) (args .depth) (args .key) (leafShape (type-row .result .kind)) (shape-leaf T (args .key) (type-row .result) (type-row .ensures) (rw (type-row .ensures) (asked .1 .1 .0)) (rw (type-row .ensures) (asked .1 .1 .1))) (c .before .before .before .before .if1 .left) p (loop .here) _ (c .before .before .before .content .ensures) _ _ (c .before .number .given .1)) ∙ loop .inv .0))
+    (pair-key-stop P p (args .key) (args .val) (args .n) (loop .i) (keysIn p (loop .starts) (loop .ends) (loop .i)) (loop .here) (c .before .before .before .before .before .loop-test .taken) (loop .below) (loop .sheet) _ _ (leaf-failed (shape T) (args .depth) (args .key) (leafShape (type-row .result .kind)) (shape-leaf T (args .key) (type-row .result) (type-row .ensures) (rw (type-row .ensures) (asked .1 .1 .0)) (rw (type-row .ensures) (asked .1 .1 .1))) (c .before .before .before .before .if1 .left) p (loop .here) _ (c .before .before .before .content .ensures) _ _ (c .before .place .given .1)) ∙ loop .inv .0))
     -- enum-known-from
     (λ c. search needs)
     -- is-repeated-requires
@@ -713,7 +844,7 @@ pairs-spec t =
     let T = tableOf (args .s .now) in
     let p = args .p .now in
     composite-stop P (map (args .key) (args .val)) (args .ty) (args .start) (args .n) (cursorAt p (args .start)) (args .row) (args .sheet .now) p (args .start) _ _ _
-    (pair-value-stop P p (args .key) (args .val) (args .n) (loop .i) (keysIn p (loop .starts) (loop .ends) (loop .i)) (loop .here) (c .before .before .before .before .before .before .before .before .before .before .before .before .before .before .before .before .before .before .before .before .loop-test .taken) (span .given .0 .0) (span .given .0 .1 .0) (leaf-parsed (shape T) (args .depth) (args .key) (leafShape (type-row .result .kind)) (shape-leaf T (args .key) (type-row .result) (type-row .ensures) (rw (type-row .ensures) (asked .1 .1 .0)) (rw (type-row .ensures) (asked .1 .1 .1))) (c .before .before .before .before .before .before .before .before .before .before .before .before .before .before .before .before .before .before .before .if1 .left) p (loop .here) _ (c .before .before .before .before .before .before .before .before .before .before .before .before .before .before .before .before .before .before .content .ensures) (span .given .0 .0) (span .given .0 .1 .0) (span .given .1)) (sym (c .before .before .before .before .before .before .before .before .before .before .before .before .is-repeated .ensures) ∙ c .before .before .before .before .before .before .before .before .before .before .before .if2 .left) (loop .below) (loop .sheet) _ (c .before .before .before .before .before .before .before .before .before .put-row .ensures) _ _ (was (c .before .before .before .before .before .value .ensures) (c .before .number2 .given .1) .same) ∙ loop .inv .0))
+    (pair-value-stop P p (args .key) (args .val) (args .n) (loop .i) (keysIn p (loop .starts) (loop .ends) (loop .i)) (loop .here) (c .before .before .before .before .before .before .before .before .before .before .before .before .before .before .before .before .before .before .before .before .loop-test .taken) (span .given .0 .0) (span .given .0 .1 .0) (leaf-parsed (shape T) (args .depth) (args .key) (leafShape (type-row .result .kind)) (shape-leaf T (args .key) (type-row .result) (type-row .ensures) (rw (type-row .ensures) (asked .1 .1 .0)) (rw (type-row .ensures) (asked .1 .1 .1))) (c .before .before .before .before .before .before .before .before .before .before .before .before .before .before .before .before .before .before .before .if1 .left) p (loop .here) _ (c .before .before .before .before .before .before .before .before .before .before .before .before .before .before .before .before .before .before .content .ensures) (span .given .0 .0) (span .given .0 .1 .0) (span .given .1)) (sym (c .before .before .before .before .before .before .before .before .before .before .before .before .is-repeated .ensures) ∙ c .before .before .before .before .before .before .before .before .before .before .before .if2 .left) (loop .below) (loop .sheet) _ (c .before .before .before .before .before .before .before .before .before .put-row .ensures) _ _ (was (c .before .before .before .before .before .value .ensures) (c .before .number .given .1) .same) ∙ loop .inv .0))
     -- enum-known-next
     (λ c. search needs)
     -- add-i
@@ -898,7 +1029,7 @@ value-spec t =
     let args = c .before .before .before .before .before .before .before .before .before .before .before .before .args in
     let type-row = c .before .before .before .before .before .before .before .type-row in
     let T = tableOf (args .s .now) in
-    as-refused _ _ _ (leaf-failed (shape T) (args .depth) (args .ty) (leafShape (type-row .result .kind)) (shape-leaf T (args .ty) (type-row .result) (type-row .ensures) (omega arith) (omega arith)) (c .before .before .before .before .before .before .before .before .if1 .left) (args .p .now) (args .at) _ (c .before .before .before .content .ensures) _ _ (c .before .number .given .1)))
+    as-refused _ _ _ (leaf-failed (shape T) (args .depth) (args .ty) (leafShape (type-row .result .kind)) (shape-leaf T (args .ty) (type-row .result) (type-row .ensures) (omega arith) (omega arith)) (c .before .before .before .before .before .before .before .before .if1 .left) (args .p .now) (args .at) _ (c .before .before .before .content .ensures) _ _ (c .before .place .given .1)))
     -- same-length-2
     (λ c. c .before .before .put-row .kept .0)
     -- returns-5

@@ -85,7 +85,7 @@ leaves-spec =
     let P = parse (shape (tableOf (args .s .now))) (args .depth) in
     let T = tableOf (args .s .now) in
     let p = args .p .now in
-    composite-stop P (array (args .elem)) (args .ty) (args .start) (args .n) (cursorAt p (args .start)) (args .row) (args .sheet .now) p (args .start) _ _ _ (element-stop P (args .elem) (loop .left) (c .before .before .before .before .before .loop-test .taken) (cursorAt p (loop .here)) (loop .below) (loop .sheet) _ _ (stop-at rows _ (loop .below) (loop .sheet) _ _ (leaf-failed (shape T) (args .depth) (args .elem) (leafShape (type-row .result .kind)) (shape-leaf T (args .elem) (type-row .result) (type-row .ensures) (rw (type-row .ensures) (asked .1 .0)) (rw (type-row .ensures) (asked .1 .1))) (c .before .before .before .before .if1 .left) p (loop .here) _ (c .before .before .before .content .ensures) _ _ (c .before .number .given .1))) ∙ loop .inv .0))
+    composite-stop P (array (args .elem)) (args .ty) (args .start) (args .n) (cursorAt p (args .start)) (args .row) (args .sheet .now) p (args .start) _ _ _ (element-stop P (args .elem) (loop .left) (c .before .before .before .before .before .loop-test .taken) (cursorAt p (loop .here)) (loop .below) (loop .sheet) _ _ (stop-at rows _ (loop .below) (loop .sheet) _ _ (leaf-failed (shape T) (args .depth) (args .elem) (leafShape (type-row .result .kind)) (shape-leaf T (args .elem) (type-row .result) (type-row .ensures) (rw (type-row .ensures) (asked .1 .0)) (rw (type-row .ensures) (asked .1 .1))) (c .before .before .before .before .if1 .left) p (loop .here) _ (c .before .before .before .content .ensures) _ _ (c .before .place .given .1))) ∙ loop .inv .0))
     -- enum-known-from
     (λ c. search needs)
     -- sub-put-row

@@ -1,50 +1,38 @@
--- `schema::kind::width_of` meets its contract: its tests give the table's width at each kind, by one computed test over the table.
+-- `schema::kind::width_of` meets its contract: four bits of the number give the table's width at each kind, by one computed test over the table.
 -- Assumes nothing.
-use mathlib.Core.Path.{_≡_, refl, sym, subst}
-use mathlib.Core.Bool.{Bool, true, false, cond, _||_}
-use Prim.Native.Nat.{ℕ, _<_}
+use mathlib.Core.Path.{_≡_}
+use Prim.Native.Nat.{ℕ, _*_, _/_, _%_, _^_, _≤_, _<_}
 use native.Mathlib.Omega.{arith}
-use borrow.Author.Tests.{eqb-true, ne-eqb}
+use borrow.Author.Tests.{eqb-true, leb-true}
 use borrow.Author.Needs.{needs}
-use lib.Dec.{T, leb, eqb}
+use lib.Dec.{leb, eqb}
+use lib.Ieee.Bits.{is-true}
 use Rattle.wire.proofs.Table.{at}
 use Rattle.schema.specs.Table.{width, widths}
 use Rattle.schema.proofs.kind.width_of.Statement.{statement}
 use Rattle.schema.proofs.kind.width_of.Tie as tie
 
-abbrev decided : ℕ → ℕ
-decided k = cond (leb k 2 || eqb k 6) 1 (cond (eqb k 3 || eqb k 7) 2 (cond (eqb k 4 || (eqb k 8 || eqb k 10)) 4 8))
+abbrev bits : ℕ → ℕ
+bits k = 0x848421842110 / 2 ^ (4 * k) % 16
 
-abbrev fits : ℕ → ℕ → Bool
-fits k w = eqb k 0 || eqb w (decided k)
+-- four bits are the width, which is positive but for kind 0, and at most 8
+module _ (k : ℕ) (below : k < 12) where
+  is-width : bits k ≡ width k
+  is-width = eqb-true (bits k) (width k) (is-true (eqb (bits k) (width k)) (at (λ (k w : ℕ). eqb (bits k) w) widths tt k below))
 
-other : (a b : Bool) → a ≡ false → T (a || b) → b ≡ true
-other true b e t = let z : _≡_ {A = Bool} true false = e in absurd (subst T z tt)
-other false true e t = refl
-other false false e t = absurd t
+  is-some : k ≤ 12 * width k
+  is-some = leb-true k (12 * width k) (is-true (leb k (12 * width k)) (at (λ (k w : ℕ). leb k (12 * w)) widths tt k below))
 
-decides : (k : ℕ) → 0 < k → k < 12 → decided k ≡ width k
-decides k h l = sym (eqb-true (width k) (decided k) (other (eqb k 0) (eqb (width k) (decided k)) (ne-eqb k 0 (λ e. omega arith)) (at fits widths tt k l)))
+  is-small : width k ≤ 8
+  is-small = leb-true (width k) 8 (is-true (leb (width k) 8) (at (λ (k w : ℕ). leb w 8) widths tt k below))
 
 returns : tie.Need-returns
 returns c =
-    let d = decides (c .before .args .kind) (c .before .pre .0) (c .before .pre .1) in
-    (rw (c .if1 .taken) at d, omega arith, omega arith)
-
-returns-2 : tie.Need-returns-2
-returns-2 c =
-    let d = decides (c .before .before .args .kind) (c .before .before .pre .0) (c .before .before .pre .1) in
-    (rw (c .before .if1 .left, c .if2 .taken) at d, omega arith, omega arith)
-
-returns-3 : tie.Need-returns-3
-returns-3 c =
-    let d = decides (c .before .before .before .args .kind) (c .before .before .before .pre .0) (c .before .before .before .pre .1) in
-    (rw (c .before .before .if1 .left, c .before .if2 .left, c .if3 .taken) at d, omega arith, omega arith)
-
-returns-4 : tie.Need-returns-4
-returns-4 c =
-    let d = decides (c .before .before .before .args .kind) (c .before .before .before .pre .0) (c .before .before .before .pre .1) in
-    (rw (c .before .before .if1 .left, c .before .if2 .left, c .if3 .left) at d, omega arith, omega arith)
+    let k = c .args .kind in
+    let e = is-width k (c .pre .1) in
+    let some = is-some k (c .pre .1) in
+    let small = is-small k (c .pre .1) in
+    (e, omega (arith, e, some), omega (arith, e, small))
 
 pub width-of-spec : {M : Type 1} → statement M
-width-of-spec = tie.close (tie.spec returns returns-2 returns-3 returns-4)
+width-of-spec = tie.close (tie.spec (λ c. search needs) (λ c. omega arith) returns)

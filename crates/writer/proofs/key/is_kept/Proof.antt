@@ -13,11 +13,11 @@ use Rattle.writer.proofs.key.is_kept.Statement.{statement}
 use Rattle.writer.proofs.key.is_kept.Tie as tie
 
 abbrev Inv-loop : tie.InvT-loop
-Inv-loop sheet source kept held place n judge j₀ j =
+Inv-loop sheet source kept marks held place n m judge j₀ j =
     (among (span source place n) (keysIn sheet source kept j) ≡ among (span source place n) (keysIn sheet source kept held)) × (j ≤ held)
 
 abbrev μ-loop : tie.MeasureT-loop
-μ-loop sheet source kept held place n judge j₀ j = j
+μ-loop sheet source kept marks held place n m judge j₀ j = j
 
 pub is-kept-spec : {M : Type 1} → statement M
 is-kept-spec =
@@ -26,22 +26,26 @@ is-kept-spec =
     Inv-loop
     μ-loop
     -- returns
-    (λ c. sym (c .before .before .before .before .pre .3 (not-true _ (c .if1 .taken))))
+    (λ c. sym (c .before .before .before .before .before .pre .0 .3 (not-true _ (c .if1 .taken))))
     -- loop-holds
     (λ c. (refl, omega arith))
     -- sub-j
     (λ c. search needs)
-    -- mul-is-key
+    -- mul-is-marked
     (λ c. search needs)
-    -- shared-slice-read-is-key
+    -- shared-slice-read-is-marked
     (λ c. search needs)
-    -- is-key-requires
-    (λ c κs. (c .before .before .before .before .before .before .before .pre .2 (c .before .before .loop .j - 1) (omega arith), c .before .before .before .before .before .before .before .pre .1))
+    -- mul-is-marked-2
+    (λ c. search needs)
+    -- shared-slice-read-is-marked-2
+    (λ c. search needs)
+    -- is-marked-requires
+    (λ c κs. ((c .before .before .before .before .before .before .before .before .before .pre .0 .2 (c .before .before .before .loop .j - 1) (omega arith), c .before .before .before .before .before .before .before .before .before .pre .0 .1), (c .before .before .before .before .before .before .before .before .before .pre .1 .1 (c .before .before .before .loop .j - 1) (omega arith), c .before .before .before .before .before .before .before .before .before .pre .1 .2)))
     -- returns-2
-    (λ c. kept-found (c .before .before .before .before .before .before .before .before .before .args .sheet .now) (c .before .before .before .before .before .before .before .before .before .args .source .now) (c .before .before .before .before .before .before .before .before .before .args .kept .now) _ (c .before .before .before .before .loop .j) _ (c .before .is-key .ensures) (c .before .before .before .loop-test .taken) (c .if2 .taken) ∙ c .before .before .before .before .loop .inv .0)
+    (λ c. kept-found (c .before .before .before .before .before .before .before .before .before .before .before .args .sheet .now) (c .before .before .before .before .before .before .before .before .before .before .before .args .source .now) (c .before .before .before .before .before .before .before .before .before .before .before .args .kept .now) _ (c .before .before .before .before .before .loop .j) _ (c .before .is-marked .ensures) (c .before .before .before .before .loop-test .taken) (c .if2 .taken) ∙ c .before .before .before .before .before .loop .inv .0)
     -- loop-less
     (λ c. omega arith)
     -- loop-again
-    (λ c. (kept-other (c .before .before .before .before .before .before .before .before .before .args .sheet .now) (c .before .before .before .before .before .before .before .before .before .args .source .now) (c .before .before .before .before .before .before .before .before .before .args .kept .now) _ (c .before .before .before .before .loop .j) _ (c .before .is-key .ensures) (c .before .before .before .loop-test .taken) (c .if2 .left) ∙ c .before .before .before .before .loop .inv .0, omega arith))
+    (λ c. (kept-other (c .before .before .before .before .before .before .before .before .before .before .before .args .sheet .now) (c .before .before .before .before .before .before .before .before .before .before .before .args .source .now) (c .before .before .before .before .before .before .before .before .before .before .before .args .kept .now) _ (c .before .before .before .before .before .loop .j) _ (c .before .is-marked .ensures) (c .before .before .before .before .loop-test .taken) (c .if2 .left) ∙ c .before .before .before .before .before .loop .inv .0, omega arith))
     -- returns-3
-    (λ c. kept-none (c .before .before .before .before .before .before .args .sheet .now) (c .before .before .before .before .before .before .args .source .now) (c .before .before .before .before .before .before .args .kept .now) _ (c .before .loop .j) (c .loop-test .left) ∙ c .before .loop .inv .0))
+    (λ c. kept-none (c .before .before .before .before .before .before .before .args .sheet .now) (c .before .before .before .before .before .before .before .args .source .now) (c .before .before .before .before .before .before .before .args .kept .now) _ (c .before .loop .j) (c .loop-test .left) ∙ c .before .loop .inv .0))
