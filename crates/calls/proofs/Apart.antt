@@ -25,8 +25,7 @@ use Rattle.calls.specs.Judge.{rightSide, payloadOf, opensAt, judgeInvoke
 use Rattle.calls.specs.Step.{numberOf, endsCall, slotsAfter, stepOf, dueOf, receive}
 use Rattle.calls.specs.Good.{GoodTable}
 use Rattle.calls.specs.Apart.{Own, none, one, recordAt, ownOf, full, Verdict, stop, goes, verdict, invokeVerdict, otherVerdict, verdictOf, verdictDue, verdictNumber, kept, verdictOwn, touched, Freed}
-use Rattle.schema.proofs.Bools.{cases, clash, and-i, and-left, and-right}
-use Rattle.calls.proofs.Bools.{is-false}
+use Rattle.schema.proofs.Bools.{cases, clash, and-i, and-left, and-right, is-false}
 use Rattle.calls.proofs.Searches.{found-in, found-passes, found-lowest, none-passes, only-found, none-found, slot-same, slot-other, past-end, at-at}
 use Rattle.calls.proofs.Judgement.{Opening, Going, judged-opens, judged-goes}
 use Rattle.calls.proofs.Kept.{after-cases, id-after, call-open, call-id, is-call}
@@ -81,7 +80,8 @@ number-by (Stop n) p = refl
 number-by (Opens j c d) p = refl
 number-by (Goes i c d) p = refl
 
-due-by : (J : Judged) → dueOf J ≡ verdictDue (verdict J)
+-- what the payload holds, by the judgement without a slot
+pub due-by : (J : Judged) → dueOf J ≡ verdictDue (verdict J)
 due-by (Stop n) = refl
 due-by (Opens j c d) = refl
 due-by (Goes i c d) = refl

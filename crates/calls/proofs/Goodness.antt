@@ -15,8 +15,8 @@ use Rattle.calls.specs.declared.FormRow.{FormRow}
 use Rattle.calls.specs.Record.{emptyCall, implies, complete, zeroCall, goodOpen}
 use Rattle.calls.specs.Slots.{freshTable, slot, formRow, goodCall, goodCalls, openIds, holds, distinct, goodTable}
 use Rattle.calls.specs.Good.{GoodCall, GoodTable}
-use Rattle.schema.proofs.Bools.{cases, clash, and-i, and-left, and-right, or-right, or-cases}
-use Rattle.calls.proofs.Bools.{not-i, is-false, imp-i, imp-e}
+use Rattle.schema.proofs.Bools.{cases, clash, and-i, and-left, and-right, or-right, or-cases, not-i, is-false}
+use Rattle.calls.proofs.Bools.{imp-i, imp-e}
 
 -- ---- one record
 members : (a b : ℕ) (o r i u : Bool) → a ≡ 0 → b ≡ 0 → o ≡ false → r ≡ false → i ≡ false → u ≡ false →

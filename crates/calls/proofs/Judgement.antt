@@ -1,12 +1,13 @@
 -- What a judgement tells: a frame that opens a call, and a frame that goes to an open one.
 -- Assumes nothing.
 use mathlib.Core.Path.{_≡_, refl, sym, ap, subst}
-use mathlib.Core.Bool.{Bool, true, false, cond}
+use mathlib.Core.Bool.{Bool, true, cond}
 use mathlib.Core.List.{List}
 use Prim.Native.Nat.{ℕ}
 use native.Mathlib.Omega.{arith}
 use lib.Dec.{eqb}
 use borrow.Author.Tests.{eqb-true, eqb-false}
+use Rattle.wire.proofs.Cases.{chosen, passed-over}
 use Rattle.schema.specs.declared.Method.{Method}
 use Rattle.schema.specs.declared.Found.{Found}
 use Rattle.schema.specs.declared.Found.the-variants.{At, Missing}
@@ -25,16 +26,6 @@ use Rattle.calls.specs.Judge.{rightSide, payloadOf, opensAt, judgeInvoke
 -- two answers that differ
 differ : {A : Type 0} → _≡_ {A = ℕ} 0 1 → A
 differ z = absurd (omega arith)
-
--- a choice whose other branch cannot be the answer
-module _ {A : Type 0} where
-  first : (b : Bool) (x y z : A) → (y ≡ z → ⊥) → cond b x y ≡ z → (b ≡ true) × (x ≡ z)
-  first true x y z n e = (refl, e)
-  first false x y z n e = absurd (n e)
-
-  second : (b : Bool) (x y z : A) → (x ≡ z → ⊥) → cond b x y ≡ z → (b ≡ false) × (y ≡ z)
-  second true x y z n e = absurd (n e)
-  second false x y z n e = (refl, e)
 
 module _ (T : Table) (f : Frame) (l : List Call) where
   abbrev id : ℕ
@@ -99,11 +90,11 @@ module _ (T : Table) (f : Frame) (l : List Call) where
 
     call-goes : (i : ℕ) (c : Call) (d : Payload) → judgeCall m f k x ≡ Goes i c d → (may ≡ true) × (next ≡ Goes i c d)
     call-goes i c d e =
-        first may next (Stop 14) (Goes i c d) (λ q. differ cc) (first isNamed (cond may next (Stop 14)) (Stop 12) (Goes i c d) (λ q. differ cc) e .1)
+        chosen may next (Stop 14) (λ q. differ cc) (chosen isNamed (cond may next (Stop 14)) (Stop 12) (λ q. differ cc) e .1)
 
     call-never : (j : ℕ) (c : Call) (d : Payload) → judgeCall m f k x ≡ Opens j c d → ⊥
     call-never j c d e =
-        let r = first may next (Stop 14) (Opens j c d) (λ q. differ cc) (first isNamed (cond may next (Stop 14)) (Stop 12) (Opens j c d) (λ q. differ cc) e .1) in
+        let r = chosen may next (Stop 14) (λ q. differ cc) (chosen isNamed (cond may next (Stop 14)) (Stop 12) (λ q. differ cc) e .1) in
         let q : next ≡ Opens j c d = r .1 in
         differ cc
 
@@ -130,8 +121,8 @@ module _ (T : Table) (f : Frame) (l : List Call) where
   judged-opens j c d e =
       let v = judgeInvoke T id foundMethod l in
       let o = judgeOther T f own l in
-      let r = first right (cond (eqb (f .kind) 1) v o) (Stop 8) (Opens j c d) (λ q. differ cc) e in
-      let s = first (eqb (f .kind) 1) v o (Opens j c d) (other-never own j c d) (r .1) in
+      let r = chosen right (cond (eqb (f .kind) 1) v o) (Stop 8) (λ q. differ cc) e in
+      let s = chosen (eqb (f .kind) 1) v o (other-never own j c d) (r .1) in
       invoke-opens foundMethod j c d refl (eqb-true (f .kind) 1 (s .0)) (s .1)
 
   pub judged-goes : (i : ℕ) (c : Call) (d : Payload) → judgeOf T f l ≡ Goes i c d → Going i c
@@ -139,6 +130,6 @@ module _ (T : Table) (f : Frame) (l : List Call) where
   judged-goes i c d e =
       let v = judgeInvoke T id foundMethod l in
       let o = judgeOther T f own l in
-      let r = first right (cond (eqb (f .kind) 1) v o) (Stop 8) (Goes i c d) (λ q. differ cc) e in
-      let s = second (eqb (f .kind) 1) v o (Goes i c d) (invoke-never foundMethod i c d) (r .1) in
+      let r = chosen right (cond (eqb (f .kind) 1) v o) (Stop 8) (λ q. differ cc) e in
+      let s = passed-over (eqb (f .kind) 1) v o (invoke-never foundMethod i c d) (r .1) in
       other-goes own i c d refl (eqb-false (f .kind) 1 (s .0)) (s .1)

@@ -20,7 +20,7 @@ use Rattle.calls.specs.Slots.{slot, formRow, goodTable}
 use Rattle.calls.specs.Judge.{judgeOf}
 use Rattle.calls.specs.Step.{endsCall, slotsAfter, stepOf, dueOf, receive}
 use Rattle.calls.specs.Good.{GoodCall, GoodTable}
-use Rattle.schema.proofs.Bools.{cases, clash, and-i, and-left, and-right, or-left, or-cases}
+use Rattle.schema.proofs.Bools.{cases, clash, and-i, and-left, and-right, or-left, or-cases, or-false}
 use Rattle.schema.proofs.Methods.{found-named}
 use Rattle.calls.proofs.Searches.{found-in, found-passes, none-passes, slot-same, slot-other, past-end}
 use Rattle.calls.proofs.Goodness.{good-clauses, good-test}
@@ -139,14 +139,10 @@ module _ (T : Table) (kind : ℕ) (c : Call) where
   pub after-cases : ((ends row kind c ≡ true) × (next ≡ emptyCall)) ⊎ ((complete row (marked kind c) ≡ false) × (next ≡ marked kind c))
   after-cases = go (ends row kind c) refl
     where
-      going : (a b : Bool) → (a || b) ≡ false → b ≡ false
-      going true b h = clash true refl h
-      going false b h = h
-
       go : (b : Bool) → ends row kind c ≡ b →
           ((b ≡ true) × (cond b emptyCall (marked kind c) ≡ emptyCall)) ⊎ ((complete row (marked kind c) ≡ false) × (cond b emptyCall (marked kind c) ≡ marked kind c))
       go true e = inl (refl, refl)
-      go false e = inr (going (leb 7 kind) (complete row (marked kind c)) e, refl)
+      go false e = inr (or-false (leb 7 kind) (complete row (marked kind c)) e .1, refl)
 
   good-after : GoodCall T c → allowed row kind c ≡ true → next .«open» ≡ true → GoodCall T next
   good-after g a o =

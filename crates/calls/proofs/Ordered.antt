@@ -1,7 +1,7 @@
 -- The order of a call's frames: the record's marks reflect the kinds accepted, and the step's answer is the one by them, frame by frame, over any run
 -- from the fresh table. Assumes nothing.
 use mathlib.Core.Path.{_≡_, refl, sym, _∙_, ap, subst}
-use mathlib.Core.Logic.{_⊎_, ⊎-elim}
+use mathlib.Core.Logic.{⊎-elim}
 use mathlib.Core.Bool.{Bool, true, false, not, cond, _&&_, _||_}
 use mathlib.Core.List.{List, [], _∷_}
 use Prim.Native.Nat.{ℕ, zero, suc, _<_, _≤_}
@@ -24,8 +24,7 @@ use Rattle.calls.specs.Step.{endsCall, receive}
 use Rattle.calls.specs.Good.{GoodTable}
 use Rattle.calls.specs.Apart.{Own, none, one, ownOf, full, Verdict, stop, goes, invokeVerdict, callVerdict, otherVerdict, verdictOf, verdictDue, verdictNumber, kept, verdictOwn}
 use Rattle.calls.specs.Order.{MayCome, inStream, inClose, outStream, outClose, response, error, cancel, whole, over, Past, closed, since, Heard, continued, accepted, after, pastOf, Answer, wrongSide, unknown, already, noRoom, opens as opensCall, notOpen, differ, notNow, goes as goesOn, Marks, Reflects, nothing, call, Sent, slotsOf, heardOf}
-use Rattle.schema.proofs.Bools.{cases, clash, and-left, and-right, or-cases}
-use Rattle.calls.proofs.Bools.{or-none, or-comm}
+use Rattle.schema.proofs.Bools.{cases, clash, and-left, and-right, or-cases, or-none, or-comm}
 use Rattle.calls.proofs.Letters.{by-letters}
 use Rattle.calls.proofs.Goodness.{fresh-good, good-clauses}
 use Rattle.calls.proofs.Kept.{stays-good}

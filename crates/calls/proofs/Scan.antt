@@ -11,10 +11,10 @@ use lib.Seq.{drop-cons, take-suc-set}
 use lib.Dec.{eqb}
 use Rattle.schema.specs.declared.Found.the-variants.{At, Missing}
 use Rattle.schema.specs.Table.{Table}
+use Rattle.schema.proofs.Bools.{or-assoc, or-none}
 use Rattle.calls.specs.declared.Call.{Call}
 use Rattle.calls.specs.Record.{emptyCall}
 use Rattle.calls.specs.Slots.{slot, firstSlot, goodCall, goodCalls, openIds, holds, distinct, goodTable}
-use Rattle.calls.proofs.Bools.{or-assoc, or-none}
 
 module _ {A : Type 0} (d : A) (l : List A) (i : ℕ) where
   pub rest-step : i < length l → drop i l ≡ getD l i d ∷ drop (i + 1) l

@@ -2,3 +2,4 @@
 pub mod Stores
 pub mod Bits
 pub mod Tables
+pub mod Held

@@ -15,13 +15,14 @@ use Rattle.wire.specs.declared.varuint.VarUInt.the-variants.{Number, Cut, Malfo
 use Rattle.wire.specs.Varuint.{front, varuint, Spelled}
 use Rattle.wire.proofs.Numbers.{little-one}
 use Rattle.wire.proofs.Varuints.{spelled-reads, read-spelled}
+use Rattle.wire.proofs.Cases.{chosen}
 use Rattle.frame.specs.declared.Header.{Header}
 use Rattle.frame.specs.declared.FrameRead.{FrameRead}
 use Rattle.frame.specs.declared.FrameRead.the-variants.{More, Frame, Refused}
 use Rattle.frame.specs.Frame.{whole, check, isMagic, knownKind, payloadOf, frameOf}
 use Rattle.frame.specs.Places.{numberAt, headerAt}
 use Rattle.frame.specs.IsFrame.{Holds, IsFrame, frame, Starts}
-use Rattle.frame.proofs.Tests.{chosen, known-bounds, bounds-known, magic-bytes}
+use Rattle.frame.proofs.Tests.{known-bounds, bounds-known, magic-bytes}
 use Rattle.frame.proofs.Places.{field, fromLength, fromFlags, fromKind, fromVersion, by-places}
 
 -- ---- every frame is read

@@ -3,7 +3,7 @@
 use mathlib.Core.Path.{_≡_, sym, ap, _∙_}
 use mathlib.Core.Logic.{_↔_}
 use mathlib.Core.List.{List, _++_, append-assoc}
-use Prim.Native.Nat.{ℕ, _+_, _-_, _^_, _≤_, _<_}
+use Prim.Native.Nat.{ℕ, _-_, _^_, _≤_, _<_}
 use native.Mathlib.Omega.{arith}
 use borrow.Author.Tests.{leb-true}
 use lib.Dec.{leb}
@@ -12,13 +12,14 @@ use Rattle.wire.specs.Little.{bytes}
 use Rattle.wire.specs.Varuint.{varuintBytes}
 use Rattle.wire.proofs.Numbers.{length-bytes, little-bytes}
 use Rattle.wire.proofs.Varuints.{shortest-spelled}
+use Rattle.wire.proofs.Cases.{chosen}
 use Rattle.frame.specs.declared.Header.{Header}
 use Rattle.frame.specs.declared.FrameRead.the-variants.{Frame}
 use Rattle.frame.specs.declared.FrameWritten.the-variants.{Written, Refused}
 use Rattle.frame.specs.Frame.{knownKind, frameOf}
 use Rattle.frame.specs.Written.{frontBytes, frameBytes, writtenOf, outputOf}
 use Rattle.frame.specs.IsFrame.{Holds, IsFrame, frame, Fits}
-use Rattle.frame.proofs.Tests.{chosen, known-bounds, bounds-known}
+use Rattle.frame.proofs.Tests.{known-bounds, bounds-known}
 use Rattle.frame.proofs.Writes.{length-frame, fitting}
 use Rattle.frame.proofs.Theorems.{starts, payload-there, frame-read}
 

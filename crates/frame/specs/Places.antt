@@ -1,10 +1,12 @@
--- The header by the places of its fields, as the code finds it.
+-- The header by the places of its fields, as the code finds it, and what the code makes of its judgement.
 -- Assumes nothing.
-use Prim.Native.Nat.{ℕ}
+use Prim.Native.Nat.{ℕ, zero, suc}
 use mathlib.Core.List.{List}
 use lib.ListN.{take, drop}
 use Rattle.wire.specs.Little.{little}
 use Rattle.frame.specs.declared.Header.{Header}
+use Rattle.frame.specs.declared.FrameRead.{FrameRead}
+use Rattle.frame.specs.declared.FrameRead.the-variants.{More, Refused}
 
 -- the number in the n bytes from at on
 abbrev pub numberAt : List ℕ → ℕ → ℕ → ℕ
@@ -19,3 +21,9 @@ headerAt s =
       method = numberAt s 13 4;
       correlation = numberAt s 17 8;
     }
+
+-- the answer where the header was judged: 0 leaves it to what follows, 1 asks for more bytes, and any other number refuses
+abbrev pub judged : ℕ → FrameRead → FrameRead
+judged zero next = next
+judged (suc zero) next = More
+judged (suc (suc n)) next = Refused (suc (suc n))

@@ -1,6 +1,6 @@
 // Frames: the reader, which judges a field once it is whole, and the writer.
-use wire::little::number;
 use wire::little::store;
+use wire::little::u32_at;
 use wire::varuint::VarUInt;
 ghost use mathlib.Core.Path.{_≡_};
 ghost use mathlib.Core.List.{[], _∷_};
@@ -9,7 +9,7 @@ ghost use lib.ListN.{length};
 ghost use Rattle.wire.specs.Little.{written};
 ghost use Rattle.wire.specs.Varuint.{varuint, varuintBytes};
 ghost use Rattle.frame.specs.Frame.{knownKind, payloadOf, frameOf};
-ghost use Rattle.frame.specs.Places.{numberAt, headerAt};
+ghost use Rattle.frame.specs.Places.{numberAt, headerAt, judged};
 ghost use Rattle.frame.specs.Written.{frontBytes, writtenOf, outputOf};
 
 // A frame's header. The kind of a frame that was read is 1 to 8; the writer may be handed any number.
@@ -61,7 +61,15 @@ fn word(s: &[u8], at: usize) -> u32
     requires { ⌜ at + 4 ≤ length (now s) ⌝ }
     ensures { λ r. ⌜ r ≡ numberAt (now (s .entry)) at 4 ⌝ }
 {
-    number(s, at, 4) as u32
+    u32_at(s, at)
+}
+
+// The little-endian number of eight bytes, from its halves.
+fn long(s: &[u8], at: usize) -> u64
+    requires { ⌜ at + 8 ≤ length (now s) ⌝ }
+    ensures { λ r. ⌜ r ≡ numberAt (now (s .entry)) at 8 ⌝ }
+{
+    word(s, at) as u64 + 0x1_0000_0000 * (word(s, at + 4) as u64)
 }
 
 // The header, from the fields' places.
@@ -74,7 +82,7 @@ fn header_at(s: &[u8]) -> Header
         package: word(s, 5),
         service: word(s, 9),
         method: word(s, 13),
-        correlation: number(s, 17, 8),
+        correlation: long(s, 17),
     }
 }
 
@@ -103,39 +111,54 @@ fn read_payload(s: &[u8]) -> FrameRead
     }
 }
 
-// Reads the frame at the front of the bytes. A field is judged once it is whole; bytes after the frame are not looked at.
-pub fn read_frame(bytes: &[u8]) -> FrameRead
-    ensures { λ r. ⌜ r ≡ frameOf (now (bytes .entry)) ⌝ }
+// What the header says as far as it is there, each field judged once it is whole: a refusal's number, 1 where more bytes are needed,
+// and 0 where the header is whole and right.
+fn judge_header(bytes: &[u8]) -> u32
+    ensures { λ r. ⌜ (judged r (payloadOf (length (now (bytes .entry))) (headerAt (now (bytes .entry))) (varuint (now (bytes .entry)) 25)) ≡ frameOf (now (bytes .entry))) × (r ≡ 0 → 25 ≤ length (now (bytes .entry))) ⌝ }
 {
     let n = bytes.len();
     if n < 2 {
-        return FrameRead::More;
+        return 1;
     }
     if !((bytes[0] == 0xAF) & (bytes[1] == 0x01)) {
-        return FrameRead::Refused(2);
+        return 2;
     }
     if n < 3 {
-        return FrameRead::More;
+        return 1;
     }
     if byte(bytes, 2) != 1 {
-        return FrameRead::Refused(3);
+        return 3;
     }
     if n < 4 {
-        return FrameRead::More;
+        return 1;
     }
     if !known_kind(byte(bytes, 3)) {
-        return FrameRead::Refused(4);
+        return 4;
     }
     if n < 5 {
-        return FrameRead::More;
+        return 1;
     }
     if byte(bytes, 4) != 0 {
-        return FrameRead::Refused(5);
+        return 5;
     }
     if n < 25 {
+        return 1;
+    }
+    0
+}
+
+// Reads the frame at the front of the bytes. Bytes after the frame are not looked at.
+pub fn read_frame(bytes: &[u8]) -> FrameRead
+    ensures { λ r. ⌜ r ≡ frameOf (now (bytes .entry)) ⌝ }
+{
+    let number = judge_header(bytes);
+    if number == 0 {
+        return read_payload(bytes);
+    }
+    if number == 1 {
         return FrameRead::More;
     }
-    read_payload(bytes)
+    FrameRead::Refused(number)
 }
 
 // The bytes of src into d from at on.

@@ -1,11 +1,11 @@
 -- What each answer tells: bytes used by its number, the calls open, what a refusal and an ERROR leave, and that bytes after the frame change nothing.
 -- Assumes nothing.
 use mathlib.Core.Path.{_≡_, refl, sym, ap, _∙_}
-use mathlib.Core.Bool.{Bool, true, false, cond}
+use mathlib.Core.Bool.{Bool, true, false, cond, _&&_, _||_}
 use mathlib.Core.List.{List, _++_}
 use Prim.Native.Nat.{ℕ, _+_, _≤_}
 use native.Mathlib.Omega.{arith}
-use lib.Dec.{eqb}
+use lib.Dec.{eqb, leb}
 use lib.ListN.{length, take, drop, length-drop}
 use lib.Seq.{take-append-le, drop-append-le}
 use borrow.Author.Tests.{ne-eqb, le-leb, lt-leb}
@@ -29,7 +29,7 @@ use Rattle.calls.specs.Slots.{countOpen}
 use Rattle.calls.specs.Judge.{rightSide, payloadOf, judgeOf}
 use Rattle.calls.specs.Step.{stepOf, dueOf}
 use Rattle.calls.specs.Apart.{Own, none, one, ownOf, full, stop, goes, invokeVerdict, otherVerdict, verdictOf, verdictDue}
-use Rattle.calls.proofs.Apart.{judged-by}
+use Rattle.calls.proofs.Apart.{judged-by, due-by}
 use Rattle.value.specs.declared.Row.{Row}
 use Rattle.reader.specs.Entry.{Outcome}
 use Rattle.line.specs.Answer.{Line, line, stopped, payloadRead, usesFrame, usedOf, answered}
@@ -37,15 +37,24 @@ use Rattle.line.specs.Receive.{frameFrom, frameLine, bytesLine, received
 use Rattle.line.specs.Claims.{Front, Shows, Nothing}
 use Rattle.line.proofs.Ways.{Early, schema, calls, frame, Way, stops, judges, ways}
 use Rattle.line.proofs.Payloads.{Untouched, refused-read, unread}
-use Rattle.line.proofs.Apart.{due-by, same-answer}
+use Rattle.line.proofs.Apart.{same-answer}
 
 -- ---- bytes used
 
 early-unused : {n q : ℕ} → Early n q → usesFrame n ≡ false
 early-unused calls = refl
 early-unused (schema {n} low high e) =
-    rw (ne-eqb n 0 (λ z. omega arith), le-leb 8 n (omega arith), lt-leb n 14 (omega arith), le-leb 20 n (omega arith), lt-leb n 29 (omega arith))
-early-unused (frame {n} low high) = rw (ne-eqb n 0 (λ z. omega arith), lt-leb 8 n (omega arith), lt-leb 20 n (omega arith))
+    let zero : eqb n 0 ≡ false = ne-eqb n 0 (λ z. omega arith) in
+    let from8 : leb 8 n ≡ true = le-leb 8 n (omega arith) in
+    let past14 : leb n 14 ≡ false = lt-leb n 14 (omega arith) in
+    let from20 : leb 20 n ≡ true = le-leb 20 n (omega arith) in
+    let past29 : leb n 29 ≡ false = lt-leb n 29 (omega arith) in
+    λ i. (zero i) || (((from8 i) && (past14 i)) || ((from20 i) && (past29 i)))
+early-unused (frame {n} low high) =
+    let zero : eqb n 0 ≡ false = ne-eqb n 0 (λ z. omega arith) in
+    let before8 : leb 8 n ≡ false = lt-leb 8 n (omega arith) in
+    let before20 : leb 20 n ≡ false = lt-leb 20 n (omega arith) in
+    λ i. (zero i) || (((before8 i) && leb n 14) || ((before20 i) && leb n 29))
 
 stop-used : (l : List Call) {n q : ℕ} (size : ℕ) → Early n q → stopped l n q .used ≡ usedOf (stopped l n q .number) size
 unfolding stopped

@@ -48,12 +48,6 @@ reply-by size r l (Stop n) = refl
 reply-by size r l (Opens j c d) = refl
 reply-by size r l (Goes i c d) = refl
 
--- what the payload holds, by the judgement without a slot
-pub due-by : (J : Judged) → dueOf J ≡ verdictDue (verdict J)
-due-by (Stop n) = refl
-due-by (Opens j c d) = refl
-due-by (Goes i c d) = refl
-
 module _ (sheet₁ sheet₂ : List ℕ) (l₁ l₂ : List Call) where
   stop-same : (n q : ℕ) → SameAnswer sheet₁ sheet₂ (line (stopped l₁ n q) sheet₁) (line (stopped l₂ n q) sheet₂)
   unfolding stopped
@@ -83,7 +77,7 @@ module _ (sheet₁ sheet₂ : List ℕ) (l₁ l₂ : List Call) where
         let J₁ = judgeOf (tableOf s) f l₁ in
         let J₂ = judgeOf (tableOf s) f l₂ in
         let e = calls.same-judgement (tableOf s) f (λ _. 0) l₁ l₂ own slots in
-        let due = due-by J₁ ∙ ap verdictDue e ∙ sym (due-by J₂) in
+        let due = calls.due-by J₁ ∙ ap verdictDue e ∙ sym (calls.due-by J₂) in
         answered-same size J₁ J₂ (payloadRead s (dueOf J₁) payload sheet₁) (payloadRead s (dueOf J₂) payload sheet₂) e
         (rw due (both-read s payload sheet₁ sheet₂ space (dueOf J₂)))
 

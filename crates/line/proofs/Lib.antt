@@ -5,7 +5,6 @@ pub mod Kept
 pub mod Apart
 pub mod Records
 pub mod Answers
-pub mod Numbers
 pub mod Listed
 pub mod Runs
 pub mod Values

@@ -11,7 +11,7 @@ use borrow.Author.Tests.{eqb-true, eqb-false, ne-eqb, leb-true}
 use Rattle.schema.specs.declared.Found.the-variants.{At, Missing}
 use Rattle.schema.specs.Table.{Table}
 use Rattle.schema.specs.File.{tableOf}
-use Rattle.schema.proofs.Bools.{cases, clash, and-left, and-right}
+use Rattle.schema.proofs.Bools.{cases, clash, and-left, and-right, is-false}
 use Rattle.calls.specs.declared.Call.{Call}
 use Rattle.calls.specs.declared.Frame.{Frame}
 use Rattle.calls.specs.declared.Payload.{Payload}
@@ -22,7 +22,6 @@ use Rattle.calls.specs.Slots.{slot}
 use Rattle.calls.specs.Judge.{judgeOf}
 use Rattle.calls.specs.Step.{numberOf, endsCall, slotsAfter, stepOf, dueOf, receive}
 use Rattle.calls.specs.Apart.{Own, none, ownOf, full, Verdict, stop, opens, goes, verdictOf, verdictDue, verdictNumber, verdictOwn, touched, Freed}
-use Rattle.calls.proofs.Bools.{is-false}
 use Rattle.calls.proofs.Goodness.{good-clauses}
 use Rattle.calls.proofs.Searches.{found-passes}
 use Rattle.calls.proofs.Judgement.{judged-goes}

@@ -1,2 +1,4 @@
 pub mod Tables
 pub mod Presence
+pub mod Items
+pub mod Walks

@@ -1,9 +1,9 @@
 -- Laws of a struct's presence bits: the test for required fields, the fields present, and how many bits are set.
 -- Assumes nothing.
-use mathlib.Core.Path.{_≡_, refl, sym, ap, _∙_}
+use mathlib.Core.Path.{_≡_, sym, ap, _∙_}
 use mathlib.Core.Bool.{Bool, true, false, not, _&&_, _||_}
 use mathlib.Core.List.{List, [], _∷_}
-use Prim.Native.Nat.{ℕ, zero, suc, _+_, _-_, _*_, _/_, _%_, _^_, _≤_, _<_}
+use Prim.Native.Nat.{ℕ, suc, _+_, _-_, _*_, _/_, _%_, _^_, _≤_, _<_}
 use native.Mathlib.Nat.{mod-eq-of-lt, div-eq-of-lt, le-refl, div-lt-iff-lt-mul}
 use native.Mathlib.Numerals.{add-one}
 use native.Mathlib.Omega.{arith}
@@ -21,7 +21,7 @@ use Rattle.schema.specs.declared.Field.{Field}
 use Rattle.schema.specs.Table.{Table, bitmapBytes}
 use Rattle.schema.specs.Check.{noField, field}
 use Rattle.value.specs.Read.{plainItem, present, complete, knownBits, unknownBits}
-use Rattle.value.proofs.Bits.{length-present, present-mod, none-set}
+use Rattle.value.proofs.Bits.{length-present, present-mod, ones-none, none-set}
 use Rattle.parts.specs.Shape.{fieldsFrom}
 
 -- ---- the fields of a struct, one after the other
@@ -79,11 +79,6 @@ module _ (T : Table) (i left : ℕ) (some : 0 < left) (room : i + left ≤ lengt
       rw (complete-more T i left some room bits f is, not-false (eqb (f .optional) 1 || eqb (bits % 2) 1) t) at inv
 
 -- ---- counts of bits
-
-ones-none : (k : ℕ) → onesIn k 0 ≡ 0
-unfolding onesIn
-ones-none zero = refl
-ones-none (suc k) = omega (arith, ones-none k)
 
 -- no bit from n on is set exactly where the word is below 2 ^ n
 none-above : (k n m : ℕ) → m < 2 ^ (k + n) → ltb m (2 ^ n) ≡ eqb (onesIn k (m / 2 ^ n)) 0

@@ -25,7 +25,7 @@ use Rattle.value.specs.Read.{refusal, accepted, read}
 use Rattle.value.specs.Sheet.{rowsOf}
 use Rattle.value.specs.Spell.{RootSpells}
 use Rattle.value.specs.Fits.{Shows}
-use Rattle.value.specs.Added.{without, inner, firstAdded}
+use Rattle.value.specs.Added.{without, inner, firstAdded, NoneAdded}
 use Rattle.value.specs.Claims.{ByOld}
 use Rattle.value.proofs.Statements as value
 use Rattle.reader.specs.declared.Reading.the-variants.{Shown}
@@ -113,26 +113,30 @@ module _ (old new : List ℕ) (yes : extension old new ≡ Yes) where
           subst (λ (z : List ℕ). RootSpells (shapes new) (fs ++ gs) v bs z) (empty tail bare) (subst (λ (l : List Field). RootSpells (shapes new) l v bs tail) same q) in
           (v, shows′, subst (λ (p : List ℕ). NewByOld old new ty fs gs p sheet v) (sym t) (new-by-old bs sheet v q′ short))
 
-      -- A payload that the old reader accepts without a tail, so without unknown bits: the new reader gives the same answer and the same sheet, and what
-      -- its rows show by the old table they show by the new one.
-      pub old-by-new : (payload sheet : List ℕ) (k place : ℕ) (after : List ℕ) → readOutcome old ty payload sheet ≡ outcome (Shown k place 0) after
+      -- A payload that the old reader accepts, with no added field's bit set: the new reader gives the same answer, with the same tail, and the same
+      -- sheet, and what its rows show by the old table they show by the new one.
+      pub old-by-new : (payload sheet : List ℕ) (k place n : ℕ) (after : List ℕ) → readOutcome old ty payload sheet ≡ outcome (Shown k place n) after
+          → NoneAdded fs gs payload
           → (readOutcome new ty payload sheet ≡ readOutcome old ty payload sheet)
           × ((v : Value) → Shows (shapes old) payload ty fs (firstRows k after) v → Shows (shapes new) payload ty (fs ++ gs) (firstRows k after) v)
-      old-by-new payload sheet k place after e =
-          let (rs, a, k-is, after-is) = shown-from old ty payload sheet (goods .0) k place 0 after e in
-          let (hs, u, is, shows, _) = accepted-shows old ty payload sheet (goods .0) rs place 0 a in
-          let (_, _, _, _, _, ends) = value.accepted-iff-spelled (tableOf old) (good-table old (goods .0)) ty hs is payload (room sheet) u place 0 .0 (rs, a, shows) in
-          let end : place ≡ length payload = omega (arith, ends) in
-          let a′ : read (tableOf old) ty payload (room sheet) ≡ accepted rs (length payload) 0 = a ∙ ap (λ (p : ℕ). accepted rs p 0) end in
-          let (b, (w, s, s′)) = value.old-by-new (tableOf old) (tableOf new) (good-table old (goods .0)) (good-table new (goods .1)) extends ty fs st gs st′ payload (room sheet) rs a′ in
+      old-by-new payload sheet k place n after e bare =
+          let (rs, a, k-is, after-is) = shown-from old ty payload sheet (goods .0) k place n after e in
+          let (b, (w, s, s′)) = value.old-by-new (tableOf old) (tableOf new) (good-table old (goods .0)) (good-table new (goods .1)) extends ty fs st gs st′ payload (room sheet) rs place n a bare in
           let same : firstRows k after ≡ rs = rows-back sheet rs k after k-is after-is in (
-            read-by new ty payload sheet (goods .1) ∙ ap (outcomeOf sheet) (b ∙ sym a′) ∙ sym (read-by old ty payload sheet (goods .0)),
+            read-by new ty payload sheet (goods .1) ∙ ap (outcomeOf sheet) (b ∙ sym a) ∙ sym (read-by old ty payload sheet (goods .0)),
             λ v q.
                 let q′ : Shows (shapes old) payload ty fs rs v = subst (λ (l : List Row). Shows (shapes old) payload ty fs l v) same q in
                 let once : w ≡ v = value.told-once (tableOf old) (good-table old (goods .0)) ty fs st payload payload w v rs rs s q′ refl in
                 let n : Shows (shapes new) payload ty (fs ++ gs) rs v = subst (λ (x : Value). Shows (shapes new) payload ty (fs ++ gs) rs x) once s′ in
                 subst (λ (l : List Row). Shows (shapes new) payload ty (fs ++ gs) l v) (sym same) n,
           )
+
+      -- None is set where the old reader has no tail.
+      pub none-added : (payload sheet : List ℕ) (k place : ℕ) (after : List ℕ) → readOutcome old ty payload sheet ≡ outcome (Shown k place 0) after
+          → NoneAdded fs gs payload
+      none-added payload sheet k place after e =
+          let (rs, a, _, _) = shown-from old ty payload sheet (goods .0) k place 0 after e in
+          value.none-added (tableOf old) (tableOf new) (good-table old (goods .0)) (good-table new (goods .1)) extends ty fs st gs st′ payload (room sheet) rs place a
 
       -- What the writer by the old table writes is such a payload: with rows enough both readers show the value of its sheet, with no tail.
       pub written-by-old : (cells B out : List ℕ) (n : ℕ) (out′ : List ℕ) → fileOutcome old ty cells B out ≡ writer.outcome (Written n) out′
@@ -146,5 +150,5 @@ module _ (old new : List ℕ) (yes : extension old new ≡ Yes) where
           let shows′ : Shows (shapes old) B ty fs (rowsOf cells) v = subst (λ (l : List Field). Shows (shapes old) B ty l (rowsOf cells) v) same shows in
           let r′ : ReadsAs old ty fs (take n out′) sheet v n 0 = subst (λ (l : List Field). ReadsAs old ty l (take n out′) sheet v n 0) same r in
           let (after, o, q, l, d) = r′ in
-          let (equal, shown) = old-by-new (take n out′) sheet (size v) n after o in
+          let (equal, shown) = old-by-new (take n out′) sheet (size v) n 0 after o (none-added (take n out′) sheet (size v) n after o) in
           (v, shows′, r′, (after, equal ∙ o, shown v q, l, d))

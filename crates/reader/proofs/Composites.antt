@@ -18,6 +18,7 @@ use Rattle.value.specs.Read.{Item, plainItem, pairs, present, parts, count, bit
 use Rattle.value.proofs.Answers.{accepted-first}
 use Rattle.parts.specs.Shape.{fieldsFrom}
 use Rattle.parts.proofs.Presence.{present-set, present-clear}
+use Rattle.parts.proofs.Items.{keyItem, item-accepted, key-accepted, key-known, elements-some, pairs-some}
 use Rattle.reader.specs.declared.leaf.Count.{Count}
 use Rattle.reader.specs.declared.leaf.Count.the-variants.{Is, Not}
 use Rattle.reader.specs.declared.leaf.Head.{Head}
@@ -27,7 +28,7 @@ use Rattle.reader.specs.Sheet.{putRow}
 use Rattle.reader.specs.Leaf.{part, countOf, CountIn, Counted, headOf, HeadIn, Headed, keysIn}
 use Rattle.reader.specs.Walk.{Final, done, stopped, walkOf, Walked}
 use Rattle.reader.proofs.Keys.{keys-more}
-use Rattle.reader.proofs.Steps.{keyItem, spanRow, walk-length, item-past, item-stop, item-accepted, key-accepted, key-stop, key-again, key-new, key-known, accepted-along, parse-refused, parse-whole, own-accepted}
+use Rattle.reader.proofs.Steps.{spanRow, walk-length, item-past, item-stop, key-stop, key-again, key-new, accepted-along, parse-refused, parse-whole, own-accepted}
 
 -- ---- heads
 
@@ -99,13 +100,6 @@ module _ (S : ℕ → Shape) (d t : ℕ) (p : List ℕ) (at : ℕ) where
 
 -- ---- elements of an array
 
-module _ (e : ℕ) where
-  pub elements-some : (left : ℕ) → 0 < left → replicate left (plainItem e) ≡ plainItem e ∷ replicate (left - 1) (plainItem e)
-  elements-some left h = let q : left ≡ suc (left - 1) = omega arith in ap (λ (k : ℕ). replicate k (plainItem e)) q
-
-  pub elements-none : (left : ℕ) → left ≤ 0 → replicate left (plainItem e) ≡ []
-  elements-none left h = let q : left ≡ 0 = omega arith in rw q
-
 module _ (P : ℕ → Reader Tree) (e left : ℕ) (some : 0 < left) (c : Cursor) (row : ℕ) (l : List ℕ) where
   pub element-past : (c′ : Cursor) (row′ : ℕ) (m : List ℕ) → done c′ row′ m ≡ walkOf rows (P e c) row l
       → walkOf rowsAll (walk P [] (replicate left (plainItem e)) c) row l ≡ walkOf rowsAll (walk P [] (replicate (left - 1) (plainItem e)) c′) row′ m
@@ -172,12 +166,6 @@ module _ (P : ℕ → Reader Tree) (p : List ℕ) (T : Table) (i left bits here 
 
 -- ---- pairs of a map
 
-pub pairs-some : (k v left : ℕ) → 0 < left → pairs left k v ≡ keyItem k ∷ (plainItem v ∷ pairs (left - 1) k v)
-pairs-some k v left h = let q : left ≡ suc (left - 1) = omega arith in ap (λ (j : ℕ). pairs j k v) q
-
-pub pairs-none : (k v left : ℕ) → left ≤ 0 → pairs left k v ≡ []
-pairs-none k v left h = let q : left ≡ 0 = omega arith in rw q
-
 module _ (P : ℕ → Reader Tree) (p : List ℕ) (k v n i : ℕ) (keys : List (List ℕ)) (here : ℕ) (some : i < n) where
   split : pairs (n - i) k v ≡ keyItem k ∷ (plainItem v ∷ pairs (n - i - 1) k v)
   split = pairs-some k v (n - i) (omega arith)
@@ -192,7 +180,7 @@ module _ (P : ℕ → Reader Tree) (p : List ℕ) (k v n i : ℕ) (keys : List (
   module _ (from to : ℕ) (read : P k (cursorAt p here) ≡ seen (tip (spanRow k from to) (part p from to)) (cursorAt p to)) where
     pub pair-known : Accepted (walk P keys (pairs (n - i) k v) (cursorAt p here)) → among (part p from to) keys ≡ false
     pair-known h =
-        key-known P keys (plainItem v ∷ pairs (n - i - 1) k v) k (cursorAt p here) (spanRow k from to) (part p from to) (cursorAt p to) read (rw split at h)
+        key-known P keys (plainItem v ∷ pairs (n - i - 1) k v) k (cursorAt p here) (spanRow k from to) (part p from to) (cursorAt p to) read (rw split at h) .0
 
     pub pair-again : (below : ℕ) (l : List ℕ) → among (part p from to) keys ≡ true
         → stopped 24 here ≡ walkOf rowsAll (walk P keys (pairs (n - i) k v) (cursorAt p here)) below l
@@ -242,14 +230,3 @@ pairs-again P p k v n i from to starts ends c row l o ls le h =
 pub emptied : (P : ℕ → Reader Tree) (keys : List (List ℕ)) (is : List Item) (c : Cursor) (row : ℕ) (l : List ℕ) (o : Final)
     → is ≡ [] → walkOf rowsAll (walk P keys is c) row l ≡ o → walkOf rowsAll (walk P keys [] c) row l ≡ o
 emptied P keys is c row l o e h = rw e at h
-
--- ---- depth
-
-pub deeper : (X : ℕ → Type 0) (d : ℕ) → (d ≡ 0 → ⊥) → X d → X (suc (d - 1))
-deeper X d h x = let e : suc (d - 1) ≡ d = omega (arith, h) in rw e x
-
-pub shallower : (X : ℕ → Type 0) (d : ℕ) → (d ≡ 0 → ⊥) → X (suc (d - 1)) → X d
-shallower X d h x = let e : suc (d - 1) ≡ d = omega (arith, h) in rw e at x
-
-pub deep : (d : ℕ) → (d ≡ 0 → ⊥) → d ≡ suc (d - 1)
-deep d h = omega (arith, h)

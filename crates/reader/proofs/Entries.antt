@@ -1,25 +1,23 @@
 -- Laws of the entries: what each of their returns shows.
 -- Assumes nothing.
-use mathlib.Core.Path.{_≡_, refl, _∙_}
-use mathlib.Core.List.{List, [], _∷_, _++_}
+use mathlib.Core.Path.{_≡_}
+use mathlib.Core.List.{List, [], _++_}
 use Prim.Native.Nat.{ℕ, _+_, _-_, _/_, _≤_, _<_}
 use native.Mathlib.Omega.{arith}
-use native.Mathlib.Decide.{decLt, ℕ-discrete}
 use borrow.Author.Tests.{le-leb, lt-leb}
 use lib.ListN.{length, length-drop}
 use Rattle.schema.specs.declared.TypeRow.{TypeRow}
-use Rattle.schema.specs.declared.Field.{Field}
 use Rattle.schema.specs.declared.Checked.{Checked}
 use Rattle.schema.specs.declared.Checked.the-variants.{Good, Refused as Faulty}
-use Rattle.schema.specs.Table.{Table, Shape, unknown, scalar, text, array, map, struct, rowAt, shape}
+use Rattle.schema.specs.Table.{rowAt}
 use Rattle.schema.specs.File.{tableOf}
-use Rattle.schema.specs.Check.{checked}
+use Rattle.schema.specs.Check.{checked, IsGood}
 use Rattle.value.specs.Answer.{Answer, refused, seen, cursorAt, Accepted}
 use Rattle.value.specs.Value.{Tree, rows}
 use Rattle.value.specs.Read as value
-use Rattle.value.specs.Read.{onStruct}
 use Rattle.parts.specs.Shape.{fieldsFrom}
-use Rattle.parts.proofs.Tables.{leaf-scalar, leaf-text, shape-array, shape-map, shape-struct, shape-none, shape-past, shape-leaf}
+use Rattle.parts.proofs.Tables.{shape-struct, no-struct}
+use Rattle.parts.proofs.Walks.{nothing-before}
 use Rattle.reader.specs.declared.Reading.the-variants.{Shown, Refused}
 use Rattle.reader.specs.declared.walk.Walk.{Walk}
 use Rattle.reader.specs.declared.walk.Walk.the-variants.{Past, Refused as Stop}
@@ -28,40 +26,12 @@ use Rattle.reader.specs.Walk.{done, stopped, walkOf, endOf, rootIn, Walk
 use Rattle.reader.specs.Entry.{outcome, outcomeOf, room, payloadOutcome, readOutcome}
 use Rattle.reader.proofs.Sheets.{rows-shown}
 
--- a part of no cells comes back with no cells
-back : (k l : List ℕ) → length k ≡ 0 → k ++ l ≡ l
-back [] l h = refl
-back (x ∷ k) l h = absurd (omega arith)
-
--- ---- a type that is no struct
-
-on-shape : {A : Type 0} (s s′ : Shape) (x : A) (f : List Field → A) → s ≡ s′ → onStruct s′ x f ≡ x → onStruct s x f ≡ x
-on-shape s s′ x f e h = rw e h
-
-no-struct : {A : Type 0} (T : Table) (t : ℕ) (r : TypeRow) → r ≡ rowAt T t → (r .kind ≡ 16 → ⊥) → (x : A) (f : List Field → A) → onStruct (shape T t) x f ≡ x
-no-struct T t r is h x f = elim (decLt (r .kind) 14) [
-  | yes l ↦ elim (decLt 0 (r .kind)) [
-    | yes z ↦ elim (decLt (r .kind) 12) [
-      | yes k ↦ on-shape _ (scalar (r .kind)) x f (shape-leaf T t r is z l ∙ leaf-scalar (r .kind) k) refl
-      | no k ↦ on-shape _ (text (r .kind)) x f (shape-leaf T t r is z l ∙ leaf-text (r .kind) (omega arith)) refl
-    ]
-    | no z ↦ on-shape _ unknown x f (shape-none T t r is (omega arith)) refl
-  ]
-  | no l ↦ elim (ℕ-discrete (r .kind) 14) [
-    | yes a ↦ on-shape _ (array (r .a)) x f (shape-array T t r is a) refl
-    | no a ↦ elim (ℕ-discrete (r .kind) 15) [
-      | yes m ↦ on-shape _ (map (r .a) (r .b)) x f (shape-map T t r is m) refl
-      | no m ↦ on-shape _ unknown x f (shape-past T t r is (omega (arith, a, m, h))) refl
-    ]
-  ]
-]
-
 -- ---- a payload
 
 module _ (s : List ℕ) (ty : ℕ) (p sheet : List ℕ) (r : TypeRow) (is : r ≡ rowAt (tableOf s) ty) where
-  pub entry-type : (r .kind ≡ 16 → ⊥) → outcome (Refused 46 0) sheet ≡ payloadOutcome s ty p sheet
+  pub entry-type : IsGood s → (r .kind ≡ 16 → ⊥) → outcome (Refused 46 0) sheet ≡ payloadOutcome s ty p sheet
   unfolding payloadOutcome value.read
-  entry-type k = rw (no-struct (tableOf s) ty r is k)
+  entry-type good k = rw (no-struct s good ty r is k)
 
   module _ (k : r .kind ≡ 16) where
     pub entry-long : 16384 < length p → outcome (Refused 7 0) sheet ≡ payloadOutcome s ty p sheet
@@ -102,7 +72,7 @@ module _ (s : List ℕ) (ty : ℕ) (p sheet : List ℕ) (r : TypeRow) (is : r �
         pub entry-refused : (n q : ℕ)
             → Walked p 1 rows (rootIn s p ty (fieldsFrom (tableOf s) (r .a) (r .b))) 0 [] (Stop n q) m
             → outcome (Refused n q) (m ++ sheet) ≡ payloadOutcome s ty p sheet
-        entry-refused n q w = rw (back m sheet none, ← entry-root) (stop (rootIn s p ty (fieldsFrom (tableOf s) (r .a) (r .b))) n q (w .same))
+        entry-refused n q w = rw (nothing-before m sheet none, ← entry-root) (stop (rootIn s p ty (fieldsFrom (tableOf s) (r .a) (r .b))) n q (w .same))
 
         module _ (next row : ℕ)
             (w : Walked p 1 rows (rootIn s p ty (fieldsFrom (tableOf s) (r .a) (r .b))) 0 [] (Past next row) m) where
@@ -115,14 +85,14 @@ module _ (s : List ℕ) (ty : ℕ) (p sheet : List ℕ) (r : TypeRow) (is : r �
               go (refused n q) e = let z : _≡_ {A = ℕ} 0 1 = cc in absurd (omega arith)
 
           pub entry-full : length (m ++ sheet) / 4 < row → outcome (Refused 30 0) (m ++ sheet) ≡ payloadOutcome s ty p sheet
-          entry-full h = rw (back m sheet none, ← entry-root) (full (rootIn s p ty (fieldsFrom (tableOf s) (r .a) (r .b))) next row (w .same) (rw (back m sheet none) at h))
+          entry-full h = rw (nothing-before m sheet none, ← entry-root) (full (rootIn s p ty (fieldsFrom (tableOf s) (r .a) (r .b))) next row (w .same) (rw (nothing-before m sheet none) at h))
 
           pub entry-shown : (v : Walk) (after : List ℕ) → row ≤ length (m ++ sheet) / 4
               → Walked p 1 rows (rootIn s p ty (fieldsFrom (tableOf s) (r .a) (r .b))) 0 (m ++ sheet) v after
               → outcome (Shown row next (length p - next)) after ≡ payloadOutcome s ty p sheet
           entry-shown v after h again =
               rw (← entry-root)
-              (shown (rootIn s p ty (fieldsFrom (tableOf s) (r .a) (r .b))) next row v after (w .same) (rw (back m sheet none) at h) (rw (back m sheet none) at (again .same)))
+              (shown (rootIn s p ty (fieldsFrom (tableOf s) (r .a) (r .b))) next row v after (w .same) (rw (nothing-before m sheet none) at h) (rw (nothing-before m sheet none) at (again .same)))
 
 -- ---- any table
 

@@ -3,17 +3,16 @@
 use mathlib.Core.Path.{_≡_, refl, sym, ap, _∙_}
 use mathlib.Core.Logic.{⊎-elim}
 use mathlib.Core.List.{List, [], _∷_}
-use mathlib.Core.Bool.{Bool, true, false, _&&_, _||_}
+use mathlib.Core.Bool.{Bool, true, false, _||_}
 use Prim.Native.Nat.{ℕ, zero, suc, _+_, _-_, _≤_, _<_}
 use native.Mathlib.Omega.{arith}
 use native.Mathlib.Numerals.{add-one}
 use native.Mathlib.Nat.{eq-or-lt-of-le}
-use borrow.Author.Tests.{eq-eqb, ne-eqb, eqb-true}
-use lib.Dec.{eqb}
+use borrow.Author.Tests.{eq-eqb, ne-eqb}
 use lib.ListN.{length, getD, drop, set}
 use lib.Seq.{drop-cons, getD-set-same, getD-set-other, getD-take, getD-drop}
-use Rattle.schema.proofs.Bools.{and-left, and-right}
 use Rattle.value.specs.Read.{same, among}
+use Rattle.value.proofs.Keys.{same-not, lengths-differ}
 use Rattle.reader.specs.Leaf.{part, keysIn, Spans}
 use Rattle.reader.proofs.Leaves.{length-part}
 
@@ -29,44 +28,21 @@ module _ (p : List ℕ) where
   key-none : (x e : ℕ) → e ≤ x → part p x e ≡ []
   key-none x e h = let m : e - x ≡ 0 = omega arith in rw m
 
-and-none : (t r : Bool) → false ≡ r → false ≡ (t && r)
-and-none true r h = h
-and-none false r h = refl
-
-lengths-differ : (u v : List ℕ) → (length u ≡ length v → ⊥) → false ≡ same u v
-lengths-differ [] [] h = absurd (h refl)
-lengths-differ [] (b ∷ v) h = refl
-lengths-differ (a ∷ u) [] h = refl
-lengths-differ (a ∷ u) (b ∷ v) h = and-none (eqb a b) (same u v) (lengths-differ u v (λ e. h (ap suc e)))
-
-same-equal : (u v : List ℕ) → same u v ≡ true → u ≡ v
-same-equal [] [] h = refl
-same-equal [] (b ∷ v) h = cc
-same-equal (a ∷ u) [] h = cc
-same-equal (a ∷ u) (b ∷ v) h =
-    let x : a ≡ b = eqb-true a b (and-left (eqb a b) (same u v) h) in
-    let y : u ≡ v = same-equal u v (and-right (eqb a b) (same u v) h) in
-    cc
-
-not-same : (u v : List ℕ) (r : Bool) → r ≡ same u v → (u ≡ v → ⊥) → false ≡ r
-not-same u v true e h = absurd (h (same-equal u v (sym e)))
-not-same u v false e h = refl
-
 module _ (p : List ℕ) (a e b f : ℕ) (ends : e ≤ length p) (ends′ : f ≤ length p) where
   pub same-short : (e - a ≡ f - b → ⊥) → false ≡ same (part p a e) (part p b f)
   same-short h =
-      lengths-differ (part p a e) (part p b f) (λ k. h (sym (length-part p a e ends) ∙ k ∙ length-part p b f ends′))
+      sym (lengths-differ (part p a e) (part p b f) (λ k. h (sym (length-part p a e ends) ∙ k ∙ length-part p b f ends′)))
 
   byte-at : (x y k : ℕ) → x + k < y → getD (part p x y) k 0 ≡ getD p (x + k) 0
   byte-at x y k h = getD-take (y - x) (drop x p) k 0 (omega arith) ∙ getD-drop x p k 0
 
   pub same-last : a < e → e - a ≡ f - b → (getD p (e - 1) 0 ≡ getD p (f - 1) 0 → ⊥) → false ≡ same (part p a e) (part p b f)
   same-last lt even h =
-      not-same (part p a e) (part p b f) (same (part p a e) (part p b f)) refl (λ q.
+      sym (same-not (part p a e) (part p b f) (λ q.
       let i : a + (e - a - 1) ≡ e - 1 = omega arith in
       let j : b + (e - a - 1) ≡ f - 1 = omega arith in
       h (ap (λ (k : ℕ). getD p k 0) (sym i) ∙ sym (byte-at a e (e - a - 1) (omega arith)) ∙ ap (λ (l : List ℕ). getD l (e - a - 1) 0) q
-      ∙ byte-at b f (e - a - 1) (omega arith) ∙ ap (λ (k : ℕ). getD p k 0) j))
+      ∙ byte-at b f (e - a - 1) (omega arith) ∙ ap (λ (k : ℕ). getD p k 0) j)))
 
   module _ (x y : ℕ) (inv : same (part p x e) (part p y f) ≡ same (part p a e) (part p b f)) (left : e - x ≡ f - y) where
     pub same-other : x < e → (getD p x 0 ≡ getD p y 0 → ⊥) → false ≡ same (part p a e) (part p b f)

@@ -2,24 +2,25 @@
 -- Assumes nothing.
 use mathlib.Core.Path.{_≡_, sym, ap, _∙_}
 use mathlib.Core.Bool.{true, false, not, _||_}
-use mathlib.Core.List.{List, [], _∷_}
-use Prim.Native.Nat.{ℕ, zero, suc, _+_, _-_, _*_, _≤_, _<_}
+use mathlib.Core.List.{List, []}
+use Prim.Native.Nat.{ℕ, _+_, _-_, _*_, _≤_, _<_}
 use native.Mathlib.Nat.{mul-le-mul}
 use native.Mathlib.Omega.{arith}
 use borrow.Author.Tests.{le-leb, lt-leb, lt-ltb, le-ltb, eq-eqb, ne-eqb}
 use lib.Dec.{ltb, eqb}
-use lib.ListN.{length, getD, take, drop, length-drop, length-take}
-use lib.Seq.{drop-drop, take-nil, slice}
+use lib.ListN.{length, getD, drop, length-drop, length-take}
+use lib.Seq.{drop-drop}
 use Rattle.wire.specs.Little.{little}
 use Rattle.wire.specs.Varuint.{varuint}
 use Rattle.wire.specs.Utf8.{utf8}
 use Rattle.wire.specs.declared.varuint.VarUInt.the-variants.{Number, Cut, Malformed}
 use Rattle.wire.proofs.Varuints.{varuint-inside}
-use Rattle.wire.proofs.Numbers.{little-one}
 use Rattle.schema.specs.Table.{scalar, text, width}
 use Rattle.value.specs.Answer.{refused, seen, andThen, check, cursorAt, block, varUInt, Accepted}
 use Rattle.value.specs.Read.{plain, count, own}
+use Rattle.value.specs.Write.{span}
 use Rattle.value.proofs.Answers.{accepted-check}
+use Rattle.value.proofs.Spans.{truth-byte}
 use Rattle.reader.specs.declared.leaf.Count.{Count}
 use Rattle.reader.specs.declared.leaf.Count.the-variants.{Is, Not}
 use Rattle.reader.specs.declared.leaf.Span.the-variants.{At, Bad}
@@ -27,20 +28,11 @@ use Rattle.reader.specs.Leaf.{part, countOf, CountIn, Counted, Spanned}
 
 -- ---- parts of the payload
 
-take-drop : (f t : ℕ) (l : List ℕ) → drop f (take t l) ≡ take (t - f) (drop f l)
-take-drop zero t l = let e : t - 0 ≡ t = omega arith in rw e
-take-drop (suc f) zero l = let e : 0 - suc f ≡ 0 = omega arith in rw e
-take-drop (suc f) (suc t) [] = sym (take-nil (suc t - suc f))
-take-drop (suc f) (suc t) (x ∷ l) = let e : suc t - suc f ≡ t - f = omega arith in rw e (take-drop f t l)
-
-pub slice-part : (p : List ℕ) (from to : ℕ) → slice from to p ≡ part p from to
-slice-part p from to = take-drop from to p
-
 pub length-part : (p : List ℕ) (from to : ℕ) → to ≤ length p → length (part p from to) ≡ to - from
 length-part p from to h = simp (length-take, length-drop) (omega arith)
 
 module _ (p : List ℕ) (at : ℕ) where
-  part-is : (n : ℕ) → take n (drop at p) ≡ part p at (at + n)
+  part-is : (n : ℕ) → span p at n ≡ part p at (at + n)
   part-is n = let e : at + n - at ≡ n = omega arith in rw e
 
   pub block-reads : (n : ℕ) → at + n ≤ length p → block n (cursorAt p at) ≡ seen (part p at (at + n)) (cursorAt p (at + n))
@@ -105,10 +97,7 @@ module _ (p : List ℕ) (kind at w : ℕ) (is : w ≡ width kind) where
     scalar-at t z = record { same = rw (← is, block-reads p at w room, t); within = (omega arith, room, omega arith) }
 
     little-first : kind ≡ 1 → little (part p at (at + w)) ≡ getD p at 0
-    little-first k =
-        let e : w ≡ 1 = is ∙ ap width k in
-        let f : at + w - at ≡ 1 = omega arith in
-        rw f (little-one p at (omega arith))
+    little-first k = rw (← part-is p at w) (truth-byte p kind at w is room k)
 
     pub scalar-truth : kind ≡ 1 → getD p at 0 ≤ 1 → (not (eqb kind 1) || ltb (little (part p at (at + w))) 2) ≡ true
     scalar-truth k h = rw (eq-eqb kind 1 k, little-first k) (lt-ltb (getD p at 0) 2 (omega arith))
@@ -138,25 +127,25 @@ module _ (p : List ℕ) (kind at : ℕ) (r : Count) (counted : Counted p at 1 (c
     read-as : count 1 (cursorAt p at) ≡ seen n (cursorAt p start)
     read-as = sym (counted .same) ∙ ap (countOf p at) is
 
-    pub text-known : kind ≡ 12 → Accepted (own (text kind) (cursorAt p at)) → utf8 (slice start (start + n) p) ≡ true
+    pub text-known : kind ≡ 12 → Accepted (own (text kind) (cursorAt p at)) → utf8 (span p start n) ≡ true
     unfolding andThen
     text-known k h =
-        rw (slice-part p start (start + n))
+        rw (part-is p start n)
         (accepted-check (utf8 (part p start (start + n))) 23 start (cursorAt p (start + n)) (λ _ c. seen (plain (part p start (start + n))) c)
         (rw (read-as, block-reads p start n (text-in .1), eq-eqb kind 12 k) at h) .0)
 
-    pub text-bad : kind ≡ 12 → utf8 (slice start (start + n) p) ≡ false → Spanned p at (own (text kind) (cursorAt p at)) (Bad start 23)
+    pub text-bad : kind ≡ 12 → utf8 (span p start n) ≡ false → Spanned p at (own (text kind) (cursorAt p at)) (Bad start 23)
     unfolding andThen check
     text-bad k e =
-        let f : utf8 (part p start (start + n)) ≡ false = rw (slice-part p start (start + n)) at e in
+        let f : utf8 (part p start (start + n)) ≡ false = rw (part-is p start n) at e in
         record { same = rw (read-as, block-reads p start n (text-in .1), f, eq-eqb kind 12 k); within = tt }
 
     pub text-at : (not (eqb kind 12) || utf8 (part p start (start + n))) ≡ true → Spanned p at (own (text kind) (cursorAt p at)) (At start (start + n))
     unfolding andThen check
     text-at t = record { same = rw (read-as, block-reads p start n (text-in .1), t); within = (omega arith, text-in .1, omega (arith, text-in .0)) }
 
-    pub text-valid : kind ≡ 12 → utf8 (slice start (start + n) p) ≡ true → (not (eqb kind 12) || utf8 (part p start (start + n))) ≡ true
-    text-valid k e = rw (eq-eqb kind 12 k, ← slice-part p start (start + n)) e
+    pub text-valid : kind ≡ 12 → utf8 (span p start n) ≡ true → (not (eqb kind 12) || utf8 (part p start (start + n))) ≡ true
+    text-valid k e = rw (eq-eqb kind 12 k, ← part-is p start n) e
 
     pub text-plain : (kind ≡ 12 → ⊥) → (not (eqb kind 12) || utf8 (part p start (start + n))) ≡ true
     text-plain k = rw (ne-eqb kind 12 k)

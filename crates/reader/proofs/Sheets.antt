@@ -94,11 +94,6 @@ length-rows l i (r ∷ rs) = length-put (putRows l (i + 1) rs) i r ∙ length-ro
 abbrev cells4 : Row → List ℕ
 cells4 r = r .ty ∷ r .place ∷ r .length ∷ r .count ∷ []
 
-length-cells : (rs : List Row) → length (cellsOf rs) ≡ 4 * length rs
-unfolding cellsOf
-length-cells [] = refl
-length-cells (r ∷ rs) = let h = length-cells rs in omega arith
-
 put4-cells : (l : List ℕ) (b : ℕ) (r : Row) → b + 4 ≤ length l → put4 l b r ≡ take b l ++ cells4 r ++ drop (b + 4) l
 unfolding put4
 put4-cells l b r h = rw (add-one, add-two, add-three) (sets-eq (r .ty ∷ r .place ∷ r .length ∷ r .count ∷ []) l b h)

@@ -1,19 +1,19 @@
 -- Laws of the walkers: what one step of a walk does to its end.
 -- Assumes nothing.
 use mathlib.Core.Path.{_≡_, refl, sym, ap, _∙_}
-use mathlib.Core.Bool.{true, false, not}
+use mathlib.Core.Bool.{true, false}
 use mathlib.Core.List.{List, [], _∷_}
 use Prim.Native.Nat.{ℕ, zero, suc, _+_, _-_, _≤_, _<_}
 use native.Mathlib.Omega.{arith}
-use borrow.Author.Tests.{not-true}
 use lib.ListN.{length, length-append}
 use Rattle.schema.specs.Table.{Shape}
 use Rattle.value.specs.declared.Row.{Row}
 use Rattle.value.specs.Answer.{Cursor, Answer, refused, seen, Reader, andThen, check, cursorAt, Accepted}
 use Rattle.value.specs.Value as tree
-use Rattle.value.specs.Value.{Tree, tip, branch, Forest, plus, rows, rowsAll, content}
+use Rattle.value.specs.Value.{Tree, tip, branch, Forest, plus, rows, rowsAll}
 use Rattle.value.specs.Read.{Item, plainItem, plan, counted, Own, plain, parts, own, among, walk, leafRow, nodeRow, whole, parse}
-use Rattle.value.proofs.Answers.{accepted-first, accepted-check}
+use Rattle.value.proofs.Answers.{accepted-first}
+use Rattle.parts.proofs.Items.{keyItem, afterItem, afterKey, item-step, key-step}
 use Rattle.reader.specs.declared.leaf.Span.{Span}
 use Rattle.reader.specs.declared.leaf.Span.the-variants.{At, Bad}
 use Rattle.reader.specs.declared.walk.Walk.{Walk}
@@ -71,28 +71,9 @@ unfolding andThen rows
 then-plus t (seen ts c) row l = done-eq refl (rw length-append (omega arith)) (rows-append l row (rows t) (rowsAll ts))
 then-plus t (refused n q) row l = refl
 
-abbrev pub keyItem : ℕ → Item
-keyItem k = record { type = k; key = true }
-
 module _ (P : ℕ → Reader Tree) (keys : List (List ℕ)) (is : List Item) where
-  afterItem : Tree → Reader Forest
-  afterItem t c = andThen (walk P keys is c) (λ ts c. seen (plus t ts) c)
-
-  afterKey : ℕ → Tree → Reader Forest
-  afterKey q t c =
-      andThen (check (not (among (content (tree.value t)) keys)) 24 q c)
-      (λ _ c. andThen (walk P (content (tree.value t) ∷ keys) is c) (λ ts c. seen (plus t ts) c))
-
-  item-step : (t : ℕ) (c : Cursor) → walk P keys (plainItem t ∷ is) c ≡ andThen (P t c) afterItem
-  unfolding walk afterItem check andThen
-  item-step t c = refl
-
-  key-step : (k : ℕ) (c : Cursor) → walk P keys (keyItem k ∷ is) c ≡ andThen (P k c) (afterKey (c .at))
-  unfolding walk afterKey
-  key-step k c = refl
-
   past : (o : Answer Tree) (row : ℕ) (l : List ℕ) (c′ : Cursor) (row′ : ℕ) (m : List ℕ) → done c′ row′ m ≡ walkOf rows o row l
-      → walkOf rowsAll (andThen o afterItem) row l ≡ walkOf rowsAll (walk P keys is c′) row′ m
+      → walkOf rowsAll (andThen o (afterItem P keys is)) row l ≡ walkOf rowsAll (walk P keys is c′) row′ m
   unfolding andThen afterItem
   past (seen t c) row l c′ row′ m e = then-plus t (walk P keys is c) row l ∙ cc
   past (refused n q) row l c′ row′ m e = let z : _≡_ {A = ℕ} 0 1 = cc in absurd (omega arith)
@@ -106,35 +87,25 @@ module _ (P : ℕ → Reader Tree) (keys : List (List ℕ)) (is : List Item) whe
   module _ (t : ℕ) (c : Cursor) (row : ℕ) (l : List ℕ) where
     pub item-past : (c′ : Cursor) (row′ : ℕ) (m : List ℕ) → done c′ row′ m ≡ walkOf rows (P t c) row l
         → walkOf rowsAll (walk P keys (plainItem t ∷ is) c) row l ≡ walkOf rowsAll (walk P keys is c′) row′ m
-    item-past c′ row′ m e = rw (item-step t c) (past (P t c) row l c′ row′ m e)
+    item-past c′ row′ m e = rw (item-step P keys is t c) (past (P t c) row l c′ row′ m e)
 
     pub item-stop : (n q : ℕ) → stopped n q ≡ walkOf rows (P t c) row l → stopped n q ≡ walkOf rowsAll (walk P keys (plainItem t ∷ is) c) row l
-    item-stop n q e = rw (item-step t c) (halted afterItem rows (P t c) row l n q e)
-
-  pub item-accepted : (t : ℕ) (c : Cursor) → Accepted (walk P keys (plainItem t ∷ is) c) → Accepted (P t c)
-  item-accepted t c h = accepted-first (P t c) afterItem (rw (item-step t c) at h)
-
-  pub key-accepted : (k : ℕ) (c : Cursor) → Accepted (walk P keys (keyItem k ∷ is) c) → Accepted (P k c)
-  key-accepted k c h = accepted-first (P k c) (afterKey (c .at)) (rw (key-step k c) at h)
+    item-stop n q e = rw (item-step P keys is t c) (halted (afterItem P keys is) rows (P t c) row l n q e)
 
   pub key-stop : (k : ℕ) (c : Cursor) (row : ℕ) (l : List ℕ) (n q : ℕ) → P k c ≡ refused n q
       → stopped n q ≡ walkOf rowsAll (walk P keys (keyItem k ∷ is) c) row l
   unfolding andThen
-  key-stop k c row l n q e = rw (key-step k c, e)
+  key-stop k c row l n q e = rw (key-step P keys is k c, e)
 
   module _ (k : ℕ) (c : Cursor) (r : Row) (x : List ℕ) (c′ : Cursor) (read : P k c ≡ seen (tip r x) c′) where
     pub key-again : (row : ℕ) (l : List ℕ) → among x keys ≡ true → stopped 24 (c .at) ≡ walkOf rowsAll (walk P keys (keyItem k ∷ is) c) row l
     unfolding andThen check afterKey tree.value
-    key-again row l e = rw (key-step k c, read, e)
+    key-again row l e = rw (key-step P keys is k c, read, e)
 
     pub key-new : (row : ℕ) (l : List ℕ) → among x keys ≡ false
         → walkOf rowsAll (walk P keys (keyItem k ∷ is) c) row l ≡ walkOf rowsAll (walk P (x ∷ keys) is c′) (row + 1) (putRow l row r)
     unfolding andThen check afterKey tree.value rows putRows
-    key-new row l e = rw (key-step k c, read, e) (then-plus (tip r x) (walk P (x ∷ keys) is c′) row l)
-
-    pub key-known : Accepted (walk P keys (keyItem k ∷ is) c) → among x keys ≡ false
-    unfolding andThen afterKey tree.value
-    key-known h = not-true (among x keys) (accepted-check _ 24 (c .at) c′ _ (rw (key-step k c, read) at h) .0)
+    key-new row l e = rw (key-step P keys is k c, read, e) (then-plus (tip r x) (walk P (x ∷ keys) is c′) row l)
 
 pub walk-end : (P : ℕ → Reader Tree) (keys : List (List ℕ)) (c : Cursor) (row : ℕ) (l : List ℕ) → done c row l ≡ walkOf rowsAll (walk P keys [] c) row l
 unfolding walk rows putRows

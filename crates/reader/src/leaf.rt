@@ -1,16 +1,14 @@
 // A value's own bytes: counts, contents of scalars and strings, and presence bits.
 use parts::is_complete;
+use parts::is_utf8;
 use schema::kind::width_of;
 use wire::bitmap;
-use wire::utf8;
 use wire::varuint;
 use wire::varuint::VarUInt;
 ghost use mathlib.Core.Path.{_≡_};
-ghost use mathlib.Core.Bool.{true, false};
+ghost use mathlib.Core.Bool.{false};
 ghost use Prim.Native.Nat.{_+_, _≤_, _<_};
 ghost use lib.ListN.{length};
-ghost use lib.Seq.{slice};
-ghost use Rattle.wire.specs.Utf8.{utf8};
 ghost use Rattle.schema.specs.Table.{scalar, text};
 ghost use Rattle.schema.specs.File.{tableOf};
 ghost use Rattle.schema.specs.Check.{IsGood};
@@ -94,17 +92,6 @@ fn scalar(p: &[u8], kind: usize, at: usize) -> Span
     }
 }
 
-// Whether a content is UTF-8; where nothing is judged, it is known to be.
-fn is_utf8(p: &[u8], from: usize, to: usize, judge: bool) -> bool
-    requires { ⌜ (from ≤ to) × (to ≤ length (now p)) × (judge ≡ false → utf8 (slice from to (now p)) ≡ true) ⌝ }
-    ensures { λ r. ⌜ r ≡ utf8 (slice from to (now (p .entry))) ⌝ }
-{
-    if judge {
-        return utf8::valid(p, from, to);
-    }
-    true
-}
-
 // The content of a string or of bytes.
 fn text(p: &[u8], kind: usize, at: usize, judge: bool) -> Span
     requires { ⌜ (length (now p) ≤ 16384) × (judge ≡ false → Accepted (own (text kind) (cursorAt (now p) at))) ⌝ }
@@ -115,7 +102,7 @@ fn text(p: &[u8], kind: usize, at: usize, judge: bool) -> Span
         Count::Is { n, start } => {
             let to = start + n;
             if kind == 12 {
-                if !is_utf8(p, start, to, judge) {
+                if !is_utf8(p, start, n, judge) {
                     return Span::Bad {
                         number: 23,
                         place: start,

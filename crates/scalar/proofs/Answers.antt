@@ -1,46 +1,30 @@
 -- The answer of each branch of the code.
 -- Assumes nothing.
-use mathlib.Core.Path.{_≡_, refl, sym, ap, _∙_}
+use mathlib.Core.Path.{_≡_, refl, ap, _∙_}
 use mathlib.Core.Bool.{Bool, true, false, not, _||_}
-use mathlib.Core.List.{List, [], _∷_}
+use mathlib.Core.List.{List, []}
 use mathlib.Core.Logic.{⊎-elim}
-use Prim.Native.Nat.{ℕ, zero, suc, _+_, _-_, _≤_, _<_}
-use native.Mathlib.Nat.{zero-add, suc-add}
+use Prim.Native.Nat.{ℕ, _+_, _≤_, _<_}
 use native.Mathlib.Omega.{arith}
 use borrow.Author.Tests.{eq-eqb, ne-eqb, leb-true, lt-ltb, le-ltb, eqb-true, eqb-false, ltb-true, ltb-false, not-true, not-false}
 use lib.Dec.{ltb, eqb}
-use lib.ListN.{length, getD, take, drop}
-use lib.Seq.{slice, take-nil}
+use lib.ListN.{length, getD}
 use Rattle.wire.specs.Little.{little}
 use Rattle.wire.specs.Utf8.{utf8}
-use Rattle.wire.proofs.Numbers.{little-one}
 use Rattle.schema.specs.Table.{Table, Shape, unknown, scalar, text, array, map, struct, rowAt, shape, width}
 use Rattle.schema.specs.declared.Checked.the-variants as check
 use Rattle.schema.specs.File.{tableOf}
 use Rattle.schema.specs.Check.{checked, IsGood}
 use Rattle.schema.specs.Good.{GoodTable}
-use Rattle.schema.proofs.Bools.{clash, or-cases}
+use Rattle.schema.proofs.Bools.{or-cases, or-false}
 use Rattle.schema.proofs.Shapes.{shape-scalar, shape-text, kindOf, Within, within, kind-of}
 use Rattle.value.specs.declared.Row.{Row}
+use Rattle.value.specs.Write.{span, inside}
+use Rattle.value.proofs.Spans.{truth-byte}
+use Rattle.value.proofs.Complete.{asks}
 use Rattle.scalar.specs.declared.Answer.the-variants.{Is, Refused}
 use Rattle.scalar.specs.declared.Scalar.the-variants.{Span}
-use Rattle.scalar.specs.Scalar.{valueOf, span, inside, numberAt, textAt, byShape, scalarOf, scalarBy}
-
--- A test that counts only where another holds.
-unless : (b t : Bool) → (b ≡ true → t ≡ true) → (not b || t) ≡ true
-unless true t h = h refl
-unless false t h = refl
-
--- Both fail where neither holds.
-or-none : (a b : Bool) → (a || b) ≡ false → (a ≡ false) × (b ≡ false)
-or-none true b e = clash true refl e
-or-none false b e = (refl, e)
-
--- The bytes of a span, as the code lends them.
-pub sliced : (place n : ℕ) (bytes : List ℕ) → slice place (place + n) bytes ≡ span bytes place n
-sliced zero n bytes = rw zero-add
-sliced (suc p) n [] = rw suc-add (sym (take-nil n))
-sliced (suc p) n (b ∷ bytes) = rw suc-add (sliced p n bytes)
+use Rattle.scalar.specs.Scalar.{valueOf, numberAt, textAt, byShape, scalarOf, scalarBy}
 
 module _ (kind place n : ℕ) (bytes : List ℕ) where
   pub wrong-length : (n ≡ width kind → ⊥) → numberAt kind place n bytes ≡ Refused 50 0
@@ -53,11 +37,8 @@ module _ (kind place n : ℕ) (bytes : List ℕ) where
     outside h = rw (eq-eqb n (width kind) w, h)
 
     module _ (h : inside bytes place n ≡ true) where
-      -- The first byte is a bool's number.
       truth : kind ≡ 1 → little (span bytes place n) ≡ getD bytes place 0
-      truth e =
-          let one : n ≡ 1 = w ∙ ap width e in
-          rw one (little-one bytes place (omega (arith, leb-true (place + n) (length bytes) h)))
+      truth e = truth-byte bytes kind place n w (leb-true (place + n) (length bytes) h) e
 
       pub no-truth : kind ≡ 1 → 1 < getD bytes place 0 → numberAt kind place n bytes ≡ Refused 22 place
       unfolding numberAt
@@ -66,7 +47,7 @@ module _ (kind place n : ℕ) (bytes : List ℕ) where
       pub number-told : (kind ≡ 1 → little (span bytes place n) < 2) → numberAt kind place n bytes ≡ Is (valueOf kind (span bytes place n))
       unfolding numberAt
       number-told b =
-          let t = unless (eqb kind 1) (ltb (little (span bytes place n)) 2) (λ e. lt-ltb (little (span bytes place n)) 2 (b (eqb-true kind 1 e))) in
+          let t = asks 1 kind (ltb (little (span bytes place n)) 2) (λ e. lt-ltb (little (span bytes place n)) 2 (b e)) in
           rw (eq-eqb n (width kind) w, h, t)
 
       pub number-is : (kind ≡ 1 → getD bytes place 0 ≤ 1) → numberAt kind place n bytes ≡ Is (valueOf kind (span bytes place (width kind)))
@@ -83,7 +64,7 @@ module _ (kind place n : ℕ) (bytes : List ℕ) where
 
     pub text-is : (kind ≡ 12 → utf8 (span bytes place n) ≡ true) → textAt kind place n bytes ≡ Is (Span place n)
     unfolding textAt
-    text-is u = rw (h, unless (eqb kind 12) (utf8 (span bytes place n)) (λ e. u (eqb-true kind 12 e)))
+    text-is u = rw (h, asks 12 kind (utf8 (span bytes place n)) u)
 
 -- ---- a row
 
@@ -128,8 +109,8 @@ module _ (T : Table) (g : GoodTable T) (r : Row) (bytes : List ℕ) where
 
     pub row-passed : unfit ≡ false → (0 < kind) × (kind < 14) × (r .count ≡ 0)
     row-passed e =
-        let z = or-none (eqb kind 0) (ltb 13 kind || not (eqb (r .count) 0)) e in
-        let f = or-none (ltb 13 kind) (not (eqb (r .count) 0)) (z .1) in
+        let z = or-false (eqb kind 0) (ltb 13 kind || not (eqb (r .count) 0)) e in
+        let f = or-false (ltb 13 kind) (not (eqb (r .count) 0)) (z .1) in
         (omega (arith, eqb-false kind 0 (z .0)), omega (arith, ltb-false 13 kind (f .0)), eqb-true (r .count) 0 (not-false (eqb (r .count) 0) (f .1)))
 
     pub number-row : 0 < kind → kind < 12 → r .count ≡ 0 → scalarOf T r bytes ≡ numberAt kind (r .place) (r .length) bytes

@@ -15,13 +15,14 @@ use Rattle.value.specs.declared.Row.{Row}
 use Rattle.value.specs.Answer.{refused, cursorAt}
 use Rattle.value.specs.Value.{Tree, tip, branch, Forest, stop, plus}
 use Rattle.value.specs.Read.{Item, plan, onStruct, rootStruct, rootOf}
+use Rattle.value.specs.Write.{span}
 use Rattle.value.specs.Fits.{LeafFits, AllFit, Fits, RootFits}
 use Rattle.value.proofs.Answers.{Seen, nothing, seen-map}
 use Rattle.value.proofs.Sound.{asked}
 use Rattle.value.proofs.Placed.{root-placed}
 use Rattle.scalar.specs.declared.Answer.{Answer as Told}
 use Rattle.scalar.specs.declared.Answer.the-variants.{Refused}
-use Rattle.scalar.specs.Scalar.{span, numberAt, textAt, byShape, scalarOf, numberOf}
+use Rattle.scalar.specs.Scalar.{numberAt, textAt, byShape, scalarOf, numberOf}
 use Rattle.scalar.specs.Leaves.{Shows, EachLeaf, EachOf}
 use Rattle.scalar.proofs.Answers.{number-told, text-is}
 

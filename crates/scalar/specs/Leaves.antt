@@ -7,10 +7,11 @@ use lib.ListN.{length}
 use Rattle.schema.specs.Table.{Shape, unknown, scalar, text, array, map, struct}
 use Rattle.value.specs.declared.Row.{Row}
 use Rattle.value.specs.Value.{Tree, tip, branch, Forest, stop, plus}
+use Rattle.value.specs.Write.{span}
 use Rattle.scalar.specs.declared.Scalar.the-variants.{Span}
 use Rattle.scalar.specs.declared.Answer.{Answer}
 use Rattle.scalar.specs.declared.Answer.the-variants.{Is}
-use Rattle.scalar.specs.Scalar.{valueOf, span}
+use Rattle.scalar.specs.Scalar.{valueOf}
 
 -- The answer shows a leaf of a shape with the content x: its value, or the span of the bytes where it stands. A composite is no leaf.
 abbrev pub Shows : List ℕ → Shape → Row → List ℕ → Answer → Type 0

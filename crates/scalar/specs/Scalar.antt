@@ -2,11 +2,11 @@
 -- Assumes nothing.
 use mathlib.Core.List.{List}
 use mathlib.Core.Bool.{Bool, not, _||_, cond}
-use Prim.Native.Nat.{ℕ, _+_, _-_, _*_, _^_}
+use Prim.Native.Nat.{ℕ, _-_, _*_, _^_}
 use lib.Dec.{leb, ltb, eqb}
 use lib.Ieee.{binary32, binary64, ofBits}
 use lib.IntN.{ℤ, pos}
-use lib.ListN.{length, take, drop}
+use lib.ListN.{length}
 use Rattle.wire.specs.Little.{little, twos}
 use Rattle.wire.specs.Utf8.{utf8}
 use Rattle.schema.specs.declared.Checked.{Checked}
@@ -15,6 +15,7 @@ use Rattle.schema.specs.Table.{Table, Shape, unknown, scalar, text, array, map,
 use Rattle.schema.specs.File.{tableOf}
 use Rattle.schema.specs.Check.{checked}
 use Rattle.value.specs.declared.Row.{Row}
+use Rattle.value.specs.Write.{span, inside}
 use Rattle.scalar.specs.declared.Scalar.{Scalar}
 use Rattle.scalar.specs.declared.Scalar.the-variants.{Truth, Signed, Unsigned, Float32, Float64, Span}
 use Rattle.scalar.specs.declared.Answer.{Answer}
@@ -35,13 +36,6 @@ test b number place next = cond b next (Refused number place)
 
 abbrev pub _>>_ : (Answer → Answer) → Answer → Answer
 _>>_ t next = t next
-
--- The n bytes at a place, and whether there are so many.
-abbrev pub span : List ℕ → (place n : ℕ) → List ℕ
-span bytes place n = take n (drop place bytes)
-
-abbrev pub inside : List ℕ → (place n : ℕ) → Bool
-inside bytes place n = leb (place + n) (length bytes)
 
 -- A scalar: its length is its width; its span lies in the bytes; a bool is 0 or 1.
 unfoldable pub numberAt : (kind place length : ℕ) → List ℕ → Answer

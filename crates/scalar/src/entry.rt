@@ -12,8 +12,9 @@ ghost use mathlib.Core.Path.{_≡_};
 ghost use Prim.Native.Nat.{_<_};
 ghost use Rattle.schema.specs.File.{tableOf};
 ghost use Rattle.schema.specs.Check.{IsGood};
+ghost use Rattle.value.specs.Write.{inside};
 ghost use Rattle.scalar.specs.declared.Answer.the-variants.{Refused};
-ghost use Rattle.scalar.specs.Scalar.{inside, numberAt, textAt, scalarOf, scalarBy};
+ghost use Rattle.scalar.specs.Scalar.{numberAt, textAt, scalarOf, scalarBy};
 
 fn refuse(number: u32, place: usize) -> Answer
     ensures { λ r. ⌜ r ≡ Refused number place ⌝ }

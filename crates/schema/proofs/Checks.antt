@@ -7,6 +7,7 @@ use Prim.Native.Nat.{ℕ}
 use native.Mathlib.Omega.{arith}
 use lib.Dec.{leb, ltb, eqb}
 use borrow.Author.Tests.{eq-eqb, ne-eqb}
+use Rattle.wire.proofs.Cases.{chosen}
 use Rattle.schema.specs.declared.TypeRow.{TypeRow}
 use Rattle.schema.specs.declared.Field.{Field}
 use Rattle.schema.specs.declared.Method.{Method}
@@ -25,8 +26,7 @@ no-fault n i e = let z : _≡_ {A = ℕ} 0 1 = cc in absurd (omega arith)
 
 -- a choice or a fault that leaves the file good
 cond-good : (b : Bool) (x : Checked) (n : ℕ) → cond b x (Refused n 0) ≡ Good → (b ≡ true) × (x ≡ Good)
-cond-good true x n e = (refl, e)
-cond-good false x n e = absurd (no-fault n 0 e)
+cond-good b x n e = chosen b x (Refused n 0) (no-fault n 0) e
 
 fault-good : (n : ℕ) (f : Found) (next : Checked) → fault n f next ≡ Good → (f ≡ Missing) × (next ≡ Good)
 fault-good n (At i) next e = absurd (no-fault n i e)

@@ -10,10 +10,11 @@ use native.Mathlib.Decide.{decLt}
 use native.Mathlib.Nat.{pow-succ', div-div-eq-div-mul, div-one, zero-add, suc-add, mod-lt, div-lt-iff-lt-mul, div-mul-le-self, mul-le-mul-right}
 use native.Mathlib.Numerals.{add-one}
 use borrow.Author.Tests.{eqb-true, eqb-false}
-use lib.Count.{onesIn, ones, ones-step}
+use lib.Count.{onesIn, ones}
 use lib.Dec.{eqb}
 use lib.ListN.{length, length-append}
 use lib.Pow.{pow-pos, pow-mono, field, mod-mod-pow, mod-pow-add, shr-shr, shr-lt}
+use Rattle.wire.proofs.Bitmaps.{ones-in}
 use Rattle.schema.specs.declared.Field.{Field}
 use Rattle.schema.specs.Table.{struct, bitmapBytes}
 use Rattle.value.specs.Read.{Item, plainItem, present, counted, complete, knownBits, unknownBits}
@@ -108,6 +109,11 @@ unknown-split fs gs m b =
     let d : m / 2 ^ length (fs ++ gs) ≡ m / 2 ^ length fs / 2 ^ length gs = rw (l, ← shr-shr m (length fs) (length gs)) in
     rw (k, ones-add (length gs), d, length-present gs)
 
+pub ones-none : (k : ℕ) → onesIn k 0 ≡ 0
+unfolding onesIn
+ones-none zero = refl
+ones-none (suc k) = omega (arith, ones-none k)
+
 pub none-set : (k x : ℕ) → onesIn k x ≡ 0 → x % 2 ^ k ≡ 0
 unfolding onesIn
 none-set zero x e = omega arith
@@ -124,20 +130,15 @@ no-added fs gs m e =
 
 -- ---- counted as a machine counts: all ones of a word
 
-ones-in : (k x : ℕ) → x < 2 ^ k → onesIn k x ≡ ones x
-unfolding onesIn ones
-ones-in zero x h = let z : x ≡ 0 = omega arith in rw z
-ones-in (suc k) x h = ap (λ (y : ℕ). x % 2 + y) (ones-in k (x / 2) (omega (arith, pow-succ' 2 k))) ∙ sym (ones-step x)
-
 -- The count of a struct's row, from the word of its bitmap.
 pub known-ones : (fs : List Field) (m : ℕ) → counted (struct fs) m ≡ ones (knownBits fs m)
-known-ones fs m = ap length (sym (present-mod fs m)) ∙ length-present fs (knownBits fs m) ∙ ones-in (length fs) (knownBits fs m) (mod-lt m (pow-pos (length fs)))
+known-ones fs m = ap length (sym (present-mod fs m)) ∙ length-present fs (knownBits fs m) ∙ sym (ones-in (length fs) (knownBits fs m) (mod-lt m (pow-pos (length fs))))
 
 -- The number of unknown bits that are set.
 pub unknown-ones : (fs : List Field) (m : ℕ) → m < 2 ^ (8 * bitmapBytes (length fs)) → unknownBits fs m ≡ ones (m / 2 ^ length fs)
 unknown-ones fs m h =
     let e : 8 * bitmapBytes (length fs) ≡ 8 * bitmapBytes (length fs) - length fs + length fs = omega arith in
-    ones-in (8 * bitmapBytes (length fs) - length fs) (m / 2 ^ length fs) (shr-lt (8 * bitmapBytes (length fs) - length fs) (length fs) (rw e at h))
+    sym (ones-in (8 * bitmapBytes (length fs) - length fs) (m / 2 ^ length fs) (shr-lt (8 * bitmapBytes (length fs) - length fs) (length fs) (rw e at h)))
 
 -- A bit at or beyond n is set exactly in the numbers from 2 ^ n on.
 some-bit : (k x : ℕ) → x ≤ k → 0 < x → (j : ℕ) × (x / 2 ^ j % 2 ≡ 1)

@@ -21,14 +21,14 @@ use Rattle.value.specs.Spell.{AllSpell, Spells, RootSpells}
 use Rattle.value.proofs.Shapes.{FieldsBelow, Optional, Extension}
 use Rattle.schema.specs.Extend.{Grows, same, gains}
 use Rattle.value.specs.Fits.{Shows}
-use Rattle.value.specs.Added.{carries, inner, reachedAll, firstAdded, without, addedValues}
+use Rattle.value.specs.Added.{carries, inner, reachedAll, firstAdded, without, addedValues, NoneAdded}
 use Rattle.value.specs.Claims.{ByOld}
 use Rattle.value.proofs.Answers.{seen-end, yields-end}
 use Rattle.value.proofs.Bits.{present-mod, present-none}
 use Rattle.value.proofs.Root.{root-sound, root-complete}
 use Rattle.value.proofs.TwoTables.{outcome}
 use Rattle.value.proofs.Without.{_⧺_, trees, spelled-kept, without-first, after-first}
-use Rattle.value.proofs.RootTables.{rootTree, OldSays, new-then-old-root, old-then-new-root}
+use Rattle.value.proofs.RootTables.{rootTree, OldSays, new-then-old-root, old-then-new-root, tailless}
 use Rattle.value.proofs.Reading.{as-root, accepts, accepted-of, root-in}
 
 -- ---- what a struct gains
@@ -141,16 +141,24 @@ module _ (S S′ : ℕ → Shape) (n : ℕ) (x : Extension S S′ n) (t : ℕ) (
 
     -- ---- from the old table to the new one
 
-    -- What the old reader accepts without a tail, the new one accepts with the same rows, which show the same value.
-    pub old-by-new : (rs : List Row) → reading room (rootOf S t payload) ≡ accepted rs (length payload) 0
-        → (reading room (rootOf S′ t payload) ≡ accepted rs (length payload) 0)
+    -- What the old reader accepts, with no added field's bit set, the new one accepts with the same rows and tail; the rows show the same value.
+    pub old-by-new : (rs : List Row) (place k : ℕ) → reading room (rootOf S t payload) ≡ accepted rs place k → NoneAdded fs gs payload
+        → (reading room (rootOf S′ t payload) ≡ accepted rs place k)
         × ((v : Value) × Shows S payload t fs rs v × Shows S′ payload t (fs ++ gs) rs v)
-    old-by-new rs e =
-        let a = accepts S t payload room rs (length payload) 0 e in
+    old-by-new rs place k₀ e bare =
+        let a = accepts S t payload room rs place k₀ e in
         let f : a .fs ≡ fs = cc (a .is-struct) in
         let k : rootStruct S t fs (cursorAt payload 0) ≡ seen (a .tree) (a .end) = rw f at (a .reads) in
-        let k′ = seen-end (old-then-new-root S S′ n x t fs gs below (gained .0) (gained .1) (cursorAt payload 0)) k (a .has-length) in (
-          accepted-of S′ t payload room rs (length payload) 0
+        let k′ = seen-end (old-then-new-root S S′ n x t fs gs below (gained .0) (gained .1) (cursorAt payload 0)) k bare in (
+          accepted-of S′ t payload room rs place k₀
               (record { fs = fs ++ gs; tree = a .tree; end = a .end; is-struct = st′; reads = k′; has-rows = a .has-rows; has-place = a .has-place; has-length = a .has-length; short = a .short; fits = a .fits }),
           (value (a .tree), rw (a .has-rows) at (root-in S t fs payload (a .tree) (a .end) k .0), rw (a .has-rows) at (root-in S′ t (fs ++ gs) payload (a .tree) (a .end) k′ .0)),
         )
+
+    -- No added field's bit is set where the old reader accepts without a tail.
+    pub none-added : (rs : List Row) (place : ℕ) → reading room (rootOf S t payload) ≡ accepted rs place 0 → NoneAdded fs gs payload
+    none-added rs place e =
+        let a = accepts S t payload room rs place 0 e in
+        let f : a .fs ≡ fs = cc (a .is-struct) in
+        let k : rootStruct S t fs (cursorAt payload 0) ≡ seen (a .tree) (a .end) = rw f at (a .reads) in
+        seen-end (tailless S S′ n x t fs gs below (gained .0) (gained .1) (cursorAt payload 0)) k (a .has-length)

@@ -1,13 +1,14 @@
 -- The test of keys one after the other, against the keys before, says that no two of them are equal.
 -- Assumes nothing.
-use mathlib.Core.Path.{_≡_, refl, sym, _∙_}
+use mathlib.Core.Path.{_≡_, refl, sym, ap, _∙_}
 use mathlib.Core.List.{List, [], _∷_}
-use mathlib.Core.Bool.{Bool, true, false, _&&_, _||_, and-eq-true-iff, false≢true}
+use mathlib.Core.Bool.{Bool, true, false, _&&_, and-eq-true-iff, false≢true}
 use Prim.Native.Nat.{ℕ, zero, suc, _<_}
 use native.Mathlib.Omega.{arith}
 use lib.Dec.{eqb}
 use lib.ListN.{length, getD}
 use borrow.Author.Tests.{eqb-true, eq-eqb}
+use Rattle.schema.proofs.Bools.{or-false}
 use Rattle.value.specs.Value.{Values, none, some, content}
 use Rattle.value.specs.Read.{Item, same, among, withKey}
 use Rattle.value.specs.Spell.{keysOf, Apart}
@@ -22,7 +23,7 @@ same-refl : (x : List ℕ) → same x x ≡ true
 same-refl [] = refl
 same-refl (a ∷ x) = rw (eq-eqb a a refl, same-refl x)
 
-same-eq : (x y : List ℕ) → same x y ≡ true → x ≡ y
+pub same-eq : (x y : List ℕ) → same x y ≡ true → x ≡ y
 same-eq [] [] e = refl
 same-eq [] (b ∷ y) e = absurd (false≢true e)
 same-eq (a ∷ x) [] e = absurd (false≢true e)
@@ -37,26 +38,26 @@ same-not x y h = go (same x y) refl
     go true e = absurd (h (same-eq x y e))
     go false e = refl
 
+-- Contents of different lengths are not the same.
+pub lengths-differ : (x y : List ℕ) → (length x ≡ length y → ⊥) → same x y ≡ false
+lengths-differ x y h = same-not x y (λ e. h (ap length e))
+
 -- The keys to come are not among those before, and no two of them are equal.
 abbrev Apart₂ : List (List ℕ) → List (List ℕ) → Type 0
 Apart₂ keys ks = ((j : ℕ) → j < length ks → among (getD ks j []) keys ≡ false) × Apart ks
-
-neither : (a b : Bool) → a || b ≡ false → (a ≡ false) × (b ≡ false)
-neither true b e = absurd (false≢true (sym e))
-neither false b e = (refl, e)
 
 apart-more : (keys : List (List ℕ)) (x : List ℕ) (ks : List (List ℕ)) → among x keys ≡ false → Apart₂ (x ∷ keys) ks → Apart₂ keys (x ∷ ks)
 apart-more keys x ks e (f, a) = (before, apart)
   where
     before : (j : ℕ) → j < suc (length ks) → among (getD (x ∷ ks) j []) keys ≡ false
     before zero h = e
-    before (suc j) h = neither (same (getD ks j []) x) _ (f j (omega arith)) .1
+    before (suc j) h = or-false (same (getD ks j []) x) _ (f j (omega arith)) .1
 
     apart : Apart (x ∷ ks)
     apart i zero h l k = omega arith
     apart zero (suc j) h l k =
         let z : same (getD ks j []) x ≡ true = rw (← k) (same-refl x) in
-        false≢true (sym (neither (same (getD ks j []) x) _ (f j (omega arith)) .0) ∙ z)
+        false≢true (sym (or-false (same (getD ks j []) x) _ (f j (omega arith)) .0) ∙ z)
     apart (suc i) (suc j) h l k = a i j (omega arith) (omega arith) k
 
 apart-less : (keys : List (List ℕ)) (x : List ℕ) (ks : List (List ℕ)) → Apart₂ keys (x ∷ ks) → (among x keys ≡ false) × Apart₂ (x ∷ keys) ks

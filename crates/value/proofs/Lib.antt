@@ -1,6 +1,7 @@
 pub mod Answers
 pub mod Shapes
 pub mod Bits
+pub mod Spans
 pub mod Keys
 pub mod Sound
 pub mod Complete
@@ -14,6 +15,7 @@ pub mod Telling
 pub mod Ignored
 pub mod Places
 pub mod TwoTables
+pub mod Numbers
 pub mod Reading
 pub mod Without
 pub mod RootTables

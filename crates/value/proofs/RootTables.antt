@@ -1,12 +1,14 @@
 -- What the root readers by an old table and by a table that extends it say of the same payload.
 -- Assumes nothing.
-use mathlib.Core.Path.{_≡_, refl, ap, _∙_}
+use mathlib.Core.Path.{_≡_, refl, sym, ap, _∙_, subst}
 use mathlib.Core.List.{List, [], _∷_, _++_, append-nil}
 use mathlib.Core.Option.{Option, none, some}
 use mathlib.Core.Bool.{Bool, false, not, _&&_}
 use Prim.Native.Nat.{ℕ, suc, _+_, _/_, _^_, _≤_}
 use native.Mathlib.Omega.{arith}
-use lib.ListN.{length, length-append}
+use lib.ListN.{length, length-append, take}
+use lib.Seq.{take-at}
+use Rattle.wire.specs.Little.{little}
 use Rattle.schema.specs.declared.Field.{Field}
 use Rattle.schema.specs.Table.{Shape, struct, bitmapBytes}
 use Rattle.value.specs.declared.Row.{Row}
@@ -15,10 +17,10 @@ use Rattle.value.specs.Value.{Value, Values, none as empty, some as and,
 use Rattle.value.specs.Read.{Item, counted, nodeRow, present, bitmap, walk, parse, knownBits, unknownBits, ending, rootStruct, among, withKey}
 use Rattle.value.specs.Spell.{AllSpell, Spells, TailFits}
 use Rattle.value.proofs.Shapes.{FieldsBelow, Optional, Extension}
-use Rattle.value.specs.Added.{firstAdded, reachedAll}
+use Rattle.value.specs.Added.{firstAdded, reachedAll, NoneAdded}
 use Rattle.value.proofs.Answers.{then-inv, reads-end, Seen, value as holds, seen-then}
 use Rattle.value.proofs.Bits.{present-mod, known-again, present-known, present-added, plan-split, unknown-split, no-added}
-use Rattle.value.proofs.Sound.{walk-reads, parse-reads}
+use Rattle.value.proofs.Sound.{bitmap-reads, walk-reads, parse-reads}
 use Rattle.value.proofs.Complete.{takes, all-take}
 use Rattle.value.proofs.Root.{Unkeyed, present-unkeyed, ending-sound, ending-complete}
 use Rattle.value.proofs.TwoTables.{Follows, firstOf, outcome, follows-outcome, follows-accepts, walk-follows, two-tables, present-below, bitmap-gain}
@@ -158,18 +160,34 @@ module _ (S S′ : ℕ → Shape) (n : ℕ) (x : Extension S S′ n) (t : ℕ) (
         go (i ∷ is) e = absurd (omega arith)
 
     new-root : (m : ℕ) (c₁ : Cursor) (ts : Forest) (c₂ : Cursor) → bitmap fs c ≡ seen m c₁ → walk (parse S 15) [] (present fs m) c₁ ≡ seen ts c₂
-        → unknownBits fs m ≡ 0 → length (c₂ .left) ≡ 0 → rootStruct S′ t (fs ++ gs) c ≡ seen (rootTree t fs (c .at) m ts c₂) c₂
+        → length (present gs (m / 2 ^ length fs)) ≡ 0 → TailFits (unknownBits fs m) (c₂ .left) → rootStruct S′ t (fs ++ gs) c ≡ seen (rootTree t fs (c .at) m ts c₂) c₂
     unfolding rootStruct andThen
-    new-root m c₁ ts c₂ e₁ e₂ u l =
-        let k = unknown-split fs gs m b in
-        let z : length (present gs (m / 2 ^ length fs)) ≡ 0 = omega arith in
+    new-root m c₁ ts c₂ e₁ e₂ z f =
+        let k : unknownBits fs m ≡ unknownBits (fs ++ gs) m = omega (arith, unknown-split fs gs m b) in
         let w : walk (parse S′ 15) [] (present fs m) c₁ ≡ seen ts c₂ = follows-accepts (follows m c₁) e₂ in
-        let h : ending (unknownBits (fs ++ gs) m) c₂ ≡ seen tt c₂ = ending-complete (unknownBits (fs ++ gs) m) c₂ (omega arith, λ _. l) in
+        let h : ending (unknownBits (fs ++ gs) m) c₂ ≡ seen tt c₂ = ending-complete (unknownBits (fs ++ gs) m) c₂ (rw k at f) in
         rw (bitmap-gain fs gs b o c, e₁, plan-same m z, w, h, no-added fs gs m z)
 
-    -- What the old root reader accepts without a tail, the new one accepts, with the same tree.
-    pub old-then-new-root : Seen (λ tree end. length (end .left) ≡ 0 → rootStruct S′ t (fs ++ gs) c ≡ seen tree end) (rootStruct S t fs c)
+    -- The bits that were read are those at the front.
+    front-bits : (m : ℕ) (c₁ : Cursor) → bitmap fs c ≡ seen m c₁ → little (take (bitmapBytes (length fs)) (c .left)) ≡ m
+    front-bits m c₁ e =
+        let r = reads-end (bitmap-reads fs c) e in
+        ap (λ (l : List ℕ). little (take (bitmapBytes (length fs)) l)) (r .1) ∙ ap little (take-at (r .0) (c₁ .left) _ (r .2 .0)) ∙ r .2 .1
+
+    -- What the old root reader accepts, the new one accepts with the same tree and the same tail, where no added field's bit is set.
+    pub old-then-new-root : Seen (λ tree end. NoneAdded fs gs (c .left) → rootStruct S′ t (fs ++ gs) c ≡ seen tree end) (rootStruct S t fs c)
     unfolding rootStruct
     old-then-new-root = seen-then _ (λ m c₁ e₁. seen-then _ (λ ts c₂ e₂. seen-then _ (λ _ c₃ e₃.
         let z = ending-sound _ c₂ c₃ _ e₃ in
-        rw (← z .0, present-mod fs m) (holds (λ l. new-root m c₁ ts c₂ e₁ (rw (present-mod fs m) at e₂) (omega (arith, z .1 .0)) l)))))
+        rw (← z .0, present-mod fs m) (holds (λ l. new-root m c₁ ts c₂ e₁ (rw (present-mod fs m) at e₂) (rw (front-bits m c₁ e₁) at (ap length l)) (z .1))))))
+
+    nothing-left : (is : List Item) → length is ≡ 0 → is ≡ []
+    nothing-left [] e = refl
+    nothing-left (i ∷ is) e = absurd (omega arith)
+
+    -- None is set where the old reader has no tail.
+    pub tailless : Seen (λ tree end. length (end .left) ≡ 0 → NoneAdded fs gs (c .left)) (rootStruct S t fs c)
+    unfolding rootStruct
+    tailless = seen-then _ (λ m c₁ e₁. seen-then _ (λ ts c₂ e₂. seen-then _ (λ _ c₃ e₃.
+        let z = ending-sound _ c₂ c₃ _ e₃ in
+        rw (← z .0, front-bits m c₁ e₁) (holds {c = c₂} (λ (l : length (c₂ .left) ≡ 0). nothing-left (present gs (m / 2 ^ length fs)) (omega (arith, unknown-split fs gs m b, z .1 .0, l)))))))

@@ -83,9 +83,12 @@ within-closed n key (text _) w = tt
 pub good-solid : (T : Table) → GoodTable T → (t : ℕ) → Solid (shape T t)
 good-solid T g t = within-solid _ (shape T) (shape T t) (within T g t)
 
+pub good-closed : (T : Table) → GoodTable T → (t : ℕ) → Closed (length (T .types)) (shape T t)
+good-closed T g t = within-closed _ (shape T) (shape T t) (within T g t)
+
 pub good-extension : (old new : Table) → GoodTable old → GoodTable new → Extends old new → Extension (shape old) (shape new) (length (old .types))
 good-extension old new g g′ x = record {
-  closed = λ t l. within-closed _ (shape old) (shape old t) (within old g t);
+  closed = λ t l. good-closed old g t;
   grows = grows old new g g′ x;
   solid = good-solid new g′;
 }

@@ -23,7 +23,7 @@ use Rattle.schema.proofs.Shapes.{shape-known}
 use Rattle.value.proofs.Shapes.{Solid, good-solid, Extension, good-extension}
 use Rattle.value.specs.Write.{written, write}
 use Rattle.value.specs.Fits.{Shows, told, used}
-use Rattle.value.specs.Added.{carries, inner, firstAdded}
+use Rattle.value.specs.Added.{carries, inner, firstAdded, NoneAdded}
 use Rattle.value.specs.Claims.{Rightful, ReadAs, Writes, ByOld}
 use Rattle.value.proofs.Answers.{reads-end, yields-end}
 use Rattle.value.proofs.Bits.{bit-beyond}
@@ -182,9 +182,15 @@ module _ (old new : Table) (good : GoodTable old) (good′ : GoodTable new) (ext
         let (tree, end, e, u, a) = extended.new-by-old (shape old) (shape new) (length (old .types)) x t l fs gs st st′ payload room v q short in
         (tree, end, e, u, a, extended.refused-iff (shape old) (shape new) (length (old .types)) x t l fs gs st st′ payload room v _ a)
 
-    -- A payload that the old reader accepts without a tail, so without unknown bits: the new reader shows the same rows, which show the same value.
-    pub old-by-new : (rs : List Row) → read old t payload room ≡ accepted rs (length payload) 0
-        → (read new t payload room ≡ accepted rs (length payload) 0)
+    -- A payload that the old reader accepts, with no added field's bit set: the new reader gives the same rows and the same tail, and the rows show the
+    -- same value.
+    pub old-by-new : (rs : List Row) (place n : ℕ) → read old t payload room ≡ accepted rs place n → NoneAdded fs gs payload
+        → (read new t payload room ≡ accepted rs place n)
         × ((v : Value) × Shows (shape old) payload t fs rs v × Shows (shape new) payload t (fs ++ gs) rs v)
     unfolding read
-    old-by-new rs e = extended.old-by-new (shape old) (shape new) (length (old .types)) x t l fs gs st st′ payload room rs e
+    old-by-new rs place n e bare = extended.old-by-new (shape old) (shape new) (length (old .types)) x t l fs gs st st′ payload room rs place n e bare
+
+    -- None is set where there is no tail.
+    pub none-added : (rs : List Row) (place : ℕ) → read old t payload room ≡ accepted rs place 0 → NoneAdded fs gs payload
+    unfolding read
+    none-added rs place e = extended.none-added (shape old) (shape new) (length (old .types)) x t l fs gs st st′ payload room rs place e

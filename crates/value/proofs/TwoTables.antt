@@ -120,7 +120,7 @@ pairs-below : (n j k v : ℕ) → k < n → v < n → Below n (pairs j k v)
 pairs-below n zero k v h l = tt
 pairs-below n (suc j) k v h l = (h, (l, pairs-below n j k v h l))
 
-plan-below : (n : ℕ) (s : Shape) (h : ℕ) → Closed n s → Below n (plan s h)
+pub plan-below : (n : ℕ) (s : Shape) (h : ℕ) → Closed n s → Below n (plan s h)
 plan-below n (array e) h w = replicate-below n h e w
 plan-below n (map k v) h w = pairs-below n h k v (w .0) (w .1)
 plan-below n (struct fs) h w = present-below n fs h w

@@ -3,13 +3,11 @@
 use mathlib.Core.Path.{_≡_, refl, sym, _∙_}
 use mathlib.Core.List.{List, [], _∷_, append-nil}
 use mathlib.Core.Bool.{true}
-use Prim.Native.Nat.{ℕ, zero, suc, _+_, _/_, _^_, _≤_, _<_}
+use Prim.Native.Nat.{ℕ, zero, suc, _/_, _^_, _≤_, _<_}
 use native.Mathlib.Omega.{arith}
 use native.Mathlib.Nat.{mod-lt, mod-eq-of-lt, div-eq-of-lt}
 use native.Mathlib.Numerals.{add-one}
-use lib.Count.{onesIn}
-use lib.ListN.{length, drop, length-append, length-drop, length-replicate}
-use lib.Seq.{length-take-le}
+use lib.ListN.{length, length-append, length-replicate}
 use lib.Pow.{pow-pos, field, mod-mod-pow}
 use Rattle.wire.specs.Varuint.{varuintBytes}
 use Rattle.wire.specs.Little.{bytes}
@@ -21,13 +19,11 @@ use Rattle.value.specs.Value.{Tree, tip, branch, Forest, stop, plus, Val
 use Rattle.value.specs.Read.{Item, plainItem, plan, complete, knownBits, unknownBits}
 use Rattle.value.specs.Spell.{LeafSpells, HeadSpells, BitmapSpells, AllSpell, Spells, RootSpells, leafBytes, headBytes, encode, encodeAll}
 use Rattle.value.proofs.Shapes.{Solid}
-use Rattle.value.specs.Write.{span}
 use Rattle.value.specs.Fits.{LeafFits, HeadFits, AllFit, Fits, RootFits}
+use Rattle.value.proofs.Bits.{ones-none}
+use Rattle.value.proofs.Spans.{length-span}
 use Rattle.value.proofs.Complete.{takes, all-take, length-pairs}
 use Rattle.value.proofs.Encode.{bits-fit}
-
-length-span : (B : List ℕ) (p n : ℕ) → p + n ≤ length B → length (span B p n) ≡ n
-length-span B p n h = length-take-le n (drop p B) (simp length-drop (omega arith))
 
 module _ (B : List ℕ) where
   leaf-written : (s : Shape) (p n c : ℕ) (x : List ℕ) → LeafFits B s p n c x → length (leafBytes s x) ≤ 16384 → LeafSpells s x (leafBytes s x)
@@ -69,14 +65,9 @@ unfolding complete
 complete-known [] m = refl
 complete-known (f ∷ fs) m = rw (← add-one (length fs), mod-mod-pow m (length fs) 1, field m (length fs) 1, complete-known fs (m / 2))
 
-ones-zero : (k : ℕ) → onesIn k 0 ≡ 0
-unfolding onesIn
-ones-zero zero = refl
-ones-zero (suc k) = omega (arith, ones-zero k)
-
 -- No bit beyond the fields is set below 2 to their number.
 pub none-unknown : (fs : List Field) (m : ℕ) → m < 2 ^ length fs → unknownBits fs m ≡ 0
-none-unknown fs m h = rw (div-eq-of-lt h) (ones-zero _)
+none-unknown fs m h = rw (div-eq-of-lt h) (ones-none _)
 
 module _ (S : ℕ → Shape) (solid : (t : ℕ) → Solid (S t)) (B : List ℕ) where
   -- The encoding of what a tree that fits shows spells it.

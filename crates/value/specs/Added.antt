@@ -1,14 +1,16 @@
 -- What an old table knows of a value that the rules of an extending table allow: which structs carry added fields, and what is left without them.
 -- No reader is mentioned. S are the shapes of the old table, so a field is added where its number is beyond the fields of S.
 -- Assumes nothing.
+use mathlib.Core.Path.{_≡_}
 use mathlib.Core.List.{List, [], _∷_, _++_}
 use mathlib.Core.Option.{Option, none, some}
 use mathlib.Core.Bool.{Bool, false, cond}
 use Prim.Native.Nat.{ℕ, zero, suc, _/_, _^_}
 use lib.Dec.{leb}
-use lib.ListN.{length}
+use lib.ListN.{length, take}
+use Rattle.wire.specs.Little.{little}
 use Rattle.schema.specs.declared.Field.{Field}
-use Rattle.schema.specs.Table.{Shape, unknown, scalar, text, array, map, struct}
+use Rattle.schema.specs.Table.{Shape, unknown, scalar, text, array, map, struct, bitmapBytes}
 use Rattle.value.specs.Value.{Value, leaf, node, Values, none as empty, some as and, Tree, tip, branch, Forest, stop, plus}
 use Rattle.value.specs.Read.{Item, plan, present, knownBits}
 
@@ -94,3 +96,7 @@ afterFirst (suc k) (and v vs) = afterFirst k vs
 abbrev pub addedValues : (fs : List Field) → Value → Values
 addedValues fs (leaf x) = empty
 addedValues fs (node h vs) = afterFirst (length (present fs h)) vs
+
+-- None of the added fields' bits is set in the bitmap at the front of a payload.
+abbrev pub NoneAdded : (fs gs : List Field) (payload : List ℕ) → Type 0
+NoneAdded fs gs payload = present gs (little (take (bitmapBytes (length fs)) payload) / 2 ^ length fs) ≡ []

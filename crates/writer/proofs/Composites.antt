@@ -1,7 +1,7 @@
 -- Laws of the walkers: a value of each shape by its row, and the turns of the loops over what it holds.
 -- Assumes nothing.
 use mathlib.Core.Path.{_≡_, refl, sym, ap, _∙_}
-use mathlib.Core.Bool.{Bool, true, false, _||_, false≢true}
+use mathlib.Core.Bool.{true, false}
 use mathlib.Core.List.{List, [], _∷_}
 use Prim.Native.Nat.{ℕ, suc, _+_, _-_, _/_, _%_, _^_, _≤_, _<_}
 use native.Mathlib.Nat.{mod-eq-of-lt}
@@ -23,6 +23,8 @@ use Rattle.value.specs.Write.{RowReader, rowOf, span, inside, bitsAt, show}
 use Rattle.value.proofs.Answers.{accepted-first, accepted-check}
 use Rattle.parts.specs.Shape.{leafShape, fieldsFrom}
 use Rattle.parts.proofs.Presence.{present-set, present-clear}
+use Rattle.parts.proofs.Items.{keyItem, item-accepted, key-accepted, key-known, elements-some, pairs-some}
+use Rattle.parts.proofs.Walks.{deep}
 use Rattle.writer.specs.declared.leaf.Due.{Due}
 use Rattle.writer.specs.declared.leaf.Due.the-variants.{Found, Missing}
 use Rattle.writer.specs.declared.leaf.Leaf.{Leaf}
@@ -35,18 +37,7 @@ use Rattle.writer.specs.Leaf.{rowsAt, dueOf, DueIn, RowDue, leafOf, Leaf
 use Rattle.writer.specs.Keys.{KeyIn, keyAt}
 use Rattle.writer.specs.Walk.{Walked}
 use Rattle.writer.proofs.Keys.{key-is}
-use Rattle.writer.proofs.Steps.{keyItem, done-put, branch-bytes, tip-bytes, item-past, item-stop, item-accepted, key-accepted, key-stop, key-again, key-new, key-known, show-refused, show-bad, show-parts, says-accepted, leaf-shown, leaf-refused}
-
--- ---- depth
-
-pub deep : (d : ℕ) → (d ≡ 0 → ⊥) → d ≡ suc (d - 1)
-deep d h = omega (arith, h)
-
-pub deeper : (X : ℕ → Type 0) (d : ℕ) → (d ≡ 0 → ⊥) → X d → X (suc (d - 1))
-deeper X d h x = let e : suc (d - 1) ≡ d = omega (arith, h) in rw e x
-
-pub shallower : (X : ℕ → Type 0) (d : ℕ) → (d ≡ 0 → ⊥) → X (suc (d - 1)) → X d
-shallower X d h x = let e : suc (d - 1) ≡ d = omega (arith, h) in rw e at x
+use Rattle.writer.proofs.Steps.{done-put, branch-bytes, tip-bytes, item-past, item-stop, key-stop, key-again, key-new, show-refused, show-bad, show-parts, says-accepted, leaf-shown, leaf-refused}
 
 -- ---- a leaf
 
@@ -194,13 +185,6 @@ module _ (S : ℕ → Shape) (B : List ℕ) (d t : ℕ) (cells : List ℕ) (row 
 
 -- ---- elements of an array
 
-module _ (e : ℕ) where
-  elements-some : (left : ℕ) → 0 < left → replicate left (plainItem e) ≡ plainItem e ∷ replicate (left - 1) (plainItem e)
-  elements-some left h = let q : left ≡ suc (left - 1) = omega arith in ap (λ (k : ℕ). replicate k (plainItem e)) q
-
-  pub elements-none : (left : ℕ) → left ≤ 0 → replicate left (plainItem e) ≡ []
-  elements-none left h = let q : left ≡ 0 = omega arith in rw q
-
 module _ (S : ℕ → Shape) (P : ℕ → RowReader Tree) (e left : ℕ) (some : 0 < left) (c : CursorOf Row) (pos : ℕ) (out : List ℕ) where
   pub element-past : length out ≤ 16384 → (c′ : CursorOf Row) (next : ℕ) (mid : List ℕ) → done c′ next mid ≡ emit S e (P e c) pos out
       → emitAll S (replicate (left - 1) (plainItem e)) (walk P [] (replicate (left - 1) (plainItem e)) c′) next mid
@@ -213,7 +197,7 @@ module _ (S : ℕ → Shape) (P : ℕ → RowReader Tree) (e left : ℕ) (some :
   element-stop n q h = rw (elements-some e left some) (item-stop S P [] (replicate (left - 1) (plainItem e)) e c pos out n q h)
 
   pub element-accepted : Accepted (walk P [] (replicate left (plainItem e)) c) → Accepted (P e c)
-  element-accepted h = item-accepted S P [] (replicate (left - 1) (plainItem e)) e c (rw (elements-some e left some) at h)
+  element-accepted h = item-accepted P [] (replicate (left - 1) (plainItem e)) e c (rw (elements-some e left some) at h)
 
 -- ---- fields of a struct
 
@@ -236,7 +220,7 @@ module _ (S : ℕ → Shape) (P : ℕ → RowReader Tree) (cells : List ℕ) (T 
 
     pub field-accepted : Accepted (walk P [] (present (fieldsFrom T i left) bits) (rowsAt cells here)) → Accepted (P (f .ty) (rowsAt cells here))
     field-accepted h =
-        item-accepted S P [] (present (fieldsFrom T (i + 1) (left - 1)) (bits / 2)) (f .ty) (rowsAt cells here)
+        item-accepted P [] (present (fieldsFrom T (i + 1) (left - 1)) (bits / 2)) (f .ty) (rowsAt cells here)
         (rw (present-set T i left some room bits f is b) at h)
 
     pub field-read : length out ≤ 16384 → (row next : ℕ) (mid : List ℕ) → Walked cells (emit S (f .ty) (P (f .ty) (rowsAt cells here)) to out) (Past row next) mid
@@ -262,18 +246,12 @@ module _ (S : ℕ → Shape) (P : ℕ → RowReader Tree) (cells : List ℕ) (T 
 
 -- ---- pairs of a map
 
-pairs-some : (k v left : ℕ) → 0 < left → pairs left k v ≡ keyItem k ∷ (plainItem v ∷ pairs (left - 1) k v)
-pairs-some k v left h = let q : left ≡ suc (left - 1) = omega arith in ap (λ (j : ℕ). pairs j k v) q
-
-pub pairs-none : (k v left : ℕ) → left ≤ 0 → pairs left k v ≡ []
-pairs-none k v left h = let q : left ≡ 0 = omega arith in rw q
-
 module _ (S : ℕ → Shape) (P : ℕ → RowReader Tree) (k v n i : ℕ) (keys : List (List ℕ)) (cells : List ℕ) (here : ℕ) (some : i < n) where
   split : pairs (n - i) k v ≡ keyItem k ∷ (plainItem v ∷ pairs (n - i - 1) k v)
   split = pairs-some k v (n - i) (omega arith)
 
   pub pair-key-accepted : Accepted (walk P keys (pairs (n - i) k v) (rowsAt cells here)) → Accepted (P k (rowsAt cells here))
-  pair-key-accepted h = key-accepted S P keys (plainItem v ∷ pairs (n - i - 1) k v) k (rowsAt cells here) (rw split at h)
+  pair-key-accepted h = key-accepted P keys (plainItem v ∷ pairs (n - i - 1) k v) k (rowsAt cells here) (rw split at h)
 
   pub pair-key-stop : (to : ℕ) (out : List ℕ) (a q : ℕ) → P k (rowsAt cells here) ≡ refused a q
       → stopped a q ≡ emitAll S (pairs (n - i) k v) (walk P keys (pairs (n - i) k v) (rowsAt cells here)) to out
@@ -281,13 +259,13 @@ module _ (S : ℕ → Shape) (P : ℕ → RowReader Tree) (k v n i : ℕ) (keys 
 
   module _ (x : List ℕ) (c′ : CursorOf Row) (read : (r : Row) × (P k (rowsAt cells here) ≡ seen (tip r x) c′)) where
     known : Accepted (walk P keys (pairs (n - i) k v) (rowsAt cells here)) → (among x keys ≡ false) × Accepted (walk P (x ∷ keys) (plainItem v ∷ pairs (n - i - 1) k v) c′)
-    known h = key-known S P keys (plainItem v ∷ pairs (n - i - 1) k v) k (rowsAt cells here) (read .0) x c′ (read .1) (rw split at h)
+    known h = key-known P keys (plainItem v ∷ pairs (n - i - 1) k v) k (rowsAt cells here) (read .0) x c′ (read .1) (rw split at h)
 
     pub pair-known : Accepted (walk P keys (pairs (n - i) k v) (rowsAt cells here)) → among x keys ≡ false
     pair-known h = known h .0
 
     pub pair-value-accepted : Accepted (walk P keys (pairs (n - i) k v) (rowsAt cells here)) → Accepted (P v c′)
-    pair-value-accepted h = item-accepted S P (x ∷ keys) (pairs (n - i - 1) k v) v c′ (known h .1)
+    pair-value-accepted h = item-accepted P (x ∷ keys) (pairs (n - i - 1) k v) v c′ (known h .1)
 
     pub pair-again : (to : ℕ) (out : List ℕ) → among x keys ≡ true
         → stopped 24 here ≡ emitAll S (pairs (n - i) k v) (walk P keys (pairs (n - i) k v) (rowsAt cells here)) to out
@@ -316,25 +294,3 @@ module _ (S : ℕ → Shape) (P : ℕ → RowReader Tree) (k v n i : ℕ) (keys 
 pub pairs-first : (S : ℕ → Shape) (P : ℕ → RowReader Tree) (k v n : ℕ) (keys : List (List ℕ)) (c : CursorOf Row) (to : ℕ) (out : List ℕ) → keys ≡ []
     → emitAll S (pairs (n - 0) k v) (walk P keys (pairs (n - 0) k v) c) to out ≡ emitAll S (pairs n k v) (walk P [] (pairs n k v) c) to out
 pairs-first S P k v n keys c to out e = let q : n - 0 ≡ n = omega arith in rw (e, q)
-
--- what is known of a content that is among the keys or is not
-module _ (a b : Bool) where
-  pub or-right : b ≡ true → (a || b) ≡ true
-  or-right e = go a
-    where
-      go : (t : Bool) → (t || b) ≡ true
-      go true = refl
-      go false = e
-
-  pub or-left : a ≡ true → (a || b) ≡ true
-  or-left e = rw e
-
-  pub or-neither : a ≡ false → b ≡ false → (a || b) ≡ false
-  or-neither e f = rw e f
-
-  pub or-false : (a || b) ≡ false → (a ≡ false) × (b ≡ false)
-  or-false e = go a refl
-    where
-      go : (t : Bool) → a ≡ t → (a ≡ false) × (b ≡ false)
-      go true f = absurd (false≢true (sym e ∙ or-left f))
-      go false f = (f, rw f at e)

@@ -1,8 +1,8 @@
 -- Laws of the entries: what each of their returns shows of the whole writing.
 -- Assumes nothing.
-use mathlib.Core.Path.{_≡_, refl, sym, ap, _∙_}
+use mathlib.Core.Path.{_≡_, sym, ap, _∙_}
 use mathlib.Core.Bool.{true, false}
-use mathlib.Core.List.{List, [], _∷_, _++_, append-nil}
+use mathlib.Core.List.{List, [], _++_, append-nil}
 use Prim.Native.Nat.{ℕ, _+_, _≤_, _<_}
 use native.Mathlib.Omega.{arith}
 use borrow.Author.Tests.{le-leb, lt-leb}
@@ -21,6 +21,7 @@ use Rattle.value.specs.Value.{Tree, value}
 use Rattle.value.specs.Spell.{encode}
 use Rattle.value.specs.Write.{showRoot, fitted, writing, write}
 use Rattle.parts.proofs.Tables.{no-struct}
+use Rattle.parts.proofs.Walks.{nothing-before}
 use Rattle.writer.specs.declared.Writing.the-variants.{Written, Refused}
 use Rattle.writer.specs.declared.walk.Walk.{Walk}
 use Rattle.writer.specs.declared.walk.Walk.the-variants.{Past, Refused as Stopped}
@@ -55,10 +56,6 @@ emit-stopped : (S : ℕ → Shape) (t : ℕ) (m : AnswerOf Row Tree) (n q : ℕ)
 unfolding emit
 emit-stopped S t (refused _ _) n q out e = cc
 emit-stopped S t (seen tree end) n q out e = absurd (let z : _≡_ {A = ℕ} 0 1 = cc in omega arith)
-
-nothing-before : (o out : List ℕ) → length o ≡ 0 → o ++ out ≡ out
-nothing-before [] out z = refl
-nothing-before (x ∷ o) out z = absurd (omega arith)
 
 -- The first walk is lent no byte of the output.
 module _ (s : List ℕ) (ty : ℕ) (cells B out : List ℕ) (fs : List Field) (is : shape (tableOf s) ty ≡ struct fs)

@@ -19,11 +19,11 @@ use Rattle.value.specs.Answer.{CursorOf, AnswerOf, refused, seen, Accepted}
 use Rattle.value.specs.Value.{Tree}
 use Rattle.value.specs.Read.{same, among}
 use Rattle.value.specs.Write.{span}
-use Rattle.value.proofs.Keys.{same-not}
+use Rattle.value.proofs.Spans.{length-span}
+use Rattle.value.proofs.Keys.{same-not, lengths-differ}
 use Rattle.writer.specs.Emit.{done, stopped, emit}
 use Rattle.writer.specs.Leaf.{rowsAt, placeAt, lengthAt}
 use Rattle.writer.specs.Keys.{KeyIn, keyAt, keysIn, Kept, mark, Marked, rowAfter, valueAfter, Stands, endPast, keysPast, Known, keysKnown}
-use Rattle.writer.proofs.Puts.{length-span}
 
 -- ---- contents
 
@@ -44,20 +44,10 @@ module _ (B : List ℕ) where
       let q : a + 0 ≡ a = omega arith in
       rw (m, q)
 
-and-none : (t r : Bool) → false ≡ r → false ≡ (t && r)
-and-none true r h = h
-and-none false r h = refl
-
-lengths-differ : (u v : List ℕ) → (length u ≡ length v → ⊥) → false ≡ same u v
-lengths-differ [] [] h = absurd (h refl)
-lengths-differ [] (b ∷ v) h = refl
-lengths-differ (a ∷ u) [] h = refl
-lengths-differ (a ∷ u) (b ∷ v) h = and-none (eqb a b) (same u v) (lengths-differ u v (λ e. h (ap suc e)))
-
 module _ (B : List ℕ) (a n b m : ℕ) (ends : a + n ≤ length B) (ends′ : b + m ≤ length B) where
   pub same-short : (n ≡ m → ⊥) → false ≡ same (span B a n) (span B b m)
   same-short h =
-      lengths-differ (span B a n) (span B b m) (λ k. h (sym (length-span B a n ends) ∙ k ∙ length-span B b m ends′))
+      sym (lengths-differ (span B a n) (span B b m) (λ k. h (sym (length-span B a n ends) ∙ k ∙ length-span B b m ends′)))
 
   pub same-first : same (span B (a + 0) (n - 0)) (span B (b + 0) (m - 0)) ≡ same (span B a n) (span B b m)
   same-first = rw (span-first B a n, span-first B b m)

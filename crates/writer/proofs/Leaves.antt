@@ -2,22 +2,21 @@
 -- Assumes nothing.
 use mathlib.Core.Path.{_≡_, sym, ap, _∙_}
 use mathlib.Core.Bool.{true, false, not, _||_}
-use mathlib.Core.List.{List, [], _∷_}
-use Prim.Native.Nat.{ℕ, zero, suc, _+_, _-_, _*_, _/_, _≤_, _<_}
+use mathlib.Core.List.{List, []}
+use Prim.Native.Nat.{ℕ, _+_, _*_, _/_, _≤_, _<_}
 use native.Mathlib.Omega.{arith}
 use native.Mathlib.Numerals.{add-one}
 use borrow.Author.Tests.{le-leb, lt-leb, lt-ltb, le-ltb, eq-eqb, ne-eqb}
 use lib.Dec.{ltb, eqb}
-use lib.ListN.{length, getD, take, drop}
-use lib.Seq.{slice, take-nil}
+use lib.ListN.{length, getD}
 use Rattle.wire.specs.Little.{little}
 use Rattle.wire.specs.Utf8.{utf8}
-use Rattle.wire.proofs.Numbers.{little-one}
 use Rattle.schema.specs.Table.{width}
 use Rattle.value.specs.declared.Row.{Row}
 use Rattle.value.specs.Answer.{CursorOf, seen, andThen, check, Accepted}
 use Rattle.value.specs.Write.{nextRow, rowOf, span, says}
 use Rattle.value.proofs.Answers.{accepted-check}
+use Rattle.value.proofs.Spans.{truth-byte}
 use Rattle.value.proofs.Sheets.{rows-from, no-rows}
 use Rattle.parts.specs.Shape.{leafShape}
 use Rattle.parts.proofs.Tables.{leaf-scalar, leaf-text}
@@ -27,17 +26,6 @@ use Rattle.writer.specs.declared.leaf.Verdict.{Verdict}
 use Rattle.writer.specs.declared.leaf.Verdict.the-variants.{Fine, Bad}
 use Rattle.writer.specs.declared.leaf.Leaf.the-variants.{At, Bad as BadLeaf}
 use Rattle.writer.specs.Leaf.{rowsAt, placeAt, lengthAt, dueOf, DueIn, RowDue, saidOf, VerdictIn, Judged, rowSays, LeafRow}
-
--- ---- spans
-
-take-drop : (f t : ℕ) (l : List ℕ) → drop f (take t l) ≡ take (t - f) (drop f l)
-take-drop zero t l = let e : t - 0 ≡ t = omega arith in rw e
-take-drop (suc f) zero l = let e : 0 - suc f ≡ 0 = omega arith in rw e
-take-drop (suc f) (suc t) [] = sym (take-nil (suc t - suc f))
-take-drop (suc f) (suc t) (x ∷ l) = let e : suc t - suc f ≡ t - f = omega arith in rw e (take-drop f t l)
-
-pub slice-span : (B : List ℕ) (p n : ℕ) → slice p (p + n) B ≡ span B p n
-slice-span B p n = let e : p + n - p ≡ n = omega arith in take-drop p (p + n) B ∙ rw e
 
 -- ---- rows
 
@@ -90,14 +78,8 @@ module _ (B : List ℕ) (kind p n c : ℕ) where
           pub one-byte : kind ≡ 1 → p < length B
           one-byte k = let e : n ≡ 1 = w ∙ ap width k in omega arith
 
-          little-first : kind ≡ 1 → little (span B p n) ≡ getD B p 0
-          little-first k =
-              let e : n ≡ 1 = w ∙ ap width k in
-              let l : p < length B = omega arith in
-              rw e (little-one B p l)
-
           pub scalar-truth : kind ≡ 1 → getD B p 0 ≤ 1 → (not (eqb kind 1) || ltb (little (span B p n)) 2) ≡ true
-          scalar-truth k h = rw (eq-eqb kind 1 k, little-first k) (lt-ltb (getD B p 0) 2 (omega arith))
+          scalar-truth k h = rw (eq-eqb kind 1 k, truth-byte B kind p n w inside k) (lt-ltb (getD B p 0) 2 (omega arith))
 
           pub scalar-other : (kind ≡ 1 → ⊥) → (not (eqb kind 1) || ltb (little (span B p n)) 2) ≡ true
           scalar-other k = rw (ne-eqb kind 1 k)
@@ -105,7 +87,7 @@ module _ (B : List ℕ) (kind p n c : ℕ) where
           pub scalar-bad : kind ≡ 1 → 1 < getD B p 0 → Judged B kind p n c (Bad 22)
           unfolding andThen check
           scalar-bad k h =
-              let f : ltb (little (span B p n)) 2 ≡ false = rw (little-first k) (le-ltb (getD B p 0) 2 h) in
+              let f : ltb (little (span B p n)) 2 ≡ false = rw (truth-byte B kind p n w inside k) (le-ltb (getD B p 0) 2 h) in
               record {
                 same = λ row cur. rw (leaf-scalar kind is, eq-eqb n (width kind) w, eq-eqb c 0 z, le-leb (p + n) (length B) inside, f, eq-eqb kind 1 k);
                 within = tt;

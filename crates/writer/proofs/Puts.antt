@@ -6,7 +6,7 @@ use Prim.Native.Nat.{ℕ, zero, suc, _+_, _-_, _%_, _/_, _^_, _≤_, _<_}
 use native.Mathlib.Omega.{arith}
 use native.Mathlib.Decide.{decLe}
 use borrow.Author.Tests.{lt-ltb, le-ltb}
-use lib.ListN.{length, set, getD, take, drop, length-append, length-set, length-take, length-drop}
+use lib.ListN.{length, set, getD, take, drop, length-append, length-set, length-take}
 use lib.Seq.{set-out, set-append-seam, drop-cons, take-nil, take-take}
 use Rattle.wire.specs.Little.{bytes}
 use Rattle.wire.specs.Varuint.{shortest, varuintBytes}
@@ -14,6 +14,7 @@ use Rattle.wire.proofs.Numbers.{length-bytes}
 use Rattle.wire.proofs.Varuints.{Rest, rest-more, rest-done, shortest-le}
 use Rattle.value.specs.Spell.{leafBytes}
 use Rattle.value.specs.Write.{span}
+use Rattle.value.proofs.Spans.{length-span}
 use Rattle.parts.specs.Shape.{leafShape}
 use Rattle.writer.specs.Emit.{put, cap, PutAt}
 
@@ -117,9 +118,6 @@ module _ (out : List ℕ) (pos : ℕ) (B : List ℕ) (from : ℕ) where
   span-whole m n h l k =
       let len : length (span B from n) ≤ n = simp length-take (omega arith) in
       rw (← take-take m n (drop from B) h) (put-take out pos (span B from n) m (λ q. k (omega arith)))
-
-pub length-span : (B : List ℕ) (p n : ℕ) → p + n ≤ length B → length (span B p n) ≡ n
-length-span B p n h = simp (length-take, length-drop) (omega arith)
 
 -- ---- the whole output
 

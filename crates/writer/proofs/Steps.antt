@@ -1,21 +1,21 @@
 -- Laws of the walkers: what one step of a walk does to its end.
 -- Assumes nothing.
 use mathlib.Core.Path.{_≡_, refl, _∙_}
-use mathlib.Core.Bool.{Bool, true, false, not}
+use mathlib.Core.Bool.{Bool, true, false}
 use mathlib.Core.List.{List, [], _∷_, _++_}
-use Prim.Native.Nat.{ℕ, zero, suc, _+_, _-_, _/_, _≤_}
+use Prim.Native.Nat.{ℕ, zero, suc, _+_, _/_, _≤_}
 use native.Mathlib.Omega.{arith}
-use borrow.Author.Tests.{not-true}
 use lib.Dec.{eqb}
 use lib.ListN.{length}
 use Rattle.schema.specs.Table.{Shape, unknown}
 use Rattle.value.specs.declared.Row.{Row}
 use Rattle.value.specs.Answer.{CursorOf, AnswerOf, refused, seen, andThen, check, Accepted}
-use Rattle.value.specs.Value.{Tree, tip, branch, Forest, plus, value, values, content}
+use Rattle.value.specs.Value.{Tree, tip, branch, Forest, plus, value, values}
 use Rattle.value.specs.Read.{Item, plainItem, plan, plain, parts, among, walk}
 use Rattle.value.specs.Spell.{leafBytes, headBytes, encode, encodeAll}
 use Rattle.value.specs.Write.{RowReader, nextRow, rowOf, says, held, show}
-use Rattle.value.proofs.Answers.{accepted-first, accepted-check}
+use Rattle.value.proofs.Answers.{accepted-first}
+use Rattle.parts.proofs.Items.{keyItem, afterItem, afterKey, item-step, key-step}
 use Rattle.writer.specs.declared.walk.Walk.{Walk}
 use Rattle.writer.specs.declared.walk.Walk.the-variants.{Past, Refused}
 use Rattle.writer.specs.Emit.{put, cap, PutAt, Final, done, stopped, emit, emitAll}
@@ -68,26 +68,7 @@ tip-bytes S t r x = refl
 
 -- ---- items one after the other
 
-abbrev pub keyItem : ℕ → Item
-keyItem k = record { type = k; key = true }
-
 module _ (S : ℕ → Shape) (P : ℕ → RowReader Tree) (keys : List (List ℕ)) (is : List Item) where
-  afterItem : Tree → RowReader Forest
-  afterItem t c = andThen (walk P keys is c) (λ ts c. seen (plus t ts) c)
-
-  afterKey : ℕ → Tree → RowReader Forest
-  afterKey q t c =
-      andThen (check (not (among (content (value t)) keys)) 24 q c)
-      (λ _ c. andThen (walk P (content (value t) ∷ keys) is c) (λ ts c. seen (plus t ts) c))
-
-  item-step : (t : ℕ) (c : CursorOf Row) → walk P keys (plainItem t ∷ is) c ≡ andThen (P t c) afterItem
-  unfolding walk afterItem check andThen
-  item-step t c = refl
-
-  key-step : (k : ℕ) (c : CursorOf Row) → walk P keys (keyItem k ∷ is) c ≡ andThen (P k c) (afterKey (c .at))
-  unfolding walk afterKey
-  key-step k c = refl
-
   -- the values of the items after one
   then-plus : (i : Item) (t : Tree) (o : AnswerOf Row Forest) (pos : ℕ) (out : List ℕ) (next : ℕ) (mid : List ℕ) → length out ≤ 16384 → PutAt out pos (encode S (value t) (i .type)) next mid
       → emitAll S is o next mid ≡ emitAll S (i ∷ is) (andThen o (λ ts c. seen (plus t ts) c)) pos out
@@ -102,10 +83,10 @@ module _ (S : ℕ → Shape) (P : ℕ → RowReader Tree) (keys : List (List ℕ
     pub item-past : length out ≤ 16384 → (c′ : CursorOf Row) (next : ℕ) (mid : List ℕ) → done c′ next mid ≡ emit S t (P t c) pos out
         → emitAll S is (walk P keys is c′) next mid ≡ emitAll S (plainItem t ∷ is) (walk P keys (plainItem t ∷ is) c) pos out
     unfolding andThen emit afterItem
-    item-past h c′ next mid e = rw (item-step t c) (go (P t c) e)
+    item-past h c′ next mid e = rw (item-step P keys is t c) (go (P t c) e)
       where
         go : (o : AnswerOf Row Tree) → done c′ next mid ≡ emit S t o pos out
-            → emitAll S is (walk P keys is c′) next mid ≡ emitAll S (plainItem t ∷ is) (andThen o afterItem) pos out
+            → emitAll S is (walk P keys is c′) next mid ≡ emitAll S (plainItem t ∷ is) (andThen o (afterItem P keys is)) pos out
         go (seen tree c₁) e =
             let k : c₁ ≡ c′ = cc in
             let a : next ≡ cap (pos + length (encode S (value tree) t)) = cc in
@@ -115,39 +96,27 @@ module _ (S : ℕ → Shape) (P : ℕ → RowReader Tree) (keys : List (List ℕ
 
     pub item-stop : (n q : ℕ) → stopped n q ≡ emit S t (P t c) pos out → stopped n q ≡ emitAll S (plainItem t ∷ is) (walk P keys (plainItem t ∷ is) c) pos out
     unfolding andThen emit emitAll
-    item-stop n q e = rw (item-step t c) (go (P t c) e)
+    item-stop n q e = rw (item-step P keys is t c) (go (P t c) e)
       where
-        go : (o : AnswerOf Row Tree) → stopped n q ≡ emit S t o pos out → stopped n q ≡ emitAll S (plainItem t ∷ is) (andThen o afterItem) pos out
+        go : (o : AnswerOf Row Tree) → stopped n q ≡ emit S t o pos out → stopped n q ≡ emitAll S (plainItem t ∷ is) (andThen o (afterItem P keys is)) pos out
         go (seen tree c₁) e = let z : _≡_ {A = ℕ} 0 1 = cc in absurd (omega arith)
         go (refused n′ q′) e = e
-
-  pub item-accepted : (t : ℕ) (c : CursorOf Row) → Accepted (walk P keys (plainItem t ∷ is) c) → Accepted (P t c)
-  item-accepted t c h = accepted-first (P t c) afterItem (rw (item-step t c) at h)
-
-  pub key-accepted : (k : ℕ) (c : CursorOf Row) → Accepted (walk P keys (keyItem k ∷ is) c) → Accepted (P k c)
-  key-accepted k c h = accepted-first (P k c) (afterKey (c .at)) (rw (key-step k c) at h)
 
   pub key-stop : (k : ℕ) (c : CursorOf Row) (pos : ℕ) (out : List ℕ) (n q : ℕ) → P k c ≡ refused n q
       → stopped n q ≡ emitAll S (keyItem k ∷ is) (walk P keys (keyItem k ∷ is) c) pos out
   unfolding andThen emitAll
-  key-stop k c pos out n q e = rw (key-step k c, e)
+  key-stop k c pos out n q e = rw (key-step P keys is k c, e)
 
   module _ (k : ℕ) (c : CursorOf Row) (r : Row) (x : List ℕ) (c′ : CursorOf Row) (read : P k c ≡ seen (tip r x) c′) where
     pub key-again : (pos : ℕ) (out : List ℕ) → among x keys ≡ true → stopped 24 (c .at) ≡ emitAll S (keyItem k ∷ is) (walk P keys (keyItem k ∷ is) c) pos out
     unfolding andThen check afterKey value emitAll
-    key-again pos out e = rw (key-step k c, read, e)
+    key-again pos out e = rw (key-step P keys is k c, read, e)
 
     pub key-new : (pos : ℕ) (out : List ℕ) (next : ℕ) (mid : List ℕ) → length out ≤ 16384 → PutAt out pos (leafBytes (S k) x) next mid → among x keys ≡ false
         → emitAll S is (walk P (x ∷ keys) is c′) next mid ≡ emitAll S (keyItem k ∷ is) (walk P keys (keyItem k ∷ is) c) pos out
     unfolding andThen check afterKey value
     key-new pos out next mid h p e =
-        rw (key-step k c, read, e) (then-plus (keyItem k) (tip r x) (walk P (x ∷ keys) is c′) pos out next mid h (rw (tip-bytes S k r x) p))
-
-    pub key-known : Accepted (walk P keys (keyItem k ∷ is) c) → (among x keys ≡ false) × Accepted (walk P (x ∷ keys) is c′)
-    unfolding andThen afterKey value
-    key-known h =
-        let w = accepted-check _ 24 (c .at) c′ _ (rw (key-step k c, read) at h) in
-        (not-true (among x keys) (w .0), accepted-first (walk P (x ∷ keys) is c′) _ (w .1))
+        rw (key-step P keys is k c, read, e) (then-plus (keyItem k) (tip r x) (walk P (x ∷ keys) is c′) pos out next mid h (rw (tip-bytes S k r x) p))
 
 walk-end : (S : ℕ → Shape) (P : ℕ → RowReader Tree) (keys : List (List ℕ)) (c : CursorOf Row) (pos : ℕ) (out : List ℕ) → pos ≤ 16385
     → done c pos out ≡ emitAll S [] (walk P keys [] c) pos out

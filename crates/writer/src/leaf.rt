@@ -1,7 +1,7 @@
 // What one row says: its cells, the content of a scalar, string or bytes, and the presence bits of a struct.
 use parts::is_complete;
+use parts::is_utf8;
 use wire::bitmap;
-use wire::utf8;
 ghost use mathlib.Core.Path.{_≡_};
 ghost use mathlib.Core.Bool.{true, false};
 ghost use Prim.Native.Nat.{_+_, _*_, _/_, _≤_, _<_};
@@ -79,17 +79,6 @@ fn width_of(kind: usize) -> usize
         return 0;
     }
     schema::kind::width_of(kind)
-}
-
-// Whether a content is UTF-8; where nothing is judged, it is known to be.
-fn is_utf8(source: &[u8], from: usize, n: usize, judge: bool) -> bool
-    requires { ⌜ (from + n ≤ length (now source)) × (judge ≡ false → utf8 (span (now source) from n) ≡ true) ⌝ }
-    ensures { λ r. ⌜ r ≡ utf8 (span (now (source .entry)) from n) ⌝ }
-{
-    if judge {
-        return utf8::valid(source, from, from + n);
-    }
-    true
 }
 
 // A scalar by its row.

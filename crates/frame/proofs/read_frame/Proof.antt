@@ -1,46 +1,30 @@
--- `frame::read_frame` meets its contract: field by field, what is left to be judged gives the answer to the whole.
+-- `frame::read_frame` meets its contract: the header's judgement leaves the answer to the payload, or is the answer.
 -- Assumes nothing.
-use mathlib.Core.Path.{_≡_, sym, ap, _∙_}
+use mathlib.Core.Path.{_≡_, refl, sym, _∙_}
+use Prim.Native.Nat.{ℕ, zero, suc}
 use borrow.Author.Needs.{needs}
-use borrow.Author.Tests.{le-leb, lt-leb, eq-eqb, ne-eqb, not-true, not-false}
-use Rattle.frame.specs.Frame.{knownKind, frameOf}
-use Rattle.frame.proofs.Places.{short, wrong, passed, fromLength, fromFlags, fromKind, fromVersion, by-places}
+use Rattle.frame.specs.declared.FrameRead.{FrameRead}
+use Rattle.frame.specs.declared.FrameRead.the-variants.{Refused}
+use Rattle.frame.specs.Places.{judged}
 use Rattle.frame.proofs.read_frame.Statement.{statement}
 use Rattle.frame.proofs.read_frame.Tie as tie
 
-magic : (c : tie.Else2) → let s = c .before .before .before .before .before .args .bytes .now in frameOf s ≡ fromVersion s
-magic c = by-places _ ∙ passed _ 2 _ 2 _ (c .before .before .before .if1 .left) (not-false _ (c .if2 .left))
-
-version : (c : tie.Else4) → let s = c .before .before .before .before .before .before .before .before .args .bytes .now in frameOf s ≡ fromKind s
-version c = magic (c .before .before .before) ∙ passed _ 3 _ 3 _ (c .before .before .if3 .left) (eq-eqb _ _ (sym (c .before .byte .ensures) ∙ c .if4 .left))
-
-kind : (c : tie.Else6) → let s = c .before .before .before .before .before .before .before .before .before .before .before .before .args .bytes .now in frameOf s ≡ fromFlags s
-kind c =
-    version (c .before .before .before .before)
-    ∙ passed _ 4 _ 4 _ (c .before .before .before .if5 .left)
-    (ap knownKind (sym (c .before .before .byte2 .ensures)) ∙ sym (c .before .known-kind .ensures) ∙ not-false _ (c .if6 .left))
-
-flags : (c : tie.Else8) → let s = c .before .before .before .before .before .before .before .before .before .before .before .before .before .before .before .args .bytes .now in frameOf s ≡ fromLength s
-flags c = kind (c .before .before .before) ∙ passed _ 5 _ 5 _ (c .before .before .if7 .left) (eq-eqb _ _ (sym (c .before .byte3 .ensures) ∙ c .if8 .left))
+refuses : (n : ℕ) (next : FrameRead) → (n ≡ 0 → ⊥) → (n ≡ 1 → ⊥) → judged n next ≡ Refused n
+refuses zero next a b = absurd (a refl)
+refuses (suc zero) next a b = absurd (b refl)
+refuses (suc (suc n)) next a b = refl
 
 pub read-frame-spec : {M : Type 1} → statement M
 read-frame-spec =
     tie.close
     (tie.spec
-    (λ c. sym (by-places _ ∙ short _ 2 _ 2 _ (c .if1 .taken)))
-    (λ c. search needs)
-    (λ c. search needs)
-    (λ c. sym (by-places _ ∙ wrong _ 2 _ 2 _ (c .before .before .before .if1 .left) (not-true _ (c .if2 .taken))))
-    (λ c. sym (magic (c .before) ∙ short _ 3 _ 3 _ (c .if3 .taken)))
+    -- judge-header-requires
     (λ c κs. search needs)
-    (λ c. sym (magic (c .before .before .before) ∙ wrong _ 3 _ 3 _ (c .before .before .if3 .left) (ne-eqb _ _ (λ e. c .if4 .taken (c .before .byte .ensures ∙ e)))))
-    (λ c. sym (version (c .before) ∙ short _ 4 _ 4 _ (c .if5 .taken)))
-    (λ c κs. search needs)
-    (λ c κs. search needs)
-    (λ c. sym (version (c .before .before .before .before) ∙ wrong _ 4 _ 4 _ (c .before .before .before .if5 .left) (ap knownKind (sym (c .before .before .byte2 .ensures)) ∙ sym (c .before .known-kind .ensures) ∙ not-true _ (c .if6 .taken))))
-    (λ c. sym (kind (c .before) ∙ short _ 5 _ 5 _ (c .if7 .taken)))
-    (λ c κs. search needs)
-    (λ c. sym (kind (c .before .before .before) ∙ wrong _ 5 _ 5 _ (c .before .before .if7 .left) (ne-eqb _ _ (λ e. c .if8 .taken (c .before .byte3 .ensures ∙ e)))))
-    (λ c. sym (flags (c .before) ∙ rw (lt-leb 25 _ (c .if9 .taken))))
-    (λ c κs. search needs)
-    (λ c. sym (flags (c .before .before) ∙ rw (le-leb 25 _ (c .before .if9 .left)) (sym (c .read-payload .ensures)))))
+    -- read-payload-requires
+    (λ c κs. c .before .judge-header .ensures .1 (c .if1 .taken))
+    -- returns
+    (λ c. c .read-payload .ensures ∙ (rw (c .before .if1 .taken) at (c .before .before .judge-header .ensures .0)))
+    -- returns-2
+    (λ c. rw (c .if2 .taken) at (c .before .before .judge-header .ensures .0))
+    -- returns-3
+    (λ c. sym (refuses _ _ (c .before .if1 .left) (c .if2 .left)) ∙ c .before .before .judge-header .ensures .0))

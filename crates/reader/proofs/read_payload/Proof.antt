@@ -17,7 +17,7 @@ read-payload-spec =
     -- type-row-requires
     (λ c κs. search needs)
     -- returns
-    (λ c. entry-type (c .before .before .before .before .before .before .args .schema .now) (c .before .before .before .before .before .before .args .ty) (c .before .before .before .before .before .before .args .payload .now) (c .before .before .before .before .before .before .args .sheet .now) (c .before .before .type-row .result) (c .before .before .type-row .ensures) (c .if1 .taken))
+    (λ c. entry-type (c .before .before .before .before .before .before .args .schema .now) (c .before .before .before .before .before .before .args .ty) (c .before .before .before .before .before .before .args .payload .now) (c .before .before .before .before .before .before .args .sheet .now) (c .before .before .type-row .result) (c .before .before .type-row .ensures) (c .before .before .before .before .before .before .pre) (c .if1 .taken))
     -- returns-2
     (λ c. entry-long (c .before .before .before .before .before .before .before .args .schema .now) (c .before .before .before .before .before .before .before .args .ty) (c .before .before .before .before .before .before .before .args .payload .now) (c .before .before .before .before .before .before .before .args .sheet .now) (c .before .before .before .type-row .result) (c .before .before .before .type-row .ensures) (c .before .if1 .left) (c .if2 .taken))
     -- cast-first

@@ -1,15 +1,29 @@
 -- `Call::judge` meets its contract: 12, then 14, then the next record and the payload.
 -- Assumes nothing.
-use mathlib.Core.Path.{sym, _∙_, ap}
+use mathlib.Core.Path.{_≡_, sym, _∙_, ap}
+use mathlib.Core.Bool.{false}
+use Prim.Native.Nat.{ℕ}
 use borrow.Author.Tests.{not-true, not-false}
 use borrow.Author.Needs.{needs}
+use Rattle.schema.specs.declared.Method.{Method}
+use Rattle.schema.specs.Check.{named}
+use Rattle.calls.specs.declared.Call.{Call}
+use Rattle.calls.specs.declared.Frame.{Frame}
 use Rattle.calls.specs.declared.FormRow.{FormRow}
+use Rattle.calls.specs.declared.Judged.the-variants.{Stop}
 use Rattle.calls.specs.Record.{allowed}
+use Rattle.calls.specs.Judge.{judgeCall}
 use Rattle.calls.proofs.Call.judge.Statement.{statement}
 use Rattle.calls.proofs.Call.judge.Tie as tie
 
+-- one of the three identifiers is not the call's
+differ : (m : Method) (f : Frame) (i : ℕ) (x : Call) → named (f .«package») (f .service) (f .method) m ≡ false → Stop 12 ≡ judgeCall m f i x
+differ m f i x e = rw e
+
 returns : tie.Need-returns
-returns c = rw (sym (c .before .is-named .ensures) ∙ not-true _ (c .if1 .taken))
+returns c =
+    let a = c .before .before .args in
+    differ (a .m) (a .f) (a .i) (a .self) (sym (c .before .is-named .ensures) ∙ not-true _ (c .if1 .taken))
 
 returns-2 : tie.Need-returns-2
 returns-2 c =

@@ -21,7 +21,7 @@ text-spec =
     -- add-to
     (λ c. let h = text-in _ (c .before .before .before .before .before .args .kind) _ _ (c .before .before .before .read-count .ensures) _ _ (c .before .n .given .1) in omega arith)
     -- is-utf8-requires
-    (λ c κs. let h = text-in _ (c .before .before .before .before .before .before .args .kind) _ _ (c .before .before .before .before .read-count .ensures) _ _ (c .before .before .n .given .1) in (omega arith, h .1, λ j. text-known _ (c .before .before .before .before .before .before .args .kind) _ _ (c .before .before .before .before .read-count .ensures) _ _ (c .before .before .n .given .1) (c .if1 .taken) (c .before .before .before .before .before .before .pre .1 j)))
+    (λ c κs. let h = text-in _ (c .before .before .before .before .before .before .args .kind) _ _ (c .before .before .before .before .read-count .ensures) _ _ (c .before .before .n .given .1) in (h .1, λ j. text-known _ (c .before .before .before .before .before .before .args .kind) _ _ (c .before .before .before .before .read-count .ensures) _ _ (c .before .before .n .given .1) (c .if1 .taken) (c .before .before .before .before .before .before .pre .1 j)))
     -- returns
     (λ c. text-bad _ (c .before .before .before .before .before .before .before .before .args .kind) _ _ (c .before .before .before .before .before .before .read-count .ensures) _ _ (c .before .before .before .before .n .given .1) (c .before .before .if1 .taken) (sym (c .before .is-utf8 .ensures) ∙ not-true _ (c .if2 .taken)))
     -- returns-2

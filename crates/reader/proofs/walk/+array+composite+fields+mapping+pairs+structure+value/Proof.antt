@@ -17,7 +17,7 @@ use Rattle.reader.specs.Leaf.{keysIn, Spans}
 use Rattle.reader.specs.Walk.{walkOf}
 use Rattle.reader.proofs.Keys.{spans-more}
 use Rattle.reader.proofs.Steps.{renamed, was, as-refused, stop-at, further, composite-past, composite-stop, rest-accepted, parse-refused, own-accepted, parse-deep, leaf-failed, leaf-in, leaf-parsed, leaf-past}
-use Rattle.reader.proofs.Composites.{count-in, array-refused, array-whole, map-refused, map-whole, bitmap-accepted, struct-refused, head-in, struct-unknown, struct-whole, elements-none, element-past, element-stop, element-accepted, Turned, field-stop, field-deep, field-accepted, field-read, field-absent, pairs-none, pair-key-accepted, pair-key-stop, pair-known, pair-again, pair-value-accepted, pair-value-stop, pair-value-past, pairs-first, pairs-again, emptied, deeper, shallower, deep}
+use Rattle.reader.proofs.Composites.{count-in, array-refused, array-whole, map-refused, map-whole, bitmap-accepted, struct-refused, head-in, struct-unknown, struct-whole, element-past, element-stop, element-accepted, Turned, field-stop, field-deep, field-accepted, field-read, field-absent, pair-key-accepted, pair-key-stop, pair-known, pair-again, pair-value-accepted, pair-value-stop, pair-value-past, pairs-first, pairs-again, emptied}
 use Prim.Native.Nat.{ℕ, _<_}
 use borrow.Fn.Kinds.{In}
 use borrow.Fn.PlainCycle.{Measures, is, falls, and}
@@ -53,6 +53,8 @@ use Rattle.schema.proofs.access.type_row.Reads as type-row-reads
 use Rattle.parts.specs.Shape.{leafShape, fieldsFrom}
 use Rattle.parts.proofs.Tables.{few-fields, field-row, array-row, struct-row, map-row, shape-array, shape-map, shape-struct, shape-none, shape-past, shape-leaf}
 use Rattle.parts.proofs.Presence.{present-end}
+use Rattle.parts.proofs.Items.{elements-none, pairs-none}
+use Rattle.parts.proofs.Walks.{deeper, shallower, deep}
 use Rattle.reader.proofs.walk.+array+composite+fields+mapping+pairs+structure+value.{statement}
 use Rattle.reader.proofs.walk.+array+composite+fields+mapping+pairs+structure+value.Tie.{close}
 

@@ -13,9 +13,11 @@ use Rattle.value.specs.Value.{rows, rowsAll}
 use Rattle.value.specs.Read.{plainItem, walk, parse}
 use Rattle.parts.specs.Shape.{leafShape}
 use Rattle.parts.proofs.Tables.{shape-leaf}
+use Rattle.parts.proofs.Items.{elements-none}
+use Rattle.parts.proofs.Walks.{deeper}
 use Rattle.reader.specs.Walk.{walkOf}
 use Rattle.reader.proofs.Steps.{stop-at, composite-past, composite-stop, rest-accepted, own-accepted, parse-deep, leaf-failed, leaf-in, leaf-past}
-use Rattle.reader.proofs.Composites.{elements-none, element-past, element-stop, element-accepted, emptied, deeper}
+use Rattle.reader.proofs.Composites.{element-past, element-stop, element-accepted, emptied}
 use Rattle.reader.proofs.walk.leaves.Statement.{statement}
 use Rattle.reader.proofs.walk.leaves.Tie as tie
 

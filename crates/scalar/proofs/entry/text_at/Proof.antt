@@ -5,8 +5,9 @@ use mathlib.Core.Path.{_≡_, sym, ap, _∙_}
 use native.Mathlib.Omega.{arith}
 use borrow.Author.Tests.{leb-true, not-true, not-false}
 use Rattle.wire.specs.Utf8.{utf8}
-use Rattle.scalar.specs.Scalar.{span, inside}
-use Rattle.scalar.proofs.Answers.{sliced, text-outside, no-utf8, text-is}
+use Rattle.value.specs.Write.{span, inside}
+use Rattle.value.proofs.Spans.{slice-span}
+use Rattle.scalar.proofs.Answers.{text-outside, no-utf8, text-is}
 use borrow.Author.Needs.{needs}
 use Rattle.scalar.proofs.entry.text_at.Statement.{statement}
 use Rattle.scalar.proofs.entry.text_at.Tie as tie
@@ -17,7 +18,7 @@ within c = sym (c .before .is-inside .ensures) ∙ not-false _ (c .if1 .left)
 
 -- The verdict is on its bytes.
 judged : (c : tie.After-valid) → let a = c .before .before .before .before .before .args in c .valid .result ≡ utf8 (span (a .bytes .now) (a .place) (a .length))
-judged c = let a = c .before .before .before .before .before .args in c .valid .ensures ∙ ap utf8 (sliced (a .place) (a .length) (a .bytes .now))
+judged c = let a = c .before .before .before .before .before .args in c .valid .ensures ∙ ap utf8 (slice-span (a .bytes .now) (a .place) (a .length))
 
 returns : tie.Need-returns
 returns c =

@@ -1,6 +1,7 @@
 -- `writer::put::put_content` meets its contract.
 -- Assumes nothing.
-use Rattle.writer.proofs.Puts.{length-span, content-scalar, content-text}
+use Rattle.value.proofs.Spans.{length-span}
+use Rattle.writer.proofs.Puts.{content-scalar, content-text}
 use borrow.Author.Needs.{needs}
 use Rattle.writer.proofs.put.put_content.Statement.{statement}
 use Rattle.writer.proofs.put.put_content.Tie as tie

@@ -20,7 +20,7 @@ use Rattle.writer.specs.Leaf.{rowsAt}
 use Rattle.writer.specs.Keys.{keyAt, keysIn, mark, Stands, keysPast, Known, keysKnown, valueAfter}
 use Rattle.writer.proofs.Keys.{stands-step, past-none, past-found, past-other, known-first, keys-first, known-rest, among-known, known-more, after-walk, not-stopped}
 use Rattle.writer.proofs.Steps.{was, renamed, as-stopped, stopped-at, accepted-along, walk-done, leaf-accepted, show-unknown, show-deep}
-use Rattle.writer.proofs.Composites.{deep, deeper, shallower, leaf-failed, leaf-in, leaf-read, leaf-key, leaf-there, leaf-past, row-absent, due-in, array-start, array-accepted, map-start, map-accepted, struct-known, struct-fault, struct-unknown, struct-miscounted, struct-start, struct-accepted, elements-none, element-past, element-stop, element-accepted, Turned, field-stop, field-accepted, field-read, field-absent, pairs-none, pair-key-accepted, pair-key-stop, pair-known, pair-value-accepted, pair-again, pair-value-stop, pair-value-past, pairs-first, or-right, or-left, or-neither, or-false}
+use Rattle.writer.proofs.Composites.{leaf-failed, leaf-in, leaf-read, leaf-key, leaf-there, leaf-past, row-absent, due-in, array-start, array-accepted, map-start, map-accepted, struct-known, struct-fault, struct-unknown, struct-miscounted, struct-start, struct-accepted, element-past, element-stop, element-accepted, Turned, field-stop, field-accepted, field-read, field-absent, pair-key-accepted, pair-key-stop, pair-known, pair-value-accepted, pair-again, pair-value-stop, pair-value-past, pairs-first}
 use Prim.Native.Nat.{ℕ, _<_}
 use borrow.Fn.Kinds.{In}
 use borrow.Fn.PlainCycle.{Measures, is, falls, and}
@@ -47,9 +47,12 @@ use Rattle.writer.proofs.walk.value.Kinds as value-kinds
 use Rattle.writer.proofs.walk.+array+fields+has_key+mapping+pairs+structure+value.Lts-value as value-lts
 use Rattle.schema.proofs.access.field.Reads as field-reads
 use Rattle.schema.proofs.access.type_row.Reads as type-row-reads
+use Rattle.schema.proofs.Bools.{or-right, or-left, or-neither, or-false}
 use Rattle.parts.specs.Shape.{fieldsFrom}
 use Rattle.parts.proofs.Tables.{few-fields, struct-row, map-row, shape-array, shape-map, shape-struct, shape-none, shape-past, shape-leaf}
 use Rattle.parts.proofs.Presence.{length-fields, present-end}
+use Rattle.parts.proofs.Walks.{deep, deeper, shallower}
+use Rattle.parts.proofs.Items.{elements-none, pairs-none}
 use Rattle.writer.proofs.key.is_kept.Reads as is-kept-reads
 use Rattle.writer.proofs.key.is_key.Reads as is-key-reads
 use Rattle.writer.proofs.key.mark_of.Reads as mark-of-reads

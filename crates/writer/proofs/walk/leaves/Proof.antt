@@ -12,10 +12,12 @@ use Rattle.value.specs.Read.{plainItem, walk}
 use Rattle.value.specs.Write.{show}
 use Rattle.value.specs.Answer.{Accepted}
 use Rattle.parts.proofs.Tables.{shape-kind}
+use Rattle.parts.proofs.Walks.{deeper}
+use Rattle.parts.proofs.Items.{elements-none}
 use Rattle.writer.specs.Emit.{emitAll}
 use Rattle.writer.specs.Leaf.{rowsAt}
 use Rattle.writer.proofs.Steps.{as-stopped, stopped-at, accepted-along, walk-done, leaf-accepted}
-use Rattle.writer.proofs.Composites.{deeper, leaf-failed, leaf-in, leaf-past, elements-none, element-past, element-stop, element-accepted}
+use Rattle.writer.proofs.Composites.{leaf-failed, leaf-in, leaf-past, element-past, element-stop, element-accepted}
 use Rattle.writer.proofs.walk.leaves.Statement.{statement}
 use Rattle.writer.proofs.walk.leaves.Tie as tie
 

@@ -1,23 +1,23 @@
 -- A value's refusals are 20 to 28: no type of a good table leads to another number.
 -- Assumes nothing.
 use mathlib.Core.Path.{_≡_, refl}
-use mathlib.Core.Bool.{Bool, true, false, cond}
+use mathlib.Core.Bool.{Bool, true, false}
 use mathlib.Core.List.{List, [], _∷_}
-use Prim.Native.Nat.{ℕ, zero, suc, _-_, _/_, _%_, _≤_, _<_}
-use native.Mathlib.Omega.{arith}
-use lib.Dec.{eqb, lit≤}
-use lib.ListN.{length, getD, drop, replicate}
+use Prim.Native.Nat.{ℕ, zero, suc, _-_, _≤_, _<_}
+use lib.Dec.{lit≤}
+use lib.ListN.{length, drop}
 use Rattle.wire.specs.declared.varuint.VarUInt.{VarUInt}
 use Rattle.wire.specs.declared.varuint.VarUInt.the-variants.{Number, Cut, Malformed}
 use Rattle.wire.specs.Varuint.{front}
 use Rattle.schema.specs.declared.Field.{Field}
 use Rattle.schema.specs.Table.{Table, Shape, unknown, scalar, text, array, map, struct, shape}
-use Rattle.schema.specs.Check.{noField}
 use Rattle.schema.specs.Good.{GoodTable}
-use Rattle.schema.proofs.Shapes.{Within, within, known}
+use Rattle.schema.proofs.Shapes.{known}
 use Rattle.value.specs.Answer.{Cursor, Answer, refused, seen, Reader, andThen, check, numberAt, block, varUInt}
 use Rattle.value.specs.Value.{Tree}
-use Rattle.value.specs.Read.{Item, plainItem, pairs, present, plan, Own, plain, parts, count, bitmap, own, walk, whole, parse, knownBits, ending, rootStruct}
+use Rattle.value.specs.Read.{Item, plan, Own, plain, parts, count, bitmap, own, walk, whole, parse, knownBits, ending, rootStruct}
+use Rattle.value.proofs.Shapes.{good-closed}
+use Rattle.value.proofs.TwoTables.{Below, plan-below}
 
 -- an answer that is no refusal, or one with a number from 20 to 28
 pub data Numbered {A : Type 0} : Answer A → Type 0 where
@@ -69,54 +69,23 @@ own-numbered (array _) h c = numbered-then (count-numbered _ c) (λ n c₁. goes
 own-numbered (map _ _) h c = numbered-then (count-numbered _ c) (λ n c₁. goes-on)
 own-numbered (struct fs) h c = numbered-then (bitmap-numbered fs c) (λ m c₁. check-numbered _ 26 _ _ _ (lit≤ tt) (lit≤ tt) (λ c″. goes-on))
 
--- ---- the items of a plan are of types below n
-
-abbrev Types : ℕ → List Item → Type 0
-Types n [] = Unit {0}
-Types n (i ∷ is) = (i .type < n) × Types n is
-
-present-types : (n : ℕ) (fs : List Field) (m : ℕ) → ((i : ℕ) → i < length fs → getD fs i noField .ty < n) → Types n (present fs m)
-unfolding present
-present-types n [] m h = tt
-present-types n (f ∷ fs) m h = go (eqb (m % 2) 1) (present-types n fs (m / 2) (λ i l. h (suc i) (omega arith)))
-  where
-    go : (b : Bool) → Types n (present fs (m / 2)) → Types n (cond b (plainItem (f .ty) ∷ present fs (m / 2)) (present fs (m / 2)))
-    go true w = (h 0 (omega arith), w)
-    go false w = w
-
-repeated-types : (n k e : ℕ) → e < n → Types n (replicate k (plainItem e))
-repeated-types n zero e h = tt
-repeated-types n (suc k) e h = (h, repeated-types n k e h)
-
-pair-types : (n j k v : ℕ) → k < n → v < n → Types n (pairs j k v)
-pair-types n zero k v h l = tt
-pair-types n (suc j) k v h l = (h, (l, pair-types n j k v h l))
-
-plan-types : (n : ℕ) (key : ℕ → Shape) (s : Shape) (head : ℕ) → Within n key s → Types n (plan s head)
-plan-types n key (array e) head w = repeated-types n head e w
-plan-types n key (map k v) head w = pair-types n head k v (w .0) (w .1)
-plan-types n key (struct fs) head w = present-types n fs head (λ i l. w .2 i l .0)
-plan-types n key unknown head w = tt
-plan-types n key (scalar _) head w = tt
-plan-types n key (text _) head w = tt
-
 -- ---- whole values
 
 module _ (n : ℕ) (p : ℕ → Reader Tree) (child : (t : ℕ) (c : Cursor) → t < n → Numbered (p t c)) where
-  walk-numbered : (keys : List (List ℕ)) (is : List Item) (c : Cursor) → Types n is → Numbered (walk p keys is c)
+  walk-numbered : (keys : List (List ℕ)) (is : List Item) (c : Cursor) → Below n is → Numbered (walk p keys is c)
   unfolding walk
   walk-numbered keys [] c w = goes-on
   walk-numbered keys (i ∷ is) c w =
       numbered-then (child (i .type) c (w .0)) (λ t c₁. check-numbered _ 24 _ _ _ (lit≤ tt) (lit≤ tt) (λ c₂.
       numbered-then (walk-numbered _ is c₂ (w .1)) (λ ts c₃. goes-on)))
 
-  whole-numbered : (t : ℕ) (s : Shape) (o : Own) (c : Cursor) → ((head : ℕ) → Types n (plan s head)) → Numbered (whole p t s o c)
+  whole-numbered : (t : ℕ) (s : Shape) (o : Own) (c : Cursor) → ((head : ℕ) → Below n (plan s head)) → Numbered (whole p t s o c)
   whole-numbered t s (plain x) c w = goes-on
   whole-numbered t s (parts start head) c w = numbered-then (walk-numbered [] (plan s head) c (w head)) (λ ts c₁. goes-on)
 
 module _ (T : Table) (g : GoodTable T) where
-  shape-types : (t head : ℕ) → Types (length (T .types)) (plan (shape T t) head)
-  shape-types t head = plan-types (length (T .types)) (shape T) (shape T t) head (within T g t)
+  shape-types : (t head : ℕ) → Below (length (T .types)) (plan (shape T t) head)
+  shape-types t head = plan-below (length (T .types)) (shape T t) head (good-closed T g t)
 
   parse-numbered : (d t : ℕ) (c : Cursor) → t < length (T .types) → Numbered (parse (shape T) d t c)
   unfolding parse
