@@ -4,10 +4,9 @@ use mathlib.Core.Path.{_≡_, refl, sym, ap, subst}
 use mathlib.Core.Bool.{Bool, true, cond}
 use mathlib.Core.List.{List}
 use Prim.Native.Nat.{ℕ}
-use native.Mathlib.Omega.{arith}
 use lib.Dec.{eqb}
 use borrow.Author.Tests.{eqb-true, eqb-false}
-use Rattle.wire.proofs.Cases.{chosen, passed-over}
+use Rattle.wire.proofs.Cases.{differ, chosen, passed-over}
 use Rattle.schema.specs.declared.Method.{Method}
 use Rattle.schema.specs.declared.Found.{Found}
 use Rattle.schema.specs.declared.Found.the-variants.{At, Missing}
@@ -22,10 +21,6 @@ use Rattle.calls.specs.Forms.{rowOf}
 use Rattle.calls.specs.Record.{isCall, isFree, openedCall, allowed, afterFrame}
 use Rattle.calls.specs.Slots.{slot, firstSlot, formRow}
 use Rattle.calls.specs.Judge.{rightSide, payloadOf, opensAt, judgeInvoke, judgeCall, judgeOther, judgeOf}
-
--- two answers that differ
-differ : {A : Type 0} → _≡_ {A = ℕ} 0 1 → A
-differ z = absurd (omega arith)
 
 module _ (T : Table) (f : Frame) (l : List Call) where
   abbrev id : ℕ

@@ -5,7 +5,7 @@ use mathlib.Core.Bool.{Bool, true, false}
 use mathlib.Core.List.{List, [], _∷_}
 use Prim.Native.Nat.{ℕ, _<_}
 use lib.Dec.{T}
-use Rattle.wire.proofs.Table.{both, at}
+use Rattle.wire.proofs.Table.{both, split, at}
 use Rattle.calls.specs.declared.FormRow.{FormRow}
 use Rattle.calls.specs.Forms.{rowOf, lettersRow}
 
@@ -22,10 +22,6 @@ same-is false false t = refl
 
 abbrev sameRow : FormRow → FormRow → Bool
 sameRow r q = both (same (r .0) (q .0)) (both (same (r .1) (q .1)) (both (same (r .2) (q .2)) (same (r .3) (q .3))))
-
-split : (a b : Bool) → T (both a b) → T a × T b
-split true b t = (tt, t)
-split false b t = absurd t
 
 columns : (a b c d e f g h : Bool) → a ≡ e → b ≡ f → c ≡ g → d ≡ h → _≡_ {A = FormRow} (a, b, c, d) (e, f, g, h)
 columns a b c d e f g h p q r s = rw (p, q, r, s)

@@ -10,6 +10,7 @@ use lib.ListN.{length, set, List·getD-eq-default}
 use lib.Seq.{getD-set-same, getD-set-other}
 use lib.Dec.{ltb}
 use borrow.Author.Tests.{ltb-true, ltb-false}
+use Rattle.wire.proofs.Cases.{differ}
 use Rattle.schema.specs.declared.Found.{Found}
 use Rattle.schema.specs.declared.Found.the-variants.{At, Missing}
 use Rattle.calls.specs.declared.Call.{Call}
@@ -19,10 +20,10 @@ use Rattle.schema.proofs.Bools.{cases, clash}
 
 -- ---- what a search found
 pub missing-at : {A : Type 0} (i : ℕ) → Missing ≡ At i → A
-missing-at i e = let z : _≡_ {A = ℕ} 0 1 = cc in absurd (omega arith)
+missing-at i e = differ cc
 
 pub at-missing : {A : Type 0} (i : ℕ) → At i ≡ Missing → A
-at-missing i e = let z : _≡_ {A = ℕ} 0 1 = cc in absurd (omega arith)
+at-missing i e = differ cc
 
 pub at-at : (i j : ℕ) → At i ≡ At j → i ≡ j
 at-at i j e = cc

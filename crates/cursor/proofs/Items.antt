@@ -1,10 +1,12 @@
--- What each return of the cursor code shows of the readers in the crate `value`.
+-- What the readers of items answer at a place of a payload.
 -- Assumes nothing.
 use mathlib.Core.Path.{_≡_, refl, sym, ap, _∙_}
 use mathlib.Core.List.{List}
+use mathlib.Core.Bool.{Bool, true, false}
 use Prim.Native.Nat.{ℕ, _+_, _-_, _*_, _≤_, _<_}
 use native.Mathlib.Omega.{arith}
-use borrow.Author.Tests.{le-leb, lt-leb}
+use borrow.Author.Tests.{le-leb, lt-leb, leb-true, leb-false}
+use lib.Dec.{leb}
 use lib.ListN.{length, take, drop, length-drop}
 use lib.Seq.{drop-drop}
 use Rattle.wire.specs.Little.{little}
@@ -12,97 +14,166 @@ use Rattle.wire.specs.Varuint.{varuint}
 use Rattle.wire.specs.declared.varuint.VarUInt.{VarUInt}
 use Rattle.wire.specs.declared.varuint.VarUInt.the-variants.{Number, Cut, Malformed}
 use Rattle.wire.proofs.Varuints.{varuint-inside}
-use Rattle.value.specs.Answer.{Cursor, Answer, refused, seen, andThen, check, cursorAt, block, varUInt}
+use Rattle.wire.proofs.Cases.{differ}
+use Rattle.value.specs.Answer.{Answer, refused, seen, andThen, check, cursorAt, block, varUInt}
 use Rattle.value.specs.Read.{count}
 use Rattle.cursor.specs.declared.item.NumberStep.{NumberStep}
 use Rattle.cursor.specs.declared.item.Number.the-variants.{Is, Refused}
-use Rattle.cursor.specs.Item.{Content, numberOf, span, numberStep}
+use Rattle.cursor.specs.Item.{numberOf, span, numberStep, varuintAt}
 
--- What a step says of the answer that it stands for.
-pub step-refused : (from : ℕ) (a : Answer ℕ) (n q : ℕ) → numberStep from a .item ≡ Refused n q → a ≡ refused n q
-step-refused from (refused n q) n′ q′ e = cc
-step-refused from (seen v c) n q e = absurd (let z : _≡_ {A = ℕ} 0 1 = cc in omega arith)
+-- The answer to an item at a place: 20 or 21 at the place itself, or what was read, with the cursor at a later place of the payload.
+pub data Fair {A : Type 0} (p : List ℕ) (from : ℕ) : Answer A → Type 0 where
+  cut : Fair p from (refused 20 from)
+  malformed : Fair p from (refused 21 from)
+  past : {a : A} {next : ℕ} → from < next → next ≤ length p → Fair p from (seen a (cursorAt p next))
 
-pub step-seen : (from : ℕ) (a : Answer ℕ) (v : ℕ) → numberStep from a .item ≡ Is v → (c : Cursor) × (a ≡ seen v c)
-step-seen from (refused n q) v e = absurd (let z : _≡_ {A = ℕ} 0 1 = cc in omega arith)
-step-seen from (seen v c) v′ e = (c, cc)
-
-module _ (p : List ℕ) (at : ℕ) where
+module _ (p : List ℕ) (from : ℕ) where
   -- ---- VarUInts
 
-  pub var-number : (n next : ℕ) → varuint p at ≡ Number n next → varUInt (cursorAt p at) ≡ seen n (cursorAt p next)
+  pub var-number : (n next : ℕ) → varuint p from ≡ Number n next → varUInt (cursorAt p from) ≡ seen n (cursorAt p next)
   unfolding varUInt
   var-number n next e =
-      let i = varuint-inside p at n next e in
-      let f : at + (next - at) ≡ next = omega arith in
-      rw (e, drop-drop (next - at) at p, f)
+      let i = varuint-inside p from n next e in
+      let f : from + (next - from) ≡ next = omega arith in
+      rw (e, drop-drop (next - from) from p, f)
 
-  pub var-cut : varuint p at ≡ Cut → varUInt (cursorAt p at) ≡ refused 20 at
+  pub var-cut : varuint p from ≡ Cut → varUInt (cursorAt p from) ≡ refused 20 from
   unfolding varUInt
   var-cut e = rw e
 
-  pub var-malformed : varuint p at ≡ Malformed → varUInt (cursorAt p at) ≡ refused 21 at
+  pub var-malformed : varuint p from ≡ Malformed → varUInt (cursorAt p from) ≡ refused 21 from
   unfolding varUInt
   var-malformed e = rw e
 
-  -- ---- blocks of bytes
+  pub varuint-fair : Fair p from (varUInt (cursorAt p from))
+  varuint-fair = go (varuint p from) refl
+    where
+      go : (r : VarUInt) → varuint p from ≡ r → Fair p from (varUInt (cursorAt p from))
+      go (Number n next) e =
+          let i = varuint-inside p from n next e in
+          rw (var-number n next e) (past (i .0) (i .1))
+      go Cut e = rw (var-cut e) cut
+      go Malformed e = rw (var-malformed e) malformed
 
-  block-here : (n : ℕ) → n ≤ length p - at → block n (cursorAt p at) ≡ seen (take n (drop at p)) (cursorAt p (at + n))
+  -- ---- blocks of bytes, and numbers
+
+  pub block-here : (n : ℕ) → n ≤ length p - from → block n (cursorAt p from) ≡ seen (take n (drop from p)) (cursorAt p (from + n))
   unfolding block check andThen
   block-here n h =
-      let l : n ≤ length (drop at p) = rw length-drop h in
-      rw (le-leb n (length (drop at p)) l, drop-drop n at p)
+      let l : n ≤ length (drop from p) = rw length-drop h in
+      rw (le-leb n (length (drop from p)) l, drop-drop n from p)
 
-  block-cut : (n : ℕ) → length p - at < n → block n (cursorAt p at) ≡ refused 20 at
+  block-cut : (n : ℕ) → length p - from < n → block n (cursorAt p from) ≡ refused 20 from
   unfolding block check andThen
   block-cut n h =
-      let l : length (drop at p) < n = rw length-drop h in
-      rw (lt-leb n (length (drop at p)) l)
+      let l : length (drop from p) < n = rw length-drop h in
+      rw (lt-leb n (length (drop from p)) l)
 
-  pub number-step : (w n v : ℕ) → n ≡ w → n ≤ length p - at → v ≡ little (take n (drop at p)) → record { item = Is v; next = at + n } ≡ numberStep at (numberOf w (cursorAt p at))
+  number-is : (n : ℕ) → n ≤ length p - from → numberOf n (cursorAt p from) ≡ seen (little (take n (drop from p))) (cursorAt p (from + n))
   unfolding numberOf andThen
-  number-step w n v e h k = rw (← e, block-here n h, k)
+  number-is n h = rw (block-here n h)
 
-  pub number-cut : (n : ℕ) → length p - at < n → numberOf n (cursorAt p at) ≡ refused 20 at
+  pub number-cut : (n : ℕ) → length p - from < n → numberOf n (cursorAt p from) ≡ refused 20 from
   unfolding numberOf andThen
   number-cut n h = rw (block-cut n h)
 
-  -- A VarUInt that was read leaves the cursor in the payload.
-  pub var-stands : (v : ℕ) (c : Cursor) → varUInt (cursorAt p at) ≡ seen v c → (c ≡ cursorAt p (c .at)) × (at < c .at) × (c .at ≤ length p)
-  var-stands v c e = go (varuint p at) refl
+  pub number-step : (w n v : ℕ) → n ≡ w → n ≤ length p - from → v ≡ little (take n (drop from p)) → record { item = Is v; next = from + n } ≡ numberStep from (numberOf w (cursorAt p from))
+  number-step w n v e h k = rw (← e, number-is n h, k)
+
+  pub number-fair : (n : ℕ) → 0 < n → Fair p from (numberOf n (cursorAt p from))
+  number-fair n z = go (leb n (length p - from)) refl
     where
-      go : (r : VarUInt) → varuint p at ≡ r → (c ≡ cursorAt p (c .at)) × (at < c .at) × (c .at ≤ length p)
-      go (Number n next) k =
-          let s : seen n (cursorAt p next) ≡ seen v c = sym (var-number n next k) ∙ e in
-          let f : cursorAt p next ≡ c = cc in
-          let i = varuint-inside p at n next k in
-          rw (← f) (refl, i .0, i .1)
-      go Cut k = absurd (let s = sym (var-cut k) ∙ e in let z : _≡_ {A = ℕ} 0 1 = cc in omega arith)
-      go Malformed k = absurd (let s = sym (var-malformed k) ∙ e in let z : _≡_ {A = ℕ} 0 1 = cc in omega arith)
+      go : (b : Bool) → leb n (length p - from) ≡ b → Fair p from (numberOf n (cursorAt p from))
+      go true e =
+          let l = leb-true n (length p - from) e in
+          rw (number-is n l) (past {next = from + n} (omega arith) (omega arith))
+      go false e = rw (number-cut n (leb-false n (length p - from) e)) cut
 
--- ---- spans: by what the step over the length says
+-- ---- lengths: a count of bytes
 
-module _ (p : List ℕ) (at : ℕ) (step : NumberStep) (over : step ≡ numberStep at (varUInt (cursorAt p at))) where
-  pub span-refused : (n q : ℕ) → step .item ≡ Refused n q → span (cursorAt p at) ≡ refused n q
-  unfolding span count andThen
-  span-refused n q e = rw (step-refused at (varUInt (cursorAt p at)) n q (ap (λ (s : NumberStep). s .item) (sym over) ∙ e))
+-- The answer to a length: as to an item, and the bytes that it counts are there.
+pub data Sized (p : List ℕ) (from : ℕ) : Answer ℕ → Type 0 where
+  large : Sized p from (refused 20 from)
+  broken : Sized p from (refused 21 from)
+  room : {n start : ℕ} → from < start → start + n ≤ length p → Sized p from (seen n (cursorAt p start))
+
+module _ (p : List ℕ) (from : ℕ) where
+  count-refused : (n q : ℕ) → varUInt (cursorAt p from) ≡ refused n q → count 1 (cursorAt p from) ≡ refused n q
+  unfolding count andThen
+  count-refused n q e = rw e
+
+  module _ (n start : ℕ) (is : varUInt (cursorAt p from) ≡ seen n (cursorAt p start)) where
+    count-large : length p - start < n → count 1 (cursorAt p from) ≡ refused 20 from
+    unfolding count andThen check
+    count-large h =
+        let l : length (drop start p) < 1 * n = rw length-drop (omega arith) in
+        rw (is, lt-leb (1 * n) (length (drop start p)) l)
+
+    count-here : n ≤ length p - start → count 1 (cursorAt p from) ≡ seen n (cursorAt p start)
+    unfolding count andThen check
+    count-here h =
+        let l : 1 * n ≤ length (drop start p) = rw length-drop (omega arith) in
+        rw (is, le-leb (1 * n) (length (drop start p)) l)
+
+    count-either : from < start → start ≤ length p → Sized p from (count 1 (cursorAt p from))
+    count-either l m = go (leb n (length p - start)) refl
+      where
+        go : (b : Bool) → leb n (length p - start) ≡ b → Sized p from (count 1 (cursorAt p from))
+        go true e =
+            let k = leb-true n (length p - start) e in
+            rw (count-here k) (room {n = n} {start = start} l (omega arith))
+        go false e = rw (count-large (leb-false n (length p - start) e)) large
+
+  pub count-sized : Sized p from (count 1 (cursorAt p from))
+  count-sized = go (varUInt (cursorAt p from)) refl (varuint-fair p from)
+    where
+      go : (a : Answer ℕ) → varUInt (cursorAt p from) ≡ a → Fair p from a → Sized p from (count 1 (cursorAt p from))
+      go a e cut = rw (count-refused _ _ e) large
+      go a e malformed = rw (count-refused _ _ e) broken
+      go a e (past {a = n} {next = start} l m) = count-either n start e l m
+
+  -- ---- spans
+
+  pub span-refused : (n q : ℕ) → count 1 (cursorAt p from) ≡ refused n q → span (cursorAt p from) ≡ refused n q
+  unfolding span andThen
+  span-refused n q e = rw e
+
+  pub span-here : (n start : ℕ) → count 1 (cursorAt p from) ≡ seen n (cursorAt p start) → n ≤ length p - start → span (cursorAt p from) ≡ seen (record { place = start; size = n }) (cursorAt p (start + n))
+  unfolding span andThen
+  span-here n start e h = rw (e, block-here p start n h)
+
+  pub span-fair : Fair p from (span (cursorAt p from))
+  span-fair = go (count 1 (cursorAt p from)) refl count-sized
+    where
+      go : (a : Answer ℕ) → count 1 (cursorAt p from) ≡ a → Sized p from a → Fair p from (span (cursorAt p from))
+      go a e large = rw (span-refused _ _ e) cut
+      go a e broken = rw (span-refused _ _ e) malformed
+      go a e (room {n} {start} l m) = rw (span-here n start e (omega arith)) (past {next = start + n} (omega arith) m)
+
+-- ---- what a step over a number says of the answer
+
+step-refused : (from : ℕ) (a : Answer ℕ) (n q : ℕ) → numberStep from a .item ≡ Refused n q → a ≡ refused n q
+step-refused from (refused n q) n′ q′ e = cc
+step-refused from (seen v c) n q e = differ cc
+
+pub step-seen : (p : List ℕ) (from : ℕ) (a : Answer ℕ) (v : ℕ) → Fair p from a → numberStep from a .item ≡ Is v → a ≡ seen v (cursorAt p (numberStep from a .next))
+step-seen p from a v cut e = differ cc
+step-seen p from a v malformed e = differ cc
+step-seen p from a v (past {a = w} {next} l m) e = ap (λ (x : ℕ). seen x (cursorAt p next)) (let k : w ≡ v = cc in k)
+
+-- A span, by the step over its length.
+module _ (p : List ℕ) (from : ℕ) (step : NumberStep) (over : step ≡ varuintAt p from) where
+  pub refused-span : (n q : ℕ) → step .item ≡ Refused n q → span (cursorAt p from) ≡ refused n q
+  refused-span n q e = span-refused p from n q (count-refused p from n q (step-refused from _ n q (ap (λ (s : NumberStep). s .item) (sym over) ∙ e)))
 
   module _ (v : ℕ) (is : step .item ≡ Is v) where
-    length-read : (varUInt (cursorAt p at) ≡ seen v (cursorAt p (step .next))) × (step .next ≤ length p)
-    length-read =
-        let s = step-seen at (varUInt (cursorAt p at)) v (ap (λ (s : NumberStep). s .item) (sym over) ∙ is) in
-        let i = var-stands p at v (s .0) (s .1) in
-        let e : step .next ≡ s .0 .at = ap (λ (s : NumberStep). s .next) over ∙ ap (λ (a : Answer ℕ). numberStep at a .next) (s .1) in
-        rw e (s .1 ∙ ap (seen v) (i .0), i .2)
+    length-seen : varUInt (cursorAt p from) ≡ seen v (cursorAt p (step .next))
+    length-seen =
+        step-seen p from _ v (varuint-fair p from) (ap (λ (s : NumberStep). s .item) (sym over) ∙ is)
+        ∙ ap (λ (s : NumberStep). seen v (cursorAt p (s .next))) (sym over)
 
-    pub span-long : length p - step .next < v → span (cursorAt p at) ≡ refused 20 at
-    unfolding span count andThen check
-    span-long h =
-        let l : length (drop (step .next) p) < 1 * v = rw length-drop (omega arith) in
-        rw (length-read .0, lt-leb (1 * v) (length (drop (step .next) p)) l)
+    pub long-span : length p - step .next < v → span (cursorAt p from) ≡ refused 20 from
+    long-span h = span-refused p from 20 from (count-large p from v (step .next) length-seen h)
 
-    pub span-here : v ≤ length p - step .next → span (cursorAt p at) ≡ seen (record { place = step .next; size = v }) (cursorAt p (step .next + v))
-    unfolding span count andThen check
-    span-here h =
-        let l : 1 * v ≤ length (drop (step .next) p) = rw length-drop (omega arith) in
-        rw (length-read .0, le-leb (1 * v) (length (drop (step .next) p)) l, block-here p (step .next) v h)
+    pub whole-span : v ≤ length p - step .next → span (cursorAt p from) ≡ seen (record { place = step .next; size = v }) (cursorAt p (step .next + v))
+    whole-span h = span-here p from v (step .next) (count-here p from v (step .next) length-seen h) h

@@ -1,2 +1,5 @@
 mod Held
 pub mod Items
+pub mod Texts
+pub mod Laws
+pub mod Examples

@@ -1,13 +1,17 @@
 -- The items of a payload, each by a reader of the crate `value`, and the steps that the code answers with.
 -- Assumes nothing.
-use Prim.Native.Nat.{ℕ}
+use mathlib.Core.List.{List}
+use Prim.Native.Nat.{ℕ, _-_}
+use lib.ListN.{length, take, drop}
 use Rattle.wire.specs.Little.{little}
-use Rattle.value.specs.Answer.{Answer, refused, seen, Reader, _>>=_, return, at, block}
-use Rattle.value.specs.Read.{count}
+use Rattle.schema.specs.Table.{text}
+use Rattle.value.specs.Answer.{Answer, refused, seen, Reader, _>>=_, return, at, cursorAt, block, varUInt}
+use Rattle.value.specs.Read.{Own, plain, parts, count, own}
 use Rattle.cursor.specs.declared.item.Width.{Width}
 use Rattle.cursor.specs.declared.item.Width.the-variants.{One, Two, Four, Eight}
 use Rattle.cursor.specs.declared.item.Number.the-variants as Number
-use Rattle.cursor.specs.declared.item.Span.the-variants as Span
+use Rattle.cursor.specs.declared.item.Span.{Span}
+use Rattle.cursor.specs.declared.item.Span.the-variants as Span′
 use Rattle.cursor.specs.declared.item.NumberStep.{NumberStep}
 use Rattle.cursor.specs.declared.item.SpanStep.{SpanStep}
 
@@ -29,6 +33,10 @@ pub record Content : Type 0 where
   pub place : ℕ
   pub size : ℕ
 
+-- Its bytes, in a payload.
+abbrev pub bytesIn : List ℕ → Content → List ℕ
+bytesIn p s = take (s .size) (drop (s .place) p)
+
 -- A span, as strings and bytes have it: a length, and a content of that many bytes.
 unfoldable pub span : Reader Content
 span = do
@@ -43,5 +51,25 @@ numberStep from (refused n p) = record { item = Number.Refused n p; next = from 
 numberStep from (seen v c) = record { item = Number.Is v; next = c .at }
 
 abbrev pub spanStep : ℕ → Answer Content → SpanStep
-spanStep from (refused n p) = record { item = Span.Refused n p; next = from }
-spanStep from (seen s c) = record { item = Span.At (s .place) (s .size); next = c .at }
+spanStep from (refused n p) = record { item = Span′.Refused n p; next = from }
+spanStep from (seen s c) = record { item = Span′.At (s .place) (s .size); next = c .at }
+
+-- The steps at a place of a payload.
+abbrev pub varuintAt : List ℕ → ℕ → NumberStep
+varuintAt p from = numberStep from (varUInt (cursorAt p from))
+
+abbrev pub numberAt : Width → List ℕ → ℕ → NumberStep
+numberAt width p from = numberStep from (numberOf (bytesOf width) (cursorAt p from))
+
+abbrev pub spanAt : List ℕ → ℕ → SpanStep
+spanAt p from = spanStep from (span (cursorAt p from))
+
+-- Where a leaf's content stands, by its end, or its refusal. (A string has no parts.)
+abbrev pub textSpan : Answer Own → Span
+textSpan (refused n p) = Span′.Refused n p
+textSpan (seen (plain x) c) = Span′.At (c .at - length x) (length x)
+textSpan (seen (parts start head) c) = Span′.At start 0
+
+-- The string at a place, by the payload reader's own rule.
+abbrev pub textAt : List ℕ → ℕ → Span
+textAt p from = textSpan (own (text 12) (cursorAt p from))

@@ -1,13 +1,18 @@
--- A lent reader: the cursor that it stands for, and the reader after a step.
+-- A lent reader: what stands at its position, and the reader after a step.
 -- Assumes nothing.
+use mathlib.Core.List.{List}
 use Prim.Native.Nat.{ℕ}
 use denote.Ref.{now}
 use Rattle.value.specs.Answer.{Cursor, cursorAt}
 use Rattle.cursor.specs.declared.Reader.{Reader}
 
--- What is left of the payload from the position on.
+-- What f says of the payload at the position.
+abbrev pub on : {S : Type 0} → (List ℕ → ℕ → S) → Reader → S
+on f r = f (now (r .payload)) (r .at)
+
+-- The cursor that it stands for.
 abbrev pub standing : Reader → Cursor
-standing r = cursorAt (now (r .payload)) (r .at)
+standing r = on cursorAt r
 
 -- The same payload at another position.
 abbrev pub movedTo : Reader → ℕ → Reader

@@ -3,10 +3,9 @@ use wire::little;
 use wire::varuint;
 use wire::varuint::VarUInt;
 ghost use mathlib.Core.Path.{_≡_};
-ghost use lib.ListN.{length};
 ghost use Prim.Native.Nat.{_-_, _≤_, _<_};
-ghost use Rattle.value.specs.Answer.{cursorAt, varUInt};
-ghost use Rattle.cursor.specs.Item.{bytesOf, numberOf, span, numberStep, spanStep};
+ghost use lib.ListN.{length};
+ghost use Rattle.cursor.specs.Item.{bytesOf, varuintAt, numberAt, spanAt};
 
 // A number's width in bytes: 1, 2, 4 or 8.
 pub enum Width {
@@ -28,6 +27,7 @@ pub enum Span {
     Refused { number: u32, place: usize },
 }
 
+// The item at a place, and the place after it; a refusal does not move.
 pub struct NumberStep {
     pub item: Number,
     pub next: usize,
@@ -50,7 +50,7 @@ pub fn left_from(payload: &[u8], at: usize) -> usize
 
 // The VarUInt at a place.
 pub fn varuint_at(payload: &[u8], at: usize) -> NumberStep
-    ensures { λ r. ⌜ r ≡ numberStep at (varUInt (cursorAt (now (payload .entry)) at)) ⌝ }
+    ensures { λ r. ⌜ r ≡ varuintAt (now (payload .entry)) at ⌝ }
 {
     match varuint::read(payload, at) {
         VarUInt::Number { value, next } => NumberStep {
@@ -74,6 +74,7 @@ pub fn varuint_at(payload: &[u8], at: usize) -> NumberStep
     }
 }
 
+// How many bytes a width has.
 fn bytes_of(width: Width) -> usize
     ensures { λ r. ⌜ (r ≡ bytesOf width) × (0 < r) × (r ≤ 8) ⌝ }
 {
@@ -87,7 +88,7 @@ fn bytes_of(width: Width) -> usize
 
 // The number of a width at a place.
 pub fn number_at(payload: &[u8], at: usize, width: Width) -> NumberStep
-    ensures { λ r. ⌜ r ≡ numberStep at (numberOf (bytesOf width) (cursorAt (now (payload .entry)) at)) ⌝ }
+    ensures { λ r. ⌜ r ≡ numberAt width (now (payload .entry)) at ⌝ }
 {
     let n = bytes_of(width);
     if left_from(payload, at) < n {
@@ -109,7 +110,7 @@ pub fn number_at(payload: &[u8], at: usize, width: Width) -> NumberStep
 
 // The span at a place: a VarUInt length, and that many bytes.
 pub fn span_at(payload: &[u8], at: usize) -> SpanStep
-    ensures { λ r. ⌜ r ≡ spanStep at (span (cursorAt (now (payload .entry)) at)) ⌝ }
+    ensures { λ r. ⌜ r ≡ spanAt (now (payload .entry)) at ⌝ }
 {
     let step = varuint_at(payload, at);
     let size = step.item;

@@ -1,11 +1,11 @@
 -- The bits of a signed number and of a float, by the tests that the code makes.
 -- Assumes nothing.
-use mathlib.Core.Path.{_≡_, refl, ap}
+use mathlib.Core.Path.{_≡_, refl}
 use mathlib.Core.Bool.{Bool, true, false, cond}
-use Prim.Native.Nat.{ℕ, suc, _-_}
+use Prim.Native.Nat.{_-_}
 use native.Mathlib.Omega.{arith}
-use borrow.Author.Tests.{le-ltb, ltb-true}
-use lib.IntN.{ℤ, pos, negsuc, _-ℤ_}
+use borrow.Author.Tests.{ltb-true}
+use lib.IntN.{ℤ, pos, negsuc}
 use lib.Ieee.{Float, nan, inf, fin, Format, isNan, ne, toBits}
 use lib.Ieee.Compare.{differs-from-itself, nan-differs}
 use lib.Signed.{mag, ltZ}
@@ -18,21 +18,9 @@ pub byte-is : (b : Bool) → boolByte b ≡ cond b 1 0
 byte-is true = refl
 byte-is false = refl
 
-above : (n : ℕ) → negsuc 0 -ℤ negsuc n ≡ pos n
-above n = rw (le-ltb (suc n) 1 (omega arith)) (ap pos (omega arith))
-
--- -1 - z, for z below zero.
-pub flip : (z : ℤ) → ltZ z (pos 0) ≡ true → negsuc 0 -ℤ z ≡ pos (mag z)
-flip (pos n) e = absurd (omega (arith, ltb-true n 0 e))
-flip (negsuc n) e = above n
-
 pub bits-below : (z : ℤ) → ltZ z (pos 0) ≡ true → 18446744073709551615 - mag z ≡ bitsOf z
 bits-below (pos n) e = absurd (omega (arith, ltb-true n 0 e))
 bits-below (negsuc n) e = omega arith
-
-pub natural : (z : ℤ) → ltZ z (pos 0) ≡ false → z ≡ pos (mag z)
-natural (pos n) e = refl
-natural (negsuc n) e = cc
 
 -- ---- floats
 

@@ -3,3 +3,4 @@ pub mod Stores
 pub mod Bits
 pub mod Tables
 pub mod Held
+pub mod Told

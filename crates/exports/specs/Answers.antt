@@ -17,7 +17,7 @@ use Rattle.frame.specs.Written.{writtenOf, writeLength}
 use Rattle.value.specs.declared.Row.{Row}
 use Rattle.reader.specs.declared.Reading.{Reading}
 use Rattle.reader.specs.declared.Reading.the-variants as reader
-use Rattle.reader.specs.Entry.{Outcome, outcome, readOutcome, numbers}
+use Rattle.reader.specs.Entry.{readingIn, sheetIn, readOutcome, numbers}
 use Rattle.writer.specs.declared.Writing.{Writing}
 use Rattle.writer.specs.declared.Writing.the-variants.{Written, Refused as Unwritten}
 use Rattle.writer.specs.Entry as writer
@@ -62,18 +62,12 @@ writtenCells a = writeLength a ∷ []
 
 -- ---- payloads
 
--- The two parts of the reader's outcome: its answer, and the sheet as it is left.
-abbrev pub answerOf : Outcome → Reading
-answerOf (outcome a sheet) = a
-
-abbrev pub sheetOf : Outcome → List ℕ
-sheetOf (outcome a sheet) = sheet
-
+-- The reader's answer, and the sheet as it is left.
 abbrev pub reading : (schema : List ℕ) (ty : ℕ) (payload sheet : List ℕ) → Reading
-reading schema ty payload sheet = answerOf (readOutcome schema ty payload sheet)
+reading schema ty payload sheet = readingIn (readOutcome schema ty payload sheet)
 
 abbrev pub sheetAfter : (schema : List ℕ) (ty : ℕ) (payload sheet : List ℕ) → List ℕ
-sheetAfter schema ty payload sheet = sheetOf (readOutcome schema ty payload sheet)
+sheetAfter schema ty payload sheet = sheetIn (readOutcome schema ty payload sheet)
 
 abbrev pub readNumber : Reading → ℕ
 readNumber a = numbers a .number
@@ -94,10 +88,6 @@ writing schema ty sheet bytes out = writingOf (writer.fileOutcome schema ty shee
 
 abbrev pub outputAfter : (schema : List ℕ) (ty : ℕ) (sheet bytes out : List ℕ) → List ℕ
 outputAfter schema ty sheet bytes out = outputOf (writer.fileOutcome schema ty sheet bytes out)
-
-abbrev pub writeNumber : Writing → ℕ
-writeNumber (Written n) = 0
-writeNumber (Unwritten number place) = number
 
 -- A payload written: place, length.
 abbrev pub writeCells : Writing → List ℕ

@@ -3,3 +3,4 @@ pub mod Cells
 pub mod Records
 pub mod Answers
 pub mod Run
+pub mod Told

@@ -4,7 +4,8 @@ use reader::Reading;
 use writer::Writing;
 ghost use mathlib.Core.Path.{_≡_};
 ghost use Rattle.exports.specs.Cells.{stored};
-ghost use Rattle.exports.specs.Answers.{readNumber, readCells, reading, sheetAfter, writeNumber, writeCells, writing, outputAfter};
+ghost use Rattle.arf.specs.Numbers.{writeNumber};
+ghost use Rattle.exports.specs.Answers.{readNumber, readCells, reading, sheetAfter, writeCells, writing, outputAfter};
 
 fn read_number(a: Reading) -> u32
     ensures { λ r. ⌜ r ≡ readNumber a ⌝ }

@@ -15,7 +15,7 @@ use Rattle.wire.specs.declared.varuint.VarUInt.the-variants.{Number, Cut, Malfo
 use Rattle.wire.specs.Varuint.{front, varuint, Spelled}
 use Rattle.wire.proofs.Numbers.{little-one}
 use Rattle.wire.proofs.Varuints.{spelled-reads, read-spelled}
-use Rattle.wire.proofs.Cases.{chosen}
+use Rattle.wire.proofs.Cases.{chosen, differ}
 use Rattle.frame.specs.declared.Header.{Header}
 use Rattle.frame.specs.declared.FrameRead.{FrameRead}
 use Rattle.frame.specs.declared.FrameRead.the-variants.{More, Frame, Refused}
@@ -83,10 +83,10 @@ frame-reads (frame {h = h} {«package» = p} {service = s} {method = m} {correla
 -- ---- what is read is a frame
 
 not-more : {h : Header} {place n : ℕ} → More ≡ Frame h place n → ⊥
-not-more e = let z : _≡_ {A = ℕ} 0 1 = cc in omega arith
+not-more e = differ cc
 
 not-refused : {number : ℕ} {h : Header} {place n : ℕ} → Refused number ≡ Frame h place n → ⊥
-not-refused e = let z : _≡_ {A = ℕ} 0 1 = cc in omega arith
+not-refused e = differ cc
 
 field-frame : (s : List ℕ) (e : ℕ) (right : Bool) (number : ℕ) (next : FrameRead) {h : Header} {place n : ℕ}
     → field s e right number next ≡ Frame h place n → (e ≤ length s) × ((right ≡ true) × (next ≡ Frame h place n))

@@ -12,7 +12,7 @@ use Rattle.wire.specs.Little.{bytes}
 use Rattle.wire.specs.Varuint.{varuintBytes}
 use Rattle.wire.proofs.Numbers.{length-bytes, little-bytes}
 use Rattle.wire.proofs.Varuints.{shortest-spelled}
-use Rattle.wire.proofs.Cases.{chosen}
+use Rattle.wire.proofs.Cases.{chosen, differ}
 use Rattle.frame.specs.declared.Header.{Header}
 use Rattle.frame.specs.declared.FrameRead.the-variants.{Frame}
 use Rattle.frame.specs.declared.FrameWritten.the-variants.{Written, Refused}
@@ -43,7 +43,7 @@ pub record Accepted (h : Header) (p : List ℕ) (room n : ℕ) : Type 0 where
   pub fits : n ≤ room
 
 not-refused : {number n : ℕ} → Refused number ≡ Written n → ⊥
-not-refused e = let z : _≡_ {A = ℕ} 0 1 = cc in omega arith
+not-refused e = differ cc
 
 written-accepted : (h : Header) (p : List ℕ) (room : ℕ) {n : ℕ} → writtenOf h p room ≡ Written n → Accepted h p room n
 unfolding writtenOf

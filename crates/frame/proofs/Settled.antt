@@ -3,7 +3,7 @@
 use mathlib.Core.Path.{_≡_, refl, sym, ap, _∙_}
 use mathlib.Core.Bool.{Bool, true, false, cond}
 use mathlib.Core.List.{List, _++_}
-use Prim.Native.Nat.{ℕ, _+_, _-_, _≤_}
+use Prim.Native.Nat.{ℕ, _+_, _≤_}
 use native.Mathlib.Decide.{decLe}
 use native.Mathlib.Omega.{arith}
 use borrow.Author.Tests.{le-leb, lt-leb}
@@ -14,6 +14,7 @@ use Rattle.wire.specs.declared.varuint.VarUInt.{VarUInt}
 use Rattle.wire.specs.declared.varuint.VarUInt.the-variants.{Number, Cut, Malformed}
 use Rattle.wire.specs.Varuint.{front}
 use Rattle.wire.proofs.Varuints.{front-settled}
+use Rattle.wire.proofs.Cases.{differ}
 use Rattle.frame.specs.declared.Header.{Header}
 use Rattle.frame.specs.declared.FrameRead.{FrameRead}
 use Rattle.frame.specs.declared.FrameRead.the-variants.{More, Frame}
@@ -79,8 +80,8 @@ module _ (s t : List ℕ) where
 
       read : (v : VarUInt) → front (drop 25 s) 25 ≡ v → Before (payloadOf (length s) (headerAt s) (front (drop 25 s) 25)) (payloadOf (length (s ++ t)) (headerAt s) (front (drop 25 s ++ t) 25))
       read Cut e = rw e (cut (headerAt s) (front (drop 25 s ++ t) 25))
-      read Malformed e = kept Malformed e (λ c. let z : _≡_ {A = ℕ} 0 1 = cc in omega arith)
-      read (Number n place) e = kept (Number n place) e (λ c. let z : _≡_ {A = ℕ} 0 1 = cc in omega arith)
+      read Malformed e = kept Malformed e (λ c. differ cc)
+      read (Number n place) e = kept (Number n place) e (λ c. differ cc)
 
   pub answer-before : Before (frameOf s) (frameOf (s ++ t))
   answer-before =

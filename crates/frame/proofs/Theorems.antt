@@ -3,10 +3,11 @@
 use mathlib.Core.Path.{_≡_, refl, sym, ap, _∙_}
 use mathlib.Core.Logic.{_↔_}
 use mathlib.Core.List.{List, [], _∷_, _++_, append-assoc}
-use Prim.Native.Nat.{ℕ, _+_, _-_, _<_}
+use Prim.Native.Nat.{ℕ, _-_, _<_}
 use native.Mathlib.Omega.{arith}
 use lib.ListN.{length, take, drop, length-append, take-append-drop}
 use lib.Seq.{take-at, drop-at, length-take-le}
+use Rattle.wire.proofs.Cases.{differ}
 use Rattle.frame.specs.declared.Header.{Header}
 use Rattle.frame.specs.declared.FrameRead.{FrameRead}
 use Rattle.frame.specs.declared.FrameRead.the-variants.{More, Frame}
@@ -17,7 +18,7 @@ use Rattle.frame.proofs.Frames.{frame-reads, read-is-frame}
 
 -- bytes after a frame change nothing
 pub followed : (s t : List ℕ) {h : Header} {place n : ℕ} → frameOf s ≡ Frame h place n → frameOf (s ++ t) ≡ Frame h place n
-followed s t {h = h} {place = place} {n = n} e = settled s t (λ m. let z : _≡_ {A = ℕ} 0 1 = cc in omega arith) ∙ e
+followed s t {h = h} {place = place} {n = n} e = settled s t (λ m. differ cc) ∙ e
 
 starts-read : (s : List ℕ) {h : Header} {place n : ℕ} → Starts s h place n → frameOf s ≡ Frame h place n
 starts-read s {h = h} {place = place} {n = n} w =

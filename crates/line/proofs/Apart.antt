@@ -22,8 +22,8 @@ use Rattle.calls.specs.Step.{stepOf, dueOf}
 use Rattle.calls.specs.Apart.{ownOf, full, Verdict, verdict, verdictDue, verdictNumber}
 use Rattle.calls.proofs.Apart as calls
 use Rattle.reader.specs.declared.Reading.{Reading}
-use Rattle.reader.specs.Entry.{Outcome, room, numbers}
-use Rattle.line.specs.Answer.{line, stopped, payloadRead, readingIn, usedOf, answerOf, answered}
+use Rattle.reader.specs.Entry.{Outcome, readingIn, room, numbers}
+use Rattle.line.specs.Answer.{line, stopped, payloadRead, usedOf, answerOf, answered}
 use Rattle.line.specs.Receive.{onGood, onFrame, frameFrom, frameLine, bytesLine, received}
 use Rattle.line.specs.Claims.{Front, Reply, replyOf, Alike, SameAnswer}
 use Rattle.line.proofs.Payloads.{none-shown, Both, both-read}

@@ -39,8 +39,8 @@ use Rattle.value.specs.Read as value
 use Rattle.value.proofs.Numbers.{Numbered, refuses, goes-on, root-numbered}
 use Rattle.reader.specs.declared.Reading.{Reading}
 use Rattle.reader.specs.declared.Reading.the-variants.{Shown, Refused}
-use Rattle.reader.specs.Entry.{Outcome, outcome, outcomeOf, room, payloadOutcome, numbers}
-use Rattle.line.specs.Answer.{Line, stopped, payloadRead, readingIn, numberIn, answered}
+use Rattle.reader.specs.Entry.{Outcome, outcome, readingIn, outcomeOf, room, payloadOutcome, numbers}
+use Rattle.line.specs.Answer.{Line, stopped, payloadRead, numberIn, answered}
 use Rattle.line.specs.Receive.{frameFrom, frameLine, received}
 use Rattle.line.specs.Claims.{Listed, accepted, frame, call, value as fault, payload, shape as formed, row}
 use Rattle.line.proofs.Ways.{Early, schema, calls, frame as early, Way, stops, judges, ways}

@@ -15,8 +15,8 @@ use Rattle.reader.specs.declared.Reading.{Reading}
 use Rattle.reader.specs.declared.Reading.the-variants.{Shown, Refused}
 use Rattle.value.specs.Sheet.{cellsOf}
 use Rattle.reader.specs.Sheet.{shownIn}
-use Rattle.reader.specs.Entry.{Outcome, outcome, outcomeOf, room, payloadOutcome, numbers}
-use Rattle.line.specs.Answer.{emptyRead, payloadRead, readingIn, sheetIn, numberIn}
+use Rattle.reader.specs.Entry.{Outcome, outcome, readingIn, sheetIn, outcomeOf, room, payloadOutcome, numbers}
+use Rattle.line.specs.Answer.{emptyRead, payloadRead, numberIn}
 
 -- no rows leave a sheet as it is
 pub none-shown : (sheet : List ℕ) → sheet ≡ shownIn sheet []

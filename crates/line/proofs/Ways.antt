@@ -8,13 +8,11 @@ use native.Mathlib.Omega.{arith}
 use lib.Dec.{lit≤}
 use lib.ListN.{take, drop}
 use Rattle.wire.proofs.Cases.{cond-case}
-use Rattle.schema.specs.declared.Found.{Found}
-use Rattle.schema.specs.declared.Found.the-variants.{At, Missing}
 use Rattle.schema.specs.declared.Checked.{Checked}
 use Rattle.schema.specs.declared.Checked.the-variants.{Good, Refused as Faulty}
-use Rattle.schema.specs.Table.{Table}
-use Rattle.schema.specs.File.{shaped, tableOf}
-use Rattle.schema.specs.Check.{small, badRow, badField, badMethod, fault, checkedTable, checked, IsGood}
+use Rattle.schema.specs.File.{tableOf}
+use Rattle.schema.specs.Check.{checked, IsGood}
+use Rattle.schema.proofs.Listed.{listed, listed-bounds}
 use Rattle.frame.specs.declared.Header.{Header}
 use Rattle.frame.specs.declared.FrameRead.{FrameRead}
 use Rattle.frame.specs.declared.FrameRead.the-variants.{More, Frame as Whole, Refused}
@@ -24,28 +22,6 @@ use Rattle.calls.specs.declared.Call.{Call}
 use Rattle.calls.specs.Slots.{goodTable}
 use Rattle.line.specs.Answer.{Line, line, stopped}
 use Rattle.line.specs.Receive.{onGood, onFrame, frameFrom, frameLine, bytesLine, received}
-
--- ---- the numbers of a schema table that is not good
-
-Listed : Checked → Type 0
-Listed Good = Unit {0}
-Listed (Faulty n q) = (40 ≤ n) × (n ≤ 44) × (n < 42 → q ≡ 0)
-
-fault-listed : (n : ℕ) (f : Found) (next : Checked) → 42 ≤ n → n ≤ 44 → Listed next → Listed (fault n f next)
-unfolding Listed
-fault-listed n (At i) next low high h = (omega arith, high, λ z. absurd (omega arith))
-fault-listed n Missing next low high h = h
-
-table-listed : (T : Table) → Listed (checkedTable T)
-unfolding checkedTable Listed
-table-listed T =
-    cond-case Listed (small T) _ (Faulty 41 0)
-    (λ _. fault-listed 42 (badRow T) _ (lit≤ tt) (lit≤ tt) (fault-listed 43 (badField T) _ (lit≤ tt) (lit≤ tt) (fault-listed 44 (badMethod T) Good (lit≤ tt) (lit≤ tt) tt)))
-    (λ _. (lit≤ tt, lit≤ tt, λ _. refl))
-
-file-listed : (s : List ℕ) → Listed (checked s)
-unfolding checked Listed
-file-listed s = cond-case Listed (shaped s) (checkedTable (tableOf s)) (Faulty 40 0) (λ _. table-listed (tableOf s)) (λ _. (lit≤ tt, lit≤ tt, λ _. refl))
 
 -- ---- the ways
 
@@ -72,14 +48,14 @@ module _ (s : List ℕ) (side : ℕ) (bytes sheet : List ℕ) (l : List Call) wh
       go (Whole h place n) e = judges h place n g k e
 
   pub ways : Way (received s side bytes sheet l)
-  unfolding received Listed
-  ways = go (checked s) refl (file-listed s)
+  unfolding received
+  ways = go (checked s) refl
     where
-      go : (v : Checked) → checked s ≡ v → Listed v →
+      go : (v : Checked) → checked s ≡ v →
           Way (onGood v (λ number row. line (stopped l number row) sheet)
           (cond (goodTable (tableOf s) l) (bytesLine s side bytes sheet l) (line (stopped l 15 0) sheet)))
-      go Good e w = cond-case Way (goodTable (tableOf s) l) (bytesLine s side bytes sheet l) (line (stopped l 15 0) sheet) (front-way e) (λ _. stops calls)
-      go (Faulty n q) e w = stops (schema (w .0) (w .1) (w .2))
+      go Good e = cond-case Way (goodTable (tableOf s) l) (bytesLine s side bytes sheet l) (line (stopped l 15 0) sheet) (front-way e) (λ _. stops calls)
+      go (Faulty n q) e = let w = listed-bounds (tableOf s) (listed s n q e) in stops (schema (w .0) (w .1) (w .2))
 
 -- Under good tables a whole frame is judged.
 pub judged : (s : List ℕ) (side : ℕ) (bytes sheet : List ℕ) (l : List Call) (h : Header) (place n : ℕ)

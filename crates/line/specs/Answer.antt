@@ -14,7 +14,7 @@ use Rattle.calls.specs.Slots.{countOpen}
 use Rattle.calls.specs.Step.{stepOf}
 use Rattle.reader.specs.declared.Reading.{Reading}
 use Rattle.reader.specs.declared.Reading.the-variants.{Shown, Refused}
-use Rattle.reader.specs.Entry.{Outcome, outcome, payloadOutcome, numbers}
+use Rattle.reader.specs.Entry.{Outcome, outcome, readingIn, sheetIn, payloadOutcome, numbers}
 use Rattle.line.specs.declared.Received.{Received}
 
 -- An answer with the sheet (01's term: the cells that show a read value) as it is left.
@@ -52,12 +52,6 @@ unfoldable pub payloadRead : (schema : List ℕ) → Payload → (payload sheet 
 payloadRead schema (Struct t) payload sheet = payloadOutcome schema t payload sheet
 payloadRead schema Empty payload sheet = outcome (emptyRead payload) sheet
 payloadRead schema Unread payload sheet = outcome (Shown 0 0 0) sheet
-
-abbrev pub readingIn : Outcome → Reading
-readingIn (outcome r sheet) = r
-
-abbrev pub sheetIn : Outcome → List ℕ
-sheetIn (outcome r sheet) = sheet
 
 -- The payload's number.
 abbrev pub numberIn : Outcome → ℕ

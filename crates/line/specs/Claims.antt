@@ -14,9 +14,9 @@ use Rattle.calls.specs.Slots.{goodTable}
 use Rattle.calls.specs.Apart.{ownOf, full}
 use Rattle.value.specs.declared.Row.{Row}
 use Rattle.reader.specs.Sheet.{shownIn}
-use Rattle.reader.specs.Entry.{Outcome, numbers}
+use Rattle.reader.specs.Entry.{Outcome, readingIn, sheetIn, numbers}
 use Rattle.line.specs.declared.Received.{Received}
-use Rattle.line.specs.Answer.{Line, readingIn, sheetIn}
+use Rattle.line.specs.Answer.{Line}
 use Rattle.line.specs.Receive.{frameFrom}
 
 -- The bytes start with a whole frame; f is what a step sees of it.

@@ -6,7 +6,12 @@ use Prim.Native.Nat.{ℕ}
 use lib.Dec.{ltb}
 use lib.ListN.{take, drop}
 use Rattle.schema.specs.declared.Field.{Field}
-use Rattle.schema.specs.Table.{Table, Shape, scalar, text}
+use Rattle.schema.specs.Table.{Table, Shape, scalar, text, shape}
+use Rattle.schema.specs.File.{tableOf}
+
+-- The shape of each type number, by the table in the file s.
+abbrev pub shapeIn : List ℕ → ℕ → Shape
+shapeIn s = shape (tableOf s)
 
 -- A struct's fields: n from the first on.
 unfoldable pub fieldsFrom : Table → ℕ → ℕ → List Field

@@ -1,14 +1,11 @@
-// What the reader's and the writer's walks share: a struct's fields by its type row, and the tests of presence bits and of strings.
-use wire::utf8;
+// What the reader's and the writer's walks share: a struct's fields by its type row, and the test of its presence bits.
 ghost use mathlib.Core.Path.{_≡_};
 ghost use mathlib.Core.Bool.{true, false};
 ghost use Prim.Native.Nat.{_+_, _≤_};
 ghost use lib.ListN.{length};
-ghost use Rattle.wire.specs.Utf8.{utf8};
 ghost use Rattle.schema.specs.File.{tableOf};
 ghost use Rattle.schema.specs.Check.{IsGood};
 ghost use Rattle.value.specs.Read.{complete};
-ghost use Rattle.value.specs.Write.{span};
 ghost use Rattle.parts.specs.Shape.{fieldsFrom};
 
 // Whether each of n fields from the first on that is not optional has its bit; where nothing is judged, they are known to.
@@ -30,17 +27,6 @@ pub fn is_complete(s: &[u8], first: usize, n: usize, word: u64, judge: bool) -> 
         bits = bits / 2;
         i = i + 1;
         left = left - 1;
-    }
-    true
-}
-
-// Whether a content is UTF-8; where nothing is judged, it is known to be.
-pub fn is_utf8(source: &[u8], from: usize, n: usize, judge: bool) -> bool
-    requires { ⌜ (from + n ≤ length (now source)) × (judge ≡ false → utf8 (span (now source) from n) ≡ true) ⌝ }
-    ensures { λ r. ⌜ r ≡ utf8 (span (now (source .entry)) from n) ⌝ }
-{
-    if judge {
-        return utf8::valid(source, from, from + n);
     }
     true
 }

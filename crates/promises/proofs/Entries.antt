@@ -1,11 +1,12 @@
 -- The answers of the entries, taken apart and put together.
 -- Assumes nothing.
 use mathlib.Core.Path.{_≡_, refl, sym, ap, _∙_, subst}
-use mathlib.Core.List.{List, [], _∷_, _++_, append-nil}
-use Prim.Native.Nat.{ℕ, _+_, _*_, _≤_}
+use mathlib.Core.List.{List, [], _++_, append-nil}
+use Prim.Native.Nat.{ℕ, _*_, _≤_}
 use native.Mathlib.Omega.{arith}
 use lib.ListN.{length, take, drop, length-append, length-drop}
 use lib.Seq.{take-at, drop-at}
+use Rattle.wire.proofs.Cases.{differ}
 use Rattle.schema.specs.declared.Field.{Field}
 use Rattle.schema.specs.declared.Checked.{Checked}
 use Rattle.schema.specs.declared.Checked.the-variants.{Good, Refused as Faulty}
@@ -62,19 +63,19 @@ shown-size s payload ty fs rs v (tree, r, _, u) = sym (ap length r) ∙ sized tr
 -- An accepting answer is an accepted payload with its rows.
 accepted-from : (sheet : List ℕ) (a : value.Reading) (k place n : ℕ) (after : List ℕ) → outcomeOf sheet a ≡ outcome (Shown k place n) after
     → (rs : List Row) × (a ≡ accepted rs place n) × (length rs ≡ k) × (after ≡ shownIn sheet rs)
-accepted-from sheet (value.refusal m q) k place n after e = absurd (let z : _≡_ {A = ℕ} 0 1 = cc in omega arith)
+accepted-from sheet (value.refusal m q) k place n after e = differ cc
 accepted-from sheet (accepted rs p l) k place n after e = (rs, cc, cc, cc)
 
 -- A refusal leaves the sheet as it was.
 pub refused-from : (sheet : List ℕ) (a : value.Reading) (n q : ℕ) (after : List ℕ) → outcomeOf sheet a ≡ outcome (Refused n q) after
     → (a ≡ value.refusal n q) × (after ≡ sheet)
 refused-from sheet (value.refusal m p) n q after e = (cc, cc)
-refused-from sheet (accepted rs p l) n q after e = absurd (let z : _≡_ {A = ℕ} 0 1 = cc in omega arith)
+refused-from sheet (accepted rs p l) n q after e = differ cc
 
 good-read : (c : Checked) (s : List ℕ) (ty : ℕ) (payload sheet : List ℕ) (k place n : ℕ) (after : List ℕ)
     → byTable c s ty payload sheet ≡ outcome (Shown k place n) after → c ≡ Good
 good-read Good s ty payload sheet k place n after e = refl
-good-read (Faulty m q) s ty payload sheet k place n after e = absurd (let z : _≡_ {A = ℕ} 0 1 = cc in omega arith)
+good-read (Faulty m q) s ty payload sheet k place n after e = differ cc
 
 module _ (s : List ℕ) (ty : ℕ) (payload sheet : List ℕ) where
   pub read-by : IsGood s → readOutcome s ty payload sheet ≡ outcomeOf sheet (value.read (tableOf s) ty payload (room sheet))
@@ -130,13 +131,13 @@ module _ (s : List ℕ) (ty : ℕ) (payload sheet : List ℕ) where
 -- An accepting answer has the bytes written at the output's front.
 written-from : (out : List ℕ) (a : written.Writing) (n : ℕ) (out′ : List ℕ) → writer.outcomeOf out a ≡ writer.outcome (Written n) out′
     → (bs : List ℕ) × (a ≡ written.written bs) × (length bs ≡ n) × (out′ ≡ bs ++ drop (length bs) out)
-written-from out (written.refusal m q) n out′ e = absurd (let z : _≡_ {A = ℕ} 0 1 = cc in omega arith)
+written-from out (written.refusal m q) n out′ e = differ cc
 written-from out (written.written bs) n out′ e = (bs, refl, cc, cc)
 
 good-written : (c : Checked) (other : writer.Outcome) (out : List ℕ) (n : ℕ) (out′ : List ℕ)
     → writer.byVerdict c other out ≡ writer.outcome (Written n) out′ → c ≡ Good
 good-written Good other out n out′ e = refl
-good-written (Faulty m q) other out n out′ e = absurd (let z : _≡_ {A = ℕ} 0 1 = cc in omega arith)
+good-written (Faulty m q) other out n out′ e = differ cc
 
 module _ (s : List ℕ) (ty : ℕ) (sheet B out : List ℕ) where
   pub write-by : IsGood s → writer.fileOutcome s ty sheet B out ≡ writer.outcomeOf out (written.write (tableOf s) ty (rowsOf sheet) B (length out))

@@ -9,6 +9,7 @@ use native.Mathlib.Omega.{arith}
 use borrow.Author.Tests.{le-leb, lt-leb}
 use lib.Dec.{leb}
 use lib.ListN.{length, take}
+use Rattle.wire.proofs.Cases.{differ}
 use Rattle.schema.specs.declared.Field.{Field}
 use Rattle.schema.specs.declared.Checked.{Checked}
 use Rattle.schema.specs.declared.Checked.the-variants.{Good, Refused as Faulty}
@@ -41,8 +42,8 @@ use Rattle.promises.proofs.ReadBack.{read-back}
 
 both-good : (c c′ : Checked) (b : Bool) → ifGood c (ifGood c′ (cond b Yes No)) ≡ Yes → (c ≡ Good) × (c′ ≡ Good)
 both-good Good Good b e = (refl, refl)
-both-good Good (Faulty n p) b e = absurd (let z : _≡_ {A = ℕ} 0 1 = cc in omega arith)
-both-good (Faulty n p) c′ b e = absurd (let z : _≡_ {A = ℕ} 0 1 = cc in omega arith)
+both-good Good (Faulty n p) b e = differ cc
+both-good (Faulty n p) c′ b e = differ cc
 
 empty : (l : List ℕ) → length l ≡ 0 → l ≡ []
 empty [] e = refl

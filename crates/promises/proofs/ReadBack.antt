@@ -1,12 +1,13 @@
 -- Demand 2, the writer and both together: what `write` writes is read back as the value of its sheet, and what `read` shows is written.
 -- Assumes nothing.
-use mathlib.Core.Path.{_≡_, ap, _∙_}
-use mathlib.Core.Logic.{_↔_}
+use mathlib.Core.Path.{_≡_, refl, ap, _∙_}
+use mathlib.Core.Logic.{_⊎_, inl, inr, _↔_}
 use mathlib.Core.List.{List, _++_}
 use Prim.Native.Nat.{ℕ, _*_, _/_, _≤_}
 use native.Mathlib.Omega.{arith}
 use lib.ListN.{length, take, drop}
 use Rattle.wire.proofs.Numbers.{Bytes}
+use Rattle.wire.proofs.Cases.{differ}
 use Rattle.schema.specs.declared.Field.{Field}
 use Rattle.schema.specs.declared.Checked.{Checked}
 use Rattle.schema.specs.declared.Checked.the-variants.{Good, Refused as Faulty}
@@ -20,6 +21,7 @@ use Rattle.value.specs.Write.{Writing, refusal, written, write}
 use Rattle.value.specs.Sheet.{rowsOf}
 use Rattle.value.specs.Fits.{Shows}
 use Rattle.value.specs.Claims.{Writes}
+use Rattle.value.specs.Listed.{SheetListed}
 use Rattle.value.proofs.Sheets.{length-rows}
 use Rattle.value.proofs.Statements as value
 use Rattle.reader.specs.declared.Reading.the-variants.{Shown}
@@ -47,13 +49,31 @@ written-iff-shown s good ty sheet B out n out′ = (
 
 unwritten : (out : List ℕ) (a : Writing) (n q : ℕ) (out′ : List ℕ) → writer.outcomeOf out a ≡ writer.outcome (Refused n q) out′ → out′ ≡ out
 unwritten out (refusal m p) n q out′ e = cc
-unwritten out (written bs) n q out′ e = absurd (let z : _≡_ {A = ℕ} 0 1 = cc in omega arith)
+unwritten out (written bs) n q out′ e = differ cc
 
 refused-by : (c : Checked) (s : List ℕ) (ty : ℕ) (sheet B out : List ℕ) (n q : ℕ) (out′ : List ℕ)
     → writer.byVerdict c (writer.sheetOutcome s ty sheet B out) out ≡ writer.outcome (Refused n q) out′ → out′ ≡ out
 unfolding writer.sheetOutcome
 refused-by Good s ty sheet B out n q out′ e = unwritten out (write (tableOf s) ty (rowsOf sheet) B (length out)) n q out′ e
 refused-by (Faulty m p) s ty sheet B out n q out′ e = cc
+
+unwritten-from : (out : List ℕ) (a : Writing) (n q : ℕ) (out′ : List ℕ) → writer.outcomeOf out a ≡ writer.outcome (Refused n q) out′ → a ≡ refusal n q
+unwritten-from out (refusal m p) n q out′ e = cc
+unwritten-from out (written bs) n q out′ e = differ cc
+
+listed-by : (c : Checked) (s : List ℕ) → checked s ≡ c → (ty : ℕ) (sheet B out : List ℕ) (n q : ℕ) (out′ : List ℕ)
+    → writer.byVerdict c (writer.sheetOutcome s ty sheet B out) out ≡ writer.outcome (Refused n q) out′
+    → (checked s ≡ Faulty n q) ⊎ SheetListed (shapes s) ty (rowsOf sheet) B (length out) n q
+unfolding writer.sheetOutcome
+listed-by Good s good ty sheet B out n q out′ e =
+    inr (value.write-listed (tableOf s) (good-table s good) ty (rowsOf sheet) B (length out) n q (unwritten-from out (write (tableOf s) ty (rowsOf sheet) B (length out)) n q out′ e))
+listed-by (Faulty m p) s bad ty sheet B out n q out′ e = inl (bad ∙ cc)
+
+-- Every refusal is the schema file's own, or one that 01 lists for a sheet, for the reason that it says; a row's fault names the row.
+pub listed : (s : List ℕ) (ty : ℕ) (sheet B out : List ℕ) (n q : ℕ) (out′ : List ℕ)
+    → fileOutcome s ty sheet B out ≡ writer.outcome (Refused n q) out′ → (checked s ≡ Faulty n q) ⊎ SheetListed (shapes s) ty (rowsOf sheet) B (length out) n q
+unfolding writer.fileOutcome
+listed s ty sheet B out n q out′ e = listed-by (checked s) s refl ty sheet B out n q out′ e
 
 -- At every refusal, the schema file's too, the output stays untouched.
 pub refused-untouched : (s : List ℕ) (ty : ℕ) (sheet B out : List ℕ) (n q : ℕ) (out′ : List ℕ)

@@ -1,7 +1,7 @@
 -- Demand 2, the reader: what `read` answers and leaves in the sheet.
 -- Assumes nothing.
-use mathlib.Core.Path.{_≡_, sym, ap, _∙_}
-use mathlib.Core.Logic.{_↔_}
+use mathlib.Core.Path.{_≡_, refl, sym, ap, _∙_}
+use mathlib.Core.Logic.{_⊎_, inl, inr, _↔_}
 use mathlib.Core.List.{List}
 use mathlib.Core.Bool.{false}
 use Prim.Native.Nat.{ℕ, _≤_, _<_}
@@ -19,6 +19,7 @@ use Rattle.schema.proofs.Goods.{good-table}
 use Rattle.value.specs.Value.{Value, rows, size}
 use Rattle.value.specs.Read.{refusal, read}
 use Rattle.value.specs.Claims.{Rightful}
+use Rattle.value.specs.Listed.{Listed}
 use Rattle.value.proofs.Reading.{as-root, accepts}
 use Rattle.value.proofs.Statements as value
 use Rattle.reader.specs.declared.Reading.{Reading}
@@ -65,6 +66,19 @@ pub refused-within : (s : List ℕ) → IsGood s → (ty : ℕ) (payload sheet :
 refused-within s good ty payload sheet n q after e =
     value.refused-within (tableOf s) (good-table s good) ty payload (room sheet) n q
     (refused-from sheet (read (tableOf s) ty payload (room sheet)) n q after (sym (read-by s ty payload sheet good) ∙ e) .0)
+
+listed-by : (c : Checked) (s : List ℕ) → checked s ≡ c → (ty : ℕ) (payload sheet : List ℕ) (n q : ℕ) (after : List ℕ)
+    → byTable c s ty payload sheet ≡ outcome (Refused n q) after → (checked s ≡ Faulty n q) ⊎ Listed (shapes s) ty payload (room sheet) n q
+unfolding payloadOutcome
+listed-by Good s good ty payload sheet n q after e =
+    inr (value.refused-listed (tableOf s) (good-table s good) ty payload (room sheet) n q (refused-from sheet (read (tableOf s) ty payload (room sheet)) n q after e .0))
+listed-by (Faulty m p) s bad ty payload sheet n q after e = inl (bad ∙ cc)
+
+-- Every refusal is the schema file's own, or one that 01 lists for a payload, for the reason that it says.
+pub listed : (s : List ℕ) (ty : ℕ) (payload sheet : List ℕ) (n q : ℕ) (after : List ℕ)
+    → readOutcome s ty payload sheet ≡ outcome (Refused n q) after → (checked s ≡ Faulty n q) ⊎ Listed (shapes s) ty payload (room sheet) n q
+unfolding readOutcome
+listed s ty payload sheet n q after e = listed-by (checked s) s refl ty payload sheet n q after e
 
 -- ---- 01's numbers
 

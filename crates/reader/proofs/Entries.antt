@@ -6,6 +6,7 @@ use Prim.Native.Nat.{ℕ, _+_, _-_, _/_, _≤_, _<_}
 use native.Mathlib.Omega.{arith}
 use borrow.Author.Tests.{le-leb, lt-leb}
 use lib.ListN.{length, length-drop}
+use Rattle.wire.proofs.Cases.{differ}
 use Rattle.schema.specs.declared.TypeRow.{TypeRow}
 use Rattle.schema.specs.declared.Checked.{Checked}
 use Rattle.schema.specs.declared.Checked.the-variants.{Good, Refused as Faulty}
@@ -47,7 +48,7 @@ module _ (s : List ℕ) (ty : ℕ) (p sheet : List ℕ) (r : TypeRow) (is : r �
       -- the first walk, over no cells, leaves m, and m joined to the sheet is the sheet
       module _ (m : List ℕ) (none : length m ≡ 0) where
         stop : (o : Answer Tree) (n q : ℕ) → stopped n q ≡ walkOf rows o 0 [] → outcome (Refused n q) sheet ≡ outcomeOf sheet (value.reading (room sheet) o)
-        stop (seen tree c) n q e = let z : _≡_ {A = ℕ} 0 1 = cc in absurd (omega arith)
+        stop (seen tree c) n q e = differ cc
         stop (refused n′ q′) n q e = cc
 
         full : (o : Answer Tree) (next row : ℕ) → done (cursorAt p next) row m ≡ walkOf rows o 0 [] → room sheet < row
@@ -55,7 +56,7 @@ module _ (s : List ℕ) (ty : ℕ) (p sheet : List ℕ) (r : TypeRow) (is : r �
         full (seen tree c) next row e h =
             let f : row ≡ 0 + length (rows tree) = cc in
             rw (lt-leb (length (rows tree)) (room sheet) (omega arith))
-        full (refused n q) next row e h = let z : _≡_ {A = ℕ} 0 1 = cc in absurd (omega arith)
+        full (refused n q) next row e h = differ cc
 
         shown : (o : Answer Tree) (next row : ℕ) (w : Walk) (after : List ℕ) → done (cursorAt p next) row m ≡ walkOf rows o 0 [] → row ≤ room sheet
             → endOf p w after ≡ walkOf rows o 0 sheet
@@ -66,8 +67,8 @@ module _ (s : List ℕ) (ty : ℕ) (p sheet : List ℕ) (r : TypeRow) (is : r �
             let c-is : cursorAt p next ≡ c = cc in
             let after-is : after ≡ putRows sheet 0 (rows tree) = cc in
             rw (le-leb (length (rows tree)) (room sheet) (omega arith), ← c-is, length-drop, row-is, after-is, rows-shown sheet (rows tree) (omega arith))
-        shown (seen tree c) next row (Stop a b) after e h g = let z : _≡_ {A = ℕ} 0 1 = cc in absurd (omega arith)
-        shown (refused n q) next row w after e h g = let z : _≡_ {A = ℕ} 0 1 = cc in absurd (omega arith)
+        shown (seen tree c) next row (Stop a b) after e h g = differ cc
+        shown (refused n q) next row w after e h g = differ cc
 
         pub entry-refused : (n q : ℕ)
             → Walked p 1 rows (rootIn s p ty (fieldsFrom (tableOf s) (r .a) (r .b))) 0 [] (Stop n q) m
@@ -82,7 +83,7 @@ module _ (s : List ℕ) (ty : ℕ) (p sheet : List ℕ) (r : TypeRow) (is : r �
             where
               go : (o : Answer Tree) → done (cursorAt p next) row m ≡ walkOf rows o 0 [] → Accepted o
               go (seen tree c) e = tt
-              go (refused n q) e = let z : _≡_ {A = ℕ} 0 1 = cc in absurd (omega arith)
+              go (refused n q) e = differ cc
 
           pub entry-full : length (m ++ sheet) / 4 < row → outcome (Refused 30 0) (m ++ sheet) ≡ payloadOutcome s ty p sheet
           entry-full h = rw (nothing-before m sheet none, ← entry-root) (full (rootIn s p ty (fieldsFrom (tableOf s) (r .a) (r .b))) next row (w .same) (rw (nothing-before m sheet none) at h))

@@ -6,6 +6,7 @@ use Prim.Native.Nat.{ℕ, zero, suc, _-_, _≤_, _<_}
 use native.Mathlib.Omega.{arith}
 use borrow.Author.Tests.{eq-eqb, ne-eqb, le-leb, lt-leb}
 use lib.ListN.{length, drop, length-drop}
+use Rattle.wire.proofs.Cases.{differ}
 use Rattle.schema.specs.declared.Field.{Field}
 use Rattle.schema.specs.Table.{Shape, struct}
 use Rattle.value.specs.Answer.{Answer, refused, seen, Reader, andThen, check, cursorAt, Accepted}
@@ -63,17 +64,17 @@ module _ (p : List ℕ) (next row′ : ℕ) (l m : List ℕ) (u : ℕ) where
       → done (cursorAt p next) row′ m ≡ walkOf rows (andThen o (afterFields u)) 0 l
   unfolding andThen afterFields
   end-past (seen tree c) e f = let k : cursorAt p next ≡ c = cc in rw (← k, f) (rw (← k) at e)
-  end-past (refused a q) e f = let z : _≡_ {A = ℕ} 0 1 = cc in absurd (omega arith)
+  end-past (refused a q) e f = differ cc
 
   end-stop : (o : Answer Tree) → done (cursorAt p next) row′ m ≡ walkOf rows o 0 l → (a q : ℕ) → ending u (cursorAt p next) ≡ refused a q
       → stopped a q ≡ walkOf rows (andThen o (afterFields u)) 0 l
   unfolding andThen afterFields
   end-stop (seen tree c) e a q f = let k : cursorAt p next ≡ c = cc in rw (← k, f)
-  end-stop (refused b r) e a q f = let z : _≡_ {A = ℕ} 0 1 = cc in absurd (omega arith)
+  end-stop (refused b r) e a q f = differ cc
 
 fields-stop : (l : List ℕ) (u a q : ℕ) (o : Answer Tree) → stopped a q ≡ walkOf rows o 0 l → stopped a q ≡ walkOf rows (andThen o (afterFields u)) 0 l
 unfolding andThen
-fields-stop l u a q (seen tree c) e = let z : _≡_ {A = ℕ} 0 1 = cc in absurd (omega arith)
+fields-stop l u a q (seen tree c) e = differ cc
 fields-stop l u a q (refused b r) e = e
 
 module _ (S : ℕ → Shape) (t : ℕ) (fs : List Field) (p : List ℕ) where

@@ -6,6 +6,7 @@ use mathlib.Core.List.{List, [], _∷_}
 use Prim.Native.Nat.{ℕ, zero, suc, _+_, _-_, _≤_, _<_}
 use native.Mathlib.Omega.{arith}
 use lib.ListN.{length, length-append}
+use Rattle.wire.proofs.Cases.{differ}
 use Rattle.schema.specs.Table.{Shape}
 use Rattle.value.specs.declared.Row.{Row}
 use Rattle.value.specs.Answer.{Cursor, Answer, refused, seen, Reader, andThen, check, cursorAt, Accepted}
@@ -33,13 +34,13 @@ done-eq e f g = cc
 pub walk-length : {A : Type 0} (f : A → List Row) (o : Answer A) (row : ℕ) (l : List ℕ) (c : Cursor) (row′ : ℕ) (m : List ℕ)
     → done c row′ m ≡ walkOf f o row l → length m ≡ length l
 walk-length f (seen a c₁) row l c row′ m e = let g : m ≡ putRows l row (f a) = cc in rw g (length-rows l row (f a))
-walk-length f (refused n q) row l c row′ m e = let z : _≡_ {A = ℕ} 0 1 = cc in absurd (omega arith)
+walk-length f (refused n q) row l c row′ m e = differ cc
 
 -- where two answers have the same end, one accepts where the other does
 pub accepted-along : {A B : Type 0} (f : A → List Row) (g : B → List Row) (o : Answer A) (o′ : Answer B) (row row′ : ℕ) (l m : List ℕ)
     → walkOf f o row l ≡ walkOf g o′ row′ m → Accepted o′ → Accepted o
 accepted-along f g (seen a c) o′ row row′ l m e h = tt
-accepted-along f g (refused n q) (seen b c) row row′ l m e h = let z : _≡_ {A = ℕ} 0 1 = cc in absurd (omega arith)
+accepted-along f g (refused n q) (seen b c) row row′ l m e h = differ cc
 accepted-along f g (refused n q) (refused n′ q′) row row′ l m e h = h
 
 pub renamed : {A : Type 0} {f : A → List Row} {p : List ℕ} {least : ℕ} {o o′ : Answer A} {row : ℕ} {l : List ℕ} {r : Walk} {m : List ℕ}
@@ -76,12 +77,12 @@ module _ (P : ℕ → Reader Tree) (keys : List (List ℕ)) (is : List Item) whe
       → walkOf rowsAll (andThen o (afterItem P keys is)) row l ≡ walkOf rowsAll (walk P keys is c′) row′ m
   unfolding andThen afterItem
   past (seen t c) row l c′ row′ m e = then-plus t (walk P keys is c) row l ∙ cc
-  past (refused n q) row l c′ row′ m e = let z : _≡_ {A = ℕ} 0 1 = cc in absurd (omega arith)
+  past (refused n q) row l c′ row′ m e = differ cc
 
   halted : {A : Type 0} (g : A → Reader Forest) (f : A → List Row) (o : Answer A) (row : ℕ) (l : List ℕ) (n q : ℕ)
       → stopped n q ≡ walkOf f o row l → stopped n q ≡ walkOf rowsAll (andThen o g) row l
   unfolding andThen
-  halted g f (seen a c) row l n q e = let z : _≡_ {A = ℕ} 0 1 = cc in absurd (omega arith)
+  halted g f (seen a c) row l n q e = differ cc
   halted g f (refused n′ q′) row l n q e = e
 
   module _ (t : ℕ) (c : Cursor) (row : ℕ) (l : List ℕ) where
@@ -123,7 +124,7 @@ module _ (P : ℕ → Reader Tree) (sh : Shape) (t place h : ℕ) (c : Cursor) (
       let g : below ≡ row + 1 + length (rowsAll ts) = cc in
       let k : m ≡ putRows l (row + 1) (rowsAll ts) = cc in
       rw (← k, ← f) (done-eq refl (omega arith) refl)
-  own-row (refused n q) c′ below m e = let z : _≡_ {A = ℕ} 0 1 = cc in absurd (omega arith)
+  own-row (refused n q) c′ below m e = differ cc
 
   -- its own row is written after those of what it holds
   pub composite-past : (p : List ℕ) (least here below : ℕ) (m after : List ℕ) (keys : List (List ℕ))
@@ -145,7 +146,7 @@ module _ (P : ℕ → Reader Tree) (sh : Shape) (t place h : ℕ) (c : Cursor) (
     where
       go : (o : Answer Forest) → stopped n q ≡ walkOf rowsAll o (row + 1) l
           → stopped n q ≡ walkOf rows (andThen o (λ ts end. seen (branch (nodeRow t place (end .at) (counted sh h)) h ts) end)) row l
-      go (seen ts c₁) e = let z : _≡_ {A = ℕ} 0 1 = cc in absurd (omega arith)
+      go (seen ts c₁) e = differ cc
       go (refused n′ q′) e = e
 
   -- what is left of an accepted composite is accepted

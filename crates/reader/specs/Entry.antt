@@ -16,6 +16,12 @@ use Rattle.reader.specs.Sheet.{shownIn}
 pub data Outcome : Type 0 where
   outcome : Reading → (sheet : List ℕ) → Outcome
 
+abbrev pub readingIn : Outcome → Reading
+readingIn (outcome r sheet) = r
+
+abbrev pub sheetIn : Outcome → List ℕ
+sheetIn (outcome r sheet) = sheet
+
 -- A refusal leaves the sheet as it was; rows are written from the first on.
 abbrev pub outcomeOf : List ℕ → value.Reading → Outcome
 outcomeOf sheet (value.refusal n q) = outcome (Refused n q) sheet

@@ -6,21 +6,18 @@ use mathlib.Core.List.{List}
 use Prim.Native.Nat.{ℕ, _+_, _≤_}
 use lib.ListN.{length}
 use Rattle.schema.specs.declared.Field.{Field}
-use Rattle.schema.specs.Table.{Shape, shape}
-use Rattle.schema.specs.File.{tableOf}
+use Rattle.schema.specs.Table.{Shape}
 use Rattle.schema.specs.Check.{IsGood}
 use Rattle.value.specs.declared.Row.{Row}
 use Rattle.value.specs.Answer.{Cursor, Answer, refused, seen, cursorAt, Accepted}
 use Rattle.value.specs.Value.{Tree}
 use Rattle.value.specs.Read.{parts, whole, parse, rootStruct}
+use Rattle.parts.specs.Shape.{shapeIn}
 use Rattle.reader.specs.declared.walk.Walk.{Walk}
 use Rattle.reader.specs.declared.walk.Walk.the-variants.{Past, Refused}
 use Rattle.reader.specs.Sheet.{putRows}
 
 -- ---- the readings of the crate `value`, by the table in the file s, at a place of the payload p
-
-abbrev pub shapeIn : List ℕ → ℕ → Shape
-shapeIn s = shape (tableOf s)
 
 abbrev pub valueIn : (s p : List ℕ) (depth ty at : ℕ) → Answer Tree
 valueIn s p depth ty at = parse (shapeIn s) depth ty (cursorAt p at)

@@ -1,19 +1,21 @@
 // A value's own bytes: counts, contents of scalars and strings, and presence bits.
 use parts::is_complete;
-use parts::is_utf8;
 use schema::kind::width_of;
 use wire::bitmap;
+use wire::utf8;
 use wire::varuint;
 use wire::varuint::VarUInt;
 ghost use mathlib.Core.Path.{_≡_};
-ghost use mathlib.Core.Bool.{false};
+ghost use mathlib.Core.Bool.{true, false};
 ghost use Prim.Native.Nat.{_+_, _≤_, _<_};
 ghost use lib.ListN.{length};
+ghost use Rattle.wire.specs.Utf8.{utf8};
 ghost use Rattle.schema.specs.Table.{scalar, text};
 ghost use Rattle.schema.specs.File.{tableOf};
 ghost use Rattle.schema.specs.Check.{IsGood};
 ghost use Rattle.value.specs.Answer.{cursorAt, Accepted};
 ghost use Rattle.value.specs.Read.{count, own, bitmap};
+ghost use Rattle.value.specs.Write.{span};
 ghost use Rattle.parts.specs.Shape.{leafShape, fieldsFrom};
 ghost use Rattle.reader.specs.Leaf.{Counted, Spanned, Headed};
 
@@ -23,7 +25,7 @@ pub enum Count {
     Not { number: u32 },
 }
 
-// Where a content starts and ends, or a refusal.
+// Where a content starts and ends, or a refusal. The refusal's place comes first, as the start does: an answer so laid out stays in registers.
 pub enum Span {
     At { from: usize, to: usize },
     Bad { place: usize, number: u32 },
@@ -90,6 +92,17 @@ fn scalar(p: &[u8], kind: usize, at: usize) -> Span
         from: at,
         to: at + w,
     }
+}
+
+// Whether a content is UTF-8; where nothing is judged, it is known to be.
+fn is_utf8(source: &[u8], from: usize, n: usize, judge: bool) -> bool
+    requires { ⌜ (from + n ≤ length (now source)) × (judge ≡ false → utf8 (span (now source) from n) ≡ true) ⌝ }
+    ensures { λ r. ⌜ r ≡ utf8 (span (now (source .entry)) from n) ⌝ }
+{
+    if judge {
+        return utf8::valid(source, from, from + n);
+    }
+    true
 }
 
 // The content of a string or of bytes.

@@ -20,8 +20,8 @@ ghost use Rattle.schema.specs.Table.{rowAt, array, map, struct};
 ghost use Rattle.schema.specs.File.{tableOf};
 ghost use Rattle.value.specs.Value.{rows};
 ghost use Rattle.value.specs.Read.{present};
-ghost use Rattle.parts.specs.Shape.{fieldsFrom};
-ghost use Rattle.reader.specs.Walk.{shapeIn, valueIn, wholeIn, rootIn, Walked, Ready};
+ghost use Rattle.parts.specs.Shape.{fieldsFrom, shapeIn};
+ghost use Rattle.reader.specs.Walk.{valueIn, wholeIn, rootIn, Walked, Ready};
 
 // The place and the row after what was read, or a refusal.
 pub enum Walk {
@@ -393,6 +393,7 @@ fn structure(
 }
 
 // The fields of a struct whose bits are set in `known`, from `start` on, and the struct's own row: its bitmap stands at `place`.
+// Most fields are scalars, strings or bytes: these are read in the loop itself, without a call of their own.
 fn fields(
     s: &[u8],
     p: &[u8],

@@ -1,6 +1,9 @@
 pub mod Floats
 pub mod Widths
 pub mod Answers
+pub mod Listed
 pub mod Identity
+pub mod Twos
 pub mod Reading
 pub mod Examples
+pub mod Signs

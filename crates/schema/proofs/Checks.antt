@@ -4,10 +4,9 @@ use mathlib.Core.Path.{_≡_, refl, sym, ap, _∙_}
 use mathlib.Core.Bool.{Bool, true, false, cond, _&&_, _||_}
 use mathlib.Core.List.{List}
 use Prim.Native.Nat.{ℕ}
-use native.Mathlib.Omega.{arith}
 use lib.Dec.{leb, ltb, eqb}
 use borrow.Author.Tests.{eq-eqb, ne-eqb}
-use Rattle.wire.proofs.Cases.{chosen}
+use Rattle.wire.proofs.Cases.{chosen, differ}
 use Rattle.schema.specs.declared.TypeRow.{TypeRow}
 use Rattle.schema.specs.declared.Field.{Field}
 use Rattle.schema.specs.declared.Method.{Method}
@@ -22,7 +21,7 @@ use Rattle.schema.specs.Check.{plainRow, arrayRow, mapRow, structRow, go
 use Rattle.schema.proofs.Files.{laid-types, laid-fields, laid-methods}
 
 no-fault : (n i : ℕ) → Refused n i ≡ Good → ⊥
-no-fault n i e = let z : _≡_ {A = ℕ} 0 1 = cc in absurd (omega arith)
+no-fault n i e = differ cc
 
 -- a choice or a fault that leaves the file good
 cond-good : (b : Bool) (x : Checked) (n : ℕ) → cond b x (Refused n 0) ≡ Good → (b ≡ true) × (x ≡ Good)

@@ -1,14 +1,14 @@
--- The worked example's table T: its file passes the check and holds its rows; damaged files and their refusals; and a table that extends it.
+-- The worked example's table T: its file passes the check and holds its rows; damaged files and their refusals; the empty table; and tables that extend others.
 -- Assumes nothing.
 use mathlib.Core.Path.{_≡_, refl}
 use mathlib.Core.List.{List, [], _∷_, _++_, map}
-use Prim.Native.Nat.{ℕ}
+use Prim.Native.Nat.{ℕ, zero, suc, _+_, _*_}
 use lib.ListN.{take, drop, set, replicate}
 use Rattle.wire.specs.Little.{little}
 use Rattle.schema.specs.declared.Checked.the-variants.{Good, Refused}
 use Rattle.schema.specs.declared.Extended.the-variants.{Yes, No}
 use Rattle.schema.specs.Table.{Table}
-use Rattle.schema.specs.File.{cell, shaped, layoutOf, tabulate, tableOf}
+use Rattle.schema.specs.File.{cell, shaped, layoutOf, tabulate, emptyTable, tableOf}
 use Rattle.schema.specs.Check.{lowest, goodRow, goodField, findAmong, goodMethod, small, badRow, badField, badMethod, checkedTable, checked}
 use Rattle.schema.specs.Extend.{every, fieldKept, rowKept, methodKept, extended, extension}
 
@@ -114,6 +114,15 @@ pub most : (checkedTable (bools 256) ≡ Good) × (checkedTable (bools 257) ≡ 
 unfolding lowest goodRow goodField findAmong goodMethod small badRow badField badMethod checkedTable
 most = (refl, refl)
 
+-- The 32-bit number x below 256.
+abbrev four : ℕ → List ℕ
+four x = x ∷ 0 ∷ 0 ∷ 0 ∷ []
+
+-- Three empty sections are a legal table: the trailer 0, 0, 0, 1 alone.
+pub empty-good : let s = four 0 ++ (four 0 ++ (four 0 ++ four 1)) in (checked s ≡ Good) × (tableOf s ≡ emptyTable)
+unfolding little cell shaped layoutOf tabulate tableOf lowest goodRow goodField findAmong goodMethod small badRow badField badMethod checkedTable checked
+empty-good = (refl, refl)
+
 -- T with a third field in type 2, an optional uint8.
 abbrev pub longer : List ℕ
 longer =
@@ -139,3 +148,20 @@ T-extended = refl
 pub T-shortened : extension longer file ≡ No
 unfolding little cell shaped layoutOf tabulate tableOf lowest goodRow goodField findAmong goodMethod small badRow badField badMethod checkedTable checked every fieldKept rowKept methodKept extended extension
 T-shortened = refl
+
+-- n optional fields of type 0; and the file whose type 0 is uint8 and whose type 1 is a struct of them.
+abbrev optionals : ℕ → List ℕ
+optionals zero = []
+optionals (suc n) = four 0 ++ (four 1 ++ optionals n)
+
+abbrev structOf : ℕ → List ℕ
+structOf n =
+    four 6 ++ (four 0 ++ (four 0 ++
+    (four 16 ++ (four 0 ++ (four n ++
+    (optionals n ++
+    (four 24 ++ (four (24 + 8 * n) ++ (four (24 + 8 * n) ++ four 1)))))))))
+
+-- Seven fields may become eight, eight not nine.
+pub eight-fields : (extension (structOf 7) (structOf 8) ≡ Yes) × (extension (structOf 8) (structOf 9) ≡ No)
+unfolding little cell shaped layoutOf tabulate tableOf lowest goodRow goodField findAmong goodMethod small badRow badField badMethod checkedTable checked every fieldKept rowKept methodKept extended extension
+eight-fields = (refl, refl)

@@ -10,6 +10,7 @@ use lib.ListN.{length, getD, take, drop, length-append, length-drop, take-append
 use lib.Seq.{ext-getD, getD-take, getD-drop, getD-append-add, length-take-le}
 use lib.Dec.{eqb, ltb}
 use borrow.Author.Tests.{leb-true, ltb-true, ltb-false, eqb-true, eqb-false, le-leb, eq-eqb, ne-eqb}
+use Rattle.wire.proofs.Cases.{differ}
 use Rattle.schema.specs.declared.TypeRow.{TypeRow}
 use Rattle.schema.specs.declared.Field.{Field}
 use Rattle.schema.specs.declared.Method.{Method}
@@ -242,10 +243,10 @@ module _ (old new : Table) (g : GoodTable old) (g′ : GoodTable new) where
 module _ (old new : List ℕ) (g : IsGood old) (g′ : IsGood new) where
   yes-no : (b : Bool) → cond b Yes No ≡ Yes → b ≡ true
   yes-no true e = refl
-  yes-no false e = let z : _≡_ {A = ℕ} 0 1 = cc in absurd (omega arith)
+  yes-no false e = differ cc
 
   no-yes : (b : Bool) → cond b Yes No ≡ No → b ≡ false
-  no-yes true e = let z : _≡_ {A = ℕ} 0 1 = cc in absurd (omega arith)
+  no-yes true e = differ cc
   no-yes false e = refl
 
   decided : extension old new ≡ cond (extended (tableOf old) (tableOf new)) Yes No

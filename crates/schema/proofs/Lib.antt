@@ -2,6 +2,7 @@ pub mod Bools
 pub mod Files
 pub mod Lowest
 pub mod Checks
+pub mod Listed
 pub mod Examples
 pub mod Goods
 pub mod Shapes

@@ -6,6 +6,7 @@ use Prim.Native.Nat.{ℕ, zero, suc, _+_, _-_, _≤_, _<_, suc-le-suc}
 use native.Mathlib.Nat.{not-suc-le-zero, le-of-suc-le-suc, zero-lt-suc, add-zero, add-suc, suc-add, zero-add}
 use native.Mathlib.Omega.{arith}
 use borrow.Author.Tests.{not-false}
+use Rattle.wire.proofs.Cases.{differ}
 use Rattle.schema.specs.declared.Found.{Found}
 use Rattle.schema.specs.declared.Found.the-variants.{At, Missing}
 use Rattle.schema.specs.Check.{lowest, isMissing}
@@ -17,7 +18,7 @@ missing-is (At i) e = clash false e refl
 missing-is Missing e = refl
 
 pub at-missing : (i : ℕ) → At i ≡ Missing → ⊥
-at-missing i e = let z : _≡_ {A = ℕ} 0 1 = cc in omega arith
+at-missing i e = differ cc
 
 module _ (p : ℕ → Bool) (n i : ℕ) (e : lowest p 0 n ≡ lowest p i (n - i)) where
   pub lowest-here : i < n → p i ≡ true → At i ≡ lowest p 0 n

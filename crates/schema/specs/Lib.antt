@@ -2,5 +2,6 @@
 pub mod Table
 pub mod File
 pub mod Check
+pub mod Listed
 pub mod Good
 pub mod Extend

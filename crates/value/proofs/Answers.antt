@@ -6,6 +6,7 @@ use mathlib.Core.Bool.{Bool, true, false}
 use Prim.Native.Nat.{ℕ, _+_}
 use native.Mathlib.Omega.{arith}
 use lib.ListN.{length, length-append}
+use Rattle.wire.proofs.Cases.{differ}
 use Rattle.value.specs.Answer.{CursorOf, AnswerOf, Accepted, ReaderOf, refused, seen, andThen, check}
 
 -- What holds of an answer that accepts.
@@ -83,7 +84,7 @@ check-stays false n p c e = cc
 -- What two readers one after the other accept, each accepts.
 pub then-inv : {E A B : Type 0} (m : AnswerOf E A) (f : A → ReaderOf E B) {b : B} {c : CursorOf E} → andThen m f ≡ seen b c → (a : A) × (c′ : CursorOf E) × (m ≡ seen a c′) × (f a c′ ≡ seen b c)
 unfolding andThen
-then-inv (refused n p) f e = absurd (let z : _≡_ {A = ℕ} 0 1 = cc in omega arith)
+then-inv (refused n p) f e = differ cc
 then-inv (seen a c′) f e = (a, c′, refl, e)
 
 pub yields-end : {E A : Type 0} {Q : A → CursorOf E → Type 0} {m : AnswerOf E A} → Yields Q m → (a : A) × (c : CursorOf E) × (m ≡ seen a c) × Q a c
@@ -94,6 +95,11 @@ seen-end {P} {a} {c} s e = go (rw e at s)
   where
     go : Seen P (seen a c) → P a c
     go (value p) = p
+
+-- Two facts of one answer.
+pub seen-both : {E A : Type 0} {P Q : A → CursorOf E → Type 0} {m : AnswerOf E A} → Seen P m → Seen Q m → Seen (λ a c. P a c × Q a c) m
+seen-both nothing nothing = nothing
+seen-both (value p) (value q) = value (p, q)
 
 -- The laws of `Seen` for a step of which something is known, and for a test.
 module _ {E A : Type 0} {P : A → CursorOf E → Type 0} where

@@ -20,7 +20,7 @@ use Rattle.schema.specs.Table.{struct, bitmapBytes}
 use Rattle.value.specs.Read.{Item, plainItem, present, counted, complete, knownBits, unknownBits}
 use Rattle.value.proofs.Shapes.{Optional}
 
-half-pow : (m k : ℕ) → m / 2 ^ suc k ≡ m / 2 / 2 ^ k
+pub half-pow : (m k : ℕ) → m / 2 ^ suc k ≡ m / 2 / 2 ^ k
 half-pow m k = rw (pow-succ' 2 k) (sym (div-div-eq-div-mul m 2 (2 ^ k)))
 
 -- ---- what is present
@@ -29,7 +29,7 @@ cond-append : (b : Bool) (x : Item) (xs ys : List Item) → cond b (x ∷ (xs ++
 cond-append true x xs ys = refl
 cond-append false x xs ys = refl
 
-present-append : (fs gs : List Field) (m : ℕ) → present (fs ++ gs) m ≡ present fs m ++ present gs (m / 2 ^ length fs)
+pub present-append : (fs gs : List Field) (m : ℕ) → present (fs ++ gs) m ≡ present fs m ++ present gs (m / 2 ^ length fs)
 unfolding present
 present-append [] gs m = rw (div-one m)
 present-append (f ∷ fs) gs m =
@@ -95,7 +95,7 @@ module _ (fs gs : List Field) (m : ℕ) where
   pub plan-split : present (fs ++ gs) (knownBits (fs ++ gs) m) ≡ present fs m ++ present gs (m / 2 ^ length fs)
   plan-split = present-mod (fs ++ gs) m ∙ present-append fs gs m
 
-ones-add : (j k m : ℕ) → onesIn (j + k) m ≡ onesIn j m + onesIn k (m / 2 ^ j)
+pub ones-add : (j k m : ℕ) → onesIn (j + k) m ≡ onesIn j m + onesIn k (m / 2 ^ j)
 unfolding onesIn
 ones-add zero k m = rw (zero-add k, div-one m) (sym (zero-add _))
 ones-add (suc j) k m = rw (suc-add j k, half-pow m j) (omega (arith, ones-add j k (m / 2)))

@@ -11,6 +11,7 @@ use native.Mathlib.Nat.{div-eq-of-lt}
 use lib.Dec.{leb}
 use lib.ListN.{length, length-append}
 use borrow.Author.Tests.{leb-false}
+use Rattle.wire.proofs.Cases.{differ}
 use Rattle.schema.specs.declared.Field.{Field}
 use Rattle.schema.specs.Table.{Shape, struct, bitmapBytes}
 use Rattle.value.specs.declared.Row.{Row}
@@ -64,7 +65,7 @@ module _ (S S′ : ℕ → Shape) (n : ℕ) (x : Extension S S′ n) (t : ℕ) (
       go : (is : List Item) (vs : Values) → is ≡ [] → AllSpell P is vs w → w ≡ []
       go [] empty e q = q
       go [] (and v vs) e q = absurd q
-      go (i ∷ is) vs e q = absurd (let z : _≡_ {A = ℕ} 0 1 = cc in omega arith)
+      go (i ∷ is) vs e q = differ cc
 
   -- ---- from the new table to the old one
 
@@ -133,10 +134,10 @@ module _ (S S′ : ℕ → Shape) (n : ℕ) (x : Extension S S′ n) (t : ℕ) (
     -- 26 is answered exactly for an inner struct that carries an added field, at the first.
     pub refused-iff : (v : Value) (f : Option ℕ) → Answered v f → (p : ℕ) → (reading room (rootOf S t payload) ≡ refusal 26 p) ↔ (f ≡ some p)
     refused-iff v (some p′) a p = (λ e. cc, λ e. a ∙ cc)
-    refused-iff v none (rs, known, added, k, q, z, s, a) p = (λ e. go (leb (length rs) room) (sym a ∙ e), λ e. absurd (let z : _≡_ {A = ℕ} 0 1 = cc in omega arith))
+    refused-iff v none (rs, known, added, k, q, z, s, a) p = (λ e. go (leb (length rs) room) (sym a ∙ e), λ e. differ cc)
       where
         go : (b : Bool) → cond b (accepted rs (length known) (length added)) (refusal 30 0) ≡ refusal 26 p → none ≡ some p
-        go true e = absurd (let z : _≡_ {A = ℕ} 0 1 = cc in omega arith)
+        go true e = differ cc
         go false e = absurd (let z : _≡_ {A = ℕ} 30 26 = cc in omega arith)
 
     -- ---- from the old table to the new one

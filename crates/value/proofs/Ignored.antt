@@ -4,10 +4,10 @@ use mathlib.Core.Path.{_≡_, refl, sym, ap, _∙_}
 use mathlib.Core.List.{List, [], _∷_, map as each}
 use mathlib.Core.Bool.{Bool, true, false}
 use Prim.Native.Nat.{ℕ, zero, suc, _+_}
-use native.Mathlib.Omega.{arith}
 use lib.Dec.{eqb}
 use lib.ListN.{length, length-map}
 use borrow.Author.Tests.{eqb-true}
+use Rattle.wire.proofs.Cases.{differ}
 use Rattle.schema.specs.declared.Field.{Field}
 use Rattle.schema.specs.Table.{Shape, unknown, scalar, text, array, map, struct}
 use Rattle.value.specs.declared.Row.{Row}
@@ -46,8 +46,8 @@ module _ (S : ℕ → Shape) where
   next-both : (rs rs′ : List Row) (k : ℕ) → Alike rs rs′ → Both (λ r r′. used S r ≡ used S r′) (nextRow (from rs k)) (nextRow (from rs′ k))
   unfolding nextRow
   next-both [] [] k l = refuse
-  next-both [] (r′ ∷ rs′) k l = absurd (let z : _≡_ {A = ℕ} 0 1 = cc in omega arith)
-  next-both (r ∷ rs) [] k l = absurd (let z : _≡_ {A = ℕ} 0 1 = cc in omega arith)
+  next-both [] (r′ ∷ rs′) k l = differ cc
+  next-both (r ∷ rs) [] k l = differ cc
   next-both (r ∷ rs) (r′ ∷ rs′) k l = accept {a = r} {b = r′} rs rs′ (k + 1) (cc) (cc)
 
   row-both : (t : ℕ) (rs rs′ : List Row) (k : ℕ) → Alike rs rs′ → Both (λ r r′. (used S r ≡ used S r′) × (r .ty ≡ t)) (rowOf t (from rs k)) (rowOf t (from rs′ k))

@@ -8,8 +8,11 @@ pub mod Complete
 pub mod Encode
 pub mod Root
 pub mod Differ
+pub mod Fields
+pub mod Depths
 pub mod Shown
 pub mod Placed
+pub mod Delimited
 pub mod Written
 pub mod Telling
 pub mod Ignored
@@ -17,9 +20,12 @@ pub mod Places
 pub mod TwoTables
 pub mod Numbers
 pub mod Reading
+pub mod Refusals
+pub mod Determined
 pub mod Without
 pub mod RootTables
 pub mod Writing
+pub mod RowFaults
 pub mod Extended
 pub mod Sheets
 pub mod Statements

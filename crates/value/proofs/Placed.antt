@@ -33,7 +33,7 @@ module _ (B : List ℕ) where
       )
 
   -- A reader stays in the payload.
-  stays-on : {A : Type 0} {R : A → List ℕ → Type 0} {c : Cursor} {m : Answer A} → On c → Reads c R m
+  pub stays-on : {A : Type 0} {R : A → List ℕ → Type 0} {c : Cursor} {m : Answer A} → On c → Reads c R m
       → Seen (λ a c′. On c′ × ((u : List ℕ) × (c′ .at ≡ c .at + length u) × Spans B (c .at) (length u) u × R a u)) m
   stays-on o not-ok = nothing
   stays-on {c} o (ok {c′} u l k r) = let w = passed c c′ u o l k in holds (w .0, (u, k, w .1, r))
@@ -54,11 +54,11 @@ module _ (B : List ℕ) where
       holds (w .0, (w .3 .0, rw (w .3 .1), e))))
 
   -- What the own bytes of a value say, up to the cursor.
-  abbrev OwnFits : Shape → Own → Cursor → Type 0
+  abbrev pub OwnFits : Shape → Own → Cursor → Type 0
   OwnFits s (plain x) c = LeafFits B s (c .at - length x) (length x) 0 x
   OwnFits s (parts start h) c = HeadFits B s start (counted s h) h
 
-  own-placed : (s : Shape) (c : Cursor) → On c → Seen (λ o c′. On c′ × OwnFits s o c′) (own s c)
+  pub own-placed : (s : Shape) (c : Cursor) → On c → Seen (λ o c′. On c′ × OwnFits s o c′) (own s c)
   own-placed unknown c o = nothing
   own-placed (scalar kind) c o =
       seen-after (block-placed _ c o) (λ x c′ w. seen-check _ _ _ _ _ (λ e.

@@ -1,13 +1,14 @@
 -- The whole reader's answers, taken apart and put together.
 -- Assumes nothing.
 use mathlib.Core.Path.{_≡_, refl, ap, _∙_}
-use mathlib.Core.List.{List, []}
+use mathlib.Core.List.{List}
 use mathlib.Core.Bool.{Bool, true, false, cond}
 use Prim.Native.Nat.{ℕ, _+_, _-_, _≤_}
 use native.Mathlib.Omega.{arith}
 use lib.Dec.{leb}
 use lib.ListN.{length, length-append, length-drop}
 use borrow.Author.Tests.{leb-true, le-leb}
+use Rattle.wire.proofs.Cases.{differ}
 use Rattle.schema.specs.declared.Field.{Field}
 use Rattle.schema.specs.Table.{Shape, unknown, scalar, text, array, map, struct}
 use Rattle.value.specs.declared.Row.{Row}
@@ -21,7 +22,6 @@ use Rattle.value.proofs.Answers.{seen-end, yields-end}
 use Rattle.value.proofs.Root.{root-sound, root-complete}
 use Rattle.value.proofs.Placed.{root-placed}
 use Rattle.value.proofs.Telling.{root-once}
-use Rattle.value.proofs.Places.{Within, before, goes-on, root-within}
 
 -- There are as many rows as values.
 mutual
@@ -36,7 +36,7 @@ mutual
   sizedAll (plus t ts) = simp length-append (omega (arith, sized t, sizedAll ts))
 
 never : {A : Type 0} {n p tp tl : ℕ} {rs : List Row} → refusal n p ≡ accepted rs tp tl → A
-never e = absurd (let z : _≡_ {A = ℕ} 0 1 = cc in omega arith)
+never e = differ cc
 
 module _ (S : ℕ → Shape) (t : ℕ) (payload : List ℕ) (room : ℕ) where
   -- A payload that is not too long is judged by the root reader.
@@ -89,33 +89,6 @@ module _ (S : ℕ → Shape) (t : ℕ) (payload : List ℕ) (room : ℕ) where
   accepted-of rs place n a =
       let b : leb (length rs) room ≡ true = le-leb _ _ (a .fits) in
       as-root (a .fs) (a .is-struct) (a .short) ∙ rw (a .reads, a .has-rows, b, a .has-place, a .has-length)
-
-  -- A refusal's place is within the payload or at its end.
-  pub refused-inside : (n p : ℕ) → reading room (rootOf S t payload) ≡ refusal n p → p ≤ length payload
-  refused-inside n p e = go (S t) e
-    where
-      zero-place : (k : ℕ) → refusal k 0 ≡ refusal n p → p ≤ length payload
-      zero-place k e = let z : p ≡ 0 = cc in omega arith
-
-      fitting : (b : Bool) (rs : List Row) (x y : ℕ) → cond b (accepted rs x y) (refusal 30 0) ≡ refusal n p → p ≤ length payload
-      fitting true rs x y e = absurd (let z : _≡_ {A = ℕ} 0 1 = cc in omega arith)
-      fitting false rs x y e = zero-place 30 e
-
-      judged : (m : Answer Tree) → Within (length payload) m → reading room m ≡ refusal n p → p ≤ length payload
-      judged m (before {p = q} h) e = let z : p ≡ q = cc in omega arith
-      judged m (goes-on {a = tree} {c = end} h) e = fitting (leb (length (rows tree)) room) (rows tree) (end .at) (length (end .left)) e
-
-      inside : (fs : List Field) (a : Bool) → reading room (cond a (rootStruct S t fs (cursorAt payload 0)) (refused 7 0)) ≡ refusal n p → p ≤ length payload
-      inside fs true e = judged _ (root-within (length payload) S t fs (cursorAt payload 0) (omega arith)) e
-      inside fs false e = zero-place 7 e
-
-      go : (s : Shape) → reading room (onStruct s (refused 46 0) (λ fs. cond (leb (length payload) 16384) (rootStruct S t fs (cursorAt payload 0)) (refused 7 0))) ≡ refusal n p → p ≤ length payload
-      go (struct fs) e = inside fs (leb (length payload) 16384) e
-      go unknown e = zero-place 46 e
-      go (scalar _) e = zero-place 46 e
-      go (text _) e = zero-place 46 e
-      go (array _) e = zero-place 46 e
-      go (map _ _) e = zero-place 46 e
 
 -- ---- values
 

@@ -56,7 +56,7 @@ bitmap-reads fs c =
     reads-then (block-reads _ c) (λ x c′ u q. reads-check _ _ _ _ _ (λ e. stay (rw (append-nil, q .0) (q .1, refl, e))))
 
 -- What the own bytes of a value say.
-abbrev OwnSpells : Shape → Own → List ℕ → Type 0
+abbrev pub OwnSpells : Shape → Own → List ℕ → Type 0
 OwnSpells s (plain x) u = LeafSpells s x u
 OwnSpells s (parts start h) u = HeadSpells s h u
 
@@ -64,7 +64,7 @@ OwnSpells s (parts start h) u = HeadSpells s h u
 pub asked : (k kind : ℕ) (b : Bool) → not (eqb kind k) || b ≡ true → kind ≡ k → b ≡ true
 asked k kind b e h = rw (eq-eqb kind k h) at e
 
-own-reads : (s : Shape) (c : Cursor) → Reads c (OwnSpells s) (own s c)
+pub own-reads : (s : Shape) (c : Cursor) → Reads c (OwnSpells s) (own s c)
 own-reads unknown c = not-ok
 own-reads (scalar kind) c =
     reads-then (block-reads _ c) (λ x c′ u q. reads-check _ _ _ _ _ (λ e.

@@ -1,32 +1,37 @@
 -- The theorems about values, of tables. The other files prove them.
 -- Assumes nothing.
 use mathlib.Core.Path.{_≡_, refl, sym, ap, _∙_, subst}
-use mathlib.Core.Logic.{_↔_}
+use mathlib.Core.Logic.{_⊎_, _↔_}
 use mathlib.Core.List.{List, [], _++_, append-nil, map as each}
 use mathlib.Core.Option.{some}
 use mathlib.Core.Bool.{true}
-use Prim.Native.Nat.{ℕ, _+_, _/_, _%_, _^_, _≤_, _<_}
+use Prim.Native.Nat.{ℕ, _+_, _*_, _/_, _%_, _^_, _≤_, _<_}
 use native.Mathlib.Omega.{arith}
-use lib.ListN.{length}
+use lib.ListN.{length, getD}
 use borrow.Author.Tests.{leb-true, le-leb}
 use Rattle.wire.proofs.Numbers.{Bytes}
+use Rattle.wire.proofs.Cases.{differ}
 use Rattle.schema.specs.declared.Field.{Field}
-use Rattle.schema.specs.Table.{Table, struct, shape}
+use Rattle.schema.specs.Table.{Table, struct, shape, bitmapBytes}
 use Rattle.value.specs.declared.Row.{Row}
 use Rattle.value.specs.Answer.{Cursor, seen, cursorAt}
-use Rattle.value.specs.Value.{Tree, Value, value}
-use Rattle.value.specs.Read.{parse, rootStruct, refusal, accepted, read}
-use Rattle.value.specs.Spell.{Spells, RootSpells, KeysDiffer, encode}
+use Rattle.value.specs.Value.{Tree, Value, node, Values, value, depth}
+use Rattle.value.specs.Read.{plainItem, present, plan, complete, knownBits, unknownBits, parse, rootStruct, refusal, accepted, read}
+use Rattle.value.specs.Spell.{BitmapSpells, AllSpell, Spells, TailFits, RootSpells, KeysDiffer, encode}
+use Rattle.schema.specs.Check.{noField}
 use Rattle.schema.specs.Good.{GoodTable}
 use Rattle.schema.specs.Extend.{Extends}
 use Rattle.schema.proofs.Shapes.{shape-known}
 use Rattle.value.proofs.Shapes.{Solid, good-solid, Extension, good-extension}
-use Rattle.value.specs.Write.{written, write}
+use Rattle.value.specs.Write.{refusal as refused-write, written, write}
 use Rattle.value.specs.Fits.{Shows, told, used}
 use Rattle.value.specs.Added.{carries, inner, firstAdded, NoneAdded}
-use Rattle.value.specs.Claims.{Rightful, ReadAs, Writes, ByOld}
+use Rattle.value.specs.Listed.{Listed, SheetListed}
+use Rattle.value.specs.Claims.{setBits, Rightful, ReadAs, Delimited, Writes, ByOld}
 use Rattle.value.proofs.Answers.{reads-end, yields-end}
 use Rattle.value.proofs.Bits.{bit-beyond}
+use Rattle.value.proofs.Fields as fields
+use Rattle.value.proofs.Depths as depths
 use Rattle.value.proofs.Sound.{parse-reads}
 use Rattle.value.proofs.Complete.{takes, parse-complete}
 use Rattle.value.proofs.Encode.{encoded}
@@ -34,9 +39,27 @@ use Rattle.value.proofs.Root.{root-complete}
 use Rattle.value.proofs.Differ.{root-differs}
 use Rattle.value.proofs.Telling as telling
 use Rattle.value.proofs.Ignored.{ignored}
-use Rattle.value.proofs.Reading.{refused-inside, root-in, read-rightful, rightful-read, accepts}
+use Rattle.value.proofs.Reading.{root-in, read-rightful, rightful-read, accepts}
+use Rattle.value.proofs.Refusals as refusals
+use Rattle.value.proofs.RowFaults.{sheet-listed}
+use Rattle.value.proofs.Determined.{read-delimited, delimited-read}
 use Rattle.value.proofs.Writing.{written-shown, shown-written, encoding-read, spelled-written}
 use Rattle.value.proofs.Extended as extended
+
+-- ---- presence bits, by their numbers
+
+-- No required field is absent exactly when each field is optional or has its bit set: bit i for field i.
+pub complete-iff : (fs : List Field) (m : ℕ)
+    → (complete fs m ≡ true) ↔ ((i : ℕ) → i < length fs → (getD fs i noField .optional ≡ 1) ⊎ (m / 2 ^ i % 2 ≡ 1))
+complete-iff fs m = (fields.complete-met fs m, fields.met-complete fs m)
+
+-- The items of a struct are its fields whose bits are set, in the order of their numbers: bit i for field i.
+pub present-is : (fs : List Field) (m : ℕ) → present fs m ≡ each (λ i. plainItem (getD fs i noField .ty)) (setBits m (length fs))
+present-is = fields.present-is
+
+-- The bits that are set in a bitmap's whole bytes are those of the fields that are present, and the unknown ones.
+pub unknown-is : (fs : List Field) (m : ℕ) → length (setBits m (8 * bitmapBytes (length fs))) ≡ length (present fs m) + unknownBits fs m
+unknown-is = fields.unknown-is
 
 module _ (T : Table) (good : GoodTable T) (t : ℕ) where
   solid : (t : ℕ) → Solid (shape T t)
@@ -65,6 +88,10 @@ module _ (T : Table) (good : GoodTable T) (t : ℕ) where
       let y′ = yields-end (parse-complete (shape T) solid d t v′ u [] (cursorAt u 0) q′ (sym (append-nil u))) in
       cc (y .2, y′ .2, y .3 .0, y′ .3 .0)
 
+  -- Bytes spell a value with d levels of depth allowed exactly when they spell it with any number of levels and its depth is d at most.
+  pub depth-iff : (d : ℕ) (v : Value) (u : List ℕ) → Spells (shape T) d t v u ↔ ((e : ℕ) × Spells (shape T) e t v u × (depth v ≤ d))
+  depth-iff d v u = (λ q. (d, q, depths.shallow (shape T) d t v u q), λ w. depths.enough-levels (shape T) (w .0) d t v u (w .1) (w .2))
+
   -- The encoding of a value that bytes spell, with anything after it, is read as that value, up to its end.
   pub round-trip : (d : ℕ) (v : Value) (u rest : List ℕ) (at : ℕ) → Bytes u → Spells (shape T) d t v u
       → (tree : Tree) × (end : Cursor) × (parse (shape T) d t (record { left = encode (shape T) v t ++ rest; at = at }) ≡ seen tree end)
@@ -74,10 +101,20 @@ module _ (T : Table) (good : GoodTable T) (t : ℕ) where
 
   -- ---- payloads
 
+  -- A refusal has one of 01's numbers, for the reason and at a place that they say: 46, 7, 20 to 28, or 30 for a payload otherwise right.
+  pub refused-listed : (payload : List ℕ) (room n p : ℕ) → read T t payload room ≡ refusal n p → Listed (shape T) t payload room n p
+  refused-listed = refusals.listed T good t
+
   -- A refusal's place lies within the payload or at its end.
   pub refused-within : (payload : List ℕ) (room n p : ℕ) → read T t payload room ≡ refusal n p → p ≤ length payload
+  refused-within payload room n p e = refusals.listed-within T good t payload room n p (refused-listed payload room n p e)
+
+  -- The reader accepts with exactly the rows that delimit the payload: there is one row a value, and no cell of any row is free.
+  pub rows-delimit : (payload : List ℕ) (room : ℕ) (rs : List Row) (place n : ℕ)
+      → (read T t payload room ≡ accepted rs place n) ↔ Delimited (shape T) t payload room rs place n
   unfolding read
-  refused-within payload room n p e = refused-inside (shape T) t payload room n p e
+  rows-delimit payload room rs place n =
+      (read-delimited (shape T) t payload room rs place n, delimited-read (shape T) t payload room rs place n solid)
 
   module _ (fs : List Field) (st : shape T t ≡ struct fs) where
     -- The reader accepts, with rows that show v, exactly the payloads that spell v within the limits; the tail is what follows the known fields.
@@ -94,6 +131,16 @@ module _ (T : Table) (good : GoodTable T) (t : ℕ) where
         let y′ = yields-end (root-complete (shape T) t fs solid v′ z′ (cursorAt payload 0) q′) in
         (cc (y .2, y′ .2, y .3 .0, y′ .3 .0), cc (y .2, y′ .2, y .3 .1, y′ .3 .1))
 
+    -- A payload's value has a depth of 16 at most, so that one of depth 17 is spelled by no payload.
+    pub depth-within : (payload : List ℕ) (v : Value) (z : List ℕ) → RootSpells (shape T) fs v payload z → depth v ≤ 16
+    depth-within payload v z q = depths.root-shallow (shape T) fs v payload z q
+
+    -- And depth 16 is allowed: a root of that depth whose parts are spelled with any number of levels is spelled by a payload.
+    pub depth-allowed : (d m : ℕ) (vs : Values) (x y z : List ℕ) → BitmapSpells fs m x
+        → AllSpell (Spells (shape T) d) (plan (struct fs) (knownBits fs m)) vs y → TailFits (unknownBits fs m) z
+        → depth (node (knownBits fs m) vs) ≤ 16 → RootSpells (shape T) fs (node (knownBits fs m) vs) (x ++ (y ++ z)) z
+    depth-allowed = depths.root-enough (shape T) fs
+
     -- The keys of every map of an accepted payload differ as values, however their lengths are spelled.
     pub keys-differ : (payload : List ℕ) (v : Value) (z : List ℕ) → RootSpells (shape T) fs v payload z → KeysDiffer (shape T) v t
     keys-differ payload v z q = root-differs (shape T) t fs st v payload z q
@@ -109,6 +156,11 @@ module _ (T : Table) (good : GoodTable T) (t : ℕ) where
   pub written-iff-shown : (rs : List Row) (B : List ℕ) (room : ℕ) (out : List ℕ) → (write T t rs B room ≡ written out) ↔ Writes (shape T) t rs B room out
   unfolding write
   written-iff-shown rs B room out = (written-shown (shape T) t rs B room out, shown-written (shape T) t rs B room out)
+
+  -- A refusal has one of 01's numbers, for the reason that it says; a row's fault names the row, or the number of rows where one is missing.
+  pub write-listed : (rs : List Row) (B : List ℕ) (room n k : ℕ) → write T t rs B room ≡ refused-write n k → SheetListed (shape T) t rs B room n k
+  unfolding write
+  write-listed = sheet-listed (shape T) t
 
   -- Array and map places and composite lengths do not matter.
   pub only-used : (rs rs′ : List Row) (B : List ℕ) (room : ℕ) → each (used (shape T)) rs ≡ each (used (shape T)) rs′ → write T t rs B room ≡ write T t rs′ B room
@@ -162,7 +214,7 @@ module _ (old new : Table) (good : GoodTable old) (good′ : GoodTable new) (ext
   x = good-extension old new good good′ extends
 
   l : t < length (old .types)
-  l = shape-known old good t (λ e. let z : _≡_ {A = ℕ} 0 1 = cc in omega arith)
+  l = shape-known old good t (λ e. differ cc)
 
   -- A struct of the old table has its fields in the new one too, and perhaps more.
   pub gains : (gs : List Field) × (shape new t ≡ struct (fs ++ gs))

@@ -3,16 +3,17 @@
 use mathlib.Core.Path.{_≡_, refl, sym}
 use mathlib.Core.List.{List, [], _++_, append-nil}
 use mathlib.Core.Bool.{Bool, true, false, cond}
-use Prim.Native.Nat.{ℕ, _+_, _≤_}
+use Prim.Native.Nat.{ℕ, _≤_}
 use native.Mathlib.Omega.{arith}
 use lib.Dec.{leb}
 use lib.ListN.{length}
 use borrow.Author.Tests.{leb-true, le-leb}
 use Rattle.wire.proofs.Numbers.{Bytes}
+use Rattle.wire.proofs.Cases.{differ}
 use Rattle.schema.specs.declared.Field.{Field}
 use Rattle.schema.specs.Table.{Shape, unknown, scalar, text, array, map, struct}
 use Rattle.value.specs.declared.Row.{Row}
-use Rattle.value.specs.Answer.{AnswerOf, refused, seen}
+use Rattle.value.specs.Answer.{CursorOf, AnswerOf, refused, seen}
 use Rattle.value.specs.Value.{Tree, Value, value, size}
 use Rattle.value.specs.Read.{onStruct, rootOf, reading}
 use Rattle.value.specs.Spell.{RootSpells, encode}
@@ -27,7 +28,7 @@ use Rattle.value.proofs.Written.{root-written}
 use Rattle.value.proofs.Reading.{sized, rightful-read}
 
 never : {A : Type 0} {n p : ℕ} {out : List ℕ} → refusal n p ≡ written out → A
-never e = absurd (let z : _≡_ {A = ℕ} 0 1 = cc in omega arith)
+never e = differ cc
 
 fitted-inv : (room : ℕ) (out out′ : List ℕ) → fitted room out ≡ written out′ → (out ≡ out′) × (length out ≤ 16384) × (length out ≤ room)
 fitted-inv room out out′ e = go (leb (length out) 16384) (leb (length out) room) refl refl e
@@ -41,6 +42,14 @@ fitted-inv room out out′ e = go (leb (length out) 16384) (leb (length out) roo
 whole-sheet : (rs u l q : List Row) → rs ≡ u ++ l → l ≡ [] → u ≡ q → q ≡ rs
 whole-sheet rs u l q a b c = cc (append-nil q)
 
+-- The rows that are read as a root show its value.
+pub sheet-shows : (S : ℕ → Shape) (t : ℕ) (fs : List Field) (rs : List Row) (B : List ℕ) (tree : Tree) (end : CursorOf Row)
+    → showRoot S B t fs (record { left = rs; at = 0 }) ≡ seen tree end → Shows S B t fs rs (value tree)
+sheet-shows S t fs rs B tree end k =
+    let w = reads-end (root-shows S B t fs (record { left = rs; at = 0 })) k in
+    let l = seen-end (root-ends S B t fs (record { left = rs; at = 0 })) k in
+    (tree, whole-sheet _ _ _ _ (w .1) l (w .2 .0), w .2 .1, refl)
+
 module _ (S : ℕ → Shape) (t : ℕ) (rs : List Row) (B : List ℕ) (room : ℕ) (out : List ℕ) where
   pub written-shown : writing S t room (sheetRoot S t rs B) ≡ written out → Writes S t rs B room out
   written-shown e = go (S t) refl e
@@ -49,9 +58,7 @@ module _ (S : ℕ → Shape) (t : ℕ) (rs : List Row) (B : List ℕ) (room : �
       inside fs st (refused n p) k e = never e
       inside fs st (seen tree end) k e =
           let f = fitted-inv room _ out e in
-          let w = reads-end (root-shows S B t fs (record { left = rs; at = 0 })) k in
-          let l = seen-end (root-ends S B t fs (record { left = rs; at = 0 })) k in
-          (fs, value tree, st, (tree, whole-sheet _ _ _ _ (w .1) l (w .2 .0), w .2 .1, refl), sym (f .0), rw (← f .0) (f .1), rw (← f .0) (f .2))
+          (fs, value tree, st, sheet-shows S t fs rs B tree end k, sym (f .0), rw (← f .0) (f .1), rw (← f .0) (f .2))
 
       go : (s : Shape) → S t ≡ s → writing S t room (onStruct s (refused 46 0) (λ fs. showRoot S B t fs (record { left = rs; at = 0 }))) ≡ written out → Writes S t rs B room out
       go (struct fs) st e = inside fs st _ refl e

@@ -1,20 +1,26 @@
 -- What the theorems of proofs/Statements.antt claim of the reader's and the writer's answers.
 -- Assumes nothing.
 use mathlib.Core.Path.{_≡_}
-use mathlib.Core.List.{List, [], _++_}
+use mathlib.Core.List.{List, [], _∷_, _++_}
 use mathlib.Core.Option.{Option, none, some}
 use mathlib.Core.Bool.{false, cond}
-use Prim.Native.Nat.{ℕ, _+_, _≤_}
-use lib.Dec.{leb}
+use Prim.Native.Nat.{ℕ, zero, suc, _+_, _/_, _%_, _^_, _≤_}
+use lib.Dec.{leb, eqb}
 use lib.ListN.{length}
 use Rattle.schema.specs.declared.Field.{Field}
 use Rattle.schema.specs.Table.{Shape, struct}
 use Rattle.value.specs.declared.Row.{Row}
-use Rattle.value.specs.Value.{Value, size}
+use Rattle.value.specs.Value.{Tree, rows, Value, size}
 use Rattle.value.specs.Read.{Reading, refusal, accepted}
 use Rattle.value.specs.Spell.{AllSpell, Spells, RootSpells, encode}
-use Rattle.value.specs.Fits.{Shows}
+use Rattle.value.specs.Fits.{RootFits, Shows}
+use Rattle.value.specs.Delimits.{RootDelimits}
 use Rattle.value.specs.Added.{rootCarries, without, addedItems, addedValues}
+
+-- The bits below n that are set in m, least first: bit i has the weight 2 ^ i.
+abbrev pub setBits : (m n : ℕ) → List ℕ
+setBits m zero = []
+setBits m (suc n) = setBits m n ++ cond (eqb (m / 2 ^ n % 2) 1) (n ∷ []) []
 
 -- A root of type t with the fields fs, by the shapes S.
 module _ (S : ℕ → Shape) (t : ℕ) (fs : List Field) where
@@ -30,6 +36,19 @@ module _ (S : ℕ → Shape) (t : ℕ) (fs : List Field) where
   -- The answer accepts the payload with rows that show v.
   abbrev pub ReadAs : (payload : List ℕ) → Reading → Value → (place n : ℕ) → Type 0
   ReadAs payload answer v place n = (rs : List Row) × (answer ≡ accepted rs place n) × Shows S payload t fs rs v
+
+-- The rows are those of a tree that fits the payload, so that each shows its type, its count and its content or bits; and the place and length of each
+-- delimit the bytes of its value, the root's up to a tail of n bytes at a place. Payload and rows are within the limits.
+abbrev pub Delimited : (ℕ → Shape) → (t : ℕ) → (payload : List ℕ) (room : ℕ) → List Row → (place n : ℕ) → Type 0
+Delimited S t payload room rs place n =
+    (fs : List Field) × (tree : Tree)
+    × (S t ≡ struct fs)
+    × (rows tree ≡ rs)
+    × RootFits S payload t fs tree
+    × RootDelimits S payload fs tree place
+    × (place + n ≡ length payload)
+    × (length payload ≤ 16384)
+    × (length rs ≤ room)
 
 -- The sheet shows a value; what is written is its encoding, and that is a payload and fits into the room.
 abbrev pub Writes : (ℕ → Shape) → (t : ℕ) → List Row → List ℕ → (room : ℕ) → (out : List ℕ) → Type 0

@@ -6,5 +6,7 @@ pub mod Spell
 pub mod Sheet
 pub mod Write
 pub mod Fits
+pub mod Delimits
 pub mod Added
+pub mod Listed
 pub mod Claims

@@ -1,7 +1,7 @@
 -- Values, and values with the places that they were read from.
 -- Assumes nothing.
 use mathlib.Core.List.{List, [], _∷_, _++_}
-use Prim.Native.Nat.{ℕ, _+_}
+use Prim.Native.Nat.{ℕ, _+_, max}
 use Rattle.value.specs.declared.Row.{Row}
 
 -- A scalar, a string or bytes is its content. An array or a map is its count with its elements, or its keys and values by turns.
@@ -59,3 +59,13 @@ unfoldable mutual
   pub sizeAll : Values → ℕ
   sizeAll none = 0
   sizeAll (some v vs) = size v + sizeAll vs
+
+-- The depth of a value: 1 for a leaf and for a composite without parts, and one more than its deepest part for any other composite.
+unfoldable mutual
+  pub depth : Value → ℕ
+  depth (leaf x) = 1
+  depth (node h vs) = 1 + depthAll vs
+
+  pub depthAll : Values → ℕ
+  depthAll none = 0
+  depthAll (some v vs) = max (depth v) (depthAll vs)

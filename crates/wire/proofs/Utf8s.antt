@@ -1,7 +1,7 @@
 -- Laws of `specs/Utf8.antt`.
 -- Assumes nothing.
 use mathlib.Core.Path.{_≡_, refl, sym, ap, ap₂, subst, _∙_}
-use mathlib.Core.Bool.{Bool, true, false, _&&_, and-false, cond}
+use mathlib.Core.Bool.{Bool, true, false, _&&_, not, and-false, cond}
 use mathlib.Core.Logic.{⊎-elim, _↔_}
 use mathlib.Core.List.{List, [], _∷_, _++_, List·Memᴰ, List·Memᴰ·head, List·Memᴰ·tail, List·Memᴰ·cases-cons, List·Memᴰ·not-nil}
 use Prim.Native.Nat.{ℕ, zero, suc, _+_, _-_, _<_, _≤_}
@@ -9,7 +9,7 @@ use native.Mathlib.Numerals.{add-one}
 use native.Mathlib.Omega.{arith}
 use lib.Dec.{T, leb, ltb, eqb→eq, ltb→lt, leb→le}
 use lib.Ieee.Bits.{is-true}
-use borrow.Author.Tests.{le-leb, lt-leb, ne-eqb}
+use borrow.Author.Tests.{le-leb, lt-leb, ne-eqb, not-false}
 use lib.ListN.{length, getD, take, drop, length-take}
 use lib.Seq.{slice, slice-cons, slice-empty, length-slice, drop-drop, drop-cons, take-append-seam, drop-append-seam, take-at, drop-at}
 use Rattle.wire.specs.declared.utf8.Row.{Row}
@@ -271,3 +271,25 @@ ascii-skip [] s t = refl
 ascii-skip (b ∷ c) s t =
     let both = and-both (ltb b 0x80) (ascii c) t in
     ap (λ (st : Step). run st (c ++ s)) (lead-ascii b (ltb→lt b 0x80 (both .0))) ∙ ascii-skip c s (both .1)
+
+-- ---- characters of two bytes
+
+lead-pair : (b : ℕ) → 0xC2 ≤ b → b ≤ 0xDF → leadOf b rows ≡ Due 1 0x80 0xBF
+unfolding leadOf rows
+lead-pair b l h = rw (le-leb 0 b (omega arith), lt-leb b 0x7F (omega arith), le-leb 0xC2 b l, le-leb b 0xDF h)
+
+-- two bytes that the test r found to be a character are passed
+pub pair-pass : (s : List ℕ) (i next to : ℕ) (r : Bool) → next ≡ i + 2 → next ≤ to → to ≤ length s
+    → r ≡ In 0xC2 0xDF (getD s i 0) && In 0x80 0xBF (getD s (i + 1) 0) → not r ≡ false → utf8 (slice next to s) ≡ utf8 (slice i to s)
+unfolding follows
+pair-pass s i next to r e l h is t =
+    let a = getD s i 0 in
+    let b = getD s (i + 1) 0 in
+    let both = and-both (In 0xC2 0xDF a) (In 0x80 0xBF b) (subst T (sym (not-false r t) ∙ is) tt) in
+    let lead = and-both (leb 0xC2 a) (leb a 0xDF) (both .0) in
+    let after : next ≡ i + 1 + 1 = omega arith in
+    let due : follows 1 0x80 0xBF (take 1 (slice (i + 1) to s)) ≡ true =
+    follow-step s (i + 1) to 1 0x80 0xBF (omega arith) (omega arith) h ∙ rw (is-true (In 0x80 0xBF b) (both .1)) in
+    ap (λ (j : ℕ). utf8 (slice j to s)) after
+    ∙ sym (char-run s i to 1 0x80 0xBF (omega arith) h (lead-pair a (leb→le 0xC2 a (lead .0)) (leb→le a 0xDF (lead .1)))
+    ∙ ap (λ (u : Bool). u && utf8 (slice (i + 1 + 1) to s)) due)

@@ -1,7 +1,9 @@
 // UTF-8 by RFC 3629, character by character over the table of its section 4.
 use crate::little::number;
 ghost use mathlib.Core.Path.{_≡_};
+ghost use mathlib.Core.Bool.{_&&_};
 ghost use Prim.Native.Nat.{_+_, _≤_};
+ghost use lib.Dec.{leb};
 ghost use lib.ListN.{length, take, drop};
 ghost use lib.Seq.{slice};
 ghost use Rattle.wire.specs.Utf8.{leadOf, rows, follows, utf8, ascii};
@@ -123,7 +125,29 @@ fn skip_blocks(s: &[u8], from: usize, to: usize) -> usize
     i
 }
 
-// Whether the bytes from `from` up to `to` are UTF-8, character by character; a run of ASCII is passed by blocks.
+// Whether two bytes are a character.
+fn is_pair(a: u8, b: u8) -> bool
+    ensures { λ r. ⌜ r ≡ (leb 0xC2 a && leb a 0xDF) && (leb 0x80 b && leb b 0xBF) ⌝ }
+{
+    ((0xC2 <= a) & (a <= 0xDF)) & ((0x80 <= b) & (b <= 0xBF))
+}
+
+// From a place on, past characters of two bytes.
+fn skip_pairs(s: &[u8], from: usize, to: usize) -> usize
+    requires { ⌜ (from ≤ to) × (to ≤ length (now s)) ⌝ }
+    ensures { λ r. ⌜ ((from ≤ r) × (r ≤ to)) × (utf8 (slice r to (now (s .entry))) ≡ utf8 (slice from to (now (s .entry)))) ⌝ }
+{
+    let mut i = from;
+    while 2 <= to - i {
+        if !is_pair(s[i], s[i + 1]) {
+            return i;
+        }
+        i += 2;
+    }
+    i
+}
+
+// Whether the bytes from `from` up to `to` are UTF-8, character by character; a run of ASCII is passed by blocks, one of two-byte characters by pairs.
 pub fn valid(s: &[u8], from: usize, to: usize) -> bool
     requires { ⌜ (from ≤ to) × (to ≤ length (now s)) ⌝ }
     ensures { λ r. ⌜ r ≡ utf8 (slice from to (now (s .entry))) ⌝ }
@@ -139,7 +163,7 @@ pub fn valid(s: &[u8], from: usize, to: usize) -> bool
                     if !follow(s, i + 1, to, left, low, high) {
                         return false;
                     }
-                    i = i + 1 + left as usize;
+                    i = skip_pairs(s, i + 1 + left as usize, to);
                 }
                 Step::Bad => {
                     return false;

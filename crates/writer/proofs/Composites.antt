@@ -1,14 +1,16 @@
 -- Laws of the walkers: a value of each shape by its row, and the turns of the loops over what it holds.
 -- Assumes nothing.
-use mathlib.Core.Path.{_≡_, refl, sym, ap, _∙_}
+use mathlib.Core.Path.{_≡_, refl, sym, ap, subst, _∙_}
 use mathlib.Core.Bool.{true, false}
 use mathlib.Core.List.{List, [], _∷_}
 use Prim.Native.Nat.{ℕ, suc, _+_, _-_, _/_, _%_, _^_, _≤_, _<_}
-use native.Mathlib.Nat.{mod-eq-of-lt}
+use native.Mathlib.Nat.{mod-eq-of-lt, mod-lt}
+use native.Mathlib.Decide.{decLt}
 use native.Mathlib.Omega.{arith}
-use borrow.Author.Tests.{ltb-true, eq-eqb, ne-eqb}
+use borrow.Author.Tests.{lt-ltb, le-ltb, eq-eqb, ne-eqb}
 use lib.Dec.{ltb, eqb}
 use lib.ListN.{length, replicate}
+use lib.Pow.{pow-pos}
 use Rattle.wire.specs.Little.{little, bytes}
 use Rattle.wire.specs.Varuint.{varuintBytes}
 use Rattle.schema.specs.declared.Field.{Field}
@@ -146,19 +148,24 @@ module _ (S : ℕ → Shape) (B : List ℕ) (d t : ℕ) (cells : List ℕ) (row 
           bits-read : bitsAt B row fs p (rowsAt cells (row + 1)) ≡ seen word (rowsAt cells (row + 1))
           bits-read = sym (headed .same row (rowsAt cells (row + 1))) ∙ ap (headOf row (rowsAt cells (row + 1))) q
 
-          pub struct-unknown : (unknown ≡ 0 → ⊥) → show S B (suc d) t (rowsAt cells row) ≡ refused 50 row
+          -- a word other than its known bits is not below 2 ^ fields
+          above : (word ≡ known → ⊥) → 2 ^ length fs ≤ word
+          above h = elim (decLt word (2 ^ length fs)) [
+            | yes l ↦ absurd (h (sym (head-in .0 ∙ mod-eq-of-lt l)))
+            | no g ↦ omega arith
+          ]
+
+          pub struct-unknown : (word ≡ known → ⊥) → show S B (suc d) t (rowsAt cells row) ≡ refused 50 row
           unfolding andThen check
           struct-unknown h =
-              let f : ltb word (2 ^ length fs) ≡ false = head-in .2 ∙ ne-eqb unknown 0 h in
+              let f : ltb word (2 ^ length fs) ≡ false = le-ltb word (2 ^ length fs) (above h) in
               show-bad S B d t (rowsAt cells row) (struct fs) is own (rowsAt cells (row + 1)) row-read 50 row (rw (bits-read, f))
 
-          module _ (z : unknown ≡ 0) where
+          module _ (same-word : word ≡ known) where
             below : ltb word (2 ^ length fs) ≡ true
-            below = head-in .2 ∙ eq-eqb unknown 0 z
-
-            -- without unknown bits the known ones are the word
-            same-word : word ≡ known
-            same-word = sym (head-in .0 ∙ mod-eq-of-lt (ltb-true word (2 ^ length fs) below))
+            below =
+                lt-ltb word (2 ^ length fs)
+                (subst (λ (m : ℕ). m < 2 ^ length fs) (sym (same-word ∙ head-in .0)) (mod-lt word (pow-pos (length fs))))
 
             counts : ones ≡ length (present fs word)
             counts = rw same-word (head-in .1)

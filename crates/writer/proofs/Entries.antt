@@ -9,6 +9,7 @@ use borrow.Author.Tests.{le-leb, lt-leb}
 use lib.Dec.{leb}
 use lib.ListN.{length, take, drop, drop-of-length-le}
 use lib.Seq.{length-take-le}
+use Rattle.wire.proofs.Cases.{differ}
 use Rattle.schema.specs.declared.TypeRow.{TypeRow}
 use Rattle.schema.specs.declared.Field.{Field}
 use Rattle.schema.specs.declared.Checked.the-variants.{Good, Refused as TableRefused}
@@ -46,7 +47,7 @@ entry-other s good ty cells B out r is h =
 emit-done : (S : ℕ → Shape) (t : ℕ) (m : AnswerOf Row Tree) (c : CursorOf Row) (pos : ℕ) (out out′ : List ℕ) → done c pos out′ ≡ emit S t m 0 out
     → (tree : Tree) × (m ≡ seen tree c) × (pos ≡ cap (length (encode S (value tree) t))) × (out′ ≡ put out 0 (encode S (value tree) t))
 unfolding emit
-emit-done S t (refused _ _) c pos out out′ e = absurd (let z : _≡_ {A = ℕ} 0 1 = cc in omega arith)
+emit-done S t (refused _ _) c pos out out′ e = differ cc
 emit-done S t (seen tree end) c pos out out′ e =
     let z : 0 + length (encode S (value tree) t) ≡ length (encode S (value tree) t) = omega arith in
     let f : pos ≡ cap (0 + length (encode S (value tree) t)) = cc in
@@ -55,7 +56,7 @@ emit-done S t (seen tree end) c pos out out′ e =
 emit-stopped : (S : ℕ → Shape) (t : ℕ) (m : AnswerOf Row Tree) (n q : ℕ) (out : List ℕ) → stopped n q ≡ emit S t m 0 out → m ≡ refused n q
 unfolding emit
 emit-stopped S t (refused _ _) n q out e = cc
-emit-stopped S t (seen tree end) n q out e = absurd (let z : _≡_ {A = ℕ} 0 1 = cc in omega arith)
+emit-stopped S t (seen tree end) n q out e = differ cc
 
 -- The first walk is lent no byte of the output.
 module _ (s : List ℕ) (ty : ℕ) (cells B out : List ℕ) (fs : List Field) (is : shape (tableOf s) ty ≡ struct fs)
@@ -126,7 +127,7 @@ module _ (s : List ℕ) (ty : ℕ) (cells B out : List ℕ) (fs : List Field) (i
             let l′ : pos ≤ length out = rw (ap length same-out) at l in
             let f : o₂ ≡ put (take pos out) 0 bs = cc in
             rw (last (omega arith) l′ f)
-        go (Stopped n q) e = absurd (let z : _≡_ {A = ℕ} 0 1 = cc in omega arith)
+        go (Stopped n q) e = differ cc
 
 -- ---- any table
 

@@ -3,16 +3,18 @@
 use mathlib.Core.Path.{_≡_, refl, sym, ap, _∙_}
 use mathlib.Core.Logic.{⊎-elim}
 use mathlib.Core.List.{List, [], _∷_}
-use mathlib.Core.Bool.{Bool, true, false, _&&_, _||_, cond}
+use mathlib.Core.Bool.{Bool, true, false, _&&_, _||_, cond, false≢true}
 use Prim.Native.Nat.{ℕ, zero, suc, _+_, _-_, _%_, _^_, _≤_, _<_, min}
 use native.Mathlib.Omega.{arith}
 use native.Mathlib.Nat.{eq-or-lt-of-le}
 use native.Mathlib.Decide.{decLt}
-use borrow.Author.Tests.{eq-eqb, ne-eqb, lt-ltb, le-ltb}
+use borrow.Author.Tests.{eq-eqb, ne-eqb, eqb-false, lt-ltb, le-ltb}
 use lib.Dec.{eqb, ltb}
 use lib.ListN.{length, getD, set, take, drop, length-set}
 use lib.Seq.{drop-cons, take-take, drop-drop, take-add, drop-at, getD-set-same, getD-set-other, set-out}
 use Rattle.wire.specs.Little.{little}
+use Rattle.wire.proofs.Cases.{differ}
+use Rattle.schema.proofs.Bools.{or-false}
 use Rattle.schema.specs.Table.{Shape}
 use Rattle.value.specs.declared.Row.{Row}
 use Rattle.value.specs.Answer.{CursorOf, AnswerOf, refused, seen, Accepted}
@@ -23,7 +25,7 @@ use Rattle.value.proofs.Spans.{length-span}
 use Rattle.value.proofs.Keys.{same-not, lengths-differ}
 use Rattle.writer.specs.Emit.{done, stopped, emit}
 use Rattle.writer.specs.Leaf.{rowsAt, placeAt, lengthAt}
-use Rattle.writer.specs.Keys.{KeyIn, keyAt, keysIn, Kept, mark, Marked, rowAfter, valueAfter, Stands, endPast, keysPast, Known, keysKnown}
+use Rattle.writer.specs.Keys.{KeyIn, keyAt, keysIn, Kept, mark, Marked, marked, rowAfter, valueAfter, Stands, endPast, keysPast, Known, keysKnown}
 
 -- ---- contents
 
@@ -114,6 +116,30 @@ module _ (cells B kept x : List ℕ) where
   unfolding keysIn
   kept-none zero h = refl
   kept-none (suc j) h = absurd (omega arith)
+
+-- ---- the marks of the keys kept
+
+-- what is known of a content that is among the keys or is not
+pub marked-step : (marks : List ℕ) (i m : ℕ) (found : Bool) → found ≡ marked marks i m → (found || eqb (getD marks i 0) m) ≡ marked marks (i + 1) m
+unfolding marked
+marked-step marks i m found e = let q : i + 1 ≡ suc i = omega arith in rw (q, e)
+
+pub marked-end : (marks : List ℕ) (i n m : ℕ) → i ≤ n → n ≤ i → marked marks i m ≡ marked marks n m
+marked-end marks i n m l h = let e : i ≡ n = omega arith in rw e
+
+pub marked-first : (marks : List ℕ) (m : ℕ) → false ≡ marked marks 0 m
+unfolding marked
+marked-first marks m = refl
+
+-- a content whose mark is not among theirs is not among theirs
+module _ (cells B kept marks x : List ℕ) where
+  pub unmarked : (n : ℕ) → Marked cells B kept marks n → marked marks n (mark x) ≡ false → false ≡ among x (keysIn cells B kept n)
+  unfolding marked keysIn
+  unmarked zero all e = refl
+  unmarked (suc n) all e =
+      let w = or-false (marked marks n (mark x)) (eqb (getD marks n 0) (mark x)) e in
+      let d : false ≡ same x (keyAt cells B (getD kept n 0)) = marks-differ x (keyAt cells B (getD kept n 0)) (λ q. eqb-false (getD marks n 0) (mark x) (w .1) (all n (omega arith) ∙ q)) in
+      rw (sym d) (unmarked n (λ j l. all j (omega arith)) (w .0))
 
 -- a key more is kept at i: those below i stay
 module _ (cells B kept : List ℕ) (i k : ℕ) where
@@ -330,9 +356,9 @@ unfolding emit
 after-walk S t (seen tree c) cells row pos out pos₀ out₀ e =
     let f : c ≡ rowsAt cells row = cc in
     (tt, ap (λ (z : CursorOf Row). z .at) f)
-after-walk S t (refused n q) cells row pos out pos₀ out₀ e = let z : _≡_ {A = ℕ} 0 1 = cc in absurd (omega arith)
+after-walk S t (refused n q) cells row pos out pos₀ out₀ e = differ cc
 
 pub not-stopped : (S : ℕ → Shape) (t : ℕ) (m : AnswerOf Row Tree) (n q : ℕ) (pos₀ : ℕ) (out₀ : List ℕ) → stopped n q ≡ emit S t m pos₀ out₀ → Accepted m → ⊥
 unfolding emit
-not-stopped S t (seen tree c) n q pos₀ out₀ e a = let z : _≡_ {A = ℕ} 0 1 = cc in omega arith
+not-stopped S t (seen tree c) n q pos₀ out₀ e a = differ cc
 not-stopped S t (refused n′ q′) n q pos₀ out₀ e a = a

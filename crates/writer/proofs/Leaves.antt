@@ -1,21 +1,24 @@
 -- Laws of the leaves: what each of their returns shows of the crate `value`'s reading of a row.
 -- Assumes nothing.
-use mathlib.Core.Path.{_≡_, sym, ap, _∙_}
-use mathlib.Core.Bool.{true, false, not, _||_}
-use mathlib.Core.List.{List, []}
-use Prim.Native.Nat.{ℕ, _+_, _*_, _/_, _≤_, _<_}
+use mathlib.Core.Path.{_≡_, refl, sym, ap, _∙_}
+use mathlib.Core.Bool.{Bool, true, false, not, _&&_, _||_}
+use mathlib.Core.List.{List, [], _∷_}
+use Prim.Native.Nat.{ℕ, zero, suc, _+_, _-_, _*_, _/_, _≤_, _<_}
 use native.Mathlib.Omega.{arith}
 use native.Mathlib.Numerals.{add-one}
-use borrow.Author.Tests.{le-leb, lt-leb, lt-ltb, le-ltb, eq-eqb, ne-eqb}
+use native.Mathlib.Decide.{decLt, ℕ-discrete}
+use borrow.Author.Tests.{le-leb, lt-leb, lt-ltb, le-ltb, eq-eqb, ne-eqb, eqb-true, leb-true}
 use lib.Dec.{ltb, eqb}
 use lib.ListN.{length, getD}
 use Rattle.wire.specs.Little.{little}
 use Rattle.wire.specs.Utf8.{utf8}
-use Rattle.schema.specs.Table.{width}
+use Rattle.wire.proofs.Numbers.{little-one}
+use Rattle.schema.specs.Table.{scalar, text, width}
+use Rattle.schema.proofs.Bools.{and-left, and-right}
 use Rattle.value.specs.declared.Row.{Row}
-use Rattle.value.specs.Answer.{CursorOf, seen, andThen, check, Accepted}
-use Rattle.value.specs.Write.{nextRow, rowOf, span, says}
-use Rattle.value.proofs.Answers.{accepted-check}
+use Rattle.value.specs.Answer.{CursorOf, AnswerOf, ReaderOf, refused, seen, andThen, check, Accepted}
+use Rattle.value.specs.Write.{nextRow, rowOf, span, inside, says}
+use Rattle.value.proofs.Answers.{accepted-first, accepted-check}
 use Rattle.value.proofs.Spans.{truth-byte}
 use Rattle.value.proofs.Sheets.{rows-from, no-rows}
 use Rattle.parts.specs.Shape.{leafShape}
@@ -47,6 +50,16 @@ module _ (cells : List ℕ) (k t : ℕ) where
           same = rw (rows-from cells k h, eq-eqb (getD cells (4 * k) 0) t e, e, ep .0, en .0, ec, add-one k);
           within = (h, ep .0, en .0, ep .1, en .1);
         }
+
+-- a row that is accepted is there and of the type due
+row-known : (cells : List ℕ) (k t : ℕ) → Accepted (rowOf t (rowsAt cells k)) → (k < length cells / 4) × (getD cells (4 * k) 0 ≡ t)
+row-known cells k t a = elim (decLt k (length cells / 4)) [
+  | yes h ↦ elim (ℕ-discrete (getD cells (4 * k) 0) t) [
+    | yes e ↦ (h, e)
+    | no e ↦ absurd (rw (← row-other cells k t h e .same) at a)
+  ]
+  | no g ↦ let h : length cells / 4 ≤ k = omega arith in absurd (rw (← row-missing cells k t h .same) at a)
+]
 
 -- ---- scalars, strings and bytes
 
@@ -122,12 +135,29 @@ module _ (B : List ℕ) (kind p n c : ℕ) where
               within = tt;
             }
 
--- a string's row that is accepted has UTF-8
-text-known : (B : List ℕ) (kind p n c k : ℕ) (cur : CursorOf Row) → kind ≡ 12 → Accepted (says B k (leafShape kind) p n c cur) → utf8 (span B p n) ≡ true
-text-known B kind p n c k cur e h =
-    let w = accepted-check (eqb c 0) 50 k cur _ (rw (leaf-text kind (omega arith)) at h) in
-    let v = accepted-check _ 51 k cur _ (w .1) in
-    rw (eq-eqb kind 12 e) at (accepted-check _ 23 k cur _ (v .1) .0)
+  -- what is accepted is fine
+  module _ (k : ℕ) (cur : CursorOf Row) (h : Accepted (says B k (leafShape kind) p n c cur)) where
+    scalar-known : kind < 12 → Judged B kind p n c Fine
+    scalar-known is =
+        let w = accepted-check (eqb n (width kind) && eqb c 0) 50 k cur _ (rw (leaf-scalar kind is) at h) in
+        let v = accepted-check (inside B p n) 51 k cur _ (w .1) in
+        let u = accepted-check (not (eqb kind 1) || ltb (little (span B p n)) 2) 22 k cur _ (v .1) in
+        let e : n ≡ width kind = eqb-true n (width kind) (and-left (eqb n (width kind)) (eqb c 0) (w .0)) in
+        let z : c ≡ 0 = eqb-true c 0 (and-right (eqb n (width kind)) (eqb c 0) (w .0)) in
+        scalar-fine is e z (leb-true (p + n) (length B) (v .0)) (u .0)
+
+    text-known : 12 ≤ kind → Judged B kind p n c Fine
+    text-known is =
+        let w = accepted-check (eqb c 0) 50 k cur _ (rw (leaf-text kind is) at h) in
+        let v = accepted-check (inside B p n) 51 k cur _ (w .1) in
+        let u = accepted-check (not (eqb kind 12) || utf8 (span B p n)) 23 k cur _ (v .1) in
+        text-fine is (eqb-true c 0 (w .0)) (leb-true (p + n) (length B) (v .0)) (u .0)
+
+    content-known : Judged B kind p n c Fine
+    content-known = elim (decLt kind 12) [
+      | yes l ↦ scalar-known l
+      | no g ↦ text-known (omega arith)
+    ]
 
 -- ---- a whole row of such a value
 
@@ -150,9 +180,6 @@ module _ (cells B : List ℕ) (kind t k : ℕ) (d : Due) (due : RowDue cells k t
     unfolding rowSays andThen
     row-says = rw row-read
 
-    pub row-utf8 : Accepted (rowSays B t (leafShape kind) (rowsAt cells k)) → kind ≡ 12 → utf8 (span B p n) ≡ true
-    row-utf8 h q = text-known B kind p n c k (rowsAt cells (k + 1)) q (rw row-says at h)
-
     module _ (v : Verdict) (judged : Judged B kind p n c v) where
       pub leaf-fine : v ≡ Fine → LeafRow cells B kind t k (At p n)
       leaf-fine f =
@@ -165,3 +192,19 @@ module _ (cells B : List ℕ) (kind t k : ℕ) (d : Due) (due : RowDue cells k t
       pub leaf-bad : (number : ℕ) → v ≡ Bad number → LeafRow cells B kind t k (BadLeaf number)
       leaf-bad number f =
           record { same = sym (row-says ∙ sym (judged .same k (rowsAt cells (k + 1))) ∙ ap (saidOf B p n k (rowsAt cells (k + 1))) f); within = tt }
+
+-- such a row that is accepted
+module _ (cells B : List ℕ) (kind t k : ℕ) (a : Accepted (rowSays B t (leafShape kind) (rowsAt cells k))) where
+  row-accepted : Accepted (rowOf t (rowsAt cells k))
+  unfolding rowSays
+  row-accepted = accepted-first (rowOf t (rowsAt cells k)) _ a
+
+  pub leaf-row-in : k < length cells / 4
+  leaf-row-in = row-known cells k t row-accepted .0
+
+  pub leaf-known : (p n : ℕ) → (p ≡ placeAt cells k) × (p < 4294967296) → (n ≡ lengthAt cells k) × (n < 4294967296) → LeafRow cells B kind t k (At p n)
+  leaf-known p n ep en =
+      let c = getD cells (4 * k + 3) 0 in
+      let due = row-found cells k t leaf-row-in (row-known cells k t row-accepted .1) p n c ep en refl in
+      let said = row-says cells B kind t k (Found p n c) due p n c refl in
+      leaf-fine cells B kind t k (Found p n c) due p n c refl Fine (content-known B kind p n c k (rowsAt cells (k + 1)) (rw said at a)) refl

@@ -4,7 +4,7 @@ use mathlib.Core.Path.{_≡_, refl, sym, ap, _∙_}
 use mathlib.Core.List.{List, [], _∷_, _++_, append-assoc}
 use Prim.Native.Nat.{ℕ, zero, suc, _+_, _-_, _%_, _/_, _^_, _≤_, _<_}
 use native.Mathlib.Omega.{arith}
-use native.Mathlib.Decide.{decLe}
+use native.Mathlib.Decide.{decLe, decLt}
 use borrow.Author.Tests.{lt-ltb, le-ltb}
 use lib.ListN.{length, set, getD, take, drop, length-append, length-set, length-take}
 use lib.Seq.{set-out, set-append-seam, drop-cons, take-nil, take-take}
@@ -14,9 +14,9 @@ use Rattle.wire.proofs.Numbers.{length-bytes}
 use Rattle.wire.proofs.Varuints.{Rest, rest-more, rest-done, shortest-le}
 use Rattle.value.specs.Spell.{leafBytes}
 use Rattle.value.specs.Write.{span}
+use Rattle.writer.specs.Emit.{put, cap, PutAt, lengthBytes}
 use Rattle.value.proofs.Spans.{length-span}
 use Rattle.parts.specs.Shape.{leafShape}
-use Rattle.writer.specs.Emit.{put, cap, PutAt}
 
 pub put-one : (out : List ℕ) (pos b : ℕ) → set out pos b ≡ put out pos (b ∷ [])
 unfolding put
@@ -191,12 +191,21 @@ span-done out₀ pos B from m n out i inv h le l k r f =
 
 -- ---- a content
 
-pub content-scalar : (out : List ℕ) (pos kind : ℕ) (x : List ℕ) (r : ℕ) (after : List ℕ) → kind < 12 → PutAt out pos x r after → PutAt out pos (leafBytes (leafShape kind) x) r after
-unfolding leafShape
-content-scalar out pos kind x r after h p = rw (lt-ltb kind 12 h) p
+pub length-none : (out : List ℕ) (pos kind n : ℕ) → kind < 12 → pos ≤ 16385 → PutAt out pos (lengthBytes kind n) pos out
+unfolding put
+length-none out pos kind n h l = rw (lt-ltb kind 12 h) (record { holds = refl; further = omega arith; capped = l })
 
-pub content-text : (out : List ℕ) (pos kind : ℕ) (x : List ℕ) (next : ℕ) (mid : List ℕ) (r : ℕ) (after : List ℕ) → 12 ≤ kind → length out ≤ 16384
-    → PutAt out pos (varuintBytes (length x)) next mid → PutAt mid next x r after → PutAt out pos (leafBytes (leafShape kind) x) r after
+pub length-some : (out : List ℕ) (pos kind n r : ℕ) (after : List ℕ) → 12 ≤ kind → PutAt out pos (varuintBytes n) r after → PutAt out pos (lengthBytes kind n) r after
+length-some out pos kind n r after h p = rw (le-ltb kind 12 h) p
+
+leaf-bytes : (kind : ℕ) (x : List ℕ) → leafBytes (leafShape kind) x ≡ lengthBytes kind (length x) ++ x
 unfolding leafShape
-content-text out pos kind x next mid r after h l p q =
-    rw (le-ltb kind 12 h) (put-after out pos (varuintBytes (length x)) x next mid r after l p q)
+leaf-bytes kind x = elim (decLt kind 12) [
+  | yes l ↦ rw (lt-ltb kind 12 l)
+  | no g ↦ let h : 12 ≤ kind = omega arith in rw (le-ltb kind 12 h)
+]
+
+pub content-put : (out : List ℕ) (pos kind : ℕ) (x : List ℕ) (next : ℕ) (mid : List ℕ) (r : ℕ) (after : List ℕ) → length out ≤ 16384
+    → PutAt out pos (lengthBytes kind (length x)) next mid → PutAt mid next x r after → PutAt out pos (leafBytes (leafShape kind) x) r after
+content-put out pos kind x next mid r after l p q =
+    rw (leaf-bytes kind x) (put-after out pos (lengthBytes kind (length x)) x next mid r after l p q)

@@ -9,6 +9,7 @@ use borrow.Author.Tests.{eq-eqb, ne-eqb}
 use lib.Dec.{eqb}
 use lib.ListN.{length, drop, length-drop}
 use Rattle.wire.specs.Little.{little, bytes}
+use Rattle.wire.proofs.Cases.{differ}
 use Rattle.schema.specs.declared.Field.{Field}
 use Rattle.schema.specs.Table.{Shape, struct, bitmapBytes}
 use Rattle.value.specs.declared.Row.{Row}
@@ -99,7 +100,7 @@ module _ (S : ℕ → Shape) (B : List ℕ) (t : ℕ) (fs : List Field) (cells :
               where
                 go : (m : AnswerOf Row Forest) → stopped number place ≡ emitAll S (present fs known) m next mid → stopped number place ≡ emit S t (andThen m (afterFields own known)) 0 out
                 go (refused _ _) h = h
-                go (seen ts c₁) h = let z : _≡_ {A = ℕ} 0 1 = cc in absurd (omega arith)
+                go (seen ts c₁) h = differ cc
 
             module _ (row pos : ℕ) (out′ : List ℕ)
                 (h : done (rowsAt cells row) pos out′ ≡ emitAll S (present fs known) (walk (show S B 15) [] (present fs known) (rowsAt cells 1)) next mid) where
@@ -116,7 +117,7 @@ module _ (S : ℕ → Shape) (B : List ℕ) (t : ℕ) (fs : List Field) (cells :
                       let some = left-over (omega arith) in
                       let f : eqb (length (drop row (rowsOf cells))) 0 ≡ false = ne-eqb (length (drop row (rowsOf cells))) 0 (λ z. omega arith) in
                       rw (g, f)
-                  go (refused _ _) h = let z : _≡_ {A = ℕ} 0 1 = cc in absurd (omega arith)
+                  go (refused _ _) h = differ cc
 
               -- its encoding is that of a struct with the known bits
               pub root-done : row ≤ length cells / 4 → length cells / 4 ≤ row → S t ≡ struct fs → length out ≤ 16384 → PutAt out 0 (bytes (bitmapBytes (length fs)) known) next mid
@@ -132,4 +133,4 @@ module _ (S : ℕ → Shape) (B : List ℕ) (t : ℕ) (fs : List Field) (cells :
                       let f : eqb (length (drop row (rowsOf cells))) 0 ≡ true = eq-eqb (length (drop row (rowsOf cells))) 0 (omega arith) in
                       rw (g, f, branch-bytes S t own known ts, is)
                       (h ∙ rw g (done-put (rowsAt cells row) out 0 (bytes (bitmapBytes (length fs)) known) (encodeAll S (values ts) (present fs known)) next mid small p))
-                  go (refused _ _) h = let z : _≡_ {A = ℕ} 0 1 = cc in absurd (omega arith)
+                  go (refused _ _) h = differ cc

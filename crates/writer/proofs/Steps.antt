@@ -7,6 +7,7 @@ use Prim.Native.Nat.{ℕ, zero, suc, _+_, _/_, _≤_}
 use native.Mathlib.Omega.{arith}
 use lib.Dec.{eqb}
 use lib.ListN.{length}
+use Rattle.wire.proofs.Cases.{differ}
 use Rattle.schema.specs.Table.{Shape, unknown}
 use Rattle.value.specs.declared.Row.{Row}
 use Rattle.value.specs.Answer.{CursorOf, AnswerOf, refused, seen, andThen, check, Accepted}
@@ -34,6 +35,9 @@ renamed e w = rw e at w
 pub as-stopped : {cells : List ℕ} {end : Final} {out : List ℕ} (n q : ℕ) → stopped n q ≡ end → Walked cells end (Refused n q) out
 as-stopped n q e = record { same = e; within = tt }
 
+pub as-refused : {cells : List ℕ} {end : Final} {out : List ℕ} {r : Walk} {n q : ℕ} → r ≡ Refused n q → stopped n q ≡ end → Walked cells end r out
+as-refused e h = rw e (as-stopped _ _ h)
+
 pub stopped-at : (S : ℕ → Shape) (t : ℕ) (o : AnswerOf Row Tree) (pos : ℕ) (out : List ℕ) (n q : ℕ) → o ≡ refused n q → stopped n q ≡ emit S t o pos out
 unfolding emit
 stopped-at S t o pos out n q e = rw e
@@ -43,7 +47,7 @@ pub accepted-along : (S : ℕ → Shape) (is is′ : List Item) (o o′ : Answer
     → emitAll S is o pos l ≡ emitAll S is′ o′ pos′ m → Accepted o′ → Accepted o
 unfolding emitAll
 accepted-along S is is′ (seen a c) o′ pos pos′ l m e h = tt
-accepted-along S is is′ (refused n q) (seen b c) pos pos′ l m e h = let z : _≡_ {A = ℕ} 0 1 = cc in absurd (omega arith)
+accepted-along S is is′ (refused n q) (seen b c) pos pos′ l m e h = differ cc
 accepted-along S is is′ (refused n q) (refused n′ q′) pos pos′ l m e h = h
 
 pub done-put : (c : CursorOf Row) (out : List ℕ) (pos : ℕ) (a b : List ℕ) (next : ℕ) (mid : List ℕ) → length out ≤ 16384 → PutAt out pos a next mid
@@ -92,14 +96,14 @@ module _ (S : ℕ → Shape) (P : ℕ → RowReader Tree) (keys : List (List ℕ
             let a : next ≡ cap (pos + length (encode S (value tree) t)) = cc in
             let b : mid ≡ put out pos (encode S (value tree) t) = cc in
             rw (a, b, k) (then-plus (plainItem t) tree (walk P keys is c′) pos out _ _ h (put-by t tree pos out))
-        go (refused n q) e = let z : _≡_ {A = ℕ} 0 1 = cc in absurd (omega arith)
+        go (refused n q) e = differ cc
 
     pub item-stop : (n q : ℕ) → stopped n q ≡ emit S t (P t c) pos out → stopped n q ≡ emitAll S (plainItem t ∷ is) (walk P keys (plainItem t ∷ is) c) pos out
     unfolding andThen emit emitAll
     item-stop n q e = rw (item-step P keys is t c) (go (P t c) e)
       where
         go : (o : AnswerOf Row Tree) → stopped n q ≡ emit S t o pos out → stopped n q ≡ emitAll S (plainItem t ∷ is) (andThen o (afterItem P keys is)) pos out
-        go (seen tree c₁) e = let z : _≡_ {A = ℕ} 0 1 = cc in absurd (omega arith)
+        go (seen tree c₁) e = differ cc
         go (refused n′ q′) e = e
 
   pub key-stop : (k : ℕ) (c : CursorOf Row) (pos : ℕ) (out : List ℕ) (n q : ℕ) → P k c ≡ refused n q
@@ -167,7 +171,7 @@ module _ (S : ℕ → Shape) (B : List ℕ) (d t : ℕ) (c : CursorOf Row) where
         → (r : Row) × (andThen o (afterRow sh) ≡ seen (tip r x) c′)
     unfolding andThen afterRow
     leaf-cases x c′ (seen r c₁) e = (r, rw e)
-    leaf-cases x c′ (refused n q) e = let z : _≡_ {A = ℕ} 0 1 = cc in absurd (omega arith)
+    leaf-cases x c′ (refused n q) e = differ cc
 
     leaf-none : (n q : ℕ) (o : AnswerOf Row Row) → andThen o (λ r. says B (c .at) sh (r .place) (r .length) (r .count)) ≡ refused n q
         → andThen o (afterRow sh) ≡ refused n q

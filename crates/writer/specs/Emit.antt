@@ -1,9 +1,12 @@
 -- The encoding of a value as a walk puts it into the output: row by row, each value's bytes after those before it.
 -- Assumes nothing.
 use mathlib.Core.Path.{_≡_}
+use mathlib.Core.Bool.{cond}
 use mathlib.Core.List.{List, [], _∷_}
 use Prim.Native.Nat.{ℕ, _+_, _≤_, min}
+use lib.Dec.{ltb}
 use lib.ListN.{length, set}
+use Rattle.wire.specs.Varuint.{varuintBytes}
 use Rattle.schema.specs.Table.{Shape}
 use Rattle.value.specs.declared.Row.{Row}
 use Rattle.value.specs.Answer.{CursorOf, AnswerOf, refused, seen}
@@ -25,6 +28,10 @@ pub record PutAt (out : List ℕ) (pos : ℕ) (bs : List ℕ) (next : ℕ) (afte
   pub holds : after ≡ put out pos bs
   pub further : next ≡ cap (pos + length bs)
   pub capped : next ≤ 16385
+
+-- What stands before a content of n bytes of a kind from 1 to 13: the length of a string or bytes.
+abbrev pub lengthBytes : (kind n : ℕ) → List ℕ
+lengthBytes kind n = cond (ltb kind 12) [] (varuintBytes n)
 
 -- Where a walk ends: past its rows, with the place after its bytes and the output; or at a refusal.
 pub data Final : Type 0 where

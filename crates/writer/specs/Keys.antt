@@ -1,10 +1,10 @@
 -- The keys of a map as its walk finds them again: by the rows kept of the first ones, and by passing the pairs after those.
 -- Assumes nothing.
-use mathlib.Core.Bool.{cond}
+use mathlib.Core.Bool.{Bool, false, cond, _||_}
 use mathlib.Core.List.{List, [], _∷_}
 use Prim.Native.Nat.{ℕ, zero, suc, _+_, _-_, _/_, _%_, _^_, _≤_, _<_, min}
 use mathlib.Core.Path.{_≡_}
-use lib.Dec.{ltb}
+use lib.Dec.{eqb, ltb}
 use lib.ListN.{length, getD, take, drop}
 use Rattle.wire.specs.Little.{little}
 use Rattle.schema.specs.Table.{shape}
@@ -41,6 +41,11 @@ mark x = cond (ltb (length x) 8) (little x) ((little (take 8 x) + little (drop (
 -- The marks of the first n keys whose rows are kept.
 abbrev pub Marked : (cells B kept marks : List ℕ) → ℕ → Type 0
 Marked cells B kept marks n = (j : ℕ) → j < n → getD marks j 0 ≡ mark (keyAt cells B (getD kept j 0))
+
+-- Whether m is one of the first n marks.
+unfoldable pub marked : (marks : List ℕ) (n m : ℕ) → Bool
+marked marks zero m = false
+marked marks (suc n) m = marked marks n m || eqb (getD marks n 0) m
 
 -- ---- pairs that stand one after the other
 

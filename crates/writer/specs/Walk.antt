@@ -6,23 +6,19 @@ use mathlib.Core.List.{List}
 use Prim.Native.Nat.{ℕ, _/_, _≤_}
 use lib.ListN.{length}
 use Rattle.schema.specs.declared.Field.{Field}
-use Rattle.schema.specs.Table.{Shape, shape}
-use Rattle.schema.specs.File.{tableOf}
 use Rattle.schema.specs.Check.{IsGood}
 use Rattle.value.specs.declared.Row.{Row}
 use Rattle.value.specs.Answer.{AnswerOf, Accepted}
 use Rattle.value.specs.Value.{Tree, Forest}
 use Rattle.value.specs.Read.{Item, walk}
 use Rattle.value.specs.Write.{show, showRoot}
+use Rattle.parts.specs.Shape.{shapeIn}
 use Rattle.writer.specs.declared.walk.Walk.{Walk}
 use Rattle.writer.specs.declared.walk.Walk.the-variants.{Past, Refused}
 use Rattle.writer.specs.Emit.{Final, done, stopped, emit, emitAll}
 use Rattle.writer.specs.Leaf.{rowsAt}
 
 -- ---- what the rows show, by the table in the file s over the bytes B, from a row of the sheet's cells on
-
-abbrev pub shapeIn : List ℕ → ℕ → Shape
-shapeIn s = shape (tableOf s)
 
 abbrev pub valueIn : (s B cells : List ℕ) (depth ty row : ℕ) → AnswerOf Row Tree
 valueIn s B cells depth ty row = show (shapeIn s) B depth ty (rowsAt cells row)

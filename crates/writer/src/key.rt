@@ -8,7 +8,7 @@ ghost use Prim.Native.Nat.{_+_, _≤_};
 ghost use lib.ListN.{length};
 ghost use Rattle.value.specs.Read.{same, among};
 ghost use Rattle.value.specs.Write.{span};
-ghost use Rattle.writer.specs.Keys.{KeyIn, keyAt, Kept, keysIn, mark, Marked};
+ghost use Rattle.writer.specs.Keys.{KeyIn, keyAt, Kept, keysIn, mark, Marked, marked};
 
 // Two spans of the source have the same bytes.
 fn is_same(source: &[u8], a: usize, n: usize, b: usize, m: usize) -> bool
@@ -70,6 +70,20 @@ fn is_marked(
     is_key(sheet, source, row, place, n)
 }
 
+// Whether m is one of the first n marks. All are looked at: a loop without a way out compares several at a time.
+fn has_mark(marks: &[usize], n: usize, m: usize) -> bool
+    requires { ⌜ n ≤ length (now marks) ⌝ }
+    ensures { λ r. ⌜ r ≡ marked (now (marks .entry)) n m ⌝ }
+{
+    let mut found = false;
+    let mut i = 0;
+    while i < n {
+        found = found | (marks[i] == m);
+        i = i + 1;
+    }
+    found
+}
+
 // Whether the n bytes at a place, whose mark is m, are the content of one of the first held keys; where nothing is judged, they are known not to be.
 pub fn is_kept(
     sheet: &[u32],
@@ -87,6 +101,9 @@ pub fn is_kept(
     ensures { λ r. ⌜ r ≡ among (span (now (source .entry)) place n) (keysIn (now (sheet .entry)) (now (source .entry)) (now (kept .entry)) held) ⌝ }
 {
     if !judge {
+        return false;
+    }
+    if !has_mark(marks, held, m) {
         return false;
     }
     let mut j = held;

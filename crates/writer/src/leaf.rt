@@ -1,13 +1,12 @@
 // What one row says: its cells, the content of a scalar, string or bytes, and the presence bits of a struct.
 use parts::is_complete;
-use parts::is_utf8;
 use wire::bitmap;
+use wire::utf8;
 ghost use mathlib.Core.Path.{_≡_};
 ghost use mathlib.Core.Bool.{true, false};
 ghost use Prim.Native.Nat.{_+_, _*_, _/_, _≤_, _<_};
 ghost use lib.ListN.{length};
 ghost use Rattle.wire.specs.Little.{little};
-ghost use Rattle.wire.specs.Utf8.{utf8};
 ghost use Rattle.schema.specs.Table.{width, bitmapBytes};
 ghost use Rattle.schema.specs.File.{tableOf};
 ghost use Rattle.schema.specs.Check.{IsGood};
@@ -104,8 +103,8 @@ fn scalar(source: &[u8], kind: usize, place: usize, n: usize, count: usize) -> V
 }
 
 // A string or bytes by its row.
-fn text(source: &[u8], kind: usize, place: usize, n: usize, count: usize, judge: bool) -> Verdict
-    requires { ⌜ (12 ≤ kind) × (place < 4294967296) × (n < 4294967296) × (judge ≡ false → kind ≡ 12 → utf8 (span (now source) place n) ≡ true) ⌝ }
+fn text(source: &[u8], kind: usize, place: usize, n: usize, count: usize) -> Verdict
+    requires { ⌜ (12 ≤ kind) × (place < 4294967296) × (n < 4294967296) ⌝ }
     ensures { λ r. ⌜ Judged (now (source .entry)) kind place n count r ⌝ }
 {
     if count != 0 {
@@ -115,7 +114,7 @@ fn text(source: &[u8], kind: usize, place: usize, n: usize, count: usize, judge:
         return Verdict::Bad { number: 51 };
     }
     if kind == 12 {
-        if !is_utf8(source, place, n, judge) {
+        if !utf8::valid(source, place, place + n) {
             return Verdict::Bad { number: 23 };
         }
     }
@@ -123,21 +122,14 @@ fn text(source: &[u8], kind: usize, place: usize, n: usize, count: usize, judge:
 }
 
 // A value of a kind from 1 to 13 by its row.
-pub fn content(
-    source: &[u8],
-    kind: usize,
-    place: usize,
-    n: usize,
-    count: usize,
-    judge: bool,
-) -> Verdict
-    requires { ⌜ (place < 4294967296) × (n < 4294967296) × (judge ≡ false → kind ≡ 12 → utf8 (span (now source) place n) ≡ true) ⌝ }
+pub fn content(source: &[u8], kind: usize, place: usize, n: usize, count: usize) -> Verdict
+    requires { ⌜ (place < 4294967296) × (n < 4294967296) ⌝ }
     ensures { λ r. ⌜ Judged (now (source .entry)) kind place n count r ⌝ }
 {
     if kind < 12 {
         scalar(source, kind, place, n, count)
     } else {
-        text(source, kind, place, n, count, judge)
+        text(source, kind, place, n, count)
     }
 }
 
@@ -168,18 +160,25 @@ pub enum Leaf {
     Bad { number: u32 },
 }
 
-// A row of a value of type ty, which is of a kind from 1 to 13.
+// A row of a value of type ty, which is of a kind from 1 to 13. Where nothing is judged, it is known to be right.
 pub fn leaf_row(sheet: &[u32], source: &[u8], kind: usize, ty: u32, row: usize, judge: bool) -> Leaf
     requires { ⌜ (judge ≡ false → Accepted (rowSays (now source) ty (leafShape kind) (rowsAt (now sheet) row))) ⌝ }
     ensures { λ r. ⌜ LeafRow (now (sheet .entry)) (now (source .entry)) kind ty row r ⌝ }
 {
+    if !judge {
+        let k = 4 * row;
+        return Leaf::At {
+            place: wide(sheet[k + 1]),
+            length: wide(sheet[k + 2]),
+        };
+    }
     match row_due(sheet, row, ty) {
         Due::Missing => Leaf::Bad { number: 50 },
         Due::Found {
             place,
             length,
             count,
-        } => match content(source, kind, place, length, count, judge) {
+        } => match content(source, kind, place, length, count) {
             Verdict::Bad { number } => Leaf::Bad { number },
             Verdict::Fine => Leaf::At { place, length },
         },

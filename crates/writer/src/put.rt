@@ -7,8 +7,8 @@ ghost use Rattle.wire.specs.Little.{bytes};
 ghost use Rattle.wire.specs.Varuint.{varuintBytes};
 ghost use Rattle.value.specs.Spell.{leafBytes};
 ghost use Rattle.value.specs.Write.{span};
+ghost use Rattle.writer.specs.Emit.{put, cap, PutAt, lengthBytes};
 ghost use Rattle.parts.specs.Shape.{leafShape};
-ghost use Rattle.writer.specs.Emit.{put, cap, PutAt};
 
 fn put_byte(out: &mut [u8], pos: usize, b: u8)
     ensures { λ _. ⌜ now (out .exit) ≡ put (now (out .entry)) pos (b ∷ []) ⌝ }
@@ -81,6 +81,17 @@ pub fn put_span(out: &mut [u8], pos: usize, source: &[u8], from: usize, n: usize
     further(pos, n)
 }
 
+// What stands before a content of n bytes: the length, where it is a string or bytes.
+fn put_length(out: &mut [u8], pos: usize, kind: usize, n: usize) -> usize
+    requires { ⌜ pos ≤ 16385 ⌝ }
+    ensures { λ r. ⌜ PutAt (now (out .entry)) pos (lengthBytes kind n) r (now (out .exit)) ⌝ }
+{
+    if kind < 12 {
+        return pos;
+    }
+    put_number(out, pos, n as u64)
+}
+
 // A value of a kind from 1 to 13 with the n bytes of the source at a place: a string or bytes has its length in front.
 pub fn put_content(
     out: &mut [u8],
@@ -93,9 +104,6 @@ pub fn put_content(
     requires { ⌜ (pos ≤ 16385) × (length (now out) ≤ 16384) × (from + n ≤ length (now source)) ⌝ }
     ensures { λ r. ⌜ PutAt (now (out .entry)) pos (leafBytes (leafShape kind) (span (now (source .entry)) from n)) r (now (out .exit)) ⌝ }
 {
-    if kind < 12 {
-        return put_span(out, pos, source, from, n);
-    }
-    let next = put_number(out, pos, n as u64);
-    put_span(out, next, source, from, n)
+    let start = put_length(out, pos, kind, n);
+    put_span(out, start, source, from, n)
 }

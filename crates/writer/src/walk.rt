@@ -13,26 +13,36 @@ use crate::leaf::row_due;
 use crate::put::put_bits;
 use crate::put::put_content;
 use crate::put::put_number;
-use schema::access::field;
+use schema::Layout;
 use schema::access::type_row;
+use schema::file::layout_of;
+use schema::rows::field_row;
+use schema::rows::row;
 ghost use mathlib.Core.Path.{_≡_};
 ghost use mathlib.Core.Bool.{false, cond};
 ghost use mathlib.Core.List.{[]};
 ghost use Prim.Native.Nat.{suc, _+_, _≤_, _<_, min};
 ghost use lib.ListN.{length, set, replicate};
 ghost use Rattle.schema.specs.Table.{rowAt, array, map, struct};
-ghost use Rattle.schema.specs.File.{tableOf};
+ghost use Rattle.schema.specs.File.{Laid, tableOf};
 ghost use Rattle.schema.specs.Check.{IsGood};
 ghost use Rattle.value.specs.Read.{plainItem, pairs, present, among};
 ghost use Rattle.value.specs.Write.{span};
-ghost use Rattle.parts.specs.Shape.{fieldsFrom};
+ghost use Rattle.writer.specs.declared.walk.Walk.the-variants.{Refused};
+ghost use Rattle.parts.specs.Shape.{fieldsFrom, shapeIn};
 ghost use Rattle.writer.specs.Keys.{Stands, keysPast};
-ghost use Rattle.writer.specs.Walk.{shapeIn, valueIn, itemsIn, rootIn, valueEnd, itemsEnd, rootEnd, Walked, Ready};
+ghost use Rattle.writer.specs.Walk.{valueIn, itemsIn, rootIn, valueEnd, itemsEnd, rootEnd, Walked, Ready};
 
 // The row and the place in the output after what was written, or a refusal with its row.
 pub enum Walk {
     Past { row: usize, pos: usize },
     Refused { number: u32, place: usize },
+}
+
+fn refused(number: u32, place: usize) -> Walk
+    ensures { λ r. ⌜ r ≡ Refused number place ⌝ }
+{
+    Walk::Refused { number, place }
 }
 
 // A value of type ty in a row, with so many levels of depth still allowed.
@@ -51,10 +61,7 @@ fn value(
     ensures { λ r. ⌜ Walked (now (sheet .entry)) (valueEnd (now (s .entry)) (now (source .entry)) (now (sheet .entry)) depth ty row pos (now (out .entry))) r (now (out .exit)) ⌝ }
 {
     if depth == 0 {
-        return Walk::Refused {
-            number: 28,
-            place: row,
-        };
+        return refused(28, row);
     }
     let t = type_row(s, ty as usize);
     let kind = t.kind as usize;
@@ -92,19 +99,46 @@ fn value(
         );
     }
     if kind == 0 {
-        return Walk::Refused {
-            number: 50,
-            place: row,
-        };
+        return refused(50, row);
     }
     if 16 < kind {
-        return Walk::Refused {
-            number: 50,
-            place: row,
-        };
+        return refused(50, row);
     }
+    leaf(s, sheet, source, out, kind, ty, row, pos, depth, judge)
+}
+
+// The kind of a type whose values are leaves, of a kind from 1 to 13, where depth is left for them; or else 0.
+fn leaf_kind(s: &[u8], l: Layout, ty: u32, depth: usize) -> usize
+    requires { ⌜ Laid (now s) l ⌝ }
+    ensures { λ r. ⌜ (0 < r → (r ≡ rowAt (tableOf (now (s .entry))) ty .kind) × (r < 14) × (0 < depth)) ⌝ }
+{
+    let t = row(s, l, ty as usize);
+    let kind = t.kind as usize;
+    if depth == 0 {
+        return 0;
+    }
+    if kind < 14 { kind } else { 0 }
+}
+
+// A leaf of a kind in a row.
+fn leaf(
+    s: &[u8],
+    sheet: &[u32],
+    source: &[u8],
+    out: &mut [u8],
+    kind: usize,
+    ty: u32,
+    row: usize,
+    pos: usize,
+    depth: usize,
+    judge: bool,
+) -> Walk
+    requires { ⌜ Ready (now s) (now sheet) (now out) row pos judge (valueIn (now s) (now source) (now sheet) depth ty row) ⌝ }
+    requires { ⌜ (0 < kind) × (kind ≡ rowAt (tableOf (now s)) ty .kind) × (kind < 14) × (0 < depth) ⌝ }
+    ensures { λ r. ⌜ Walked (now (sheet .entry)) (valueEnd (now (s .entry)) (now (source .entry)) (now (sheet .entry)) depth ty row pos (now (out .entry))) r (now (out .exit)) ⌝ }
+{
     match leaf_row(sheet, source, kind, ty, row, judge) {
-        Leaf::Bad { number } => Walk::Refused { number, place: row },
+        Leaf::Bad { number } => refused(number, row),
         Leaf::At { place, length } => {
             let next = put_content(out, pos, kind, source, place, length);
             Walk::Past {
@@ -115,17 +149,27 @@ fn value(
     }
 }
 
-// The kind of a type whose values are leaves, of a kind from 1 to 13, where depth is left for them; or else 0.
-fn leaf_kind(s: &[u8], ty: u32, depth: usize) -> usize
-    requires { ⌜ IsGood (now s) ⌝ }
-    ensures { λ r. ⌜ (0 < r → (r ≡ rowAt (tableOf (now (s .entry))) ty .kind) × (r < 14) × (0 < depth)) ⌝ }
+// A value of type ty in a row, where its leaf_kind is at hand.
+fn item(
+    s: &[u8],
+    sheet: &[u32],
+    source: &[u8],
+    out: &mut [u8],
+    kind: usize,
+    ty: u32,
+    row: usize,
+    pos: usize,
+    depth: usize,
+    judge: bool,
+) -> Walk
+    requires { ⌜ Ready (now s) (now sheet) (now out) row pos judge (valueIn (now s) (now source) (now sheet) depth ty row) ⌝ }
+    requires { ⌜ (0 < kind → (kind ≡ rowAt (tableOf (now s)) ty .kind) × (kind < 14) × (0 < depth)) ⌝ }
+    ensures { λ r. ⌜ Walked (now (sheet .entry)) (valueEnd (now (s .entry)) (now (source .entry)) (now (sheet .entry)) depth ty row pos (now (out .entry))) r (now (out .exit)) ⌝ }
 {
-    let t = type_row(s, ty as usize);
-    let kind = t.kind as usize;
-    if depth == 0 {
-        return 0;
+    if 0 < kind {
+        return leaf(s, sheet, source, out, kind, ty, row, pos, depth, judge);
     }
-    if kind < 14 { kind } else { 0 }
+    value(s, sheet, source, out, ty, row, pos, depth, judge)
 }
 
 // So many elements of an array from a row on, which are leaves of a kind: a loop without the cycle of walkers.
@@ -150,18 +194,15 @@ fn leaves(
     let mut here = start;
     let mut to = pos;
     while 0 < left {
-        match leaf_row(sheet, source, kind, elem, here, judge) {
-            Leaf::Bad { number } => {
-                return Walk::Refused {
-                    number,
-                    place: here,
-                };
+        match leaf(s, sheet, source, out, kind, elem, here, to, depth, judge) {
+            Walk::Refused { number, place } => {
+                return Walk::Refused { number, place };
             }
-            Leaf::At { place, length } => {
-                to = put_content(out, to, kind, source, place, length);
+            Walk::Past { row, pos } => {
+                here = row;
+                to = pos;
             }
         }
-        here = here + 1;
         left = left - 1;
     }
     Walk::Past { row: here, pos: to }
@@ -184,17 +225,14 @@ fn array(
     ensures { λ r. ⌜ Walked (now (sheet .entry)) (valueEnd (now (s .entry)) (now (source .entry)) (now (sheet .entry)) (suc depth) ty row pos (now (out .entry))) r (now (out .exit)) ⌝ }
 {
     match row_due(sheet, row, ty) {
-        Due::Missing => Walk::Refused {
-            number: 50,
-            place: row,
-        },
+        Due::Missing => refused(50, row),
         Due::Found {
             place: _,
             length: _,
             count,
         } => {
             let next = put_number(out, pos, count as u64);
-            let kind = leaf_kind(s, elem, depth);
+            let kind = leaf_kind(s, layout_of(s), elem, depth);
             if 0 < kind {
                 return leaves(
                     s,
@@ -313,10 +351,7 @@ fn mapping(
     ensures { λ r. ⌜ Walked (now (sheet .entry)) (valueEnd (now (s .entry)) (now (source .entry)) (now (sheet .entry)) (suc depth) ty row pos (now (out .entry))) r (now (out .exit)) ⌝ }
 {
     match row_due(sheet, row, ty) {
-        Due::Missing => Walk::Refused {
-            number: 50,
-            place: row,
-        },
+        Due::Missing => refused(50, row),
         Due::Found {
             place: _,
             length: _,
@@ -386,32 +421,24 @@ fn pairs(
 {
     let t = type_row(s, key as usize);
     let kind = t.kind as usize;
+    let own = leaf_kind(s, layout_of(s), val, depth);
     let mut i = 0;
     let mut here = start;
     let mut to = pos;
     let mut from = start;
     while i < n {
         if depth == 0 {
-            return Walk::Refused {
-                number: 28,
-                place: here,
-            };
+            return refused(28, here);
         }
         match leaf_row(sheet, source, kind, key, here, judge) {
             Leaf::Bad { number } => {
-                return Walk::Refused {
-                    number,
-                    place: here,
-                };
+                return refused(number, here);
             }
             Leaf::At { place, length } => {
                 let held = least(i, kept.len());
                 let mark = mark_of(source, place, length);
                 if is_kept(sheet, source, kept, marks, held, place, length, mark, judge) {
-                    return Walk::Refused {
-                        number: 24,
-                        place: here,
-                    };
+                    return refused(24, here);
                 }
                 if has_key(
                     s,
@@ -425,13 +452,21 @@ fn pairs(
                     depth,
                     judge,
                 ) {
-                    return Walk::Refused {
-                        number: 24,
-                        place: here,
-                    };
+                    return refused(24, here);
                 }
                 let next = put_content(out, to, kind, source, place, length);
-                match value(s, sheet, source, out, val, here + 1, next, depth, judge) {
+                match item(
+                    s,
+                    sheet,
+                    source,
+                    out,
+                    own,
+                    val,
+                    here + 1,
+                    next,
+                    depth,
+                    judge,
+                ) {
                     Walk::Refused { number, place } => {
                         return Walk::Refused { number, place };
                     }
@@ -469,33 +504,24 @@ fn structure(
     ensures { λ r. ⌜ Walked (now (sheet .entry)) (valueEnd (now (s .entry)) (now (source .entry)) (now (sheet .entry)) (suc depth) ty row pos (now (out .entry))) r (now (out .exit)) ⌝ }
 {
     match row_due(sheet, row, ty) {
-        Due::Missing => Walk::Refused {
-            number: 50,
-            place: row,
-        },
+        Due::Missing => refused(50, row),
         Due::Found {
             place,
             length: _,
             count,
         } => match presence(s, source, first, n, place, judge) {
-            Head::Fault { number } => Walk::Refused { number, place: row },
+            Head::Fault { number } => refused(number, row),
             Head::Bits {
-                word: _,
+                word,
                 known,
                 ones,
-                unknown,
+                unknown: _,
             } => {
-                if unknown != 0 {
-                    return Walk::Refused {
-                        number: 50,
-                        place: row,
-                    };
+                if word != known {
+                    return refused(50, row);
                 }
                 if count != ones {
-                    return Walk::Refused {
-                        number: 50,
-                        place: row,
-                    };
+                    return refused(50, row);
                 }
                 let next = put_bits(out, pos, (n + 7) / 8, known);
                 fields(
@@ -534,6 +560,7 @@ fn fields(
     requires { ⌜ first + n ≤ length (tableOf (now s) .fields) ⌝ }
     ensures { λ r. ⌜ Walked (now (sheet .entry)) (itemsEnd (now (s .entry)) (now (source .entry)) (now (sheet .entry)) depth [] (present (fieldsFrom (tableOf (now (s .entry))) first n) known) start pos (now (out .entry))) r (now (out .exit)) ⌝ }
 {
+    let l = layout_of(s);
     let mut i = first;
     let mut left = n;
     let mut bits = known;
@@ -541,8 +568,9 @@ fn fields(
     let mut to = pos;
     while 0 < left {
         if bits % 2 == 1 {
-            let f = field(s, i);
-            match value(s, sheet, source, out, f.ty, here, to, depth, judge) {
+            let f = field_row(s, l, i);
+            let kind = leaf_kind(s, l, f.ty, depth);
+            match item(s, sheet, source, out, kind, f.ty, here, to, depth, judge) {
                 Walk::Refused { number, place } => {
                     return Walk::Refused { number, place };
                 }
@@ -575,16 +603,13 @@ pub fn root(
     ensures { λ r. ⌜ Walked (now (sheet .entry)) (rootEnd (now (s .entry)) (now (source .entry)) (now (sheet .entry)) ty (fieldsFrom (tableOf (now (s .entry))) first n) (now (out .entry))) r (now (out .exit)) ⌝ }
 {
     match row_due(sheet, 0, ty) {
-        Due::Missing => Walk::Refused {
-            number: 50,
-            place: 0,
-        },
+        Due::Missing => refused(50, 0),
         Due::Found {
             place,
             length: _,
             count,
         } => match presence(s, source, first, n, place, judge) {
-            Head::Fault { number } => Walk::Refused { number, place: 0 },
+            Head::Fault { number } => refused(number, 0),
             Head::Bits {
                 word: _,
                 known,
@@ -592,20 +617,14 @@ pub fn root(
                 unknown: _,
             } => {
                 if count != ones {
-                    return Walk::Refused {
-                        number: 50,
-                        place: 0,
-                    };
+                    return refused(50, 0);
                 }
                 let next = put_bits(out, 0, (n + 7) / 8, known);
                 match fields(s, sheet, source, out, first, n, known, 1, next, 15, judge) {
                     Walk::Refused { number, place } => Walk::Refused { number, place },
                     Walk::Past { row, pos } => {
                         if row < sheet.len() / 4 {
-                            return Walk::Refused {
-                                number: 50,
-                                place: row,
-                            };
+                            return refused(50, row);
                         }
                         Walk::Past { row, pos }
                     }

@@ -292,10 +292,12 @@ pub fn read_frame(bytes: &[u8]) -> Result<FrameRead, Refusal> {
         method: method as u32,
         correlation,
     };
+    // A length has 32 bits at most. Read by itself, it spares a load of both
+    // cells at once, which would wait for the two stores before it.
     let whole = FrameRead::Whole {
         header,
         place: place as usize,
-        length: length as usize,
+        length: length as u32 as usize,
     };
     answer(number, 0, whole)
 }

@@ -2,6 +2,9 @@
 //!
 //! ```text
 //! reference list SCHEMA RECORD        print the listing of a record
+//! reference listings SEED N           write a file of listing cases, N of them random
+//! reference list-all                  print the listing of each case from standard input
+//! reference examples FOLDER           write the files of the folder examples/
 //! reference cases SEED N [CODES]      write a case file of N cases
 //! reference answers                   answer a case file from standard input
 //! reference count SEED N [CODES]      count the answers to those cases
@@ -12,18 +15,25 @@
 //! in its place asks for payloads of one table that are read by another, where
 //! one of the two extends the other. The same SEED, N and CODES always give the
 //! same case file. `count` prints a line for each entry and answer: the code,
-//! the answer's number, and how often it is given.
+//! the answer's number, and how often it is given. A listing case is a schema
+//! file and a record, each as a length of four bytes and its bytes.
 
 #![forbid(unsafe_code)]
 
 use std::collections::BTreeMap;
 use std::io::{self, Read, Write};
+use std::path::Path;
 use std::process::ExitCode;
 
-use reference::cases::answer_file;
+use reference::cases::{answer_file, list_file, put_listings};
+use reference::generate::carrier::files as example_files;
+use reference::generate::listings::cases as listing_cases;
 use reference::generate::Generator;
 
 const USAGE: &str = "usage: reference list SCHEMA RECORD
+       reference listings SEED N
+       reference list-all
+       reference examples FOLDER
        reference cases SEED N [CODES]
        reference answers
        reference count SEED N [CODES]";
@@ -50,12 +60,10 @@ fn run(arguments: &[&str]) -> Result<Vec<u8>, String> {
             let (schema, record) = (read_file(schema)?, read_file(record)?);
             Ok(reference::list(&schema, &record).into_bytes())
         }
-        ["answers"] => {
-            let mut input = Vec::new();
-            let read = io::stdin().lock().read_to_end(&mut input);
-            read.map_err(|error| format!("standard input: {error}"))?;
-            Ok(answer_file(&input).into_bytes())
-        }
+        ["answers"] => Ok(answer_file(&standard_input()?).into_bytes()),
+        ["listings", seed, number] => listings(seed, number),
+        ["list-all"] => Ok(list_file(&standard_input()?).into_bytes()),
+        ["examples", folder] => examples(folder),
         ["cases", seed, number] => make(seed, number, ""),
         ["cases", seed, number, codes] => make(seed, number, codes),
         ["count", seed, number] => count(seed, number, ""),
@@ -66,6 +74,30 @@ fn run(arguments: &[&str]) -> Result<Vec<u8>, String> {
 
 fn read_file(path: &str) -> Result<Vec<u8>, String> {
     std::fs::read(path).map_err(|error| format!("{path}: {error}"))
+}
+
+fn standard_input() -> Result<Vec<u8>, String> {
+    let mut input = Vec::new();
+    let read = io::stdin().lock().read_to_end(&mut input);
+    read.map_err(|error| format!("standard input: {error}"))?;
+    Ok(input)
+}
+
+/// A file of listing cases.
+fn listings(seed: &str, number: &str) -> Result<Vec<u8>, String> {
+    let seed = seed.parse().map_err(|_| format!("bad seed {seed}"))?;
+    let number = number.parse().map_err(|_| format!("bad number {number}"))?;
+    Ok(put_listings(&listing_cases(seed, number)))
+}
+
+/// Writes every file of the examples to a folder.
+fn examples(folder: &str) -> Result<Vec<u8>, String> {
+    for (name, bytes) in example_files() {
+        let path = Path::new(folder).join(name);
+        let written = std::fs::write(&path, bytes);
+        written.map_err(|error| format!("{}: {error}", path.display()))?;
+    }
+    Ok(Vec::new())
 }
 
 /// The generator and the number of cases that the arguments ask for.

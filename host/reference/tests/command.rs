@@ -99,3 +99,51 @@ fn cases_and_answers() {
         50
     );
 }
+
+#[test]
+fn listings_of_a_file_of_cases() {
+    let cases = reference(&["listings", "11", "3"], &[]);
+    assert!(cases.status.success());
+    let again = reference(&["listings", "11", "3"], &[]);
+    assert_eq!(cases.stdout, again.stdout);
+    let listings = reference(&["list-all"], &cases.stdout);
+    let text = String::from_utf8(listings.stdout).unwrap();
+    let worked = "frame side kind call answer place rows open
+1 C 1 9 0 0 2 1
+2 S 6 9 0 0 4 0
+3 S 6 9 11 0 0 0
+4 C 1 10 0 0 2 1
+5 S 6 10 26 2 0 0
+stopped 0 left 0
+";
+    assert!(text.contains(worked));
+    for end in [
+        "0 left 0",
+        "1 left 7",
+        "30 left",
+        "40 left",
+        "41 left",
+        "42 left",
+        "43 left",
+        "44 left",
+        "45 left 0",
+    ] {
+        assert!(text.contains(&format!("stopped {end}")), "{end}");
+    }
+}
+
+#[test]
+fn examples_are_written_with_their_listings() {
+    let folder = PathBuf::from(env!("CARGO_TARGET_TMPDIR")).join("examples");
+    std::fs::create_dir_all(&folder).unwrap();
+    let output = reference(&["examples", folder.to_str().unwrap()], &[]);
+    assert!(output.status.success());
+    let schema = folder.join("carrier.schema");
+    let record = folder.join("added.record");
+    let paths = [schema.to_str().unwrap(), record.to_str().unwrap()];
+    let listing = reference(&["list", paths[0], paths[1]], &[]).stdout;
+    assert_eq!(
+        listing,
+        std::fs::read(folder.join("added.listing")).unwrap()
+    );
+}

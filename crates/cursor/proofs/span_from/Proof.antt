@@ -23,14 +23,14 @@ use types.SemTy.{Body}
 use types.Tokens.{lft-new}
 use borrow.Within.Token.{Rest, within-token, within-end}
 use sound.WpLaws.{FmC, fmOf, WpFn-mono}
-use denote.RattleType.{RattleType, owns}
+use denote.RattleType.{owns}
 use denote.Laws.{Is, shows}
 use denote.Lend.{lends-ref, ref-back}
 use denote.Memory.{mem}
 use denote.Plain.{uint-vals, uint-tells, uint-makes}
 use denote.Builtin.{u8, usize}
 use denote.Ref.{RefT, NamedLft, MutRef, now}
-use denote.Signature.{plain, namedLft}
+use denote.Signature.{plain}
 use denote.Slice.{sliceVal, ShrSlice, slice-vals, shr-slice-tells, shr-slice-lawful, shr-slice-copy}
 use denote.Steps.{owned, peeks, heard, nothing}
 use denote.Enum.Laws as EL
@@ -43,9 +43,8 @@ use denote.Triple.Table.{entered, cited}
 use denote.Triple.Walked.{says, Stays, stay-none, stay-none-slice, walkOf, goes-none, goes-none-slice, Walks, ends-at, walked, walk-meets}
 use denote.Exit.{yes}
 use denote.Triple.Clauses.{ensured, lasts}
-use Rattle.value.specs.Answer.{cursorAt}
-use Rattle.cursor.specs.Item.{span, spanStep}
-use Rattle.cursor.specs.Lent.{standing, movedTo}
+use Rattle.cursor.specs.Item.{spanAt}
+use Rattle.cursor.specs.Lent.{on, movedTo}
 use Rattle.cursor.specs.declared.Reader.{Reader}
 use Rattle.cursor.specs.declared.item.Span.{Span}
 use Rattle.cursor.specs.declared.item.SpanStep.{SpanStep}
@@ -91,7 +90,7 @@ module _ {M : Type 1} (𝓤 : URA M) (H : Heap 𝓤) (A : Atoms 𝓤) (W : Given
   at = (v ∷ [], (vint w64 n ∷ [], tt))
 
   abbrev found : Span
-  found = spanStep n (span (cursorAt (now s) n)) .item
+  found = spanAt (now s) n .item
 
   abbrev Post : Val → SProp 𝓤
   Post = walkOf 𝓤 H A above.ended stayed (above.clauses 𝓤 H A at-mem run) .post (((κ, tt), (q, tt), tt, (s, (n, tt)), at), tt)
@@ -118,7 +117,7 @@ module _ {M : Type 1} (𝓤 : URA M) (H : Heap 𝓤) (A : Atoms 𝓤) (W : Given
     lent = (record { ptr = (b, 0); name = δ; now = r }, tt)
 
     abbrev next : SpanStep
-    next = spanStep (r .at) (span (standing r))
+    next = on spanAt r
 
     abbrev to-next : Next 𝓤 H A at-mem run .Ghost
     to-next = (((ν ∷ κ, (κ, tt)), (PosShare·right q, (PosShare·left q, tt)), (meet-⊑-right (ν ∷ []) κ, tt), lent, (vptr b 0 ∷ [], tt)), tt)
@@ -174,7 +173,7 @@ module _ {M : Type 1} (𝓤 : URA M) (H : Heap 𝓤) (A : Atoms 𝓤) (W : Given
         -- [the token; …; _3; the result; …; …; what s owns; _5; …; _4; …; _3's end; _2; …; _1; …; room for _0; …]
         returns ! (look ! 16 refl) $ forget ! 2 refl $ forget ! 7 refl $ forget ! 9 refl $ forget ! 12 refl $ forget ! 14 refl $ forget ! 16 refl $
         move ! (16 ∷ 17 ∷ []) $ free1 ! $ move ! (14 ∷ 15 ∷ []) $ free1 ! $ move ! (12 ∷ 13 ∷ []) $ free1 ! $ move ! (2 ∷ 11 ∷ []) $ free1 ! $ move ! (8 ∷ 9 ∷ []) $ free1 ! $ move ! (6 ∷ 7 ∷ []) $ free1 ! $ free0 ! $
-        keep ! (0 ∷ 2 ∷ 5 ∷ []) $ by ! (exits t u′ (e′ .0 ∙ (λ i. spanStep (e .1 i) (span (cursorAt (now (e .0 i)) (e .1 i))) .item))))))))))))))))))))
+        keep ! (0 ∷ 2 ∷ 5 ∷ []) $ by ! (exits t u′ (e′ .0 ∙ (λ i. spanAt (now (e .0 i)) (e .1 i) .item))))))))))))))))))))
 
 module _ {M : Type 1} (𝓤 : URA M) (H : Heap 𝓤) (A : Atoms 𝓤) (W : Given 𝓤 H A) (mem : Memory → SProp 𝓤) (run : Routine → Fun 𝓤) where
   walks : (C : Calls 𝓤 H) (Λ : Loops 𝓤 H) → FmC 𝓤 H (W .laws) C → Triple 𝓤 (C #new) (New 𝓤 H A mem run) → Triple 𝓤 (C #method) (Next 𝓤 H A mem run) → Walks 𝓤 H A above.ended stayed (WpFn 𝓤 H C Λ code.function) (above.clauses 𝓤 H A mem run)

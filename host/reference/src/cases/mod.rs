@@ -5,6 +5,7 @@
 
 mod entries;
 mod format;
+mod listings;
 
 pub use entries::{
     ExtendsCase, FrameCase, FrameWriteCase, ReadCase, ReceiveCase, RunCase, ScalarCase, TableCase,
@@ -13,6 +14,8 @@ pub use entries::{
 pub use format::{
     call_table_sum, line, sheet_sum, sum, MAX_BYTES, MAX_CELLS, MAX_FRAMES, MAX_OUTPUT,
 };
+
+pub use listings::{list_file, put_listings, ListingCase};
 
 use entries::Entry;
 use format::Input;

@@ -3,11 +3,13 @@
 //! Each code has a wheel of makers. A maker aims at one answer or one sort of
 //! input; the wheel turns evenly, so every sort keeps its share.
 
+pub mod carrier;
 mod damage;
 mod deep;
 mod fault;
 mod frames;
 mod line;
+pub mod listings;
 mod pair;
 mod payload;
 mod reading;

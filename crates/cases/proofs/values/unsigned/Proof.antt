@@ -1,27 +1,19 @@
 -- `cases::values::unsigned` is safe. A signed local holds bits: `toZ` reads them, and `ofZ` writes them.
 -- Assumes nothing.
-use mathlib.Core.Path.{_≡_, refl, subst, ap}
+use mathlib.Core.Path.{_≡_}
 use mathlib.Core.Bool.{true, false}
-use Prim.Native.Nat.{ℕ, suc, _^_, _<_}
+use Prim.Native.Nat.{ℕ, _^_, _<_}
 use native.Mathlib.Omega.{arith}
 use borrow.Author.Needs.{needs}
-use borrow.Author.Tests.{le-ltb, ltb-true}
 use lib.Dec.{T}
 use lib.IntN.{ℤ, pos, negsuc, natAbs, _-ℤ_}
 use lib.Signed.{mag, ltZ, nonNeg}
 use mir.Syntax.{w64}
 use mir.Val.{toZ, ofZ, SFits, Fits}
 use mir.Facts.{toZ-pos, toZ-ofZ}
+use Rattle.scalar.proofs.Signs.{below-zero, from-zero}
 use Rattle.cases.proofs.values.unsigned.Statement.{statement}
 use Rattle.cases.proofs.values.unsigned.Tie as tie
-
-below : (z : ℤ) → ltZ z (pos 0) ≡ true → negsuc 0 -ℤ z ≡ pos (mag z)
-below (pos n) e = let f : n < 0 = ltb-true n 0 e in absurd (omega arith)
-below (negsuc n) e = rw (le-ltb (suc n) 1 (omega arith)) (ap pos (omega arith))
-
-not-below : (z : ℤ) → ltZ z (pos 0) ≡ false → z ≡ pos (mag z)
-not-below (pos n) e = refl
-not-below (negsuc n) e = absurd (subst T e tt)
 
 same : (z : ℤ) → SFits w64 z → toZ w64 (ofZ w64 z) ≡ z
 same z f = toZ-ofZ {w = w64} {z = z} f
@@ -34,7 +26,7 @@ fits n h = (tt, record { fits = omega arith })
 
 -- what is taken from -1 is a number of 63 bits
 flipped : (z : ℤ) → SFits w64 z → ltZ (toZ w64 (ofZ w64 z)) (pos 0) ≡ true → negsuc 0 -ℤ toZ w64 (ofZ w64 z) ≡ pos (mag z)
-flipped z f e = rw (same z f) (below z (rw (same z f) at e))
+flipped z f e = rw (same z f) (below-zero z (rw (same z f) at e))
 
 twice : (z : ℤ) → SFits w64 z → ltZ (toZ w64 (ofZ w64 z)) (pos 0) ≡ true → toZ w64 (ofZ w64 (negsuc 0 -ℤ toZ w64 (ofZ w64 z))) ≡ pos (mag z)
 twice z f e = rw (flipped z f e) (toZ-pos w64 {n = mag z} (half z f))
@@ -55,7 +47,7 @@ sub-result-2 c =
     (let h : mag (c .before .args .x) < 2 ^ 63 = half (c .before .args .x) (c .before .fits .x) in omega arith)
 
 natural : (z : ℤ) → SFits w64 z → ltZ (toZ w64 (ofZ w64 z)) (pos 0) ≡ false → toZ w64 (ofZ w64 z) ≡ pos (mag z)
-natural z f e = rw (same z f) (not-below z (rw (same z f) at e))
+natural z f e = rw (same z f) (from-zero z (rw (same z f) at e))
 
 cast-result-2 : tie.Need-cast-result-2
 cast-result-2 c =

@@ -4,7 +4,7 @@ use mathlib.Core.Path.{sym, ap}
 use native.Mathlib.Omega.{arith}
 use borrow.Author.Needs.{needs}
 use Rattle.cursor.specs.Item.{spanStep}
-use Rattle.cursor.proofs.Items.{span-refused, span-long, span-here}
+use Rattle.cursor.proofs.Items.{refused-span, long-span, whole-span}
 use Rattle.cursor.proofs.item.span_at.Statement.{statement}
 use Rattle.cursor.proofs.item.span_at.Tie as tie
 
@@ -21,10 +21,10 @@ span-at-spec =
     -- left-from-requires
     (λ c κs. search needs)
     -- returns
-    (λ c. ap (spanStep (c .before .before .before .before .before .before .before .args .at)) (sym (span-long (c .before .before .before .before .before .before .before .args .payload .now) (c .before .before .before .before .before .before .before .args .at) _ (c .before .before .before .before .before .varuint-at .ensures) _ (c .before .before .before .size2 .given .1) (omega arith))))
+    (λ c. ap (spanStep (c .before .before .before .before .before .before .before .args .at)) (sym (long-span (c .before .before .before .before .before .before .before .args .payload .now) (c .before .before .before .before .before .before .before .args .at) _ (c .before .before .before .before .before .varuint-at .ensures) _ (c .before .before .before .size2 .given .1) (omega arith))))
     -- add-t11
     (λ c. search needs)
     -- returns-2
-    (λ c. ap (spanStep (c .before .before .before .before .before .args .at)) (sym (span-refused (c .before .before .before .before .before .args .payload .now) (c .before .before .before .before .before .args .at) _ (c .before .before .before .varuint-at .ensures) _ _ (c .before .size .given .1))))
+    (λ c. ap (spanStep (c .before .before .before .before .before .args .at)) (sym (refused-span (c .before .before .before .before .before .args .payload .now) (c .before .before .before .before .before .args .at) _ (c .before .before .before .varuint-at .ensures) _ _ (c .before .size .given .1))))
     -- returns-3
-    (λ c. ap (spanStep (c .before .before .before .before .before .before .before .before .args .at)) (sym (span-here (c .before .before .before .before .before .before .before .before .args .payload .now) (c .before .before .before .before .before .before .before .before .args .at) _ (c .before .before .before .before .before .before .varuint-at .ensures) _ (c .before .before .before .before .size2 .given .1) (omega arith)))))
+    (λ c. ap (spanStep (c .before .before .before .before .before .before .before .before .args .at)) (sym (whole-span (c .before .before .before .before .before .before .before .before .args .payload .now) (c .before .before .before .before .before .before .before .before .args .at) _ (c .before .before .before .before .before .before .varuint-at .ensures) _ (c .before .before .before .before .size2 .given .1) (omega arith)))))

@@ -1,7 +1,8 @@
 -- `exports::payloads::arf_read` meets its contract. Assumes nothing.
 use mathlib.Core.Path.{ap}
 use borrow.Author.Needs.{needs}
-use Rattle.exports.specs.Answers.{answerOf, sheetOf, readNumber, readCells}
+use Rattle.reader.specs.Entry.{readingIn, sheetIn}
+use Rattle.exports.specs.Answers.{readNumber, readCells}
 use Rattle.exports.proofs.Stores.{told}
 use Rattle.exports.proofs.payloads.arf_read.Statement.{statement}
 use Rattle.exports.proofs.payloads.arf_read.Tie as tie
@@ -11,8 +12,8 @@ returns c =
     let at-store = c .before .before .before in
     let at-cells = at-store .before .before .before in
     let e = at-cells .before .before .before .read .ensures in
-    let t = told readNumber readCells _ (ap answerOf e) (c .read-number .ensures) (at-cells .read-cells .ensures) (at-store .store .ensures) in
-    (t .0, (ap sheetOf e, t .1))
+    let t = told readNumber readCells _ (ap readingIn e) (c .read-number .ensures) (at-cells .read-cells .ensures) (at-store .store .ensures) in
+    (t .0, (ap sheetIn e, t .1))
 
 pub arf-read-spec : {M : Type 1} → statement M
 arf-read-spec =

@@ -1,14 +1,15 @@
 -- `exports::scalars::bits_of` meets its contract. A signed local holds bits: `toZ` reads them, and `ofZ` writes them.
 -- Assumes nothing.
-use mathlib.Core.Path.{_≡_, ap, _∙_}
-use mathlib.Core.Bool.{true, false}
+use mathlib.Core.Path.{_≡_}
+use mathlib.Core.Bool.{true}
 use native.Mathlib.Omega.{arith}
 use lib.IntN.{ℤ, pos, negsuc, _-ℤ_}
 use lib.Signed.{mag, ltZ}
 use mir.Syntax.{w64}
 use mir.Val.{SFits, toZ, ofZ}
 use mir.Facts.{toZ-ofZ}
-use Rattle.exports.proofs.Bits.{flip, bits-below, natural}
+use Rattle.scalar.proofs.Signs.{below-zero, from-zero}
+use Rattle.exports.proofs.Bits.{bits-below}
 use Rattle.exports.proofs.scalars.bits_of.Statement.{statement}
 use Rattle.exports.proofs.scalars.bits_of.Tie as tie
 
@@ -16,13 +17,13 @@ low : (c : tie.Then1) → ltZ (c .before .args .x) (pos 0) ≡ true
 low c = rw (toZ-ofZ (c .before .fits .x)) at (c .if1 .taken)
 
 high : (c : tie.Else1) → c .before .args .x ≡ pos (mag (c .before .args .x))
-high c = natural _ (rw (toZ-ofZ (c .before .fits .x)) at (c .if1 .left))
+high c = from-zero _ (rw (toZ-ofZ (c .before .fits .x)) at (c .if1 .left))
 
 flipped : (z : ℤ) → SFits w64 z → ltZ z (pos 0) ≡ true → toZ w64 (ofZ w64 (negsuc 0 -ℤ toZ w64 (ofZ w64 z))) ≡ pos (mag z)
-flipped z h e = rw (toZ-ofZ h, flip z e) (toZ-ofZ {w = w64} (record { sfits = h .sfits }))
+flipped z h e = rw (toZ-ofZ h, below-zero z e) (toZ-ofZ {w = w64} (record { sfits = h .sfits }))
 
 sub-result : tie.Need-sub-result
-sub-result c = rw (toZ-ofZ (c .before .fits .x), flip (c .before .args .x) (low c)) (record { sfits = c .before .fits .x .sfits })
+sub-result c = rw (toZ-ofZ (c .before .fits .x), below-zero (c .before .args .x) (low c)) (record { sfits = c .before .fits .x .sfits })
 
 cast-result : tie.Need-cast-result
 cast-result c = rw (flipped (c .before .args .x) (c .before .fits .x) (low c)) (tt, record { fits = omega (arith, c .before .fits .x .sfits) })

@@ -65,7 +65,9 @@ returns : tie.Need-returns Inv-loop μ-loop
 returns c = found (c .before) false (not-true (c .before .follow .result) (c .if2 .taken))
 
 loop-again-2 : tie.Need-loop-again-2 Inv-loop μ-loop
-loop-again-2 c = (omega (arith, inside c), found (c .before) true (not-false (c .before .follow .result) (c .if2 .left)))
+loop-again-2 c =
+    let e = c .before in
+    (omega (arith, inside e, c .skip-pairs .ensures .0), c .skip-pairs .ensures .1 ∙ found (e .before) true (not-false (e .before .follow .result) (e .if2 .left)))
 
 returns-2 : tie.Need-returns-2 Inv-loop μ-loop
 returns-2 c =
@@ -102,7 +104,8 @@ valid-spec =
     (λ c. search needs)
     (λ c. omega (arith, few (c .before .before)))
     (λ c. omega (arith, inside c))
-    (λ c. omega (arith, inside c))
+    (λ c κs. omega (arith, inside c))
+    (λ c. omega (arith, inside (c .before), c .skip-pairs .ensures .0))
     loop-again-2
     (λ c. search needs)
     returns-2

@@ -1,7 +1,11 @@
 -- `writer::leaf::text` meets its contract.
 -- Assumes nothing.
-use mathlib.Core.Path.{sym, _∙_}
+use mathlib.Core.Path.{sym, ap, _∙_}
+use mathlib.Core.List.{List}
+use Prim.Native.Nat.{ℕ}
 use borrow.Author.Tests.{not-true, not-false}
+use Rattle.wire.specs.Utf8.{utf8}
+use Rattle.value.proofs.Spans.{slice-span}
 use Rattle.writer.proofs.Leaves.{text-counted, text-outside, text-valid, text-plain, text-bad}
 use borrow.Author.Needs.{needs}
 use Rattle.writer.proofs.leaf.text.Statement.{statement}
@@ -17,11 +21,13 @@ text-spec =
     (λ c. search needs)
     -- returns-2
     (λ c. text-outside (c .before .before .before .args .source .now) (c .before .before .before .args .kind) (c .before .before .before .args .place) (c .before .before .before .args .n) (c .before .before .before .args .count) (c .before .before .before .pre .0) (c .before .if1 .left) (c .if2 .taken))
-    -- is-utf8-requires
-    (λ c κs. (c .before .if2 .left, λ j. c .before .before .before .before .pre .3 j (c .if3 .taken)))
+    -- add-valid
+    (λ c. search needs)
+    -- valid-requires
+    (λ c κs. search needs)
     -- returns-3
-    (λ c. text-bad (c .before .before .before .before .before .before .args .source .now) (c .before .before .before .before .before .before .args .kind) (c .before .before .before .before .before .before .args .place) (c .before .before .before .before .before .before .args .n) (c .before .before .before .before .before .before .args .count) (c .before .before .before .before .before .before .pre .0) (c .before .before .before .before .if1 .left) (c .before .before .before .if2 .left) (c .before .before .if3 .taken) (sym (c .before .is-utf8 .ensures) ∙ not-true _ (c .if4 .taken)))
+    (λ c. text-bad (c .before .before .before .before .before .before .args .source .now) (c .before .before .before .before .before .before .args .kind) (c .before .before .before .before .before .before .args .place) (c .before .before .before .before .before .before .args .n) (c .before .before .before .before .before .before .args .count) (c .before .before .before .before .before .before .pre .0) (c .before .before .before .before .if1 .left) (c .before .before .before .if2 .left) (c .before .before .if3 .taken) (sym (c .before .valid .ensures ∙ ap (λ (l : List ℕ). utf8 l) (slice-span (c .before .before .before .before .before .before .args .source .now) (c .before .before .before .before .before .before .args .place) (c .before .before .before .before .before .before .args .n))) ∙ not-true _ (c .if4 .taken)))
     -- returns-4
-    (λ c. text-valid (c .before .before .before .before .before .before .args .source .now) (c .before .before .before .before .before .before .args .kind) (c .before .before .before .before .before .before .args .place) (c .before .before .before .before .before .before .args .n) (c .before .before .before .before .before .before .args .count) (c .before .before .before .before .before .before .pre .0) (c .before .before .before .before .if1 .left) (c .before .before .before .if2 .left) (c .before .before .if3 .taken) (sym (c .before .is-utf8 .ensures) ∙ not-false _ (c .if4 .left)))
+    (λ c. text-valid (c .before .before .before .before .before .before .args .source .now) (c .before .before .before .before .before .before .args .kind) (c .before .before .before .before .before .before .args .place) (c .before .before .before .before .before .before .args .n) (c .before .before .before .before .before .before .args .count) (c .before .before .before .before .before .before .pre .0) (c .before .before .before .before .if1 .left) (c .before .before .before .if2 .left) (c .before .before .if3 .taken) (sym (c .before .valid .ensures ∙ ap (λ (l : List ℕ). utf8 l) (slice-span (c .before .before .before .before .before .before .args .source .now) (c .before .before .before .before .before .before .args .place) (c .before .before .before .before .before .before .args .n))) ∙ not-false _ (c .if4 .left)))
     -- returns-5
     (λ c. text-plain (c .before .before .before .before .args .source .now) (c .before .before .before .before .args .kind) (c .before .before .before .before .args .place) (c .before .before .before .before .args .n) (c .before .before .before .before .args .count) (c .before .before .before .before .pre .0) (c .before .before .if1 .left) (c .before .if2 .left) (c .if3 .left)))

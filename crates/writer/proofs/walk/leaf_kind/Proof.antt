@@ -11,13 +11,13 @@ pub leaf-kind-spec : {M : Type 1} → statement M
 leaf-kind-spec =
     tie.close
     (tie.spec
-    -- type-row-requires
+    -- row-requires
     (λ c κs. search needs)
     -- cast-kind
     (λ c. search needs)
     -- returns
     (λ c. search needs)
     -- returns-2
-    (λ c. λ h. (ap (λ (r : TypeRow). r .kind) (c .before .before .before .type-row .ensures), c .if2 .taken, omega (arith, c .before .if1 .left)))
+    (λ c. λ h. (ap (λ (r : TypeRow). r .kind) (c .before .before .before .row .ensures), c .if2 .taken, omega (arith, c .before .if1 .left)))
     -- returns-3
     (λ c. search needs))

@@ -3,9 +3,9 @@
 use native.Mathlib.Omega.{arith}
 use Rattle.schema.specs.Table.{shape}
 use Rattle.schema.specs.File.{tableOf}
+use Rattle.writer.proofs.Steps.{was, as-stopped, as-refused, stopped-at}
 use Rattle.parts.specs.Shape.{fieldsFrom}
 use Rattle.parts.proofs.Presence.{length-fields}
-use Rattle.writer.proofs.Steps.{was, as-stopped, stopped-at}
 use Rattle.writer.proofs.Composites.{due-in}
 use Rattle.writer.proofs.Roots.{root-absent, root-known, root-fault, root-miscounted, root-accepted, root-stopped, root-left, root-done}
 use borrow.Author.Needs.{needs}
@@ -20,16 +20,22 @@ root-spec =
     (λ c κs. search needs)
     -- enum-told
     (λ c. search needs)
+    -- refused-requires
+    (λ c κs. search needs)
     -- enum-known-place
     (λ c. search needs)
     -- presence-requires
     (λ c κs. let i = due-in (shape (tableOf (c .before .before .before .before .before .before .before .before .args .s .now))) (c .before .before .before .before .before .before .before .before .args .source .now) 0 (c .before .before .before .before .before .before .before .before .args .ty) (c .before .before .before .before .before .before .before .before .args .sheet .now) 0 _ (c .before .before .before .row-due .ensures) (c .before .place .given .0 .0) (c .before .place .given .0 .1 .0) (c .before .place .given .0 .1 .1 .0) (c .before .place .given .1) in (c .before .before .before .before .before .before .before .before .pre .0 .0 .good, c .before .before .before .before .before .before .before .before .pre .1 .0, c .before .before .before .before .before .before .before .before .pre .1 .1, c .before .before .before .before .before .before .before .before .pre .1 .2, i .3, λ j. rw (length-fields (tableOf (c .before .before .before .before .before .before .before .before .args .s .now)) (c .before .before .before .before .before .before .before .before .args .first) (c .before .before .before .before .before .before .before .before .args .n) (c .before .before .before .before .before .before .before .before .pre .1 .2)) at (root-known (shape (tableOf (c .before .before .before .before .before .before .before .before .args .s .now))) (c .before .before .before .before .before .before .before .before .args .source .now) (c .before .before .before .before .before .before .before .before .args .ty) (fieldsFrom (tableOf (c .before .before .before .before .before .before .before .before .args .s .now)) (c .before .before .before .before .before .before .before .before .args .first) (c .before .before .before .before .before .before .before .before .args .n)) (c .before .before .before .before .before .before .before .before .args .sheet .now) _ (c .before .before .before .row-due .ensures) (c .before .place .given .0 .0) (c .before .place .given .0 .1 .0) (c .before .place .given .0 .1 .1 .0) (c .before .place .given .1) (c .before .before .before .before .before .before .before .before .pre .0 .0 .judged j))))
     -- enum-known-number
     (λ c. search needs)
+    -- refused-requires-2
+    (λ c κs. search needs)
     -- enum-known-known
     (λ c. search needs)
+    -- refused-requires-3
+    (λ c κs. search needs)
     -- returns
-    (λ c. as-stopped 50 0 (stopped-at (shape (tableOf (c .before .before .before .before .before .before .before .before .before .before .before .before .before .args .s .now))) (c .before .before .before .before .before .before .before .before .before .before .before .before .before .args .ty) _ 0 (c .before .before .before .before .before .before .before .before .before .before .before .before .before .args .out .now) 50 0 (root-miscounted (shape (tableOf (c .before .before .before .before .before .before .before .before .before .before .before .before .before .args .s .now))) (c .before .before .before .before .before .before .before .before .before .before .before .before .before .args .source .now) (c .before .before .before .before .before .before .before .before .before .before .before .before .before .args .ty) (fieldsFrom (tableOf (c .before .before .before .before .before .before .before .before .before .before .before .before .before .args .s .now)) (c .before .before .before .before .before .before .before .before .before .before .before .before .before .args .first) (c .before .before .before .before .before .before .before .before .before .before .before .before .before .args .n)) (c .before .before .before .before .before .before .before .before .before .before .before .before .before .args .sheet .now) _ (c .before .before .before .before .before .before .before .before .row-due .ensures) (c .before .before .before .before .before .before .place .given .0 .0) (c .before .before .before .before .before .before .place .given .0 .1 .0) (c .before .before .before .before .before .before .place .given .0 .1 .1 .0) (c .before .before .before .before .before .before .place .given .1) _ (c .before .before .before .before .presence .ensures) (c .before .before .known .given .0 .0) (c .before .before .known .given .0 .1 .0) (c .before .before .known .given .0 .1 .1 .0) (c .before .before .known .given .0 .1 .1 .1 .0) (c .before .before .known .given .1) (c .if1 .taken))))
+    (λ c. as-refused (c .refused3 .ensures) (stopped-at (shape (tableOf (c .before .before .before .before .before .before .before .before .before .before .before .before .before .before .args .s .now))) (c .before .before .before .before .before .before .before .before .before .before .before .before .before .before .args .ty) _ 0 (c .before .before .before .before .before .before .before .before .before .before .before .before .before .before .args .out .now) 50 0 (root-miscounted (shape (tableOf (c .before .before .before .before .before .before .before .before .before .before .before .before .before .before .args .s .now))) (c .before .before .before .before .before .before .before .before .before .before .before .before .before .before .args .source .now) (c .before .before .before .before .before .before .before .before .before .before .before .before .before .before .args .ty) (fieldsFrom (tableOf (c .before .before .before .before .before .before .before .before .before .before .before .before .before .before .args .s .now)) (c .before .before .before .before .before .before .before .before .before .before .before .before .before .before .args .first) (c .before .before .before .before .before .before .before .before .before .before .before .before .before .before .args .n)) (c .before .before .before .before .before .before .before .before .before .before .before .before .before .before .args .sheet .now) _ (c .before .before .before .before .before .before .before .before .before .row-due .ensures) (c .before .before .before .before .before .before .before .place .given .0 .0) (c .before .before .before .before .before .before .before .place .given .0 .1 .0) (c .before .before .before .before .before .before .before .place .given .0 .1 .1 .0) (c .before .before .before .before .before .before .before .place .given .1) _ (c .before .before .before .before .before .presence .ensures) (c .before .before .before .known .given .0 .0) (c .before .before .before .known .given .0 .1 .0) (c .before .before .before .known .given .0 .1 .1 .0) (c .before .before .before .known .given .0 .1 .1 .1 .0) (c .before .before .before .known .given .1) (c .before .if1 .taken))))
     -- add-put-bits
     (λ c. search needs)
     -- put-bits-requires
@@ -43,14 +49,16 @@ root-spec =
     (λ c. search needs)
     -- enum-known-row
     (λ c. search needs)
+    -- refused-requires-4
+    (λ c κs. search needs)
     -- same-length
     (λ c. search needs)
     -- returns-2
-    (λ c. as-stopped 50 _ (root-left (shape (tableOf (c .before .before .before .before .before .before .before .before .before .before .before .before .before .before .before .before .before .before .before .before .before .before .before .before .before .args .s .now))) (c .before .before .before .before .before .before .before .before .before .before .before .before .before .before .before .before .before .before .before .before .before .before .before .before .before .args .source .now) (c .before .before .before .before .before .before .before .before .before .before .before .before .before .before .before .before .before .before .before .before .before .before .before .before .before .args .ty) (fieldsFrom (tableOf (c .before .before .before .before .before .before .before .before .before .before .before .before .before .before .before .before .before .before .before .before .before .before .before .before .before .args .s .now)) (c .before .before .before .before .before .before .before .before .before .before .before .before .before .before .before .before .before .before .before .before .before .before .before .before .before .args .first) (c .before .before .before .before .before .before .before .before .before .before .before .before .before .before .before .before .before .before .before .before .before .before .before .before .before .args .n)) (c .before .before .before .before .before .before .before .before .before .before .before .before .before .before .before .before .before .before .before .before .before .before .before .before .before .args .sheet .now) _ (c .before .before .before .before .before .before .before .before .before .before .before .before .before .before .before .before .before .before .before .before .row-due .ensures) (c .before .before .before .before .before .before .before .before .before .before .before .before .before .before .before .before .before .before .place .given .0 .0) (c .before .before .before .before .before .before .before .before .before .before .before .before .before .before .before .before .before .before .place .given .0 .1 .0) (c .before .before .before .before .before .before .before .before .before .before .before .before .before .before .before .before .before .before .place .given .0 .1 .1 .0) (c .before .before .before .before .before .before .before .before .before .before .before .before .before .before .before .before .before .before .place .given .1) _ (c .before .before .before .before .before .before .before .before .before .before .before .before .before .before .before .before .presence .ensures) (c .before .before .before .before .before .before .before .before .before .before .before .before .before .before .known .given .0 .0) (c .before .before .before .before .before .before .before .before .before .before .before .before .before .before .known .given .0 .1 .0) (c .before .before .before .before .before .before .before .before .before .before .before .before .before .before .known .given .0 .1 .1 .0) (c .before .before .before .before .before .before .before .before .before .before .before .before .before .before .known .given .0 .1 .1 .1 .0) (c .before .before .before .before .before .before .before .before .before .before .before .before .before .before .known .given .1) (c .before .before .before .before .before .before .before .before .before .before .before .before .if1 .left) (c .before .before .before .before .before .before .before .before .before .before .before .before .before .before .before .before .before .before .before .before .before .before .before .before .before .args .out .now) _ _ _ _ _ (was (c .before .before .before .before .before .before .fields .ensures) (c .before .before .row .given .1) .same) (c .if2 .taken)))
+    (λ c. as-refused (c .refused4 .ensures) (root-left (shape (tableOf (c .before .before .before .before .before .before .before .before .before .before .before .before .before .before .before .before .before .before .before .before .before .before .before .before .before .before .args .s .now))) (c .before .before .before .before .before .before .before .before .before .before .before .before .before .before .before .before .before .before .before .before .before .before .before .before .before .before .args .source .now) (c .before .before .before .before .before .before .before .before .before .before .before .before .before .before .before .before .before .before .before .before .before .before .before .before .before .before .args .ty) (fieldsFrom (tableOf (c .before .before .before .before .before .before .before .before .before .before .before .before .before .before .before .before .before .before .before .before .before .before .before .before .before .before .args .s .now)) (c .before .before .before .before .before .before .before .before .before .before .before .before .before .before .before .before .before .before .before .before .before .before .before .before .before .before .args .first) (c .before .before .before .before .before .before .before .before .before .before .before .before .before .before .before .before .before .before .before .before .before .before .before .before .before .before .args .n)) (c .before .before .before .before .before .before .before .before .before .before .before .before .before .before .before .before .before .before .before .before .before .before .before .before .before .before .args .sheet .now) _ (c .before .before .before .before .before .before .before .before .before .before .before .before .before .before .before .before .before .before .before .before .before .row-due .ensures) (c .before .before .before .before .before .before .before .before .before .before .before .before .before .before .before .before .before .before .before .place .given .0 .0) (c .before .before .before .before .before .before .before .before .before .before .before .before .before .before .before .before .before .before .before .place .given .0 .1 .0) (c .before .before .before .before .before .before .before .before .before .before .before .before .before .before .before .before .before .before .before .place .given .0 .1 .1 .0) (c .before .before .before .before .before .before .before .before .before .before .before .before .before .before .before .before .before .before .before .place .given .1) _ (c .before .before .before .before .before .before .before .before .before .before .before .before .before .before .before .before .before .presence .ensures) (c .before .before .before .before .before .before .before .before .before .before .before .before .before .before .before .known .given .0 .0) (c .before .before .before .before .before .before .before .before .before .before .before .before .before .before .before .known .given .0 .1 .0) (c .before .before .before .before .before .before .before .before .before .before .before .before .before .before .before .known .given .0 .1 .1 .0) (c .before .before .before .before .before .before .before .before .before .before .before .before .before .before .before .known .given .0 .1 .1 .1 .0) (c .before .before .before .before .before .before .before .before .before .before .before .before .before .before .before .known .given .1) (c .before .before .before .before .before .before .before .before .before .before .before .before .before .if1 .left) (c .before .before .before .before .before .before .before .before .before .before .before .before .before .before .before .before .before .before .before .before .before .before .before .before .before .before .args .out .now) _ _ _ _ _ (was (c .before .before .before .before .before .before .before .fields .ensures) (c .before .before .before .row .given .1) .same) (c .before .if2 .taken)))
     -- returns-3
-    (λ c. as-stopped 50 0 (stopped-at (shape (tableOf (c .before .before .before .before .before .before .before .args .s .now))) (c .before .before .before .before .before .before .before .args .ty) _ 0 (c .before .before .before .before .before .before .before .args .out .now) 50 0 (root-absent (shape (tableOf (c .before .before .before .before .before .before .before .args .s .now))) (c .before .before .before .before .before .before .before .args .source .now) (c .before .before .before .before .before .before .before .args .ty) (fieldsFrom (tableOf (c .before .before .before .before .before .before .before .args .s .now)) (c .before .before .before .before .before .before .before .args .first) (c .before .before .before .before .before .before .before .args .n)) (c .before .before .before .before .before .before .before .args .sheet .now) _ (c .before .before .row-due .ensures) (c .enum-told .given .1))))
+    (λ c. as-refused (c .refused .ensures) (stopped-at (shape (tableOf (c .before .before .before .before .before .before .before .before .args .s .now))) (c .before .before .before .before .before .before .before .before .args .ty) _ 0 (c .before .before .before .before .before .before .before .before .args .out .now) 50 0 (root-absent (shape (tableOf (c .before .before .before .before .before .before .before .before .args .s .now))) (c .before .before .before .before .before .before .before .before .args .source .now) (c .before .before .before .before .before .before .before .before .args .ty) (fieldsFrom (tableOf (c .before .before .before .before .before .before .before .before .args .s .now)) (c .before .before .before .before .before .before .before .before .args .first) (c .before .before .before .before .before .before .before .before .args .n)) (c .before .before .before .before .before .before .before .before .args .sheet .now) _ (c .before .before .before .row-due .ensures) (c .before .enum-told .given .1))))
     -- returns-4
-    (λ c. as-stopped _ 0 (stopped-at (shape (tableOf (c .before .before .before .before .before .before .before .before .before .before .before .before .args .s .now))) (c .before .before .before .before .before .before .before .before .before .before .before .before .args .ty) _ 0 (c .before .before .before .before .before .before .before .before .before .before .before .before .args .out .now) _ 0 (root-fault (shape (tableOf (c .before .before .before .before .before .before .before .before .before .before .before .before .args .s .now))) (c .before .before .before .before .before .before .before .before .before .before .before .before .args .source .now) (c .before .before .before .before .before .before .before .before .before .before .before .before .args .ty) (fieldsFrom (tableOf (c .before .before .before .before .before .before .before .before .before .before .before .before .args .s .now)) (c .before .before .before .before .before .before .before .before .before .before .before .before .args .first) (c .before .before .before .before .before .before .before .before .before .before .before .before .args .n)) (c .before .before .before .before .before .before .before .before .before .before .before .before .args .sheet .now) _ (c .before .before .before .before .before .before .before .row-due .ensures) (c .before .before .before .before .before .place .given .0 .0) (c .before .before .before .before .before .place .given .0 .1 .0) (c .before .before .before .before .before .place .given .0 .1 .1 .0) (c .before .before .before .before .before .place .given .1) _ (c .before .before .before .presence .ensures) _ (c .before .number .given .1))))
+    (λ c. as-refused (c .refused2 .ensures) (stopped-at (shape (tableOf (c .before .before .before .before .before .before .before .before .before .before .before .before .before .args .s .now))) (c .before .before .before .before .before .before .before .before .before .before .before .before .before .args .ty) _ 0 (c .before .before .before .before .before .before .before .before .before .before .before .before .before .args .out .now) _ 0 (root-fault (shape (tableOf (c .before .before .before .before .before .before .before .before .before .before .before .before .before .args .s .now))) (c .before .before .before .before .before .before .before .before .before .before .before .before .before .args .source .now) (c .before .before .before .before .before .before .before .before .before .before .before .before .before .args .ty) (fieldsFrom (tableOf (c .before .before .before .before .before .before .before .before .before .before .before .before .before .args .s .now)) (c .before .before .before .before .before .before .before .before .before .before .before .before .before .args .first) (c .before .before .before .before .before .before .before .before .before .before .before .before .before .args .n)) (c .before .before .before .before .before .before .before .before .before .before .before .before .before .args .sheet .now) _ (c .before .before .before .before .before .before .before .before .row-due .ensures) (c .before .before .before .before .before .before .place .given .0 .0) (c .before .before .before .before .before .before .place .given .0 .1 .0) (c .before .before .before .before .before .before .place .given .0 .1 .1 .0) (c .before .before .before .before .before .before .place .given .1) _ (c .before .before .before .before .presence .ensures) _ (c .before .before .number .given .1))))
     -- same-length-2
     (λ c. search needs)
     -- returns-5

@@ -1,4 +1,4 @@
--- `parts::is_utf8` meets its contract.
+-- `reader::leaf::is_utf8` meets its contract.
 -- Assumes nothing.
 use mathlib.Core.Path.{sym, ap, _∙_}
 use mathlib.Core.List.{List}
@@ -6,8 +6,8 @@ use Prim.Native.Nat.{ℕ}
 use Rattle.wire.specs.Utf8.{utf8}
 use Rattle.value.proofs.Spans.{slice-span}
 use borrow.Author.Needs.{needs}
-use Rattle.parts.proofs.is_utf8.Statement.{statement}
-use Rattle.parts.proofs.is_utf8.Tie as tie
+use Rattle.reader.proofs.leaf.is_utf8.Statement.{statement}
+use Rattle.reader.proofs.leaf.is_utf8.Tie as tie
 
 pub is-utf8-spec : {M : Type 1} → statement M
 is-utf8-spec =

@@ -1,0 +1,105 @@
+-- The number and the cells of an answer determine it, where no refusal has the number of what is accepted; and so it is for the entries.
+-- Assumes nothing.
+use mathlib.Core.Path.{_≡_, refl, subst}
+use mathlib.Core.Bool.{Bool, true, false, cond}
+use mathlib.Core.List.{List}
+use Prim.Native.Nat.{ℕ, zero, suc, _≤_}
+use native.Mathlib.Omega.{arith}
+use lib.Dec.{leb, lit≤}
+use lib.ListN.{length}
+use Rattle.schema.specs.File.{tableOf}
+use Rattle.schema.specs.Check.{checked}
+use Rattle.schema.specs.Extend.{ifGood, extended, extension}
+use Rattle.frame.specs.declared.Header.{Header}
+use Rattle.frame.proofs.Answers.{refused-numbers}
+use Rattle.schema.proofs.Listed.{listed, listed-bounds}
+use Rattle.schema.specs.declared.Checked.{Checked}
+use Rattle.schema.specs.declared.Checked.the-variants as check
+use Rattle.schema.specs.declared.Extended.{Extended}
+use Rattle.schema.specs.declared.Extended.the-variants.{Yes, No, Refused as Faulty}
+use Rattle.arf.specs.Numbers.{checkNumber, extendNumber, writeNumber}
+use Rattle.frame.specs.declared.FrameRead.{FrameRead}
+use Rattle.frame.specs.declared.FrameRead.the-variants as frame
+use Rattle.frame.specs.declared.FrameWritten.{FrameWritten}
+use Rattle.frame.specs.declared.FrameWritten.the-variants as written
+use Rattle.frame.specs.Frame as read
+use Rattle.frame.specs.Written as wrote
+use Rattle.reader.specs.declared.Reading.{Reading}
+use Rattle.reader.specs.declared.Reading.the-variants as reader
+use Rattle.writer.specs.declared.Writing.{Writing}
+use Rattle.writer.specs.declared.Writing.the-variants as writer
+use Rattle.exports.specs.Answers.{checkCells, extendCells, frameCells, writtenCells, readNumber, readCells, writeCells}
+use Rattle.exports.specs.Told.{checkTold, extendTold, frameTold, writtenTold, readTold, writeTold}
+
+pub check-told : (a : Checked) → ((n q : ℕ) → a ≡ check.Refused n q → 1 ≤ n) → checkTold (checkNumber a) (checkCells a) ≡ a
+check-told check.Good h = refl
+check-told (check.Refused zero q) h = absurd (omega (arith, h 0 q refl))
+check-told (check.Refused (suc n) q) h = refl
+
+pub extend-told : (a : Extended) → ((n q : ℕ) → a ≡ Faulty n q → 1 ≤ n) → extendTold (extendNumber a) (extendCells a) ≡ a
+extend-told Yes h = refl
+extend-told No h = refl
+extend-told (Faulty zero q) h = absurd (omega (arith, h 0 q refl))
+extend-told (Faulty (suc n) q) h = refl
+
+pub frame-told : (a : FrameRead) → ((n : ℕ) → a ≡ frame.Refused n → 2 ≤ n) → frameTold (read.readNumber a) (frameCells a) ≡ a
+frame-told frame.More h = refl
+frame-told (frame.Frame header place n) h = refl
+frame-told (frame.Refused zero) h = absurd (omega (arith, h 0 refl))
+frame-told (frame.Refused (suc zero)) h = absurd (omega (arith, h 1 refl))
+frame-told (frame.Refused (suc (suc n))) h = refl
+
+pub written-told : (a : FrameWritten) → ((n : ℕ) → a ≡ written.Refused n → 1 ≤ n) → writtenTold (wrote.writeNumber a) (writtenCells a) ≡ a
+written-told (written.Written n) h = refl
+written-told (written.Refused zero) h = absurd (omega (arith, h 0 refl))
+written-told (written.Refused (suc n)) h = refl
+
+pub read-told : (a : Reading) → ((n q : ℕ) → a ≡ reader.Refused n q → 1 ≤ n) → readTold (readNumber a) (readCells a) ≡ a
+read-told (reader.Shown rows place n) h = refl
+read-told (reader.Refused zero q) h = absurd (omega (arith, h 0 q refl))
+read-told (reader.Refused (suc n) q) h = refl
+
+pub write-told : (a : Writing) → ((n q : ℕ) → a ≡ writer.Refused n q → 1 ≤ n) → writeTold (writeNumber a) (writeCells a) ≡ a
+write-told (writer.Written n) h = refl
+write-told (writer.Refused zero q) h = absurd (omega (arith, h 0 q refl))
+write-told (writer.Refused (suc n) q) h = refl
+
+-- ---- the answers of the entries
+
+pub check-entry : (s : List ℕ) → checkTold (checkNumber (checked s)) (checkCells (checked s)) ≡ checked s
+check-entry s = check-told (checked s) (λ n q e. omega (arith, listed-bounds (tableOf s) (listed s n q e) .0))
+
+-- the first refusal of two tables
+either : (v w : Checked) (b : Bool) {n q : ℕ} → ((m p : ℕ) → v ≡ check.Refused m p → 1 ≤ m) → ((m p : ℕ) → w ≡ check.Refused m p → 1 ≤ m)
+    → ifGood v (ifGood w (cond b Yes No)) ≡ Faulty n q → 1 ≤ n
+either (check.Refused m p) w b {n} f g e = let z : m ≡ n = cc in omega (arith, f m p refl)
+either check.Good (check.Refused m p) b {n} f g e = let z : m ≡ n = cc in omega (arith, g m p refl)
+either check.Good check.Good true f g e = let z : _≡_ {A = ℕ} 0 1 = cc in absurd (omega arith)
+either check.Good check.Good false f g e = let z : _≡_ {A = ℕ} 0 1 = cc in absurd (omega arith)
+
+pub extends-entry : (old new : List ℕ) → extendTold (extendNumber (extension old new)) (extendCells (extension old new)) ≡ extension old new
+unfolding extension
+extends-entry old new =
+    extend-told (extension old new)
+    (λ n q e. either (checked old) (checked new) (extended (tableOf old) (tableOf new)) (λ m p d. omega (arith, listed-bounds (tableOf old) (listed old m p d) .0)) (λ m p d. omega (arith, listed-bounds (tableOf new) (listed new m p d) .0)) e)
+
+pub read-frame-entry : (s : List ℕ) → frameTold (read.readNumber (read.frameOf s)) (frameCells (read.frameOf s)) ≡ read.frameOf s
+read-frame-entry s = frame-told (read.frameOf s) (λ n e. refused-numbers s e .0)
+
+Numbered : FrameWritten → Type 0
+Numbered (written.Written n) = Unit {0}
+Numbered (written.Refused n) = 1 ≤ n
+
+written-number : (h : Header) (p : List ℕ) (room : ℕ) → Numbered (wrote.writtenOf h p room)
+unfolding wrote.writtenOf Numbered
+written-number h p room = go (read.knownKind (h .kind)) (leb (length p) 16384) (leb (length (wrote.frameBytes h p)) room)
+  where
+    go : (a b c : Bool) → Numbered (cond a (cond b (cond c (written.Written (length (wrote.frameBytes h p))) (written.Refused 52)) (written.Refused 7)) (written.Refused 4))
+    go true true true = tt
+    go true true false = lit≤ tt
+    go true false c = lit≤ tt
+    go false b c = lit≤ tt
+
+pub write-frame-entry : (h : Header) (p : List ℕ) (room : ℕ) → let a = wrote.writtenOf h p room in writtenTold (wrote.writeNumber a) (writtenCells a) ≡ a
+unfolding Numbered
+write-frame-entry h p room = written-told (wrote.writtenOf h p room) (λ n e. subst Numbered e (written-number h p room))

@@ -1,0 +1,50 @@
+-- 01's worked example: the record by the file of table T, and its whole output.
+-- Assumes nothing.
+use mathlib.Core.Path.{_≡_, refl}
+use mathlib.Core.List.{List, [], _∷_}
+use Prim.Native.Nat.{ℕ}
+use lib.Count.{onesIn}
+use Rattle.wire.specs.Little as little
+use Rattle.wire.specs.Varuint as varuint
+use Rattle.wire.specs.Utf8 as utf8
+use Rattle.schema.specs.Table as table
+use Rattle.schema.specs.File as file
+use Rattle.schema.specs.Check as check
+use Rattle.schema.proofs.Examples as example
+use Rattle.frame.specs.Frame as frame
+use Rattle.calls.specs.Forms as forms
+use Rattle.calls.specs.Slots as slots
+use Rattle.calls.specs.Judge as judge
+use Rattle.calls.specs.Step as step
+use Rattle.value.specs.Answer as answer
+use Rattle.value.specs.Value as value
+use Rattle.value.specs.Read as read
+use Rattle.reader.specs.Entry as entry
+use Rattle.line.specs.Answer as line
+use Rattle.line.specs.Receive as receive
+use Rattle.listing.specs.Decimal as decimal
+use Rattle.listing.specs.Text as text
+use Rattle.listing.specs.Listing as listing
+
+-- INVOKE 9 `01 07`; RESPONSE 9 `01 01 01 00`; the same again; INVOKE 10 `01 07`; RESPONSE 10 with P5.
+abbrev pub entries : List ℕ
+entries =
+    67 ∷ 175 ∷ 1 ∷ 1 ∷ 1 ∷ 0 ∷ 1 ∷ 0 ∷ 0 ∷ 0 ∷ 2 ∷ 0 ∷ 0 ∷ 0 ∷ 3 ∷ 0 ∷ 0 ∷ 0 ∷ 9 ∷ 0 ∷ 0 ∷ 0 ∷ 0 ∷ 0 ∷ 0 ∷ 0 ∷ 2 ∷ 1 ∷ 7 ∷
+    83 ∷ 175 ∷ 1 ∷ 1 ∷ 6 ∷ 0 ∷ 1 ∷ 0 ∷ 0 ∷ 0 ∷ 2 ∷ 0 ∷ 0 ∷ 0 ∷ 3 ∷ 0 ∷ 0 ∷ 0 ∷ 9 ∷ 0 ∷ 0 ∷ 0 ∷ 0 ∷ 0 ∷ 0 ∷ 0 ∷ 4 ∷ 1 ∷ 1 ∷ 1 ∷ 0 ∷
+    83 ∷ 175 ∷ 1 ∷ 1 ∷ 6 ∷ 0 ∷ 1 ∷ 0 ∷ 0 ∷ 0 ∷ 2 ∷ 0 ∷ 0 ∷ 0 ∷ 3 ∷ 0 ∷ 0 ∷ 0 ∷ 9 ∷ 0 ∷ 0 ∷ 0 ∷ 0 ∷ 0 ∷ 0 ∷ 0 ∷ 4 ∷ 1 ∷ 1 ∷ 1 ∷ 0 ∷
+    67 ∷ 175 ∷ 1 ∷ 1 ∷ 1 ∷ 0 ∷ 1 ∷ 0 ∷ 0 ∷ 0 ∷ 2 ∷ 0 ∷ 0 ∷ 0 ∷ 3 ∷ 0 ∷ 0 ∷ 0 ∷ 10 ∷ 0 ∷ 0 ∷ 0 ∷ 0 ∷ 0 ∷ 0 ∷ 0 ∷ 2 ∷ 1 ∷ 7 ∷
+    83 ∷ 175 ∷ 1 ∷ 1 ∷ 6 ∷ 0 ∷ 1 ∷ 0 ∷ 0 ∷ 0 ∷ 2 ∷ 0 ∷ 0 ∷ 0 ∷ 3 ∷ 0 ∷ 0 ∷ 0 ∷ 10 ∷ 0 ∷ 0 ∷ 0 ∷ 0 ∷ 0 ∷ 0 ∷ 0 ∷ 7 ∷ 1 ∷ 2 ∷ 5 ∷ 0 ∷ 5 ∷ 1 ∷ 7 ∷ []
+
+abbrev pub output : List ℕ
+output =
+    102 ∷ 114 ∷ 97 ∷ 109 ∷ 101 ∷ 32 ∷ 115 ∷ 105 ∷ 100 ∷ 101 ∷ 32 ∷ 107 ∷ 105 ∷ 110 ∷ 100 ∷ 32 ∷ 99 ∷ 97 ∷ 108 ∷ 108 ∷ 32 ∷ 97 ∷ 110 ∷ 115 ∷ 119 ∷ 101 ∷ 114 ∷ 32 ∷ 112 ∷ 108 ∷ 97 ∷ 99 ∷ 101 ∷ 32 ∷ 114 ∷ 111 ∷ 119 ∷ 115 ∷ 32 ∷ 111 ∷ 112 ∷ 101 ∷ 110 ∷ 10 ∷
+    49 ∷ 32 ∷ 67 ∷ 32 ∷ 49 ∷ 32 ∷ 57 ∷ 32 ∷ 48 ∷ 32 ∷ 48 ∷ 32 ∷ 50 ∷ 32 ∷ 49 ∷ 10 ∷
+    50 ∷ 32 ∷ 83 ∷ 32 ∷ 54 ∷ 32 ∷ 57 ∷ 32 ∷ 48 ∷ 32 ∷ 48 ∷ 32 ∷ 52 ∷ 32 ∷ 48 ∷ 10 ∷
+    51 ∷ 32 ∷ 83 ∷ 32 ∷ 54 ∷ 32 ∷ 57 ∷ 32 ∷ 49 ∷ 49 ∷ 32 ∷ 48 ∷ 32 ∷ 48 ∷ 32 ∷ 48 ∷ 10 ∷
+    52 ∷ 32 ∷ 67 ∷ 32 ∷ 49 ∷ 32 ∷ 49 ∷ 48 ∷ 32 ∷ 48 ∷ 32 ∷ 48 ∷ 32 ∷ 50 ∷ 32 ∷ 49 ∷ 10 ∷
+    53 ∷ 32 ∷ 83 ∷ 32 ∷ 54 ∷ 32 ∷ 49 ∷ 48 ∷ 32 ∷ 50 ∷ 54 ∷ 32 ∷ 50 ∷ 32 ∷ 48 ∷ 32 ∷ 48 ∷ 10 ∷
+    115 ∷ 116 ∷ 111 ∷ 112 ∷ 112 ∷ 101 ∷ 100 ∷ 32 ∷ 48 ∷ 32 ∷ 108 ∷ 101 ∷ 102 ∷ 116 ∷ 32 ∷ 48 ∷ 10 ∷ []
+
+pub worked : listing.listing example.file entries ≡ output
+unfolding little.little varuint.front varuint.groups utf8.run utf8.next utf8.leadOf utf8.rows onesIn table.shape file.cell file.shaped file.layoutOf file.tabulate file.tableOf check.lowest check.goodRow check.goodField check.findAmong check.goodMethod check.small check.badRow check.badField check.badMethod check.checkedTable check.checked frame.whole frame.payloadOf frame.frameOf forms.rowOf slots.goodCall slots.goodTable judge.payloadOf judge.judgeOf step.stepOf answer.andThen answer.check answer.block answer.varUInt value.rows value.value read.present read.count read.complete read.bitmap read.walk read.parse read.ending read.rootStruct read.read entry.payloadOutcome line.stopped line.payloadRead line.answered receive.frameLine receive.bytesLine receive.received decimal.digits decimal.decimal text.field text.lineStart text.lineText text.stoppedText listing.freshCalls listing.answerTo listing.headerIn listing.entriesText listing.listing
+worked = refl

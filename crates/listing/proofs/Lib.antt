@@ -1,0 +1,5 @@
+pub mod Texts
+pub mod Decimals
+pub mod Turns
+pub mod Wholes
+pub mod Examples

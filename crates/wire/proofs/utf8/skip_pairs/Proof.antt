@@ -1,0 +1,42 @@
+-- `wire::utf8::skip_pairs` meets its contract: each pair passed is a character.
+-- Assumes nothing.
+use mathlib.Core.Path.{_≡_, refl, _∙_}
+use Prim.Native.Nat.{_+_, _-_, _≤_}
+use native.Mathlib.Omega.{arith}
+use borrow.Author.Needs.{needs}
+use lib.Seq.{slice}
+use Rattle.wire.specs.Utf8.{utf8}
+use Rattle.wire.proofs.Utf8s.{pair-pass}
+use Rattle.wire.proofs.utf8.skip_pairs.Statement.{statement}
+use Rattle.wire.proofs.utf8.skip_pairs.Tie as tie
+
+abbrev Inv-loop : tie.InvT-loop
+Inv-loop s from to i₀ i = ((from ≤ i) × (i ≤ to)) × (utf8 (slice i to s) ≡ utf8 (slice from to s))
+
+abbrev μ-loop : tie.MeasureT-loop
+μ-loop s from to i₀ i = to - i
+
+loop-again : tie.Need-loop-again Inv-loop μ-loop
+loop-again c =
+    let l = c .before .before .before .before .before in
+    let a = l .before .before .args in
+    let w = c .before .is-pair in
+    (omega arith, pair-pass (a .s .now) (l .loop .i) (l .loop .i + 2) (a .to) (w .result) refl (omega arith) (omega arith) (w .ensures) (c .if1 .left) ∙ l .loop .inv .1)
+
+pub skip-pairs-spec : {M : Type 1} → statement M
+skip-pairs-spec =
+    tie.close
+    (tie.spec
+    Inv-loop
+    μ-loop
+    (λ c. (omega arith, refl))
+    (λ c. search needs)
+    (λ c. omega arith)
+    (λ c. omega arith)
+    (λ c. omega arith)
+    (λ c κs. search needs)
+    (λ c. c .before .before .before .before .before .loop .inv)
+    (λ c. omega arith)
+    (λ c. omega arith)
+    loop-again
+    (λ c. c .before .loop .inv))
