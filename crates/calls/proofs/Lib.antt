@@ -4,6 +4,7 @@ pub mod Scan
 pub mod Distinct
 pub mod Schema
 pub mod Letters
+pub mod Sides
 pub mod Searches
 pub mod Goodness
 pub mod Judgement

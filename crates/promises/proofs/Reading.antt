@@ -16,17 +16,19 @@ use Rattle.schema.specs.Table.{struct}
 use Rattle.schema.specs.File.{tableOf}
 use Rattle.schema.specs.Check.{checked, IsGood}
 use Rattle.schema.proofs.Goods.{good-table}
+use Rattle.value.specs.declared.Row.{Row}
 use Rattle.value.specs.Value.{Value, rows, size}
-use Rattle.value.specs.Read.{refusal, read}
-use Rattle.value.specs.Claims.{Rightful}
+use Rattle.value.specs.Read.{refusal, accepted, read}
+use Rattle.value.specs.Claims.{Rightful, Delimited}
 use Rattle.value.specs.Listed.{Listed}
 use Rattle.value.proofs.Reading.{as-root, accepts}
 use Rattle.value.proofs.Statements as value
 use Rattle.reader.specs.declared.Reading.{Reading}
 use Rattle.reader.specs.declared.Reading.the-variants.{Shown, Refused}
+use Rattle.reader.specs.Sheet.{shownIn}
 use Rattle.reader.specs.Entry.{outcome, outcomeOf, room, byTable, readOutcome, payloadOutcome, Numbers, numbers}
 use Rattle.promises.specs.Claims.{shapes, ReadsAs}
-use Rattle.promises.proofs.Entries.{shown-size, read-by, refused-from, reads-of, of-reads}
+use Rattle.promises.proofs.Entries.{shown-size, shown-from, read-by, refused-from, reads-of, of-reads}
 
 -- A payload is accepted and shown as v exactly when it spells v within the limits and the rows fit into the sheet; the tail is what follows the known
 -- fields. This rules out a reader that refuses all (every rightful payload is accepted) and invented rows (they show the value that is spelled).
@@ -47,6 +49,18 @@ too-few-rows s good ty fs st payload sheet v place n q h =
     let b : leb (length (rows (a .tree))) (room sheet) ≡ false = lt-leb (length (rows (a .tree))) (room sheet) (omega (arith, l, h)) in
     let f : read (tableOf s) ty payload (room sheet) ≡ refusal 30 0 = as-root (shapes s) ty payload (room sheet) (a .fs) (a .is-struct) (a .short) ∙ rw (a .reads, b) in
     read-by s ty payload sheet good ∙ ap (outcomeOf sheet) f
+
+-- A payload is accepted exactly with the rows that fit it and delimit its bytes: it decides every cell of every row that is written.
+pub rows-delimit : (s : List ℕ) → IsGood s → (ty : ℕ) (payload sheet : List ℕ) (k place n : ℕ) (after : List ℕ)
+    → (readOutcome s ty payload sheet ≡ outcome (Shown k place n) after)
+    ↔ ((rs : List Row) × Delimited (shapes s) ty payload (room sheet) rs place n × (length rs ≡ k) × (after ≡ shownIn sheet rs))
+rows-delimit s good ty payload sheet k place n after = (
+  λ e. let (rs, a, l, o) = shown-from s ty payload sheet good k place n after e in (rs, iff rs .0 a, l, o),
+  λ (rs, d, l, o). rw (o, ← l) (read-by s ty payload sheet good ∙ ap (outcomeOf sheet) (iff rs .1 d)),
+)
+  where
+    iff : (rs : List Row) → (read (tableOf s) ty payload (room sheet) ≡ accepted rs place n) ↔ Delimited (shapes s) ty payload (room sheet) rs place n
+    iff rs = value.rows-delimit (tableOf s) (good-table s good) ty payload (room sheet) rs place n
 
 refused-by : (c : Checked) (s : List ℕ) (ty : ℕ) (payload sheet : List ℕ) (n q : ℕ) (after : List ℕ)
     → byTable c s ty payload sheet ≡ outcome (Refused n q) after → after ≡ sheet
