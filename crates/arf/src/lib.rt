@@ -68,7 +68,7 @@ pub fn read_frame(bytes: &[u8]) -> FrameRead
     frame::read_frame(bytes)
 }
 
-// Writes a frame with the shortest length: the frame's length, or a refusal's number, which leaves the output as it was.
+// Writes the frame of a header and a payload: the frame's length, or a refusal's number, which leaves the output as it was.
 pub fn write_frame(header: Header, payload: &[u8], out: &mut [u8]) -> FrameWritten
     ensures { λ r. ⌜ (r ≡ writtenOf header (now (payload .entry)) (length (now (out .entry)))) × (now (out .exit) ≡ outputOf r header (now (payload .entry)) (now (out .entry))) ⌝ }
 {

@@ -24,8 +24,9 @@ pub items :
     × (numberAt Two p1 5 ≡ record { item = Number.Is 0x6B6F; next = 7 })
     × (numberAt Four p1 6 ≡ record { item = Number.Refused 20 6; next = 6 })
     × (numberAt One p1 12 ≡ record { item = Number.Refused 20 12; next = 12 })
-    × (varuintAt (0x80 ∷ 0x00 ∷ []) 0 ≡ record { item = Number.Is 0; next = 2 })
+    × (varuintAt (0x80 ∷ 0x01 ∷ []) 0 ≡ record { item = Number.Is 128; next = 2 })
+    × (varuintAt (0x80 ∷ 0x00 ∷ []) 0 ≡ record { item = Number.Refused 21 0; next = 0 })
     × (varuintAt (0x80 ∷ []) 0 ≡ record { item = Number.Refused 20 0; next = 0 })
     × (spanAt (replicate 9 0x80 ++ (0x02 ∷ [])) 0 ≡ record { item = Span.Refused 21 0; next = 0 })
 unfolding little groups front andThen check block varUInt count numberOf span
-items = (refl, refl, refl, refl, refl, refl, refl, refl, refl)
+items = (refl, refl, refl, refl, refl, refl, refl, refl, refl, refl)

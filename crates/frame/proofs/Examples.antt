@@ -1,14 +1,16 @@
--- Worked examples: INVOKE 9 with the payload 01 07, of method 1, 2, 3, byte by byte; and the first fault of a frame's start.
+-- Worked examples: INVOKE 9 with the payload 01 07, of method 1, 2, 3, byte by byte; the first fault of a frame's start; and faults of the length.
 -- Assumes nothing.
 use mathlib.Core.Path.{_≡_, refl}
 use mathlib.Core.List.{List, [], _∷_, _++_, map}
 use Prim.Native.Nat.{ℕ}
 use lib.Dec.{lit<, lit≤}
+use lib.ListN.{take, replicate}
 use Rattle.wire.specs.Little.{little, bytes}
+use Rattle.wire.specs.Varuint.{groups, front}
 use Rattle.wire.proofs.Varuints.{one-byte}
 use Rattle.frame.specs.declared.Header.{Header}
 use Rattle.frame.specs.declared.FrameRead.the-variants.{More, Frame, Refused}
-use Rattle.frame.specs.Frame.{whole, frameOf}
+use Rattle.frame.specs.Frame.{whole, payloadOf, frameOf}
 use Rattle.frame.specs.Written.{frontBytes, frameBytes}
 use Rattle.frame.proofs.Theorems.{frame-read}
 use Rattle.frame.proofs.ReadBack.{shortest-frame}
@@ -74,3 +76,17 @@ starts-judged : map frameOf
     ≡ More ∷ Refused 2 ∷ More ∷ Refused 3 ∷ Refused 4 ∷ Refused 4 ∷ Refused 5 ∷ More ∷ []
 unfolding frameOf whole little
 starts-judged = refl
+
+-- the same front with other lengths: cut; with a spare group, of two bytes and of ten, before the payload is there; ten bytes without one, above 16,384
+lengths-judged : map (λ (l : List ℕ). frameOf (take 25 invoke-bytes ++ l))
+    ((0x80 ∷ [])
+    ∷ (0x80 ∷ 0x00 ∷ [])
+    ∷ (0x82 ∷ 0x00 ∷ payload)
+    ∷ (replicate 9 0x80 ++ (0x00 ∷ []))
+    ∷ (replicate 9 0x80 ++ (0x01 ∷ []))
+    ∷ (0x02 ∷ 0x01 ∷ [])
+    ∷ (0x02 ∷ payload)
+    ∷ [])
+    ≡ More ∷ Refused 6 ∷ Refused 6 ∷ Refused 6 ∷ Refused 7 ∷ More ∷ Frame invoke 26 2 ∷ []
+unfolding frameOf whole payloadOf little front groups invoke payload invoke-bytes
+lengths-judged = refl

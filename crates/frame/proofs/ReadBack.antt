@@ -1,17 +1,18 @@
--- What the frame writer writes is a frame, and is read back as the same header and payload.
+-- What the frame writer writes is a frame, and is read back as the same header and payload. A frame that is read is written again to the same bytes.
 -- Assumes nothing.
-use mathlib.Core.Path.{_≡_, sym, ap, _∙_}
+use mathlib.Core.Path.{_≡_, refl, sym, ap, ap₂, _∙_}
 use mathlib.Core.Logic.{_↔_}
 use mathlib.Core.List.{List, _++_, append-assoc}
-use Prim.Native.Nat.{ℕ, _-_, _^_, _≤_, _<_}
+use Prim.Native.Nat.{ℕ, suc, _+_, _-_, _^_, _≤_, _<_}
 use native.Mathlib.Omega.{arith}
 use borrow.Author.Tests.{leb-true}
 use lib.Dec.{leb}
 use lib.ListN.{length, take, drop}
-use Rattle.wire.specs.Little.{bytes}
+use lib.Seq.{take-at}
+use Rattle.wire.specs.Little.{bytes, Bytes}
 use Rattle.wire.specs.Varuint.{varuintBytes}
-use Rattle.wire.proofs.Numbers.{length-bytes, little-bytes}
-use Rattle.wire.proofs.Varuints.{shortest-spelled}
+use Rattle.wire.proofs.Numbers.{length-bytes, little-bytes, bytes-little, bytes-parts}
+use Rattle.wire.proofs.Varuints.{shortest-spelled, spelled-is}
 use Rattle.wire.proofs.Cases.{chosen, differ}
 use Rattle.frame.specs.declared.Header.{Header}
 use Rattle.frame.specs.declared.FrameRead.the-variants.{Frame}
@@ -21,12 +22,14 @@ use Rattle.frame.specs.Written.{frontBytes, frameBytes, writtenOf, outpu
 use Rattle.frame.specs.IsFrame.{Holds, IsFrame, frame, Fits}
 use Rattle.frame.proofs.Tests.{known-bounds, bounds-known}
 use Rattle.frame.proofs.Writes.{length-frame, fitting}
+use Rattle.frame.proofs.Frames.{read-is-frame}
+use Rattle.frame.proofs.Answers.{read-bounds}
 use Rattle.frame.proofs.Theorems.{starts, payload-there, frame-read}
 
 holds-bytes : (n x : ℕ) → x < 256 ^ n → Holds n x (bytes n x)
 holds-bytes n x h = record { width = length-bytes n x; value = little-bytes n x h }
 
--- the shortest form is a frame
+-- what the writer writes is a frame
 pub shortest-frame : (h : Header) (p : List ℕ) → Fits h → 1 ≤ h .kind → h .kind ≤ 8 → length p ≤ 16384 → IsFrame h p (frameBytes h p)
 unfolding frameBytes frontBytes
 shortest-frame h p fits least most small =
@@ -84,3 +87,48 @@ read-back h p room fits e r =
 pub output-read-back : (h : Header) (p out : List ℕ) {n : ℕ} → Fits h → writtenOf h p (length out) ≡ Written n → ReadBack h p (outputOf (Written n) h p out) n
 unfolding outputOf
 output-read-back h p out {n = n} fits e = read-back h p (length out) fits e (drop n out)
+
+-- ---- the same bytes
+
+held : (n x : ℕ) (b : List ℕ) → Holds n x b → Bytes b → b ≡ bytes n x
+held n x b w u = sym (bytes-little b u) ∙ ap₂ bytes (w .width) (w .value)
+
+-- a header and a payload have one frame
+pub one-frame : {h : Header} {p f : List ℕ} → IsFrame h p f → Bytes f → f ≡ frameBytes h p
+unfolding frameBytes frontBytes
+one-frame (frame {h = h} {«package» = p} {service = s} {method = m} {correlation = c} {payload = q} l lo hi P S M C spells small) u =
+    let afterM = c ++ (l ++ q) in
+    let afterS = m ++ afterM in
+    let afterP = s ++ afterS in
+    let bp = bytes-parts (p ++ afterP) p afterP refl (λ i. u (suc (suc (suc (suc (suc i)))))) in
+    let bs = bytes-parts afterP s afterS refl (bp .1) in
+    let bm = bytes-parts afterS m afterM refl (bs .1) in
+    let bc = bytes-parts afterM c (l ++ q) refl (bm .1) in
+    let bl = bytes-parts (l ++ q) l q refl (bc .1) in
+    simp append-assoc
+    (rw (
+      held 4 (h .«package») p P (bp .0),
+      held 4 (h .service) s S (bs .0),
+      held 4 (h .method) m M (bm .0),
+      held 8 (h .correlation) c C (bc .0),
+      spelled-is (length q) l (bl .0) spells,
+    ))
+
+-- a frame that was read, written from its header and its payload
+pub record WrittenAgain (s : List ℕ) (h : Header) (p : List ℕ) (n : ℕ) (out : List ℕ) : Type 0 where
+  pub answer : writtenOf h p (length out) ≡ Written n
+  pub output : outputOf (Written n) h p out ≡ take n s ++ drop n out
+
+pub written-again : (s : List ℕ) {h : Header} {place n : ℕ} → Bytes s → frameOf s ≡ Frame h place n → (out : List ℕ) → place + n ≤ length out
+    → WrittenAgain s h (take n (drop place s)) (place + n) out
+unfolding outputOf
+written-again s {h = h} {place = place} {n = n} u e out l =
+    let w = read-is-frame s e in
+    let b = read-bounds s e in
+    let same : w .frame ≡ frameBytes h (w .payload) = one-frame (w .is) (bytes-parts s (w .frame) (w .rest) (w .split) u .0) in
+    let size : length (frameBytes h (w .payload)) ≡ place + n = ap length (sym same) ∙ sym (w .end) in
+    let starts : take (place + n) s ≡ w .frame = ap (take (place + n)) (w .split) ∙ take-at (w .frame) (w .rest) (place + n) (sym (w .end)) in
+    let a : Accepted h (w .payload) (length out) (place + n) =
+    record { least = b .least; most = b .most; small = omega (arith, w .size, b .small); size = size; fits = l } in
+    rw (payload-there s w)
+    (record { answer = written-iff h (w .payload) (length out) (place + n) .1 a; output = ap (λ (x : List ℕ). x ++ drop (place + n) out) (sym same ∙ sym starts) })

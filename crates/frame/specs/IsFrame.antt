@@ -13,7 +13,7 @@ pub record Holds (n x : ℕ) (b : List ℕ) : Type 0 where
   pub width : length b ≡ n
   pub value : little b ≡ x
 
--- AF 01, version 1, kind, flags 0, package, service and method, correlation, the payload's length in any spelling, payload
+-- AF 01, version 1, kind, flags 0, package, service and method, correlation, the payload's length as a VarUInt, payload
 pub data IsFrame : (h : Header) (payload frame : List ℕ) → Type 0 where
   frame : {h : Header} {«package» service method correlation payload : List ℕ} (size : List ℕ)
       → 1 ≤ h .kind

@@ -1,6 +1,6 @@
 -- What the frame writer writes, and what its answers stand for.
 -- Assumes nothing.
-use Prim.Native.Nat.{ℕ, _+_}
+use Prim.Native.Nat.{ℕ}
 use mathlib.Core.Bool.{cond}
 use mathlib.Core.List.{List, _∷_, _++_}
 use lib.Dec.{leb}
@@ -17,7 +17,7 @@ unfoldable pub frontBytes : Header → ℕ → List ℕ
 frontBytes h n =
     0xAF ∷ 0x01 ∷ 0x01 ∷ h .kind ∷ 0x00 ∷ (bytes 4 (h .«package») ++ (bytes 4 (h .service) ++ (bytes 4 (h .method) ++ (bytes 8 (h .correlation) ++ varuintBytes n))))
 
--- the frame with the shortest length
+-- the whole frame
 unfoldable pub frameBytes : Header → List ℕ → List ℕ
 frameBytes h p = frontBytes h (length p) ++ p
 

@@ -198,7 +198,7 @@ fn write_front(out: &mut [u8], header: Header, n: u64)
     wire::varuint::write(out, 25, n);
 }
 
-// Writes a frame with the shortest length. A refusal (4, 7, 52 in this order) leaves the output as it was.
+// Writes the frame of a header and a payload. A refusal (4, 7, 52 in this order) leaves the output as it was.
 pub fn write_frame(header: Header, payload: &[u8], out: &mut [u8]) -> FrameWritten
     ensures { λ r. ⌜ (r ≡ writtenOf header (now (payload .entry)) (length (now (out .entry)))) × (now (out .exit) ≡ outputOf r header (now (payload .entry)) (now (out .entry))) ⌝ }
 {

@@ -15,7 +15,8 @@ use lib.ListN.{length, take, drop, length-drop}
 use lib.Pow.{pow-pos, shr-lt}
 use lib.Seq.{drop-cons, length-take-le}
 use Rattle.wire.specs.Bitmap.{Present}
-use Rattle.wire.proofs.Numbers.{Bytes, little-below, pow-bytes}
+use Rattle.wire.specs.Little.{Bytes}
+use Rattle.wire.proofs.Numbers.{little-below, pow-bytes}
 use Rattle.wire.proofs.Bitmaps.{known-count, unknown-count}
 use Rattle.schema.specs.declared.Field.{Field}
 use Rattle.schema.specs.Table.{Table, bitmapBytes}

@@ -1,7 +1,7 @@
 -- Demand 3: what the readers by an old schema file and by a new one that extends it answer to each other's payloads.
 -- Assumes nothing.
 use mathlib.Core.Path.{_≡_, refl, sym, ap, _∙_, subst}
-use mathlib.Core.List.{List, [], _∷_, _++_}
+use mathlib.Core.List.{List, [], _++_}
 use mathlib.Core.Option.{Option, none, some}
 use mathlib.Core.Bool.{Bool, true, false, cond}
 use Prim.Native.Nat.{ℕ, _/_, _≤_}
@@ -9,7 +9,7 @@ use native.Mathlib.Omega.{arith}
 use borrow.Author.Tests.{le-leb, lt-leb}
 use lib.Dec.{leb}
 use lib.ListN.{length, take}
-use Rattle.wire.proofs.Cases.{differ}
+use Rattle.wire.proofs.Cases.{differ, nothing-left}
 use Rattle.schema.specs.declared.Field.{Field}
 use Rattle.schema.specs.declared.Checked.{Checked}
 use Rattle.schema.specs.declared.Checked.the-variants.{Good, Refused as Faulty}
@@ -22,7 +22,7 @@ use Rattle.schema.proofs.Goods.{good-table}
 use Rattle.schema.proofs.Extending.{yes-iff}
 use Rattle.value.specs.declared.Row.{Row}
 use Rattle.value.specs.Value.{Value, size}
-use Rattle.value.specs.Read.{refusal, accepted, read}
+use Rattle.value.specs.Read.{refusal, read}
 use Rattle.value.specs.Sheet.{rowsOf}
 use Rattle.value.specs.Spell.{RootSpells}
 use Rattle.value.specs.Fits.{Shows}
@@ -35,7 +35,7 @@ use Rattle.writer.specs.declared.Writing.the-variants.{Written}
 use Rattle.writer.specs.Entry as writer
 use Rattle.writer.specs.Entry.{fileOutcome}
 use Rattle.promises.specs.Claims.{shapes, firstRows, ReadsAs, OldAnswers, NewByOld}
-use Rattle.promises.proofs.Entries.{rows-back, shown-size, refused-from, read-by, shown-from, accepted-shows, reads-of, written-is}
+use Rattle.promises.proofs.Entries.{rows-back, shown-size, refused-from, read-by, shown-from, reads-of, written-is}
 use Rattle.promises.proofs.ReadBack.{read-back}
 
 -- ---- two files for which the answer is yes are good, and the new table extends the old one
@@ -44,10 +44,6 @@ both-good : (c c′ : Checked) (b : Bool) → ifGood c (ifGood c′ (cond b Yes 
 both-good Good Good b e = (refl, refl)
 both-good Good (Faulty n p) b e = differ cc
 both-good (Faulty n p) c′ b e = differ cc
-
-empty : (l : List ℕ) → length l ≡ 0 → l ≡ []
-empty [] e = refl
-empty (x ∷ l) e = absurd (omega arith)
 
 module _ (old new : List ℕ) (yes : extension old new ≡ Yes) where
   goods : IsGood old × IsGood new
@@ -83,10 +79,10 @@ module _ (old new : List ℕ) (yes : extension old new ≡ Yes) where
                   read-by old ty payload sheet (goods .0) ∙ ap (outcomeOf sheet) f,
             )
 
-        -- A payload without unknown bits that the new rules allow as v, within the limits and however its lengths are spelled: what the old reader
-        -- answers. It is 26 exactly where an inner struct that is reached through known fields carries an added field, at the first such struct's
-        -- bitmap; otherwise the value without the added fields is shown, and the tail is exact. This rules out an old reader that
-        -- refuses all that a new writer writes, one that skips an unknown bit in an inner struct, and one that calls any tail fine.
+        -- A payload without unknown bits that the new rules allow as v, within the limits: what the old reader answers. It is 26 exactly where an inner
+        -- struct that is reached through known fields carries an added field, at the first such struct's bitmap; otherwise the value without the added
+        -- fields is shown, and the tail is exact. This rules out an old reader that refuses all that a new writer writes, one that skips an unknown bit
+        -- in an inner struct, and one that calls any tail fine.
         pub new-by-old : RootSpells (shapes new) (fs ++ gs) v payload [] → length payload ≤ 16384 → NewByOld old new ty fs gs payload sheet v
         new-by-old q short =
             let (tree, end, e, u, a, iff) = value.new-by-old (tableOf old) (tableOf new) (good-table old (goods .0)) (good-table new (goods .1)) extends ty fs st gs st′ payload (room sheet) v q short in (
@@ -111,7 +107,7 @@ module _ (old new : List ℕ) (yes : extension old new ≡ Yes) where
           let shows′ : Shows (shapes new) B ty (fs ++ gs) (rowsOf cells) v = subst (λ (l : List Field). Shows (shapes new) B ty l (rowsOf cells) v) same shows in
           let (tail, q, short, _, bare, _) = value.accepted-iff-spelled (tableOf new) (good-table new (goods .1)) ty hs is bs (length (rowsOf cells)) v (length bs) 0 .0 r in
           let q′ : RootSpells (shapes new) (fs ++ gs) v bs [] =
-          subst (λ (z : List ℕ). RootSpells (shapes new) (fs ++ gs) v bs z) (empty tail bare) (subst (λ (l : List Field). RootSpells (shapes new) l v bs tail) same q) in
+          subst (λ (z : List ℕ). RootSpells (shapes new) (fs ++ gs) v bs z) (nothing-left tail bare) (subst (λ (l : List Field). RootSpells (shapes new) l v bs tail) same q) in
           (v, shows′, subst (λ (p : List ℕ). NewByOld old new ty fs gs p sheet v) (sym t) (new-by-old bs sheet v q′ short))
 
       -- A payload that the old reader accepts, with no added field's bit set: the new reader gives the same answer, with the same tail, and the same

@@ -1,4 +1,5 @@
--- Demand 2, the writer and both together: what `write` writes is read back as the value of its sheet, and what `read` shows is written.
+-- Demand 2, the writer and both together: what `write` writes is read back as the value of its sheet, and what `read` shows is written, without
+-- unknown bits to the same bytes.
 -- Assumes nothing.
 use mathlib.Core.Path.{_≡_, refl, ap, _∙_}
 use mathlib.Core.Logic.{_⊎_, inl, inr, _↔_}
@@ -6,7 +7,7 @@ use mathlib.Core.List.{List, _++_}
 use Prim.Native.Nat.{ℕ, _*_, _/_, _≤_}
 use native.Mathlib.Omega.{arith}
 use lib.ListN.{length, take, drop}
-use Rattle.wire.proofs.Numbers.{Bytes}
+use Rattle.wire.specs.Little.{Bytes}
 use Rattle.wire.proofs.Cases.{differ}
 use Rattle.schema.specs.declared.Field.{Field}
 use Rattle.schema.specs.declared.Checked.{Checked}
@@ -17,6 +18,7 @@ use Rattle.schema.specs.Check.{checked, IsGood}
 use Rattle.schema.proofs.Goods.{good-table}
 use Rattle.value.specs.declared.Row.{Row}
 use Rattle.value.specs.Value.{Value}
+use Rattle.value.specs.Read.{rootBits, unknownBits}
 use Rattle.value.specs.Write.{Writing, refusal, written, write}
 use Rattle.value.specs.Sheet.{rowsOf}
 use Rattle.value.specs.Fits.{Shows}
@@ -30,6 +32,7 @@ use Rattle.writer.specs.declared.Writing.the-variants.{Written, Refused}
 use Rattle.writer.specs.Entry as writer
 use Rattle.writer.specs.Entry.{fileOutcome}
 use Rattle.promises.specs.Claims.{shapes, firstRows, ReadsAs}
+use Rattle.promises.proofs.Reading.{tail-iff-unknown}
 use Rattle.promises.proofs.Entries.{rows-back, shown-good, shown-from, reads-of, write-by, written-good, written-is}
 
 -- By a good file a sheet over its bytes is accepted exactly when it shows a value whose encoding is a payload and fits into the output. The encoding
@@ -99,6 +102,22 @@ module _ (s : List ℕ) (ty : ℕ) (sheet B out : List ℕ) (n : ℕ) (out′ : 
       let (fs, v, st, shows, r) = value.read-back (tableOf s) (good-table s good) ty (rowsOf sheet) B (length out) bs w (room sheet′) (omega (arith, length-rows sheet, h)) in
       (fs, v, st, shows, whole s ty fs v sheet′ bs (take n out′) n t l (reads-of s ty bs sheet′ good fs v (length bs) 0 r))
 
+-- What the writer answers to just the rows shown over the payload.
+rewritten : (s : List ℕ) (ty : ℕ) (payload sheet : List ℕ) (k place n : ℕ) (after : List ℕ) → Bytes payload
+    → readOutcome s ty payload sheet ≡ outcome (Shown k place n) after
+    → (out : List ℕ) → length payload ≤ length out
+    → (bs : List ℕ) × (fileOutcome s ty (take (4 * k) after) payload out ≡ writer.outcome (Written (length bs)) (bs ++ drop (length bs) out))
+    × (length bs ≤ length payload)
+    × (n ≡ 0 → bs ≡ payload)
+    × (length (firstRows k after) ≡ k)
+rewritten s ty payload sheet k place n after b e out h =
+    let good = shown-good s ty payload sheet k place n after e in
+    let (rs, a, k-is, after-is) = shown-from s ty payload sheet good k place n after e in
+    let same : firstRows k after ≡ rs = rows-back sheet rs k after k-is after-is in
+    let (_, _, bs, _, _, w, short, bare, _) = value.read-then-write (tableOf s) (good-table s good) ty payload (room sheet) rs place n b a (length out) h in
+    let w′ = ap (λ (l : List Row). write (tableOf s) ty l payload (length out)) same ∙ w in
+    (bs, write-by s ty (take (4 * k) after) payload out good ∙ ap (writer.outcomeOf out) w′, short, bare, ap length same ∙ k-is)
+
 -- What is read, given to the writer as just the rows shown over the payload, is accepted where the output is as long as the payload, and written in
 -- no more bytes. These are read as the same value, the root's unknown bits and tail gone. Every lent slice of bytes meets `Bytes`.
 pub read-then-write : (s : List ℕ) (ty : ℕ) (payload sheet : List ℕ) (k place n : ℕ) (after : List ℕ) → Bytes payload
@@ -111,16 +130,23 @@ pub read-then-write : (s : List ℕ) (ty : ℕ) (payload sheet : List ℕ) (k pl
     × Shows (shapes s) payload ty fs (firstRows k after) v
     × ReadsAs s ty fs (take m out′) sheet′ v m 0)
 read-then-write s ty payload sheet k place n after b e out h sheet′ h′ =
-    let good = shown-good s ty payload sheet k place n after e in
-    let (rs, a, k-is, after-is) = shown-from s ty payload sheet good k place n after e in
-    let same : firstRows k after ≡ rs = rows-back sheet rs k after k-is after-is in
-    let (_, _, bs, _, _, w, short, _) = value.read-then-write (tableOf s) (good-table s good) ty payload (room sheet) rs place n b a (length out) h in
-    let w′ : write (tableOf s) ty (firstRows k after) payload (length out) ≡ written bs = ap (λ (l : List Row). write (tableOf s) ty l payload (length out)) same ∙ w in
-    let f = write-by s ty (take (4 * k) after) payload out good ∙ ap (writer.outcomeOf out) w′ in
-    let rows : length (firstRows k after) ≡ k = ap length same ∙ k-is in (
+    let (bs, f, short, _, rows) = rewritten s ty payload sheet k place n after b e out h in (
       length bs,
       bs ++ drop (length bs) out,
       f,
       short,
       read-back s ty (take (4 * k) after) payload out (length bs) (bs ++ drop (length bs) out) f sheet′ (omega (arith, length-rows (take (4 * k) after), rows, h′)),
     )
+
+-- What is read without unknown bits has no tail, and is written back to the same bytes where the output is as long. Every lent slice of bytes meets
+-- `Bytes`.
+pub same-bytes : (s : List ℕ) (ty : ℕ) (fs : List Field) → shapes s ty ≡ struct fs
+    → (payload sheet : List ℕ) (k place n : ℕ) (after : List ℕ) → Bytes payload
+    → readOutcome s ty payload sheet ≡ outcome (Shown k place n) after
+    → unknownBits fs (rootBits fs payload) ≡ 0
+    → (out : List ℕ) → length payload ≤ length out
+    → (n ≡ 0) × (fileOutcome s ty (take (4 * k) after) payload out ≡ writer.outcome (Written (length payload)) (payload ++ drop (length payload) out))
+same-bytes s ty fs st payload sheet k place n after b e known out h =
+    let none = tail-iff-unknown s ty fs st payload sheet k place n after e .1 known in
+    let (bs, f, _, bare, _) = rewritten s ty payload sheet k place n after b e out h in
+    (none, rw (bare none) at f)

@@ -18,7 +18,7 @@ use Rattle.schema.specs.Check.{checked, IsGood}
 use Rattle.schema.proofs.Goods.{good-table}
 use Rattle.value.specs.declared.Row.{Row}
 use Rattle.value.specs.Value.{Value, rows, size}
-use Rattle.value.specs.Read.{refusal, accepted, read}
+use Rattle.value.specs.Read.{rootBits, unknownBits, refusal, accepted, read}
 use Rattle.value.specs.Claims.{Rightful, Delimited}
 use Rattle.value.specs.Listed.{Listed}
 use Rattle.value.proofs.Reading.{as-root, accepts}
@@ -28,7 +28,7 @@ use Rattle.reader.specs.declared.Reading.the-variants.{Shown, Refused}
 use Rattle.reader.specs.Sheet.{shownIn}
 use Rattle.reader.specs.Entry.{outcome, outcomeOf, room, byTable, readOutcome, payloadOutcome, Numbers, numbers}
 use Rattle.promises.specs.Claims.{shapes, ReadsAs}
-use Rattle.promises.proofs.Entries.{shown-size, shown-from, read-by, refused-from, reads-of, of-reads}
+use Rattle.promises.proofs.Entries.{shown-size, shown-good, shown-from, read-by, refused-from, reads-of, of-reads}
 
 -- A payload is accepted and shown as v exactly when it spells v within the limits and the rows fit into the sheet; the tail is what follows the known
 -- fields. This rules out a reader that refuses all (every rightful payload is accepted) and invented rows (they show the value that is spelled).
@@ -61,6 +61,14 @@ rows-delimit s good ty payload sheet k place n after = (
   where
     iff : (rs : List Row) → (read (tableOf s) ty payload (room sheet) ≡ accepted rs place n) ↔ Delimited (shapes s) ty payload (room sheet) rs place n
     iff rs = value.rows-delimit (tableOf s) (good-table s good) ty payload (room sheet) rs place n
+
+-- What is read has no tail exactly where no unknown bit of its root is set.
+pub tail-iff-unknown : (s : List ℕ) (ty : ℕ) (fs : List Field) → shapes s ty ≡ struct fs → (payload sheet : List ℕ) (k place n : ℕ) (after : List ℕ)
+    → readOutcome s ty payload sheet ≡ outcome (Shown k place n) after → (n ≡ 0) ↔ (unknownBits fs (rootBits fs payload) ≡ 0)
+tail-iff-unknown s ty fs st payload sheet k place n after e =
+    let good = shown-good s ty payload sheet k place n after e in
+    let (rs, a, _, _) = shown-from s ty payload sheet good k place n after e in
+    value.tail-iff-unknown (tableOf s) (good-table s good) ty fs st payload (room sheet) rs place n a
 
 refused-by : (c : Checked) (s : List ℕ) (ty : ℕ) (payload sheet : List ℕ) (n q : ℕ) (after : List ℕ)
     → byTable c s ty payload sheet ≡ outcome (Refused n q) after → after ≡ sheet

@@ -8,7 +8,8 @@ use native.Mathlib.Omega.{arith}
 use lib.ListN.{length, take, drop, length-drop}
 use lib.Seq.{length-take-le}
 use Rattle.wire.specs.Bitmap.{Present}
-use Rattle.wire.proofs.Numbers.{Bytes, bytes-drop, bytes-take}
+use Rattle.wire.specs.Little.{Bytes}
+use Rattle.wire.proofs.Numbers.{bytes-drop, bytes-take}
 use Rattle.schema.specs.Table.{Table}
 use Rattle.value.specs.Answer.{Accepted, seen, andThen, check, cursorAt}
 use Rattle.value.specs.Read.{complete, bitmap}

@@ -2,7 +2,7 @@
 -- Assumes nothing.
 use mathlib.Core.Path.{_≡_, refl, sym, ap, ap₂, _∙_}
 use mathlib.Core.Bool.{Bool, true, false, cond}
-use mathlib.Core.List.{List, [], _∷_}
+use mathlib.Core.List.{List}
 use Prim.Native.Nat.{ℕ, zero, suc, _+_, _-_, _*_, _^_, _<_}
 use native.Mathlib.Omega.{arith}
 use borrow.Author.Tests.{eqb-true}
@@ -10,8 +10,8 @@ use lib.Dec.{leb, ltb, eqb}
 use lib.Ieee.{binary32, binary64, ofBits}
 use lib.IntN.{pos, negsuc, pos-ne-negsuc}
 use lib.ListN.{length}
-use Rattle.wire.specs.Little.{little, twos}
-use Rattle.wire.proofs.Numbers.{Bytes, little-below, sign-weight}
+use Rattle.wire.specs.Little.{little, twos, bytes, Bytes}
+use Rattle.wire.proofs.Numbers.{bytes-little, little-below, sign-weight}
 use Rattle.schema.specs.Table.{width}
 use Rattle.scalar.specs.declared.Scalar.{Scalar}
 use Rattle.scalar.specs.declared.Scalar.the-variants.{Truth, Signed, Unsigned, Float32, Float64}
@@ -29,12 +29,7 @@ numbered a b c d half n =
 
 -- A number of so many bytes has one spelling.
 little-once : (x y : List ℕ) → Bytes x → Bytes y → length x ≡ length y → little x ≡ little y → x ≡ y
-unfolding little
-little-once [] [] p q l e = refl
-little-once [] (b ∷ y) p q l e = absurd (omega arith)
-little-once (a ∷ x) [] p q l e = absurd (omega arith)
-little-once (a ∷ x) (b ∷ y) p q l e =
-    ap₂ {C = List ℕ} _∷_ (omega (arith, p 0, q 0)) (little-once x y (λ i. p (suc i)) (λ i. q (suc i)) (omega arith) (omega (arith, p 0, q 0)))
+little-once x y p q l e = sym (bytes-little x p) ∙ ap₂ bytes l e ∙ bytes-little y q
 
 -- And two's complement is one to one.
 twos-once : (half m n : ℕ) → m < half + half → n < half + half → twos half m ≡ twos half n → m ≡ n

@@ -7,7 +7,7 @@ use mathlib.Core.Bool.{Bool, true, false, cond}
 use Prim.Native.Nat.{ℕ, zero, suc, _+_, _-_, _*_, _/_, _%_, _^_, _≤_, _<_}
 use native.Mathlib.Omega.{arith}
 use native.Mathlib.Decide.{decLt}
-use native.Mathlib.Nat.{pow-succ', div-div-eq-div-mul, div-one, zero-add, suc-add, mod-lt, div-lt-iff-lt-mul, div-mul-le-self, mul-le-mul-right}
+use native.Mathlib.Nat.{pow-succ', div-div-eq-div-mul, div-one, zero-add, suc-add, mod-lt, mod-eq-of-lt, div-lt-iff-lt-mul, div-mul-le-self, mul-le-mul-right}
 use native.Mathlib.Numerals.{add-one}
 use borrow.Author.Tests.{eqb-true, eqb-false}
 use lib.Count.{onesIn, ones}
@@ -139,6 +139,15 @@ pub unknown-ones : (fs : List Field) (m : ℕ) → m < 2 ^ (8 * bitmapBytes (len
 unknown-ones fs m h =
     let e : 8 * bitmapBytes (length fs) ≡ 8 * bitmapBytes (length fs) - length fs + length fs = omega arith in
     sym (ones-in (8 * bitmapBytes (length fs) - length fs) (m / 2 ^ length fs) (shr-lt (8 * bitmapBytes (length fs) - length fs) (length fs) (rw e at h)))
+
+-- Where no unknown bit is set, all bits are known.
+pub all-known : (fs : List Field) (m : ℕ) → m < 2 ^ (8 * bitmapBytes (length fs)) → unknownBits fs m ≡ 0 → knownBits fs m ≡ m
+all-known fs m h z =
+    let k = 8 * bitmapBytes (length fs) - length fs in
+    let e : 8 * bitmapBytes (length fs) ≡ k + length fs = omega arith in
+    let high : m / 2 ^ length fs ≡ 0 = sym (mod-eq-of-lt (shr-lt k (length fs) (rw e at h))) ∙ none-set k (m / 2 ^ length fs) z in
+    let none : m / 2 ^ length fs < 1 = omega arith in
+    mod-eq-of-lt (omega (arith, div-lt-iff-lt-mul (pow-pos (length fs)) .0 none))
 
 -- A bit at or beyond n is set exactly in the numbers from 2 ^ n on.
 some-bit : (k x : ℕ) → x ≤ k → 0 < x → (j : ℕ) × (x / 2 ^ j % 2 ≡ 1)

@@ -62,7 +62,7 @@ worked =
     ∷ case 4 (0x05 ∷ 0x01 ∷ 0x01 ∷ 0x07 ∷ 0x09 ∷ []) 4096 (accepted (row 4 0 4 1 ∷ row 3 2 2 1 ∷ row 2 2 2 1 ∷ row 0 3 1 0 ∷ []) 4 1)
     ∷ case 4 (0x01 ∷ 0x01 ∷ 0x01 ∷ 0x07 ∷ 0x09 ∷ []) 4096 (refusal 27 4)
     ∷ case 4 (0x05 ∷ 0x01 ∷ 0x01 ∷ 0x07 ∷ []) 4096 (refusal 20 4)
-    ∷ case 4 (0x01 ∷ 0x80 ∷ 0x00 ∷ []) 4096 (accepted (row 4 0 3 1 ∷ row 3 3 0 0 ∷ []) 3 0)
+    ∷ case 4 (0x01 ∷ 0x80 ∷ 0x00 ∷ []) 4096 (refusal 21 1)
     ∷ case 4 (0x01 ∷ 0x02 ∷ 0x01 ∷ 0x07 ∷ []) 4096 (refusal 20 4)
     ∷ []
 
@@ -123,14 +123,27 @@ faults =
     ∷ case 5 (0x04 ∷ 0x02 ∷ 0x61 ∷ []) 9 (refusal 20 1)
     ∷ case 5 (0x04 ∷ (replicate 9 0x80 ++ (0x02 ∷ []))) 9 (refusal 21 1)
     ∷ case 5 (0x04 ∷ replicate 9 0x80) 9 (refusal 20 1)
-    -- A map: twice its count is above what remains; a key that was there before, with its length spelled otherwise and its value missing.
+    -- The length with a spare group, of two bytes and of ten, before what remains is looked at; ten bytes without one; cut after one byte.
+    ∷ case 5 (0x04 ∷ 0x81 ∷ 0x00 ∷ 0x61 ∷ []) 9 (refusal 21 1)
+    ∷ case 5 (0x04 ∷ 0x82 ∷ 0x00 ∷ 0x61 ∷ []) 9 (refusal 21 1)
+    ∷ case 5 (0x04 ∷ (replicate 9 0x80 ++ (0x00 ∷ []))) 9 (refusal 21 1)
+    ∷ case 5 (0x04 ∷ (replicate 9 0x80 ++ (0x01 ∷ []))) 9 (refusal 20 1)
+    ∷ case 5 (0x04 ∷ 0x80 ∷ []) 9 (refusal 20 1)
+    -- A count the same: of a map, and of an array.
+    ∷ case 5 (0x02 ∷ 0x80 ∷ 0x00 ∷ []) 9 (refusal 21 1)
+    ∷ case 5 (0x02 ∷ (replicate 9 0x80 ++ (0x00 ∷ []))) 9 (refusal 21 1)
+    ∷ case 5 (0x02 ∷ 0x80 ∷ []) 9 (refusal 20 1)
+    ∷ case 5 (0x10 ∷ 0x81 ∷ 0x00 ∷ 0x00 ∷ []) 9 (refusal 21 1)
+    ∷ case 5 (0x10 ∷ (replicate 9 0x80 ++ (0x01 ∷ []))) 9 (refusal 20 1)
+    -- A map: twice its count is above what remains; a key that was there before, with its value missing; a later key whose length has a spare group.
     ∷ case 5 (0x02 ∷ 0x01 ∷ 0x00 ∷ []) 9 (refusal 20 1)
-    ∷ case 5 (0x02 ∷ 0x02 ∷ 0x01 ∷ 0x61 ∷ 0x05 ∷ 0x81 ∷ 0x00 ∷ 0x61 ∷ []) 9 (refusal 24 5)
+    ∷ case 5 (0x02 ∷ 0x02 ∷ 0x01 ∷ 0x61 ∷ 0x05 ∷ 0x01 ∷ 0x61 ∷ []) 9 (refusal 24 5)
+    ∷ case 5 (0x02 ∷ 0x02 ∷ 0x01 ∷ 0x61 ∷ 0x05 ∷ 0x81 ∷ 0x00 ∷ 0x61 ∷ []) 9 (refusal 21 5)
     ∷ case 5 (0x02 ∷ 0x02 ∷ 0x01 ∷ 0x61 ∷ 0x05 ∷ 0x01 ∷ 0x62 ∷ 0x06 ∷ []) 9
     (accepted (row 5 0 8 1 ∷ row 3 2 6 2 ∷ row 2 3 1 0 ∷ row 1 4 1 0 ∷ row 2 6 1 0 ∷ row 1 7 1 0 ∷ []) 8 0)
-    -- The tail: a byte for each unknown bit. Surplus bytes without one.
+    -- The tail: a byte for each unknown bit, which is not read. Surplus bytes without one.
     ∷ case 5 (0xC0 ∷ 0x09 ∷ []) 9 (refusal 20 1)
-    ∷ case 5 (0xC0 ∷ 0x09 ∷ 0x09 ∷ []) 9 (accepted (row 5 0 1 0 ∷ []) 1 2)
+    ∷ case 5 (0xC0 ∷ 0x80 ∷ 0x00 ∷ []) 9 (accepted (row 5 0 1 0 ∷ []) 1 2)
     ∷ case 5 (0x00 ∷ 0x09 ∷ []) 9 (refusal 27 1)
     -- Depth 16 is allowed. 28 comes before a missing child, and a count above what remains before 28.
     ∷ case 5 (replicate 15 0x01 ++ (0x00 ∷ [])) 15 (refusal 30 0)

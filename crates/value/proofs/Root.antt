@@ -1,18 +1,21 @@
 -- The root is accepted exactly when the payload spells it.
 -- Assumes nothing.
-use mathlib.Core.Path.{_≡_, refl, ap, _∙_}
+use mathlib.Core.Path.{_≡_, refl, sym, ap, subst, _∙_}
 use mathlib.Core.List.{List, [], _∷_, _++_}
 use mathlib.Core.Bool.{Bool, true, false, cond}
 use Prim.Native.Nat.{ℕ, zero, suc, _/_, _%_}
 use native.Mathlib.Omega.{arith}
 use lib.Dec.{eqb}
+use lib.ListN.{length}
+use lib.Seq.{take-at}
 use borrow.Author.Tests.{leb-true, le-leb, eqb-true, eq-eqb}
+use Rattle.wire.specs.Little.{little}
 use Rattle.schema.specs.declared.Field.{Field}
-use Rattle.schema.specs.Table.{Shape, struct}
+use Rattle.schema.specs.Table.{Shape, struct, bitmapBytes}
 use Rattle.value.specs.Answer.{Cursor, seen}
 use Rattle.value.specs.Value.{Value, leaf, node, Values, none, some, value}
-use Rattle.value.specs.Read.{Item, present, plan, parse, ending, rootStruct}
-use Rattle.value.specs.Spell.{Spells, TailFits, RootSpells}
+use Rattle.value.specs.Read.{Item, present, plan, parse, rootBits, unknownBits, ending, rootStruct}
+use Rattle.value.specs.Spell.{BitmapSpells, Spells, TailFits, RootSpells}
 use Rattle.value.proofs.Shapes.{Solid}
 use Rattle.value.proofs.Answers.{Seen, value as holds, seen-then, check-true, check-stays, reads-end, Yields, gives, yields-then, goes, passes}
 use Rattle.value.proofs.Keys.{Fresh}
@@ -40,6 +43,17 @@ unkeyed-fresh keys (i ∷ is) (some v vs) u = (rw (u .0), unkeyed-fresh _ is vs 
 
 pub struct-fresh : (fs : List Field) (m : ℕ) (vs : Values) → Fresh [] (present fs m) vs
 struct-fresh fs m vs = unkeyed-fresh [] (present fs m) vs (present-unkeyed fs m)
+
+-- The bits of the bitmap at the front of some bytes.
+pub bits-in-front : (fs : List Field) (m : ℕ) (x y u : List ℕ) → u ≡ x ++ y → BitmapSpells fs m x → rootBits fs u ≡ m
+bits-in-front fs m x y u e q = ap (rootBits fs) e ∙ ap little (take-at x y (bitmapBytes (length fs)) (q .0)) ∙ q .1
+
+-- The tail of a payload fits the root's unknown bits.
+pub root-tail : (S : ℕ → Shape) (fs : List Field) (v : Value) (payload z : List ℕ) → RootSpells S fs v payload z → TailFits (unknownBits fs (rootBits fs payload)) z
+root-tail S fs (leaf x) payload z q = absurd q
+root-tail S fs (node h vs) payload z q =
+    let (m, x, y, e, bitmap, _, _, fits) = q in
+    subst (λ (n : ℕ). TailFits (unknownBits fs n) z) (sym (bits-in-front fs m x (y ++ z) payload e bitmap)) fits
 
 pub ending-sound : (k : ℕ) (c c′ : Cursor) (u : Unit {0}) → ending k c ≡ seen u c′ → (c ≡ c′) × TailFits k (c .left)
 unfolding ending

@@ -1,20 +1,19 @@
 -- What the root readers by an old table and by a table that extends it say of the same payload.
 -- Assumes nothing.
-use mathlib.Core.Path.{_≡_, refl, sym, ap, _∙_, subst}
+use mathlib.Core.Path.{_≡_, refl, ap, _∙_}
 use mathlib.Core.List.{List, [], _∷_, _++_, append-nil}
 use mathlib.Core.Option.{Option, none, some}
 use mathlib.Core.Bool.{Bool, false, not, _&&_}
 use Prim.Native.Nat.{ℕ, suc, _+_, _/_, _^_, _≤_}
 use native.Mathlib.Omega.{arith}
-use lib.ListN.{length, length-append, take}
-use lib.Seq.{take-at}
-use Rattle.wire.specs.Little.{little}
+use lib.ListN.{length, length-append}
+use Rattle.wire.proofs.Cases.{nothing-left}
 use Rattle.schema.specs.declared.Field.{Field}
 use Rattle.schema.specs.Table.{Shape, struct, bitmapBytes}
 use Rattle.value.specs.declared.Row.{Row}
 use Rattle.value.specs.Answer.{Cursor, seen, Reader, andThen, check}
 use Rattle.value.specs.Value.{Value, Values, none as empty, some as and, Tree, tip, branch, Forest, stop, plus, value, values, content}
-use Rattle.value.specs.Read.{Item, counted, nodeRow, present, bitmap, walk, parse, knownBits, unknownBits, ending, rootStruct, among, withKey}
+use Rattle.value.specs.Read.{Item, counted, nodeRow, present, bitmap, walk, parse, rootBits, knownBits, unknownBits, ending, rootStruct, among, withKey}
 use Rattle.value.specs.Spell.{AllSpell, Spells, TailFits}
 use Rattle.value.proofs.Shapes.{FieldsBelow, Optional, Extension}
 use Rattle.value.specs.Added.{firstAdded, reachedAll, NoneAdded}
@@ -22,7 +21,7 @@ use Rattle.value.proofs.Answers.{then-inv, reads-end, Seen, value as ho
 use Rattle.value.proofs.Bits.{present-mod, known-again, present-known, present-added, plan-split, unknown-split, no-added}
 use Rattle.value.proofs.Sound.{bitmap-reads, walk-reads, parse-reads}
 use Rattle.value.proofs.Complete.{takes, all-take}
-use Rattle.value.proofs.Root.{Unkeyed, present-unkeyed, ending-sound, ending-complete}
+use Rattle.value.proofs.Root.{Unkeyed, present-unkeyed, bits-in-front, ending-sound, ending-complete}
 use Rattle.value.proofs.TwoTables.{Follows, firstOf, outcome, follows-outcome, follows-accepts, walk-follows, two-tables, present-below, bitmap-gain}
 use Rattle.value.proofs.Without.{_⧺_, trees, reached-first}
 
@@ -169,10 +168,8 @@ module _ (S S′ : ℕ → Shape) (n : ℕ) (x : Extension S S′ n) (t : ℕ) (
         rw (bitmap-gain fs gs b o c, e₁, plan-same m z, w, h, no-added fs gs m z)
 
     -- The bits that were read are those at the front.
-    front-bits : (m : ℕ) (c₁ : Cursor) → bitmap fs c ≡ seen m c₁ → little (take (bitmapBytes (length fs)) (c .left)) ≡ m
-    front-bits m c₁ e =
-        let r = reads-end (bitmap-reads fs c) e in
-        ap (λ (l : List ℕ). little (take (bitmapBytes (length fs)) l)) (r .1) ∙ ap little (take-at (r .0) (c₁ .left) _ (r .2 .0)) ∙ r .2 .1
+    front-bits : (m : ℕ) (c₁ : Cursor) → bitmap fs c ≡ seen m c₁ → rootBits fs (c .left) ≡ m
+    front-bits m c₁ e = let r = reads-end (bitmap-reads fs c) e in bits-in-front fs m (r .0) (c₁ .left) (c .left) (r .1) (r .2)
 
     -- What the old root reader accepts, the new one accepts with the same tree and the same tail, where no added field's bit is set.
     pub old-then-new-root : Seen (λ tree end. NoneAdded fs gs (c .left) → rootStruct S′ t (fs ++ gs) c ≡ seen tree end) (rootStruct S t fs c)
@@ -180,10 +177,6 @@ module _ (S S′ : ℕ → Shape) (n : ℕ) (x : Extension S S′ n) (t : ℕ) (
     old-then-new-root = seen-then _ (λ m c₁ e₁. seen-then _ (λ ts c₂ e₂. seen-then _ (λ _ c₃ e₃.
         let z = ending-sound _ c₂ c₃ _ e₃ in
         rw (← z .0, present-mod fs m) (holds (λ l. new-root m c₁ ts c₂ e₁ (rw (present-mod fs m) at e₂) (rw (front-bits m c₁ e₁) at (ap length l)) (z .1))))))
-
-    nothing-left : (is : List Item) → length is ≡ 0 → is ≡ []
-    nothing-left [] e = refl
-    nothing-left (i ∷ is) e = absurd (omega arith)
 
     -- None is set where the old reader has no tail.
     pub tailless : Seen (λ tree end. length (end .left) ≡ 0 → NoneAdded fs gs (c .left)) (rootStruct S t fs c)

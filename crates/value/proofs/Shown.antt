@@ -4,9 +4,9 @@ use mathlib.Core.Path.{_≡_, refl, sym, ap, _∙_}
 use mathlib.Core.List.{List, [], _∷_, _++_, append-nil, append-assoc}
 use mathlib.Core.Bool.{Bool, true, _&&_, and-eq-true-iff}
 use Prim.Native.Nat.{ℕ, zero, suc, _+_}
-use native.Mathlib.Omega.{arith}
 use lib.ListN.{length}
 use borrow.Author.Tests.{ltb-true, lt-ltb, leb-true, le-leb, eqb-true, eq-eqb, not-true}
+use Rattle.wire.proofs.Cases.{nothing-left}
 use Rattle.schema.specs.declared.Field.{Field}
 use Rattle.schema.specs.Table.{Shape, unknown, scalar, text, array, map, struct}
 use Rattle.value.specs.declared.Row.{Row}
@@ -175,13 +175,9 @@ module _ (S : ℕ → Shape) (B : List ℕ) (t : ℕ) (fs : List Field) where
       (yields-then (walk-shown (Fits S B 15) (show S B 15) (show-complete S B 15) [] _ ts [] _ (q .5) (struct-fresh fs h (values ts)) (sym (append-nil (rowsAll ts)))) (λ ys c′ w.
       goes _ (passes _ _ _ _ (eq-eqb _ 0 (ap length (w .1)))) (gives (rw (w .0), w .1)))))))
 
-  empty : (rs : List Row) → length rs ≡ 0 → rs ≡ []
-  empty [] e = refl
-  empty (r ∷ rs) e = absurd (omega arith)
-
   -- No row is left over.
   pub root-ends : (c : CursorOf Row) → Seen (λ tree end. end .left ≡ []) (showRoot S B t fs c)
   unfolding showRoot
   root-ends c =
       seen-then _ (λ r c₁ _. seen-then _ (λ m c₂ _. seen-then _ (λ _ c₃ _. seen-then _ (λ ts c₄ _. seen-check _ _ _ _ _ (λ e.
-      holds (empty (c₄ .left) (eqb-true _ 0 e)))))))
+      holds (nothing-left (c₄ .left) (eqb-true _ 0 e)))))))

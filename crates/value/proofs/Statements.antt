@@ -9,14 +9,14 @@ use Prim.Native.Nat.{ℕ, _+_, _*_, _/_, _%_, _^_, _≤_, _<_}
 use native.Mathlib.Omega.{arith}
 use lib.ListN.{length, getD}
 use borrow.Author.Tests.{leb-true, le-leb}
-use Rattle.wire.proofs.Numbers.{Bytes}
+use Rattle.wire.specs.Little.{Bytes}
 use Rattle.wire.proofs.Cases.{differ}
 use Rattle.schema.specs.declared.Field.{Field}
 use Rattle.schema.specs.Table.{Table, struct, shape, bitmapBytes}
 use Rattle.value.specs.declared.Row.{Row}
 use Rattle.value.specs.Answer.{Cursor, seen, cursorAt}
 use Rattle.value.specs.Value.{Tree, Value, node, Values, value, depth}
-use Rattle.value.specs.Read.{plainItem, present, plan, complete, knownBits, unknownBits, parse, rootStruct, refusal, accepted, read}
+use Rattle.value.specs.Read.{plainItem, present, plan, complete, rootBits, knownBits, unknownBits, parse, rootStruct, refusal, accepted, read}
 use Rattle.value.specs.Spell.{BitmapSpells, AllSpell, Spells, TailFits, RootSpells, KeysDiffer, encode}
 use Rattle.schema.specs.Check.{noField}
 use Rattle.schema.specs.Good.{GoodTable}
@@ -34,8 +34,8 @@ use Rattle.value.proofs.Fields as fields
 use Rattle.value.proofs.Depths as depths
 use Rattle.value.proofs.Sound.{parse-reads}
 use Rattle.value.proofs.Complete.{takes, parse-complete}
-use Rattle.value.proofs.Encode.{encoded}
-use Rattle.value.proofs.Root.{root-complete}
+use Rattle.value.proofs.Encode.{spelled-encoding, encoded, root-encoding}
+use Rattle.value.proofs.Root.{root-complete, root-tail}
 use Rattle.value.proofs.Differ.{root-differs}
 use Rattle.value.proofs.Telling as telling
 use Rattle.value.proofs.Ignored.{ignored}
@@ -92,6 +92,10 @@ module _ (T : Table) (good : GoodTable T) (t : ℕ) where
   pub depth-iff : (d : ℕ) (v : Value) (u : List ℕ) → Spells (shape T) d t v u ↔ ((e : ℕ) × Spells (shape T) e t v u × (depth v ≤ d))
   depth-iff d v u = (λ q. (d, q, depths.shallow (shape T) d t v u q), λ w. depths.enough-levels (shape T) (w .0) d t v u (w .1) (w .2))
 
+  -- What spells a value is its encoding: a value has one spelling.
+  pub spelled-is-encoding : (d : ℕ) (v : Value) (u : List ℕ) → Bytes u → Spells (shape T) d t v u → u ≡ encode (shape T) v t
+  spelled-is-encoding d v u b q = spelled-encoding (shape T) d t v u b q
+
   -- The encoding of a value that bytes spell, with anything after it, is read as that value, up to its end.
   pub round-trip : (d : ℕ) (v : Value) (u rest : List ℕ) (at : ℕ) → Bytes u → Spells (shape T) d t v u
       → (tree : Tree) × (end : Cursor) × (parse (shape T) d t (record { left = encode (shape T) v t ++ rest; at = at }) ≡ seen tree end)
@@ -131,6 +135,23 @@ module _ (T : Table) (good : GoodTable T) (t : ℕ) where
         let y′ = yields-end (root-complete (shape T) t fs solid v′ z′ (cursorAt payload 0) q′) in
         (cc (y .2, y′ .2, y .3 .0, y′ .3 .0), cc (y .2, y′ .2, y .3 .1, y′ .3 .1))
 
+    -- A payload without a tail is the encoding of its value.
+    pub payload-is-encoding : (payload : List ℕ) (v : Value) → Bytes payload → RootSpells (shape T) fs v payload [] → payload ≡ encode (shape T) v t
+    payload-is-encoding payload v b q = root-encoding (shape T) t fs st v payload b q
+
+    -- An accepted payload has no tail exactly where no unknown bit of its root is set.
+    pub tail-iff-unknown : (payload : List ℕ) (room : ℕ) (rs : List Row) (place n : ℕ) → read T t payload room ≡ accepted rs place n
+        → (n ≡ 0) ↔ (unknownBits fs (rootBits fs payload) ≡ 0)
+    unfolding read
+    tail-iff-unknown payload room rs place n e =
+        let a = accepts (shape T) t payload room rs place n e in
+        let f : a .fs ≡ fs = cc (a .is-struct, st) in
+        let s = root-in (shape T) t (a .fs) payload (a .tree) (a .end) (a .reads) .0 in
+        let r : ReadAs (shape T) t fs payload (read T t payload room) (value (a .tree)) place n = (rs, e, rw (f, a .has-rows) at s) in
+        let (z, q, _, _, l, _) = accepted-iff-spelled payload room (value (a .tree)) place n .0 r in
+        let t = root-tail (shape T) fs (value (a .tree)) payload z q in
+        (λ none. omega (arith, t .0), λ none. sym l ∙ t .1 none)
+
     -- A payload's value has a depth of 16 at most, so that one of depth 17 is spelled by no payload.
     pub depth-within : (payload : List ℕ) (v : Value) (z : List ℕ) → RootSpells (shape T) fs v payload z → depth v ≤ 16
     depth-within payload v z q = depths.root-shallow (shape T) fs v payload z q
@@ -141,7 +162,7 @@ module _ (T : Table) (good : GoodTable T) (t : ℕ) where
         → depth (node (knownBits fs m) vs) ≤ 16 → RootSpells (shape T) fs (node (knownBits fs m) vs) (x ++ (y ++ z)) z
     depth-allowed = depths.root-enough (shape T) fs
 
-    -- The keys of every map of an accepted payload differ as values, however their lengths are spelled.
+    -- The keys of every map of an accepted payload differ as values. A value has one spelling, so that their bytes differ as well.
     pub keys-differ : (payload : List ℕ) (v : Value) (z : List ℕ) → RootSpells (shape T) fs v payload z → KeysDiffer (shape T) v t
     keys-differ payload v z q = root-differs (shape T) t fs st v payload z q
 
@@ -178,7 +199,8 @@ module _ (T : Table) (good : GoodTable T) (t : ℕ) where
       let (fs, v, st, s, o, short, _) = written-iff-shown rs B room out .0 e in
       (fs, v, st, s, encoding-read (shape T) solid t fs st B rs v s out o short room′ l)
 
-  -- The rows of a reading, over the payload, are written in no more bytes, and what is written is read as the same value, with no tail.
+  -- The rows of a reading, over the payload, are written in no more bytes, and what is written is read as the same value, with no tail. Where the
+  -- reading has no tail, what is written is the payload.
   pub read-then-write : (payload : List ℕ) (room : ℕ) (rs : List Row) (place n : ℕ) → Bytes payload → read T t payload room ≡ accepted rs place n
       → (room′ : ℕ) → length payload ≤ room′
       → (fs : List Field) × (v : Value) × (out : List ℕ)
@@ -186,12 +208,13 @@ module _ (T : Table) (good : GoodTable T) (t : ℕ) where
       × Shows (shape T) payload t fs rs v
       × (write T t rs payload room′ ≡ written out)
       × (length out ≤ length payload)
+      × (n ≡ 0 → out ≡ payload)
       × ReadAs (shape T) t fs out (read T t out room) v (length out) 0
   unfolding read write
   read-then-write payload room rs place n b e room′ l =
       let a = accepts (shape T) t payload room rs place n e in
       let s = subst (λ (x : List Row). Shows (shape T) payload t (a .fs) x (value (a .tree))) (a .has-rows) (root-in (shape T) t (a .fs) payload (a .tree) (a .end) (a .reads) .0) in
-      let (z, q, _, _, _, _) = accepted-iff-spelled (a .fs) (a .is-struct) payload room (value (a .tree)) place n .0 (rs, e, s) in
+      let (z, q, _, _, tail, _) = accepted-iff-spelled (a .fs) (a .is-struct) payload room (value (a .tree)) place n .0 (rs, e, s) in
       let w = spelled-written (shape T) solid t (a .fs) (a .is-struct) payload z (value (a .tree)) b q (a .short) rs s room′ l in (
         a .fs,
         value (a .tree),
@@ -200,6 +223,7 @@ module _ (T : Table) (good : GoodTable T) (t : ℕ) where
         s,
         w .0,
         w .1,
+        λ none. w .2 (tail ∙ none),
         encoding-read (shape T) solid t (a .fs) (a .is-struct) payload rs (value (a .tree)) s _ refl (omega (arith, w .1, a .short)) room (a .fits),
       )
 
@@ -221,9 +245,8 @@ module _ (old new : Table) (good : GoodTable old) (good′ : GoodTable new) (ext
   gains = extended.gained-fields (shape old) (shape new) (length (old .types)) x t l fs st
 
   module _ (gs : List Field) (st′ : shape new t ≡ struct (fs ++ gs)) (payload : List ℕ) (room : ℕ) where
-    -- A payload without unknown bits that the new rules allow as v, however its lengths are spelled: what the old reader answers. It refuses with 26
-    -- exactly where an inner struct, reached through known fields, carries an added field, at the first such struct. The places are those that the
-    -- new reader shows.
+    -- A payload without unknown bits that the new rules allow as v: what the old reader answers. It refuses with 26 exactly where an inner struct,
+    -- reached through known fields, carries an added field, at the first such struct. The places are those that the new reader shows.
     pub new-by-old : (v : Value) → RootSpells (shape new) (fs ++ gs) v payload [] → length payload ≤ 16384
         → (tree : Tree) × (end : Cursor) × (rootStruct (shape new) t (fs ++ gs) (cursorAt payload 0) ≡ seen tree end)
         × (value tree ≡ v)

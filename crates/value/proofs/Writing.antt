@@ -1,6 +1,6 @@
 -- The whole writer's answers, taken apart and put together.
 -- Assumes nothing.
-use mathlib.Core.Path.{_≡_, refl, sym}
+use mathlib.Core.Path.{_≡_, refl, sym, subst}
 use mathlib.Core.List.{List, [], _++_, append-nil}
 use mathlib.Core.Bool.{Bool, true, false, cond}
 use Prim.Native.Nat.{ℕ, _≤_}
@@ -8,8 +8,8 @@ use native.Mathlib.Omega.{arith}
 use lib.Dec.{leb}
 use lib.ListN.{length}
 use borrow.Author.Tests.{leb-true, le-leb}
-use Rattle.wire.proofs.Numbers.{Bytes}
-use Rattle.wire.proofs.Cases.{differ}
+use Rattle.wire.specs.Little.{Bytes}
+use Rattle.wire.proofs.Cases.{differ, nothing-left}
 use Rattle.schema.specs.declared.Field.{Field}
 use Rattle.schema.specs.Table.{Shape, unknown, scalar, text, array, map, struct}
 use Rattle.value.specs.declared.Row.{Row}
@@ -23,7 +23,7 @@ use Rattle.value.specs.Fits.{Shows}
 use Rattle.value.specs.Claims.{ReadAs, Writes}
 use Rattle.value.proofs.Answers.{seen-end, reads-end, yields-end}
 use Rattle.value.proofs.Shown.{root-shows, root-shown, root-ends}
-use Rattle.value.proofs.Encode.{root-short}
+use Rattle.value.proofs.Encode.{root-short, root-encoding}
 use Rattle.value.proofs.Written.{root-written}
 use Rattle.value.proofs.Reading.{sized, rightful-read}
 
@@ -89,10 +89,15 @@ module _ (S : ℕ → Shape) (solid : (t : ℕ) → Solid (S t)) (t : ℕ) (fs :
       let q : RootSpells S fs v out [] = rw (o′, k) at (root-written S solid B t fs st tree f (rw o′ l)) in
       rightful-read S t fs st out room v (length out) 0 solid ([], q, l, omega (arith, as-many S t fs B rs v s), refl, omega arith)
 
-  -- The rows of a value, over a payload that spells it, are written, in no more bytes.
+  -- The rows of a value, over a payload that spells it, are written, in no more bytes, and without a tail in the same.
   pub spelled-written : (payload tail : List ℕ) (v : Value) → Bytes payload → RootSpells S fs v payload tail → length payload ≤ 16384
       → (rs : List Row) → Shows S payload t fs rs v → (room : ℕ) → length payload ≤ room
-      → (writing S t room (sheetRoot S t rs payload) ≡ written (encode S v t)) × (length (encode S v t) ≤ length payload)
+      → (writing S t room (sheetRoot S t rs payload) ≡ written (encode S v t))
+      × (length (encode S v t) ≤ length payload)
+      × (length tail ≡ 0 → encode S v t ≡ payload)
   spelled-written payload tail v b q l rs s room h =
-      let e : length (encode S v t) ≤ length payload = root-short S t fs st v payload tail b q in
-      (shown-written S t rs payload room (encode S v t) (fs, v, st, s, refl, omega arith, omega arith), e)
+      let e : length (encode S v t) ≤ length payload = root-short S t fs st v payload tail b q in (
+        shown-written S t rs payload room (encode S v t) (fs, v, st, s, refl, omega arith, omega arith),
+        e,
+        λ none. sym (root-encoding S t fs st v payload b (subst (RootSpells S fs v payload) (nothing-left tail none) q)),
+      )

@@ -7,12 +7,11 @@ use mathlib.Core.Option.{Option, none, some}
 use mathlib.Core.Bool.{Bool, false, cond}
 use Prim.Native.Nat.{ℕ, zero, suc, _/_, _^_}
 use lib.Dec.{leb}
-use lib.ListN.{length, take}
-use Rattle.wire.specs.Little.{little}
+use lib.ListN.{length}
 use Rattle.schema.specs.declared.Field.{Field}
-use Rattle.schema.specs.Table.{Shape, unknown, scalar, text, array, map, struct, bitmapBytes}
+use Rattle.schema.specs.Table.{Shape, unknown, scalar, text, array, map, struct}
 use Rattle.value.specs.Value.{Value, leaf, node, Values, none as empty, some as and, Tree, tip, branch, Forest, stop, plus}
-use Rattle.value.specs.Read.{Item, plan, present, knownBits}
+use Rattle.value.specs.Read.{Item, plan, present, rootBits, knownBits}
 
 -- A struct carries an added field when a bit beyond the known fields is set.
 abbrev pub carries : Shape → (head : ℕ) → Bool
@@ -99,4 +98,4 @@ addedValues fs (node h vs) = afterFirst (length (present fs h)) vs
 
 -- None of the added fields' bits is set in the bitmap at the front of a payload.
 abbrev pub NoneAdded : (fs gs : List Field) (payload : List ℕ) → Type 0
-NoneAdded fs gs payload = present gs (little (take (bitmapBytes (length fs)) payload) / 2 ^ length fs) ≡ []
+NoneAdded fs gs payload = present gs (rootBits fs payload / 2 ^ length fs) ≡ []

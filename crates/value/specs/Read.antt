@@ -5,7 +5,7 @@ use mathlib.Core.Bool.{Bool, true, false, not, _&&_, _||_, cond}
 use Prim.Native.Nat.{ℕ, zero, suc, _-_, _*_, _/_, _%_, _^_}
 use lib.Dec.{leb, ltb, eqb}
 use lib.Count.{onesIn}
-use lib.ListN.{length, replicate}
+use lib.ListN.{length, take, replicate}
 use Rattle.wire.specs.Little.{little}
 use Rattle.wire.specs.Utf8.{utf8}
 use Rattle.schema.specs.declared.Field.{Field}
@@ -153,6 +153,10 @@ parse S (suc d) t = do
   whole (parse S d) t (S t) o
 
 -- ---- the root
+
+-- The presence bits of the root, unknown ones too: the number of the bitmap at the payload's front.
+abbrev pub rootBits : List Field → (payload : List ℕ) → ℕ
+rootBits fs payload = little (take (bitmapBytes (length fs)) payload)
 
 -- The presence bits of the known fields, and how many bits beyond them are set.
 abbrev pub knownBits : List Field → ℕ → ℕ

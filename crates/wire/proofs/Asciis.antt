@@ -12,9 +12,8 @@ use lib.Bits.{bitAnd, and-comm, and-shifted, and-block}
 use lib.Dec.{T, eqb, ltb, lit<}
 use lib.ListN.{length, getD, take, drop, take-append-drop}
 use lib.Seq.{slice, take-take, drop-drop, drop-cons}
-use Rattle.wire.specs.Little.{little}
+use Rattle.wire.specs.Little.{little, Bytes}
 use Rattle.wire.specs.Utf8.{utf8, ascii}
-use Rattle.wire.proofs.Numbers.{Bytes}
 use Rattle.wire.proofs.Utf8s.{ascii-skip}
 
 -- ---- the top bits of n bytes, as one number

@@ -10,9 +10,8 @@ use lib.Count.{ones, onesIn, ones-step, ones-cat}
 use lib.ListN.{length, getD, take, drop}
 use lib.Seq.{take-all}
 use lib.Pow.{pow-pos, split, field, mod-mod-pow, shr-shr}
-use Rattle.wire.specs.Little.{little}
+use Rattle.wire.specs.Little.{little, Bytes}
 use Rattle.wire.specs.Bitmap.{bits, bitmap, total}
-use Rattle.wire.proofs.Numbers.{Bytes}
 
 -- a word's set bits, counted apart: those from n on, and the n lowest
 pub ones-split : (x n : ℕ) → ones x ≡ ones (x / 2 ^ n) + ones (x % 2 ^ n)

@@ -21,10 +21,11 @@ wide : little (0x78 ∷ 0x56 ∷ 0x34 ∷ 0x12 ∷ []) ≡ 0x12345678
 unfolding little
 wide = refl
 
--- a spare group is passed over
-spare : varuint (0x01 ∷ 0x80 ∷ 0x00 ∷ []) 1 ≡ Number 0 3
+-- a spare group is malformed, after a group of 0 or of more; without it the number is read, and 0 as one byte
+spare : (varuint (0x01 ∷ 0x80 ∷ 0x00 ∷ []) 1 ≡ Malformed) × (varuint (0x81 ∷ 0x80 ∷ 0x00 ∷ []) 0 ≡ Malformed)
+    × (varuint (0x80 ∷ 0x01 ∷ []) 0 ≡ Number 128 2) × (varuint (0x00 ∷ []) 0 ≡ Number 0 1) × (varuint (0x80 ∷ []) 0 ≡ Cut)
 unfolding groups front
-spare = refl
+spare = (refl, refl, refl, refl, refl)
 
 -- the greatest number takes ten bytes, and a tenth byte of 2 is malformed
 most : varuint (varuintBytes 0xFFFFFFFFFFFFFFFF) 0 ≡ Number 0xFFFFFFFFFFFFFFFF 10
@@ -34,6 +35,12 @@ most = refl
 tenth : varuint (0x80 ∷ 0x80 ∷ 0x80 ∷ 0x80 ∷ 0x80 ∷ 0x80 ∷ 0x80 ∷ 0x80 ∷ 0x80 ∷ 0x02 ∷ []) 0 ≡ Malformed
 unfolding groups front
 tenth = refl
+
+-- so is a tenth byte of 0; of 1 it is read
+tenth-spare : (varuint (0x80 ∷ 0x80 ∷ 0x80 ∷ 0x80 ∷ 0x80 ∷ 0x80 ∷ 0x80 ∷ 0x80 ∷ 0x80 ∷ 0x00 ∷ []) 0 ≡ Malformed)
+    × (varuint (0x80 ∷ 0x80 ∷ 0x80 ∷ 0x80 ∷ 0x80 ∷ 0x80 ∷ 0x80 ∷ 0x80 ∷ 0x80 ∷ 0x01 ∷ []) 0 ≡ Number 0x8000000000000000 10)
+unfolding groups front
+tenth-spare = (refl, refl)
 
 -- nine bytes with the top bit set, and then the end
 nine : varuint (0x80 ∷ 0x80 ∷ 0x80 ∷ 0x80 ∷ 0x80 ∷ 0x80 ∷ 0x80 ∷ 0x80 ∷ 0x80 ∷ []) 0 ≡ Cut

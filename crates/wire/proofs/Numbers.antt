@@ -8,12 +8,8 @@ use native.Mathlib.Omega.{arith}
 use lib.Dec.{lit<}
 use lib.Pow.{pow-add, pow-mono, shl-exact}
 use lib.ListN.{length, getD, take, drop, length-drop}
-use lib.Seq.{take-length, sets, sets-eq, drop-at, take-append-seam, drop-cons, getD-drop, take-add, drop-drop, length-take-le}
-use Rattle.wire.specs.Little.{little, bytes, written}
-
--- every element is a byte
-abbrev pub Bytes : List ℕ → Type 0
-Bytes s = (i : ℕ) → getD s i 0 < 256
+use lib.Seq.{take-length, sets, sets-eq, drop-at, take-append-seam, drop-append-seam, drop-cons, getD-drop, take-add, drop-drop, length-take-le}
+use Rattle.wire.specs.Little.{little, bytes, written, Bytes}
 
 pub bytes-drop : (s : List ℕ) (k : ℕ) → Bytes s → Bytes (drop k s)
 bytes-drop s k h i = rw (getD-drop k s i 0) (h (k + i))
@@ -24,8 +20,12 @@ bytes-take (suc n) [] h i = lit< tt
 bytes-take (suc n) (b ∷ s) h zero = h 0
 bytes-take (suc n) (b ∷ s) h (suc i) = bytes-take n s (λ j. h (suc j)) i
 
-pub bytes-left : (a b : List ℕ) → Bytes (a ++ b) → Bytes a
-bytes-left a b h = subst Bytes (take-append-seam a b) (bytes-take (length a) (a ++ b) h)
+-- the parts of bytes are bytes
+pub bytes-parts : (s a b : List ℕ) → s ≡ a ++ b → Bytes s → Bytes a × Bytes b
+bytes-parts s a b e h =
+    let l : take (length a) s ≡ a = ap (take (length a)) e ∙ take-append-seam a b in
+    let r : drop (length a) s ≡ b = ap (drop (length a)) e ∙ drop-append-seam a b in
+    (subst Bytes l (bytes-take (length a) s h), subst Bytes r (bytes-drop s (length a) h))
 
 -- one byte more, at the front
 pub little-step : (s : List ℕ) (at n : ℕ) → at < length s
@@ -69,6 +69,15 @@ pub little-bytes : (n x : ℕ) → x < 256 ^ n → little (bytes n x) ≡ x
 unfolding little bytes
 little-bytes zero x h = omega arith
 little-bytes (suc n) x h = rw (little-bytes n (x / 256) (omega arith)) (omega arith)
+
+-- bytes are what is stored for their number, so that a number of so many bytes has one spelling
+pub bytes-little : (b : List ℕ) → Bytes b → bytes (length b) (little b) ≡ b
+unfolding little bytes
+bytes-little [] h = refl
+bytes-little (x ∷ b) h =
+    let low : (x + 256 * little b) % 256 ≡ x = omega (arith, h 0) in
+    let high : (x + 256 * little b) / 256 ≡ little b = omega (arith, h 0) in
+    rw (low, high, bytes-little b (λ i. h (suc i)))
 
 -- what was written is what stands there
 pub written-part : (d : List ℕ) (at : ℕ) (vs : List ℕ) → at ≤ length d → take (length vs) (drop at (written d at vs)) ≡ vs

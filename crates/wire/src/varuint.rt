@@ -1,4 +1,5 @@
-// VarUInt: seven bits a byte, least group first, the top bit set on all but the last byte; at most ten bytes, the tenth 0 or 1.
+// VarUInt: seven bits a byte, least group first, the top bit set on all but the last byte; at most ten bytes, the tenth 0 or 1. Of two or more bytes
+// the last is not 0, so that a number has one VarUInt.
 use crate::little::wide;
 ghost use mathlib.Core.Path.{_≡_};
 ghost use Prim.Native.Nat.{_+_, _≤_, _<_};
@@ -11,7 +12,7 @@ pub enum VarUInt {
     Number { value: u64, next: usize },
     // The bytes end before the last group.
     Cut,
-    // A tenth byte above 1.
+    // A last byte of 0 after others, or a tenth byte above 1.
     Malformed,
 }
 
@@ -30,6 +31,9 @@ fn read_more(s: &[u8], at: usize, first: u64) -> VarUInt
         }
         let b = wide(s[i]);
         if b < 128 {
+            if b == 0 {
+                return VarUInt::Malformed;
+            }
             return VarUInt::Number {
                 value: value + weight * b,
                 next: i + 1,
@@ -45,6 +49,9 @@ fn read_more(s: &[u8], at: usize, first: u64) -> VarUInt
     }
     let b = wide(s[i]);
     if b < 2 {
+        if b == 0 {
+            return VarUInt::Malformed;
+        }
         return VarUInt::Number {
             value: value + weight * b,
             next: i + 1,
@@ -70,7 +77,7 @@ pub fn read(s: &[u8], at: usize) -> VarUInt
     read_more(s, at + 1, b - 128)
 }
 
-// The shortest VarUInt of x into d from at on; the place after it.
+// The VarUInt of x into d from at on; the place after it.
 pub fn write(d: &mut [u8], at: usize, x: u64) -> usize
     requires { ⌜ at + length (varuintBytes x) ≤ length (now d) ⌝ }
     ensures { λ r. ⌜ (r ≡ at + length (varuintBytes x)) × (now (d .exit) ≡ written (now (d .entry)) at (varuintBytes x)) ⌝ }
@@ -86,7 +93,7 @@ pub fn write(d: &mut [u8], at: usize, x: u64) -> usize
     i + 1
 }
 
-// The length of the shortest VarUInt of x.
+// The length of the VarUInt of x.
 pub fn size(x: u64) -> usize
     ensures { λ r. ⌜ r ≡ length (varuintBytes x) ⌝ }
 {

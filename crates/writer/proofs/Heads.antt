@@ -9,7 +9,8 @@ use borrow.Author.Tests.{le-leb, lt-leb}
 use lib.ListN.{length, drop, length-drop}
 use lib.Seq.{length-take-le}
 use Rattle.wire.specs.Bitmap.{Present}
-use Rattle.wire.proofs.Numbers.{Bytes, bytes-drop, bytes-take}
+use Rattle.wire.specs.Little.{Bytes}
+use Rattle.wire.proofs.Numbers.{bytes-drop, bytes-take}
 use Rattle.schema.specs.Table.{Table}
 use Rattle.value.specs.Answer.{andThen, check}
 use Rattle.value.specs.Read.{complete}

@@ -26,7 +26,7 @@ fn further(pos: usize, n: usize) -> usize
     if 16385 - pos <= n { 16385 } else { pos + n }
 }
 
-// The shortest VarUInt of x.
+// The VarUInt of x.
 pub fn put_number(out: &mut [u8], pos: usize, x: u64) -> usize
     requires { ⌜ pos ≤ 16385 ⌝ }
     ensures { λ r. ⌜ PutAt (now (out .entry)) pos (varuintBytes x) r (now (out .exit)) ⌝ }

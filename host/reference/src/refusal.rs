@@ -34,7 +34,7 @@ pub enum Reason {
     CallTableNotGood = 15,
     /// An item, count or tail exceeds the bytes that remain.
     ExceedsRemaining = 20,
-    /// A VarUInt has a tenth byte above 1.
+    /// A VarUInt has a tenth byte above 1, or two or more bytes and the last 0.
     MalformedVarUint = 21,
     /// A bool is neither 0 nor 1.
     NotABool = 22,

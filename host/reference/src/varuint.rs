@@ -7,11 +7,12 @@ pub enum Decoded {
     Whole { value: u64, length: usize },
     /// The bytes end before the number does.
     Cut,
-    /// The tenth byte is there and above 1.
+    /// The tenth byte is there and above 1, or the last of several is 0.
     Malformed,
 }
 
-/// Reads a VarUInt. Spare zero groups are accepted.
+/// Reads a VarUInt. Each number has one spelling, the shortest: a spare zero
+/// group makes it malformed once its last byte is there.
 #[inline]
 pub fn decode(bytes: &[u8]) -> Decoded {
     match bytes.first() {
@@ -31,6 +32,9 @@ fn decode_long(bytes: &[u8]) -> Decoded {
             return Decoded::Malformed;
         }
         value |= u64::from(byte & 0x7F) << (7 * index);
+        if byte == 0 && index > 0 {
+            return Decoded::Malformed;
+        }
         if byte < 0x80 {
             let length = index + 1;
             return Decoded::Whole { value, length };
@@ -72,10 +76,15 @@ mod tests {
             let value = 1 << (7 * (groups - 1));
             let length = groups;
             assert_eq!(decode(&bytes), Decoded::Whole { value, length });
-            bytes[groups - 1] = 0;
-            assert_eq!(decode(&bytes), Decoded::Whole { value: 0, length });
             bytes.push(0xFF);
-            assert_eq!(decode(&bytes), Decoded::Whole { value: 0, length });
+            assert_eq!(decode(&bytes), Decoded::Whole { value, length });
+            bytes[groups - 1] = 0;
+            let zero = match groups {
+                1 => Decoded::Whole { value: 0, length },
+                _ => Decoded::Malformed,
+            };
+            assert_eq!(decode(&bytes), zero);
+            assert_eq!(decode(&bytes[..groups]), zero);
         }
         assert_eq!(decode(&[0x80; 11]), Decoded::Malformed);
         let mut eleven = [0x80; 11];
@@ -93,7 +102,22 @@ mod tests {
             let mut bytes = [0xFF; 10];
             bytes[9] = tenth;
             let malformed = decode(&bytes) == Decoded::Malformed;
-            assert_eq!(malformed, tenth > 1);
+            assert_eq!(malformed, tenth != 1);
+        }
+    }
+
+    #[test]
+    fn spare_groups() {
+        for value in [0u64, 1, 0x7F, 0x80, 0x3FFF, 0x4000, (1 << 63) - 1] {
+            let mut bytes = [0; 10];
+            let shortest = encode(value, &mut bytes);
+            bytes[shortest - 1] |= 0x80;
+            for length in shortest + 1..=10 {
+                bytes[shortest..length - 1].fill(0x80);
+                bytes[length - 1] = 0;
+                assert_eq!(decode(&bytes[..length]), Decoded::Malformed);
+                assert_eq!(decode(&bytes[..length - 1]), Decoded::Cut);
+            }
         }
     }
 

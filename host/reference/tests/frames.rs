@@ -80,7 +80,7 @@ fn lengths() {
     let with = |length: &[u8]| read_frame(&[&start[..], length].concat());
     assert_eq!(with(&[0x80; 9]), FrameAnswer::MoreNeeded);
     assert_eq!(with(&[0xFF; 9]), FrameAnswer::MoreNeeded);
-    for tenth in 2..=255 {
+    for tenth in (0..=255).filter(|&tenth| tenth != 1) {
         let malformed = [&[0x80; 9][..], &[tenth]].concat();
         assert_eq!(with(&malformed), FrameAnswer::Refused(Reason::FrameLength));
     }
@@ -88,14 +88,26 @@ fn lengths() {
     assert_eq!(with(&[0x81, 0x80, 0x01]), above);
     assert_eq!(with(&[0x80, 0x80, 0x80, 0x01]), above);
     assert_eq!(with(&[&[0xFF; 9][..], &[1]].concat()), above);
+    assert_eq!(with(&[&[0x80; 9][..], &[1]].concat()), above);
     assert_eq!(with(&[0x80, 0x80, 0x01]), FrameAnswer::MoreNeeded);
     let limit = [&[0x80, 0x80, 0x01][..], &[0; 16_384]].concat();
     assert!(matches!(with(&limit), FrameAnswer::Whole(_)));
-    for spare in 0..9 {
-        let spelled = [&vec![0x80; spare][..], &[0]].concat();
-        match with(&spelled) {
-            FrameAnswer::Whole(frame) => assert_eq!(frame.payload_place, 26 + spare),
-            other => panic!("{other:?}"),
+    assert!(matches!(with(&[0]), FrameAnswer::Whole(_)));
+}
+
+#[test]
+fn lengths_with_spare_groups() {
+    let start = frame(1, b"")[..25].to_vec();
+    let malformed = FrameAnswer::Refused(Reason::FrameLength);
+    // No byte, more than there are, more than the limit.
+    for group in [0x80, 0x85, 0xFF] {
+        for length in 2..=10 {
+            let mut bytes = [&start[..], &vec![group; length - 1]].concat();
+            assert_eq!(read_frame(&bytes), FrameAnswer::MoreNeeded);
+            bytes.push(0);
+            assert_eq!(read_frame(&bytes), malformed);
+            bytes.extend([0; 200]);
+            assert_eq!(read_frame(&bytes), malformed);
         }
     }
 }

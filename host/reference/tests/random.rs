@@ -1,5 +1,5 @@
 //! Random and generated cases: nothing panics, refusals leave buffers alone,
-//! what is read writes back, and every answer number comes up.
+//! what is read writes back as the same bytes, and every answer number comes up.
 
 mod common;
 
@@ -8,6 +8,7 @@ use std::collections::BTreeMap;
 use common::{table_t, BYTE, CELL};
 use reference::cases::{answer_file, read_file, Case, ReadCase, WriteCase};
 use reference::generate::rng::Rng;
+use reference::generate::table::Table;
 use reference::generate::Generator;
 use reference::*;
 
@@ -93,63 +94,169 @@ fn rows(case: &ReadCase) -> Option<(Vec<u32>, Reading)> {
     Some((sheet, reading))
 }
 
-#[test]
-fn what_is_read_writes_back_with_the_same_known_fields() {
-    let mut seen = 0;
-    for case in cases(4, 20_000) {
-        let Case::Read(case) = case else { continue };
-        let Some((sheet, reading)) = rows(&case) else {
-            continue;
-        };
-        let mut out = vec![BYTE; 16_384];
-        let length = write(
-            &case.schema,
-            case.type_number,
-            &sheet,
-            &case.payload,
-            &mut out,
-        );
-        let payload = out[..length.unwrap()].to_vec();
-        assert!(payload.len() <= reading.tail_place);
-        let again = ReadCase {
-            payload: payload.clone(),
-            ..case.clone()
-        };
-        let (second, tail) = rows(&again).unwrap();
-        assert_eq!((tail.rows, tail.tail_length), (reading.rows, 0));
-        same_values(&case, &sheet, &payload, &second);
-        let mut third = vec![BYTE; payload.len()];
-        write(
-            &case.schema,
-            case.type_number,
-            &second,
-            &payload,
-            &mut third,
-        )
-        .unwrap();
-        assert_eq!(third, payload);
-        seen += 1;
-    }
-    assert!(seen > 1_000);
+/// Writes a read payload again from its rows.
+fn written(case: &ReadCase, sheet: &[u32]) -> Vec<u8> {
+    let mut out = vec![BYTE; 16_384];
+    let (schema, root, payload) = (&case.schema, case.type_number, &case.payload);
+    let length = write(schema, root, sheet, payload, &mut out).unwrap();
+    assert!(out[length..].iter().all(|&byte| byte == BYTE));
+    out.truncate(length);
+    out
 }
 
-/// Rows of two sheets show the same types, counts and contents.
-fn same_values(case: &ReadCase, sheet: &[u32], payload: &[u8], second: &[u32]) {
-    let pairs = sheet.chunks(4).zip(second.chunks(4));
-    for (first, second) in pairs {
-        assert_eq!((first[0], first[3]), (second[0], second[3]));
-        let row = |row: &[u32]| [row[0], row[1], row[2], row[3]];
-        let before = scalar(&case.schema, row(first), &case.payload);
-        let after = scalar(&case.schema, row(second), payload);
-        match (before, after) {
-            (Ok(Scalar::Span { place, length }), Ok(Scalar::Span { place: other, .. })) => {
-                let span =
-                    |bytes: &[u8], place: u32| bytes[place as usize..][..length as usize].to_vec();
-                assert_eq!(span(&case.payload, place), span(payload, other));
+/// Checks what a reading and its writing again must keep: the same bytes, and
+/// with a tail the same rows. Gives whether there is a tail, none if refused.
+fn writes_back(case: &ReadCase) -> Option<bool> {
+    let (sheet, reading) = rows(case)?;
+    let payload = written(case, &sheet);
+    assert_eq!(payload.len(), reading.tail_place);
+    if reading.tail_length == 0 {
+        assert_eq!(payload, case.payload);
+        return Some(false);
+    }
+    let again = ReadCase {
+        payload: payload.clone(),
+        ..case.clone()
+    };
+    let (second, tail) = rows(&again).unwrap();
+    assert_eq!((second, tail.tail_length), (sheet, 0));
+    Some(true)
+}
+
+#[test]
+fn what_is_read_writes_back() {
+    let mut seen = [0; 2];
+    for case in cases(4, 20_000) {
+        if let Case::Read(case) = case {
+            if let Some(tail) = writes_back(&case) {
+                seen[usize::from(tail)] += 1;
             }
-            (before, after) => assert_eq!(before, after),
         }
     }
+    assert!(seen[0] > 1_000 && seen[1] > 100, "{seen:?}");
+}
+
+/// All payloads of up to six bytes over those that matter to a length.
+#[test]
+fn short_payloads_write_back() {
+    const BYTES: [u8; 6] = [0, 1, 2, 3, 0x80, 0x81];
+    let texts = Table {
+        types: vec![[12, 0, 0], [6, 0, 0], [15, 0, 1], [16, 0, 2]],
+        fields: vec![[0, 1], [2, 1]],
+        methods: vec![],
+    };
+    for (schema, type_number) in [(table_t(), 4), (texts.bytes(), 3)] {
+        let mut seen = 0;
+        for length in 0..=6 {
+            for number in 0..BYTES.len().pow(length) {
+                let byte = |place| BYTES[number / BYTES.len().pow(place) % BYTES.len()];
+                let case = ReadCase {
+                    schema: schema.clone(),
+                    type_number,
+                    payload: (0..length).map(byte).collect(),
+                    cells: 0,
+                };
+                seen += usize::from(writes_back(&case).is_some());
+            }
+        }
+        assert!(seen > 1_000, "{seen}");
+    }
+}
+
+#[test]
+fn an_accepted_frame_is_written_again_as_the_same_bytes() {
+    let mut seen = 0;
+    for case in cases(10, 20_000) {
+        let sent = match case {
+            Case::Frame(case) => vec![case.data],
+            Case::Receive(case) => vec![case.data],
+            Case::Run(case) => case.frames.into_iter().map(|(_, data)| data).collect(),
+            _ => continue,
+        };
+        for bytes in sent {
+            let FrameAnswer::Whole(frame) = read_frame(&bytes) else {
+                continue;
+            };
+            let payload = &bytes[frame.payload_place..frame.length()];
+            let mut out = vec![BYTE; frame.length()];
+            let length = write_frame(&frame.header, payload, &mut out);
+            assert_eq!(length, Ok(frame.length()));
+            assert_eq!(out, bytes[..frame.length()]);
+            seen += 1;
+        }
+    }
+    assert!(seen > 5_000, "{seen}");
+}
+
+/// The length of a VarUInt with spare groups at the front of some bytes.
+fn spare_length(bytes: &[u8]) -> Option<usize> {
+    let last = bytes.iter().take(10).position(|&byte| byte < 0x80)?;
+    (last > 0 && bytes[last] == 0).then_some(last + 1)
+}
+
+/// The payload or the frames of a case.
+fn handed_in(case: &Case) -> Vec<&[u8]> {
+    match case {
+        Case::Read(case) => vec![&case.payload],
+        Case::Frame(case) => vec![&case.data],
+        Case::Receive(case) => vec![&case.data],
+        Case::Run(case) => case.frames.iter().map(|(_, data)| &data[..]).collect(),
+        _ => Vec::new(),
+    }
+}
+
+/// The number and place of each answer to a case.
+fn answers(case: &Case) -> Vec<(u32, usize)> {
+    let mut text = String::new();
+    case.answer(&mut text);
+    let number = |word: Option<&str>| word.unwrap().parse::<usize>().unwrap();
+    let start = |line: &str| {
+        let mut words = line.split(' ');
+        (number(words.next()) as u32, number(words.next()))
+    };
+    text.lines().map(start).collect()
+}
+
+/// The bytes from a malformed VarUInt on, where an answer refuses one.
+fn malformed(bytes: &[u8], is_frame: bool, answer: (u32, usize)) -> Option<&[u8]> {
+    let place = match (answer, read_frame(bytes)) {
+        ((6, _), _) => 25,
+        ((21, place), FrameAnswer::Whole(frame)) if is_frame => frame.payload_place + place,
+        ((21, place), _) => place,
+        _ => return None,
+    };
+    Some(&bytes[place..])
+}
+
+#[test]
+fn spare_groups_of_every_length_come_up() {
+    let mut counts = BTreeMap::new();
+    for case in cases(11, 20_000) {
+        let code = case.code();
+        for (bytes, answer) in handed_in(&case).into_iter().zip(answers(&case)) {
+            let length = malformed(bytes, code != 3, answer).and_then(spare_length);
+            if let Some(length) = length {
+                *counts.entry((code, answer.0, length)).or_insert(0) += 1;
+            }
+        }
+    }
+    for length in 2..=10 {
+        for (code, number, least) in [
+            (3, 21, 20),
+            (6, 6, 12),
+            (8, 6, 3),
+            (8, 21, 3),
+            (9, 6, 1),
+            (9, 21, 1),
+        ] {
+            let count = counts.remove(&(code, number, length)).unwrap_or(0);
+            assert!(
+                count >= least,
+                "code {code} number {number} length {length}: {count}"
+            );
+        }
+    }
+    assert!(counts.is_empty(), "{counts:?}");
 }
 
 #[test]

@@ -66,23 +66,27 @@ fn bools() {
 fn lengths_in_one_to_eleven_bytes() {
     for kind in [12, 13] {
         let schema = holding(kind);
-        for spelling in 1..=10 {
-            let mut payload = vec![0x80; spelling + 1];
-            payload[0] = 1;
-            payload[spelling] = 0;
-            payload[1] |= 2;
-            payload.extend(b"ok");
-            let place = 1 + spelling as u32;
-            let rows = vec![[1, 0, place + 2, 1], [0, place, 2, 0]];
-            let end = payload.len();
-            assert_eq!(read_rows(&schema, 1, &payload), Ok((rows, end, 0)));
-            let cut = &payload[..spelling];
-            assert_eq!(fault(&schema, 1, cut), Some((ExceedsRemaining, 1)));
+        let rows = vec![[1, 0, 4, 1], [0, 2, 2, 0]];
+        let short = [1, 2, b'o', b'k'];
+        assert_eq!(read_rows(&schema, 1, &short), Ok((rows, 4, 0)));
+        for length in 2..=10 {
+            let spare = [&vec![0x80; length - 2][..], &[0]].concat();
+            // Two bytes, and more than there are.
+            for group in [0x82, 0xFF] {
+                let payload = [&[1, group], &spare[..], b"ok"].concat();
+                assert_eq!(fault(&schema, 1, &payload), Some((MalformedVarUint, 1)));
+                let whole = &payload[..1 + length];
+                assert_eq!(fault(&schema, 1, whole), Some((MalformedVarUint, 1)));
+                let cut = &payload[..length];
+                assert_eq!(fault(&schema, 1, cut), Some((ExceedsRemaining, 1)));
+            }
         }
-        for tenth in 2..=255 {
+        for tenth in (0..=255).filter(|&tenth| tenth != 1) {
             let payload = [&[1][..], &[0x80; 9], &[tenth, 0]].concat();
             assert_eq!(fault(&schema, 1, &payload), Some((MalformedVarUint, 1)));
         }
+        let one = [&[1][..], &[0x80; 9], &[1, 0]].concat();
+        assert_eq!(fault(&schema, 1, &one), Some((ExceedsRemaining, 1)));
         let nine = [&[1][..], &[0x80; 9]].concat();
         assert_eq!(fault(&schema, 1, &nine), Some((ExceedsRemaining, 1)));
         let huge = [&[1][..], &[0xFF; 9], &[1]].concat();
@@ -95,8 +99,8 @@ fn lengths_in_one_to_eleven_bytes() {
 #[test]
 fn strings() {
     let schema = holding(12);
-    let bad = [1, 0x82, 0, b'a', 0x80];
-    assert_eq!(fault(&schema, 1, &bad), Some((NotUtf8, 3)));
+    let bad = [1, 2, b'a', 0x80];
+    assert_eq!(fault(&schema, 1, &bad), Some((NotUtf8, 2)));
     assert_eq!(fault(&holding(13), 1, &bad), None);
     for text in ["\0", "\u{FFFE}", "\u{FFFF}", "\u{10FFFF}", ""] {
         let payload = [&[1, text.len() as u8], text.as_bytes()].concat();
@@ -125,6 +129,12 @@ fn counts_above_what_remains() {
     );
     let half = [&[1][..], &[0x80; 9], &[1, 7, 0]].concat();
     assert_eq!(fault(&map, 3, &half), Some((ExceedsRemaining, 1)));
+    // A count with a spare group, whatever it is: none, some, too many.
+    for count in [0x80, 0x81, 0xFF] {
+        let spare = [1, count, 0, 1, 1];
+        assert_eq!(fault(&list, 2, &spare), Some((MalformedVarUint, 1)));
+        assert_eq!(fault(&map, 3, &spare), Some((MalformedVarUint, 1)));
+    }
 }
 
 #[test]
@@ -133,15 +143,17 @@ fn repeated_keys() {
     assert_eq!(fault(&map, 3, &[1, 2, 7, 0, 8, 0]), None);
     assert_eq!(fault(&map, 3, &[1, 2, 7, 0, 7, 9]), Some((DuplicateKey, 4)));
     let text = mapping(12, 1);
-    let short = [1, 2, 1, b'k', 0, 0x81, 0, b'k', 0];
-    assert_eq!(fault(&text, 3, &short), Some((DuplicateKey, 5)));
-    let long = [1, 2, 0x81, 0x80, 0, b'k', 0, 1, b'k', 0];
-    assert_eq!(fault(&text, 3, &long), Some((DuplicateKey, 7)));
+    let same = [1, 2, 1, b'k', 0, 1, b'k', 0];
+    assert_eq!(fault(&text, 3, &same), Some((DuplicateKey, 5)));
+    let spare_later = [1, 2, 1, b'k', 0, 0x81, 0, b'k', 0];
+    assert_eq!(fault(&text, 3, &spare_later), Some((MalformedVarUint, 5)));
+    let spare_earlier = [1, 2, 0x81, 0x80, 0, b'k', 0, 1, b'k', 0];
+    assert_eq!(fault(&text, 3, &spare_earlier), Some((MalformedVarUint, 2)));
     let differ = [1, 2, 1, b'k', 0, 2, b'k', 0, 0];
     assert_eq!(fault(&text, 3, &differ), None);
     let bad_later = [1, 2, 1, b'k', 0, 1, 0x80, 0];
     assert_eq!(fault(&text, 3, &bad_later), Some((NotUtf8, 6)));
-    let empty = [1, 2, 0, 1, 0x80, 0, 1];
+    let empty = [1, 2, 0, 1, 0, 1];
     assert_eq!(fault(&text, 3, &empty), Some((DuplicateKey, 4)));
 }
 
@@ -288,15 +300,11 @@ fn counts_are_judged_before_children_too_deep() {
 fn payloads_of_16384_and_16385_bytes() {
     let schema = holding(13);
     let payload = |length: usize| {
-        let content = length - 4;
-        let size = [
-            content as u8 | 0x80,
-            (content >> 7) as u8 | 0x80,
-            (content >> 14) as u8,
-        ];
+        let content = length - 3;
+        let size = [content as u8 | 0x80, (content >> 7) as u8];
         [&[1][..], &size, &vec![0xEE; content]].concat()
     };
-    let rows = vec![[1, 0, 16_384, 1], [0, 4, 16_380, 0]];
+    let rows = vec![[1, 0, 16_384, 1], [0, 3, 16_381, 0]];
     assert_eq!(
         read_rows(&schema, 1, &payload(16_384)),
         Ok((rows, 16_384, 0))
@@ -313,7 +321,7 @@ fn payloads_of_16384_and_16385_bytes() {
     }
     .bytes();
     let (rows, ..) = read_rows(&list, 2, &payload(16_384)).unwrap();
-    assert_eq!(rows.len(), 16_382);
+    assert_eq!(rows.len(), 16_383);
 }
 
 #[test]

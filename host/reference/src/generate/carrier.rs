@@ -7,7 +7,7 @@
 use super::frames::frame_bytes;
 use super::listings::worked_example;
 use super::table::{Table, ARRAY, STRING};
-use super::value::spelled;
+use super::value::varuint;
 use crate::frame::{Header, Kind};
 use crate::list;
 use crate::schema::NO_TYPE;
@@ -68,7 +68,7 @@ fn schema() -> Vec<u8> {
 }
 
 fn string(text: &str) -> Vec<u8> {
-    let mut bytes = spelled(text.len() as u64, 0);
+    let mut bytes = varuint(text.len() as u64);
     bytes.extend(text.as_bytes());
     bytes
 }
@@ -108,7 +108,7 @@ fn priced(ticket: u64, outcome: u8, time: u64, price: u8) -> Vec<u8> {
 
 fn batch(receipts: &[Vec<u8>], more: bool) -> Vec<u8> {
     let mut bytes = vec![0b11];
-    bytes.extend(spelled(receipts.len() as u64, 0));
+    bytes.extend(varuint(receipts.len() as u64));
     bytes.extend(receipts.concat());
     bytes.push(more.into());
     bytes
@@ -140,7 +140,7 @@ impl Record {
             correlation: call,
         };
         self.bytes.push(side);
-        self.bytes.extend(frame_bytes(&header, payload, 0));
+        self.bytes.extend(frame_bytes(&header, payload));
         self
     }
 }

@@ -2,7 +2,8 @@
 
 use super::rng::Rng;
 use super::table::Table;
-use super::value::{random_text, spare_groups, spelled, Mark, Payload, Spot};
+use super::value::{overlong, padded, random_text, unfinished, varuint, Mark, Payload, Spot};
+use crate::varuint::{decode, Decoded};
 
 /// A change to a payload that makes it wrong in one way; none where the
 /// payload has no spot for it.
@@ -29,36 +30,65 @@ pub fn cut(rng: &mut Rng, _: &Table, payload: &Payload) -> Option<Vec<u8>> {
     Some(payload.bytes[..length].to_vec())
 }
 
-/// A length or count above what remains, by one or by far (20).
-pub fn oversized(rng: &mut Rng, _: &Table, payload: &Payload) -> Option<Vec<u8>> {
+/// A length or count.
+fn choose_size(rng: &mut Rng, payload: &Payload) -> Option<Mark> {
     let is_size = |mark: &Mark| matches!(mark.spot, Spot::Length | Spot::Count | Spot::MapCount);
-    let mark = choose(rng, payload, is_size)?;
+    choose(rng, payload, is_size)
+}
+
+/// A size above what remains after its mark, by one or by far.
+fn oversize(rng: &mut Rng, payload: &Payload, mark: &Mark) -> u64 {
     let remaining = (payload.bytes.len() - mark.end) as u64;
     let limit = match mark.spot {
         Spot::MapCount => remaining / 2,
         _ => remaining,
     };
-    let size = match rng.below(6) {
+    match rng.below(6) {
         0 => 1 << 63,
         1 => u64::MAX - rng.below(3) as u64,
         2 => (1 << 32) + rng.below(3) as u64,
         3 => (1 << 63) + rng.below(3) as u64,
         _ => limit + 1,
-    };
-    let spelled = spelled(size, spare_groups(rng));
-    Some(replaced(payload, mark.place, mark.end, &spelled))
+    }
+}
+
+/// A length or count above what remains, by one or by far (20).
+pub fn oversized(rng: &mut Rng, _: &Table, payload: &Payload) -> Option<Vec<u8>> {
+    let mark = choose_size(rng, payload)?;
+    let size = oversize(rng, payload, &mark);
+    Some(replaced(payload, mark.place, mark.end, &varuint(size)))
+}
+
+/// The payload's end within a length or count, after one to nine bytes (20).
+pub fn cut_size(rng: &mut Rng, _: &Table, payload: &Payload) -> Option<Vec<u8>> {
+    let mark = choose_size(rng, payload)?;
+    Some([&payload.bytes[..mark.place], &unfinished(rng)].concat())
 }
 
 /// A VarUInt of ten bytes or more that is no number of 64 bits (21).
 pub fn malformed(rng: &mut Rng, _: &Table, payload: &Payload) -> Option<Vec<u8>> {
-    let is_size = |mark: &Mark| matches!(mark.spot, Spot::Length | Spot::Count | Spot::MapCount);
-    let mark = choose(rng, payload, is_size)?;
-    let mut bytes = vec![0x80 | rng.byte(); 9];
-    bytes.push(rng.pick(&[2, 3, 0x7F, 0x80, 0x81, 0xFF]));
+    let mark = choose_size(rng, payload)?;
+    let mut bytes = overlong(rng);
     if rng.one_in(3) {
         bytes.push(0);
     }
     Some(replaced(payload, mark.place, mark.end, &bytes))
+}
+
+/// A length or count with spare zero groups, right otherwise or above what
+/// remains (21).
+pub fn padded_size(rng: &mut Rng, _: &Table, payload: &Payload) -> Option<Vec<u8>> {
+    let mark = choose_size(rng, payload)?;
+    let size = match decode(&payload.bytes[mark.place..mark.end]) {
+        Decoded::Whole { value, .. } if !rng.one_in(4) => value,
+        _ => oversize(rng, payload, &mark),
+    };
+    let bytes = padded(rng, size)?;
+    let end = match rng.one_in(8) {
+        true => payload.bytes.len(),
+        false => mark.end,
+    };
+    Some(replaced(payload, mark.place, end, &bytes))
 }
 
 /// A bool of 2 or more (22).
@@ -109,22 +139,36 @@ pub fn bad_text(rng: &mut Rng) -> Vec<u8> {
 pub fn not_utf8(rng: &mut Rng, _: &Table, payload: &Payload) -> Option<Vec<u8>> {
     let mark = choose(rng, payload, |mark| mark.spot == Spot::String)?;
     let text = bad_text(rng);
-    let mut new = spelled(text.len() as u64, spare_groups(rng));
+    let mut new = varuint(text.len() as u64);
     new.extend(text);
     Some(replaced(payload, mark.place, mark.end, &new))
 }
 
-/// A later key with the content of an earlier one, in any spelling (24).
-pub fn repeated_key(rng: &mut Rng, _: &Table, payload: &Payload) -> Option<Vec<u8>> {
+/// Two keys of one map, the earlier first.
+fn choose_keys(rng: &mut Rng, payload: &Payload) -> Option<(Mark, Mark)> {
     let later = choose(rng, payload, |mark| matches!(mark.spot, Spot::Key { .. }))?;
     let earlier = choose(rng, payload, |mark| {
         mark.spot == later.spot && mark.place < later.place
     })?;
+    Some((earlier, later))
+}
+
+/// A later key that is an earlier one again (24).
+pub fn repeated_key(rng: &mut Rng, _: &Table, payload: &Payload) -> Option<Vec<u8>> {
+    let (earlier, later) = choose_keys(rng, payload)?;
+    let key = &payload.bytes[earlier.place..earlier.end];
+    Some(replaced(payload, later.place, later.end, key))
+}
+
+/// A later key with the content of an earlier one and spare zero groups in its
+/// length (21).
+pub fn padded_key(rng: &mut Rng, _: &Table, payload: &Payload) -> Option<Vec<u8>> {
+    let (earlier, later) = choose_keys(rng, payload)?;
+    if earlier.content == earlier.place {
+        return None;
+    }
     let content = &payload.bytes[earlier.content..earlier.end];
-    let mut new = match earlier.content == earlier.place {
-        true => Vec::new(),
-        false => spelled(content.len() as u64, rng.pick(&[0, 1, 2, 9])),
-    };
+    let mut new = padded(rng, content.len() as u64)?;
     new.extend(content);
     Some(replaced(payload, later.place, later.end, &new))
 }
@@ -235,6 +279,7 @@ pub fn twice(rng: &mut Rng, table: &Table, payload: &Payload) -> Option<Vec<u8>>
     const FIRST: &[Damage] = &[
         oversized,
         malformed,
+        padded_size,
         not_bool,
         not_utf8,
         repeated_key,

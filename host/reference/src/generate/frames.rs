@@ -1,19 +1,20 @@
 //! Cases for the frame reader and the frame writer.
 
 use super::rng::Rng;
-use super::value::{spare_groups, spelled};
+use super::value::{overlong, padded, unfinished, varuint};
 use crate::cases::{Case, FrameCase, FrameWriteCase};
-use crate::frame::Header;
+use crate::frame::{Header, HEADER};
+use crate::varuint::{decode, Decoded};
 use crate::MAX_PAYLOAD;
 
-/// A frame with spare groups in its length.
-pub fn frame_bytes(header: &Header, payload: &[u8], spare: usize) -> Vec<u8> {
+/// A frame.
+pub fn frame_bytes(header: &Header, payload: &[u8]) -> Vec<u8> {
     let mut bytes = vec![0xAF, 0x01, 1, header.kind as u8, 0];
     for identifier in header.identifiers {
         bytes.extend(identifier.to_le_bytes());
     }
     bytes.extend(header.correlation.to_le_bytes());
-    bytes.extend(spelled(payload.len() as u64, spare));
+    bytes.extend(varuint(payload.len() as u64));
     bytes.extend(payload);
     bytes
 }
@@ -29,8 +30,7 @@ fn random_header(rng: &mut Rng) -> Header {
 fn random_frame(rng: &mut Rng) -> Vec<u8> {
     let length = rng.pick(&[0, 0, 1, 5, 20, 130]);
     let payload = rng.bytes(length);
-    let spare = spare_groups(rng);
-    frame_bytes(&random_header(rng), &payload, spare)
+    frame_bytes(&random_header(rng), &payload)
 }
 
 /// A whole frame, sometimes with bytes after it.
@@ -58,21 +58,48 @@ pub fn frame_cut(rng: &mut Rng) -> Case {
     Case::Frame(FrameCase { data })
 }
 
+/// A frame that ends within its length, after one to nine bytes of it (1).
+pub fn frame_cut_length(rng: &mut Rng) -> Case {
+    let mut data = random_frame(rng);
+    data.truncate(HEADER);
+    data.extend(unfinished(rng));
+    Case::Frame(FrameCase { data })
+}
+
+/// Replaces the length of a frame.
+fn replace_length(frame: &mut Vec<u8>, bytes: Vec<u8>) {
+    let end = match decode(&frame[HEADER..]) {
+        Decoded::Whole { length, .. } => HEADER + length,
+        _ => HEADER + 1,
+    };
+    frame.splice(HEADER..end, bytes);
+}
+
+/// A length with spare groups: the frame's own, one above its bytes, or one
+/// above the limit.
+fn padded_length(rng: &mut Rng, frame: &[u8]) -> Option<Vec<u8>> {
+    let length = match decode(&frame[HEADER..]) {
+        Decoded::Whole { value, .. } if !rng.one_in(3) => value,
+        _ => rng.pick(&[1, 200, MAX_PAYLOAD as u64, 1 << 20, 1 << 50]),
+    };
+    padded(rng, length)
+}
+
 /// One of the judged fields of a frame made wrong: 2 to 7 by number.
 pub fn spoil(rng: &mut Rng, frame: &mut Vec<u8>, number: u32) {
-    let length = &mut vec![0xFF; 9];
     match number {
         2 => frame[rng.below(2)] ^= 1 << rng.below(8),
         3 => frame[2] = rng.pick(&[0, 2, 0x80, 0xFF]),
         4 => frame[3] = rng.pick(&[0, 9, 10, 0x80, 0xFF]),
         5 => frame[4] = rng.pick(&[1, 2, 0x80, 0xFF]),
         6 => {
-            length.push(rng.pick(&[2, 0x7F, 0x80, 0x81, 0xFF]));
-            frame.splice(25..26, length.iter().copied());
+            let padded = padded_length(rng, frame).filter(|_| !rng.one_in(4));
+            let length = padded.unwrap_or_else(|| overlong(rng));
+            replace_length(frame, length);
         }
         _ => {
             let over = MAX_PAYLOAD as u64 + rng.pick(&[1, 1, 2, 1 << 20, 1 << 50]);
-            frame.splice(25..26, spelled(over, spare_groups(rng)));
+            replace_length(frame, varuint(over));
         }
     }
 }

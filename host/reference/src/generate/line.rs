@@ -5,7 +5,7 @@ use super::frames::{frame_bytes, spoil};
 use super::payload::payload_of;
 use super::rng::Rng;
 use super::table::{add_method, add_method_of, Table, ARRAY, MAP, STRING};
-use super::value::{spare_groups, Content, Maker, Types, Value};
+use super::value::{Content, Maker, Types, Value};
 use crate::calls::{Call, CallTable, FORMS, SLOTS};
 use crate::frame::{Header, Kind};
 use crate::schema::{Schema, NO_TYPE};
@@ -138,11 +138,11 @@ impl Line {
             None => Vec::new(),
         }
     }
+}
 
-    /// A frame that is sent by its own side.
-    fn sent(&self, rng: &mut Rng, header: &Header, kind: Kind, payload: &[u8]) -> Sent {
-        (kind.side(), frame_bytes(header, payload, spare_groups(rng)))
-    }
+/// A frame that is sent by its own side.
+fn sent(header: &Header, kind: Kind, payload: &[u8]) -> Sent {
+    (kind.side(), frame_bytes(header, payload))
 }
 
 /// The kinds an open call may see next.
@@ -184,7 +184,7 @@ pub fn open(rng: &mut Rng, line: &Line) -> Option<Sent> {
     let correlation = line.unused_correlation(rng);
     let header = line.header(method, Kind::Invoke, correlation);
     let payload = line.payload(rng, method, Kind::Invoke);
-    Some(line.sent(rng, &header, Kind::Invoke, &payload))
+    Some(sent(&header, Kind::Invoke, &payload))
 }
 
 /// A frame that its open call allows.
@@ -203,7 +203,7 @@ fn follow_up(rng: &mut Rng, line: &Line, call: &Call, kind: Kind) -> Option<Sent
     let method = call.method as usize;
     let header = line.header(method, kind, call.correlation);
     let payload = line.payload(rng, method, kind);
-    Some(line.sent(rng, &header, kind, &payload))
+    Some(sent(&header, kind, &payload))
 }
 
 /// An ERROR or CANCEL for an open call.
@@ -233,7 +233,7 @@ pub fn unknown_method(rng: &mut Rng, line: &Line) -> Option<Sent> {
     };
     let mut header = line.header(method, Kind::Invoke, correlation);
     header.identifiers[rng.below(3)] ^= 1 << rng.range(5, 31);
-    Some(line.sent(rng, &header, Kind::Invoke, &[]))
+    Some(sent(&header, Kind::Invoke, &[]))
 }
 
 /// An INVOKE for a call that is open (10).
@@ -242,7 +242,7 @@ pub fn already_open(rng: &mut Rng, line: &Line) -> Option<Sent> {
     let method = rng.below(line.table.methods.len());
     let header = line.header(method, Kind::Invoke, call.correlation);
     let payload = line.payload(rng, method, Kind::Invoke);
-    Some(line.sent(rng, &header, Kind::Invoke, &payload))
+    Some(sent(&header, Kind::Invoke, &payload))
 }
 
 /// A frame for a call that is not open (11).
@@ -251,7 +251,7 @@ pub fn not_open(rng: &mut Rng, line: &Line) -> Option<Sent> {
     let kind = Kind::from_number(rng.range(2, 8) as u32)?;
     let header = line.header(method, kind, line.unused_correlation(rng));
     let payload = line.payload(rng, method, kind);
-    Some(line.sent(rng, &header, kind, &payload))
+    Some(sent(&header, kind, &payload))
 }
 
 /// A frame with other identifiers than its call (12).
@@ -263,7 +263,7 @@ pub fn other_identifiers(rng: &mut Rng, line: &Line) -> Option<Sent> {
     if other == call.method as usize {
         header.identifiers[rng.below(3)] ^= 1 << rng.below(32);
     }
-    Some(line.sent(rng, &header, kind, &[]))
+    Some(sent(&header, kind, &[]))
 }
 
 /// A frame that the order of its call does not allow (14).
@@ -296,13 +296,13 @@ pub fn damaged(rng: &mut Rng, line: &Line, damage: Damage) -> Option<Sent> {
     let (header, kind, number) = carrying(rng, line)?;
     let payload = payload_of(rng, &Types::new(&line.table), number, true)?;
     let bytes = damage(rng, &line.table, &payload)?;
-    Some(line.sent(rng, &header, kind, &bytes))
+    Some(sent(&header, kind, &bytes))
 }
 
 /// A frame without a payload where one belongs (20).
 pub fn empty_payload(rng: &mut Rng, line: &Line) -> Option<Sent> {
     let (header, kind, _) = carrying(rng, line)?;
-    Some(line.sent(rng, &header, kind, &[]))
+    Some(sent(&header, kind, &[]))
 }
 
 /// A frame whose payload is a struct within itself, 15 to 18 levels deep (28).
@@ -310,8 +310,8 @@ pub fn deep(rng: &mut Rng, line: &Line) -> Option<Sent> {
     let (header, kind, number) = carrying(rng, line)?;
     let levels = rng.pick(&[15, 16, 17, 17, 17, 18]);
     let payload = nested(rng, &Types::new(&line.table), number, levels)?;
-    let bytes = payload.payload(rng).bytes;
-    Some(line.sent(rng, &header, kind, &bytes))
+    let bytes = payload.payload().bytes;
+    Some(sent(&header, kind, &bytes))
 }
 
 /// A struct whose last field is itself, so many times.
@@ -356,7 +356,7 @@ pub fn unexpected_payload(rng: &mut Rng, line: &Line) -> Option<Sent> {
     let header = line.header(method, kind, correlation);
     let length = rng.range(1, 4);
     let payload = rng.bytes(length);
-    Some(line.sent(rng, &header, kind, &payload))
+    Some(sent(&header, kind, &payload))
 }
 
 /// A right frame with one wrong field of its header (2 to 7).

@@ -4,6 +4,7 @@
 use super::frames::frame_bytes;
 use super::rng::Rng;
 use super::table::Table;
+use super::value::varuint;
 use super::Generator;
 use crate::cases::{Case, ListingCase};
 use crate::frame::{Header, Kind};
@@ -19,14 +20,14 @@ fn table_t() -> Table {
     }
 }
 
-/// A frame of the one method of T, with spare groups in its length.
-fn frame(kind: Kind, correlation: u64, payload: &[u8], spare: usize) -> Vec<u8> {
+/// A frame of the one method of T.
+fn frame(kind: Kind, correlation: u64, payload: &[u8]) -> Vec<u8> {
     let header = Header {
         kind: kind as u32,
         identifiers: [1, 2, 3],
         correlation,
     };
-    frame_bytes(&header, payload, spare)
+    frame_bytes(&header, payload)
 }
 
 /// An entry from the side that its kind belongs to.
@@ -35,7 +36,7 @@ fn entry(kind: Kind, correlation: u64, payload: &[u8]) -> Vec<u8> {
 }
 
 fn entry_from(side: u8, kind: Kind, correlation: u64, payload: &[u8]) -> Vec<u8> {
-    [vec![side], frame(kind, correlation, payload, 0)].concat()
+    [vec![side], frame(kind, correlation, payload)].concat()
 }
 
 const INPUT: &[u8] = &[1, 7];
@@ -68,9 +69,34 @@ pub fn worked_example() -> ListingCase {
 /// A payload of type 4 with so many elements: two rows, and two for each.
 fn elements(number: usize) -> Vec<u8> {
     let mut payload = vec![1];
-    payload.extend(super::value::spelled(number as u64, 0));
+    payload.extend(varuint(number as u64));
     payload.extend([1, 7].repeat(number));
     payload
+}
+
+/// Entries with a wrong magic, version, kind or flags, a malformed length, or
+/// one above 16,384.
+fn wrong_fields() -> Vec<Vec<u8>> {
+    let mut fields = vec![
+        (1, vec![0xAE]),
+        (2, vec![2]),
+        (3, vec![2]),
+        (4, vec![9]),
+        (5, vec![1]),
+        (26, [vec![0x80; 9], vec![2]].concat()),
+        (26, vec![0x81, 0x80, 0x01]),
+    ];
+    // The right length with spare groups, in two to ten bytes.
+    for length in 2..=10 {
+        let padded = [vec![0x82], vec![0x80; length - 2], vec![0]].concat();
+        fields.push((26, padded));
+    }
+    let damaged = |(at, bytes): (usize, Vec<u8>)| {
+        let mut entry = invoke(9);
+        entry.splice(at..at + 1, bytes);
+        entry
+    };
+    fields.into_iter().map(damaged).collect()
 }
 
 /// Records by table T, in the order of 01's rules.
@@ -81,21 +107,7 @@ fn records() -> Vec<Vec<u8>> {
     for length in 1..whole.len() {
         records.push([worked(), whole[..length].to_vec()].concat());
     }
-    // A wrong magic, version, kind, flags; a malformed length; one above 16,384.
-    for (at, bytes) in [
-        (1, &[0xAE][..]),
-        (2, &[2]),
-        (3, &[2]),
-        (4, &[9]),
-        (5, &[1]),
-        (
-            26,
-            &[0x80, 0x80, 0x80, 0x80, 0x80, 0x80, 0x80, 0x80, 0x80, 2],
-        ),
-        (26, &[0x81, 0x80, 0x01]),
-    ] {
-        let mut damaged = whole.clone();
-        damaged.splice(at..at + 1, bytes.iter().copied());
+    for damaged in wrong_fields() {
         records.push([invoke(3), damaged, invoke(4)].concat());
     }
     // A side byte that is neither C nor S: with a whole frame, a cut and a wrong one.
@@ -140,12 +152,7 @@ fn records() -> Vec<Vec<u8>> {
     let more = entry(Kind::Response, 2, &elements(2_048));
     records.push([invoke(1), most, invoke(2), more, invoke(3)].concat());
     // A payload of 16,384 bytes, and one of 16,385.
-    let longest = [
-        vec![1],
-        super::value::spelled(8_190, 0),
-        [1, 7].repeat(8_190),
-    ]
-    .concat();
+    let longest = [vec![1], varuint(8_190), [1, 7].repeat(8_190)].concat();
     records.push([invoke(1), entry(Kind::Response, 1, &longest)].concat());
     records.push(
         [
@@ -167,16 +174,15 @@ fn records() -> Vec<Vec<u8>> {
 }
 
 /// Records at the limit of 65,536 bytes: as many entries as fit, with the
-/// longest identifiers; the last one cut, or with spare groups so that the
-/// record is full; and one byte more.
+/// longest identifiers; the last one cut, or with a payload that makes the
+/// record full; and one byte more.
 fn long_records() -> Vec<Vec<u8>> {
-    let entry = entry(Kind::Cancel, u64::MAX, &[]);
-    let number = MAX_FILE / entry.len();
-    let left = MAX_FILE - number * entry.len();
-    let full = [vec![b'C'], frame(Kind::Cancel, u64::MAX, &[], left)].concat();
-    let most = entry.repeat(number);
-    let cut = [most.clone(), entry[..left].to_vec()].concat();
-    let whole = [entry.repeat(number - 1), full].concat();
+    let empty = entry(Kind::Cancel, u64::MAX, &[]);
+    let number = MAX_FILE / empty.len();
+    let left = MAX_FILE - number * empty.len();
+    let full = entry(Kind::Cancel, u64::MAX, &vec![0; left]);
+    let cut = [empty.repeat(number), empty[..left].to_vec()].concat();
+    let whole = [empty.repeat(number - 1), full].concat();
     let over = [whole.clone(), vec![b'C']].concat();
     vec![cut, whole, over]
 }

@@ -29,7 +29,7 @@ pub fn payload_of(rng: &mut Rng, types: &Types, root: u32, full: bool) -> Option
         full,
     };
     let value = maker.value(root, 16);
-    Some(value.payload(rng))
+    Some(value.payload())
 }
 
 /// A random table and payload.

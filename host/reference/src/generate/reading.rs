@@ -6,7 +6,7 @@ use super::pair::{extended, old_table};
 use super::payload::{payload_of, sample, sample_holding};
 use super::rng::Rng;
 use super::table::{Table, ARRAY, MAP, STRING, STRUCT};
-use super::value::{spelled, Types};
+use super::value::{varuint, Types};
 use crate::cases::{Case, ReadCase};
 use crate::{read, MAX_PAYLOAD};
 
@@ -133,7 +133,7 @@ pub fn read_long(rng: &mut Rng, length: usize) -> Case {
     let text = table.add_type(kind, 0, 0);
     let root = table.add_struct(&[[text, 0]]);
     let mut payload = vec![1];
-    payload.extend(spelled(length as u64 - 3, 0));
+    payload.extend(varuint(length as u64 - 3));
     payload.resize(length, b'x');
     Case::Read(ReadCase {
         schema: table.bytes(),
@@ -158,7 +158,7 @@ pub fn read_large_map(rng: &mut Rng) -> Case {
     let root = table.add_struct(&[[map, 0]]);
     let pairs = rng.range(300, 700) as u16;
     let mut payload = vec![1];
-    payload.extend(spelled(pairs.into(), 0));
+    payload.extend(varuint(pairs.into()));
     for pair in 0..pairs {
         payload.extend((pair ^ 0x2A5).to_le_bytes());
         payload.push((pair % 2) as u8);
@@ -193,7 +193,7 @@ pub fn read_across(rng: &mut Rng, new_to_old: bool) -> Case {
 pub fn read_deep(rng: &mut Rng, levels: usize, damage: Damage) -> Case {
     let table = deep_table(rng);
     let root = rng.pick(&[0, 0, 0, 6]);
-    let payload = deep_value(rng, &table, root, levels - 1).payload(rng);
+    let payload = deep_value(rng, &table, root, levels - 1).payload();
     let bytes = damage(rng, &table, &payload).unwrap_or(payload.bytes);
     read_case(rng, &table, root, bytes)
 }

@@ -1,4 +1,4 @@
-//! Well-typed values, and their spelling on the wire with marks for damage.
+//! Well-typed values, and their bytes on the wire with marks for damage.
 
 use super::rng::Rng;
 use super::table::{Table, ARRAY, BYTES, MAP, STRING, STRUCT};
@@ -314,43 +314,57 @@ pub struct Payload {
     maps: usize,
 }
 
-/// A VarUInt with so many spare zero groups, to ten bytes at most.
-pub fn spelled(value: u64, spare: usize) -> Vec<u8> {
+/// The VarUInt of a number, which is the shortest.
+pub fn varuint(value: u64) -> Vec<u8> {
     let mut bytes = vec![0; 10];
     let length = crate::varuint::encode(value, &mut bytes);
     bytes.truncate(length);
-    for _ in 0..spare.min(10 - length) {
-        if let Some(last) = bytes.last_mut() {
-            *last |= 0x80;
-        }
-        bytes.push(0);
-    }
     bytes
 }
 
-/// How many spare groups the next VarUInt gets; none in most.
-pub fn spare_groups(rng: &mut Rng) -> usize {
-    match rng.below(12) {
-        0 => 1,
-        1 => rng.range(1, 9),
-        _ => 0,
+/// A number with spare zero groups, one a little more often than others, in
+/// ten bytes at most; none where its VarUInt has ten already.
+pub fn padded(rng: &mut Rng, value: u64) -> Option<Vec<u8>> {
+    let mut bytes = varuint(value);
+    if bytes.len() == 10 {
+        return None;
+    }
+    let length = match rng.one_in(8) {
+        true => bytes.len() + 1,
+        false => rng.range(bytes.len() + 1, 10),
+    };
+    *bytes.last_mut()? |= 0x80;
+    bytes.resize(length - 1, 0x80);
+    bytes.push(0);
+    Some(bytes)
+}
+
+/// The first one to nine bytes of a VarUInt that has more.
+pub fn unfinished(rng: &mut Rng) -> Vec<u8> {
+    let length = rng.range(1, 9);
+    match rng.one_in(2) {
+        true => vec![0x80; length],
+        false => (0..length).map(|_| 0x80 | rng.byte()).collect(),
     }
 }
 
+/// Ten bytes of which the last is above 1, so that they are no VarUInt.
+pub fn overlong(rng: &mut Rng) -> Vec<u8> {
+    let mut bytes = vec![0x80 | rng.byte(); 9];
+    bytes.push(rng.pick(&[2, 3, 0x7F, 0x80, 0x81, 0xFF]));
+    bytes
+}
+
 impl Value {
-    /// The shortest spelling.
+    /// The bytes of the value.
     pub fn bytes(&self) -> Vec<u8> {
-        let mut payload = Payload::default();
-        payload.put(self, &mut || 0, true);
-        payload.bytes
+        self.payload().bytes
     }
 
-    /// A spelling with spare groups here and there.
-    pub fn payload(&self, rng: &mut Rng) -> Payload {
+    /// The value as the root of a payload.
+    pub fn payload(&self) -> Payload {
         let mut payload = Payload::default();
-        let plain = rng.one_in(2);
-        let mut spare = || if plain { 0 } else { spare_groups(rng) };
-        payload.put(self, &mut spare, false);
+        payload.put(self, false);
         payload
     }
 }
@@ -374,14 +388,14 @@ impl Payload {
         });
     }
 
-    fn put_size(&mut self, size: usize, spot: Spot, spare: &mut dyn FnMut() -> usize) {
+    fn put_size(&mut self, size: usize, spot: Spot) {
         let place = self.bytes.len();
-        self.bytes.extend(spelled(size as u64, spare()));
+        self.bytes.extend(varuint(size as u64));
         self.mark(spot, place, place);
     }
 
     /// Adds a value and the marks of everything in it.
-    fn put(&mut self, value: &Value, spare: &mut dyn FnMut() -> usize, inner: bool) {
+    fn put(&mut self, value: &Value, inner: bool) {
         let place = self.bytes.len();
         match &value.content {
             Content::Scalar(content) => {
@@ -391,7 +405,7 @@ impl Payload {
                 }
             }
             Content::Text(content) => {
-                self.put_size(content.len(), Spot::Length, spare);
+                self.put_size(content.len(), Spot::Length);
                 let start = self.bytes.len();
                 self.bytes.extend(content);
                 if value.kind == STRING {
@@ -399,12 +413,12 @@ impl Payload {
                 }
             }
             Content::Items(items) => {
-                self.put_size(items.len(), Spot::Count, spare);
+                self.put_size(items.len(), Spot::Count);
                 for item in items {
-                    self.put(item, spare, true);
+                    self.put(item, true);
                 }
             }
-            Content::Pairs(pairs) => self.put_pairs(pairs, spare),
+            Content::Pairs(pairs) => self.put_pairs(pairs),
             Content::Fields {
                 bits,
                 width,
@@ -414,25 +428,25 @@ impl Payload {
                 let number = value.number;
                 self.mark(Spot::Bitmap { number, inner }, place, place);
                 for field in fields {
-                    self.put(field, spare, true);
+                    self.put(field, true);
                 }
             }
         }
     }
 
-    fn put_pairs(&mut self, pairs: &[(Value, Value)], spare: &mut dyn FnMut() -> usize) {
+    fn put_pairs(&mut self, pairs: &[(Value, Value)]) {
         let map = self.maps;
         self.maps += 1;
-        self.put_size(pairs.len(), Spot::MapCount, spare);
+        self.put_size(pairs.len(), Spot::MapCount);
         for (key, value) in pairs {
             let place = self.bytes.len();
-            self.put(key, spare, true);
+            self.put(key, true);
             let content = match &key.content {
                 Content::Text(content) => self.bytes.len() - content.len(),
                 _ => place,
             };
             self.mark(Spot::Key { map }, place, content);
-            self.put(value, spare, true);
+            self.put(value, true);
         }
     }
 }

@@ -50,8 +50,8 @@ const EXTENDS: Wheel = &[
 ];
 
 const READ: Wheel = &[
-    any(50, |rng| reading::read_any(rng, damage::whole)),
-    any(30, |rng| reading::read_sized(rng, damage::whole)),
+    any(76, |rng| reading::read_any(rng, damage::whole)),
+    any(48, |rng| reading::read_sized(rng, damage::whole)),
     any(24, |rng| reading::read_any(rng, damage::tail)),
     any(20, |rng| reading::read_across(rng, true)),
     aim(8, 26, |rng| reading::read_across(rng, true)),
@@ -60,7 +60,12 @@ const READ: Wheel = &[
     aim(6, 20, |rng| reading::read_sized(rng, damage::cut)),
     aim(18, 20, |rng| reading::read_sized(rng, damage::oversized)),
     aim(8, 20, |rng| reading::read_any(rng, damage::short_tail)),
-    aim(16, 21, |rng| reading::read_sized(rng, damage::malformed)),
+    aim(8, 20, |rng| reading::read_sized(rng, damage::cut_size)),
+    aim(12, 21, |rng| reading::read_sized(rng, damage::malformed)),
+    aim(40, 21, |rng| reading::read_sized(rng, damage::padded_size)),
+    aim(6, 21, |rng| {
+        reading::read_holding(rng, table::MAP, damage::padded_key)
+    }),
     aim(14, 22, |rng| {
         reading::read_holding(rng, 1, damage::not_bool)
     }),
@@ -101,9 +106,9 @@ const READ: Wheel = &[
 
 /// Payloads of one table read by another that extends it, or that it extends.
 pub const ACROSS: Wheel = &[
-    any(6, |rng| reading::read_across(rng, true)),
-    aim(1, 26, |rng| reading::read_across(rng, true)),
-    any(2, |rng| reading::read_across(rng, false)),
+    any(12, |rng| reading::read_across(rng, true)),
+    aim(2, 26, |rng| reading::read_across(rng, true)),
+    any(5, |rng| reading::read_across(rng, false)),
 ];
 
 const SCALAR: Wheel = &[
@@ -130,7 +135,7 @@ const SCALAR: Wheel = &[
 ];
 
 const WRITE: Wheel = &[
-    any(40, |rng| sheet::write_any(rng, sheet::as_read)),
+    any(46, |rng| sheet::write_any(rng, sheet::as_read)),
     any(30, |rng| sheet::write_any(rng, sheet::made_up)),
     aim(10, 0, |rng| {
         sheet::write_holding(rng, table::MAP, sheet::made_up)
@@ -177,13 +182,14 @@ const WRITE: Wheel = &[
 ];
 
 const FRAME: Wheel = &[
-    aim(30, 0, frames::frame_good),
+    aim(44, 0, frames::frame_good),
     aim(30, 1, frames::frame_cut),
+    aim(8, 1, frames::frame_cut_length),
     aim(12, 2, |rng| frames::frame_spoilt(rng, 2)),
     aim(10, 3, |rng| frames::frame_spoilt(rng, 3)),
     aim(10, 4, |rng| frames::frame_spoilt(rng, 4)),
     aim(10, 5, |rng| frames::frame_spoilt(rng, 5)),
-    aim(12, 6, |rng| frames::frame_spoilt(rng, 6)),
+    aim(36, 6, |rng| frames::frame_spoilt(rng, 6)),
     aim(12, 7, |rng| frames::frame_spoilt(rng, 7)),
     any(10, |rng| frames::frame_spoilt(rng, 7)),
     any(14, frames::frame_random),
@@ -198,7 +204,7 @@ const FRAME_WRITE: Wheel = &[
 ];
 
 const RUN: Wheel = &[
-    any(40, runs::run_good),
+    any(56, runs::run_good),
     any(2, runs::run_full),
     aim(6, 30, runs::run_small_sheet),
     any(5, |rng| runs::run_with(rng, line::wrong_side)),
@@ -213,13 +219,14 @@ const RUN: Wheel = &[
     aim(3, 3, |rng| runs::run_spoilt(rng, 3)),
     aim(3, 4, |rng| runs::run_spoilt(rng, 4)),
     aim(3, 5, |rng| runs::run_spoilt(rng, 5)),
-    aim(3, 6, |rng| runs::run_spoilt(rng, 6)),
+    aim(6, 6, |rng| runs::run_spoilt(rng, 6)),
     aim(3, 7, |rng| runs::run_spoilt(rng, 7)),
     aim(4, 20, |rng| runs::run_damaged(rng, damage::cut)),
     aim(3, 20, |rng| runs::run_with(rng, line::empty_payload)),
     aim(3, 20, |rng| runs::run_damaged(rng, damage::oversized)),
     any(5, |rng| runs::run_damaged(rng, damage::tail)),
-    aim(4, 21, |rng| runs::run_damaged(rng, damage::malformed)),
+    aim(3, 21, |rng| runs::run_damaged(rng, damage::malformed)),
+    aim(8, 21, |rng| runs::run_damaged(rng, damage::padded_size)),
     aim(4, 22, |rng| runs::run_damaged(rng, damage::not_bool)),
     aim(4, 23, |rng| runs::run_damaged(rng, damage::not_utf8)),
     aim(5, 24, |rng| runs::run_damaged(rng, damage::repeated_key)),
@@ -243,7 +250,7 @@ const RECEIVE: Wheel = &[
     aim(3, 3, |rng| runs::receive_spoilt(rng, 3)),
     aim(3, 4, |rng| runs::receive_spoilt(rng, 4)),
     aim(3, 5, |rng| runs::receive_spoilt(rng, 5)),
-    aim(3, 6, |rng| runs::receive_spoilt(rng, 6)),
+    aim(8, 6, |rng| runs::receive_spoilt(rng, 6)),
     aim(3, 7, |rng| runs::receive_spoilt(rng, 7)),
     aim(4, 8, |rng| runs::receive_with(rng, line::wrong_side)),
     aim(4, 9, |rng| runs::receive_with(rng, line::unknown_method)),
@@ -256,7 +263,8 @@ const RECEIVE: Wheel = &[
     aim(12, 14, |rng| runs::receive_with(rng, line::out_of_order)),
     aim(16, 15, runs::receive_bad_calls),
     aim(4, 20, |rng| runs::receive_damaged(rng, damage::cut)),
-    aim(3, 21, |rng| runs::receive_damaged(rng, damage::malformed)),
+    aim(2, 21, |rng| runs::receive_damaged(rng, damage::malformed)),
+    aim(8, 21, |rng| runs::receive_damaged(rng, damage::padded_size)),
     aim(3, 22, |rng| runs::receive_damaged(rng, damage::not_bool)),
     aim(3, 23, |rng| runs::receive_damaged(rng, damage::not_utf8)),
     aim(3, 24, |rng| {

@@ -9,8 +9,8 @@ use lib.Count.{ones, onesIn, ones-le}
 use lib.ListN.{length, take, drop, length-drop}
 use lib.Pow.{pow-pos, shr-lt}
 use lib.Seq.{length-take-le}
-use Rattle.wire.specs.Little.{little}
-use Rattle.wire.proofs.Numbers.{Bytes, bytes-drop, bytes-take, little-below, pow-bytes}
+use Rattle.wire.specs.Little.{little, Bytes}
+use Rattle.wire.proofs.Numbers.{bytes-drop, bytes-take, little-below, pow-bytes}
 use Rattle.wire.proofs.Bitmaps.{ones-split, ones-in, ones-low, known-count, unknown-count}
 use Rattle.wire.proofs.bitmap.read.Statement.{statement}
 use Rattle.wire.proofs.bitmap.read.Tie as tie

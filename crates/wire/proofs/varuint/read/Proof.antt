@@ -3,27 +3,23 @@
 use mathlib.Core.Path.{sym, _∙_}
 use native.Mathlib.Omega.{arith}
 use borrow.Author.Needs.{needs}
-use Rattle.wire.specs.Varuint.{front}
-use Rattle.wire.proofs.Varuints.{groups-cut, one-number, more-groups}
+use Rattle.wire.proofs.Varuints.{front-cut, first-number, first-more}
 use Rattle.wire.proofs.varuint.read.Statement.{statement}
 use Rattle.wire.proofs.varuint.read.Tie as tie
 
 returns : tie.Need-returns
-unfolding front
-returns c = sym (groups-cut 9 (c .before .before .args .s .now) (c .before .before .args .at) (c .if1 .taken))
+returns c = sym (front-cut (c .before .before .args .s .now) (c .before .before .args .at) (c .if1 .taken))
 
 returns-2 : tie.Need-returns-2
-unfolding front
 returns-2 c =
     let a = c .before .before .before .before .before .args in
-    one-number (a .s .now) (a .at) 10 (c .before .wide .result) (omega arith) (c .before .wide .ensures .0) (omega arith) (omega arith)
+    first-number (a .s .now) (a .at) (c .before .wide .result) (omega arith) (c .before .wide .ensures .0) (omega arith)
 
 returns-3 : tie.Need-returns-3
-unfolding front
 returns-3 c =
     let a = c .before .before .before .before .before .before .args in
     let w = c .before .before .wide in
-    c .read-more .ensures ∙ more-groups (a .s .now) (a .at) 10 (w .result) (omega arith) (w .ensures .0) (omega arith) (omega arith)
+    c .read-more .ensures ∙ first-more (a .s .now) (a .at) (w .result) (omega arith) (w .ensures .0) (omega arith)
 
 pub read-spec : {M : Type 1} → statement M
 read-spec = tie.close (tie.spec returns (λ c. search needs) (λ c κs. search needs) (λ c. search needs) returns-2 (λ c. search needs) (λ c κs. search needs) returns-3)

@@ -5,12 +5,13 @@ use Prim.Native.Nat.{ℕ, suc, _+_, _-_, _*_, _^_, _≤_, _<_}
 use native.Mathlib.Nat.{pow-le-pow-right, pow-suc, mul-le-mul-right, lt-of-lt-of-le}
 use native.Mathlib.Omega.{arith}
 use borrow.Author.Needs.{needs}
+use borrow.Author.Tests.{eq-eqb, ne-eqb}
 use lib.Dec.{lit<}
 use lib.ListN.{length, drop}
 use Rattle.wire.specs.declared.varuint.VarUInt.{VarUInt}
 use Rattle.wire.specs.declared.varuint.VarUInt.the-variants.{Cut}
 use Rattle.wire.specs.Varuint.{before, groups}
-use Rattle.wire.proofs.Varuints.{behind, behind-first, behind-more, full, groups-cut, last-number, last-bad, one-number, more-groups}
+use Rattle.wire.proofs.Varuints.{behind, behind-first, behind-more, full, groups-cut, last-bad, last-good, one-group, tenth-group, tenth-above, more-groups}
 use Rattle.wire.proofs.varuint.read_more.Statement.{statement}
 use Rattle.wire.proofs.varuint.read_more.Tie as tie
 
@@ -57,23 +58,38 @@ loop-again c =
       omega arith,
       (full 128 (l .loop .value) (l .loop .weight) (w .result - 128) (l .loop .inv .1 .0) (omega arith), ap (λ (x : ℕ). x * 128) (l .loop .inv .1 .1) ∙ sym (ap (λ (k : ℕ). 128 ^ k) one ∙ pow-suc 128 (10 - l .loop .left))),
       behind-more (l .loop .value) (l .loop .weight) (w .result - 128) (groups (l .loop .left - 1) (drop (l .loop .i + 1) (a .s .now)) (l .loop .i + 1))
-          ∙ at l _ (more-groups (a .s .now) (l .loop .i) (l .loop .left) (w .result) (omega arith) (w .ensures .0) (omega arith) (omega arith)),
+          ∙ at l _ (more-groups (a .s .now) (l .loop .i) (w .result) (omega arith) (w .ensures .0) (l .loop .left) (omega arith) (omega arith)),
     )
 
 returns-2 : tie.Need-returns-2 Inv-loop μ-loop
 returns-2 c =
-    let l = c .before .before .before .before .before in
-    at l _ (one-number (l .before .before .args .s .now) (l .loop .i) (l .loop .left) (c .before .wide .result) (omega arith) (c .before .wide .ensures .0) (omega arith) (omega arith))
+    let l = c .before .before .before .before .before .before in
+    let w = c .before .before .wide in
+    at l _ (last-bad (w .result) (l .loop .i) (eq-eqb (w .result) _ (c .if3 .taken)) ∙ one-group (l .before .before .args .s .now) (l .loop .i) (w .result) (omega arith) (w .ensures .0) (l .loop .left) (omega arith) (omega arith))
 
-returns-4 : tie.Need-returns-4 Inv-loop μ-loop
-returns-4 c =
-    let l = c .before .before .before .before .before in
-    at l _ (last-number (l .before .before .args .s .now) (l .loop .i) (l .loop .left) (c .before .wide2 .result) (omega arith) (c .before .wide2 .ensures .0) (omega arith) (omega arith))
+returns-3 : tie.Need-returns-3 Inv-loop μ-loop
+returns-3 c =
+    let l = c .before .before .before .before .before .before in
+    let w = c .before .before .wide in
+    at l _ (last-good (w .result) (l .loop .i) (ne-eqb (w .result) _ (c .if3 .left)) ∙ one-group (l .before .before .args .s .now) (l .loop .i) (w .result) (omega arith) (w .ensures .0) (l .loop .left) (omega arith) (omega arith))
 
 returns-5 : tie.Need-returns-5 Inv-loop μ-loop
 returns-5 c =
+    let l = c .before .before .before .before .before .before in
+    let w = c .before .before .wide2 in
+    at l _ (last-bad (w .result) (l .loop .i) (eq-eqb (w .result) _ (c .if6 .taken)) ∙ tenth-group (l .before .before .args .s .now) (l .loop .i) (w .result) (omega arith) (w .ensures .0) (l .loop .left) (omega arith) (omega arith))
+
+returns-6 : tie.Need-returns-6 Inv-loop μ-loop
+returns-6 c =
+    let l = c .before .before .before .before .before .before in
+    let w = c .before .before .wide2 in
+    at l _ (last-good (w .result) (l .loop .i) (ne-eqb (w .result) _ (c .if6 .left)) ∙ tenth-group (l .before .before .args .s .now) (l .loop .i) (w .result) (omega arith) (w .ensures .0) (l .loop .left) (omega arith) (omega arith))
+
+returns-7 : tie.Need-returns-7 Inv-loop μ-loop
+returns-7 c =
     let l = c .before .before .before .before .before in
-    at l _ (last-bad (l .before .before .args .s .now) (l .loop .i) (l .loop .left) (c .before .wide2 .result) (omega arith) (c .before .wide2 .ensures .0) (omega arith) (omega arith))
+    let w = c .before .wide2 in
+    at l _ (tenth-above (l .before .before .args .s .now) (l .loop .i) (w .result) (omega arith) (w .ensures .0) (l .loop .left) (omega arith) (omega arith))
 
 pub read-more-spec : {M : Type 1} → statement M
 read-more-spec =
@@ -85,10 +101,11 @@ read-more-spec =
     (λ c. cut (c .before .before) (c .if1 .taken))
     (λ c. search needs)
     (λ c κs. search needs)
-    (λ c. omega (arith, fits (c .before .before .before .before .before) 128 (c .before .wide .result) 8 (omega arith) (omega arith)))
-    (λ c. omega (arith, fits (c .before .before .before .before .before) 128 (c .before .wide .result) 8 (omega arith) (omega arith)))
-    (λ c. search needs)
     returns-2
+    (λ c. omega (arith, fits (c .before .before .before .before .before .before) 128 (c .before .before .wide .result) 8 (omega arith) (omega arith)))
+    (λ c. omega (arith, fits (c .before .before .before .before .before .before) 128 (c .before .before .wide .result) 8 (omega arith) (omega arith)))
+    (λ c. search needs)
+    returns-3
     (λ c. omega (arith, fits (c .before .before .before .before .before) 128 (c .before .wide .result - 128) 8 (omega arith) (omega arith)))
     (λ c. omega (arith, fits (c .before .before .before .before .before) 128 (c .before .wide .result - 128) 8 (omega arith) (omega arith)))
     (λ c. omega (arith, fits (c .before .before .before .before .before) 128 127 8 (omega arith) (omega arith)))
@@ -96,11 +113,12 @@ read-more-spec =
     (λ c. search needs)
     (λ c. search needs)
     loop-again
-    (λ c. cut (c .before .before) (c .if3 .taken))
+    (λ c. cut (c .before .before) (c .if4 .taken))
     (λ c. search needs)
     (λ c κs. search needs)
-    (λ c. omega (arith, fits (c .before .before .before .before .before) 2 (c .before .wide2 .result) 9 (omega arith) (omega arith)))
-    (λ c. omega (arith, fits (c .before .before .before .before .before) 2 (c .before .wide2 .result) 9 (omega arith) (omega arith)))
+    returns-5
+    (λ c. omega (arith, fits (c .before .before .before .before .before .before) 2 (c .before .before .wide2 .result) 9 (omega arith) (omega arith)))
+    (λ c. omega (arith, fits (c .before .before .before .before .before .before) 2 (c .before .before .wide2 .result) 9 (omega arith) (omega arith)))
     (λ c. search needs)
-    returns-4
-    returns-5)
+    returns-6
+    returns-7)
