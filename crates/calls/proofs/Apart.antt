@@ -7,8 +7,8 @@ use mathlib.Core.List.{List, [], _∷_}
 use Prim.Native.Nat.{ℕ, zero, suc, _<_, _≤_}
 use native.Mathlib.Omega.{arith}
 use lib.ListN.{length, set, length-set}
-use lib.Dec.{eqb, leb, eqb·suc-suc}
-use borrow.Author.Tests.{eqb-true, eqb-false, ne-eqb, leb-true, le-leb, not-true, not-false}
+use lib.Dec.{eqb, eqb·suc-suc}
+use borrow.Author.Tests.{eqb-true, eqb-false, ne-eqb, not-true, not-false}
 use Rattle.schema.specs.declared.Found.{Found}
 use Rattle.schema.specs.declared.Found.the-variants.{At, Missing}
 use Rattle.schema.specs.Table.{Table}
@@ -19,14 +19,15 @@ use Rattle.calls.specs.declared.Payload.{Payload}
 use Rattle.calls.specs.declared.Judged.{Judged}
 use Rattle.calls.specs.declared.Judged.the-variants.{Stop, Opens, Goes}
 use Rattle.calls.specs.Forms.{rowOf}
+use Rattle.calls.specs.Numbers.{endsCall}
 use Rattle.calls.specs.Record.{emptyCall, openedCall, isCall, isFree, allowed, ends, afterFrame}
 use Rattle.calls.specs.Slots.{slot, firstSlot, countOpen, formRow}
 use Rattle.calls.specs.Judge.{rightSide, payloadOf, opensAt, judgeInvoke, judgeOther, judgeOf}
-use Rattle.calls.specs.Step.{numberOf, endsCall, slotsAfter, stepOf, dueOf, receive}
+use Rattle.calls.specs.Step.{numberOf, slotsAfter, stepOf, dueOf, receive}
 use Rattle.calls.specs.Good.{GoodTable}
 use Rattle.calls.specs.Apart.{Own, none, one, recordAt, ownOf, full, Verdict, stop, goes, verdict, invokeVerdict, otherVerdict, verdictOf, verdictDue, verdictNumber, kept, verdictOwn, touched, Freed}
-use Rattle.schema.proofs.Bools.{cases, clash, and-i, and-left, and-right, is-false}
-use Rattle.calls.proofs.Searches.{found-in, found-passes, found-lowest, none-passes, only-found, none-found, slot-same, slot-other, past-end, at-at}
+use Rattle.schema.proofs.Bools.{cases, clash, is-false}
+use Rattle.calls.proofs.Searches.{found-in, found-passes, found-lowest, none-passes, only-found, none-found, slot-same, slot-other, past-end, missing-at, at-at}
 use Rattle.calls.proofs.Judgement.{Opening, Going, judged-opens, judged-goes}
 use Rattle.calls.proofs.Kept.{after-cases, id-after, call-open, call-id, is-call}
 
@@ -113,17 +114,14 @@ module _ (T : Table) (f : Frame) (reading : Payload → ℕ) where
       let J = judgeOf T f l in
       number-by J (reading (dueOf J)) ∙ ap (λ (d : Payload). verdictNumber (verdict J) (reading d)) (due-by J) ∙ ap answer (judged-by T f l)
 
-  -- Two tables with the same own record and, for INVOKE, as much room get the same judgement but for the slot, and the same number.
-  module _ (l₁ l₂ : List Call) (same : ownOf (f .correlation) l₁ ≡ ownOf (f .correlation) l₂) (room : f .kind ≡ 1 → full l₁ ≡ full l₂) where
-    same-verdict : verdictOf T f (ownOf (f .correlation) l₁) (full l₁) ≡ verdictOf T f (ownOf (f .correlation) l₂) (full l₂)
-    same-verdict =
-        ap (λ (o : Own). verdictOf T f o (full l₁)) same ∙ room-aside T f (ownOf (f .correlation) l₂) (full l₁) (full l₂) room
+-- Two tables with the same own record and, for INVOKE, as much room get the same judgement but for the slot.
+module _ (T : Table) (f : Frame) (l₁ l₂ : List Call) (same : ownOf (f .correlation) l₁ ≡ ownOf (f .correlation) l₂) (room : f .kind ≡ 1 → full l₁ ≡ full l₂) where
+  pub same-verdict : verdictOf T f (ownOf (f .correlation) l₁) (full l₁) ≡ verdictOf T f (ownOf (f .correlation) l₂) (full l₂)
+  same-verdict =
+      ap (λ (o : Own). verdictOf T f o (full l₁)) same ∙ room-aside T f (ownOf (f .correlation) l₂) (full l₁) (full l₂) room
 
-    pub same-judgement : verdict (judgeOf T f l₁) ≡ verdict (judgeOf T f l₂)
-    same-judgement = judged-by T f l₁ ∙ same-verdict ∙ sym (judged-by T f l₂)
-
-    pub same-number : receive T f reading l₁ .number ≡ receive T f reading l₂ .number
-    same-number = answered l₁ ∙ ap answer same-verdict ∙ sym (answered l₂)
+  pub same-judgement : verdict (judgeOf T f l₁) ≡ verdict (judgeOf T f l₂)
+  same-judgement = judged-by T f l₁ ∙ same-verdict ∙ sym (judged-by T f l₂)
 
 -- ---- the own record
 -- the record x at slot i, where no other record is open under the identifier
@@ -214,16 +212,6 @@ module _ (T : Table) (f : Frame) (l : List Call) (g : GoodTable T l) where
       ∙ ap (λ (d : Payload). verdictOwn (verdict J) (reading d) (ownOf mine l)) (due-by J)
       ∙ ap (λ (v : Verdict). verdictOwn v (reading (verdictDue v)) (ownOf mine l)) (judged-by T f l)
 
--- Two good tables with the same own record and, for INVOKE, as much room have the same own record afterwards.
-pub same-own : (T : Table) (f : Frame) (reading : Payload → ℕ) (l₁ l₂ : List Call) → GoodTable T l₁ → GoodTable T l₂ →
-    ownOf (f .correlation) l₁ ≡ ownOf (f .correlation) l₂ → (f .kind ≡ 1 → full l₁ ≡ full l₂) →
-    ownOf (f .correlation) (receive T f reading l₁ .table .slots) ≡ ownOf (f .correlation) (receive T f reading l₂ .table .slots)
-same-own T f reading l₁ l₂ g₁ g₂ same room =
-    own-after T f l₁ g₁ reading
-    ∙ ap (λ (v : Verdict). verdictOwn v (reading (verdictDue v)) (ownOf (f .correlation) l₁)) (same-verdict T f reading l₁ l₂ same room)
-    ∙ ap (verdictOwn (verdictOf T f (ownOf (f .correlation) l₂) (full l₂)) (reading (verdictDue (verdictOf T f (ownOf (f .correlation) l₂) (full l₂))))) same
-    ∙ sym (own-after T f l₂ g₂ reading)
-
 -- ---- the other records
 -- a record that is free, or open under id, is open under no other correlation
 not-other : (k id : ℕ) (c : Call) → (k ≡ id → ⊥) → (c .«open» ≡ true → c .correlation ≡ id) → isCall k c ≡ false
@@ -278,6 +266,11 @@ module _ (T : Table) (f : Frame) (l : List Call) where
   unfolding receive stepOf
   others-kept reading k n = stepped-other k n (reading (dueOf (judgeOf T f l))) (judgeOf T f l) refl
 
+-- an accepted frame is no refusal
+none-ended : endsCall 0 ≡ false
+unfolding endsCall
+none-ended = refl
+
 -- ---- the slots
 -- no slot but the one touched is changed
 untouched : (l : List Call) (p : ℕ) (J : Judged) (j : ℕ) → (touched J ≡ At j → ⊥) → slot (slotsAfter J p l) j ≡ slot l j
@@ -299,6 +292,19 @@ module _ (T : Table) (f : Frame) (l : List Call) where
   unfolding receive stepOf
   other-slots reading j h = untouched l (reading (dueOf (judgeOf T f l))) (judgeOf T f l) j h
 
+  -- the slot that a frame touches is free, or open under the frame's correlation
+  touched-own : (J : Judged) → judgeOf T f l ≡ J → (i : ℕ) → touched J ≡ At i → slot l i .«open» ≡ true → slot l i .correlation ≡ f .correlation
+  touched-own (Stop n) e i t o = missing-at i t
+  touched-own (Opens j c d) e i t o =
+      clash (slot l i .«open») o (subst (λ (n : ℕ). slot l n .«open» ≡ false) (at-at j i t) (not-true (slot l j .«open») (found-passes isFree l j (judged-opens T f l j c d e .lowest))))
+  touched-own (Goes j c d) e i t o =
+      subst (λ (n : ℕ). slot l n .correlation ≡ f .correlation) (at-at j i t) (call-id (f .correlation) (slot l j) (is-own T f l j c (judged-goes T f l j c d e)))
+
+  -- An open slot under another correlation is unchanged.
+  pub open-kept : (reading : Payload → ℕ) (i : ℕ) → slot l i .«open» ≡ true → (slot l i .correlation ≡ f .correlation → ⊥)
+      → slot (receive T f reading l .table .slots) i ≡ slot l i
+  open-kept reading i o n = other-slots reading i (λ t. n (touched-own (judgeOf T f l) refl i t o))
+
   -- A new call takes the lowest free slot.
   pub lowest-free : (j : ℕ) (c : Call) (d : Payload) → judgeOf T f l ≡ Opens j c d →
       (slot l j .«open» ≡ false) × ((k : ℕ) → k < j → slot l k .«open» ≡ true)
@@ -319,9 +325,9 @@ module _ (T : Table) (f : Frame) (l : List Call) where
           ⊎-elim (λ v. v .0) (λ v. clash true refl (subst (λ (x : Call). x .«open» ≡ false) (w .isNext ∙ v .1) z)) (after-cases T (f .kind) (slot l i))
 
       go : (a b : Bool) → eqb p 0 ≡ a → endsCall p ≡ b → slot (cond a (set l i c) (cond b (set l i emptyCall) l)) i .«open» ≡ false →
-          ((20 ≤ p) × (p ≤ 29)) ⊎ ((p ≡ 0) × (ends (formRow T (slot l i)) (f .kind) (slot l i) ≡ true))
+          (endsCall p ≡ true) ⊎ ((p ≡ 0) × (ends (formRow T (slot l i)) (f .kind) (slot l i) ≡ true))
       go true b z y r = inr (eqb-true p 0 z, ended (subst (λ (x : Call). x .«open» ≡ false) (slot-same l i c (past-end l i o)) r))
-      go false true z y r = inl (leb-true 20 p (and-left (leb 20 p) (leb p 29) y), leb-true p 29 (and-right (leb 20 p) (leb p 29) y))
+      go false true z y r = inl y
       go false false z y r = clash (slot l i .«open») o r
 
   freed-by : (p : ℕ) (J : Judged) → judgeOf T f l ≡ J → (i : ℕ) → slot l i .«open» ≡ true → slot (slotsAfter J p l) i .«open» ≡ false → Freed T f p (slot l i)
@@ -345,64 +351,56 @@ module _ (T : Table) (f : Frame) (l : List Call) where
   freed reading i o q = freed-by (reading (dueOf (judgeOf T f l))) (judgeOf T f l) refl i o q
 
 -- ---- what changes no call
-not-ending : (p : ℕ) → (p < 20) ⊎ (29 < p) → endsCall p ≡ false
-not-ending p h =
-    is-false (endsCall p)
-    (λ t.
-    let a = leb-true 20 p (and-left (leb 20 p) (leb p 29) t) in
-    let b = leb-true p 29 (and-right (leb 20 p) (leb p 29) t) in
-    ⊎-elim (λ (q : p < 20). omega arith) (λ (q : 29 < p). omega arith) h)
-
 same-slots : (T : Table) (f : Frame) (l : List Call) (p : ℕ) (J : Judged) → judgeOf T f l ≡ J → (numberOf J p ≡ 0 → ⊥) →
-    ((numberOf J p < 20) ⊎ (29 < numberOf J p)) ⊎ (f .kind ≡ 1) → slotsAfter J p l ≡ l
+    (endsCall (numberOf J p) ≡ false) ⊎ (f .kind ≡ 1) → slotsAfter J p l ≡ l
 same-slots T f l p (Stop n) e h w = refl
 same-slots T f l p (Opens j c d) e h w = rw (ne-eqb p 0 h)
-same-slots T f l p (Goes i c d) e h w = ⊎-elim (λ q. rw (ne-eqb p 0 h, not-ending p q)) (λ k. absurd (judged-goes T f l i c d e .isOther k)) w
+same-slots T f l p (Goes i c d) e h w = ⊎-elim (λ (q : endsCall p ≡ false). rw (ne-eqb p 0 h, q)) (λ k. absurd (judged-goes T f l i c d e .isOther k)) w
 
--- A refusal other than 20 to 29 changes no call, 30 among them; nor does any refusal of INVOKE.
+-- A refusal that ends no call changes none, nor does any refusal of INVOKE.
 pub refused-same : (T : Table) (f : Frame) (reading : Payload → ℕ) (l : List Call) →
     let r = receive T f reading l in
-    (r .number ≡ 0 → ⊥) → ((r .number < 20) ⊎ (29 < r .number)) ⊎ (f .kind ≡ 1) → r .table .slots ≡ l
+    (r .number ≡ 0 → ⊥) → (endsCall (r .number) ≡ false) ⊎ (f .kind ≡ 1) → r .table .slots ≡ l
 unfolding receive stepOf
 refused-same T f reading l h w = same-slots T f l (reading (dueOf (judgeOf T f l))) (judgeOf T f l) refl h w
 
 -- ---- what ends a call
--- the numbers before the payload are small
-Small : Judged → Type 0
-Small (Stop n) = n < 20
-Small (Opens j c d) = Unit {0}
-Small (Goes i c d) = Unit {0}
+-- the numbers before the payload end none
+Spares : Judged → Type 0
+Spares (Stop n) = endsCall n ≡ false
+Spares (Opens j c d) = Unit {0}
+Spares (Goes i c d) = Unit {0}
 
 module _ (T : Table) (f : Frame) (l : List Call) where
-  small-opening : (c : Call) (d : Payload) (i j : Found) → Small (opensAt c d i j)
-  unfolding Small
-  small-opening c d (At i) j = omega arith
-  small-opening c d Missing Missing = omega arith
-  small-opening c d Missing (At j) = tt
+  spares-opening : (c : Call) (d : Payload) (i j : Found) → Spares (opensAt c d i j)
+  unfolding Spares endsCall
+  spares-opening c d (At i) j = refl
+  spares-opening c d Missing Missing = refl
+  spares-opening c d Missing (At j) = tt
 
-  small-invoke : (n : Found) → Small (judgeInvoke T (f .correlation) n l)
-  unfolding Small
-  small-invoke Missing = omega arith
-  small-invoke (At m) =
-      small-opening (openedCall m (f .correlation)) (payloadOf (methodRow T m) 1) (firstSlot (isCall (f .correlation)) 0 l) (firstSlot isFree 0 l)
+  spares-invoke : (n : Found) → Spares (judgeInvoke T (f .correlation) n l)
+  unfolding Spares endsCall
+  spares-invoke Missing = refl
+  spares-invoke (At m) =
+      spares-opening (openedCall m (f .correlation)) (payloadOf (methodRow T m) 1) (firstSlot (isCall (f .correlation)) 0 l) (firstSlot isFree 0 l)
 
-  small-other : (n : Found) → Small (judgeOther T f n l)
-  unfolding Small
-  small-other Missing = omega arith
-  small-other (At i) =
+  spares-other : (n : Found) → Spares (judgeOther T f n l)
+  unfolding Spares endsCall
+  spares-other Missing = refl
+  spares-other (At i) =
       let c = slot l i in
       let m = methodRow T (c .method) in
       go (named (f .«package») (f .service) (f .method) m) (allowed (rowOf (m .form)) (f .kind) c) (afterFrame (rowOf (m .form)) (f .kind) c)
       (payloadOf m (f .kind))
     where
-      go : (a b : Bool) (x : Call) (d : Payload) → Small (cond a (cond b (Goes i x d) (Stop 14)) (Stop 12))
+      go : (a b : Bool) (x : Call) (d : Payload) → Spares (cond a (cond b (Goes i x d) (Stop 14)) (Stop 12))
       go true true x d = tt
-      go true false x d = omega arith
-      go false b x d = omega arith
+      go true false x d = refl
+      go false b x d = refl
 
-  small : Small (judgeOf T f l)
-  unfolding Small judgeOf
-  small = go (rightSide (f .side) (f .kind)) (eqb (f .kind) 1)
+  spares : Spares (judgeOf T f l)
+  unfolding Spares judgeOf endsCall
+  spares = go (rightSide (f .side) (f .kind)) (eqb (f .kind) 1)
     where
       n : Found
       n = findMethod T (f .«package») (f .service) (f .method)
@@ -410,27 +408,26 @@ module _ (T : Table) (f : Frame) (l : List Call) where
       o : Found
       o = firstSlot (isCall (f .correlation)) 0 l
 
-      go : (a b : Bool) → Small (cond a (cond b (judgeInvoke T (f .correlation) n l) (judgeOther T f o l)) (Stop 8))
-      go true true = small-invoke n
-      go true false = small-other o
-      go false b = omega arith
+      go : (a b : Bool) → Spares (cond a (cond b (judgeInvoke T (f .correlation) n l) (judgeOther T f o l)) (Stop 8))
+      go true true = spares-invoke n
+      go true false = spares-other o
+      go false b = refl
 
   module _ (g : GoodTable T l) (other : f .kind ≡ 1 → ⊥) where
-    ended-own : (p : ℕ) (J : Judged) → judgeOf T f l ≡ J → 20 ≤ numberOf J p → numberOf J p ≤ 29 → ownOf (f .correlation) (slotsAfter J p l) ≡ none
-    unfolding Small
-    ended-own p (Stop n) e a b = let h : n < 20 = subst Small e small in absurd (omega arith)
-    ended-own p (Opens j c d) e a b = absurd (other (judged-opens T f l j c d e .isInvoke))
-    ended-own p (Goes i c d) e a b =
-        let z : eqb p 0 ≡ false = ne-eqb p 0 (λ q. omega arith) in
-        let t : endsCall p ≡ true = and-i (leb 20 p) (leb p 29) (le-leb 20 p a) (le-leb p 29 b) in
+    ended-own : (p : ℕ) (J : Judged) → judgeOf T f l ≡ J → endsCall (numberOf J p) ≡ true → ownOf (f .correlation) (slotsAfter J p l) ≡ none
+    unfolding Spares
+    ended-own p (Stop n) e t = let h : endsCall n ≡ false = subst Spares e spares in clash (endsCall n) t h
+    ended-own p (Opens j c d) e t = absurd (other (judged-opens T f l j c d e .isInvoke))
+    ended-own p (Goes i c d) e t =
+        let z : eqb p 0 ≡ false = ne-eqb p 0 (λ q. clash (endsCall p) t (rw q none-ended)) in
         stepped-own T f l g p (Goes i c d) e ∙ rw (z, t)
 
-    -- Payload refusals 20 to 29 end the open call.
+    -- A payload refusal ends the open call.
     pub refused-ends : (reading : Payload → ℕ) →
         let r = receive T f reading l in
-        20 ≤ r .number → r .number ≤ 29 → ownOf (f .correlation) (r .table .slots) ≡ none
+        endsCall (r .number) ≡ true → ownOf (f .correlation) (r .table .slots) ≡ none
     unfolding receive stepOf
-    refused-ends reading a b = ended-own (reading (dueOf (judgeOf T f l))) (judgeOf T f l) refl a b
+    refused-ends reading t = ended-own (reading (dueOf (judgeOf T f l))) (judgeOf T f l) refl t
 
 -- ---- no slot is free exactly where every record is open
 few-open : (l : List Call) → countOpen l ≤ length l

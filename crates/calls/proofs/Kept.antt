@@ -15,10 +15,11 @@ use Rattle.calls.specs.declared.Frame.{Frame}
 use Rattle.calls.specs.declared.Payload.{Payload}
 use Rattle.calls.specs.declared.Judged.{Judged}
 use Rattle.calls.specs.declared.Judged.the-variants.{Stop, Opens, Goes}
+use Rattle.calls.specs.Numbers.{endsCall}
 use Rattle.calls.specs.Record.{emptyCall, openedCall, isCall, isFree, complete, allowed, marked, ends, afterFrame}
 use Rattle.calls.specs.Slots.{slot, formRow, goodTable}
 use Rattle.calls.specs.Judge.{judgeOf}
-use Rattle.calls.specs.Step.{endsCall, slotsAfter, stepOf, dueOf, receive}
+use Rattle.calls.specs.Step.{slotsAfter, stepOf, dueOf, receive}
 use Rattle.calls.specs.Good.{GoodCall, GoodTable}
 use Rattle.schema.proofs.Bools.{cases, clash, and-i, and-left, and-right, or-left, or-cases, or-false}
 use Rattle.schema.proofs.Methods.{found-named}

@@ -2,14 +2,16 @@ pub mod Bools
 pub mod Long
 pub mod Scan
 pub mod Distinct
-pub mod Schema
 pub mod Letters
 pub mod Sides
+pub mod Used
 pub mod Searches
 pub mod Goodness
 pub mod Judgement
 pub mod Kept
 pub mod Apart
+pub mod Belongs
 pub mod Ordered
 pub mod Once
+pub mod Pasts
 pub mod Payloads

@@ -1,34 +1,43 @@
--- The order of a call's frames: the record's marks reflect the kinds accepted, and the step's answer is the one by them, frame by frame, over any run
--- from the fresh table. Assumes nothing.
+-- The order of a call's frames: where the record's marks reflect the kinds accepted, a frame is ruled by them, and its record reflects them afterwards.
+-- Assumes nothing.
 use mathlib.Core.Path.{_≡_, refl, sym, _∙_, ap, subst}
 use mathlib.Core.Logic.{⊎-elim}
 use mathlib.Core.Bool.{Bool, true, false, not, cond, _&&_, _||_}
 use mathlib.Core.List.{List, [], _∷_}
 use Prim.Native.Nat.{ℕ, zero, suc, _<_, _≤_}
 use native.Mathlib.Omega.{arith}
-use lib.Dec.{eqb, leb}
+use lib.Dec.{eqb, leb, lit≤}
+use lib.ListN.{length}
 use borrow.Author.Tests.{eqb-true, eqb-false, ne-eqb, leb-true}
 use Rattle.schema.specs.declared.Found.{Found}
 use Rattle.schema.specs.declared.Found.the-variants.{At, Missing}
 use Rattle.schema.specs.Table.{Table}
 use Rattle.schema.specs.Check.{methodRow, named, findMethod}
+use Rattle.schema.specs.Good.{GoodTable as GoodSchema}
+use Rattle.schema.proofs.Bools.{clash, and-left, and-right, or-cases, or-none, or-comm}
+use Rattle.schema.proofs.Methods.{found-named}
 use Rattle.calls.specs.declared.Call.{Call}
 use Rattle.calls.specs.declared.FormRow.{FormRow}
 use Rattle.calls.specs.declared.Frame.{Frame}
 use Rattle.calls.specs.declared.Payload.{Payload}
 use Rattle.calls.specs.Forms.{letter, lettersRow, rowOf}
-use Rattle.calls.specs.Record.{implies, emptyCall, openedCall, complete, allowed, marked, ends, afterFrame}
-use Rattle.calls.specs.Slots.{freshTable, holds}
+use Rattle.calls.specs.Numbers.{endsCall, EndsCall, payload}
+use Rattle.calls.specs.Record.{implies, emptyCall, openedCall, isCall, complete, allowed, marked, ends, afterFrame}
+use Rattle.calls.specs.Slots.{slot, firstSlot, holds}
 use Rattle.calls.specs.Judge.{rightSide, payloadOf}
-use Rattle.calls.specs.Step.{endsCall, receive}
+use Rattle.calls.specs.Step.{receive}
 use Rattle.calls.specs.Good.{GoodTable}
-use Rattle.calls.specs.Apart.{Own, none, one, ownOf, full, Verdict, stop, goes, invokeVerdict, callVerdict, otherVerdict, verdictOf, verdictDue, verdictNumber, kept, verdictOwn}
-use Rattle.calls.specs.Order.{MayCome, inStream, inClose, outStream, outClose, response, error, cancel, whole, over, Past, closed, since, Heard, continued, accepted, after, pastOf, Answer, wrongSide, unknown, already, noRoom, opens as opensCall, notOpen, differ, notNow, goes as goesOn, Marks, Reflects, nothing, call, Sent, slotsOf, heardOf}
-use Rattle.schema.proofs.Bools.{cases, clash, and-left, and-right, or-cases, or-none, or-comm}
+use Rattle.calls.specs.Apart.{Own, none, one, recordAt, ownOf, full, Verdict, stop, opens, goes, invokeVerdict, callVerdict, otherVerdict, verdictOf, verdictDue, verdictNumber, kept, verdictOwn}
+use Rattle.calls.specs.Belongs.{Belongs}
+use Rattle.calls.specs.Order.{MayCome, inStream, inClose, outStream, outClose, response, error, cancel, whole, over}
+use Rattle.calls.specs.Order.{Past, closed, since, Heard, continued, accepted, after, Marks, Reflects, nothing, call}
+use Rattle.calls.specs.Order.{Ruling, refused, comes, Ruled, wrongSide, unknown, already, noRoom, opens as opensCall, notOpen, differ, notNow, goes as goesOn}
 use Rattle.calls.proofs.Letters.{by-letters}
-use Rattle.calls.proofs.Goodness.{fresh-good, good-clauses}
-use Rattle.calls.proofs.Kept.{stays-good}
-use Rattle.calls.proofs.Apart.{answered, own-after, others-kept}
+use Rattle.calls.proofs.Used.{not-ending}
+use Rattle.calls.proofs.Searches.{found-passes}
+use Rattle.calls.proofs.Kept.{call-open}
+use Rattle.calls.proofs.Apart.{answered, own-after}
+use Rattle.calls.proofs.Belongs.{invoke-belongs, payload-belongs}
 
 -- ---- the kinds that are no INVOKE
 kinds : (P : ℕ → Type 0) → P 2 → P 3 → P 4 → P 5 → P 6 → P 7 → P 8 → (k : ℕ) → 2 ≤ k → k ≤ 8 → P k
@@ -78,14 +87,14 @@ module _ (form : ℕ) (h : List ℕ) (c : Call) (m : ℕ) (w : Marks m h c) wher
       tell-once true q = clash false q refl
       tell-once false q = refl
 
-  comes : {kind : ℕ} → MayCome form h kind → allowed row kind c ≡ true
-  comes (inStream p q) = rw (p, w .inputClosed, q)
-  comes (inClose p q) = rw (p, w .inputClosed, q)
-  comes (outStream p q r) = rw (p, w .responded, r, w .outputClosed, q)
-  comes (outClose p q r) = rw (p, w .responded, r, w .outputClosed, q)
-  comes (response q) = rw (w .responded, q)
-  comes error = refl
-  comes cancel = refl
+  comes-in : {kind : ℕ} → MayCome form h kind → allowed row kind c ≡ true
+  comes-in (inStream p q) = rw (p, w .inputClosed, q)
+  comes-in (inClose p q) = rw (p, w .inputClosed, q)
+  comes-in (outStream p q r) = rw (p, w .responded, r, w .outputClosed, q)
+  comes-in (outClose p q r) = rw (p, w .responded, r, w .outputClosed, q)
+  comes-in (response q) = rw (w .responded, q)
+  comes-in error = refl
+  comes-in cancel = refl
 
   -- the record after an accepted frame
   module _ (kind : ℕ) where
@@ -135,25 +144,37 @@ other-kind side kind h n =
     (or-cases (eqb side 67 && client) (eqb side 83 && server) h)
 
 -- ---- one frame
-module _ (T : Table) (sixteen : (m : ℕ) → methodRow T m .form < 16) (f : Frame) (reading : Payload → ℕ) (b : Bool) where
-  abbrev number : Verdict → ℕ
-  number v = verdictNumber v (reading (verdictDue v))
+-- what the rules say, by the judgement without a slot
+abbrev pub rulingOf : Verdict → Ruling
+rulingOf (stop n) = refused n
+rulingOf (opens c d) = comes d
+rulingOf (goes c d) = comes d
 
-  abbrev then : Past → Verdict → Past
-  then past v = after T (record { frame = f; number = number v }) past
+-- the method of an open call is one of the table's
+Known : Table → Own → Type 0
+Known T none = Unit {0}
+Known T (one c) = c .method < length (T .methods)
 
-  abbrev Own′ : Verdict → Own → Own
-  Own′ v own = verdictOwn v (reading (verdictDue v)) own
+module _ (T : Table) (g : GoodSchema T) (f : Frame) (b : Bool) where
+  abbrev heard : Verdict → ℕ → Heard
+  heard v p = record { frame = f; number = verdictNumber v p }
 
-  -- the number is the one by the past, and the record afterwards reflects the past afterwards
+  -- the ruling is the one by the past, and whatever number the payload has, the record afterwards reflects the past afterwards
   abbrev Fits : Past → Own → Verdict → Type 0
-  Fits past own v = Answer T f reading b past (number v) × Reflects (then past v) (Own′ v own)
+  Fits past own v = Ruled T f b past (rulingOf v) × ((p : ℕ) → Reflects (after T (heard v p) past) (verdictOwn v p own))
 
   abbrev right : Bool
   right = rightSide (f .side) (f .kind)
 
   abbrev found : Found
   found = findMethod T (f .«package») (f .service) (f .method)
+
+  -- a refusal before the payload
+  stays : (n : ℕ) → 8 ≤ n → n ≤ 14 → {past : Past} {own : Own} → Reflects past own → Reflects (after T (record { frame = f; number = n }) past) own
+  stays n low high r = rw (ne-eqb n 0 (λ z. omega arith), not-ending n (early low high)) r
+    where
+      early : {n : ℕ} → 8 ≤ n → n ≤ 14 → EndsCall n → ⊥
+      early low high (payload a b) = omega arith
 
   -- INVOKE
   module _ (s : right ≡ true) (k : f .kind ≡ 1) where
@@ -172,23 +193,27 @@ module _ (T : Table) (sixteen : (m : ℕ) → methodRow T m .form < 16) (f : Fra
         go false true = nothing
         go false false = nothing
 
-    invoked : (past : Past) (own : Own) → Reflects past own → (g : Found) → found ≡ g → Fits past own (invokeVerdict T (f .correlation) g own b)
-    invoked past own r Missing e = (unknown past s k e, r)
+    belongs : (n : ℕ) → found ≡ At n → Belongs (methodRow T n) 1 (payloadOf (methodRow T n) 1)
+    belongs n e =
+        invoke-belongs T (g .fewTypes) (methodRow T n) (g .methods n (found-named T (f .«package») (f .service) (f .method) n e .0))
+
+    invoked : (past : Past) (own : Own) → Reflects past own → (m : Found) → found ≡ m → Fits past own (invokeVerdict T (f .correlation) m own b)
+    invoked past own r Missing e = (unknown past s k e, λ p. stays 9 (lit≤ tt) (lit≤ tt) r)
     invoked closed none nothing (At n) e = go b refl
       where
         go : (x : Bool) → b ≡ x → Fits closed none (invokeVerdict T (f .correlation) (At n) none x)
-        go true q = (noRoom n s k e q, nothing)
-        go false q = (opensCall n s k e q, opening n (reading (payloadOf (methodRow T n) 1)) e)
-    invoked (since m h) (one c) (call _ _ _ w) (At n) e = (already m n h s k e, call m h c w)
+        go true q = (noRoom n s k e q, λ p. stays 13 (lit≤ tt) (lit≤ tt) nothing)
+        go false q = (opensCall n _ s k e q (belongs n e), λ p. opening n p e)
+    invoked (since m h) (one c) (call _ _ _ w) (At n) e = (already m n h s k e, λ p. stays 10 (lit≤ tt) (lit≤ tt) (call m h c w))
 
   -- the others
   module _ (s : right ≡ true) (n : f .kind ≡ 1 → ⊥) where
-    module _ (m : ℕ) (h : List ℕ) (c : Call) (w : Marks m h c) where
+    module _ (m : ℕ) (known : m < length (T .methods)) (h : List ℕ) (c : Call) (w : Marks m h c) where
       abbrev form : ℕ
       form = methodRow T m .form
 
       letters : rowOf form ≡ lettersRow form
-      letters = by-letters form (sixteen m)
+      letters = let few = g .methods m known .form in by-letters form (omega arith)
 
       bounds : (2 ≤ f .kind) × (f .kind ≤ 8)
       bounds = other-kind (f .side) (f .kind) s n
@@ -224,72 +249,49 @@ module _ (T : Table) (sixteen : (m : ℕ) → methodRow T m .form < 16) (f : Fra
           go : (x y : Bool) → named (f .«package») (f .service) (f .method) (methodRow T m) ≡ x → allowed (rowOf form) (f .kind) c ≡ y →
               Fits (since m h) (one c) (cond x (cond y (goes (afterFrame (rowOf form) (f .kind) c) (payloadOf (methodRow T m) (f .kind))) (stop 14)) (stop 12))
           go true true p q =
-              (goesOn m h s n p (may-come form h c m w (f .kind) (bounds .0) (bounds .1) (rw letters at q)), going (reading (payloadOf (methodRow T m) (f .kind))))
-          go true false p q = (notNow m h s n p (λ z. clash (allowed (lettersRow form) (f .kind) c) (comes form h c m w z) (rw letters at q)), call m h c w)
-          go false y p q = (differ m h s n p, call m h c w)
+              let may = may-come form h c m w (f .kind) (bounds .0) (bounds .1) (rw letters at q) in
+              (goesOn m h _ s n p may (payload-belongs T (g .fewTypes) (methodRow T m) (g .methods m known) h may), going)
+          go true false p q =
+              (notNow m h s n p (λ z. clash (allowed (lettersRow form) (f .kind) c) (comes-in form h c m w z) (rw letters at q)), λ k. stays 14 (lit≤ tt) (lit≤ tt) (call m h c w))
+          go false y p q = (differ m h s n p, λ k. stays 12 (lit≤ tt) (lit≤ tt) (call m h c w))
 
-    other : (past : Past) (own : Own) → Reflects past own → Fits past own (otherVerdict T f own)
-    other closed none nothing = (notOpen s n, nothing)
-    other (since m h) (one c) (call _ _ _ w) = subst (λ (x : ℕ). Fits (since m h) (one c) (callVerdict (methodRow T x) f c)) (sym (w .method)) (called m h c w)
+    other : (past : Past) (own : Own) → Known T own → Reflects past own → Fits past own (otherVerdict T f own)
+    unfolding Known
+    other closed none known nothing = (notOpen s n, λ p. stays 11 (lit≤ tt) (lit≤ tt) nothing)
+    other (since m h) (one c) known (call _ _ _ w) =
+        subst (λ (x : ℕ). Fits (since m h) (one c) (callVerdict (methodRow T x) f c)) (sym (w .method)) (called m (rw (w .method) at known) h c w)
 
-  every : (past : Past) (own : Own) → Reflects past own → Fits past own (verdictOf T f own b)
+  every : (past : Past) (own : Own) → Known T own → Reflects past own → Fits past own (verdictOf T f own b)
   unfolding verdictOf
-  every past own r = go right refl (eqb (f .kind) 1) refl
+  every past own known r = go right refl (eqb (f .kind) 1) refl
     where
       go : (x : Bool) → right ≡ x → (y : Bool) → eqb (f .kind) 1 ≡ y →
           Fits past own (cond x (cond y (invokeVerdict T (f .correlation) found own b) (otherVerdict T f own)) (stop 8))
       go true s true k = invoked s (eqb-true (f .kind) 1 k) past own r found refl
-      go true s false k = other s (eqb-false (f .kind) 1 k) past own r
-      go false s y k = (wrongSide past s, r)
+      go true s false k = other s (eqb-false (f .kind) 1 k) past own known r
+      go false s y k = (wrongSide past s, λ p. stays 8 (lit≤ tt) (lit≤ tt) r)
 
--- ---- a run from the fresh table
-module _ (T : Table) (sixteen : (m : ℕ) → methodRow T m .form < 16) where
-  -- Every run leaves a good table.
-  pub run-good : (es : List Sent) → GoodTable T (slotsOf T es)
-  unfolding slotsOf
-  run-good [] = good-clauses T (freshTable .slots) (fresh-good T)
-  run-good (e ∷ es) = stays-good T (e .frame) (e .reading) (slotsOf T es) (run-good es)
+-- ---- under good tables
+module _ (T : Table) (g : GoodSchema T) (l : List Call) (w : GoodTable T l) where
+  own-known : (id : ℕ) → Known T (ownOf id l)
+  unfolding ownOf Known
+  own-known id = go (firstSlot (isCall id) 0 l) refl
+    where
+      go : (i : Found) → firstSlot (isCall id) 0 l ≡ i → Known T (recordAt l i)
+      go Missing e = tt
+      go (At i) e = w .calls i (call-open id (slot l i) (found-passes (isCall id) l i e)) .methodExists
 
-  module _ (f : Frame) (reading : Payload → ℕ) (l : List Call) (past : Past) (r : Reflects past (ownOf (f .correlation) l)) where
-    abbrev fits : Fits T sixteen f reading (full l) past (ownOf (f .correlation) l) (verdictOf T f (ownOf (f .correlation) l) (full l))
-    fits = every T sixteen f reading (full l) past (ownOf (f .correlation) l) r
+  module _ (f : Frame) (past : Past) (r : Reflects past (ownOf (f .correlation) l)) where
+    abbrev own : Own
+    own = ownOf (f .correlation) l
 
-    own-reflects : GoodTable T l →
-        Reflects (after T (record { frame = f; number = receive T f reading l .number }) past) (ownOf (f .correlation) (receive T f reading l .table .slots))
-    own-reflects g = rw (answered T f reading l, own-after T f l g reading) (fits .1)
+    -- A frame is ruled by the kinds accepted for its call since INVOKE.
+    pub ruled : Ruled T f (full l) past (rulingOf (verdictOf T f own (full l)))
+    ruled = every T g f (full l) past own (own-known (f .correlation)) r .0
 
-    by-past : Answer T f reading (full l) past (receive T f reading l .number)
-    by-past = rw (answered T f reading l) (fits .0)
-
-  fresh-none : (id : ℕ) → Reflects closed (ownOf id (freshTable .slots))
-  unfolding ownOf
-  fresh-none id = nothing
-
-  -- one frame more: the past of its own identifier changes, the others stay
-  one-more : (e : Sent) (es : List Sent) (id : ℕ) → ((k : ℕ) → Reflects (pastOf T k (heardOf T es)) (ownOf k (slotsOf T es))) →
-      let l = slotsOf T es in
-      let hd : Heard = record { frame = e .frame; number = receive T (e .frame) (e .reading) l .number } in
-      let past = pastOf T id (heardOf T es) in
-      Reflects (cond (eqb (e .frame .correlation) id) (after T hd past) past) (ownOf id (receive T (e .frame) (e .reading) l .table .slots))
-  one-more e es id ih =
-      let f = e .frame in
-      let l = slotsOf T es in
-      let past = pastOf T (f .correlation) (heardOf T es) in
-      ⊎-elim
-      (λ q.
-      rw q
-      (subst (λ (k : ℕ). Reflects (after T (record { frame = f; number = receive T f (e .reading) l .number }) (pastOf T k (heardOf T es))) (ownOf k (receive T f (e .reading) l .table .slots)))
-      (eqb-true (f .correlation) id q) (own-reflects f (e .reading) l past (ih (f .correlation)) (run-good es))))
-      (λ q. rw q (rw (others-kept T f l (e .reading) id (λ z. eqb-false (f .correlation) id q (sym z))) (ih id)))
-      (cases (eqb (f .correlation) id))
-
-  -- The record of each identifier reflects the kinds accepted for its call.
-  pub reflected : (es : List Sent) (id : ℕ) → Reflects (pastOf T id (heardOf T es)) (ownOf id (slotsOf T es))
-  unfolding slotsOf heardOf pastOf
-  reflected [] id = fresh-none id
-  reflected (e ∷ es) id = one-more e es id (reflected es)
-
-  -- The answer to the next frame is the one by the kinds accepted for its call.
-  pub in-order : (es : List Sent) (f : Frame) (reading : Payload → ℕ) →
-      Answer T f reading (full (slotsOf T es)) (pastOf T (f .correlation) (heardOf T es)) (receive T f reading (slotsOf T es) .number)
-  in-order es f reading = by-past f reading (slotsOf T es) (pastOf T (f .correlation) (heardOf T es)) (reflected es (f .correlation))
+    -- Its own record afterwards reflects the past afterwards.
+    pub own-reflects : (reading : Payload → ℕ) → let r = receive T f reading l in
+        Reflects (after T (record { frame = f; number = r .number }) past) (ownOf (f .correlation) (r .table .slots))
+    own-reflects reading =
+        let p = reading (verdictDue (verdictOf T f own (full l))) in
+        rw (answered T f reading l, own-after T f l w reading) (every T g f (full l) past own (own-known (f .correlation)) r .1 p)

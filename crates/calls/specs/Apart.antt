@@ -2,7 +2,7 @@
 -- Assumes nothing.
 use mathlib.Core.Path.{_≡_}
 use mathlib.Core.Logic.{_⊎_}
-use Prim.Native.Nat.{ℕ, _≤_}
+use Prim.Native.Nat.{ℕ}
 use mathlib.Core.Bool.{Bool, true, false, cond}
 use mathlib.Core.List.{List}
 use lib.Dec.{eqb}
@@ -18,10 +18,10 @@ use Rattle.calls.specs.declared.Payload.the-variants.{Unread}
 use Rattle.calls.specs.declared.Judged.{Judged}
 use Rattle.calls.specs.declared.Judged.the-variants.{Stop, Opens, Goes}
 use Rattle.calls.specs.Forms.{rowOf}
+use Rattle.calls.specs.Numbers.{endsCall}
 use Rattle.calls.specs.Record.{isCall, isFree, openedCall, allowed, ends, afterFrame}
 use Rattle.calls.specs.Slots.{slot, firstSlot, formRow}
 use Rattle.calls.specs.Judge.{rightSide, payloadOf}
-use Rattle.calls.specs.Step.{endsCall}
 
 -- The record of a frame's own call, or none.
 pub data Own : Type 0 where
@@ -104,8 +104,8 @@ touched (Stop n) = Missing
 touched (Opens j c due) = At j
 touched (Goes i c due) = At i
 
--- Why a step frees the slot of an open call c: it is the frame's own call, and the payload was refused with 20 to 29, or the accepted frame ends it,
--- as ERROR, CANCEL or the last that makes it complete.
+-- Why a step frees the slot of an open call c: it is the frame's own call, and the payload's refusal ends it, or the accepted frame does, as ERROR,
+-- CANCEL or the last that makes it complete.
 pub record Freed (T : Table) (f : Frame) (payload : ℕ) (c : Call) : Type 0 where
   pub isOwn : isCall (f .correlation) c ≡ true
-  pub cause : ((20 ≤ payload) × (payload ≤ 29)) ⊎ ((payload ≡ 0) × (ends (formRow T c) (f .kind) c ≡ true))
+  pub cause : (endsCall payload ≡ true) ⊎ ((payload ≡ 0) × (ends (formRow T c) (f .kind) c ≡ true))

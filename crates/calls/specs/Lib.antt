@@ -1,9 +1,11 @@
 -- The sixteen forms, the record of a call, the call table and when it is good, its step on a frame, and the order of a call's frames.
 pub mod Forms
+pub mod Numbers
 pub mod Record
 pub mod Slots
 pub mod Judge
 pub mod Step
 pub mod Good
 pub mod Apart
+pub mod Belongs
 pub mod Order

@@ -1,10 +1,11 @@
--- The order of a call's frames as a relation on the kinds accepted for it since its INVOKE, without its record; and the answer to a frame by it.
+-- The order of a call's frames as a relation on the kinds accepted for it since its INVOKE, without its record; and what it says of a frame.
 -- Assumes nothing.
 use mathlib.Core.Path.{_≡_}
 use mathlib.Core.Bool.{Bool, true, false, cond, _&&_, _||_}
 use mathlib.Core.List.{List, [], _∷_}
-use Prim.Native.Nat.{ℕ}
+use Prim.Native.Nat.{ℕ, _<_}
 use lib.Dec.{eqb}
+use lib.ListN.{length}
 use Rattle.schema.specs.declared.Found.{Found}
 use Rattle.schema.specs.declared.Found.the-variants.{At, Missing}
 use Rattle.schema.specs.Table.{Table}
@@ -13,11 +14,12 @@ use Rattle.calls.specs.declared.Call.{Call}
 use Rattle.calls.specs.declared.Frame.{Frame}
 use Rattle.calls.specs.declared.Payload.{Payload}
 use Rattle.calls.specs.Forms.{letter}
+use Rattle.calls.specs.Numbers.{endsCall}
 use Rattle.calls.specs.Record.{implies}
-use Rattle.calls.specs.Slots.{freshTable, holds}
-use Rattle.calls.specs.Judge.{rightSide, payloadOf}
-use Rattle.calls.specs.Step.{endsCall, receive}
-use Rattle.calls.specs.Apart.{Own, none, one}
+use Rattle.calls.specs.Slots.{holds}
+use Rattle.calls.specs.Judge.{rightSide}
+use Rattle.calls.specs.Belongs.{Belongs}
+use Rattle.calls.specs.Apart.{Own, none, one, ownOf}
 
 -- The kinds accepted since INVOKE, the last first. `holds k h` says that kind k came.
 
@@ -42,6 +44,11 @@ whole form h = holds 6 h && (implies (letter 2 form) (holds 3 h) && implies (let
 abbrev pub over : (form : ℕ) → List ℕ → Bool
 over form h = (holds 7 h || holds 8 h) || whole form h
 
+-- Kinds in an order that the rules allow, of a call that is not over: each might come when it came, and none ended the call.
+pub data Came (form : ℕ) : List ℕ → Type 0 where
+  begun : Came form []
+  next : {h : List ℕ} {kind : ℕ} → Came form h → MayCome form h kind → over form (kind ∷ h) ≡ false → Came form (kind ∷ h)
+
 -- ---- what has been heard under one identifier
 
 -- No call is open, or one of this method, with the kinds accepted since its INVOKE.
@@ -49,14 +56,19 @@ pub data Past : Type 0 where
   closed : Past
   since : (method : ℕ) → List ℕ → Past
 
+-- A past that the rules allow.
+pub data Lawful (T : Table) : Past → Type 0 where
+  idle : Lawful T closed
+  calling : (m : ℕ) (h : List ℕ) → m < length (T .methods) → Came (methodRow T m .form) h → Lawful T (since m h)
+
 -- A frame and the number that was answered.
 pub record Heard : Type 0 where
   pub frame : Frame
   pub number : ℕ
 
-abbrev pub begun : Found → Past
-begun Missing = closed
-begun (At m) = since m []
+abbrev pub opened : Found → Past
+opened Missing = closed
+opened (At m) = since m []
 
 abbrev pub continued : Table → (kind : ℕ) → Past → Past
 continued T kind closed = closed
@@ -64,20 +76,26 @@ continued T kind (since m h) = cond (over (methodRow T m .form) (kind ∷ h)) cl
 
 abbrev pub accepted : Table → Frame → Past → Past
 accepted T f past =
-    cond (eqb (f .kind) 1) (begun (findMethod T (f .«package») (f .service) (f .method))) (continued T (f .kind) past)
+    cond (eqb (f .kind) 1) (opened (findMethod T (f .«package») (f .service) (f .method))) (continued T (f .kind) past)
 
--- An accepted frame is kept, or ends the call; payload refusals 20 to 29 end the open call, and an INVOKE so refused opens none.
+-- An accepted frame is kept, or ends the call; payload refusals end the open call, and an INVOKE so refused opens none.
 abbrev pub after : Table → Heard → Past → Past
 after T e past = cond (eqb (e .number) 0) (accepted T (e .frame) past) (cond (endsCall (e .number)) closed past)
 
--- The past of an identifier after a run, its last frame first.
-unfoldable pub pastOf : Table → (correlation : ℕ) → List Heard → Past
-pastOf T id [] = closed
-pastOf T id (e ∷ es) = cond (eqb (e .frame .correlation) id) (after T e (pastOf T id es)) (pastOf T id es)
+-- The past of an identifier after what was heard, the last first, from the past that it had before.
+unfoldable pub pastOf : Table → (correlation : ℕ) → Past → List Heard → Past
+pastOf T id start [] = start
+pastOf T id start (e ∷ es) = cond (eqb (e .frame .correlation) id) (after T e (pastOf T id start es)) (pastOf T id start es)
 
--- ---- the answer to a frame, by the past of its identifier
+-- ---- what the rules say of a frame, by the past of its identifier
 
-module _ (T : Table) (f : Frame) (reading : Payload → ℕ) (full : Bool) where
+-- It is refused with this number, or it may come and this belongs in its payload.
+pub data Ruling : Type 0 where
+  refused : ℕ → Ruling
+  comes : Payload → Ruling
+
+-- `full` says that 128 calls are open.
+module _ (T : Table) (f : Frame) (full : Bool) where
   abbrev pub methodNamed : Found
   methodNamed = findMethod T (f .«package») (f .service) (f .method)
 
@@ -88,19 +106,20 @@ module _ (T : Table) (f : Frame) (reading : Payload → ℕ) (full : Bool) where
   abbrev pub same : ℕ → Bool
   same m = named (f .«package») (f .service) (f .method) (methodRow T m)
 
-  pub data Answer : Past → ℕ → Type 0 where
-    wrongSide : (past : Past) → rightSide (f .side) (f .kind) ≡ false → Answer past 8
+  pub data Ruled : Past → Ruling → Type 0 where
+    wrongSide : (past : Past) → rightSide (f .side) (f .kind) ≡ false → Ruled past (refused 8)
     -- INVOKE: 9, 10, 13, payload
-    unknown : (past : Past) → sent → f .kind ≡ 1 → methodNamed ≡ Missing → Answer past 9
-    already : (m n : ℕ) (h : List ℕ) → sent → f .kind ≡ 1 → methodNamed ≡ At n → Answer (since m h) 10
-    noRoom : (n : ℕ) → sent → f .kind ≡ 1 → methodNamed ≡ At n → full ≡ true → Answer closed 13
-    opens : (n : ℕ) → sent → f .kind ≡ 1 → methodNamed ≡ At n → full ≡ false → Answer closed (reading (payloadOf (methodRow T n) 1))
+    unknown : (past : Past) → sent → f .kind ≡ 1 → methodNamed ≡ Missing → Ruled past (refused 9)
+    already : (m n : ℕ) (h : List ℕ) → sent → f .kind ≡ 1 → methodNamed ≡ At n → Ruled (since m h) (refused 10)
+    noRoom : (n : ℕ) → sent → f .kind ≡ 1 → methodNamed ≡ At n → full ≡ true → Ruled closed (refused 13)
+    opens : (n : ℕ) (d : Payload) → sent → f .kind ≡ 1 → methodNamed ≡ At n → full ≡ false → Belongs (methodRow T n) 1 d → Ruled closed (comes d)
     -- the others: 11, 12, 14, payload
-    notOpen : sent → (f .kind ≡ 1 → ⊥) → Answer closed 11
-    differ : (m : ℕ) (h : List ℕ) → sent → (f .kind ≡ 1 → ⊥) → same m ≡ false → Answer (since m h) 12
-    notNow : (m : ℕ) (h : List ℕ) → sent → (f .kind ≡ 1 → ⊥) → same m ≡ true → (MayCome (methodRow T m .form) h (f .kind) → ⊥) → Answer (since m h) 14
-    goes : (m : ℕ) (h : List ℕ) → sent → (f .kind ≡ 1 → ⊥) → same m ≡ true → MayCome (methodRow T m .form) h (f .kind) →
-        Answer (since m h) (reading (payloadOf (methodRow T m) (f .kind)))
+    notOpen : sent → (f .kind ≡ 1 → ⊥) → Ruled closed (refused 11)
+    differ : (m : ℕ) (h : List ℕ) → sent → (f .kind ≡ 1 → ⊥) → same m ≡ false → Ruled (since m h) (refused 12)
+    notNow : (m : ℕ) (h : List ℕ) → sent → (f .kind ≡ 1 → ⊥) → same m ≡ true → (MayCome (methodRow T m .form) h (f .kind) → ⊥)
+        → Ruled (since m h) (refused 14)
+    goes : (m : ℕ) (h : List ℕ) (d : Payload) → sent → (f .kind ≡ 1 → ⊥) → same m ≡ true → MayCome (methodRow T m .form) h (f .kind)
+        → Belongs (methodRow T m) (f .kind) d → Ruled (since m h) (comes d)
 
 -- ---- the record reflects the past
 
@@ -117,17 +136,14 @@ pub data Reflects : Past → Own → Type 0 where
   nothing : Reflects closed none
   call : (m : ℕ) (h : List ℕ) (c : Call) → Marks m h c → Reflects (since m h) (one c)
 
--- ---- a run from the fresh table, its last frame first
+-- The record is that of a call whose kinds came in an order that the rules allow.
+pub record Reached (T : Table) (c : Call) : Type 0 where
+  pub kinds : List ℕ
+  pub lawful : Lawful T (since (c .method) kinds)
+  pub marks : Marks (c .method) kinds c
 
--- A frame, and the number of its payload by what that holds.
-pub record Sent : Type 0 where
-  pub frame : Frame
-  pub reading : Payload → ℕ
-
-unfoldable pub slotsOf : Table → List Sent → List Call
-slotsOf T [] = freshTable .slots
-slotsOf T (e ∷ es) = receive T (e .frame) (e .reading) (slotsOf T es) .table .slots
-
-unfoldable pub heardOf : Table → List Sent → List Heard
-heardOf T [] = []
-heardOf T (e ∷ es) = record { frame = e .frame; number = receive T (e .frame) (e .reading) (slotsOf T es) .number } ∷ heardOf T es
+-- A past of an identifier that the rules allow and that the call table reflects.
+pub record PastIn (T : Table) (l : List Call) (correlation : ℕ) : Type 0 where
+  pub past : Past
+  pub lawful : Lawful T past
+  pub reflects : Reflects past (ownOf correlation l)

@@ -1,10 +1,10 @@
 -- The step of the call table on a judged frame, by the number that its payload's reading gave.
 -- Assumes nothing.
 use Prim.Native.Nat.{ℕ}
-use mathlib.Core.Bool.{Bool, cond, _&&_}
+use mathlib.Core.Bool.{cond}
 use mathlib.Core.List.{List}
 use lib.ListN.{set}
-use lib.Dec.{eqb, leb}
+use lib.Dec.{eqb}
 use Rattle.schema.specs.Table.{Table}
 use Rattle.calls.specs.declared.Call.{Call}
 use Rattle.calls.specs.declared.Frame.{Frame}
@@ -13,6 +13,7 @@ use Rattle.calls.specs.declared.Payload.the-variants.{Unread}
 use Rattle.calls.specs.declared.Judged.{Judged}
 use Rattle.calls.specs.declared.Judged.the-variants.{Stop, Opens, Goes}
 use Rattle.calls.specs.declared.Stepped.{Stepped}
+use Rattle.calls.specs.Numbers.{endsCall}
 use Rattle.calls.specs.Record.{emptyCall}
 use Rattle.calls.specs.Judge.{judgeOf}
 
@@ -21,10 +22,6 @@ abbrev pub numberOf : Judged → (payload : ℕ) → ℕ
 numberOf (Stop n) p = n
 numberOf (Opens j c due) p = p
 numberOf (Goes i c due) p = p
-
--- Payload refusals 20 to 29 end the open call; 30 does not.
-abbrev pub endsCall : ℕ → Bool
-endsCall p = leb 20 p && leb p 29
 
 -- The records afterwards, where p is 0 for a payload that is right. An INVOKE refused for its payload opens none.
 abbrev pub slotsAfter : Judged → (payload : ℕ) → List Call → List Call

@@ -2,6 +2,7 @@
 pub mod forms;
 pub mod good;
 pub mod judge;
+pub mod numbers;
 pub mod record;
 pub mod slots;
 pub mod step;

@@ -3,13 +3,15 @@ use crate::Call;
 use crate::CallTable;
 use crate::Judged;
 use crate::Stepped;
+use crate::numbers::ends_call;
 use crate::record::EMPTY;
 ghost use mathlib.Core.Path.{_≡_};
 ghost use lib.ListN.{set};
 ghost use mathlib.Core.Bool.{cond};
 ghost use lib.Dec.{eqb};
+ghost use Rattle.calls.specs.Numbers.{endsCall};
 ghost use Rattle.calls.specs.Record.{emptyCall};
-ghost use Rattle.calls.specs.Step.{endsCall, stepOf};
+ghost use Rattle.calls.specs.Step.{stepOf};
 
 impl CallTable {
     // A frame that opens a call: one refused for its payload opens none.
@@ -23,14 +25,14 @@ impl CallTable {
         }
     }
 
-    // A frame to an open call: payload refusals 20 to 29 end it.
+    // A frame to an open call: a payload refusal that ends a call ends this one.
     fn after_other(self, i: usize, call: Call, payload: u32) -> CallTable
         ensures { λ r. ⌜ r .slots ≡ cond (eqb payload 0) (set (self .slots) i call) (cond (endsCall payload) (set (self .slots) i emptyCall) (self .slots)) ⌝ }
     {
         if payload == 0 {
             return self.with_slot(i, call);
         }
-        if (20 <= payload) & (payload <= 29) {
+        if ends_call(payload) {
             self.with_slot(i, EMPTY)
         } else {
             self

@@ -1,33 +1,39 @@
 -- A call table survives being stored and read back, so that a run over lent cells is the run of the call table itself.
 -- Assumes nothing.
 use mathlib.Core.Path.{_≡_, refl, sym, ap, subst, _∙_}
-use mathlib.Core.Logic.{⊎-elim}
-use mathlib.Core.Bool.{Bool, true, false, cond}
+use mathlib.Core.Logic.{_↔_, ⊎-elim}
+use mathlib.Core.Bool.{Bool, true, false, cond, _&&_}
 use mathlib.Core.List.{List, [], _∷_, _++_}
 use Prim.Native.Nat.{ℕ, zero, suc, _+_, _*_, _/_, _%_, _≤_, _<_}
 use native.Mathlib.Omega.{arith}
-use lib.Dec.{eqb, ltb, lit≤}
-use borrow.Author.Tests.{ltb-true, ltb-false}
-use lib.ListN.{length, getD, take, drop, replicate, length-replicate, getD-replicate, List·getD-eq-default}
-use lib.Seq.{take-all, length-sets}
+use lib.Dec.{eqb, leb, ltb, lit≤}
+use borrow.Author.Tests.{eqb-true, eqb-false, leb-true, le-leb, ltb-true, ltb-false, lt-ltb}
+use lib.ListN.{length, getD, take, drop, replicate, length-replicate, getD-replicate, List·getD-eq-default, take-append-drop}
+use lib.Seq.{take-all, drop-cons, length-sets, length-take-le}
+use Rattle.schema.specs.declared.Checked.{Checked}
+use Rattle.schema.specs.declared.Checked.the-variants.{Good, Refused as Faulty}
 use Rattle.schema.specs.Table.{Table}
 use Rattle.schema.specs.File.{tableOf}
-use Rattle.schema.proofs.Bools.{cases}
+use Rattle.schema.specs.Check.{checked}
+use Rattle.schema.proofs.Bools.{cases, and-i, and-left, and-right}
 use Rattle.schema.proofs.Goods.{good-table}
 use Rattle.calls.specs.declared.Call.{Call}
+use Rattle.calls.specs.Numbers.{endsCall}
 use Rattle.calls.specs.Record.{emptyCall}
 use Rattle.calls.specs.Slots.{slot, freshTable}
 use Rattle.calls.specs.Good.{GoodTable}
 use Rattle.calls.proofs.Goodness.{good-clauses}
 use Rattle.calls.proofs.Kept.{test-stays}
-use Rattle.line.specs.Answer.{Line}
+use Rattle.line.specs.Answer.{Line, line, stopped}
 use Rattle.line.specs.Receive.{received}
-use Rattle.line.specs.Run.{Input, runSlots}
+use Rattle.line.specs.Run.{Input, runFrom}
 use Rattle.line.proofs.Kept.{holds, same-length}
+use Rattle.line.proofs.Answers.{refused-untouched as sheet-kept}
+use Rattle.line.proofs.Records.{refused-kept}
 use Rattle.exports.specs.Cells.{stored}
-use Rattle.exports.specs.Records.{callOf, callAt, callsFrom, callsOf, marksOf, recordCells, cellsOf}
-use Rattle.exports.specs.Answers.{receiving}
-use Rattle.exports.specs.Run.{Fits, seenCells, runCells}
+use Rattle.exports.specs.Records.{callOf, callAt, callsFrom, callsOf, marksOf, recordCells, cellsOf, plain, plainFrom, areCalls, AreCalls}
+use Rattle.exports.specs.Answers.{notCalls, judgement, receiving, callCells}
+use Rattle.exports.specs.Run.{Fits, runCells}
 use Rattle.exports.proofs.Stores.{sets-stored}
 use Rattle.exports.proofs.Tables.{calls-long}
 
@@ -89,12 +95,14 @@ record-back c h =
     let fourth : eqb (marksOf c / 8 % 2) 1 ≡ c .«output_closed» = ap (λ (n : ℕ). eqb n 1) (bit-8 o r i u a b d e) ∙ bit-told (c .«output_closed») in
     λ k. record { correlation = c .correlation; method = method k; «open» = first k; responded = second k; «input_closed» = third k; «output_closed» = fourth k }
 
--- The cells of a record that was read are those that reading looks at.
-pub record-seen : (id method marks : ℕ) → recordCells (callOf id method marks) ≡ id ∷ method % 4294967296 ∷ marks % 16 ∷ []
+-- The cells of a record that was read are those that it was read from.
+pub record-plain : (id method marks : ℕ) → method < 4294967296 → marks < 16 → recordCells (callOf id method marks) ≡ id ∷ method ∷ marks ∷ []
 unfolding callOf
-record-seen id method marks =
+record-plain id method marks few small =
     let bit : (n : ℕ) → cond (eqb (n % 2) 1) 1 0 ≡ n % 2 = λ n. bit-is (n % 2) (below-two n) in
-    rw (bit marks, bit (marks / 2), bit (marks / 4), bit (marks / 8), sixteen marks)
+    let number : method % 4294967296 ≡ method = omega arith in
+    let four : marks % 16 ≡ marks = omega arith in
+    rw (number, bit marks, bit (marks / 2), bit (marks / 4), bit (marks / 8), sixteen marks, four)
 
 -- ---- the whole table
 
@@ -124,13 +132,15 @@ cells-long (c ∷ cs) = let e = cells-long cs in omega arith
 stored-long : (cells values : List ℕ) → length (stored cells values) ≡ length cells
 stored-long cells values = ap length (sym (sets-stored cells values)) ∙ length-sets cells 0 values
 
+stored-whole : (cells values : List ℕ) → length values ≤ length cells → stored cells values ≡ values ++ drop (length values) cells
+unfolding stored
+stored-whole cells values h = rw (take-all (length cells) values h)
+
 -- A call table survives being stored and read back, in as many cells as it needs.
 pub table-back : (cells : List ℕ) (l : List Call) → length l ≡ 128 → Fits l → 384 ≤ length cells → callsOf (stored cells (cellsOf l)) ≡ l
-unfolding stored
 table-back cells l n h room =
     let long = cells-long l in
-    let whole : take (length cells) (cellsOf l) ≡ cellsOf l = take-all (length cells) (cellsOf l) (omega arith) in
-    rw (whole, ← n) (front-back l (drop (length (cellsOf l)) cells) h)
+    rw (stored-whole cells (cellsOf l) (omega arith), ← n) (front-back l (drop (length (cellsOf l)) cells) h)
 
 -- ---- any cells are a table
 
@@ -151,22 +161,115 @@ loaded-from cells i (suc n) (suc j) = loaded-from cells (suc i) n j
 pub loaded-fits : (cells : List ℕ) → Fits (callsOf cells)
 loaded-fits cells = loaded-from cells 0 128
 
-seen-from : (cells : List ℕ) (i n : ℕ) → cellsOf (callsFrom cells i n) ≡ seenCells cells i n
-unfolding callsFrom cellsOf seenCells
-seen-from cells i zero = refl
-seen-from cells i (suc n) =
-    let one = record-seen (getD cells (3 * i) 0) (getD cells (3 * i + 1) 0) (getD cells (3 * i + 2) 0) in
-    ap (λ (l : List ℕ). l ++ cellsOf (callsFrom cells (suc i) n)) one ∙ ap (λ (l : List ℕ). getD cells (3 * i) 0 ∷ getD cells (3 * i + 1) 0 % 4294967296 ∷ getD cells (3 * i + 2) 0 % 16 ∷ l) (seen-from cells (suc i) n)
+-- ---- cells that are a call table
 
--- Storing what was read gives the cells that reading looked at: other bits of a method number or of the marks become 0.
-pub loaded-seen : (cells : List ℕ) → cellsOf (callsOf cells) ≡ seenCells cells 0 128
-loaded-seen cells = seen-from cells 0 128
+abbrev plainAt : List ℕ → ℕ → Bool
+plainAt cells i = plain (getD cells (3 * i + 1) 0) (getD cells (3 * i + 2) 0)
 
--- Read, stored and read again: the same table.
-pub loaded-again : (cells : List ℕ) → 384 ≤ length cells → callsOf (stored cells (cellsOf (callsOf cells))) ≡ callsOf cells
-loaded-again cells room = table-back cells (callsOf cells) (loaded-long cells) (loaded-fits cells) room
+plain-at : (cells : List ℕ) (i n : ℕ) → plainFrom cells i n ≡ true → (j : ℕ) → i ≤ j → j < i + n → plainAt cells j ≡ true
+unfolding plainFrom
+plain-at cells i zero t j low high = absurd (omega arith)
+plain-at cells i (suc n) t j low high =
+    ⊎-elim
+    (λ e. subst (λ (k : ℕ). plainAt cells k ≡ true) (eqb-true i j e) (and-left (plainAt cells i) (plainFrom cells (suc i) n) t))
+    (λ e. let ne = eqb-false i j e in plain-at cells (suc i) n (and-right (plainAt cells i) (plainFrom cells (suc i) n) t) j (above i j low ne) (omega arith))
+    (cases (eqb i j))
+  where
+    above : (i j : ℕ) → i ≤ j → (i ≡ j → ⊥) → suc i ≤ j
+    above i j low ne = omega arith
 
--- ---- a run
+all-plain : (cells : List ℕ) (i n : ℕ) → ((j : ℕ) → i ≤ j → j < i + n → plainAt cells j ≡ true) → plainFrom cells i n ≡ true
+unfolding plainFrom
+all-plain cells i zero f = refl
+all-plain cells i (suc n) f =
+    and-i (plainAt cells i) (plainFrom cells (suc i) n) (f i (omega arith) (omega arith)) (all-plain cells (suc i) n (λ j low high. f j (omega arith) (omega arith)))
+
+-- The test passes exactly for the cells that are a call table.
+pub are-calls-iff : (cells : List ℕ) → (areCalls cells ≡ true) ↔ AreCalls cells
+unfolding areCalls
+are-calls-iff cells = (told, test)
+  where
+    told : areCalls cells ≡ true → AreCalls cells
+    told t =
+        let each : (i : ℕ) → i < 128 → plainAt cells i ≡ true = λ i h.
+        plain-at cells 0 128 (and-right (leb 384 (length cells)) (plainFrom cells 0 128) t) i (omega arith) h in
+        record {
+          enough = leb-true 384 (length cells) (and-left (leb 384 (length cells)) (plainFrom cells 0 128) t);
+          methods = λ i h. ltb-true (getD cells (3 * i + 1) 0) 4294967296 (and-left (ltb (getD cells (3 * i + 1) 0) 4294967296) (ltb (getD cells (3 * i + 2) 0) 16) (each i h));
+          marks = λ i h. ltb-true (getD cells (3 * i + 2) 0) 16 (and-right (ltb (getD cells (3 * i + 1) 0) 4294967296) (ltb (getD cells (3 * i + 2) 0) 16) (each i h));
+        }
+
+    test : AreCalls cells → areCalls cells ≡ true
+    test w =
+        and-i (leb 384 (length cells)) (plainFrom cells 0 128) (le-leb 384 (length cells) (w .enough))
+        (all-plain cells 0 128
+        (λ j low high.
+        and-i (ltb (getD cells (3 * j + 1) 0) 4294967296) (ltb (getD cells (3 * j + 2) 0) 16)
+        (lt-ltb (getD cells (3 * j + 1) 0) 4294967296 (w .methods j high)) (lt-ltb (getD cells (3 * j + 2) 0) 16 (w .marks j high))))
+
+-- three cells more at the front, and one record later
+plain-later : (a b m : ℕ) (cells : List ℕ) (i n : ℕ) → plainFrom (a ∷ b ∷ m ∷ cells) (suc i) n ≡ plainFrom cells i n
+unfolding plainFrom
+plain-later a b m cells i zero = refl
+plain-later a b m cells i (suc n) =
+    let two : 3 * suc i + 2 ≡ suc (suc (suc (3 * i + 2))) = omega arith in
+    let one : 3 * suc i + 1 ≡ suc (suc (suc (3 * i + 1))) = omega arith in
+    rw (two, one) (ap (λ (t : Bool). plainAt cells i && t) (plain-later a b m cells (suc i) n))
+
+marks-small : (c : Call) → marksOf c < 16
+marks-small c =
+    let a = bit-small (c .«open») in
+    let b = bit-small (c .responded) in
+    let d = bit-small (c .«input_closed») in
+    let e = bit-small (c .«output_closed») in
+    omega arith
+
+front-plain : (l : List Call) (rest : List ℕ) → Fits l → plainFrom (cellsOf l ++ rest) 0 (length l) ≡ true
+unfolding plainFrom cellsOf
+front-plain [] rest h = refl
+front-plain (c ∷ cs) rest h =
+    and-i (plain (c .method) (marksOf c)) (plainFrom (cellsOf (c ∷ cs) ++ rest) 1 (length cs))
+    (and-i (ltb (c .method) 4294967296) (ltb (marksOf c) 16) (lt-ltb (c .method) 4294967296 (h 0)) (lt-ltb (marksOf c) 16 (marks-small c)))
+    (plain-later (c .correlation) (c .method) (marksOf c) (cellsOf cs ++ rest) 0 (length cs) ∙ front-plain cs rest (λ i. h (suc i)))
+
+-- The cells of a table are a call table.
+pub stored-calls : (cells : List ℕ) (l : List Call) → length l ≡ 128 → Fits l → 384 ≤ length cells → areCalls (stored cells (cellsOf l)) ≡ true
+unfolding areCalls
+stored-calls cells l n h room =
+    let long = cells-long l in
+    let enough : 384 ≤ length (stored cells (cellsOf l)) = omega (arith, stored-long cells (cellsOf l)) in
+    and-i (leb 384 (length (stored cells (cellsOf l)))) (plainFrom (stored cells (cellsOf l)) 0 128) (le-leb 384 (length (stored cells (cellsOf l))) enough)
+    (rw (stored-whole cells (cellsOf l) (omega arith), ← n) (front-plain l (drop (length (cellsOf l)) cells) h))
+
+-- the records' cells, read and written again
+cells-from : (cells : List ℕ) → AreCalls cells → (i n : ℕ) → i + n ≤ 128 → cellsOf (callsFrom cells i n) ≡ take (3 * n) (drop (3 * i) cells)
+unfolding callsFrom cellsOf
+cells-from cells w i zero h = refl
+cells-from cells w i (suc n) h =
+    let enough = w .enough in
+    let three : 3 * suc n ≡ suc (suc (suc (3 * n))) = omega arith in
+    let next : suc (suc (suc (3 * i))) ≡ 3 * suc i = omega arith in
+    let one : suc (3 * i) ≡ 3 * i + 1 = omega arith in
+    let two : suc (suc (3 * i)) ≡ 3 * i + 2 = omega arith in
+    let own = record-plain (getD cells (3 * i) 0) (getD cells (3 * i + 1) 0) (getD cells (3 * i + 2) 0) (w .methods i (omega arith)) (w .marks i (omega arith)) in
+    ap (λ (r : List ℕ). r ++ cellsOf (callsFrom cells (suc i) n)) own
+    ∙ ap (λ (r : List ℕ). getD cells (3 * i) 0 ∷ getD cells (3 * i + 1) 0 ∷ getD cells (3 * i + 2) 0 ∷ r) (cells-from cells w (suc i) n (omega arith))
+    ∙ sym (rw (three, drop-cons cells (3 * i) 0 (omega arith), drop-cons cells (suc (3 * i)) 0 (omega arith), drop-cons cells (suc (suc (3 * i))) 0 (omega arith), next, two, one))
+
+-- Such cells stay as they are where the table that they hold is stored again.
+pub cells-kept : (cells : List ℕ) → AreCalls cells → stored cells (cellsOf (callsOf cells)) ≡ cells
+cells-kept cells w =
+    let enough = w .enough in
+    let own : cellsOf (callsOf cells) ≡ take 384 cells = cells-from cells w 0 128 (omega arith) in
+    let long : length (take 384 cells) ≡ 384 = length-take-le 384 cells enough in
+    rw own (stored-whole cells (take 384 cells) (omega arith) ∙ rw long (take-append-drop 384 cells))
+
+-- ---- one frame
+
+refused-slots : (v : Checked) (l : List Call) → notCalls v l .table .slots ≡ l
+unfolding stopped
+refused-slots Good l = refl
+refused-slots (Faulty n q) l = refl
 
 -- A good call table of a good schema table has few methods.
 good-fits : (T : Table) (l : List Call) → length (T .methods) ≤ 256 → GoodTable T l → Fits l
@@ -177,22 +280,76 @@ good-fits T l few g i =
     (cases (slot l i .«open»))
 
 module _ (cells schema : List ℕ) (side : ℕ) (bytes sheet : List ℕ) where
-  abbrev next : List Call
-  next = receiving cells schema side bytes sheet .answer .table .slots
+  abbrev answer : Line
+  answer = receiving cells schema side bytes sheet
 
-  next-fits : Fits next
-  next-fits =
-      holds schema side bytes sheet (callsOf cells) (λ _ l. Fits l)
-      (λ n q e. loaded-fits cells)
-      (λ f w g t reading.
-      let l = callsOf cells in
-      let T = tableOf schema in
-      good-fits T _ (good-table schema g .fewMethods) (good-clauses T _ (test-stays T f reading l t)))
+  abbrev after : List ℕ
+  after = callCells cells (answer .answer .table .slots)
 
-  -- The next table stands in the cells whole, whatever they held before.
-  pub next-held : 384 ≤ length cells → callsOf (stored cells (cellsOf next)) ≡ next
-  next-held room = table-back cells next (same-length schema side bytes sheet (callsOf cells) ∙ loaded-long cells) next-fits room
+  -- ---- cells that are no call table
+  module _ (bad : areCalls cells ≡ false) where
+    -- They are refused with 15, after the schema's faults.
+    pub cells-refused : answer ≡ line (notCalls (checked schema) (callsOf cells)) sheet
+    unfolding judgement
+    cells-refused = rw bad
 
+  -- ---- cells that are one
+  module _ (good : areCalls cells ≡ true) where
+    abbrev next : List Call
+    next = received schema side bytes sheet (callsOf cells) .answer .table .slots
+
+    -- The answer is the one over the table that they hold.
+    pub table-judged : answer ≡ received schema side bytes sheet (callsOf cells)
+    unfolding judgement
+    table-judged = rw good
+
+    room : 384 ≤ length cells
+    room = are-calls-iff cells .0 good .enough
+
+    next-long : length next ≡ 128
+    next-long = same-length schema side bytes sheet (callsOf cells) ∙ loaded-long cells
+
+    next-fits : Fits next
+    next-fits =
+        holds schema side bytes sheet (callsOf cells) (λ _ l. Fits l)
+        (λ n q e. loaded-fits cells)
+        (λ f w g t reading.
+        let l = callsOf cells in
+        let T = tableOf schema in
+        good-fits T _ (good-table schema g .fewMethods) (good-clauses T _ (test-stays T f reading l t)))
+
+    after-is : after ≡ stored cells (cellsOf next)
+    unfolding judgement
+    after-is = rw good
+
+    -- They are a call table afterwards, the next one.
+    pub after-calls : areCalls after ≡ true
+    after-calls = rw after-is (stored-calls cells next next-long next-fits room)
+
+    pub next-held : callsOf after ≡ next
+    next-held = rw after-is (table-back cells next next-long next-fits room)
+
+  -- Whatever the cells, afterwards they hold the table of the answer.
+  pub after-held : callsOf after ≡ answer .answer .table .slots
+  after-held = ⊎-elim (λ t. next-held t ∙ ap (λ (a : Line). a .answer .table .slots) (sym (table-judged t))) (λ f. kept f) (cases (areCalls cells))
+    where
+      kept : areCalls cells ≡ false → callsOf after ≡ answer .answer .table .slots
+      kept f = rw (cells-refused f, f) (sym (refused-slots (checked schema) (callsOf cells)))
+
+  -- At a refusal the sheet stays as it was, and so do the cells but where the refusal ends a call.
+  pub refused-untouched : (answer .answer .number ≡ 0 → ⊥) → (answer .sheet ≡ sheet) × (endsCall (answer .answer .number) ≡ false → after ≡ cells)
+  refused-untouched z =
+      ⊎-elim
+      (λ t.
+      let e = table-judged t in
+      let other : received schema side bytes sheet (callsOf cells) .answer .number ≡ 0 → ⊥ = rw e at z in (
+        rw e (sheet-kept schema side bytes sheet (callsOf cells) other .same),
+        λ spares. after-is t ∙ ap (λ (l : List Call). stored cells (cellsOf l)) (refused-kept schema side bytes sheet (callsOf cells) other (rw e at spares)) ∙ cells-kept cells (are-calls-iff cells .0 t),
+      ))
+      (λ f. (rw (cells-refused f), λ spares. rw f))
+      (cases (areCalls cells))
+
+-- ---- the fresh table
 -- Cells that are all zero hold the fresh table.
 zero-cell : (n i : ℕ) → getD {A = ℕ} (replicate n 0) i 0 ≡ 0
 zero-cell n i =
@@ -214,23 +371,33 @@ zero-from n i (suc k) =
 pub zeros-fresh : (n : ℕ) → callsOf (replicate n 0) ≡ freshTable .slots
 zeros-fresh n = zero-from n 0 128
 
-module _ (s : List ℕ) (n : ℕ) (room : 384 ≤ n) where
-  run-long : (is : List Input) → length (runCells s (replicate n 0) is) ≡ n
-  unfolding runCells
-  run-long [] = length-replicate n 0
-  run-long (i ∷ is) = stored-long (runCells s (replicate n 0) is) _ ∙ run-long is
+zeros-calls : (n : ℕ) → 384 ≤ n → AreCalls (replicate n 0)
+zeros-calls n h =
+    record {
+      enough = simp length-replicate h;
+      methods = λ i k. rw (zero-cell n (3 * i + 1)) (lit≤ tt);
+      marks = λ i k. rw (zero-cell n (3 * i + 2)) (lit≤ tt);
+    }
 
-  -- After any run from zero cells, they hold the call table of the run.
-  pub run-held : (is : List Input) → callsOf (runCells s (replicate n 0) is) ≡ runSlots s is
-  unfolding runCells runSlots
-  run-held [] = zeros-fresh n
+-- ---- a run
+
+module _ (s start : List ℕ) (w : AreCalls start) where
+  -- After any run the cells are a call table.
+  pub run-calls : (is : List Input) → areCalls (runCells s start is) ≡ true
+  unfolding runCells
+  run-calls [] = are-calls-iff start .1 w
+  run-calls (i ∷ is) = after-calls (runCells s start is) s (i .side) (i .bytes) (i .sheet) (run-calls is)
+
+  -- It is the one of the run.
+  pub run-held : (is : List Input) → callsOf (runCells s start is) ≡ runFrom s (callsOf start) is
+  unfolding runCells runFrom
+  run-held [] = refl
   run-held (i ∷ is) =
-      let cells = runCells s (replicate n 0) is in
-      let long = run-long is in
-      next-held cells s (i .side) (i .bytes) (i .sheet) (omega arith)
+      next-held (runCells s start is) s (i .side) (i .bytes) (i .sheet) (run-calls is)
       ∙ ap (λ (l : List Call). received s (i .side) (i .bytes) (i .sheet) l .answer .table .slots) (run-held is)
 
   -- So each answer is the one that `arf::receive` gives over the table itself.
   pub answer-held : (is : List Input) (side : ℕ) (bytes sheet : List ℕ)
-      → receiving (runCells s (replicate n 0) is) s side bytes sheet ≡ received s side bytes sheet (runSlots s is)
-  answer-held is side bytes sheet = ap (λ (l : List Call). received s side bytes sheet l) (run-held is)
+      → receiving (runCells s start is) s side bytes sheet ≡ received s side bytes sheet (runFrom s (callsOf start) is)
+  answer-held is side bytes sheet =
+      table-judged (runCells s start is) s side bytes sheet (run-calls is) ∙ ap (λ (l : List Call). received s side bytes sheet l) (run-held is)

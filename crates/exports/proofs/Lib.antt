@@ -4,3 +4,4 @@ pub mod Bits
 pub mod Tables
 pub mod Held
 pub mod Told
+pub mod ScalarTold

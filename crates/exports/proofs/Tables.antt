@@ -1,13 +1,16 @@
 -- The call table read from cells and stored into them, record by record.
 -- Assumes nothing.
 use mathlib.Core.Path.{_≡_, refl, ap, _∙_}
+use mathlib.Core.Bool.{Bool, true, false, _&&_}
 use mathlib.Core.List.{List, [], _∷_, append-nil}
-use Prim.Native.Nat.{ℕ, zero, suc, _+_, _-_, _*_, _<_}
+use Prim.Native.Nat.{ℕ, zero, suc, _+_, _-_, _*_, _≤_, _<_}
 use native.Mathlib.Omega.{arith}
+use lib.Dec.{leb}
+use borrow.Author.Tests.{le-leb, lt-leb}
 use lib.ListN.{length, getD, drop, set, drop-of-length-le}
 use lib.Seq.{sets, sets-eq, drop-cons}
 use Rattle.calls.specs.declared.Call.{Call}
-use Rattle.exports.specs.Records.{callAt, callsFrom, recordCells, cellsOf}
+use Rattle.exports.specs.Records.{callAt, callsFrom, recordCells, cellsOf, plain, plainFrom, areCalls}
 
 -- ---- read
 
@@ -42,6 +45,44 @@ pub over : (l vs : List Call) → length vs ≡ length l → sets l 0 vs ≡ vs
 over l vs e =
     sets-eq vs l 0 (omega arith)
     ∙ rw (drop-of-length-le l {i = 0 + length vs} (omega arith)) (append-nil vs)
+
+-- ---- judged
+
+and-false : (b : Bool) → (b && false) ≡ false
+and-false true = refl
+and-false false = refl
+
+plain-one : (cells : List ℕ) (i n : ℕ) → plainFrom cells i (suc n) ≡ (plain (getD cells (3 * i + 1) 0) (getD cells (3 * i + 2) 0) && plainFrom cells (suc i) n)
+unfolding plainFrom
+plain-one cells i n = refl
+
+plain-none : (cells : List ℕ) (i : ℕ) → plainFrom cells i 0 ≡ true
+unfolding plainFrom
+plain-none cells i = refl
+
+pub too-few : (cells : List ℕ) → length cells < 384 → false ≡ areCalls cells
+unfolding areCalls
+too-few cells h = rw (lt-leb 384 (length cells) h)
+
+module _ (cells : List ℕ) (i : ℕ) (h : i < 128) (inv : plainFrom cells 0 128 ≡ plainFrom cells i (128 - i)) where
+  left : 128 - i ≡ suc (128 - suc i)
+  left = omega arith
+
+  -- A record that is not plain, and one more that is.
+  pub plain-here : plain (getD cells (3 * i + 1) 0) (getD cells (3 * i + 2) 0) ≡ false → false ≡ areCalls cells
+  unfolding areCalls
+  plain-here e = rw (inv, left, plain-one cells i (128 - suc i), e, and-false (leb 384 (length cells)))
+
+  pub plain-next : plain (getD cells (3 * i + 1) 0) (getD cells (3 * i + 2) 0) ≡ true → plainFrom cells 0 128 ≡ plainFrom cells (i + 1) (128 - (i + 1))
+  plain-next e =
+      let one : i + 1 ≡ suc i = omega arith in
+      inv ∙ rw (left, plain-one cells i (128 - suc i), e, one)
+
+pub plain-end : (cells : List ℕ) (i : ℕ) → i ≡ 128 → 384 ≤ length cells → plainFrom cells 0 128 ≡ plainFrom cells i (128 - i) → true ≡ areCalls cells
+unfolding areCalls
+plain-end cells i e enough inv =
+    let none : 128 - i ≡ 0 = omega arith in
+    rw (le-leb 384 (length cells) enough, inv, none, plain-none cells i)
 
 -- ---- stored
 

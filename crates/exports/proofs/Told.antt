@@ -1,6 +1,6 @@
 -- The number and the cells of an answer determine it, where no refusal has the number of what is accepted; and so it is for the entries.
 -- Assumes nothing.
-use mathlib.Core.Path.{_≡_, refl, subst}
+use mathlib.Core.Path.{_≡_, refl, ap, subst}
 use mathlib.Core.Bool.{Bool, true, false, cond}
 use mathlib.Core.List.{List}
 use Prim.Native.Nat.{ℕ, zero, suc, _≤_}
@@ -28,8 +28,11 @@ use Rattle.reader.specs.declared.Reading.{Reading}
 use Rattle.reader.specs.declared.Reading.the-variants as reader
 use Rattle.writer.specs.declared.Writing.{Writing}
 use Rattle.writer.specs.declared.Writing.the-variants as writer
-use Rattle.exports.specs.Answers.{checkCells, extendCells, frameCells, writtenCells, readNumber, readCells, writeCells}
-use Rattle.exports.specs.Told.{checkTold, extendTold, frameTold, writtenTold, readTold, writeTold}
+use Rattle.calls.specs.declared.Call.{Call}
+use Rattle.line.specs.declared.Received.{Received}
+use Rattle.exports.specs.Answers.{checkCells, extendCells, frameCells, writtenCells, readNumber, readCells, writeCells, receiving, callCells, receivedCells}
+use Rattle.exports.specs.Told.{checkTold, extendTold, frameTold, writtenTold, readTold, writeTold, receivedTold}
+use Rattle.exports.proofs.Held.{after-held}
 
 pub check-told : (a : Checked) → ((n q : ℕ) → a ≡ check.Refused n q → 1 ≤ n) → checkTold (checkNumber a) (checkCells a) ≡ a
 check-told check.Good h = refl
@@ -103,3 +106,23 @@ written-number h p room = go (read.knownKind (h .kind)) (leb (length p) 16384) (
 pub write-frame-entry : (h : Header) (p : List ℕ) (room : ℕ) → let a = wrote.writtenOf h p room in writtenTold (wrote.writeNumber a) (writtenCells a) ≡ a
 unfolding Numbered
 write-frame-entry h p room = written-told (wrote.writtenOf h p room) (λ n e. subst Numbered e (written-number h p room))
+
+-- the answer with these records
+abbrev told-over : Received → List Call → Received
+told-over a l =
+    record {
+      number = a .number;
+      place = a .place;
+      used = a .used;
+      rows = a .rows;
+      «tail_place» = a .«tail_place»;
+      «tail_length» = a .«tail_length»;
+      «open» = a .«open»;
+      table = record { slots = l };
+    }
+
+-- The number, the answer's cells and the call table's cells afterwards determine the answer to a frame, whatever was lent.
+pub receive-entry : (table schema : List ℕ) (side : ℕ) (bytes sheet : List ℕ) → let a = receiving table schema side bytes sheet .answer in
+    receivedTold (a .number) (receivedCells a) (callCells table (a .table .slots)) ≡ a
+receive-entry table schema side bytes sheet =
+    ap (told-over (receiving table schema side bytes sheet .answer)) (after-held table schema side bytes sheet)

@@ -1,13 +1,15 @@
 -- The numbers that each answer is stored as beside 01's number, case by case; 0 where 01 gives no value.
 -- Assumes nothing.
-use mathlib.Core.Bool.{cond}
+use mathlib.Core.Bool.{Bool, cond}
 use mathlib.Core.List.{List, [], _∷_}
 use Prim.Native.Nat.{ℕ, suc, _-_, _^_}
 use lib.IntN.{ℤ, pos, negsuc}
 use lib.Ieee.{Float, Format, binary32, binary64, isNan, toBits}
 use lib.ListN.{length, replicate}
 use Rattle.schema.specs.declared.Checked.{Checked}
+use Rattle.schema.specs.declared.Checked.the-variants as check
 use Rattle.schema.specs.declared.Extended.{Extended}
+use Rattle.schema.specs.Check.{checked}
 use Rattle.arf.specs.Numbers.{checkPlace, extendPlace, extendAnswer}
 use Rattle.frame.specs.declared.Header.{Header}
 use Rattle.frame.specs.declared.FrameRead.{FrameRead}
@@ -16,19 +18,20 @@ use Rattle.frame.specs.declared.FrameWritten.{FrameWritten}
 use Rattle.frame.specs.Written.{writtenOf, writeLength}
 use Rattle.value.specs.declared.Row.{Row}
 use Rattle.reader.specs.declared.Reading.{Reading}
-use Rattle.reader.specs.declared.Reading.the-variants as reader
 use Rattle.reader.specs.Entry.{readingIn, sheetIn, readOutcome, numbers}
 use Rattle.writer.specs.declared.Writing.{Writing}
 use Rattle.writer.specs.declared.Writing.the-variants.{Written, Refused as Unwritten}
 use Rattle.writer.specs.Entry as writer
+use Rattle.calls.specs.declared.Call.{Call}
 use Rattle.line.specs.declared.Received.{Received}
-use Rattle.line.specs.Answer.{Line}
+use Rattle.line.specs.Answer.{Line, line, stopped}
 use Rattle.line.specs.Receive.{received}
 use Rattle.scalar.specs.declared.Scalar.{Scalar}
 use Rattle.scalar.specs.declared.Scalar.the-variants.{Truth, Signed, Unsigned, Float32, Float64, Span}
 use Rattle.scalar.specs.declared.Answer.{Answer}
 use Rattle.scalar.specs.declared.Answer.the-variants.{Is, Refused}
-use Rattle.exports.specs.Records.{callsOf}
+use Rattle.exports.specs.Cells.{stored}
+use Rattle.exports.specs.Records.{callsOf, cellsOf, areCalls}
 
 -- ---- tables
 
@@ -124,9 +127,23 @@ scalarCells (Refused number place) = place ∷ 0 ∷ 0 ∷ 0 ∷ []
 
 -- ---- calls
 
--- One frame against the call table that these cells hold.
+-- A call table that is not good, whatever the frame: 15, after the schema's faults.
+abbrev pub notCalls : Checked → List Call → Received
+notCalls check.Good l = stopped l 15 0
+notCalls (check.Refused number row) l = stopped l number row
+
+-- One frame against the call table l, which the cells are, or are not.
+unfoldable pub judgement : Bool → (schema : List ℕ) (side : ℕ) (bytes sheet : List ℕ) → List Call → Line
+judgement known schema side bytes sheet l =
+    cond known (received schema side bytes sheet l) (line (notCalls (checked schema) l) sheet)
+
+-- One frame against the call table that these cells hold. Cells that are no call table are refused as one that is not good.
 abbrev pub receiving : (table schema : List ℕ) (side : ℕ) (bytes sheet : List ℕ) → Line
-receiving table schema side bytes sheet = received schema side bytes sheet (callsOf table)
+receiving table schema side bytes sheet = judgement (areCalls table) schema side bytes sheet (callsOf table)
+
+-- The cells afterwards: those of the next table; cells that are no call table stay as they are.
+abbrev pub callCells : (table : List ℕ) → List Call → List ℕ
+callCells table l = cond (areCalls table) (stored table (cellsOf l)) table
 
 -- The answer to a frame: place, bytes used, rows, the tail's place and length, calls open.
 abbrev pub receivedCells : Received → List ℕ

@@ -1,10 +1,10 @@
 -- The call table as cells that a caller lends: three a record, for the correlation, the method number and the marks.
 -- Assumes nothing.
-use mathlib.Core.Bool.{Bool, cond}
+use mathlib.Core.Bool.{Bool, true, cond, _&&_}
 use mathlib.Core.List.{List, [], _∷_}
-use Prim.Native.Nat.{ℕ, zero, suc, _+_, _*_, _/_, _%_}
-use lib.Dec.{eqb}
-use lib.ListN.{getD}
+use Prim.Native.Nat.{ℕ, zero, suc, _+_, _*_, _/_, _%_, _≤_, _<_}
+use lib.Dec.{eqb, leb, ltb}
+use lib.ListN.{length, getD}
 use Rattle.calls.specs.declared.Call.{Call}
 
 -- The marks count 1 open, 2 RESPONSE, 4 input closed, 8 output closed. A method number has 32 bits.
@@ -42,3 +42,24 @@ recordCells c = c .correlation ∷ c .method ∷ marksOf c ∷ []
 unfoldable pub cellsOf : List Call → List ℕ
 cellsOf [] = []
 cellsOf (c ∷ cs) = c .correlation ∷ c .method ∷ marksOf c ∷ cellsOf cs
+
+-- ---- cells that are a call table
+
+-- A method number has 32 bits, and none but the four marks is set.
+abbrev pub plain : (method marks : ℕ) → Bool
+plain method marks = ltb method 4294967296 && ltb marks 16
+
+-- The same of n records, from the i-th on.
+unfoldable pub plainFrom : List ℕ → (i n : ℕ) → Bool
+plainFrom cells i zero = true
+plainFrom cells i (suc n) = plain (getD cells (3 * i + 1) 0) (getD cells (3 * i + 2) 0) && plainFrom cells (suc i) n
+
+-- There is a cell for each of the 384 numbers, and each number is one of a record.
+unfoldable pub areCalls : List ℕ → Bool
+areCalls cells = leb 384 (length cells) && plainFrom cells 0 128
+
+-- The same without a test.
+pub record AreCalls (cells : List ℕ) : Type 0 where
+  pub enough : 384 ≤ length cells
+  pub methods : (i : ℕ) → i < 128 → getD cells (3 * i + 1) 0 < 4294967296
+  pub marks : (i : ℕ) → i < 128 → getD cells (3 * i + 2) 0 < 16

@@ -2,9 +2,11 @@
 -- more bytes; any other is a refusal's. Assumes nothing.
 use mathlib.Core.Bool.{cond}
 use mathlib.Core.List.{List}
-use Prim.Native.Nat.{ℕ, zero, suc}
+use Prim.Native.Nat.{ℕ, zero, suc, _^_}
 use lib.Dec.{eqb}
+use lib.Ieee.{binary32, binary64, ofBits}
 use lib.ListN.{getD}
+use Rattle.wire.specs.Little.{twos}
 use Rattle.schema.specs.declared.Checked.{Checked}
 use Rattle.schema.specs.declared.Checked.the-variants as check
 use Rattle.schema.specs.declared.Extended.{Extended}
@@ -17,6 +19,12 @@ use Rattle.reader.specs.declared.Reading.{Reading}
 use Rattle.reader.specs.declared.Reading.the-variants as reader
 use Rattle.writer.specs.declared.Writing.{Writing}
 use Rattle.writer.specs.declared.Writing.the-variants as writer
+use Rattle.line.specs.declared.Received.{Received}
+use Rattle.scalar.specs.declared.Scalar.{Scalar}
+use Rattle.scalar.specs.declared.Scalar.the-variants.{Truth, Signed, Unsigned, Float32, Float64, Span}
+use Rattle.scalar.specs.declared.Answer.{Answer}
+use Rattle.scalar.specs.declared.Answer.the-variants.{Is, Refused}
+use Rattle.exports.specs.Records.{callsOf}
 use Rattle.exports.specs.Answers.{headerOf}
 
 -- The i-th cell.
@@ -48,3 +56,31 @@ readTold (suc n) cells = reader.Refused (suc n) (cell cells 0)
 abbrev pub writeTold : (number : ℕ) → List ℕ → Writing
 writeTold zero cells = writer.Written (cell cells 1)
 writeTold (suc n) cells = writer.Refused (suc n) (cell cells 0)
+
+-- The answer to a frame, from the cells of the call table too.
+abbrev pub receivedTold : (number : ℕ) → (answer table : List ℕ) → Received
+receivedTold number cells table =
+    record {
+      number = number;
+      place = cell cells 0;
+      used = cell cells 1;
+      rows = cell cells 2;
+      «tail_place» = cell cells 3;
+      «tail_length» = cell cells 4;
+      «open» = cell cells 5;
+      table = record { slots = callsOf table };
+    }
+
+-- A scalar, from its case and its two numbers. A whole number is told by the 64 bits of its two's complement, a float by the bits beside it.
+abbrev pub valueTold : (kind first second : ℕ) → Scalar
+valueTold kind a b =
+    cond (eqb kind 1) (Truth (eqb a 1))
+    (cond (eqb kind 2) (Signed (twos (2 ^ 63) a))
+    (cond (eqb kind 3) (Unsigned a)
+    (cond (eqb kind 4) (Float32 (ofBits binary32 a) a)
+    (cond (eqb kind 5) (Float64 (ofBits binary64 a) a)
+    (Span a b)))))
+
+abbrev pub scalarTold : (number : ℕ) → List ℕ → Answer
+scalarTold zero cells = Is (valueTold (cell cells 1) (cell cells 2) (cell cells 3))
+scalarTold (suc n) cells = Refused (suc n) (cell cells 0)

@@ -8,7 +8,8 @@ ghost use Prim.Native.Nat.{_*_, _≤_, _<_};
 ghost use lib.ListN.{getD};
 ghost use lib.Seq.{sets};
 ghost use Rattle.exports.specs.Cells.{stored};
-ghost use Rattle.exports.specs.Records.{callOf, callAt, callsOf, marksOf, recordCells, cellsOf};
+ghost use Rattle.exports.specs.Records.{callOf, callAt, callsOf, marksOf, recordCells, cellsOf, plain, areCalls};
+ghost use Rattle.exports.specs.Answers.{callCells};
 
 // One cell, and 0 past the last.
 fn cell(cells: &[u64], i: usize) -> u64
@@ -39,6 +40,29 @@ fn call_at(cells: &[u64], i: usize) -> Call
         cell(cells, 3 * i + 1),
         cell(cells, 3 * i + 2),
     )
+}
+
+fn is_plain(method: u64, marks: u64) -> bool
+    ensures { λ r. ⌜ r ≡ plain method marks ⌝ }
+{
+    (method < 4294967296) & (marks < 16)
+}
+
+// The cells are a call table: there are enough of them, and each number is one of a record.
+pub fn are_calls(cells: &[u64]) -> bool
+    ensures { λ r. ⌜ r ≡ areCalls (now (cells .entry)) ⌝ }
+{
+    if cells.len() < 384 {
+        return false;
+    }
+    let mut i: usize = 0;
+    while i < 128 {
+        if !is_plain(cells[3 * i + 1], cells[3 * i + 2]) {
+            return false;
+        }
+        i += 1;
+    }
+    true
 }
 
 // The call table that the cells hold.
@@ -87,5 +111,15 @@ pub fn save(cells: &mut [u64], table: CallTable)
     while i < 128 {
         put_call(cells, i, table.slots[i]);
         i += 1;
+    }
+}
+
+// The same where the cells are a call table.
+pub fn keep(cells: &mut [u64], known: bool, table: CallTable)
+    requires { ⌜ known ≡ areCalls (now cells) ⌝ }
+    ensures { λ _. ⌜ now (cells .exit) ≡ callCells (now (cells .entry)) (table .slots) ⌝ }
+{
+    if known {
+        save(cells, table);
     }
 }

@@ -15,13 +15,13 @@ use Rattle.frame.specs.Written.{frontBytes, frameBytes}
 use Rattle.frame.proofs.Theorems.{frame-read}
 use Rattle.frame.proofs.ReadBack.{shortest-frame}
 
-invoke : Header
+pub invoke : Header
 invoke = record { kind = 1; «package» = 1; service = 2; method = 3; correlation = 9 }
 
-payload : List ℕ
+pub payload : List ℕ
 payload = 0x01 ∷ 0x07 ∷ []
 
-invoke-bytes : List ℕ
+pub invoke-bytes : List ℕ
 invoke-bytes =
     0xAF
     ∷ 0x01
@@ -63,7 +63,7 @@ invoke-read r =
     rw invoke-written at (frame-read r is)
 
 -- a field is judged once it is whole: one byte of the magic is not, whatever it is
-starts-judged : map frameOf
+pub starts-judged : map frameOf
     ((0x00 ∷ [])
     ∷ (0xAF ∷ 0x02 ∷ [])
     ∷ (0xAF ∷ 0x01 ∷ [])
@@ -77,16 +77,20 @@ starts-judged : map frameOf
 unfolding frameOf whole little
 starts-judged = refl
 
--- the same front with other lengths: cut; with a spare group, of two bytes and of ten, before the payload is there; ten bytes without one, above 16,384
-lengths-judged : map (λ (l : List ℕ). frameOf (take 25 invoke-bytes ++ l))
+-- the same front with other lengths: cut; with a spare group, of two bytes, of ten, and of a number above 16,384, before the payload is there; a tenth
+-- byte above 1; above 16,384 in two forms, before the payload is there; the payload cut; whole
+pub lengths-judged : map (λ (l : List ℕ). frameOf (take 25 invoke-bytes ++ l))
     ((0x80 ∷ [])
     ∷ (0x80 ∷ 0x00 ∷ [])
     ∷ (0x82 ∷ 0x00 ∷ payload)
     ∷ (replicate 9 0x80 ++ (0x00 ∷ []))
+    ∷ (0xFF ∷ 0xFF ∷ 0xFF ∷ 0x00 ∷ [])
+    ∷ (replicate 9 0x80 ++ (0x02 ∷ []))
     ∷ (replicate 9 0x80 ++ (0x01 ∷ []))
+    ∷ (0x81 ∷ 0x80 ∷ 0x01 ∷ [])
     ∷ (0x02 ∷ 0x01 ∷ [])
     ∷ (0x02 ∷ payload)
     ∷ [])
-    ≡ More ∷ Refused 6 ∷ Refused 6 ∷ Refused 6 ∷ Refused 7 ∷ More ∷ Frame invoke 26 2 ∷ []
+    ≡ More ∷ Refused 6 ∷ Refused 6 ∷ Refused 6 ∷ Refused 6 ∷ Refused 6 ∷ Refused 7 ∷ Refused 7 ∷ More ∷ Frame invoke 26 2 ∷ []
 unfolding frameOf whole payloadOf little front groups invoke payload invoke-bytes
 lengths-judged = refl

@@ -1,11 +1,12 @@
 -- What the frame writer writes is a frame, and is read back as the same header and payload. A frame that is read is written again to the same bytes.
 -- Assumes nothing.
-use mathlib.Core.Path.{_≡_, refl, sym, ap, ap₂, _∙_}
+use mathlib.Core.Path.{_≡_, refl, sym, ap, ap₂, subst, _∙_}
 use mathlib.Core.Logic.{_↔_}
+use mathlib.Core.Bool.{Bool, true, false, cond}
 use mathlib.Core.List.{List, _++_, append-assoc}
 use Prim.Native.Nat.{ℕ, suc, _+_, _-_, _^_, _≤_, _<_}
 use native.Mathlib.Omega.{arith}
-use borrow.Author.Tests.{leb-true}
+use borrow.Author.Tests.{leb-true, leb-false, le-leb, lt-leb}
 use lib.Dec.{leb}
 use lib.ListN.{length, take, drop}
 use lib.Seq.{take-at}
@@ -18,7 +19,7 @@ use Rattle.frame.specs.declared.Header.{Header}
 use Rattle.frame.specs.declared.FrameRead.the-variants.{Frame}
 use Rattle.frame.specs.declared.FrameWritten.the-variants.{Written, Refused}
 use Rattle.frame.specs.Frame.{knownKind, frameOf}
-use Rattle.frame.specs.Written.{frontBytes, frameBytes, writtenOf, outputOf}
+use Rattle.frame.specs.Written.{frontBytes, frameBytes, writtenOf, outputOf, Accepted, Unwritten, kind, long, full, ReadBack}
 use Rattle.frame.specs.IsFrame.{Holds, IsFrame, frame, Fits}
 use Rattle.frame.proofs.Tests.{known-bounds, bounds-known}
 use Rattle.frame.proofs.Writes.{length-frame, fitting}
@@ -37,16 +38,11 @@ shortest-frame h p fits least most small =
     (frame (varuintBytes (length p)) least most (holds-bytes 4 (h .«package») (fits .«package»)) (holds-bytes 4 (h .service) (fits .service))
     (holds-bytes 4 (h .method) (fits .method)) (holds-bytes 8 (h .correlation) (fits .correlation)) (shortest-spelled (length p) (omega arith)) small)
 
--- what the writer accepts
-pub record Accepted (h : Header) (p : List ℕ) (room n : ℕ) : Type 0 where
-  pub least : 1 ≤ h .kind
-  pub most : h .kind ≤ 8
-  pub small : length p ≤ 16384
-  pub size : length (frameBytes h p) ≡ n
-  pub fits : n ≤ room
-
 not-refused : {number n : ℕ} → Refused number ≡ Written n → ⊥
 not-refused e = differ cc
+
+same-number : {m n : ℕ} → Refused m ≡ Refused n → m ≡ n
+same-number e = cc
 
 written-accepted : (h : Header) (p : List ℕ) (room : ℕ) {n : ℕ} → writtenOf h p room ≡ Written n → Accepted h p room n
 unfolding writtenOf
@@ -72,11 +68,39 @@ written-iff h p room n = (written-accepted h p room, accepted-written)
     accepted-written a =
         fitting h p room (bounds-known (h .kind) (a .least) (a .most)) (a .small) (omega (arith, a .size, a .fits, length-frame h p)) ∙ ap Written (sym (length-frame h p) ∙ a .size)
 
--- what was written, followed by anything, is read as the same header, and the payload stands at its place
-pub record ReadBack (h : Header) (p s : List ℕ) (n : ℕ) : Type 0 where
-  pub reads : frameOf s ≡ Frame h (n - length p) (length p)
-  pub payload : take (length p) (drop (n - length p) s) ≡ p
+-- the writer refuses with 4, 7 and 52 exactly for these faults
+pub refused-iff : (h : Header) (p : List ℕ) (room number : ℕ) → (writtenOf h p room ≡ Refused number) ↔ Unwritten h p room number
+unfolding writtenOf
+refused-iff h p room number = (refused-for, for-refused)
+  where
+    known : knownKind (h .kind) ≡ true → (1 ≤ h .kind) × (h .kind ≤ 8)
+    known t = known-bounds (h .kind) t
 
+    never : knownKind (h .kind) ≡ false → knownKind (h .kind) ≡ true → ⊥
+    never f t = let bad : false ≡ true = sym f ∙ t in differ cc
+
+    unknown : ((1 ≤ h .kind) × (h .kind ≤ 8) → ⊥) → (b : Bool) → knownKind (h .kind) ≡ b → knownKind (h .kind) ≡ false
+    unknown w true e = absurd (w (known e))
+    unknown w false e = e
+
+    refused-for : writtenOf h p room ≡ Refused number → Unwritten h p room number
+    refused-for e = go (knownKind (h .kind)) (leb (length p) 16384) (leb (length (frameBytes h p)) room) refl refl refl e
+      where
+        go : (a b c : Bool) → knownKind (h .kind) ≡ a → leb (length p) 16384 ≡ b → leb (length (frameBytes h p)) room ≡ c →
+            cond a (cond b (cond c (Written (length (frameBytes h p))) (Refused 52)) (Refused 7)) (Refused 4) ≡ Refused number → Unwritten h p room number
+        go false b c x y z e = subst (Unwritten h p room) (same-number e) (kind (λ w. never x (bounds-known (h .kind) (w .0) (w .1))))
+        go true false c x y z e = subst (Unwritten h p room) (same-number e) (long (known x .0) (known x .1) (leb-false (length p) 16384 y))
+        go true true false x y z e =
+            subst (Unwritten h p room) (same-number e)
+            (full (known x .0) (known x .1) (leb-true (length p) 16384 y) (leb-false (length (frameBytes h p)) room z))
+        go true true true x y z e = absurd (not-refused (sym e))
+
+    for-refused : {number : ℕ} → Unwritten h p room number → writtenOf h p room ≡ Refused number
+    for-refused (kind w) = rw (unknown w (knownKind (h .kind)) refl)
+    for-refused (long low high n) = rw (bounds-known (h .kind) low high, lt-leb (length p) 16384 n)
+    for-refused (full low high n r) = rw (bounds-known (h .kind) low high, le-leb (length p) 16384 n, lt-leb (length (frameBytes h p)) room r)
+
+-- what was written, followed by anything, is read back
 pub read-back : (h : Header) (p : List ℕ) (room : ℕ) {n : ℕ} → Fits h → writtenOf h p room ≡ Written n → (r : List ℕ) → ReadBack h p (frameBytes h p ++ r) n
 read-back h p room fits e r =
     let a = written-accepted h p room e in
@@ -114,13 +138,10 @@ one-frame (frame {h = h} {«package» = p} {service = s} {method = m} {correlati
       spelled-is (length q) l (bl .0) spells,
     ))
 
--- a frame that was read, written from its header and its payload
-pub record WrittenAgain (s : List ℕ) (h : Header) (p : List ℕ) (n : ℕ) (out : List ℕ) : Type 0 where
-  pub answer : writtenOf h p (length out) ≡ Written n
-  pub output : outputOf (Written n) h p out ≡ take n s ++ drop n out
-
+-- a frame that was read, written from its header and its payload, is the same bytes
 pub written-again : (s : List ℕ) {h : Header} {place n : ℕ} → Bytes s → frameOf s ≡ Frame h place n → (out : List ℕ) → place + n ≤ length out
-    → WrittenAgain s h (take n (drop place s)) (place + n) out
+    → let p = take n (drop place s) in
+    (writtenOf h p (length out) ≡ Written (place + n)) × (outputOf (Written (place + n)) h p out ≡ take (place + n) s ++ drop (place + n) out)
 unfolding outputOf
 written-again s {h = h} {place = place} {n = n} u e out l =
     let w = read-is-frame s e in
@@ -131,4 +152,4 @@ written-again s {h = h} {place = place} {n = n} u e out l =
     let a : Accepted h (w .payload) (length out) (place + n) =
     record { least = b .least; most = b .most; small = omega (arith, w .size, b .small); size = size; fits = l } in
     rw (payload-there s w)
-    (record { answer = written-iff h (w .payload) (length out) (place + n) .1 a; output = ap (λ (x : List ℕ). x ++ drop (place + n) out) (sym same ∙ sym starts) })
+    (written-iff h (w .payload) (length out) (place + n) .1 a, ap (λ (x : List ℕ). x ++ drop (place + n) out) (sym same ∙ sym starts))

@@ -1,16 +1,18 @@
 -- What the frame writer writes, and what its answers stand for.
 -- Assumes nothing.
-use Prim.Native.Nat.{ℕ}
+use mathlib.Core.Path.{_≡_}
+use Prim.Native.Nat.{ℕ, _-_, _≤_, _<_}
 use mathlib.Core.Bool.{cond}
 use mathlib.Core.List.{List, _∷_, _++_}
 use lib.Dec.{leb}
-use lib.ListN.{length, drop}
+use lib.ListN.{length, take, drop}
 use Rattle.wire.specs.Little.{bytes}
 use Rattle.wire.specs.Varuint.{varuintBytes}
 use Rattle.frame.specs.declared.Header.{Header}
+use Rattle.frame.specs.declared.FrameRead.the-variants.{Frame}
 use Rattle.frame.specs.declared.FrameWritten.{FrameWritten}
 use Rattle.frame.specs.declared.FrameWritten.the-variants.{Written, Refused}
-use Rattle.frame.specs.Frame.{knownKind}
+use Rattle.frame.specs.Frame.{knownKind, frameOf}
 
 -- all before the payload, of which there are n bytes
 unfoldable pub frontBytes : Header → ℕ → List ℕ
@@ -44,3 +46,24 @@ writeNumber (Refused number) = number
 abbrev pub writeLength : FrameWritten → ℕ
 writeLength (Written n) = n
 writeLength (Refused number) = 0
+
+-- ---- the same without an order of tests
+
+-- what the writer accepts, with n bytes
+pub record Accepted (h : Header) (p : List ℕ) (room n : ℕ) : Type 0 where
+  pub least : 1 ≤ h .kind
+  pub most : h .kind ≤ 8
+  pub small : length p ≤ 16384
+  pub size : length (frameBytes h p) ≡ n
+  pub fits : n ≤ room
+
+-- what it refuses: a kind that there is not; a payload that is too long; an output that is too small
+pub data Unwritten (h : Header) (p : List ℕ) (room : ℕ) : (number : ℕ) → Type 0 where
+  kind : ((1 ≤ h .kind) × (h .kind ≤ 8) → ⊥) → Unwritten h p room 4
+  long : 1 ≤ h .kind → h .kind ≤ 8 → 16384 < length p → Unwritten h p room 7
+  full : 1 ≤ h .kind → h .kind ≤ 8 → length p ≤ 16384 → room < length (frameBytes h p) → Unwritten h p room 52
+
+-- the frame of n bytes at the front of s is read as this header, and the payload stands at its place
+pub record ReadBack (h : Header) (p s : List ℕ) (n : ℕ) : Type 0 where
+  pub reads : frameOf s ≡ Frame h (n - length p) (length p)
+  pub payload : take (length p) (drop (n - length p) s) ≡ p

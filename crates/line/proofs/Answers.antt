@@ -1,19 +1,19 @@
 -- What each answer tells: bytes used by its number, the calls open, what a refusal and an ERROR leave, and that bytes after the frame change nothing.
 -- Assumes nothing.
 use mathlib.Core.Path.{_≡_, refl, sym, ap, _∙_}
-use mathlib.Core.Bool.{Bool, true, false, cond, _&&_, _||_}
+use mathlib.Core.Bool.{Bool, true, false, cond}
 use mathlib.Core.List.{List, _++_}
 use Prim.Native.Nat.{ℕ, _+_, _≤_}
 use native.Mathlib.Omega.{arith}
-use lib.Dec.{eqb, leb}
+use lib.Dec.{eqb}
 use lib.ListN.{length, take, drop, length-drop}
 use lib.Seq.{take-append-le, drop-append-le}
-use borrow.Author.Tests.{ne-eqb, le-leb, lt-leb}
+use borrow.Author.Tests.{ne-eqb}
 use Rattle.schema.specs.Table.{Table}
 use Rattle.schema.specs.File.{tableOf}
 use Rattle.schema.specs.declared.Method.{Method}
 use Rattle.schema.specs.Check.{methodRow, named, findMethod}
-use Rattle.schema.proofs.Bools.{clash}
+use Rattle.schema.proofs.Bools.{clash, is-false}
 use Rattle.frame.specs.Frame.{frameOf, readUsed}
 use Rattle.frame.proofs.Answers.{read-bounds}
 use Rattle.frame.proofs.Theorems.{followed}
@@ -24,37 +24,37 @@ use Rattle.calls.specs.declared.Payload.the-variants.{Unread}
 use Rattle.calls.specs.declared.Judged.{Judged}
 use Rattle.calls.specs.declared.Judged.the-variants.{Stop, Opens, Goes}
 use Rattle.calls.specs.Forms.{rowOf}
+use Rattle.calls.specs.Numbers.{usesFrame, UsesFrame, accepted, call as stopped-call, refused}
 use Rattle.calls.specs.Record.{allowed, afterFrame}
 use Rattle.calls.specs.Slots.{countOpen}
 use Rattle.calls.specs.Judge.{rightSide, payloadOf, judgeOf}
 use Rattle.calls.specs.Step.{stepOf, dueOf}
 use Rattle.calls.specs.Apart.{Own, none, one, ownOf, full, stop, goes, invokeVerdict, otherVerdict, verdictOf, verdictDue}
+use Rattle.calls.proofs.Used.{uses-iff}
 use Rattle.calls.proofs.Apart.{judged-by, due-by}
 use Rattle.value.specs.declared.Row.{Row}
 use Rattle.reader.specs.Entry.{Outcome}
-use Rattle.line.specs.Answer.{Line, line, stopped, payloadRead, usesFrame, usedOf, answered}
+use Rattle.line.specs.Answer.{Line, line, stopped, payloadRead, usedOf, answered}
 use Rattle.line.specs.Receive.{frameFrom, frameLine, bytesLine, received}
 use Rattle.line.specs.Claims.{Front, Shows, Nothing}
-use Rattle.line.proofs.Ways.{Early, schema, calls, frame, Way, stops, judges, ways}
+use Rattle.line.proofs.Ways.{front-is, Early, schema, calls, frame, early, Way, stops, judges, ways}
 use Rattle.line.proofs.Payloads.{Untouched, refused-read, unread}
 use Rattle.line.proofs.Apart.{same-answer}
 
 -- ---- bytes used
 
 early-unused : {n q : ℕ} → Early n q → usesFrame n ≡ false
-early-unused calls = refl
-early-unused (schema {n} low high e) =
-    let zero : eqb n 0 ≡ false = ne-eqb n 0 (λ z. omega arith) in
-    let from8 : leb 8 n ≡ true = le-leb 8 n (omega arith) in
-    let past14 : leb n 14 ≡ false = lt-leb n 14 (omega arith) in
-    let from20 : leb 20 n ≡ true = le-leb 20 n (omega arith) in
-    let past29 : leb n 29 ≡ false = lt-leb n 29 (omega arith) in
-    λ i. (zero i) || (((from8 i) && (past14 i)) || ((from20 i) && (past29 i)))
-early-unused (frame {n} low high) =
-    let zero : eqb n 0 ≡ false = ne-eqb n 0 (λ z. omega arith) in
-    let before8 : leb 8 n ≡ false = lt-leb 8 n (omega arith) in
-    let before20 : leb 20 n ≡ false = lt-leb 20 n (omega arith) in
-    λ i. (zero i) || (((before8 i) && leb n 14) || ((before20 i) && leb n 29))
+early-unused {n} e = is-false (usesFrame n) (λ t. never (uses-iff n .0 t) e)
+  where
+    never : {n q : ℕ} → UsesFrame n → Early n q → ⊥
+    never accepted (schema a b e) = omega arith
+    never accepted (frame a b) = omega arith
+    never (stopped-call low high) (schema a b e) = omega arith
+    never (stopped-call low high) calls = omega arith
+    never (stopped-call low high) (frame a b) = omega arith
+    never (refused low high) (schema a b e) = omega arith
+    never (refused low high) calls = omega arith
+    never (refused low high) (frame a b) = omega arith
 
 stop-used : (l : List Call) {n q : ℕ} (size : ℕ) → Early n q → stopped l n q .used ≡ usedOf (stopped l n q .number) size
 unfolding stopped
@@ -141,7 +141,7 @@ module _ (s : List ℕ) (side : ℕ) (bytes sheet : List ℕ) (l : List Call) wh
   used-by-number = go (ways s side bytes sheet l)
     where
       go : {x : Line} → Way s side bytes sheet l x → x .answer .used ≡ usedOf (x .answer .number) (readUsed (frameOf bytes))
-      go (stops {n} {q} w) = stop-used l (readUsed (frameOf bytes)) w
+      go (stops {n} {q} w) = stop-used l (readUsed (frameOf bytes)) (early s bytes l w)
       go (judges h place n g t e) = rw e (frame-used s (frameFrom side h) (take n (drop place bytes)) (place + n) sheet l)
 
   -- The calls open are those of the next table.
@@ -174,7 +174,7 @@ module _ (s : List ℕ) (side : ℕ) (bytes sheet : List ℕ) (l : List Call) wh
       go (stops {n} {q} v) = stop-bare l n q sheet
       go (judges h place n g t e) =
           let same : h ≡ w .header = cc in
-          error-bare s (take n (drop place bytes)) sheet (place + n) l (frameFrom side h) (rw same (rw (w .is) at k))
+          error-bare s (take n (drop place bytes)) sheet (place + n) l (frameFrom side h) (rw same (rw (front-is w) at k))
 
   -- Bytes after the frame change nothing.
   pub rest-ignored : (f : Frame) → Front side bytes f → (rest : List ℕ) → received s side (bytes ++ rest) sheet l ≡ received s side bytes sheet l

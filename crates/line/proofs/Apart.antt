@@ -25,7 +25,8 @@ use Rattle.reader.specs.declared.Reading.{Reading}
 use Rattle.reader.specs.Entry.{Outcome, readingIn, room, numbers}
 use Rattle.line.specs.Answer.{line, stopped, payloadRead, usedOf, answerOf, answered}
 use Rattle.line.specs.Receive.{onGood, onFrame, frameFrom, frameLine, bytesLine, received}
-use Rattle.line.specs.Claims.{Front, Reply, replyOf, Alike, SameAnswer}
+use Rattle.line.specs.Claims.{Reply, replyOf, Alike, SameAnswer}
+use Rattle.line.proofs.Ways.{front-of}
 use Rattle.line.proofs.Payloads.{none-shown, Both, both-read}
 
 -- ---- what the answer depends on
@@ -33,13 +34,10 @@ use Rattle.line.proofs.Payloads.{none-shown, Both, both-read}
 -- the reply by the judgement without a slot and the payload's reading
 abbrev replyBy : (size : ℕ) → Reading → Verdict → Reply
 replyBy size r v =
+    let n = verdictNumber v (numbers r .number) in
     record {
-      number = verdictNumber v (numbers r .number);
-      place = numbers r .place;
-      used = usedOf (verdictNumber v (numbers r .number)) size;
-      rows = numbers r .rows;
-      tailPlace = numbers r .tailPlace;
-      tailLength = numbers r .tailLength;
+      numbers = record { number = n; place = numbers r .place; rows = numbers r .rows; tailPlace = numbers r .tailPlace; tailLength = numbers r .tailLength };
+      used = usedOf n size;
     }
 
 reply-by : (size : ℕ) (r : Reading) (l : List Call) (J : Judged) → replyOf (answerOf size (stepOf J (numbers r .number) l) r) ≡ replyBy size r (verdict J)
@@ -76,7 +74,7 @@ module _ (sheet₁ sheet₂ : List ℕ) (l₁ l₂ : List Call) where
     frame-same f payload size own slots =
         let J₁ = judgeOf (tableOf s) f l₁ in
         let J₂ = judgeOf (tableOf s) f l₂ in
-        let e = calls.same-judgement (tableOf s) f (λ _. 0) l₁ l₂ own slots in
+        let e = calls.same-judgement (tableOf s) f l₁ l₂ own slots in
         let due = calls.due-by J₁ ∙ ap verdictDue e ∙ sym (calls.due-by J₂) in
         answered-same size J₁ J₂ (payloadRead s (dueOf J₁) payload sheet₁) (payloadRead s (dueOf J₂) payload sheet₂) e
         (rw due (both-read s payload sheet₁ sheet₂ space (dueOf J₂)))
@@ -93,7 +91,7 @@ module _ (sheet₁ sheet₂ : List ℕ) (l₁ l₂ : List Call) where
           go More e = stop-same 1 0
           go (Refused n) e = stop-same n 0
           go (Whole h place n) e =
-              let front : Front side bytes (frameFrom side h) = record { header = h; place = place; size = n; whole = e; is = refl } in
+              let front = front-of side bytes h place n e in
               frame-same (frameFrom side h) (take n (drop place bytes)) (place + n) (w .own (frameFrom side h) front) (w .room (frameFrom side h) front)
 
       -- The open count aside, the answer depends on the schema table, on whether the call table is good, on the frame, its side, the sheet's room and

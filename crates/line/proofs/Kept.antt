@@ -15,8 +15,8 @@ use Rattle.calls.specs.Step.{stepOf, receive}
 use Rattle.calls.proofs.Kept.{test-stays, stays-long}
 use Rattle.line.specs.Answer.{Line, stopped, payloadRead, numberIn, answered}
 use Rattle.line.specs.Receive.{frameFrom, frameLine, received}
-use Rattle.line.specs.Claims.{Front}
-use Rattle.line.proofs.Ways.{Early, Way, stops, judges, ways}
+use Rattle.line.specs.Claims.{Front, Stops}
+use Rattle.line.proofs.Ways.{front-of, Way, stops, judges, ways}
 
 -- the number of a payload by what it holds
 abbrev pub readingOf : (s payload sheet : List ℕ) → Payload → ℕ
@@ -35,14 +35,11 @@ module _ (P : ℕ → List Call → Type 0) where
   frame-holds s f payload size sheet l h = h
 
 module _ (s : List ℕ) (side : ℕ) (bytes sheet : List ℕ) (l : List Call) where
-  abbrev pub after : Line
-  after = received s side bytes sheet l
-
   -- What holds of the number and the records where the answer stops, and of every step of a frame at the front.
-  pub holds : (P : ℕ → List Call → Type 0) → ((n q : ℕ) → Early n q → P n l)
+  pub holds : (P : ℕ → List Call → Type 0) → ((n q : ℕ) → Stops s bytes l n q → P n l)
       → ((f : Frame) → Front side bytes f → IsGood s → goodTable (tableOf s) l ≡ true → (reading : Payload → ℕ) →
       let r = receive (tableOf s) f reading l in P (r .number) (r .table .slots))
-      → P (after .answer .number) (after .answer .table .slots)
+      → let a = received s side bytes sheet l in P (a .answer .number) (a .answer .table .slots)
   holds P stop step = go (ways s side bytes sheet l)
     where
       go : {x : Line} → Way s side bytes sheet l x → P (x .answer .number) (x .answer .table .slots)
@@ -51,10 +48,10 @@ module _ (s : List ℕ) (side : ℕ) (bytes sheet : List ℕ) (l : List Call) wh
           let f = frameFrom side h in
           let p = take n (drop place bytes) in
           frame-holds P s f p (place + n) sheet l
-          (step f (record { header = h; place = place; size = n; whole = e; is = refl }) g t (readingOf s p sheet))
+          (step f (front-of side bytes h place n e) g t (readingOf s p sheet))
 
-  pub stays-good : goodTable (tableOf s) l ≡ true → goodTable (tableOf s) (after .answer .table .slots) ≡ true
+  pub stays-good : goodTable (tableOf s) l ≡ true → goodTable (tableOf s) (received s side bytes sheet l .answer .table .slots) ≡ true
   stays-good good = holds (λ _ l′. goodTable (tableOf s) l′ ≡ true) (λ n q e. good) (λ f w g t r. test-stays (tableOf s) f r l t)
 
-  pub same-length : length (after .answer .table .slots) ≡ length l
+  pub same-length : length (received s side bytes sheet l .answer .table .slots) ≡ length l
   same-length = holds (λ _ l′. length l′ ≡ length l) (λ n q e. refl) (λ f w g t r. stays-long (tableOf s) f r l)

@@ -7,4 +7,3 @@ pub mod Records
 pub mod Answers
 pub mod Listed
 pub mod Runs
-pub mod Values

@@ -43,7 +43,7 @@ use Rattle.reader.specs.Entry.{Outcome, outcome, readingIn, outcomeOf, room, pa
 use Rattle.line.specs.Answer.{Line, stopped, payloadRead, numberIn, answered}
 use Rattle.line.specs.Receive.{frameFrom, frameLine, received}
 use Rattle.line.specs.Claims.{Listed, accepted, frame, call, value as fault, payload, shape as formed, row}
-use Rattle.line.proofs.Ways.{Early, schema, calls, frame as early, Way, stops, judges, ways}
+use Rattle.line.proofs.Ways.{Early, schema, calls, frame as framed, early, Way, stops, judges, ways}
 
 -- ---- the payload
 
@@ -64,7 +64,7 @@ payload-told s p sheet g small (struct t h k) =
     rw (e, le-leb (length p) 16384 small)
     (told-of (room sheet) _ (root-numbered T (good-table s g) t (fieldsOf T (rowAt T t)) e (cursorAt p 0)) sheet)
 payload-told s p sheet g small empty =
-    cond-case (λ (r : Reading). Told (outcome r sheet)) (eqb (length p) 0) (Shown 0 0 0) (Refused 29 0) (λ _. accepted) (λ _. payload (lit≤ tt) (lit≤ tt))
+    cond-case (λ (r : Reading). Told (outcome r sheet)) (eqb (length p) 0) (Shown 0 0 0) (Refused _ 0) (λ _. accepted) (λ _. payload (lit≤ tt) (lit≤ tt))
 payload-told s p sheet g small unread = accepted
 
 -- ---- the side and the call
@@ -121,7 +121,7 @@ frame-listed s f p size sheet l g t small =
 stop-listed : (l : List Call) {n q : ℕ} → Early n q → Listed (stopped l n q .number) (stopped l n q .place)
 unfolding stopped
 stop-listed l calls = call (lit≤ tt) (lit≤ tt)
-stop-listed l (early low high) = frame low high
+stop-listed l (framed low high) = frame low high
 stop-listed l (schema {n} {q} low high e) =
     ⊎-elim
     (λ h. let k = ltb-true n 42 h in subst (Listed n) (sym (e k)) (formed low (omega arith)))
@@ -133,7 +133,7 @@ pub listed : (s : List ℕ) (side : ℕ) (bytes sheet : List ℕ) (l : List Call
 listed s side bytes sheet l = go (ways s side bytes sheet l)
   where
     go : {x : Line} → Way s side bytes sheet l x → Listed (x .answer .number) (x .answer .place)
-    go (stops w) = stop-listed l w
+    go (stops w) = stop-listed l (early s bytes l w)
     go (judges h place n g t e) =
         let small : length (take n (drop place bytes)) ≤ 16384 = simp length-take (omega (arith, read-bounds bytes e .small)) in
         frame-listed s (frameFrom side h) (take n (drop place bytes)) (place + n) sheet l g t small

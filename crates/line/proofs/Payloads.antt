@@ -2,10 +2,10 @@
 -- Assumes nothing.
 use mathlib.Core.Path.{_≡_, refl}
 use mathlib.Core.List.{List, []}
-use mathlib.Core.Bool.{Bool, true, false, cond}
 use Prim.Native.Nat.{ℕ}
 use lib.Dec.{eqb}
 use lib.ListN.{length}
+use Rattle.wire.proofs.Cases.{cond-case}
 use Rattle.schema.specs.File.{tableOf}
 use Rattle.calls.specs.declared.Payload.{Payload}
 use Rattle.calls.specs.declared.Payload.the-variants.{Struct, Empty, Unread}
@@ -54,11 +54,7 @@ module _ (sheet₁ sheet₂ : List ℕ) where
   both-bare r b = record { reading = refl; rows = []; count = b .rows; first = none-shown sheet₁; second = none-shown sheet₂ }
 
 empty-bare : (payload : List ℕ) → Bare (emptyRead payload)
-empty-bare payload = go (eqb (length payload) 0)
-  where
-    go : (b : Bool) → Bare (cond b (Shown 0 0 0) (Refused 29 0))
-    go true = nothing-bare
-    go false = refused-bare 29 0
+empty-bare payload = cond-case Bare (eqb (length payload) 0) (Shown 0 0 0) (Refused _ _) (λ _. nothing-bare) (λ _. refused-bare _ _)
 
 pub both-read : (s payload sheet₁ sheet₂ : List ℕ) → room sheet₁ ≡ room sheet₂ → (d : Payload)
     → Both sheet₁ sheet₂ (payloadRead s d payload sheet₁) (payloadRead s d payload sheet₂)

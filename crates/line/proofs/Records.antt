@@ -1,36 +1,40 @@
 -- The records of the calls after a frame: its own, the others, what frees a slot, and what changes no call.
 -- Assumes nothing.
 use mathlib.Core.Path.{_≡_, refl, sym, ap, subst, _∙_}
-use mathlib.Core.Logic.{_⊎_, inl, inr, ⊎-elim}
+use mathlib.Core.Logic.{inl, inr, ⊎-elim}
 use mathlib.Core.Bool.{true, false}
 use mathlib.Core.List.{List}
-use Prim.Native.Nat.{ℕ, _≤_, _<_}
+use Prim.Native.Nat.{ℕ, _<_}
 use native.Mathlib.Omega.{arith}
-use lib.Dec.{eqb, leb}
-use borrow.Author.Tests.{eqb-true, eqb-false, ne-eqb, leb-true}
+use lib.Dec.{eqb}
+use borrow.Author.Tests.{eqb-true, eqb-false, ne-eqb}
 use Rattle.schema.specs.declared.Found.the-variants.{At, Missing}
 use Rattle.schema.specs.Table.{Table}
 use Rattle.schema.specs.File.{tableOf}
-use Rattle.schema.proofs.Bools.{cases, clash, and-left, and-right, is-false}
+use Rattle.schema.proofs.Bools.{cases, clash}
 use Rattle.calls.specs.declared.Call.{Call}
 use Rattle.calls.specs.declared.Frame.{Frame}
 use Rattle.calls.specs.declared.Payload.{Payload}
 use Rattle.calls.specs.declared.Judged.{Judged}
 use Rattle.calls.specs.declared.Judged.the-variants.{Stop, Opens, Goes}
+use Rattle.calls.specs.Numbers.{endsCall, EndsCall, payload}
 use Rattle.calls.specs.Record.{isCall}
 use Rattle.calls.specs.Slots.{slot}
 use Rattle.calls.specs.Judge.{judgeOf}
-use Rattle.calls.specs.Step.{numberOf, endsCall, slotsAfter, stepOf, dueOf, receive}
+use Rattle.calls.specs.Step.{numberOf, slotsAfter, stepOf, dueOf, receive}
 use Rattle.calls.specs.Apart.{Own, none, ownOf, full, Verdict, stop, opens, goes, verdictOf, verdictDue, verdictNumber, verdictOwn, touched, Freed}
+use Rattle.calls.proofs.Used.{not-ending}
 use Rattle.calls.proofs.Goodness.{good-clauses}
 use Rattle.calls.proofs.Searches.{found-passes}
 use Rattle.calls.proofs.Judgement.{judged-goes}
 use Rattle.calls.proofs.Kept.{call-open}
 use Rattle.calls.proofs.Apart as calls
+use Rattle.reader.specs.Entry.{room}
 use Rattle.line.specs.Receive.{frameFrom, received}
-use Rattle.line.specs.Claims.{Front}
-use Rattle.line.proofs.Ways.{Early, schema, calls, frame}
+use Rattle.line.specs.Claims.{Front, Reply, Alike}
+use Rattle.line.proofs.Ways.{front-is, Early, schema, calls, frame, early}
 use Rattle.line.proofs.Kept.{holds}
+use Rattle.line.proofs.Apart.{same-answer}
 
 -- the payload's number matters only where the payload is read
 own-by : (v : Verdict) (p : ℕ) (own : Own) → verdictOwn v p own ≡ verdictOwn v (verdictNumber v p) own
@@ -39,10 +43,13 @@ own-by (opens c d) p own = refl
 own-by (goes c d) p own = refl
 
 -- an answer that stops has no number that changes a call
-early-small : {n q : ℕ} → Early n q → 20 ≤ n → n ≤ 29 → ⊥
-early-small (schema a b e) low high = omega arith
-early-small calls low high = omega arith
-early-small (frame a b) low high = omega arith
+early-spares : {n q : ℕ} → Early n q → endsCall n ≡ false
+early-spares {n} e = not-ending n (never e)
+  where
+    never : {n q : ℕ} → Early n q → EndsCall n → ⊥
+    never (schema a b e) (payload low high) = omega arith
+    never calls (payload low high) = omega arith
+    never (frame a b) (payload low high) = omega arith
 
 early-zero : {n q : ℕ} → Early n q → n ≡ 0 → ⊥
 early-zero (schema a b e) z = omega arith
@@ -52,11 +59,7 @@ early-zero (frame a b) z = omega arith
 own-kept : (v : Verdict) (own : Own) {n q : ℕ} → Early n q → verdictOwn v n own ≡ own
 own-kept (stop m) own e = refl
 own-kept (opens c d) own {n} e = rw (ne-eqb n 0 (early-zero e))
-own-kept (goes c d) own {n} e = rw (
-  ne-eqb n 0 (early-zero e),
-  is-false (endsCall n) (λ t.
-      early-small e (leb-true 20 n (and-left (leb 20 n) (leb n 29) t)) (leb-true n 29 (and-right (leb 20 n) (leb n 29) t))),
-)
+own-kept (goes c d) own {n} e = rw (ne-eqb n 0 (early-zero e), early-spares e)
 
 -- a slot is freed only by a frame whose payload is read
 module _ (T : Table) (f : Frame) (l : List Call) (i : ℕ) (o : slot l i .«open» ≡ true) where
@@ -94,8 +97,10 @@ opened-by T f l reading i z o = go (judgeOf T f l) refl
         (cases (eqb i j))
 
 -- the frame at the front of the bytes is one
-front-once : {side : ℕ} {bytes : List ℕ} {f f′ : Frame} → Front side bytes f → Front side bytes f′ → f ≡ f′
-front-once {side = side} w w′ = let same : w .header ≡ w′ .header = cc (sym (w .whole) ∙ w′ .whole) in w .is ∙ ap (frameFrom side) same ∙ sym (w′ .is)
+pub front-once : {side : ℕ} {bytes : List ℕ} {f f′ : Frame} → Front side bytes f → Front side bytes f′ → f ≡ f′
+front-once {side = side} w w′ =
+    let same : w .header ≡ w′ .header = cc (sym (w .whole) ∙ w′ .whole) in
+    front-is w ∙ ap (frameFrom side) same ∙ sym (front-is w′)
 
 module _ (s : List ℕ) (side : ℕ) (bytes sheet : List ℕ) (l : List Call) where
   abbrev T : Table
@@ -121,16 +126,21 @@ module _ (s : List ℕ) (side : ℕ) (bytes sheet : List ℕ) (l : List Call) wh
       holds s side bytes sheet l (λ _ l′. slot l′ i .«open» ≡ true → (k : ℕ) → k < i → slot l k .«open» ≡ true)
       (λ n q e o. clash (slot l i .«open») o z) (λ f w g t r. opened-by T f l r i z)
 
-  -- Only a payload refusal 20 to 29, an end or a completion frees a slot, and its own.
+  -- An open slot under another correlation than the frame's is unchanged.
+  pub open-kept : (i : ℕ) → slot l i .«open» ≡ true → ((f : Frame) → Front side bytes f → slot l i .correlation ≡ f .correlation → ⊥)
+      → slot slots i ≡ slot l i
+  open-kept i o other = holds s side bytes sheet l (λ _ l′. slot l′ i ≡ slot l i) (λ n q e. refl) (λ f w g t r. calls.open-kept T f l r i o (other f w))
+
+  -- Only a payload refusal, an end or a completion frees a slot, and its own.
   pub freed : (i : ℕ) → slot l i .«open» ≡ true → slot slots i .«open» ≡ false → (f : Frame) × Front side bytes f × Freed T f number (slot l i)
   freed i o =
       holds s side bytes sheet l (λ n l′. slot l′ i .«open» ≡ false → (f : Frame) × Front side bytes f × Freed T f n (slot l i))
       (λ n q e z. clash (slot l i .«open») o z) (λ f w g t r z. (f, w, freed-number T f l i o r z))
 
-  -- A refusal other than 20 to 29 changes no call, 30 among them.
-  pub refused-kept : (number ≡ 0 → ⊥) → (number < 20) ⊎ (29 < number) → slots ≡ l
+  -- A refusal that is no payload refusal changes no call, 30 among them.
+  pub refused-kept : (number ≡ 0 → ⊥) → endsCall number ≡ false → slots ≡ l
   refused-kept =
-      holds s side bytes sheet l (λ n l′. (n ≡ 0 → ⊥) → (n < 20) ⊎ (29 < n) → l′ ≡ l)
+      holds s side bytes sheet l (λ n l′. (n ≡ 0 → ⊥) → endsCall n ≡ false → l′ ≡ l)
       (λ n q e z r. refl) (λ f w g t reading z r. calls.refused-same T f reading l z (inl r))
 
   -- ---- the call of a frame
@@ -147,15 +157,27 @@ module _ (s : List ℕ) (side : ℕ) (bytes sheet : List ℕ) (l : List Call) wh
         let own = ownOf (f .correlation) l in
         let v = verdictOf T f own (full l) in
         holds s side bytes sheet l (λ n l′. ownOf (f .correlation) l′ ≡ verdictOwn v n own)
-        (λ n q e. sym (own-kept v own e))
+        (λ n q e. sym (own-kept v own (early s bytes l e)))
         (λ f′ w′ g t r. rw (front-once w′ w) (
         calls.own-after T f l (good-clauses T l t) r
         ∙ own-by v (r (verdictDue v)) own
         ∙ ap (λ (n : ℕ). verdictOwn v n own) (sym (calls.answered T f r l))))
 
-    -- Payload refusals 20 to 29 end the open call.
-    pub refused-ends : (f .kind ≡ 1 → ⊥) → 20 ≤ number → number ≤ 29 → ownOf (f .correlation) slots ≡ none
+    -- Payload refusals end the open call.
+    pub refused-ends : (f .kind ≡ 1 → ⊥) → endsCall number ≡ true → ownOf (f .correlation) slots ≡ none
     refused-ends other =
-        holds s side bytes sheet l (λ n l′. 20 ≤ n → n ≤ 29 → ownOf (f .correlation) l′ ≡ none)
-        (λ n q e low high. absurd (early-small e low high))
+        holds s side bytes sheet l (λ n l′. endsCall n ≡ true → ownOf (f .correlation) l′ ≡ none)
+        (λ n q e t. clash (endsCall n) t (early-spares (early s bytes l e)))
         (λ f′ w′ g t r. rw (front-once w′ w) (calls.refused-ends T f l (good-clauses T l t) other r))
+
+-- Two call tables alike for a frame leave its own call with the same record. So only the slot that a new call gets depends on which others are free.
+pub same-own : (s : List ℕ) (side : ℕ) (bytes sheet₁ sheet₂ : List ℕ) (l₁ l₂ : List Call) → room sheet₁ ≡ room sheet₂
+    → Alike (tableOf s) side bytes l₁ l₂ → (f : Frame) → Front side bytes f
+    → let a₁ = received s side bytes sheet₁ l₁ in
+    let a₂ = received s side bytes sheet₂ l₂ in
+    ownOf (f .correlation) (a₁ .answer .table .slots) ≡ ownOf (f .correlation) (a₂ .answer .table .slots)
+same-own s side bytes sheet₁ sheet₂ l₁ l₂ space w f v =
+    let own = w .own f v in
+    let e = calls.same-verdict (tableOf s) f l₁ l₂ own (w .room f v) in
+    let number = ap (λ (r : Reply). r .numbers .number) (same-answer sheet₁ sheet₂ l₁ l₂ s space side bytes w .reply) in
+    own-after s side bytes sheet₁ l₁ f v ∙ (λ i. verdictOwn (e i) (number i) (own i)) ∙ sym (own-after s side bytes sheet₂ l₂ f v)

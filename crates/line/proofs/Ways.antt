@@ -1,7 +1,7 @@
 -- The ways of an answer: it stops before a frame is judged, or it judges the whole frame at the front under a good schema table and a good call table.
 -- Assumes nothing.
 use mathlib.Core.Path.{_≡_, refl}
-use mathlib.Core.Bool.{true, cond}
+use mathlib.Core.Bool.{true, false, cond}
 use mathlib.Core.List.{List}
 use Prim.Native.Nat.{ℕ, _+_, _≤_, _<_}
 use native.Mathlib.Omega.{arith}
@@ -12,6 +12,7 @@ use Rattle.schema.specs.declared.Checked.{Checked}
 use Rattle.schema.specs.declared.Checked.the-variants.{Good, Refused as Faulty}
 use Rattle.schema.specs.File.{tableOf}
 use Rattle.schema.specs.Check.{checked, IsGood}
+use Rattle.schema.proofs.Bools.{clash, is-false}
 use Rattle.schema.proofs.Listed.{listed, listed-bounds}
 use Rattle.frame.specs.declared.Header.{Header}
 use Rattle.frame.specs.declared.FrameRead.{FrameRead}
@@ -19,21 +20,52 @@ use Rattle.frame.specs.declared.FrameRead.the-variants.{More, Frame as Whole, R
 use Rattle.frame.specs.Frame.{frameOf}
 use Rattle.frame.proofs.Answers.{refused-numbers}
 use Rattle.calls.specs.declared.Call.{Call}
+use Rattle.calls.specs.declared.Frame.{Frame}
 use Rattle.calls.specs.Slots.{goodTable}
+use Rattle.calls.specs.Good.{GoodTable}
+use Rattle.calls.proofs.Goodness.{good-clauses, good-test}
 use Rattle.line.specs.Answer.{Line, line, stopped}
+use Rattle.line.specs.Claims.{SeenAs, Front, Stops, schemaFault, callsBad, frameFault, needsMore}
 use Rattle.line.specs.Receive.{onGood, onFrame, frameFrom, frameLine, bytesLine, received}
+
+-- ---- the frame at the front
+
+seen-as : (side : ℕ) (h : Header) → SeenAs side h (frameFrom side h)
+seen-as side h = record { side = refl; kind = refl; «package» = refl; service = refl; method = refl; correlation = refl }
+
+pub front-of : (side : ℕ) (bytes : List ℕ) (h : Header) (place n : ℕ) → frameOf bytes ≡ Whole h place n → Front side bytes (frameFrom side h)
+front-of side bytes h place n e = record { header = h; place = place; size = n; whole = e; seen = seen-as side h }
+
+pub front-is : {side : ℕ} {bytes : List ℕ} {f : Frame} (w : Front side bytes f) → f ≡ frameFrom side (w .header)
+front-is {f = f} w =
+    let s = w .seen in
+    λ i.
+    record {
+      side = (s .side) i;
+      kind = (s .kind) i;
+      «package» = (s .«package») i;
+      service = (s .service) i;
+      method = (s .method) i;
+      correlation = (s .correlation) i;
+    }
 
 -- ---- the ways
 
--- Why an answer stops, with its number and place.
+-- The numbers and places of an answer that stops.
 pub data Early : (number place : ℕ) → Type 0 where
   schema : {n q : ℕ} → 40 ≤ n → n ≤ 44 → (n < 42 → q ≡ 0) → Early n q
   calls : Early 15 0
   frame : {n : ℕ} → 1 ≤ n → n ≤ 7 → Early n 0
 
+pub early : (s bytes : List ℕ) (l : List Call) {n q : ℕ} → Stops s bytes l n q → Early n q
+early s bytes l (schemaFault n q e) = let w = listed-bounds (tableOf s) (listed s n q e) in schema (w .0) (w .1) (w .2)
+early s bytes l (callsBad g b) = calls
+early s bytes l (frameFault n g w e) = let r = refused-numbers bytes e in frame {n = n} (omega arith) (r .1)
+early s bytes l (needsMore g w e) = frame (lit≤ tt) (lit≤ tt)
+
 module _ (s : List ℕ) (side : ℕ) (bytes sheet : List ℕ) (l : List Call) where
   pub data Way : Line → Type 0 where
-    stops : {n q : ℕ} → Early n q → Way (line (stopped l n q) sheet)
+    stops : {n q : ℕ} → Stops s bytes l n q → Way (line (stopped l n q) sheet)
     judges : (h : Header) (place n : ℕ) → IsGood s → goodTable (tableOf s) l ≡ true → frameOf bytes ≡ Whole h place n
         → Way (frameLine s (frameFrom side h) (take n (drop place bytes)) (place + n) sheet l)
 
@@ -41,21 +73,37 @@ module _ (s : List ℕ) (side : ℕ) (bytes sheet : List ℕ) (l : List Call) wh
   unfolding bytesLine
   front-way g k = go (frameOf bytes) refl
     where
+      w : GoodTable (tableOf s) l
+      w = good-clauses (tableOf s) l k
+
       go : (v : FrameRead) → frameOf bytes ≡ v →
           Way (onFrame v (λ number. line (stopped l number 0) sheet) (λ h place n. frameLine s (frameFrom side h) (take n (drop place bytes)) (place + n) sheet l))
-      go More e = stops (frame (lit≤ tt) (lit≤ tt))
-      go (Refused n) e = let r = refused-numbers bytes e in stops (frame {n = n} (omega arith) (r .1))
+      go More e = stops (needsMore g w e)
+      go (Refused n) e = stops (frameFault n g w e)
       go (Whole h place n) e = judges h place n g k e
 
   pub ways : Way (received s side bytes sheet l)
   unfolding received
   ways = go (checked s) refl
     where
+      bad : goodTable (tableOf s) l ≡ false → GoodTable (tableOf s) l → ⊥
+      bad e w = clash (goodTable (tableOf s) l) (good-test (tableOf s) l w) e
+
       go : (v : Checked) → checked s ≡ v →
           Way (onGood v (λ number row. line (stopped l number row) sheet)
           (cond (goodTable (tableOf s) l) (bytesLine s side bytes sheet l) (line (stopped l 15 0) sheet)))
-      go Good e = cond-case Way (goodTable (tableOf s) l) (bytesLine s side bytes sheet l) (line (stopped l 15 0) sheet) (front-way e) (λ _. stops calls)
-      go (Faulty n q) e = let w = listed-bounds (tableOf s) (listed s n q e) in stops (schema (w .0) (w .1) (w .2))
+      go Good e =
+          cond-case Way (goodTable (tableOf s) l) (bytesLine s side bytes sheet l) (line (stopped l 15 0) sheet) (front-way e)
+          (λ b. stops (callsBad e (bad b)))
+      go (Faulty n q) e = stops (schemaFault n q e)
+
+  -- Such an answer has this number and place, and nothing else: no bytes used, no rows, no tail, and the calls and the sheet as they were.
+  pub stops-early : {n q : ℕ} → Stops s bytes l n q → received s side bytes sheet l ≡ line (stopped l n q) sheet
+  unfolding received bytesLine
+  stops-early (schemaFault n q e) = rw e
+  stops-early (callsBad g b) = rw (g, is-false (goodTable (tableOf s) l) (λ t. b (good-clauses (tableOf s) l t)))
+  stops-early (frameFault n g w e) = rw (g, good-test (tableOf s) l w, e)
+  stops-early (needsMore g w e) = rw (g, good-test (tableOf s) l w, e)
 
 -- Under good tables a whole frame is judged.
 pub judged : (s : List ℕ) (side : ℕ) (bytes sheet : List ℕ) (l : List Call) (h : Header) (place n : ℕ)

@@ -1,20 +1,21 @@
 -- The answer to a frame: its numbers by the step of the call table and the reading of the payload.
 -- Assumes nothing.
 use Prim.Native.Nat.{ℕ}
-use mathlib.Core.Bool.{Bool, cond, _&&_, _||_}
+use mathlib.Core.Bool.{cond}
 use mathlib.Core.List.{List}
-use lib.Dec.{eqb, leb}
+use lib.Dec.{eqb}
 use lib.ListN.{length}
 use Rattle.calls.specs.declared.Call.{Call}
 use Rattle.calls.specs.declared.Judged.{Judged}
 use Rattle.calls.specs.declared.Payload.{Payload}
 use Rattle.calls.specs.declared.Payload.the-variants.{Struct, Empty, Unread}
 use Rattle.calls.specs.declared.Stepped.{Stepped}
+use Rattle.calls.specs.Numbers.{usesFrame}
 use Rattle.calls.specs.Slots.{countOpen}
 use Rattle.calls.specs.Step.{stepOf}
 use Rattle.reader.specs.declared.Reading.{Reading}
 use Rattle.reader.specs.declared.Reading.the-variants.{Shown, Refused}
-use Rattle.reader.specs.Entry.{Outcome, outcome, readingIn, sheetIn, payloadOutcome, numbers}
+use Rattle.reader.specs.Entry.{Outcome, outcome, readingIn, sheetIn, payloadOutcome, Numbers, numbers}
 use Rattle.line.specs.declared.Received.{Received}
 
 -- An answer with the sheet (01's term: the cells that show a read value) as it is left.
@@ -24,6 +25,11 @@ pub record Line : Type 0 where
 
 abbrev pub line : Received → List ℕ → Line
 line r sheet = record { answer = r; sheet = sheet }
+
+-- The numbers of an answer that a payload's reading has too: number, place, rows, the tail's place and length.
+abbrev pub numbersOf : Received → Numbers
+numbersOf r =
+    record { number = r .number; place = r .place; rows = r .rows; tailPlace = r .«tail_place»; tailLength = r .«tail_length» }
 
 -- ---- a refusal before the frame is known, and 1
 
@@ -59,10 +65,7 @@ numberIn o = numbers (readingIn o) .number
 
 -- ---- the answer to a whole frame
 
--- Bytes used: the frame's length for 0, 8 to 14 and 20 to 29; otherwise 0.
-abbrev pub usesFrame : ℕ → Bool
-usesFrame number = eqb number 0 || ((leb 8 number && leb number 14) || (leb 20 number && leb number 29))
-
+-- Bytes used: the frame's length, or 0, by the number.
 abbrev pub usedOf : (number size : ℕ) → ℕ
 usedOf number size = cond (usesFrame number) size 0
 

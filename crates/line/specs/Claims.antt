@@ -3,63 +3,65 @@
 use mathlib.Core.Path.{_≡_}
 use mathlib.Core.List.{List}
 use Prim.Native.Nat.{ℕ, _≤_}
-use lib.ListN.{length}
+use lib.ListN.{length, take, drop}
+use Rattle.schema.specs.declared.Checked.the-variants.{Refused as Faulty}
 use Rattle.schema.specs.Table.{Table}
+use Rattle.schema.specs.File.{tableOf}
+use Rattle.schema.specs.Check.{checked, IsGood}
 use Rattle.frame.specs.declared.Header.{Header}
-use Rattle.frame.specs.declared.FrameRead.the-variants.{Frame as Whole}
+use Rattle.frame.specs.declared.FrameRead.the-variants.{More, Frame as Whole, Refused}
 use Rattle.frame.specs.Frame.{frameOf}
 use Rattle.calls.specs.declared.Call.{Call}
 use Rattle.calls.specs.declared.Frame.{Frame}
 use Rattle.calls.specs.Slots.{goodTable}
+use Rattle.calls.specs.Good.{GoodTable}
 use Rattle.calls.specs.Apart.{ownOf, full}
 use Rattle.value.specs.declared.Row.{Row}
 use Rattle.reader.specs.Sheet.{shownIn}
-use Rattle.reader.specs.Entry.{Outcome, readingIn, sheetIn, numbers}
+use Rattle.reader.specs.Entry.{Numbers}
 use Rattle.line.specs.declared.Received.{Received}
-use Rattle.line.specs.Answer.{Line}
-use Rattle.line.specs.Receive.{frameFrom}
+use Rattle.line.specs.Answer.{Line, numbersOf}
 
--- The bytes start with a whole frame; f is what a step sees of it.
+-- What a step sees of a frame with this header: the side that it comes from, and each number of the header.
+pub record SeenAs (from : ℕ) (h : Header) (f : Frame) : Type 0 where
+  pub side : f .side ≡ from
+  pub kind : f .kind ≡ h .kind
+  pub «package» : f .«package» ≡ h .«package»
+  pub service : f .service ≡ h .service
+  pub method : f .method ≡ h .method
+  pub correlation : f .correlation ≡ h .correlation
+
+-- The bytes start with a whole frame; f is what a step sees of it. Its payload is the last `size` bytes, from the place on.
 pub record Front (side : ℕ) (bytes : List ℕ) (f : Frame) : Type 0 where
   pub header : Header
   pub place : ℕ
   pub size : ℕ
   pub whole : frameOf bytes ≡ Whole header place size
-  pub is : f ≡ frameFrom side header
+  pub seen : SeenAs side header f
+
+abbrev pub payloadIn : {side : ℕ} {bytes : List ℕ} {f : Frame} → Front side bytes f → List ℕ
+payloadIn {bytes = bytes} w = take (w .size) (drop (w .place) bytes)
+
+-- Why an answer comes before a frame is judged, with its number and place, in 01's order: a fault of the schema table; a call table that is not good; a
+-- fault of the frame itself; more bytes needed.
+pub data Stops (schema bytes : List ℕ) (l : List Call) : (number place : ℕ) → Type 0 where
+  schemaFault : (n row : ℕ) → checked schema ≡ Faulty n row → Stops schema bytes l n row
+  callsBad : IsGood schema → (GoodTable (tableOf schema) l → ⊥) → Stops schema bytes l 15 0
+  frameFault : (n : ℕ) → IsGood schema → GoodTable (tableOf schema) l → frameOf bytes ≡ Refused n → Stops schema bytes l n 0
+  needsMore : IsGood schema → GoodTable (tableOf schema) l → frameOf bytes ≡ More → Stops schema bytes l 1 0
 
 -- The answer without the calls.
 pub record Reply : Type 0 where
-  pub number : ℕ
-  pub place : ℕ
+  pub numbers : Numbers
   pub used : ℕ
-  pub rows : ℕ
-  pub tailPlace : ℕ
-  pub tailLength : ℕ
 
 abbrev pub replyOf : Received → Reply
-replyOf r =
-    record {
-      number = r .number;
-      place = r .place;
-      used = r .used;
-      rows = r .rows;
-      tailPlace = r .«tail_place»;
-      tailLength = r .«tail_length»;
-    }
+replyOf r = record { numbers = numbersOf r; used = r .used }
 
 -- The sheet shows these rows from the first on, as many as the answer says, and is otherwise as it was.
 pub record Shows (rs : List Row) (sheet : List ℕ) (a : Line) : Type 0 where
   pub rows : a .answer .rows ≡ length rs
   pub cells : a .sheet ≡ shownIn sheet rs
-
--- The answer has the numbers of a payload's reading, and the sheet is as the reading leaves it.
-pub record AnswersAs (o : Outcome) (a : Line) : Type 0 where
-  pub number : a .answer .number ≡ numbers (readingIn o) .number
-  pub place : a .answer .place ≡ numbers (readingIn o) .place
-  pub rows : a .answer .rows ≡ numbers (readingIn o) .rows
-  pub tailPlace : a .answer .«tail_place» ≡ numbers (readingIn o) .tailPlace
-  pub tailLength : a .answer .«tail_length» ≡ numbers (readingIn o) .tailLength
-  pub sheet : a .sheet ≡ sheetIn o
 
 -- No rows, tail 0, 0, and the sheet untouched.
 pub record Nothing (sheet : List ℕ) (a : Line) : Type 0 where

@@ -2,4 +2,5 @@
 pub mod Answer
 pub mod Receive
 pub mod Claims
+pub mod Order
 pub mod Run

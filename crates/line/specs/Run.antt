@@ -1,16 +1,12 @@
--- A run of inputs from the fresh call table.
+-- A run of inputs from a call table, and what was heard in it.
 -- Assumes nothing.
 use mathlib.Core.List.{List, [], _∷_}
 use Prim.Native.Nat.{ℕ}
-use lib.ListN.{take, drop}
 use Rattle.frame.specs.declared.FrameRead.{FrameRead}
 use Rattle.frame.specs.declared.FrameRead.the-variants.{More, Frame as Whole, Refused}
 use Rattle.frame.specs.Frame.{frameOf}
 use Rattle.calls.specs.declared.Call.{Call}
-use Rattle.calls.specs.declared.Payload.{Payload}
-use Rattle.calls.specs.Slots.{freshTable}
-use Rattle.calls.specs.Order.{Sent}
-use Rattle.line.specs.Answer.{payloadRead, numberIn}
+use Rattle.calls.specs.Order.{Heard}
 use Rattle.line.specs.Receive.{frameFrom, received}
 
 -- What comes in: a side, bytes, and the sheet that is lent.
@@ -19,21 +15,19 @@ pub record Input : Type 0 where
   pub bytes : List ℕ
   pub sheet : List ℕ
 
--- The records after a run, its last input first.
-unfoldable pub runSlots : (schema : List ℕ) → List Input → List Call
-runSlots schema [] = freshTable .slots
-runSlots schema (i ∷ is) = received schema (i .side) (i .bytes) (i .sheet) (runSlots schema is) .answer .table .slots
+-- The records after a run from the records l, its last input first.
+unfoldable pub runFrom : (schema : List ℕ) → List Call → List Input → List Call
+runFrom schema l [] = l
+runFrom schema l (i ∷ is) = received schema (i .side) (i .bytes) (i .sheet) (runFrom schema l is) .answer .table .slots
 
--- The number of a frame's payload by what it holds; the payload is the n bytes from the place on.
-abbrev pub payloadNumber : (schema : List ℕ) → Input → (place n : ℕ) → Payload → ℕ
-payloadNumber schema i place n d = numberIn (payloadRead schema d (take n (drop place (i .bytes))) (i .sheet))
+-- The whole frame at the front of an input, if there is one, with the number that was answered.
+abbrev pub heardIn : (side : ℕ) → FrameRead → (number : ℕ) → List Heard → List Heard
+heardIn side More number es = es
+heardIn side (Refused fault) number es = es
+heardIn side (Whole h place n) number es = record { frame = frameFrom side h; number = number } ∷ es
 
--- The whole frames of a run, each with its payload's number.
-abbrev pub sentFirst : (schema : List ℕ) → Input → FrameRead → List Sent → List Sent
-sentFirst schema i More es = es
-sentFirst schema i (Refused number) es = es
-sentFirst schema i (Whole h place n) es = record { frame = frameFrom (i .side) h; reading = payloadNumber schema i place n } ∷ es
-
-unfoldable pub sentOf : (schema : List ℕ) → List Input → List Sent
-sentOf schema [] = []
-sentOf schema (i ∷ is) = sentFirst schema i (frameOf (i .bytes)) (sentOf schema is)
+-- The frames of a run, each with the number that `received` answered, the last first.
+unfoldable pub heardFrom : (schema : List ℕ) → List Call → List Input → List Heard
+heardFrom schema l [] = []
+heardFrom schema l (i ∷ is) =
+    heardIn (i .side) (frameOf (i .bytes)) (received schema (i .side) (i .bytes) (i .sheet) (runFrom schema l is) .answer .number) (heardFrom schema l is)

@@ -3,6 +3,7 @@ use crate::Received;
 use calls::CallTable;
 use calls::Judged;
 use calls::Payload;
+use calls::numbers::uses_frame;
 use reader::Reading;
 ghost use mathlib.Core.Path.{_≡_};
 ghost use Rattle.calls.specs.Step.{stepOf, dueOf};
@@ -30,11 +31,7 @@ pub fn stop(table: CallTable, number: u32, place: usize) -> Received
 fn used_of(number: u32, size: usize) -> usize
     ensures { λ r. ⌜ r ≡ usedOf number size ⌝ }
 {
-    if (number == 0) | (((8 <= number) & (number <= 14)) | ((20 <= number) & (number <= 29))) {
-        size
-    } else {
-        0
-    }
+    if uses_frame(number) { size } else { 0 }
 }
 
 fn number_of(reading: Reading) -> u32

@@ -13,6 +13,7 @@ use Rattle.schema.specs.Check as check
 use Rattle.schema.proofs.Examples as example
 use Rattle.frame.specs.Frame as frame
 use Rattle.calls.specs.Forms as forms
+use Rattle.calls.specs.Numbers as numbers
 use Rattle.calls.specs.Slots as slots
 use Rattle.calls.specs.Judge as judge
 use Rattle.calls.specs.Step as step
@@ -46,5 +47,5 @@ output =
     115 ∷ 116 ∷ 111 ∷ 112 ∷ 112 ∷ 101 ∷ 100 ∷ 32 ∷ 48 ∷ 32 ∷ 108 ∷ 101 ∷ 102 ∷ 116 ∷ 32 ∷ 48 ∷ 10 ∷ []
 
 pub worked : listing.listing example.file entries ≡ output
-unfolding little.little varuint.front varuint.groups utf8.run utf8.next utf8.leadOf utf8.rows onesIn table.shape file.cell file.shaped file.layoutOf file.tabulate file.tableOf check.lowest check.goodRow check.goodField check.findAmong check.goodMethod check.small check.badRow check.badField check.badMethod check.checkedTable check.checked frame.whole frame.payloadOf frame.frameOf forms.rowOf slots.goodCall slots.goodTable judge.payloadOf judge.judgeOf step.stepOf answer.andThen answer.check answer.block answer.varUInt value.rows value.value read.present read.count read.complete read.bitmap read.walk read.parse read.ending read.rootStruct read.read entry.payloadOutcome line.stopped line.payloadRead line.answered receive.frameLine receive.bytesLine receive.received decimal.digits decimal.decimal text.field text.lineStart text.lineText text.stoppedText listing.freshCalls listing.answerTo listing.headerIn listing.entriesText listing.listing
+unfolding little.little varuint.front varuint.groups utf8.run utf8.next utf8.leadOf utf8.rows onesIn table.shape file.cell file.shaped file.layoutOf file.tabulate file.tableOf check.lowest check.goodRow check.goodField check.findAmong check.goodMethod check.small check.badRow check.badField check.badMethod check.checkedTable check.checked frame.whole frame.payloadOf frame.frameOf forms.rowOf numbers.endsCall numbers.usesFrame slots.goodCall slots.goodTable judge.payloadOf judge.judgeOf step.stepOf answer.andThen answer.check answer.block answer.varUInt value.rows value.value read.present read.count read.complete read.bitmap read.walk read.parse read.ending read.rootStruct read.read entry.payloadOutcome line.stopped line.payloadRead line.answered receive.frameLine receive.bytesLine receive.received decimal.digits decimal.decimal text.field text.lineStart text.lineText text.stoppedText listing.freshCalls listing.answerTo listing.headerIn listing.entriesText listing.listing
 worked = refl

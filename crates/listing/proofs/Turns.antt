@@ -26,13 +26,14 @@ use Rattle.frame.proofs.Answers.{used-inside}
 use Rattle.calls.specs.declared.Call.{Call}
 use Rattle.calls.specs.declared.Frame as calls
 use Rattle.calls.specs.declared.CallTable.{CallTable}
+use Rattle.calls.specs.Numbers.{usesFrame}
 use Rattle.calls.specs.Slots.{freshTable, goodTable}
 use Rattle.calls.specs.Judge.{judgeOf}
 use Rattle.calls.specs.Step.{stepOf, dueOf}
 use Rattle.reader.specs.declared.Reading.{Reading}
 use Rattle.reader.specs.Entry.{room, numbers}
 use Rattle.line.specs.declared.Received.{Received}
-use Rattle.line.specs.Answer.{Line, line, stopped, answerOf, answered, usesFrame}
+use Rattle.line.specs.Answer.{Line, line, stopped, answerOf, answered}
 use Rattle.line.specs.Receive.{onGood, onFrame, frameFrom, frameLine, bytesLine, received}
 use Rattle.line.proofs.Payloads.{both-read}
 use Rattle.line.proofs.Answers.{used-by-number}

@@ -1,15 +1,15 @@
 -- `line::answer::used_of` meets its contract: the test picks the case.
 -- Assumes nothing.
-use mathlib.Core.Path.{sym, ap}
-use mathlib.Core.Bool.{Bool, cond}
+use mathlib.Core.Path.{sym, _∙_}
+use borrow.Author.Needs.{needs}
 use Rattle.line.proofs.answer.used_of.Statement.{statement}
 use Rattle.line.proofs.answer.used_of.Tie as tie
 
 returns : tie.Need-returns
-returns c = sym (ap (λ (b : Bool). cond b (c .before .args .size) 0) (c .if1 .taken))
+returns c = rw (sym (c .before .uses-frame .ensures) ∙ c .if1 .taken)
 
 returns-2 : tie.Need-returns-2
-returns-2 c = sym (ap (λ (b : Bool). cond b (c .before .args .size) 0) (c .if1 .left))
+returns-2 c = rw (sym (c .before .uses-frame .ensures) ∙ c .if1 .left)
 
 pub used-of-spec : {M : Type 1} → statement M
-used-of-spec = tie.close (tie.spec returns returns-2)
+used-of-spec = tie.close (tie.spec (λ c κs. search needs) returns returns-2)

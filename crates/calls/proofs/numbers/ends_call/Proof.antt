@@ -1,0 +1,13 @@
+-- `numbers::ends_call` meets its contract.
+-- Assumes nothing.
+use mathlib.Core.Path.{refl}
+use Rattle.calls.specs.Numbers.{endsCall}
+use Rattle.calls.proofs.numbers.ends_call.Statement.{statement}
+use Rattle.calls.proofs.numbers.ends_call.Tie as tie
+
+returns : tie.Need-returns
+unfolding endsCall
+returns c = refl
+
+pub ends-call-spec : {M : Type 1} → statement M
+ends-call-spec = tie.close (tie.spec returns)
