@@ -38,8 +38,8 @@ pub fn extends(old: &[u8], new: &[u8]) -> Extended
     schema::extension::extends(old, new)
 }
 
-// Reads a payload as a struct of type ty, and shows it on the sheet: the number of rows with the tail's place and length, or the refusal's number and
-// place, which leaves the sheet as it was.
+// Reads a payload as a struct of type ty, and shows it on the sheet: the number of rows with the tail's place and length and the key comparisons due,
+// or the refusal's number and place, which leaves the sheet as it was.
 pub fn read(schema: &[u8], ty: u32, payload: &[u8], sheet: &mut [u32]) -> Reading
     ensures { λ r. ⌜ Outcome.outcome r (now (sheet .exit)) ≡ readOutcome (now (schema .entry)) ty (now (payload .entry)) (now (sheet .entry)) ⌝ }
 {

@@ -21,7 +21,7 @@ use Rattle.calls.specs.declared.FormRow.{FormRow}
 use Rattle.calls.specs.declared.Frame.{Frame}
 use Rattle.calls.specs.declared.Payload.{Payload}
 use Rattle.calls.specs.Forms.{letter, lettersRow, rowOf}
-use Rattle.calls.specs.Numbers.{endsCall, EndsCall, payload}
+use Rattle.calls.specs.Numbers.{endsCall, EndsCall, payload, many-pairs}
 use Rattle.calls.specs.Record.{implies, emptyCall, openedCall, isCall, complete, allowed, marked, ends, afterFrame}
 use Rattle.calls.specs.Slots.{slot, firstSlot, holds}
 use Rattle.calls.specs.Judge.{rightSide, payloadOf}
@@ -175,6 +175,7 @@ module _ (T : Table) (g : GoodSchema T) (f : Frame) (b : Bool) where
     where
       early : {n : ℕ} → 8 ≤ n → n ≤ 14 → EndsCall n → ⊥
       early low high (payload a b) = omega arith
+      early low high many-pairs = omega arith
 
   -- INVOKE
   module _ (s : right ≡ true) (k : f .kind ≡ 1) where

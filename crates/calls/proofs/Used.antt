@@ -4,10 +4,11 @@ use mathlib.Core.Path.{_≡_, refl}
 use mathlib.Core.Logic.{_↔_, ⊎-elim}
 use mathlib.Core.Bool.{true, false, _&&_, _||_}
 use Prim.Native.Nat.{ℕ, _≤_}
+use native.Mathlib.Omega.{arith}
 use lib.Dec.{eqb, leb}
 use borrow.Author.Tests.{eqb-true, leb-true, le-leb}
 use Rattle.schema.proofs.Bools.{and-i, and-left, and-right, or-left, or-right, or-cases, is-false}
-use Rattle.calls.specs.Numbers.{endsCall, usesFrame, EndsCall, payload, UsesFrame, accepted, call, refused}
+use Rattle.calls.specs.Numbers.{endsCall, usesFrame, EndsCall, payload, many-pairs, UsesFrame, accepted, call, refused, refused-pairs}
 
 module _ (n : ℕ) where
   within : (a b : ℕ) → (leb a n && leb n b) ≡ true → (a ≤ n) × (n ≤ b)
@@ -18,38 +19,46 @@ module _ (n : ℕ) where
 
   ends-listed : endsCall n ≡ true → EndsCall n
   unfolding endsCall
-  ends-listed t = let w = within 20 29 t in payload (w .0) (w .1)
+  ends-listed t =
+      ⊎-elim
+      (λ r. let w = within 20 29 r in payload (w .0) (w .1))
+      (λ z. rw (eqb-true n 31 z) many-pairs)
+      (or-cases (leb 20 n && leb n 29) (eqb n 31) t)
 
-  listed-ends : EndsCall n → endsCall n ≡ true
-  unfolding endsCall
-  listed-ends (payload low high) = inside 20 29 low high
+listed-ends : {n : ℕ} → EndsCall n → endsCall n ≡ true
+unfolding endsCall
+listed-ends (payload {n} low high) = or-left (leb 20 n && leb n 29) (eqb n 31) (inside n 20 29 low high)
+listed-ends many-pairs = refl
 
-  -- Payload refusals 20 to 29 end the open call, and no other number does.
+module _ (n : ℕ) where
+  -- Payload refusals 20 to 29 and 31 end the open call, and no other number does.
   pub ends-iff : (endsCall n ≡ true) ↔ EndsCall n
-  ends-iff = (ends-listed, listed-ends)
+  ends-iff = (ends-listed n, listed-ends)
 
   pub not-ending : (EndsCall n → ⊥) → endsCall n ≡ false
-  not-ending h = is-false (endsCall n) (λ t. h (ends-listed t))
+  not-ending h = is-false (endsCall n) (λ t. h (ends-listed n t))
+
+ending-used : {n : ℕ} → EndsCall n → UsesFrame n
+ending-used (payload low high) = refused low high
+ending-used many-pairs = refused-pairs
 
 used-listed : (n : ℕ) → usesFrame n ≡ true → UsesFrame n
 unfolding usesFrame
 used-listed n t =
     ⊎-elim
     (λ z. rw (eqb-true n 0 z) accepted)
-    (λ o. ⊎-elim (λ c. let w = within n 8 14 c in call (w .0) (w .1)) (λ e. last (ends-listed n e)) (or-cases (leb 8 n && leb n 14) (endsCall n) o))
+    (λ o. ⊎-elim (λ c. let w = within n 8 14 c in call (w .0) (w .1)) (λ e. ending-used (ends-listed n e)) (or-cases (leb 8 n && leb n 14) (endsCall n) o))
     (or-cases (eqb n 0) ((leb 8 n && leb n 14) || endsCall n) t)
-  where
-    last : EndsCall n → UsesFrame n
-    last (payload low high) = refused low high
 
 listed-used : {n : ℕ} → UsesFrame n → usesFrame n ≡ true
-unfolding usesFrame
+unfolding usesFrame endsCall
 listed-used accepted = refl
 listed-used (call {n} low high) =
     or-right (eqb n 0) ((leb 8 n && leb n 14) || endsCall n) (or-left (leb 8 n && leb n 14) (endsCall n) (inside n 8 14 low high))
 listed-used (refused {n} low high) =
-    or-right (eqb n 0) ((leb 8 n && leb n 14) || endsCall n) (or-right (leb 8 n && leb n 14) (endsCall n) (listed-ends n (payload low high)))
+    or-right (eqb n 0) ((leb 8 n && leb n 14) || endsCall n) (or-right (leb 8 n && leb n 14) (endsCall n) (listed-ends (payload low high)))
+listed-used refused-pairs = refl
 
--- Bytes used: the frame's length for 0, 8 to 14 and 20 to 29, and for no other number.
+-- Bytes used: the frame's length for 0, 8 to 14, 20 to 29 and 31, and for no other number.
 pub uses-iff : (n : ℕ) → (usesFrame n ≡ true) ↔ UsesFrame n
 uses-iff n = (used-listed n, listed-used)

@@ -6,7 +6,7 @@ ghost use Rattle.calls.specs.Numbers.{endsCall, usesFrame};
 pub fn ends_call(number: u32) -> bool
     ensures { λ r. ⌜ r ≡ endsCall number ⌝ }
 {
-    (20 <= number) & (number <= 29)
+    ((20 <= number) & (number <= 29)) | (number == 31)
 }
 
 // The frame's bytes are used.

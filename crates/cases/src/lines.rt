@@ -17,7 +17,7 @@ struct Next {
 }
 
 // Code 8: a table, the number of the sheet's cells, and frames with their sides. A line for each has number, place, bytes used, rows, the tail's place
-// and length, calls open, and the sheet's sum.
+// and length, calls open, key comparisons, and the sheet's sum.
 pub fn run() -> bool {
     let mut schema = [0u8; MOST];
     let mut whole = true;
@@ -67,6 +67,7 @@ fn answer(table: CallTable, schema: &[u8], side: u8, data: &[u8], sheet: &mut [u
     output::number(r.tail_place as u64);
     output::number(r.tail_length as u64);
     output::number(r.open as u64);
+    output::number(r.comparisons as u64);
     let table = r.table;
     Next {
         table,

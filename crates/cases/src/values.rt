@@ -9,7 +9,8 @@ use crate::tables::MOST;
 // What the lent cells hold before the call.
 pub const CELL: u32 = 2779096485;
 
-// Code 3: a table, a type, a payload and the number of the sheet's cells. The line has number, place, rows, the tail's place and length, and the sheet's sum.
+// Code 3: a table, a type, a payload and the number of the sheet's cells. The line has number, place, rows, the tail's place and length, key comparisons,
+// and the sheet's sum.
 pub fn read() -> bool {
     let mut schema = [0u8; MOST];
     let mut payload = [0u8; MOST];
@@ -36,16 +37,19 @@ fn print_reading(answer: reader::Reading) {
             rows,
             tail_place,
             tail_length,
+            comparisons,
         } => {
             output::number(0);
             output::number(0);
             output::number(rows as u64);
             output::number(tail_place as u64);
             output::number(tail_length as u64);
+            output::number(comparisons as u64);
         }
         reader::Reading::Refused { number, place } => {
             output::number(number as u64);
             output::number(place as u64);
+            output::number(0);
             output::number(0);
             output::number(0);
             output::number(0);

@@ -75,9 +75,9 @@ sheetAfter schema ty payload sheet = sheetIn (readOutcome schema ty payload shee
 abbrev pub readNumber : Reading → ℕ
 readNumber a = numbers a .number
 
--- A payload read: place, rows, the tail's place and length.
+-- A payload read: place, rows, the tail's place and length, the key comparisons due.
 abbrev pub readCells : Reading → List ℕ
-readCells a = numbers a .place ∷ numbers a .rows ∷ numbers a .tailPlace ∷ numbers a .tailLength ∷ []
+readCells a = numbers a .place ∷ numbers a .rows ∷ numbers a .tailPlace ∷ numbers a .tailLength ∷ numbers a .comparisons ∷ []
 
 -- The two parts of the writer's outcome: its answer, and the output as it is left.
 abbrev pub writingOf : writer.Outcome → Writing
@@ -145,6 +145,6 @@ receiving table schema side bytes sheet = judgement (areCalls table) schema side
 abbrev pub callCells : (table : List ℕ) → List Call → List ℕ
 callCells table l = cond (areCalls table) (stored table (cellsOf l)) table
 
--- The answer to a frame: place, bytes used, rows, the tail's place and length, calls open.
+-- The answer to a frame: place, bytes used, rows, the tail's place and length, calls open, the key comparisons due.
 abbrev pub receivedCells : Received → List ℕ
-receivedCells r = r .place ∷ r .used ∷ r .rows ∷ r .«tail_place» ∷ r .«tail_length» ∷ r .«open» ∷ []
+receivedCells r = r .place ∷ r .used ∷ r .rows ∷ r .«tail_place» ∷ r .«tail_length» ∷ r .«open» ∷ r .comparisons ∷ []

@@ -50,7 +50,7 @@ writtenTold zero cells = written.Written (cell cells 0)
 writtenTold (suc n) cells = written.Refused (suc n)
 
 abbrev pub readTold : (number : ℕ) → List ℕ → Reading
-readTold zero cells = reader.Shown (cell cells 1) (cell cells 2) (cell cells 3)
+readTold zero cells = reader.Shown (cell cells 1) (cell cells 2) (cell cells 3) (cell cells 4)
 readTold (suc n) cells = reader.Refused (suc n) (cell cells 0)
 
 abbrev pub writeTold : (number : ℕ) → List ℕ → Writing
@@ -68,6 +68,7 @@ receivedTold number cells table =
       «tail_place» = cell cells 3;
       «tail_length» = cell cells 4;
       «open» = cell cells 5;
+      comparisons = cell cells 6;
       table = record { slots = callsOf table };
     }
 

@@ -15,12 +15,13 @@ fn read_number(a: Reading) -> u32
             rows: _,
             tail_place: _,
             tail_length: _,
+            comparisons: _,
         } => 0,
         Reading::Refused { number, place: _ } => number,
     }
 }
 
-fn read_cells(a: Reading) -> [u64; 4]
+fn read_cells(a: Reading) -> [u64; 5]
     ensures { λ r. ⌜ r ≡ readCells a ⌝ }
 {
     match a {
@@ -28,12 +29,19 @@ fn read_cells(a: Reading) -> [u64; 4]
             rows,
             tail_place,
             tail_length,
-        } => [0, rows as u64, tail_place as u64, tail_length as u64],
-        Reading::Refused { number: _, place } => [place as u64, 0, 0, 0],
+            comparisons,
+        } => [
+            0,
+            rows as u64,
+            tail_place as u64,
+            tail_length as u64,
+            comparisons as u64,
+        ],
+        Reading::Refused { number: _, place } => [place as u64, 0, 0, 0, 0],
     }
 }
 
-// Reads a payload and shows it on the sheet. answer: place, rows, the tail's place and length.
+// Reads a payload and shows it on the sheet. answer: place, rows, the tail's place and length, the key comparisons due.
 #[no_mangle]
 pub extern "C" fn arf_read(
     schema: &[u8],

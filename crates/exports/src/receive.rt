@@ -41,7 +41,8 @@ fn judge(
 }
 
 // Judges the frame at the front of the bytes, from a side (the byte C or S). table: 128 records of three cells, before and after; with fewer cells, or a
-// number in them that is none of a record's, it is refused with 15. answer: place, bytes used, rows, the tail's place and length, calls open.
+// number in them that is none of a record's, it is refused with 15. answer: place, bytes used, rows, the tail's place and length, calls open,
+// the key comparisons due.
 #[no_mangle]
 pub extern "C" fn arf_receive(
     table: &mut [u64],
@@ -66,6 +67,7 @@ pub extern "C" fn arf_receive(
         r.tail_place as u64,
         r.tail_length as u64,
         r.open as u64,
+        r.comparisons as u64,
     ];
     store(answer, &cells);
     keep(table, known, next);

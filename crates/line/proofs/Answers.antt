@@ -1,9 +1,10 @@
 -- What each answer tells: bytes used by its number, the calls open, what a refusal and an ERROR leave, and that bytes after the frame change nothing.
 -- Assumes nothing.
 use mathlib.Core.Path.{_≡_, refl, sym, ap, _∙_}
+use mathlib.Core.Logic.{_⊎_, inl, inr, ⊎-elim}
 use mathlib.Core.Bool.{Bool, true, false, cond}
 use mathlib.Core.List.{List, _++_}
-use Prim.Native.Nat.{ℕ, _+_, _≤_}
+use Prim.Native.Nat.{ℕ, _+_, _≤_, _<_}
 use native.Mathlib.Omega.{arith}
 use lib.Dec.{eqb}
 use lib.ListN.{length, take, drop, length-drop}
@@ -24,7 +25,7 @@ use Rattle.calls.specs.declared.Payload.the-variants.{Unread}
 use Rattle.calls.specs.declared.Judged.{Judged}
 use Rattle.calls.specs.declared.Judged.the-variants.{Stop, Opens, Goes}
 use Rattle.calls.specs.Forms.{rowOf}
-use Rattle.calls.specs.Numbers.{usesFrame, UsesFrame, accepted, call as stopped-call, refused}
+use Rattle.calls.specs.Numbers.{usesFrame, UsesFrame, accepted, call, refused, refused-pairs}
 use Rattle.calls.specs.Record.{allowed, afterFrame}
 use Rattle.calls.specs.Slots.{countOpen}
 use Rattle.calls.specs.Judge.{rightSide, payloadOf, judgeOf}
@@ -43,18 +44,25 @@ use Rattle.line.proofs.Apart.{same-answer}
 
 -- ---- bytes used
 
+-- 1 to 7, 15, and 40 and above
+Away : ℕ → Type 0
+Away n = (0 < n) × ((n < 8) ⊎ ((n ≡ 15) ⊎ (40 ≤ n)))
+
+early-away : {n q : ℕ} → Early n q → Away n
+unfolding Away
+early-away calls = (omega arith, inr (inl refl))
+early-away (schema low high e) = (omega arith, inr (inr low))
+early-away (frame low high) = (omega arith, inl (omega arith))
+
+unused : {n : ℕ} → UsesFrame n → Away n → ⊥
+unfolding Away
+unused accepted w = omega (arith, w .0)
+unused (call low high) w = ⊎-elim (λ a. omega arith) (λ b. ⊎-elim (λ c. omega arith) (λ d. omega arith) b) (w .1)
+unused (refused low high) w = ⊎-elim (λ a. omega arith) (λ b. ⊎-elim (λ c. omega arith) (λ d. omega arith) b) (w .1)
+unused refused-pairs w = ⊎-elim (λ a. omega arith) (λ b. ⊎-elim (λ c. omega arith) (λ d. omega arith) b) (w .1)
+
 early-unused : {n q : ℕ} → Early n q → usesFrame n ≡ false
-early-unused {n} e = is-false (usesFrame n) (λ t. never (uses-iff n .0 t) e)
-  where
-    never : {n q : ℕ} → UsesFrame n → Early n q → ⊥
-    never accepted (schema a b e) = omega arith
-    never accepted (frame a b) = omega arith
-    never (stopped-call low high) (schema a b e) = omega arith
-    never (stopped-call low high) calls = omega arith
-    never (stopped-call low high) (frame a b) = omega arith
-    never (refused low high) (schema a b e) = omega arith
-    never (refused low high) calls = omega arith
-    never (refused low high) (frame a b) = omega arith
+early-unused {n = n} e = is-false (usesFrame n) (λ t. unused (uses-iff n .0 t) (early-away e))
 
 stop-used : (l : List Call) {n q : ℕ} (size : ℕ) → Early n q → stopped l n q .used ≡ usedOf (stopped l n q .number) size
 unfolding stopped
@@ -78,14 +86,14 @@ frame-counted s f payload size sheet l = refl
 
 -- ---- a refusal
 
--- no rows, no tail, and the sheet as it was
+-- no rows, no tail, no comparisons, and the sheet as it was
 stop-bare : (l : List Call) (n q : ℕ) (sheet : List ℕ) → Nothing sheet (line (stopped l n q) sheet)
 unfolding stopped
-stop-bare l n q sheet = record { rows = refl; tailPlace = refl; tailLength = refl; same = refl }
+stop-bare l n q sheet = record { rows = refl; tailPlace = refl; tailLength = refl; comparisons = refl; same = refl }
 
 untouched-bare : (size : ℕ) (l : List Call) (J : Judged) (o : Outcome) (sheet : List ℕ) → Untouched sheet o → Nothing sheet (answered size l J o)
 unfolding answered
-untouched-bare size l J o sheet w = record { rows = w .bare .rows; tailPlace = w .bare .tailPlace; tailLength = w .bare .tailLength; same = w .same }
+untouched-bare size l J o sheet w = record { rows = w .bare .rows; tailPlace = w .bare .tailPlace; tailLength = w .bare .tailLength; comparisons = w .bare .comparisons; same = w .same }
 
 -- a judged frame is refused before its payload is read, or for its payload
 module _ (s payload sheet : List ℕ) (size : ℕ) (l : List Call) where
@@ -136,7 +144,7 @@ error-bare s payload sheet size l f k =
     untouched-bare size l J (payloadRead s (dueOf J) payload sheet) sheet (rw due (unread s payload sheet))
 
 module _ (s : List ℕ) (side : ℕ) (bytes sheet : List ℕ) (l : List Call) where
-  -- Bytes used: the frame's length for 0, 8 to 14 and 20 to 29; otherwise 0.
+  -- Bytes used: the frame's length for 0, 8 to 14, 20 to 29 and 31; otherwise 0.
   pub used-by-number : received s side bytes sheet l .answer .used ≡ usedOf (received s side bytes sheet l .answer .number) (readUsed (frameOf bytes))
   used-by-number = go (ways s side bytes sheet l)
     where
@@ -158,7 +166,7 @@ module _ (s : List ℕ) (side : ℕ) (bytes sheet : List ℕ) (l : List Call) wh
       let same = same-answer sheet sheet l l s refl side bytes (record { good = refl; own = λ f w. refl; room = λ f w k. refl }) in
       (same .rows, same .first)
 
-  -- A refusal, and 1, have no rows and tail 0, 0, and leave the sheet untouched.
+  -- A refusal, and 1, have no rows, tail 0, 0 and no comparisons, and leave the sheet untouched.
   pub refused-untouched : (received s side bytes sheet l .answer .number ≡ 0 → ⊥) → Nothing sheet (received s side bytes sheet l)
   refused-untouched = go (ways s side bytes sheet l)
     where

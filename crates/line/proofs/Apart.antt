@@ -36,7 +36,15 @@ abbrev replyBy : (size : ℕ) → Reading → Verdict → Reply
 replyBy size r v =
     let n = verdictNumber v (numbers r .number) in
     record {
-      numbers = record { number = n; place = numbers r .place; rows = numbers r .rows; tailPlace = numbers r .tailPlace; tailLength = numbers r .tailLength };
+      numbers =
+          record {
+            number = n;
+            place = numbers r .place;
+            rows = numbers r .rows;
+            tailPlace = numbers r .tailPlace;
+            tailLength = numbers r .tailLength;
+            comparisons = numbers r .comparisons;
+          };
       used = usedOf n size;
     }
 

@@ -5,5 +5,6 @@ pub mod Kept
 pub mod Apart
 pub mod Records
 pub mod Answers
+pub mod Due
 pub mod Listed
 pub mod Runs

@@ -12,7 +12,7 @@ use borrow.Author.Tests.{le-leb, ltb-true, ltb-false}
 use Rattle.wire.proofs.Cases.{cond-case}
 use Rattle.schema.specs.declared.Found.{Found}
 use Rattle.schema.specs.declared.Found.the-variants.{At, Missing}
-use Rattle.schema.specs.Table.{Table, rowAt, fieldsOf}
+use Rattle.schema.specs.Table.{Table, Shape, rowAt, fieldsOf, shape}
 use Rattle.schema.specs.File.{tableOf}
 use Rattle.schema.specs.Check.{methodRow, named, findMethod, IsGood}
 use Rattle.schema.proofs.Bools.{cases}
@@ -36,13 +36,14 @@ use Rattle.calls.proofs.Payloads.{Sound, struct, empty, unread, due-sound}
 use Rattle.value.specs.Answer.{Answer, refused, seen, cursorAt}
 use Rattle.value.specs.Value.{Tree, rows}
 use Rattle.value.specs.Read as value
+use Rattle.value.specs.Listed.{ValueFault, within-list, many-pairs}
 use Rattle.value.proofs.Numbers.{Numbered, refuses, goes-on, root-numbered}
 use Rattle.reader.specs.declared.Reading.{Reading}
 use Rattle.reader.specs.declared.Reading.the-variants.{Shown, Refused}
 use Rattle.reader.specs.Entry.{Outcome, outcome, readingIn, outcomeOf, room, payloadOutcome, numbers}
 use Rattle.line.specs.Answer.{Line, stopped, payloadRead, numberIn, answered}
 use Rattle.line.specs.Receive.{frameFrom, frameLine, received}
-use Rattle.line.specs.Claims.{Listed, accepted, frame, call, value as fault, payload, shape as formed, row}
+use Rattle.line.specs.Claims.{Listed, accepted, frame, call, value as fault, pairs, payload, shape as formed, row}
 use Rattle.line.proofs.Ways.{Early, schema, calls, frame as framed, early, Way, stops, judges, ways}
 
 -- ---- the payload
@@ -51,9 +52,13 @@ use Rattle.line.proofs.Ways.{Early, schema, calls, frame as framed, ear
 abbrev Told : Outcome → Type 0
 Told o = Listed (numberIn o) (numbers (readingIn o) .place)
 
-told-of : (space : ℕ) (a : Answer Tree) → Numbered a → (sheet : List ℕ) → Told (outcomeOf sheet (value.reading space a))
-told-of space (refused k p) (refuses low high) sheet = fault p low high
-told-of space (seen tree c) goes-on sheet =
+value-told : {n : ℕ} → ValueFault n → (p : ℕ) → Listed n p
+value-told (within-list low high) p = fault p low high
+value-told many-pairs p = pairs p
+
+told-of : (S : ℕ → Shape) (t space : ℕ) (a : Answer Tree) → Numbered a → (sheet : List ℕ) → Told (outcomeOf sheet (value.reading S t space a))
+told-of S t space (refused k p) (refuses f) sheet = value-told f p
+told-of S t space (seen tree c) goes-on sheet =
     cond-case (λ (r : value.Reading). Told (outcomeOf sheet r)) (leb (length (rows tree)) space) _ (value.refusal 30 0) (λ _. accepted) (λ _. payload (lit≤ tt) (lit≤ tt))
 
 payload-told : (s p sheet : List ℕ) → IsGood s → length p ≤ 16384 → {d : Payload} → Sound (tableOf s) d → Told (payloadRead s d p sheet)
@@ -62,9 +67,9 @@ payload-told s p sheet g small (struct t h k) =
     let T = tableOf s in
     let e = shape-struct T t k in
     rw (e, le-leb (length p) 16384 small)
-    (told-of (room sheet) _ (root-numbered T (good-table s g) t (fieldsOf T (rowAt T t)) e (cursorAt p 0)) sheet)
+    (told-of (shape T) t (room sheet) _ (root-numbered T (good-table s g) t (fieldsOf T (rowAt T t)) e (cursorAt p 0)) sheet)
 payload-told s p sheet g small empty =
-    cond-case (λ (r : Reading). Told (outcome r sheet)) (eqb (length p) 0) (Shown 0 0 0) (Refused _ 0) (λ _. accepted) (λ _. payload (lit≤ tt) (lit≤ tt))
+    cond-case (λ (r : Reading). Told (outcome r sheet)) (eqb (length p) 0) (Shown 0 0 0 0) (Refused _ 0) (λ _. accepted) (λ _. payload (lit≤ tt) (lit≤ tt))
 payload-told s p sheet g small unread = accepted
 
 -- ---- the side and the call

@@ -23,17 +23,18 @@ pub none-shown : (sheet : List ℕ) → sheet ≡ shownIn sheet []
 unfolding cellsOf
 none-shown sheet = refl
 
--- a reading without rows and tail
+-- a reading without rows, tail and comparisons
 pub record Bare (r : Reading) : Type 0 where
   pub rows : numbers r .rows ≡ 0
   pub tailPlace : numbers r .tailPlace ≡ 0
   pub tailLength : numbers r .tailLength ≡ 0
+  pub comparisons : numbers r .comparisons ≡ 0
 
 refused-bare : (n q : ℕ) → Bare (Refused n q)
-refused-bare n q = record { rows = refl; tailPlace = refl; tailLength = refl }
+refused-bare n q = record { rows = refl; tailPlace = refl; tailLength = refl; comparisons = refl }
 
-pub nothing-bare : Bare (Shown 0 0 0)
-nothing-bare = record { rows = refl; tailPlace = refl; tailLength = refl }
+pub nothing-bare : Bare (Shown 0 0 0 0)
+nothing-bare = record { rows = refl; tailPlace = refl; tailLength = refl; comparisons = refl }
 
 -- ---- two sheets with as much room
 
@@ -48,31 +49,31 @@ pub record Both (sheet₁ sheet₂ : List ℕ) (o₁ o₂ : Outcome) : Type 0 wh
 module _ (sheet₁ sheet₂ : List ℕ) where
   both-of : (r : value.Reading) → Both sheet₁ sheet₂ (outcomeOf sheet₁ r) (outcomeOf sheet₂ r)
   both-of (value.refusal n q) = record { reading = refl; rows = []; count = refl; first = none-shown sheet₁; second = none-shown sheet₂ }
-  both-of (value.accepted rs place n) = record { reading = refl; rows = rs; count = refl; first = refl; second = refl }
+  both-of (value.accepted rs place n due) = record { reading = refl; rows = rs; count = refl; first = refl; second = refl }
 
   both-bare : (r : Reading) → Bare r → Both sheet₁ sheet₂ (outcome r sheet₁) (outcome r sheet₂)
   both-bare r b = record { reading = refl; rows = []; count = b .rows; first = none-shown sheet₁; second = none-shown sheet₂ }
 
 empty-bare : (payload : List ℕ) → Bare (emptyRead payload)
-empty-bare payload = cond-case Bare (eqb (length payload) 0) (Shown 0 0 0) (Refused _ _) (λ _. nothing-bare) (λ _. refused-bare _ _)
+empty-bare payload = cond-case Bare (eqb (length payload) 0) (Shown 0 0 0 0) (Refused _ _) (λ _. nothing-bare) (λ _. refused-bare _ _)
 
 pub both-read : (s payload sheet₁ sheet₂ : List ℕ) → room sheet₁ ≡ room sheet₂ → (d : Payload)
     → Both sheet₁ sheet₂ (payloadRead s d payload sheet₁) (payloadRead s d payload sheet₂)
 unfolding payloadRead payloadOutcome
 both-read s payload sheet₁ sheet₂ e (Struct t) = rw e (both-of sheet₁ sheet₂ (value.read (tableOf s) t payload (room sheet₂)))
 both-read s payload sheet₁ sheet₂ e Empty = both-bare sheet₁ sheet₂ (emptyRead payload) (empty-bare payload)
-both-read s payload sheet₁ sheet₂ e Unread = both-bare sheet₁ sheet₂ (Shown 0 0 0) nothing-bare
+both-read s payload sheet₁ sheet₂ e Unread = both-bare sheet₁ sheet₂ (Shown 0 0 0 0) nothing-bare
 
 -- ---- a refusal
 
--- a refused payload has no rows and no tail, and leaves the sheet as it was
+-- a refused payload has no rows, no tail and no comparisons, and leaves the sheet as it was
 pub record Untouched (sheet : List ℕ) (o : Outcome) : Type 0 where
   pub bare : Bare (readingIn o)
   pub same : sheetIn o ≡ sheet
 
 refused-of : (sheet : List ℕ) (r : value.Reading) → (numberIn (outcomeOf sheet r) ≡ 0 → ⊥) → Untouched sheet (outcomeOf sheet r)
 refused-of sheet (value.refusal n q) h = record { bare = refused-bare n q; same = refl }
-refused-of sheet (value.accepted rs place n) h = absurd (h refl)
+refused-of sheet (value.accepted rs place n due) h = absurd (h refl)
 
 pub refused-read : (s payload sheet : List ℕ) (d : Payload) → (numberIn (payloadRead s d payload sheet) ≡ 0 → ⊥) → Untouched sheet (payloadRead s d payload sheet)
 unfolding payloadRead payloadOutcome

@@ -1,10 +1,10 @@
 -- The records of the calls after a frame: its own, the others, what frees a slot, and what changes no call.
 -- Assumes nothing.
 use mathlib.Core.Path.{_≡_, refl, sym, ap, subst, _∙_}
-use mathlib.Core.Logic.{inl, inr, ⊎-elim}
+use mathlib.Core.Logic.{_⊎_, inl, inr, ⊎-elim}
 use mathlib.Core.Bool.{true, false}
 use mathlib.Core.List.{List}
-use Prim.Native.Nat.{ℕ, _<_}
+use Prim.Native.Nat.{ℕ, _≤_, _<_}
 use native.Mathlib.Omega.{arith}
 use lib.Dec.{eqb}
 use borrow.Author.Tests.{eqb-true, eqb-false, ne-eqb}
@@ -17,7 +17,7 @@ use Rattle.calls.specs.declared.Frame.{Frame}
 use Rattle.calls.specs.declared.Payload.{Payload}
 use Rattle.calls.specs.declared.Judged.{Judged}
 use Rattle.calls.specs.declared.Judged.the-variants.{Stop, Opens, Goes}
-use Rattle.calls.specs.Numbers.{endsCall, EndsCall, payload}
+use Rattle.calls.specs.Numbers.{endsCall, EndsCall, payload, many-pairs}
 use Rattle.calls.specs.Record.{isCall}
 use Rattle.calls.specs.Slots.{slot}
 use Rattle.calls.specs.Judge.{judgeOf}
@@ -43,13 +43,17 @@ own-by (opens c d) p own = refl
 own-by (goes c d) p own = refl
 
 -- an answer that stops has no number that changes a call
+ended-early : {n : ℕ} → EndsCall n → (n < 20) ⊎ (40 ≤ n) → ⊥
+ended-early (payload low high) w = ⊎-elim (λ a. omega arith) (λ b. omega arith) w
+ended-early many-pairs w = ⊎-elim (λ a. omega arith) (λ b. omega arith) w
+
+early-small : {n q : ℕ} → Early n q → EndsCall n → ⊥
+early-small (schema a b e) w = ended-early w (inr a)
+early-small calls w = ended-early w (inl (omega arith))
+early-small (frame a b) w = ended-early w (inl (omega arith))
+
 early-spares : {n q : ℕ} → Early n q → endsCall n ≡ false
-early-spares {n} e = not-ending n (never e)
-  where
-    never : {n q : ℕ} → Early n q → EndsCall n → ⊥
-    never (schema a b e) (payload low high) = omega arith
-    never calls (payload low high) = omega arith
-    never (frame a b) (payload low high) = omega arith
+early-spares {n} e = not-ending n (early-small e)
 
 early-zero : {n q : ℕ} → Early n q → n ≡ 0 → ⊥
 early-zero (schema a b e) z = omega arith

@@ -224,7 +224,7 @@ module _ (s : List ℕ) (g : IsGood s) (l : List Call) (past : ℕ → Past) (st
   reflected [] id = st .reflects id
   reflected (i ∷ is) id = one-more is i id (reflected is)
 
-  -- The answer to the next frame is the one by the rules, and no other: number, place, rows, tail and sheet.
+  -- The answer to the next frame is the one by the rules, and no other: number, place, rows, tail, comparisons and sheet.
   pub by-order : (is : List Input) (i : Input) (f : Frame) (w : Front (i .side) (i .bytes) f) (x : Said) →
       (said (received s (i .side) (i .bytes) (i .sheet) (calls is)) ≡ x)
       ↔ ByRules s (payloadIn w) (i .sheet) f (eqb (countOpen (calls is)) 128) (pastIn is (f .correlation)) x

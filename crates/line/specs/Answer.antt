@@ -26,14 +26,21 @@ pub record Line : Type 0 where
 abbrev pub line : Received → List ℕ → Line
 line r sheet = record { answer = r; sheet = sheet }
 
--- The numbers of an answer that a payload's reading has too: number, place, rows, the tail's place and length.
+-- The numbers of an answer that a payload's reading has too: number, place, rows, the tail's place and length, comparisons.
 abbrev pub numbersOf : Received → Numbers
 numbersOf r =
-    record { number = r .number; place = r .place; rows = r .rows; tailPlace = r .«tail_place»; tailLength = r .«tail_length» }
+    record {
+      number = r .number;
+      place = r .place;
+      rows = r .rows;
+      tailPlace = r .«tail_place»;
+      tailLength = r .«tail_length»;
+      comparisons = r .comparisons;
+    }
 
 -- ---- a refusal before the frame is known, and 1
 
--- It uses no bytes, has no rows and no tail, and changes no call.
+-- It uses no bytes, has no rows, no tail and no comparisons, and changes no call.
 unfoldable pub stopped : List Call → (number place : ℕ) → Received
 stopped l number place =
     record {
@@ -44,6 +51,7 @@ stopped l number place =
       «tail_place» = 0;
       «tail_length» = 0;
       «open» = countOpen l;
+      comparisons = 0;
       table = record { slots = l };
     }
 
@@ -51,13 +59,13 @@ stopped l number place =
 
 -- Nothing belongs there: any byte is 29.
 abbrev pub emptyRead : (payload : List ℕ) → Reading
-emptyRead payload = cond (eqb (length payload) 0) (Shown 0 0 0) (Refused 29 0)
+emptyRead payload = cond (eqb (length payload) 0) (Shown 0 0 0 0) (Refused 29 0)
 
--- By what the payload holds. Without a value there are no rows, and the tail is 0, 0.
+-- By what the payload holds. Without a value there are no rows and no comparisons, and the tail is 0, 0.
 unfoldable pub payloadRead : (schema : List ℕ) → Payload → (payload sheet : List ℕ) → Outcome
 payloadRead schema (Struct t) payload sheet = payloadOutcome schema t payload sheet
 payloadRead schema Empty payload sheet = outcome (emptyRead payload) sheet
-payloadRead schema Unread payload sheet = outcome (Shown 0 0 0) sheet
+payloadRead schema Unread payload sheet = outcome (Shown 0 0 0 0) sheet
 
 -- The payload's number.
 abbrev pub numberIn : Outcome → ℕ
@@ -80,6 +88,7 @@ answerOf size stepped reading =
       «tail_place» = numbers reading .tailPlace;
       «tail_length» = numbers reading .tailLength;
       «open» = countOpen (stepped .table .slots);
+      comparisons = numbers reading .comparisons;
       table = stepped .table;
     }
 

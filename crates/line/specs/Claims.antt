@@ -63,11 +63,12 @@ pub record Shows (rs : List Row) (sheet : List ℕ) (a : Line) : Type 0 where
   pub rows : a .answer .rows ≡ length rs
   pub cells : a .sheet ≡ shownIn sheet rs
 
--- No rows, tail 0, 0, and the sheet untouched.
+-- No rows, tail 0, 0, no comparisons, and the sheet untouched.
 pub record Nothing (sheet : List ℕ) (a : Line) : Type 0 where
   pub rows : a .answer .rows ≡ 0
   pub tailPlace : a .answer .«tail_place» ≡ 0
   pub tailLength : a .answer .«tail_length» ≡ 0
+  pub comparisons : a .answer .comparisons ≡ 0
   pub same : a .sheet ≡ sheet
 
 -- 01's numbers for a frame, with their places. A value's fault is placed in the payload, and 42 to 44 name the row; all else has place 0.
@@ -78,6 +79,7 @@ pub data Listed : (number place : ℕ) → Type 0 where
   -- the side and the call; the call table
   call : {n : ℕ} → 8 ≤ n → n ≤ 15 → Listed n 0
   value : {n : ℕ} (place : ℕ) → 20 ≤ n → n ≤ 28 → Listed n place
+  pairs : (place : ℕ) → Listed 31 place
   -- a payload where none belongs; too few rows
   payload : {n : ℕ} → 29 ≤ n → n ≤ 30 → Listed n 0
   shape : {n : ℕ} → 40 ≤ n → n ≤ 41 → Listed n 0

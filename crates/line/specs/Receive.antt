@@ -1,5 +1,5 @@
 -- The whole judgement of a frame in 01's order: the schema table (40 to 44), the call table (15), the frame (2 to 7 by wire order, then 1), its side and
--- its call (8 to 14), its payload (20 to 30). Assumes nothing.
+-- its call (8 to 14), its payload (20 to 31). Assumes nothing.
 use Prim.Native.Nat.{ℕ, _+_}
 use mathlib.Core.Bool.{cond}
 use mathlib.Core.List.{List}

@@ -23,6 +23,7 @@ pub fn stop(table: CallTable, number: u32, place: usize) -> Received
         tail_place: 0,
         tail_length: 0,
         open,
+        comparisons: 0,
         table,
     }
 }
@@ -42,6 +43,7 @@ fn number_of(reading: Reading) -> u32
             rows: _,
             tail_place: _,
             tail_length: _,
+            comparisons: _,
         } => 0,
         Reading::Refused { number, place: _ } => number,
     }
@@ -72,6 +74,7 @@ pub fn answer(table: CallTable, judged: Judged, reading: Reading, size: usize) -
             rows,
             tail_place,
             tail_length,
+            comparisons,
         } => Received {
             number,
             place: 0,
@@ -80,6 +83,7 @@ pub fn answer(table: CallTable, judged: Judged, reading: Reading, size: usize) -
             tail_place,
             tail_length,
             open,
+            comparisons: comparisons,
             table: next,
         },
         Reading::Refused { number: _, place } => Received {
@@ -90,6 +94,7 @@ pub fn answer(table: CallTable, judged: Judged, reading: Reading, size: usize) -
             tail_place: 0,
             tail_length: 0,
             open,
+            comparisons: 0,
             table: next,
         },
     }

@@ -20,5 +20,7 @@ pub struct Received {
     pub tail_length: usize,
     // Calls open afterwards.
     pub open: usize,
+    // Key comparisons that were due in the value read.
+    pub comparisons: usize,
     pub table: CallTable,
 }

@@ -9,12 +9,13 @@ ghost use Rattle.line.specs.Answer.{emptyRead, payloadRead};
 
 // No value is read.
 fn nothing() -> Reading
-    ensures { λ r. ⌜ r ≡ Reading.Shown 0 0 0 ⌝ }
+    ensures { λ r. ⌜ r ≡ Reading.Shown 0 0 0 0 ⌝ }
 {
     Reading::Shown {
         rows: 0,
         tail_place: 0,
         tail_length: 0,
+        comparisons: 0,
     }
 }
 

@@ -2,3 +2,4 @@ pub mod Tables
 pub mod Presence
 pub mod Items
 pub mod Walks
+pub mod Keys

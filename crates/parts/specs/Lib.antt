@@ -1,2 +1,3 @@
 -- The definitions that the reader's and the writer's walks share.
 pub mod Shape
+pub mod Keys

@@ -1,4 +1,6 @@
 // What the reader's and the writer's walks share: a struct's fields by its type row, and the test of its presence bits.
+pub mod key;
+
 ghost use mathlib.Core.Path.{_≡_};
 ghost use mathlib.Core.Bool.{true, false};
 ghost use Prim.Native.Nat.{_+_, _≤_};

@@ -15,6 +15,7 @@ use Rattle.schema.specs.File.{tableOf}
 use Rattle.schema.specs.Check.{checked, IsGood}
 use Rattle.value.specs.declared.Row.{Row}
 use Rattle.value.specs.Value.{Value, value, size}
+use Rattle.value.specs.Comparisons.{comparisons}
 use Rattle.value.specs.Read as value
 use Rattle.value.specs.Read.{accepted}
 use Rattle.value.specs.Write as written
@@ -61,21 +62,21 @@ shown-size s payload ty fs rs v (tree, r, _, u) = sym (ap length r) ∙ sized tr
 -- ---- the reader
 
 -- An accepting answer is an accepted payload with its rows.
-accepted-from : (sheet : List ℕ) (a : value.Reading) (k place n : ℕ) (after : List ℕ) → outcomeOf sheet a ≡ outcome (Shown k place n) after
-    → (rs : List Row) × (a ≡ accepted rs place n) × (length rs ≡ k) × (after ≡ shownIn sheet rs)
-accepted-from sheet (value.refusal m q) k place n after e = differ cc
-accepted-from sheet (accepted rs p l) k place n after e = (rs, cc, cc, cc)
+accepted-from : (sheet : List ℕ) (a : value.Reading) (k place n c : ℕ) (after : List ℕ) → outcomeOf sheet a ≡ outcome (Shown k place n c) after
+    → (rs : List Row) × (a ≡ accepted rs place n c) × (length rs ≡ k) × (after ≡ shownIn sheet rs)
+accepted-from sheet (value.refusal m q) k place n c after e = differ cc
+accepted-from sheet (accepted rs p l d) k place n c after e = (rs, cc, cc, cc)
 
 -- A refusal leaves the sheet as it was.
 pub refused-from : (sheet : List ℕ) (a : value.Reading) (n q : ℕ) (after : List ℕ) → outcomeOf sheet a ≡ outcome (Refused n q) after
     → (a ≡ value.refusal n q) × (after ≡ sheet)
 refused-from sheet (value.refusal m p) n q after e = (cc, cc)
-refused-from sheet (accepted rs p l) n q after e = differ cc
+refused-from sheet (accepted rs p l d) n q after e = differ cc
 
-good-read : (c : Checked) (s : List ℕ) (ty : ℕ) (payload sheet : List ℕ) (k place n : ℕ) (after : List ℕ)
-    → byTable c s ty payload sheet ≡ outcome (Shown k place n) after → c ≡ Good
-good-read Good s ty payload sheet k place n after e = refl
-good-read (Faulty m q) s ty payload sheet k place n after e = differ cc
+good-read : (v : Checked) (s : List ℕ) (ty : ℕ) (payload sheet : List ℕ) (k place n c : ℕ) (after : List ℕ)
+    → byTable v s ty payload sheet ≡ outcome (Shown k place n c) after → v ≡ Good
+good-read Good s ty payload sheet k place n c after e = refl
+good-read (Faulty m q) s ty payload sheet k place n c after e = differ cc
 
 module _ (s : List ℕ) (ty : ℕ) (payload sheet : List ℕ) where
   pub read-by : IsGood s → readOutcome s ty payload sheet ≡ outcomeOf sheet (value.read (tableOf s) ty payload (room sheet))
@@ -83,31 +84,32 @@ module _ (s : List ℕ) (ty : ℕ) (payload sheet : List ℕ) where
   read-by good = rw good
 
   -- Only by a good file is anything shown.
-  pub shown-good : (k place n : ℕ) (after : List ℕ) → readOutcome s ty payload sheet ≡ outcome (Shown k place n) after → IsGood s
+  pub shown-good : (k place n c : ℕ) (after : List ℕ) → readOutcome s ty payload sheet ≡ outcome (Shown k place n c) after → IsGood s
   unfolding readOutcome
-  shown-good k place n after e = good-read (checked s) s ty payload sheet k place n after e
+  shown-good k place n c after e = good-read (checked s) s ty payload sheet k place n c after e
 
   module _ (good : IsGood s) where
-    pub shown-from : (k place n : ℕ) (after : List ℕ) → readOutcome s ty payload sheet ≡ outcome (Shown k place n) after
-        → (rs : List Row) × (value.read (tableOf s) ty payload (room sheet) ≡ accepted rs place n) × (length rs ≡ k) × (after ≡ shownIn sheet rs)
-    shown-from k place n after e =
-        accepted-from sheet (value.read (tableOf s) ty payload (room sheet)) k place n after (sym (read-by good) ∙ e)
+    pub shown-from : (k place n c : ℕ) (after : List ℕ) → readOutcome s ty payload sheet ≡ outcome (Shown k place n c) after
+        → (rs : List Row) × (value.read (tableOf s) ty payload (room sheet) ≡ accepted rs place n c) × (length rs ≡ k) × (after ≡ shownIn sheet rs)
+    shown-from k place n c after e =
+        accepted-from sheet (value.read (tableOf s) ty payload (room sheet)) k place n c after (sym (read-by good) ∙ e)
 
     -- Accepted rows show a value, and have room.
-    pub accepted-shows : (rs : List Row) (place n : ℕ) → value.read (tableOf s) ty payload (room sheet) ≡ accepted rs place n
+    pub accepted-shows : (rs : List Row) (place n c : ℕ) → value.read (tableOf s) ty payload (room sheet) ≡ accepted rs place n c
         → (fs : List Field) × (v : Value) × (shapes s ty ≡ struct fs) × Shows (shapes s) payload ty fs rs v × (length rs ≤ room sheet)
     unfolding value.read
-    accepted-shows rs place n e =
-        let a = accepts (shapes s) ty payload (room sheet) rs place n e in
+    accepted-shows rs place n c e =
+        let a = accepts (shapes s) ty payload (room sheet) rs place n c e in
         let w = root-in (shapes s) ty (a .fs) payload (a .tree) (a .end) (a .reads) in
         (a .fs, value (a .tree), a .is-struct, rw (a .has-rows) at (w .0), a .fits)
 
     module _ (fs : List Field) (v : Value) (place n : ℕ) where
       -- with k rows
-      shown-as : (rs : List Row) (k : ℕ) → length rs ≡ k → size v ≡ k → value.read (tableOf s) ty payload (room sheet) ≡ accepted rs place n
+      shown-as : (rs : List Row) (k : ℕ) → length rs ≡ k → size v ≡ k
+          → value.read (tableOf s) ty payload (room sheet) ≡ accepted rs place n (comparisons (shapes s) v ty)
           → Shows (shapes s) payload ty fs rs v → ReadsAs s ty fs payload sheet v place n
       shown-as rs k l z e shows =
-          let (_, _, _, _, fits) = accepted-shows rs place n e in
+          let (_, _, _, _, fits) = accepted-shows rs place n _ e in
           rw (z, ← l) (
             shownIn sheet rs,
             read-by good ∙ ap (outcomeOf sheet) e,
@@ -123,7 +125,7 @@ module _ (s : List ℕ) (ty : ℕ) (payload sheet : List ℕ) where
 
       pub of-reads : ReadsAs s ty fs payload sheet v place n → ReadAs (shapes s) ty fs payload (value.read (tableOf s) ty payload (room sheet)) v place n
       of-reads (after, e, shows, _, _) =
-          let (rs, a, k-is, after-is) = shown-from (size v) place n after e in
+          let (rs, a, k-is, after-is) = shown-from (size v) place n _ after e in
           (rs, a, subst (λ (l : List Row). Shows (shapes s) payload ty fs l v) (rows-back sheet rs (size v) after k-is after-is) shows)
 
 -- ---- the writer

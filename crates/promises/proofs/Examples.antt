@@ -19,6 +19,7 @@ use Rattle.schema.proofs.Examples.{T, file, longer, T-good, T-rows}
 use Rattle.value.specs.declared.Row.{Row}
 use Rattle.value.specs.Answer as answer
 use Rattle.value.specs.Value as value
+use Rattle.value.specs.Comparisons as comparisons
 use Rattle.value.specs.Read as read
 use Rattle.value.specs.Read.{Reading, refusal, accepted}
 use Rattle.value.proofs.Reading.{accepts, accepted-of}
@@ -85,21 +86,22 @@ unfolding little.little cell shaped layoutOf tabulate tableOf innerAdded rootAdd
 new-rows = (refl, refl)
 
 -- The answers by the tables, with just room enough.
-computed : (read.read innerTable 4 P5 7 ≡ accepted innerRows 7 0)
+computed : (read.read innerTable 4 P5 7 ≡ accepted innerRows 7 0 0)
     × ((n : ℕ) → read.read T 4 P5 n ≡ refusal 26 2)
-    × (read.read rootTable 4 P6 5 ≡ accepted rootRows 5 0)
-    × (read.read T 4 P6 4 ≡ accepted knownRows 4 1)
-unfolding innerAdded rootAdded read.read read.rootStruct read.ending onesIn read.parse read.walk read.bitmap read.count read.present read.complete table.shape answer.andThen answer.check answer.block answer.varUInt little.little varuint.front varuint.groups utf8.run utf8.next utf8.leadOf utf8.rows value.rows value.value
+    × (read.read rootTable 4 P6 5 ≡ accepted rootRows 5 0 0)
+    × (read.read T 4 P6 4 ≡ accepted knownRows 4 1 0)
+unfolding innerAdded rootAdded read.read read.rootStruct read.ending onesIn read.parse read.walk read.bitmap read.count read.present read.complete
+    table.shape answer.andThen answer.check answer.block answer.varUInt little.little varuint.front varuint.groups utf8.run utf8.next utf8.leadOf utf8.rows value.rows value.value comparisons.comparisons
 computed = (refl, λ n. refl, refl, refl)
 
 -- More room does not matter.
-roomier : (T : Table) (t : ℕ) (payload : List ℕ) (n : ℕ) (rs : List Row) (p l : ℕ) → read.read T t payload n ≡ accepted rs p l
-    → (m : ℕ) → length rs ≤ m → read.read T t payload m ≡ accepted rs p l
+roomier : (T : Table) (t : ℕ) (payload : List ℕ) (n : ℕ) (rs : List Row) (p l c : ℕ) → read.read T t payload n ≡ accepted rs p l c
+    → (m : ℕ) → length rs ≤ m → read.read T t payload m ≡ accepted rs p l c
 unfolding read.read
-roomier T t payload n rs p l e m h =
-    let a = accepts (table.shape T) t payload n rs p l e in
-    accepted-of (table.shape T) t payload m rs p l
-    (record { fs = a .fs; tree = a .tree; end = a .end; is-struct = a .is-struct; reads = a .reads; has-rows = a .has-rows; has-place = a .has-place; has-length = a .has-length; short = a .short; fits = h })
+roomier T t payload n rs p l c e m h =
+    let a = accepts (table.shape T) t payload n rs p l c e in
+    accepted-of (table.shape T) t payload m rs p l c
+    (record { fs = a .fs; tree = a .tree; end = a .end; is-struct = a .is-struct; reads = a .reads; has-rows = a .has-rows; has-place = a .has-place; has-length = a .has-length; has-due = a .has-due; short = a .short; fits = h })
 
 module _ (sheet : List ℕ) where
   by-rows : (s : List ℕ) (T : Table) (payload : List ℕ) (a : Reading) → checked s ≡ Good → tableOf s ≡ T → read.read T 4 payload (room sheet) ≡ a
@@ -108,15 +110,15 @@ module _ (sheet : List ℕ) where
       read-by s 4 payload sheet good ∙ ap (λ (U : Table). outcomeOf sheet (read.read U 4 payload (room sheet))) is ∙ ap (outcomeOf sheet) e
 
   -- The added field is in an inner struct: the new reader shows P5, and the old one answers 26 at the bitmap of the first struct that carries the field.
-  pub inner-by-new : 7 ≤ room sheet → readOutcome longer 4 P5 sheet ≡ outcome (Shown 7 7 0) (shownIn sheet innerRows)
-  inner-by-new h = by-rows longer innerTable P5 _ (new-good .0) (new-rows .0) (roomier innerTable 4 P5 7 innerRows 7 0 (computed .0) (room sheet) h)
+  pub inner-by-new : 7 ≤ room sheet → readOutcome longer 4 P5 sheet ≡ outcome (Shown 7 7 0 0) (shownIn sheet innerRows)
+  inner-by-new h = by-rows longer innerTable P5 _ (new-good .0) (new-rows .0) (roomier innerTable 4 P5 7 innerRows 7 0 0 (computed .0) (room sheet) h)
 
   pub inner-by-old : readOutcome file 4 P5 sheet ≡ outcome (Refused 26 2) sheet
   inner-by-old = by-rows file T P5 _ T-good T-rows (computed .1 (room sheet))
 
   -- The added field is in the root: the new reader shows it in P6, and for the old one it is the tail.
-  pub root-by-new : 5 ≤ room sheet → readOutcome wider 4 P6 sheet ≡ outcome (Shown 5 5 0) (shownIn sheet rootRows)
-  root-by-new h = by-rows wider rootTable P6 _ (new-good .1) (new-rows .1) (roomier rootTable 4 P6 5 rootRows 5 0 (computed .2) (room sheet) h)
+  pub root-by-new : 5 ≤ room sheet → readOutcome wider 4 P6 sheet ≡ outcome (Shown 5 5 0 0) (shownIn sheet rootRows)
+  root-by-new h = by-rows wider rootTable P6 _ (new-good .1) (new-rows .1) (roomier rootTable 4 P6 5 rootRows 5 0 0 (computed .2) (room sheet) h)
 
-  pub root-by-old : 4 ≤ room sheet → readOutcome file 4 P6 sheet ≡ outcome (Shown 4 4 1) (shownIn sheet knownRows)
-  root-by-old h = by-rows file T P6 _ T-good T-rows (roomier T 4 P6 4 knownRows 4 1 (computed .3) (room sheet) h)
+  pub root-by-old : 4 ≤ room sheet → readOutcome file 4 P6 sheet ≡ outcome (Shown 4 4 1 0) (shownIn sheet knownRows)
+  root-by-old h = by-rows file T P6 _ T-good T-rows (roomier T 4 P6 4 knownRows 4 1 0 (computed .3) (room sheet) h)

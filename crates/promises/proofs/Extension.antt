@@ -35,7 +35,8 @@ use Rattle.writer.specs.declared.Writing.the-variants.{Written}
 use Rattle.writer.specs.Entry as writer
 use Rattle.writer.specs.Entry.{fileOutcome}
 use Rattle.promises.specs.Claims.{shapes, firstRows, ReadsAs, OldAnswers, NewByOld}
-use Rattle.promises.proofs.Entries.{rows-back, shown-size, refused-from, read-by, shown-from, reads-of, written-is}
+use Rattle.promises.proofs.Entries.{rows-back, shown-size, refused-from, read-by, shown-from, accepted-shows, reads-of, written-is}
+use Rattle.promises.proofs.Reading.{comparisons-of}
 use Rattle.promises.proofs.ReadBack.{read-back}
 
 -- ---- two files for which the answer is yes are good, and the new table extends the old one
@@ -112,13 +113,13 @@ module _ (old new : List ℕ) (yes : extension old new ≡ Yes) where
 
       -- A payload that the old reader accepts, with no added field's bit set: the new reader gives the same answer, with the same tail, and the same
       -- sheet, and what its rows show by the old table they show by the new one.
-      pub old-by-new : (payload sheet : List ℕ) (k place n : ℕ) (after : List ℕ) → readOutcome old ty payload sheet ≡ outcome (Shown k place n) after
+      pub old-by-new : (payload sheet : List ℕ) (k place n c : ℕ) (after : List ℕ) → readOutcome old ty payload sheet ≡ outcome (Shown k place n c) after
           → NoneAdded fs gs payload
           → (readOutcome new ty payload sheet ≡ readOutcome old ty payload sheet)
           × ((v : Value) → Shows (shapes old) payload ty fs (firstRows k after) v → Shows (shapes new) payload ty (fs ++ gs) (firstRows k after) v)
-      old-by-new payload sheet k place n after e bare =
-          let (rs, a, k-is, after-is) = shown-from old ty payload sheet (goods .0) k place n after e in
-          let (b, (w, s, s′)) = value.old-by-new (tableOf old) (tableOf new) (good-table old (goods .0)) (good-table new (goods .1)) extends ty fs st gs st′ payload (room sheet) rs place n a bare in
+      old-by-new payload sheet k place n c after e bare =
+          let (rs, a, k-is, after-is) = shown-from old ty payload sheet (goods .0) k place n c after e in
+          let (b, (w, s, s′)) = value.old-by-new (tableOf old) (tableOf new) (good-table old (goods .0)) (good-table new (goods .1)) extends ty fs st gs st′ payload (room sheet) rs place n c a bare in
           let same : firstRows k after ≡ rs = rows-back sheet rs k after k-is after-is in (
             read-by new ty payload sheet (goods .1) ∙ ap (outcomeOf sheet) (b ∙ sym a) ∙ sym (read-by old ty payload sheet (goods .0)),
             λ v q.
@@ -129,11 +130,11 @@ module _ (old new : List ℕ) (yes : extension old new ≡ Yes) where
           )
 
       -- None is set where the old reader has no tail.
-      pub none-added : (payload sheet : List ℕ) (k place : ℕ) (after : List ℕ) → readOutcome old ty payload sheet ≡ outcome (Shown k place 0) after
+      pub none-added : (payload sheet : List ℕ) (k place c : ℕ) (after : List ℕ) → readOutcome old ty payload sheet ≡ outcome (Shown k place 0 c) after
           → NoneAdded fs gs payload
-      none-added payload sheet k place after e =
-          let (rs, a, _, _) = shown-from old ty payload sheet (goods .0) k place 0 after e in
-          value.none-added (tableOf old) (tableOf new) (good-table old (goods .0)) (good-table new (goods .1)) extends ty fs st gs st′ payload (room sheet) rs place a
+      none-added payload sheet k place c after e =
+          let (rs, a, _, _) = shown-from old ty payload sheet (goods .0) k place 0 c after e in
+          value.none-added (tableOf old) (tableOf new) (good-table old (goods .0)) (good-table new (goods .1)) extends ty fs st gs st′ payload (room sheet) rs place c a
 
       -- What the writer by the old table writes is such a payload: with rows enough both readers show the value of its sheet, with no tail.
       pub written-by-old : (cells B out : List ℕ) (n : ℕ) (out′ : List ℕ) → fileOutcome old ty cells B out ≡ writer.outcome (Written n) out′
@@ -147,5 +148,7 @@ module _ (old new : List ℕ) (yes : extension old new ≡ Yes) where
           let shows′ : Shows (shapes old) B ty fs (rowsOf cells) v = subst (λ (l : List Field). Shows (shapes old) B ty l (rowsOf cells) v) same shows in
           let r′ : ReadsAs old ty fs (take n out′) sheet v n 0 = subst (λ (l : List Field). ReadsAs old ty l (take n out′) sheet v n 0) same r in
           let (after, o, q, l, d) = r′ in
-          let (equal, shown) = old-by-new (take n out′) sheet (size v) n 0 after o (none-added (take n out′) sheet (size v) n after o) in
-          (v, shows′, r′, (after, equal ∙ o, shown v q, l, d))
+          let (equal, shown) = old-by-new (take n out′) sheet (size v) n 0 _ after o (none-added (take n out′) sheet (size v) n _ after o) in
+          let due = comparisons-of new ty (take n out′) sheet (size v) n 0 _ after (equal ∙ o) (fs ++ gs) st′ v (shown v q) .0 in
+          let o′ = ap (λ (c : ℕ). outcome (Shown (size v) n 0 c) after) due in
+          (v, shows′, r′, (after, equal ∙ o ∙ o′, shown v q, l, d))

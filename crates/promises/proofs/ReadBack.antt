@@ -103,25 +103,25 @@ module _ (s : List ℕ) (ty : ℕ) (sheet B out : List ℕ) (n : ℕ) (out′ : 
       (fs, v, st, shows, whole s ty fs v sheet′ bs (take n out′) n t l (reads-of s ty bs sheet′ good fs v (length bs) 0 r))
 
 -- What the writer answers to just the rows shown over the payload.
-rewritten : (s : List ℕ) (ty : ℕ) (payload sheet : List ℕ) (k place n : ℕ) (after : List ℕ) → Bytes payload
-    → readOutcome s ty payload sheet ≡ outcome (Shown k place n) after
+rewritten : (s : List ℕ) (ty : ℕ) (payload sheet : List ℕ) (k place n c : ℕ) (after : List ℕ) → Bytes payload
+    → readOutcome s ty payload sheet ≡ outcome (Shown k place n c) after
     → (out : List ℕ) → length payload ≤ length out
     → (bs : List ℕ) × (fileOutcome s ty (take (4 * k) after) payload out ≡ writer.outcome (Written (length bs)) (bs ++ drop (length bs) out))
     × (length bs ≤ length payload)
     × (n ≡ 0 → bs ≡ payload)
     × (length (firstRows k after) ≡ k)
-rewritten s ty payload sheet k place n after b e out h =
-    let good = shown-good s ty payload sheet k place n after e in
-    let (rs, a, k-is, after-is) = shown-from s ty payload sheet good k place n after e in
+rewritten s ty payload sheet k place n c after b e out h =
+    let good = shown-good s ty payload sheet k place n c after e in
+    let (rs, a, k-is, after-is) = shown-from s ty payload sheet good k place n c after e in
     let same : firstRows k after ≡ rs = rows-back sheet rs k after k-is after-is in
-    let (_, _, bs, _, _, w, short, bare, _) = value.read-then-write (tableOf s) (good-table s good) ty payload (room sheet) rs place n b a (length out) h in
+    let (_, _, bs, _, _, w, short, bare, _) = value.read-then-write (tableOf s) (good-table s good) ty payload (room sheet) rs place n c b a (length out) h in
     let w′ = ap (λ (l : List Row). write (tableOf s) ty l payload (length out)) same ∙ w in
     (bs, write-by s ty (take (4 * k) after) payload out good ∙ ap (writer.outcomeOf out) w′, short, bare, ap length same ∙ k-is)
 
 -- What is read, given to the writer as just the rows shown over the payload, is accepted where the output is as long as the payload, and written in
 -- no more bytes. These are read as the same value, the root's unknown bits and tail gone. Every lent slice of bytes meets `Bytes`.
-pub read-then-write : (s : List ℕ) (ty : ℕ) (payload sheet : List ℕ) (k place n : ℕ) (after : List ℕ) → Bytes payload
-    → readOutcome s ty payload sheet ≡ outcome (Shown k place n) after
+pub read-then-write : (s : List ℕ) (ty : ℕ) (payload sheet : List ℕ) (k place n c : ℕ) (after : List ℕ) → Bytes payload
+    → readOutcome s ty payload sheet ≡ outcome (Shown k place n c) after
     → (out : List ℕ) → length payload ≤ length out → (sheet′ : List ℕ) → k ≤ room sheet′
     → (m : ℕ) × (out′ : List ℕ) × (fileOutcome s ty (take (4 * k) after) payload out ≡ writer.outcome (Written m) out′)
     × (m ≤ length payload)
@@ -129,8 +129,8 @@ pub read-then-write : (s : List ℕ) (ty : ℕ) (payload sheet : List ℕ) (k pl
     × (shapes s ty ≡ struct fs)
     × Shows (shapes s) payload ty fs (firstRows k after) v
     × ReadsAs s ty fs (take m out′) sheet′ v m 0)
-read-then-write s ty payload sheet k place n after b e out h sheet′ h′ =
-    let (bs, f, short, _, rows) = rewritten s ty payload sheet k place n after b e out h in (
+read-then-write s ty payload sheet k place n c after b e out h sheet′ h′ =
+    let (bs, f, short, _, rows) = rewritten s ty payload sheet k place n c after b e out h in (
       length bs,
       bs ++ drop (length bs) out,
       f,
@@ -141,12 +141,12 @@ read-then-write s ty payload sheet k place n after b e out h sheet′ h′ =
 -- What is read without unknown bits has no tail, and is written back to the same bytes where the output is as long. Every lent slice of bytes meets
 -- `Bytes`.
 pub same-bytes : (s : List ℕ) (ty : ℕ) (fs : List Field) → shapes s ty ≡ struct fs
-    → (payload sheet : List ℕ) (k place n : ℕ) (after : List ℕ) → Bytes payload
-    → readOutcome s ty payload sheet ≡ outcome (Shown k place n) after
+    → (payload sheet : List ℕ) (k place n c : ℕ) (after : List ℕ) → Bytes payload
+    → readOutcome s ty payload sheet ≡ outcome (Shown k place n c) after
     → unknownBits fs (rootBits fs payload) ≡ 0
     → (out : List ℕ) → length payload ≤ length out
     → (n ≡ 0) × (fileOutcome s ty (take (4 * k) after) payload out ≡ writer.outcome (Written (length payload)) (payload ++ drop (length payload) out))
-same-bytes s ty fs st payload sheet k place n after b e known out h =
-    let none = tail-iff-unknown s ty fs st payload sheet k place n after e .1 known in
-    let (bs, f, _, bare, _) = rewritten s ty payload sheet k place n after b e out h in
+same-bytes s ty fs st payload sheet k place n c after b e known out h =
+    let none = tail-iff-unknown s ty fs st payload sheet k place n c after e .1 known in
+    let (bs, f, _, bare, _) = rewritten s ty payload sheet k place n c after b e out h in
     (none, rw (bare none) at f)

@@ -18,7 +18,9 @@ use Rattle.schema.specs.Check.{checked, IsGood}
 use Rattle.schema.proofs.Goods.{good-table}
 use Rattle.value.specs.declared.Row.{Row}
 use Rattle.value.specs.Value.{Value, rows, size}
+use Rattle.value.specs.Comparisons.{comparisons, rowsDue}
 use Rattle.value.specs.Read.{rootBits, unknownBits, refusal, accepted, read}
+use Rattle.value.specs.Fits.{Shows}
 use Rattle.value.specs.Claims.{Rightful, Delimited}
 use Rattle.value.specs.Listed.{Listed}
 use Rattle.value.proofs.Reading.{as-root, accepts}
@@ -27,8 +29,9 @@ use Rattle.reader.specs.declared.Reading.{Reading}
 use Rattle.reader.specs.declared.Reading.the-variants.{Shown, Refused}
 use Rattle.reader.specs.Sheet.{shownIn}
 use Rattle.reader.specs.Entry.{outcome, outcomeOf, room, byTable, readOutcome, payloadOutcome, Numbers, numbers}
-use Rattle.promises.specs.Claims.{shapes, ReadsAs}
-use Rattle.promises.proofs.Entries.{shown-size, shown-good, shown-from, read-by, refused-from, reads-of, of-reads}
+use Rattle.reader.proofs.Entries.{read-within}
+use Rattle.promises.specs.Claims.{shapes, firstRows, ReadsAs}
+use Rattle.promises.proofs.Entries.{rows-back, shown-size, shown-good, shown-from, read-by, refused-from, reads-of, of-reads}
 
 -- A payload is accepted and shown as v exactly when it spells v within the limits and the rows fit into the sheet; the tail is what follows the known
 -- fields. This rules out a reader that refuses all (every rightful payload is accepted) and invented rows (they show the value that is spelled).
@@ -44,31 +47,51 @@ pub too-few-rows : (s : List ℕ) → IsGood s → (ty : ℕ) (fs : List Field) 
 unfolding read
 too-few-rows s good ty fs st payload sheet v place n q h =
     let (rs, e, shows) = value.accepted-iff-spelled (tableOf s) (good-table s good) ty fs st payload (size v) v place n .1 q in
-    let a = accepts (shapes s) ty payload (size v) rs place n e in
+    let a = accepts (shapes s) ty payload (size v) rs place n _ e in
     let l : length (rows (a .tree)) ≡ size v = ap length (a .has-rows) ∙ shown-size s payload ty fs rs v shows in
     let b : leb (length (rows (a .tree))) (room sheet) ≡ false = lt-leb (length (rows (a .tree))) (room sheet) (omega (arith, l, h)) in
     let f : read (tableOf s) ty payload (room sheet) ≡ refusal 30 0 = as-root (shapes s) ty payload (room sheet) (a .fs) (a .is-struct) (a .short) ∙ rw (a .reads, b) in
     read-by s ty payload sheet good ∙ ap (outcomeOf sheet) f
 
 -- A payload is accepted exactly with the rows that fit it and delimit its bytes: it decides every cell of every row that is written.
-pub rows-delimit : (s : List ℕ) → IsGood s → (ty : ℕ) (payload sheet : List ℕ) (k place n : ℕ) (after : List ℕ)
-    → (readOutcome s ty payload sheet ≡ outcome (Shown k place n) after)
-    ↔ ((rs : List Row) × Delimited (shapes s) ty payload (room sheet) rs place n × (length rs ≡ k) × (after ≡ shownIn sheet rs))
-rows-delimit s good ty payload sheet k place n after = (
-  λ e. let (rs, a, l, o) = shown-from s ty payload sheet good k place n after e in (rs, iff rs .0 a, l, o),
+pub rows-delimit : (s : List ℕ) → IsGood s → (ty : ℕ) (payload sheet : List ℕ) (k place n c : ℕ) (after : List ℕ)
+    → (readOutcome s ty payload sheet ≡ outcome (Shown k place n c) after)
+    ↔ ((rs : List Row) × Delimited (shapes s) ty payload (room sheet) rs place n c × (length rs ≡ k) × (after ≡ shownIn sheet rs))
+rows-delimit s good ty payload sheet k place n c after = (
+  λ e. let (rs, a, l, o) = shown-from s ty payload sheet good k place n c after e in (rs, iff rs .0 a, l, o),
   λ (rs, d, l, o). rw (o, ← l) (read-by s ty payload sheet good ∙ ap (outcomeOf sheet) (iff rs .1 d)),
 )
   where
-    iff : (rs : List Row) → (read (tableOf s) ty payload (room sheet) ≡ accepted rs place n) ↔ Delimited (shapes s) ty payload (room sheet) rs place n
-    iff rs = value.rows-delimit (tableOf s) (good-table s good) ty payload (room sheet) rs place n
+    iff : (rs : List Row) → (read (tableOf s) ty payload (room sheet) ≡ accepted rs place n c) ↔ Delimited (shapes s) ty payload (room sheet) rs place n c
+    iff rs = value.rows-delimit (tableOf s) (good-table s good) ty payload (room sheet) rs place n c
 
 -- What is read has no tail exactly where no unknown bit of its root is set.
-pub tail-iff-unknown : (s : List ℕ) (ty : ℕ) (fs : List Field) → shapes s ty ≡ struct fs → (payload sheet : List ℕ) (k place n : ℕ) (after : List ℕ)
-    → readOutcome s ty payload sheet ≡ outcome (Shown k place n) after → (n ≡ 0) ↔ (unknownBits fs (rootBits fs payload) ≡ 0)
-tail-iff-unknown s ty fs st payload sheet k place n after e =
-    let good = shown-good s ty payload sheet k place n after e in
-    let (rs, a, _, _) = shown-from s ty payload sheet good k place n after e in
-    value.tail-iff-unknown (tableOf s) (good-table s good) ty fs st payload (room sheet) rs place n a
+pub tail-iff-unknown : (s : List ℕ) (ty : ℕ) (fs : List Field) → shapes s ty ≡ struct fs → (payload sheet : List ℕ) (k place n c : ℕ) (after : List ℕ)
+    → readOutcome s ty payload sheet ≡ outcome (Shown k place n c) after → (n ≡ 0) ↔ (unknownBits fs (rootBits fs payload) ≡ 0)
+tail-iff-unknown s ty fs st payload sheet k place n c after e =
+    let good = shown-good s ty payload sheet k place n c after e in
+    let (rs, a, _, _) = shown-from s ty payload sheet good k place n c after e in
+    value.tail-iff-unknown (tableOf s) (good-table s good) ty fs st payload (room sheet) rs place n c a
+
+-- ---- the key comparisons due
+
+module _ (s : List ℕ) (ty : ℕ) (payload sheet : List ℕ) (k place n c : ℕ) (after : List ℕ) (e : readOutcome s ty payload sheet ≡ outcome (Shown k place n c) after) where
+  -- They are never above 258,048.
+  pub comparisons-within : c ≤ 258048
+  comparisons-within = let h = read-within s ty payload sheet in omega (arith, rw e at h)
+
+  -- They are those of any value that the rows show, which are those that its rows count.
+  pub comparisons-of : (fs : List Field) → shapes s ty ≡ struct fs → (v : Value) → Shows (shapes s) payload ty fs (firstRows k after) v
+      → (c ≡ comparisons (shapes s) v ty) × (c ≡ rowsDue (shapes s) (firstRows k after))
+  comparisons-of fs st v shows =
+      let good = shown-good s ty payload sheet k place n c after e in
+      let (rs, a, k-is, after-is) = shown-from s ty payload sheet good k place n c after e in
+      let same : firstRows k after ≡ rs = rows-back sheet rs k after k-is after-is in
+      let counted : c ≡ rowsDue (shapes s) (firstRows k after) =
+      value.comparisons-counted (tableOf s) (good-table s good) ty payload (room sheet) rs place n c a ∙ ap (rowsDue (shapes s)) (sym same) in
+      (counted ∙ sym (value.shown-due (tableOf s) (good-table s good) ty fs st payload (firstRows k after) v shows), counted)
+
+-- ---- refusals
 
 refused-by : (c : Checked) (s : List ℕ) (ty : ℕ) (payload sheet : List ℕ) (n q : ℕ) (after : List ℕ)
     → byTable c s ty payload sheet ≡ outcome (Refused n q) after → after ≡ sheet
@@ -105,10 +128,11 @@ listed s ty payload sheet n q after e = listed-by (checked s) s refl ty payload 
 -- ---- 01's numbers
 
 -- The answers are known by 01's numbers: rows come only where a value is shown, and every other answer but 0 is a refusal.
-pub shown-by-numbers : (r : Reading) (k place n : ℕ) → 0 < k → numbers r ≡ numbers (Shown k place n) → r ≡ Shown k place n
-shown-by-numbers (Shown k′ place′ n′) k place n h e = cc (ap (λ (x : Numbers). x .rows) e, ap (λ (x : Numbers). x .tailPlace) e, ap (λ (x : Numbers). x .tailLength) e)
-shown-by-numbers (Refused m q) k place n h e = absurd (omega (arith, ap (λ (x : Numbers). x .rows) e))
+pub shown-by-numbers : (r : Reading) (k place n c : ℕ) → 0 < k → numbers r ≡ numbers (Shown k place n c) → r ≡ Shown k place n c
+shown-by-numbers (Shown k′ place′ n′ c′) k place n c h e =
+    cc (ap (λ (x : Numbers). x .rows) e, ap (λ (x : Numbers). x .tailPlace) e, ap (λ (x : Numbers). x .tailLength) e, ap (λ (x : Numbers). x .comparisons) e)
+shown-by-numbers (Refused m q) k place n c h e = absurd (omega (arith, ap (λ (x : Numbers). x .rows) e))
 
 pub refused-by-numbers : (r : Reading) (m q : ℕ) → 0 < m → numbers r ≡ numbers (Refused m q) → r ≡ Refused m q
-refused-by-numbers (Shown k place n) m q h e = absurd (omega (arith, ap (λ (x : Numbers). x .number) e))
+refused-by-numbers (Shown k place n c) m q h e = absurd (omega (arith, ap (λ (x : Numbers). x .number) e))
 refused-by-numbers (Refused m′ q′) m q h e = cc (ap (λ (x : Numbers). x .number) e, ap (λ (x : Numbers). x .place) e)

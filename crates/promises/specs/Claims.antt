@@ -13,6 +13,7 @@ use Rattle.schema.specs.File.{tableOf}
 use Rattle.value.specs.declared.Row.{Row}
 use Rattle.value.specs.Answer.{Cursor, seen, cursorAt}
 use Rattle.value.specs.Value.{Tree, Value, value, size}
+use Rattle.value.specs.Comparisons.{comparisons}
 use Rattle.value.specs.Read.{rootStruct}
 use Rattle.value.specs.Sheet.{rowsOf}
 use Rattle.value.specs.Spell.{AllSpell, Spells}
@@ -30,10 +31,10 @@ abbrev pub firstRows : (k : ℕ) → List ℕ → List Row
 firstRows k cells = rowsOf (take (4 * k) cells)
 
 -- The reader shows v, a root of type ty with the fields fs, one row a value: the first rows of the sheet afterwards show v over the payload, and the
--- cells after them are as they were; the tail is at a place, of n bytes.
+-- cells after them are as they were; the tail is at a place, of n bytes. The key comparisons that it answers are those of v.
 abbrev pub ReadsAs : (schema : List ℕ) (ty : ℕ) (fs : List Field) (payload sheet : List ℕ) → Value → (place n : ℕ) → Type 0
 ReadsAs schema ty fs payload sheet v place n =
-    (after : List ℕ) × (readOutcome schema ty payload sheet ≡ outcome (Shown (size v) place n) after)
+    (after : List ℕ) × (readOutcome schema ty payload sheet ≡ outcome (Shown (size v) place n (comparisons (shapes schema) v ty)) after)
     × Shows (shapes schema) payload ty fs (firstRows (size v) after) v
     × (length after ≡ length sheet)
     × (drop (4 * size v) after ≡ drop (4 * size v) sheet)

@@ -6,9 +6,9 @@ use mathlib.Core.List.{List, [], _∷_}
 use Prim.Native.Nat.{ℕ, suc, _+_, _-_, _/_, _%_, _^_, _≤_, _<_}
 use native.Mathlib.Nat.{mod-eq-of-lt}
 use native.Mathlib.Omega.{arith}
-use borrow.Author.Tests.{ltb-true, eq-eqb, ne-eqb}
+use borrow.Author.Tests.{ltb-true, eq-eqb, ne-eqb, le-leb, lt-leb}
 use lib.Dec.{ltb}
-use lib.ListN.{length, replicate, set}
+use lib.ListN.{length, replicate}
 use Rattle.schema.specs.declared.Field.{Field}
 use Rattle.schema.specs.Table.{Table, Shape, array, map, struct}
 use Rattle.schema.specs.Check.{field}
@@ -25,9 +25,8 @@ use Rattle.reader.specs.declared.leaf.Head.{Head}
 use Rattle.reader.specs.declared.leaf.Head.the-variants.{Bits, Fault}
 use Rattle.reader.specs.declared.walk.Walk.the-variants.{Past}
 use Rattle.reader.specs.Sheet.{putRow}
-use Rattle.reader.specs.Leaf.{part, countOf, CountIn, Counted, headOf, HeadIn, Headed, keysIn}
+use Rattle.reader.specs.Leaf.{part, countOf, CountIn, Counted, headOf, HeadIn, Headed}
 use Rattle.reader.specs.Walk.{Final, done, stopped, walkOf, Walked}
-use Rattle.reader.proofs.Keys.{keys-more}
 use Rattle.reader.proofs.Steps.{spanRow, walk-length, item-past, item-stop, key-stop, key-again, key-new, accepted-along, parse-refused, parse-whole, own-accepted}
 
 -- ---- heads
@@ -59,11 +58,16 @@ module _ (S : ℕ → Shape) (d t : ℕ) (p : List ℕ) (at : ℕ) where
     unfolding andThen
     map-refused number q = parse-refused S d t (cursorAt p at) (map k v) is number at (rw (not-read 2 r read number q))
 
-    pub map-whole : (n start : ℕ) → r ≡ Is n start
-        → parse S (suc d) t (cursorAt p at) ≡ whole (parse S d) t (map k v) (parts start n) (cursorAt p start)
-    unfolding andThen
-    map-whole n start q =
-        parse-whole S d t (cursorAt p at) (map k v) is (parts start n) (cursorAt p start) (rw (read-as 2 r read n start q))
+    module _ (n start : ℕ) (q : r ≡ Is n start) where
+      pub map-many : 64 < n → parse S (suc d) t (cursorAt p at) ≡ refused 31 at
+      unfolding andThen check
+      map-many h = parse-refused S d t (cursorAt p at) (map k v) is 31 at (rw (read-as 2 r read n start q, lt-leb n 64 h))
+
+      pub map-whole : n ≤ 64 → parse S (suc d) t (cursorAt p at) ≡ whole (parse S d) t (map k v) (parts start n) (cursorAt p start)
+      unfolding andThen check
+      map-whole h =
+          parse-whole S d t (cursorAt p at) (map k v) is (parts start n) (cursorAt p start)
+          (rw (read-as 2 r read n start q, le-leb n 64 h))
 
   module _ (fs : List Field) (is : S t ≡ struct fs) where
     -- where an inner struct is accepted, its bitmap is
@@ -213,18 +217,17 @@ module _ (P : ℕ → Reader Tree) (p : List ℕ) (k v n i : ℕ) (keys : List (
           value-next ∙ item-past P (part p from to ∷ keys) (pairs (n - i - 1) k v) v (cursorAt p to) (below + 1) m (cursorAt p next) row′ m′ e
 
 -- the loop over pairs starts with no key kept, and a turn keeps one more
-pub pairs-first : (P : ℕ → Reader Tree) (p : List ℕ) (k v n : ℕ) (starts ends : List ℕ) (c : Cursor) (row : ℕ) (l : List ℕ)
-    → walkOf rowsAll (walk P (keysIn p starts ends 0) (pairs (n - 0) k v) c) row l ≡ walkOf rowsAll (walk P [] (pairs n k v) c) row l
-unfolding keysIn
-pairs-first P p k v n starts ends c row l = let e : n - 0 ≡ n = omega arith in rw e
+pub pairs-first : (P : ℕ → Reader Tree) (k v n : ℕ) (keys : List (List ℕ)) (c : Cursor) (row : ℕ) (l : List ℕ)
+    → keys ≡ [] → walkOf rowsAll (walk P keys (pairs (n - 0) k v) c) row l ≡ walkOf rowsAll (walk P [] (pairs n k v) c) row l
+pairs-first P k v n keys c row l none = let e : n - 0 ≡ n = omega arith in rw (e, none)
 
-pub pairs-again : (P : ℕ → Reader Tree) (p : List ℕ) (k v n i from to : ℕ) (starts ends : List ℕ) (c : Cursor) (row : ℕ) (l : List ℕ) (o : Final)
-    → i < length starts → i < length ends
-    → walkOf rowsAll (walk P (part p from to ∷ keysIn p starts ends i) (pairs (n - i - 1) k v) c) row l ≡ o
-    → walkOf rowsAll (walk P (keysIn p (set starts i from) (set ends i to) (i + 1)) (pairs (n - (i + 1)) k v) c) row l ≡ o
-pairs-again P p k v n i from to starts ends c row l o ls le h =
+pub pairs-again : (P : ℕ → Reader Tree) (k v n i : ℕ) (x : List ℕ) (keys more : List (List ℕ)) (c : Cursor) (row : ℕ) (l : List ℕ) (o : Final)
+    → more ≡ x ∷ keys
+    → walkOf rowsAll (walk P (x ∷ keys) (pairs (n - i - 1) k v) c) row l ≡ o
+    → walkOf rowsAll (walk P more (pairs (n - (i + 1)) k v) c) row l ≡ o
+pairs-again P k v n i x keys more c row l o e h =
     let q : n - (i + 1) ≡ n - i - 1 = omega arith in
-    rw (q, ← keys-more p starts ends i from to ls le) h
+    rw (q, e) h
 
 -- where no item is left
 pub emptied : (P : ℕ → Reader Tree) (keys : List (List ℕ)) (is : List Item) (c : Cursor) (row : ℕ) (l : List ℕ) (o : Final)

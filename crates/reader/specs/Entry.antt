@@ -25,7 +25,7 @@ sheetIn (outcome r sheet) = sheet
 -- A refusal leaves the sheet as it was; rows are written from the first on.
 abbrev pub outcomeOf : List ℕ → value.Reading → Outcome
 outcomeOf sheet (value.refusal n q) = outcome (Refused n q) sheet
-outcomeOf sheet (value.accepted rs place size) = outcome (Shown (length rs) place size) (shownIn sheet rs)
+outcomeOf sheet (value.accepted rs place size due) = outcome (Shown (length rs) place size due) (shownIn sheet rs)
 
 -- The whole rows that a sheet has.
 abbrev pub room : List ℕ → ℕ
@@ -44,14 +44,15 @@ byTable (Faulty n q) schema ty payload sheet = outcome (Refused n q) sheet
 unfoldable pub readOutcome : (schema : List ℕ) (ty : ℕ) (payload sheet : List ℕ) → Outcome
 readOutcome schema ty payload sheet = byTable (checked schema) schema ty payload sheet
 
--- 01's numbers for each case of the answer: number, place, rows, and the tail's place and length.
+-- The numbers for each case of the answer: number, place, rows, the tail's place and length, and the key comparisons due.
 pub record Numbers : Type 0 where
   pub number : ℕ
   pub place : ℕ
   pub rows : ℕ
   pub tailPlace : ℕ
   pub tailLength : ℕ
+  pub comparisons : ℕ
 
 abbrev pub numbers : Reading → Numbers
-numbers (Shown rows place size) = record { number = 0; place = 0; rows = rows; tailPlace = place; tailLength = size }
-numbers (Refused n q) = record { number = n; place = q; rows = 0; tailPlace = 0; tailLength = 0 }
+numbers (Shown rows place size due) = record { number = 0; place = 0; rows = rows; tailPlace = place; tailLength = size; comparisons = due }
+numbers (Refused n q) = record { number = n; place = q; rows = 0; tailPlace = 0; tailLength = 0; comparisons = 0 }

@@ -1,10 +1,10 @@
--- What the leaves of the reader answer: a count, a content, a bitmap; and the keys that a map's walk keeps.
+-- What the leaves of the reader answer: a count, a content, a bitmap.
 -- Assumes nothing.
 use mathlib.Core.Path.{_≡_}
-use mathlib.Core.List.{List, [], _∷_}
-use Prim.Native.Nat.{ℕ, zero, suc, _+_, _-_, _*_, _^_, _≤_, _<_}
+use mathlib.Core.List.{List}
+use Prim.Native.Nat.{ℕ, _+_, _-_, _*_, _^_, _≤_, _<_}
 use lib.Dec.{eqb, ltb}
-use lib.ListN.{length, getD, take, drop}
+use lib.ListN.{length, take, drop}
 use Rattle.schema.specs.declared.Field.{Field}
 use Rattle.value.specs.Answer.{Answer, refused, seen, cursorAt}
 use Rattle.value.specs.Read.{Own, plain, present, knownBits, unknownBits}
@@ -69,14 +69,3 @@ HeadIn size at fs (Fault number) = Unit {0}
 pub record Headed (p : List ℕ) (at : ℕ) (fs : List Field) (o : Answer ℕ) (r : Head) : Type 0 where
   pub same : headOf p at r ≡ o
   pub within : HeadIn (length p) at fs r
-
--- ---- keys kept while a map is walked
-
--- The contents of the first i keys, the latest first, from where each starts and ends.
-unfoldable pub keysIn : (p starts ends : List ℕ) → ℕ → List (List ℕ)
-keysIn p starts ends zero = []
-keysIn p starts ends (suc i) = part p (getD starts i 0) (getD ends i 0) ∷ keysIn p starts ends i
-
--- The first i spans lie in the payload.
-abbrev pub Spans : (p starts ends : List ℕ) → ℕ → Type 0
-Spans p starts ends i = (j : ℕ) → j < i → (getD starts j 0 ≤ getD ends j 0) × (getD ends j 0 ≤ length p)

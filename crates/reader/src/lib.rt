@@ -1,9 +1,10 @@
 // The payload reader: values of a schema table's types, shown as rows of a sheet.
-pub mod key;
+pub mod comparisons;
 pub mod leaf;
 pub mod sheet;
 pub mod walk;
 
+use crate::comparisons::rows_due;
 use crate::walk::Walk;
 use crate::walk::root;
 use schema::Checked;
@@ -13,12 +14,13 @@ ghost use mathlib.Core.Path.{_≡_};
 ghost use Rattle.schema.specs.Check.{IsGood};
 ghost use Rattle.reader.specs.Entry.{Outcome, payloadOutcome, readOutcome};
 
-// The answer: the number of rows with the tail's place and length, or the refusal's number and place.
+// The answer: the number of rows with the tail's place and length and the key comparisons due, or the refusal's number and place.
 pub enum Reading {
     Shown {
         rows: usize,
         tail_place: usize,
         tail_length: usize,
+        comparisons: usize,
     },
     Refused {
         number: u32,
@@ -60,6 +62,7 @@ pub fn read_payload(schema: &[u8], ty: u32, payload: &[u8], sheet: &mut [u32]) -
                 rows: row,
                 tail_place: next,
                 tail_length: payload.len() - next,
+                comparisons: rows_due(schema, sheet, row),
             }
         }
     }

@@ -1,7 +1,6 @@
 // The walkers: a value, and the arrays, maps and structs that hold values, call each other in a cycle; the depth still allowed falls.
 // They read the payload p by the schema table s and write a row for each value, from `row` on, where the sheet has it.
 // A walk that does not judge trusts that the same walk has been judged: it skips the tests that would read contents again.
-use crate::key::is_repeated;
 use crate::leaf::Count;
 use crate::leaf::Head;
 use crate::leaf::Span;
@@ -9,12 +8,13 @@ use crate::leaf::content;
 use crate::leaf::presence;
 use crate::leaf::read_count;
 use crate::sheet::put_row;
+use parts::key::is_repeated;
 use schema::TypeRow;
 use schema::access::field;
 use schema::access::type_row;
 ghost use mathlib.Core.Path.{_≡_};
 ghost use mathlib.Core.Bool.{false};
-ghost use Prim.Native.Nat.{suc, _+_, _≤_, _<_};
+ghost use Prim.Native.Nat.{suc, _+_, _/_, _≤_, _<_};
 ghost use lib.ListN.{length};
 ghost use Rattle.schema.specs.Table.{rowAt, array, map, struct};
 ghost use Rattle.schema.specs.File.{tableOf};
@@ -215,7 +215,7 @@ fn leaves(
     }
 }
 
-// A map of type ty. Where each key's content starts and ends is kept in arrays: few pairs need only short ones.
+// A map of type ty, of at most 64 pairs. Its keys are kept in an array, a short one where there are few.
 fn mapping(
     s: &[u8],
     p: &[u8],
@@ -235,15 +235,19 @@ fn mapping(
     match read_count(p, at, 2) {
         Count::Not { number } => Walk::Refused { number, place: at },
         Count::Is { n, start } => {
-            if n <= 64 {
-                let mut starts = [0u16; 64];
-                let mut ends = [0u16; 64];
+            if 64 < n {
+                return Walk::Refused {
+                    number: 31,
+                    place: at,
+                };
+            }
+            if n <= 8 {
+                let mut keys = [0usize; 16];
                 return pairs(
                     s,
                     p,
                     sheet,
-                    &mut starts,
-                    &mut ends,
+                    &mut keys,
                     ty,
                     key,
                     val,
@@ -254,14 +258,12 @@ fn mapping(
                     judge,
                 );
             }
-            let mut starts = [0u16; 8192];
-            let mut ends = [0u16; 8192];
+            let mut keys = [0usize; 128];
             pairs(
                 s,
                 p,
                 sheet,
-                &mut starts,
-                &mut ends,
+                &mut keys,
                 ty,
                 key,
                 val,
@@ -275,13 +277,12 @@ fn mapping(
     }
 }
 
-// The n pairs of a map from a place on. The arrays are scratch: what they hold afterwards means nothing.
+// The n pairs of a map from a place on. What `keys` holds afterwards means nothing.
 fn pairs(
     s: &[u8],
     p: &[u8],
     sheet: &mut [u32],
-    starts: &mut [u16],
-    ends: &mut [u16],
+    keys: &mut [usize],
     ty: u32,
     key: u32,
     val: u32,
@@ -292,7 +293,7 @@ fn pairs(
     judge: bool,
 ) -> Walk
     requires { ⌜ Ready (now s) (now p) start (row + 1) judge (wholeIn (now s) (now p) depth ty (map key val) start n start) ⌝ }
-    requires { ⌜ (0 < rowAt (tableOf (now s)) key .kind) × (rowAt (tableOf (now s)) key .kind < 14) × (n ≤ length (now starts)) × (n ≤ length (now ends)) × (n ≤ 16384) ⌝ }
+    requires { ⌜ (0 < rowAt (tableOf (now s)) key .kind) × (rowAt (tableOf (now s)) key .kind < 14) × (n ≤ length (now keys) / 2) × (n ≤ 64) ⌝ }
     ensures { λ r. ⌜ Walked (now (p .entry)) start rows (wholeIn (now (s .entry)) (now (p .entry)) depth ty (map key val) start n start) row (now (sheet .entry)) r (now (sheet .exit)) ⌝ }
 {
     let t = type_row(s, key as usize);
@@ -312,14 +313,12 @@ fn pairs(
                 return Walk::Refused { number, place };
             }
             Span::At { from, to } => {
-                if is_repeated(p, starts, ends, i, from, to, judge) {
+                if is_repeated(p, keys, i, from, to - from, judge) {
                     return Walk::Refused {
                         number: 24,
                         place: here,
                     };
                 }
-                starts[i] = from as u16;
-                ends[i] = to as u16;
                 put_row(sheet, below, key, from, to - from, 0);
                 match value(s, p, sheet, val, to, depth, below + 1, judge) {
                     Walk::Refused { number, place } => {

@@ -31,9 +31,9 @@ leaf-takes (array _) h x u q = absurd q
 leaf-takes (map _ _) h x u q = absurd q
 leaf-takes (struct _) h x u q = absurd q
 
-head-takes : (s : Shape) → Solid s → (n : ℕ) (u : List ℕ) → HeadSpells s n u → 0 < length u
+pub head-takes : (s : Shape) → Solid s → (n : ℕ) (u : List ℕ) → HeadSpells s n u → 0 < length u
 head-takes (array _) h n u q = spelled-pos n u q
-head-takes (map _ _) h n u q = spelled-pos n u q
+head-takes (map _ _) h n u q = spelled-pos n u (q .0)
 head-takes (struct fs) h n u q = rw (q .0 .0) (omega arith)
 head-takes unknown h n u q = absurd q
 head-takes (scalar _) h n u q = absurd q
@@ -62,13 +62,13 @@ block-complete n x rest c h e =
     let l : leb (length x) (length (x ++ rest)) ≡ true = le-leb (length x) (length (x ++ rest)) (simp length-append (omega arith)) in
     rw (← h, e, l, take-append-seam, drop-append-seam)
 
-var-complete : (n : ℕ) (u rest : List ℕ) (c : Cursor) → Spelled n u → c .left ≡ u ++ rest → varUInt c ≡ seen n (record { left = rest; at = c .at + length u })
+pub var-complete : (n : ℕ) (u rest : List ℕ) (c : Cursor) → Spelled n u → c .left ≡ u ++ rest → varUInt c ≡ seen n (record { left = rest; at = c .at + length u })
 unfolding varUInt
 var-complete n u rest c s e =
     let f : front (c .left) (c .at) ≡ Number n (c .at + length u) = rw e (spelled-reads n u rest (c .at) s) in
     rw (f, past (c .left) u rest (c .at) (c .at + length u) e refl)
 
-count-complete : (least n : ℕ) (u rest : List ℕ) (c : Cursor) → Spelled n u → c .left ≡ u ++ rest → least * n ≤ length rest
+pub count-complete : (least n : ℕ) (u rest : List ℕ) (c : Cursor) → Spelled n u → c .left ≡ u ++ rest → least * n ≤ length rest
     → count least c ≡ seen n (record { left = rest; at = c .at + length u })
 unfolding count andThen
 count-complete least n u rest c s e h =
@@ -104,7 +104,8 @@ head-complete : (s : Shape) (h : ℕ) (u rest : List ℕ) (c : Cursor) → HeadS
     → Yields (λ o c′. (start : ℕ) × (o ≡ parts start h) × (c′ .left ≡ rest)) (own s c)
 head-complete (array e) n u rest c q l h =
     goes _ (count-complete _ n u rest c q l (omega (arith, length-replicate n (plainItem e)))) (gives (_, refl, refl))
-head-complete (map k v) n u rest c q l h = goes _ (count-complete _ n u rest c q l (omega (arith, length-pairs n k v))) (gives (_, refl, refl))
+head-complete (map k v) n u rest c q l h =
+    goes _ (count-complete _ n u rest c (q .0) l (omega (arith, length-pairs n k v))) (goes _ (passes _ _ _ _ (le-leb n _ (q .1))) (gives (_, refl, refl)))
 head-complete (struct fs) m u rest c q l h =
     goes _ (bitmap-complete fs m u rest c (q .0) l) (goes _ (passes _ _ _ _ (lt-ltb m _ (q .1))) (gives (_, refl, refl)))
 head-complete unknown n u rest c q l h = absurd q

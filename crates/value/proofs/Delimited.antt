@@ -54,7 +54,7 @@ module _ (B : List ℕ) where
   own-begins (scalar _) c = seen-then _ (λ x c₁ e. seen-check _ _ _ _ _ (λ k. holds tt))
   own-begins (text _) c = seen-then _ (λ n c₁ e. seen-then _ (λ x c₂ k. seen-check _ _ _ _ _ (λ l. holds tt)))
   own-begins (array _) c = seen-then _ (λ n c₁ e. holds refl)
-  own-begins (map _ _) c = seen-then _ (λ n c₁ e. holds refl)
+  own-begins (map _ _) c = seen-then _ (λ n c₁ e. seen-check _ _ _ _ _ (λ k. holds refl))
   own-begins (struct fs) c = seen-then _ (λ m c₁ e. seen-check _ _ _ _ _ (λ k. holds refl))
 
   -- The own bytes of a value: what they spell, and what its row names of them.

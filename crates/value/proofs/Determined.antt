@@ -15,6 +15,7 @@ use Rattle.schema.specs.Table.{Shape, unknown, scalar, text, array, map, struct
 use Rattle.value.specs.declared.Row.{Row}
 use Rattle.value.specs.Answer.{cursorAt}
 use Rattle.value.specs.Value.{Tree, tip, branch, Forest, stop, plus, rows, Value, leaf, node, Values, some, value, values}
+use Rattle.value.specs.Comparisons.{comparisons}
 use Rattle.value.specs.Read.{Item, plan, rootOf, accepted, reading}
 use Rattle.value.specs.Spell.{keysOf, Apart, WholeSpells, Spells, RootSpells}
 use Rattle.value.specs.Write.{span}
@@ -117,7 +118,7 @@ module _ (S : ℕ → Shape) (solid : (t : ℕ) → Solid (S t)) (B : List ℕ) 
 
   head-count : (s : Shape) (p p′ c c′ h : ℕ) → HeadFits B s p c h → HeadFits B s p′ c′ h → c ≡ c′
   head-count (array _) p p′ c c′ h f g = f ∙ sym g
-  head-count (map _ _) p p′ c c′ h f g = f ∙ sym g
+  head-count (map _ _) p p′ c c′ h f g = f .0 ∙ sym (g .0)
   head-count (struct _) p p′ c c′ h f g = f .2 ∙ sym (g .2)
   head-count unknown p p′ c c′ h f g = absurd f
   head-count (scalar _) p p′ c c′ h f g = absurd f
@@ -127,7 +128,7 @@ module _ (S : ℕ → Shape) (solid : (t : ℕ) → Solid (S t)) (B : List ℕ) 
       → NodeSpan (Spells S d) B s h vs start p n → NodeSpan (Spells S d) B s h ws start p′ n′ → p ≡ p′
   head-place d (struct _) h start p n p′ n′ end vs ws e e′ l o o′ = o .0 ∙ sym (o′ .0)
   head-place d (array _) h start p n p′ n′ end vs ws e e′ l o o′ = same-count h start p p′ (o .0) (omega arith) (o′ .0) (omega arith) (o .1) (o′ .1)
-  head-place d (map _ _) h start p n p′ n′ end vs ws e e′ l o o′ = same-count h start p p′ (o .0) (omega arith) (o′ .0) (omega arith) (o .1) (o′ .1)
+  head-place d (map _ _) h start p n p′ n′ end vs ws e e′ l o o′ = same-count h start p p′ (o .0) (omega arith) (o′ .0) (omega arith) (o .1 .0) (o′ .1 .0)
   head-place d unknown h start p n p′ n′ end vs ws e e′ l o o′ = absurd o
   head-place d (scalar _) h start p n p′ n′ end vs ws e e′ l o o′ = absurd o
   head-place d (text _) h start p n p′ n′ end vs ws e e′ l o o′ = absurd o
@@ -214,11 +215,11 @@ module _ (S : ℕ → Shape) (solid : (t : ℕ) → Solid (S t)) (B : List ℕ) 
 
 -- ---- the answer
 
-module _ (S : ℕ → Shape) (t : ℕ) (payload : List ℕ) (room : ℕ) (rs : List Row) (place n : ℕ) where
+module _ (S : ℕ → Shape) (t : ℕ) (payload : List ℕ) (room : ℕ) (rs : List Row) (place n due : ℕ) where
   -- What is accepted delimits the payload.
-  pub read-delimited : reading room (rootOf S t payload) ≡ accepted rs place n → Delimited S t payload room rs place n
+  pub read-delimited : reading S t room (rootOf S t payload) ≡ accepted rs place n due → Delimited S t payload room rs place n due
   read-delimited e =
-      let a = accepts S t payload room rs place n e in
+      let a = accepts S t payload room rs place n due e in
       let f = seen-end (root-placed payload S t (a .fs) (cursorAt payload 0) (refl, zero-le)) (a .reads) in
       let l = root-in S t (a .fs) payload (a .tree) (a .end) (a .reads) .1 in (
         a .fs,
@@ -228,6 +229,7 @@ module _ (S : ℕ → Shape) (t : ℕ) (payload : List ℕ) (room : ℕ) (rs : L
         f .1,
         rw (a .has-place) at (root-delimits payload S t (a .fs) (a .tree) (a .end) (a .reads)),
         omega (arith, l, a .has-place, a .has-length),
+        a .has-due,
         a .short,
         a .fits,
       )
@@ -238,12 +240,12 @@ module _ (S : ℕ → Shape) (t : ℕ) (payload : List ℕ) (room : ℕ) (rs : L
   root-spelled fs (branch r h ts) d = d .0
 
   -- And what delimits the payload is accepted: no other rows do.
-  pub delimited-read : ((t : ℕ) → Solid (S t)) → Delimited S t payload room rs place n → reading room (rootOf S t payload) ≡ accepted rs place n
-  delimited-read solid (fs, tree, st, h, f, d, l, short, fits) =
+  pub delimited-read : ((t : ℕ) → Solid (S t)) → Delimited S t payload room rs place n due → reading S t room (rootOf S t payload) ≡ accepted rs place n due
+  delimited-read solid (fs, tree, st, h, f, d, l, c, short, fits) =
       let (read, end, e, _) = yields-end (root-complete S t fs solid (value tree) (drop place payload) (cursorAt payload 0) (root-spelled fs tree d)) in
       let g = seen-end (root-placed payload S t fs (cursorAt payload 0) (refl, zero-le)) e .1 in
       let w = determined S solid payload t fs read tree (end .at) place g f (root-delimits payload S t fs read end e) d in
-      accepted-of S t payload room rs place n (record {
+      accepted-of S t payload room rs place n due (record {
         fs = fs;
         tree = read;
         end = end;
@@ -252,6 +254,7 @@ module _ (S : ℕ → Shape) (t : ℕ) (payload : List ℕ) (room : ℕ) (rs : L
         has-rows = ap rows (w .0) ∙ h;
         has-place = w .1;
         has-length = omega (arith, root-in S t fs payload read end e .1, w .1);
+        has-due = ap (λ (x : Tree). comparisons S (value x) t) (w .0) ∙ c;
         short = short;
         fits = fits;
       })

@@ -35,7 +35,7 @@ bitmap-is fs m u b q = sym (bytes-little u b) ∙ ap₂ bytes (q .0) (q .1)
 
 head-is : (s : Shape) (h : ℕ) (u : List ℕ) → Bytes u → HeadSpells s h u → u ≡ headBytes s h
 head-is (array _) h u b q = spelled-is h u b q
-head-is (map _ _) h u b q = spelled-is h u b q
+head-is (map _ _) h u b q = spelled-is h u b (q .0)
 head-is (struct fs) m u b q = bitmap-is fs m u b (q .0)
 head-is unknown h u b q = absurd q
 head-is (scalar _) h u b q = absurd q

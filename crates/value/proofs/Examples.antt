@@ -2,7 +2,7 @@
 -- Assumes nothing.
 use mathlib.Core.Path.{_≡_, refl}
 use mathlib.Core.List.{List, [], _∷_, _++_, map}
-use Prim.Native.Nat.{ℕ}
+use Prim.Native.Nat.{ℕ, zero, suc, _+_}
 use lib.Count.{onesIn}
 use lib.ListN.{replicate}
 use Rattle.wire.specs.Little as little
@@ -15,6 +15,7 @@ use Rattle.schema.specs.Table.{Table}
 use Rattle.value.specs.declared.Row.{Row}
 use Rattle.value.specs.Answer as answer
 use Rattle.value.specs.Value as value
+use Rattle.value.specs.Comparisons as comparisons
 use Rattle.value.specs.Read as read
 use Rattle.value.specs.Read.{Reading, refusal, accepted}
 use Rattle.value.specs.Spell as spell
@@ -40,8 +41,17 @@ pub record Case : Type 0 where
 abbrev case : ℕ → List ℕ → ℕ → Reading → Case
 case t p n a = record { type = t; payload = p; room = n; answer = a }
 
+-- The answer to a case, and those to several.
+unfoldable pub answered : Table → Case → Reading
+unfolding read.read read.rootStruct read.ending onesIn read.parse read.walk read.bitmap read.count read.present read.complete table.shape value.rows value.value comparisons.comparisons comparisons.due
+answered T c = read.read T (c .type) (c .payload) (c .room)
+
+unfoldable pub answers : Table → List Case → List Reading
+unfolding answered answer.andThen answer.check answer.block answer.varUInt little.little varuint.front varuint.groups utf8.run utf8.next utf8.leadOf utf8.rows
+answers T cases = map (answered T) cases
+
 abbrev Hold : Table → List Case → Type 0
-Hold T cases = map (λ (c : Case). read.read T (c .type) (c .payload) (c .room)) cases ≡ map (λ (c : Case). c .answer) cases
+Hold T cases = answers T cases ≡ map (λ (c : Case). c .answer) cases
 
 -- 01's table T, and P1 to P10.
 unfoldable pub T : Table
@@ -54,12 +64,12 @@ T = record {
 abbrev worked : List Case
 worked =
     case 4 (0x01 ∷ 0x02 ∷ 0x03 ∷ 0x07 ∷ 0x02 ∷ 0x6F ∷ 0x6B ∷ 0x01 ∷ 0x00 ∷ []) 4096
-    (accepted (row 4 0 9 1 ∷ row 3 2 7 2 ∷ row 2 2 5 2 ∷ row 0 3 1 0 ∷ row 1 5 2 0 ∷ row 2 7 2 1 ∷ row 0 8 1 0 ∷ []) 9 0)
-    ∷ case 4 (0x01 ∷ 0x00 ∷ []) 4096 (accepted (row 4 0 2 1 ∷ row 3 2 0 0 ∷ []) 2 0)
+    (accepted (row 4 0 9 1 ∷ row 3 2 7 2 ∷ row 2 2 5 2 ∷ row 0 3 1 0 ∷ row 1 5 2 0 ∷ row 2 7 2 1 ∷ row 0 8 1 0 ∷ []) 9 0 0)
+    ∷ case 4 (0x01 ∷ 0x00 ∷ []) 4096 (accepted (row 4 0 2 1 ∷ row 3 2 0 0 ∷ []) 2 0 0)
     ∷ case 4 [] 4096 (refusal 20 0)
     ∷ case 4 (0x00 ∷ []) 4096 (refusal 25 0)
     ∷ case 4 (0x01 ∷ 0x02 ∷ 0x05 ∷ 0x00 ∷ 0x05 ∷ 0x01 ∷ 0x07 ∷ []) 4096 (refusal 26 2)
-    ∷ case 4 (0x05 ∷ 0x01 ∷ 0x01 ∷ 0x07 ∷ 0x09 ∷ []) 4096 (accepted (row 4 0 4 1 ∷ row 3 2 2 1 ∷ row 2 2 2 1 ∷ row 0 3 1 0 ∷ []) 4 1)
+    ∷ case 4 (0x05 ∷ 0x01 ∷ 0x01 ∷ 0x07 ∷ 0x09 ∷ []) 4096 (accepted (row 4 0 4 1 ∷ row 3 2 2 1 ∷ row 2 2 2 1 ∷ row 0 3 1 0 ∷ []) 4 1 0)
     ∷ case 4 (0x01 ∷ 0x01 ∷ 0x01 ∷ 0x07 ∷ 0x09 ∷ []) 4096 (refusal 27 4)
     ∷ case 4 (0x05 ∷ 0x01 ∷ 0x01 ∷ 0x07 ∷ []) 4096 (refusal 20 4)
     ∷ case 4 (0x01 ∷ 0x80 ∷ 0x00 ∷ []) 4096 (refusal 21 1)
@@ -67,7 +77,7 @@ worked =
     ∷ []
 
 pub p1-to-p10 : Hold T worked
-unfolding T read.read read.rootStruct read.ending onesIn read.parse read.walk read.bitmap read.count read.present read.complete table.shape answer.andThen answer.check answer.block answer.varUInt little.little varuint.front varuint.groups utf8.run utf8.next utf8.leadOf utf8.rows value.rows value.value
+unfolding T answers
 p1-to-p10 = refl
 
 -- T with a field added to the struct inside the answer's array, and T with one added to the answer itself. Both are an optional uint8.
@@ -88,14 +98,14 @@ rootAdded = record {
 -- By the new tables P5 and P6 have no unknown bit. By T, P5 is 26 at the bitmap of the first struct that carries the field, and P6 has a tail.
 pub inner-added : Hold innerAdded
     (case 4 (0x01 ∷ 0x02 ∷ 0x05 ∷ 0x00 ∷ 0x05 ∷ 0x01 ∷ 0x07 ∷ []) 4096
-    (accepted (row 4 0 7 1 ∷ row 3 2 5 2 ∷ row 2 2 3 2 ∷ row 0 3 1 0 ∷ row 0 4 1 0 ∷ row 2 5 2 1 ∷ row 0 6 1 0 ∷ []) 7 0) ∷ [])
-unfolding innerAdded read.read read.rootStruct read.ending onesIn read.parse read.walk read.bitmap read.count read.present read.complete table.shape answer.andThen answer.check answer.block answer.varUInt little.little varuint.front varuint.groups utf8.run utf8.next utf8.leadOf utf8.rows value.rows value.value
+    (accepted (row 4 0 7 1 ∷ row 3 2 5 2 ∷ row 2 2 3 2 ∷ row 0 3 1 0 ∷ row 0 4 1 0 ∷ row 2 5 2 1 ∷ row 0 6 1 0 ∷ []) 7 0 0) ∷ [])
+unfolding innerAdded answers
 inner-added = refl
 
 pub root-added : Hold rootAdded
     (case 4 (0x05 ∷ 0x01 ∷ 0x01 ∷ 0x07 ∷ 0x09 ∷ []) 4096
-    (accepted (row 4 0 5 2 ∷ row 3 2 2 1 ∷ row 2 2 2 1 ∷ row 0 3 1 0 ∷ row 0 4 1 0 ∷ []) 5 0) ∷ [])
-unfolding rootAdded read.read read.rootStruct read.ending onesIn read.parse read.walk read.bitmap read.count read.present read.complete table.shape answer.andThen answer.check answer.block answer.varUInt little.little varuint.front varuint.groups utf8.run utf8.next utf8.leadOf utf8.rows value.rows value.value
+    (accepted (row 4 0 5 2 ∷ row 3 2 2 1 ∷ row 2 2 2 1 ∷ row 0 3 1 0 ∷ row 0 4 1 0 ∷ []) 5 0 0) ∷ [])
+unfolding rootAdded answers
 root-added = refl
 
 -- 0 bool, 1 uint8, 2 string, 3 map of string to uint8, 4 array of itself, 5 struct (optional 5, 3, 2, 0, 4, 6), 6 struct of nine fields, the first
@@ -114,7 +124,7 @@ faults =
     ∷ case 5 (0x20 ∷ 0x00 ∷ 0x01 ∷ []) 9 (refusal 25 1)
     ∷ case 5 (0x20 ∷ 0x00 ∷ 0xFE ∷ []) 9 (refusal 25 1)
     ∷ case 5 (0x20 ∷ 0x01 ∷ 0x02 ∷ 0x07 ∷ []) 9 (refusal 26 1)
-    ∷ case 5 (0x20 ∷ 0x01 ∷ 0x01 ∷ 0x07 ∷ 0x01 ∷ []) 9 (accepted (row 5 0 5 1 ∷ row 6 1 4 2 ∷ row 1 3 1 0 ∷ row 0 4 1 0 ∷ []) 5 0)
+    ∷ case 5 (0x20 ∷ 0x01 ∷ 0x01 ∷ 0x07 ∷ 0x01 ∷ []) 9 (accepted (row 5 0 5 1 ∷ row 6 1 4 2 ∷ row 1 3 1 0 ∷ row 0 4 1 0 ∷ []) 5 0 0)
     -- A scalar that is missing; a bool.
     ∷ case 5 (0x08 ∷ []) 9 (refusal 20 1)
     ∷ case 5 (0x08 ∷ 0x02 ∷ []) 9 (refusal 22 1)
@@ -140,10 +150,10 @@ faults =
     ∷ case 5 (0x02 ∷ 0x02 ∷ 0x01 ∷ 0x61 ∷ 0x05 ∷ 0x01 ∷ 0x61 ∷ []) 9 (refusal 24 5)
     ∷ case 5 (0x02 ∷ 0x02 ∷ 0x01 ∷ 0x61 ∷ 0x05 ∷ 0x81 ∷ 0x00 ∷ 0x61 ∷ []) 9 (refusal 21 5)
     ∷ case 5 (0x02 ∷ 0x02 ∷ 0x01 ∷ 0x61 ∷ 0x05 ∷ 0x01 ∷ 0x62 ∷ 0x06 ∷ []) 9
-    (accepted (row 5 0 8 1 ∷ row 3 2 6 2 ∷ row 2 3 1 0 ∷ row 1 4 1 0 ∷ row 2 6 1 0 ∷ row 1 7 1 0 ∷ []) 8 0)
+    (accepted (row 5 0 8 1 ∷ row 3 2 6 2 ∷ row 2 3 1 0 ∷ row 1 4 1 0 ∷ row 2 6 1 0 ∷ row 1 7 1 0 ∷ []) 8 0 1)
     -- The tail: a byte for each unknown bit, which is not read. Surplus bytes without one.
     ∷ case 5 (0xC0 ∷ 0x09 ∷ []) 9 (refusal 20 1)
-    ∷ case 5 (0xC0 ∷ 0x80 ∷ 0x00 ∷ []) 9 (accepted (row 5 0 1 0 ∷ []) 1 2)
+    ∷ case 5 (0xC0 ∷ 0x80 ∷ 0x00 ∷ []) 9 (accepted (row 5 0 1 0 ∷ []) 1 2 0)
     ∷ case 5 (0x00 ∷ 0x09 ∷ []) 9 (refusal 27 1)
     -- Depth 16 is allowed. 28 comes before a missing child, and a count above what remains before 28.
     ∷ case 5 (replicate 15 0x01 ++ (0x00 ∷ [])) 15 (refusal 30 0)
@@ -159,8 +169,78 @@ faults =
     ∷ []
 
 pub read-faults : Hold U faults
-unfolding U read.read read.rootStruct read.ending onesIn read.parse read.walk read.bitmap read.count read.present read.complete table.shape answer.andThen answer.check answer.block answer.varUInt little.little varuint.front varuint.groups utf8.run utf8.next utf8.leadOf utf8.rows value.rows value.value
+unfolding U answers
 read-faults = refl
+
+abbrev limits : List Case
+limits =
+    -- 65 pairs are refused at the count: after 20 and 21, and before what a key shows, a repeated one's 24 and a deep one's 28. The map's own 28 comes first.
+    case 5 (0x02 ∷ 0x41 ∷ replicate 130 0x00) 0 (refusal 31 1)
+    ∷ case 5 (0x02 ∷ 0x41 ∷ replicate 129 0x00) 0 (refusal 20 1)
+    ∷ case 5 (0x02 ∷ 0xC1 ∷ 0x00 ∷ replicate 130 0x00) 0 (refusal 21 1)
+    ∷ case 5 (replicate 15 0x01 ++ (0x02 ∷ 0x41 ∷ replicate 130 0x00)) 0 (refusal 28 16)
+    ∷ case 5 (replicate 14 0x01 ++ (0x02 ∷ 0x41 ∷ replicate 130 0x00)) 0 (refusal 31 15)
+    ∷ case 5 (0x02 ∷ 0x40 ∷ replicate 128 0x00) 0 (refusal 24 4)
+    ∷ case 5 (replicate 14 0x01 ++ (0x02 ∷ 0x40 ∷ replicate 128 0x00)) 0 (refusal 28 16)
+    ∷ []
+
+pub read-limits : Hold U limits
+unfolding U answers
+read-limits = refl
+
+-- n pairs of a string of one byte, from k up, and a zero, and their rows from a place on.
+abbrev pairBytes : (n k : ℕ) → List ℕ
+pairBytes zero k = []
+pairBytes (suc n) k = 0x01 ∷ k ∷ 0x00 ∷ pairBytes n (k + 1)
+
+abbrev pairRows : (n place : ℕ) → List Row
+pairRows zero p = []
+pairRows (suc n) p = row 2 (p + 1) 1 0 ∷ row 1 (p + 2) 1 0 ∷ pairRows n (p + 3)
+
+-- 64 pairs are allowed, with 2,016 comparisons, and 65 are not.
+abbrev full : List Case
+full =
+    case 5 (0x02 ∷ 0x40 ∷ pairBytes 64 0) 130 (accepted (row 5 0 194 1 ∷ row 3 2 192 64 ∷ pairRows 64 2) 194 0 2016)
+    ∷ case 5 (0x02 ∷ 0x41 ∷ pairBytes 65 0) 132 (refusal 31 1)
+    ∷ []
+
+pub read-full : Hold U full
+unfolding U answers
+read-full = refl
+
+-- 0 uint8, 1 map of uint8 to uint8, 2 map of uint8 to 1, 3 array of 1, 4 struct (optional 1, 2, 3).
+unfoldable pub M : Table
+M = record {
+  types = type 6 0 0 ∷ type 15 0 0 ∷ type 15 0 1 ∷ type 14 1 0 ∷ type 16 0 3 ∷ [];
+  fields = field 1 1 ∷ field 2 1 ∷ field 3 1 ∷ [];
+  methods = [];
+}
+
+-- The rows of n uint8, from a place up.
+abbrev uint8s : (n place : ℕ) → List Row
+uint8s zero p = []
+uint8s (suc n) p = row 0 p 1 0 ∷ uint8s n (p + 1)
+
+abbrev keys : List Case
+keys =
+    -- No key, and one alone: no comparison. Two: one. Three: three.
+    case 4 (0x01 ∷ 0x00 ∷ []) 9 (accepted (row 4 0 2 1 ∷ row 1 2 0 0 ∷ []) 2 0 0)
+    ∷ case 4 (0x01 ∷ 0x01 ∷ 0x05 ∷ 0x06 ∷ []) 9 (accepted (row 4 0 4 1 ∷ row 1 2 2 1 ∷ uint8s 2 2) 4 0 0)
+    ∷ case 4 (0x01 ∷ 0x02 ∷ 0x05 ∷ 0x06 ∷ 0x07 ∷ 0x08 ∷ []) 9 (accepted (row 4 0 6 1 ∷ row 1 2 4 2 ∷ uint8s 4 2) 6 0 1)
+    ∷ case 4 (0x01 ∷ 0x03 ∷ 0x05 ∷ 0x06 ∷ 0x07 ∷ 0x08 ∷ 0x09 ∷ 0x0A ∷ []) 9 (accepted (row 4 0 8 1 ∷ row 1 2 6 3 ∷ uint8s 6 2) 8 0 3)
+    -- Two maps in a map: 1 and 3 and 1. Keys of different maps are not compared.
+    ∷ case 4 (0x02 ∷ 0x02 ∷ 0x07 ∷ 0x03 ∷ 0x01 ∷ 0x00 ∷ 0x02 ∷ 0x00 ∷ 0x03 ∷ 0x00 ∷ 0x08 ∷ 0x02 ∷ 0x01 ∷ 0x00 ∷ 0x02 ∷ 0x00 ∷ []) 99
+    (accepted (row 4 0 16 1 ∷ row 2 2 14 2 ∷ row 0 2 1 0 ∷ row 1 4 6 3 ∷ (uint8s 6 4 ++ (row 0 10 1 0 ∷ row 1 12 4 2 ∷ uint8s 4 12))) 16 0 5)
+    -- A map, and two in an array: 1 and 3 and 0.
+    ∷ case 4 (0x05 ∷ 0x02 ∷ 0x01 ∷ 0x00 ∷ 0x02 ∷ 0x00 ∷ 0x02 ∷ 0x03 ∷ 0x01 ∷ 0x00 ∷ 0x02 ∷ 0x00 ∷ 0x03 ∷ 0x00 ∷ 0x00 ∷ []) 99
+    (accepted (row 4 0 15 2 ∷ row 1 2 4 2 ∷ (uint8s 4 2 ++ (row 3 7 8 2 ∷ row 1 8 6 3 ∷ (uint8s 6 8 ++ (row 1 15 0 0 ∷ []))))) 15 0 4)
+    -- The tail is not read, though it looks like a map.
+    ∷ case 4 (0x09 ∷ 0x02 ∷ 0x01 ∷ 0x00 ∷ 0x02 ∷ 0x00 ∷ 0x02 ∷ 0x01 ∷ 0x00 ∷ 0x02 ∷ 0x00 ∷ []) 99 (accepted (row 4 0 6 1 ∷ row 1 2 4 2 ∷ uint8s 4 2) 6 5 1)
+    ∷ []
+
+pub read-keys : Hold M keys
+unfolding M answers
+read-keys = refl
 
 -- ---- the writer: a type, a sheet, its bytes, the room for the output and the answer
 pub record Sheet : Type 0 where
@@ -173,14 +253,24 @@ pub record Sheet : Type 0 where
 abbrev sheet : ℕ → List Row → List ℕ → ℕ → Writing → Sheet
 sheet t rs B room w = record { type = t; rows = rs; over = B; room = room; answer = w }
 
--- T, and after it: 5 bool, 6 map of string to bool, 7 struct (bool, optional map), 8 struct (optional 8), 9 bytes, 10 struct (bytes).
+-- T, and after it: 5 bool, 6 map of string to bool, 7 struct (bool, optional map), 8 struct (optional 8, optional 6), 9 bytes, 10 struct (bytes).
 unfoldable pub W : Table
 W = record {
   types =
-      type 6 0 0 ∷ type 12 0 0 ∷ type 16 0 2 ∷ type 14 2 0 ∷ type 16 2 2 ∷ type 1 0 0 ∷ type 15 1 5 ∷ type 16 4 2 ∷ type 16 6 1 ∷ type 13 0 0 ∷ type 16 7 1 ∷ [];
-  fields = field 0 0 ∷ field 1 1 ∷ field 3 0 ∷ field 0 1 ∷ field 5 0 ∷ field 6 1 ∷ field 8 1 ∷ field 9 0 ∷ [];
+      type 6 0 0 ∷ type 12 0 0 ∷ type 16 0 2 ∷ type 14 2 0 ∷ type 16 2 2 ∷ type 1 0 0 ∷ type 15 1 5 ∷ type 16 4 2 ∷ type 16 6 2 ∷ type 13 0 0 ∷ type 16 8 1 ∷ [];
+  fields = field 0 0 ∷ field 1 1 ∷ field 3 0 ∷ field 0 1 ∷ field 5 0 ∷ field 6 1 ∷ field 8 1 ∷ field 6 1 ∷ field 9 0 ∷ [];
   methods = [];
 }
+
+-- The rows of n pairs: a string of one byte, from a place up, and the bool at place 1.
+abbrev keyRows : (n place : ℕ) → List Row
+keyRows zero p = []
+keyRows (suc n) p = row 1 p 1 0 ∷ row 5 1 1 0 ∷ keyRows n (p + 1)
+
+-- n bytes, from k up.
+abbrev rising : (n k : ℕ) → List ℕ
+rising zero k = []
+rising (suc n) k = k ∷ rising n (k + 1)
 
 abbrev sheets : List Sheet
 sheets =
@@ -213,6 +303,14 @@ sheets =
     ∷ sheet 4 (row 4 0 2 2 ∷ row 3 2 0 0 ∷ []) (0x01 ∷ 0x00 ∷ []) 9 (unwritten 50 0)
     -- A key that was there before, though the row of its value is missing.
     ∷ sheet 7 (row 7 0 0 2 ∷ row 5 1 1 0 ∷ row 6 0 0 2 ∷ row 1 2 1 0 ∷ row 5 1 1 0 ∷ row 1 2 1 0 ∷ []) (0x03 ∷ 0x00 ∷ 0x61 ∷ []) 9 (unwritten 24 5)
+    -- 64 pairs are allowed. 65 are refused at the map's row: after 50 for its type, and before the first key's row, a missing one or one that is too deep.
+    ∷ sheet 7 (row 7 0 0 2 ∷ row 5 1 1 0 ∷ row 6 0 0 64 ∷ keyRows 64 2) (0x03 ∷ 0x00 ∷ rising 64 0) 195 (written (0x03 ∷ 0x00 ∷ 0x40 ∷ pairBytes 64 0))
+    ∷ sheet 7 (row 7 0 0 2 ∷ row 5 1 1 0 ∷ row 6 0 0 65 ∷ keyRows 65 2) (0x03 ∷ 0x00 ∷ rising 65 0) 198 (unwritten 31 2)
+    ∷ sheet 7 (row 7 0 0 2 ∷ row 5 1 1 0 ∷ row 3 0 0 65 ∷ []) (0x03 ∷ 0x00 ∷ []) 9 (unwritten 50 2)
+    ∷ sheet 7 (row 7 0 0 2 ∷ row 5 1 1 0 ∷ row 6 0 0 65 ∷ []) (0x03 ∷ 0x00 ∷ []) 9 (unwritten 31 2)
+    ∷ sheet 7 (row 7 0 0 2 ∷ row 5 1 1 0 ∷ row 6 0 0 64 ∷ []) (0x03 ∷ 0x00 ∷ []) 9 (unwritten 50 3)
+    ∷ sheet 8 (replicate 14 (row 8 0 0 1) ++ (row 8 1 0 1 ∷ row 6 0 0 65 ∷ [])) (0x01 ∷ 0x02 ∷ []) 99 (unwritten 31 15)
+    ∷ sheet 8 (replicate 14 (row 8 0 0 1) ++ (row 8 1 0 1 ∷ row 6 0 0 64 ∷ [])) (0x01 ∷ 0x02 ∷ []) 99 (unwritten 28 16)
     -- Depth 17, though its row is missing; a row missing at depth 16.
     ∷ sheet 8 (replicate 16 (row 8 0 0 1)) (0x01 ∷ []) 99 (unwritten 28 16)
     ∷ sheet 8 (replicate 15 (row 8 0 0 1)) (0x01 ∷ []) 99 (unwritten 50 15)

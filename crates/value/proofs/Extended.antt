@@ -17,6 +17,7 @@ use Rattle.schema.specs.Table.{Shape, struct, bitmapBytes}
 use Rattle.value.specs.declared.Row.{Row}
 use Rattle.value.specs.Answer.{Cursor, seen, cursorAt}
 use Rattle.value.specs.Value.{Value, node, Values, none as empty, some as and, Tree, tip, branch, Forest, rows, value, values}
+use Rattle.value.specs.Comparisons.{comparisons}
 use Rattle.value.specs.Read.{Item, present, rootOf, rootStruct, refusal, accepted, reading}
 use Rattle.value.specs.Spell.{AllSpell, Spells, RootSpells}
 use Rattle.value.proofs.Shapes.{FieldsBelow, Optional, Extension}
@@ -28,6 +29,7 @@ use Rattle.value.proofs.Answers.{seen-end, yields-end}
 use Rattle.value.proofs.Bits.{present-mod, present-none}
 use Rattle.value.proofs.Root.{root-sound, root-complete}
 use Rattle.value.proofs.TwoTables.{outcome}
+use Rattle.value.proofs.Comparisons.{root-same}
 use Rattle.value.proofs.Without.{_⧺_, trees, spelled-kept, without-first, after-first}
 use Rattle.value.proofs.RootTables.{rootTree, OldSays, new-then-old-root, old-then-new-root, tailless}
 use Rattle.value.proofs.Reading.{as-root, accepts, accepted-of, root-in}
@@ -71,7 +73,7 @@ module _ (S S′ : ℕ → Shape) (n : ℕ) (x : Extension S S′ n) (t : ℕ) (
 
   module _ (payload : List ℕ) (room : ℕ) where
     abbrev Answered : Value → Option ℕ → Type 0
-    Answered v f = ByOld S S′ t fs gs payload room v (reading room (rootOf S t payload)) f
+    Answered v f = ByOld S S′ t fs gs payload room v (reading S t room (rootOf S t payload)) f
 
     -- The old root's value is the new one's without the added fields.
     kept-value : (r : Row) (h : ℕ) (us vs : Forest) (c′ : Cursor) → trees us ≡ length (present fs h)
@@ -106,16 +108,19 @@ module _ (S S′ : ℕ → Shape) (n : ℕ) (x : Extension S S′ n) (t : ℕ) (
             let (known, e, m) = split h us c′ a in
             let e′ : c′ .left ≡ w = rw (none-left, append-nil) at k in
             let i = root-in S t fs payload (rootTree t fs 0 h us c′) c′ a in
-            let b : values vs ≡ addedValues fs (node h (values ts)) = rw s (sym (after-first us vs (length (present fs h)) z)) in (
-              rows (rootTree t fs 0 h us c′),
+            let b : values vs ≡ addedValues fs (node h (values ts)) = rw s (sym (after-first us vs (length (present fs h)) z)) in
+            let rs = rows (rootTree t fs 0 h us c′) in
+            let u : value (rootTree t fs 0 h us c′) ≡ without S (value (branch r h ts)) t = rw s (kept-value r h us vs c′ z a) in (
+              rs,
               known,
               w,
               e ∙ ap (λ (y : List ℕ). known ++ y) e′,
               rw b at q,
               λ f. no-added (Spells S′ 15) h (values vs) w f q,
-              rw (kept-value r h us vs c′ z a, ← s) at (i .0),
-              as-root S t payload room fs st short ∙ ap (reading room) a
-                  ∙ ap₂ (λ (i : ℕ) (y : List ℕ). cond (leb (length (rows (rootTree t fs 0 h us c′))) room) (accepted (rows (rootTree t fs 0 h us c′)) i (length y)) (refusal 30 0)) m e′,
+              rw u at (i .0),
+              as-root S t payload room fs st short ∙ ap (reading S t room) a
+                  ∙ ap₂ (λ (i : ℕ) (y : List ℕ). cond (leb (length rs) room) (accepted rs i (length y) (comparisons S (value (rootTree t fs 0 h us c′)) t)) (refusal 30 0)) m e′
+                  ∙ ap (λ (y : Value). cond (leb (length rs) room) (accepted rs (length known) (length w) (comparisons S y t)) (refusal 30 0)) u,
             )
 
     -- The old reader's answer for a value that the new rules allow, without unknown bits; the tree has its places.
@@ -132,34 +137,36 @@ module _ (S S′ : ℕ → Shape) (n : ℕ) (x : Extension S S′ n) (t : ℕ) (
         go (branch r h ts) end z o = answer r h ts end short z o
 
     -- 26 is answered exactly for an inner struct that carries an added field, at the first.
-    pub refused-iff : (v : Value) (f : Option ℕ) → Answered v f → (p : ℕ) → (reading room (rootOf S t payload) ≡ refusal 26 p) ↔ (f ≡ some p)
+    pub refused-iff : (v : Value) (f : Option ℕ) → Answered v f → (p : ℕ) → (reading S t room (rootOf S t payload) ≡ refusal 26 p) ↔ (f ≡ some p)
     refused-iff v (some p′) a p = (λ e. cc, λ e. a ∙ cc)
     refused-iff v none (rs, known, added, k, q, z, s, a) p = (λ e. go (leb (length rs) room) (sym a ∙ e), λ e. differ cc)
       where
-        go : (b : Bool) → cond b (accepted rs (length known) (length added)) (refusal 30 0) ≡ refusal 26 p → none ≡ some p
+        go : (b : Bool) → cond b (accepted rs (length known) (length added) (comparisons S (without S v t) t)) (refusal 30 0) ≡ refusal 26 p → none ≡ some p
         go true e = differ cc
         go false e = absurd (let z : _≡_ {A = ℕ} 30 26 = cc in omega arith)
 
     -- ---- from the old table to the new one
 
-    -- What the old reader accepts, with no added field's bit set, the new one accepts with the same rows and tail; the rows show the same value.
-    pub old-by-new : (rs : List Row) (place k : ℕ) → reading room (rootOf S t payload) ≡ accepted rs place k → NoneAdded fs gs payload
-        → (reading room (rootOf S′ t payload) ≡ accepted rs place k)
+    -- What the old reader accepts, with no added field's bit set, the new one accepts with the same rows, tail and comparisons; the rows show the same
+    -- value.
+    pub old-by-new : (rs : List Row) (place k due : ℕ) → reading S t room (rootOf S t payload) ≡ accepted rs place k due → NoneAdded fs gs payload
+        → (reading S′ t room (rootOf S′ t payload) ≡ accepted rs place k due)
         × ((v : Value) × Shows S payload t fs rs v × Shows S′ payload t (fs ++ gs) rs v)
-    old-by-new rs place k₀ e bare =
-        let a = accepts S t payload room rs place k₀ e in
+    old-by-new rs place k₀ due e bare =
+        let a = accepts S t payload room rs place k₀ due e in
         let f : a .fs ≡ fs = cc (a .is-struct) in
         let k : rootStruct S t fs (cursorAt payload 0) ≡ seen (a .tree) (a .end) = rw f at (a .reads) in
-        let k′ = seen-end (old-then-new-root S S′ n x t fs gs below (gained .0) (gained .1) (cursorAt payload 0)) k bare in (
-          accepted-of S′ t payload room rs place k₀
-              (record { fs = fs ++ gs; tree = a .tree; end = a .end; is-struct = st′; reads = k′; has-rows = a .has-rows; has-place = a .has-place; has-length = a .has-length; short = a .short; fits = a .fits }),
+        let k′ = seen-end (old-then-new-root S S′ n x t fs gs below (gained .0) (gained .1) (cursorAt payload 0)) k bare in
+        let d = root-same S S′ n x t l fs gs st st′ (value (a .tree)) payload (a .end .left) (seen-end (root-sound S t fs (cursorAt payload 0)) k) in (
+          accepted-of S′ t payload room rs place k₀ due
+              (record { fs = fs ++ gs; tree = a .tree; end = a .end; is-struct = st′; reads = k′; has-rows = a .has-rows; has-place = a .has-place; has-length = a .has-length; has-due = d ∙ a .has-due; short = a .short; fits = a .fits }),
           (value (a .tree), rw (a .has-rows) at (root-in S t fs payload (a .tree) (a .end) k .0), rw (a .has-rows) at (root-in S′ t (fs ++ gs) payload (a .tree) (a .end) k′ .0)),
         )
 
     -- No added field's bit is set where the old reader accepts without a tail.
-    pub none-added : (rs : List Row) (place : ℕ) → reading room (rootOf S t payload) ≡ accepted rs place 0 → NoneAdded fs gs payload
-    none-added rs place e =
-        let a = accepts S t payload room rs place 0 e in
+    pub none-added : (rs : List Row) (place due : ℕ) → reading S t room (rootOf S t payload) ≡ accepted rs place 0 due → NoneAdded fs gs payload
+    none-added rs place due e =
+        let a = accepts S t payload room rs place 0 due e in
         let f : a .fs ≡ fs = cc (a .is-struct) in
         let k : rootStruct S t fs (cursorAt payload 0) ≡ seen (a .tree) (a .end) = rw f at (a .reads) in
         seen-end (tailless S S′ n x t fs gs below (gained .0) (gained .1) (cursorAt payload 0)) k (a .has-length)

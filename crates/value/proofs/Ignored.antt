@@ -69,7 +69,7 @@ module _ (S : ℕ → Shape) where
     says-both (text _) p n c rs rs′ k l =
         both-check _ _ _ rs rs′ k _ _ (λ _. both-check _ _ _ rs rs′ k _ _ (λ _. both-check _ _ _ rs rs′ k _ _ (λ _. accept rs rs′ k refl l)))
     says-both (array _) p n c rs rs′ k l = accept rs rs′ k refl l
-    says-both (map _ _) p n c rs rs′ k l = accept rs rs′ k refl l
+    says-both (map _ _) p n c rs rs′ k l = both-check _ _ _ rs rs′ k _ _ (λ _. accept rs rs′ k refl l)
     says-both (struct fs) p n c rs rs′ k l =
         both-then _ _ (bits-both fs p rs rs′ k l) (λ m m′ us us′ i e u. rw (sym e) (both-check _ _ _ us us′ i _ _ (λ _. accept us us′ i refl u)))
 

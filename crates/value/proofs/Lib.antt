@@ -5,9 +5,11 @@ pub mod Spans
 pub mod Keys
 pub mod Sound
 pub mod Complete
+pub mod Many
 pub mod Encode
 pub mod Root
-pub mod Differ
+pub mod Maps
+pub mod Comparisons
 pub mod Fields
 pub mod Depths
 pub mod Shown

@@ -6,7 +6,7 @@ use Prim.Native.Nat.{ℕ, zero, suc, _+_, _-_, _≤_}
 use native.Mathlib.Omega.{arith}
 use lib.ListN.{length, drop, length-append, length-drop}
 use lib.Seq.{take-append-seam, drop-append-seam, drop-drop}
-use borrow.Author.Tests.{ltb-true, not-true}
+use borrow.Author.Tests.{ltb-true, leb-true, not-true}
 use Rattle.schema.specs.declared.Field.{Field}
 use Rattle.schema.specs.Table.{Shape, unknown, scalar, text, array, map, struct}
 use Rattle.value.specs.Answer.{Cursor, Answer, Reader, block}
@@ -69,7 +69,7 @@ module _ (B : List ℕ) where
       let p : c′ .at - length x ≡ c₁ .at = omega arith in
       holds (w .0, (refl, rw (p, w .2) (w .3), asked 12 kind _ e)))))
   own-placed (array e) c o = seen-after (count-placed _ c o) (λ n c₁ o₁. holds (o₁, refl))
-  own-placed (map a b) c o = seen-after (count-placed _ c o) (λ n c₁ o₁. holds (o₁, refl))
+  own-placed (map a b) c o = seen-after (count-placed _ c o) (λ n c₁ o₁. seen-check _ _ _ _ _ (λ e. holds (o₁, (refl, leb-true n _ e))))
   own-placed (struct fs) c o =
       seen-after (bitmap-placed fs c o) (λ m c₁ w. seen-check _ _ _ _ _ (λ e. holds (w .0, (w .1, ltb-true m _ e, refl))))
 
@@ -89,13 +89,14 @@ module _ (B : List ℕ) where
         holds {a = branch (nodeRow t start (c′ .at) (counted s h)) h ts} (w .0, (refl, q, w .1, fresh-apart (plan s h) (values ts) (w .2))))
 
   module _ (S : ℕ → Shape) where
-    parse-placed : (d t : ℕ) (c : Cursor) → On c → Seen (λ tree c′. On c′ × Fits S B d t tree) (parse S d t c)
+    -- What the reader reads at a place of a payload fits the payload.
+    pub parse-placed : (d t : ℕ) (c : Cursor) → On c → Seen (λ tree c′. On c′ × Fits S B d t tree) (parse S d t c)
     unfolding parse
     parse-placed zero t c o = nothing
     parse-placed (suc d) t c o =
         seen-after (own-placed (S t) c o) (λ own c′ w. whole-placed (Fits S B d) (parse S d) (parse-placed d) t (S t) own c′ (w .0) (w .1))
 
-    -- What the reader reads in a payload fits the payload.
+    -- And the root.
     pub root-placed : (t : ℕ) (fs : List Field) (c : Cursor) → On c → Seen (λ tree c′. On c′ × RootFits S B t fs tree) (rootStruct S t fs c)
     unfolding rootStruct
     root-placed t fs c o =

@@ -74,7 +74,7 @@ module _ (end : ℕ) where
   own-within (text _) c e =
       within-then (count-within _ c e) (λ n c₁ e₁. within-then (block-within n c₁ e₁) (λ x c′ e′. within-check _ _ _ _ _ (omega arith) (λ _. goes-on e′)))
   own-within (array _) c e = within-then (count-within _ c e) (λ n c₁ e₁. goes-on e₁)
-  own-within (map _ _) c e = within-then (count-within _ c e) (λ n c₁ e₁. goes-on e₁)
+  own-within (map _ _) c e = within-then (count-within _ c e) (λ n c₁ e₁. within-check _ _ _ _ _ (omega arith) (λ _. goes-on e₁))
   own-within (struct fs) c e = within-then (bitmap-within fs c e) (λ m c₁ e₁. within-check _ _ _ _ _ (omega arith) (λ _. goes-on e₁))
 
   module _ (p : ℕ → Reader Tree) (pp : (t : ℕ) (c : Cursor) → Upto end c → Within end (p t c)) where

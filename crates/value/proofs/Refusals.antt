@@ -26,21 +26,21 @@ use Rattle.value.proofs.Reading.{sized}
 
 module _ (T : Table) (good : GoodTable T) (t : ℕ) (payload : List ℕ) (room : ℕ) where
   data Told : Reading → Type 0 where
-    shown : {rs : List Row} {place n : ℕ} → Told (accepted rs place n)
+    shown : {rs : List Row} {place n due : ℕ} → Told (accepted rs place n due)
     refuses-by : {n p : ℕ} → Listed (shape T) t payload room n p → Told (refusal n p)
 
-  fitting : (fs : List Field) (tree : Tree) (place n : ℕ) (tail : List ℕ) (b : Bool) → leb (length (rows tree)) room ≡ b → RootSpells (shape T) fs (value tree) payload tail
-      → Told (cond b (accepted (rows tree) place n) (refusal 30 0))
-  fitting fs tree place n tail true e q = shown
-  fitting fs tree place n tail false e q = refuses-by (too-few-rows fs (value tree) tail q (omega (arith, sized tree, leb-false (length (rows tree)) room e)))
+  fitting : (fs : List Field) (tree : Tree) (place n due : ℕ) (tail : List ℕ) (b : Bool) → leb (length (rows tree)) room ≡ b → RootSpells (shape T) fs (value tree) payload tail
+      → Told (cond b (accepted (rows tree) place n due) (refusal 30 0))
+  fitting fs tree place n due tail true e q = shown
+  fitting fs tree place n due tail false e q = refuses-by (too-few-rows fs (value tree) tail q (omega (arith, sized tree, leb-false (length (rows tree)) room e)))
 
   judged : (fs : List Field) (m : Answer Tree) → Within (length payload) m → Numbered m → Seen (λ tree end. RootSpells (shape T) fs (value tree) payload (end .left)) m
-      → Told (reading room m)
-  judged fs m (before {n} {p} h) (refuses low high) s = refuses-by (faulty {n = n} {p = p} low high h)
-  judged fs m (goes-on {a = tree} {c = end} h) w (holds q) = fitting fs tree (end .at) (length (end .left)) (end .left) (leb (length (rows tree)) room) refl q
+      → Told (reading (shape T) t room m)
+  judged fs m (before {n} {p} h) (refuses f) s = refuses-by (faulty {n = n} {p = p} f h)
+  judged fs m (goes-on {a = tree} {c = end} h) w (holds q) = fitting fs tree (end .at) (length (end .left)) _ (end .left) (leb (length (rows tree)) room) refl q
 
   measured : (fs : List Field) → shape T t ≡ struct fs → (b : Bool) → leb (length payload) 16384 ≡ b
-      → Told (reading room (cond b (rootStruct (shape T) t fs (cursorAt payload 0)) (refused 7 0)))
+      → Told (reading (shape T) t room (cond b (rootStruct (shape T) t fs (cursorAt payload 0)) (refused 7 0)))
   measured fs st true e =
       judged fs _ (root-within (length payload) (shape T) t fs (cursorAt payload 0) (omega arith)) (root-numbered T good t fs st (cursorAt payload 0))
       (root-sound (shape T) t fs (cursorAt payload 0))
@@ -54,7 +54,7 @@ module _ (T : Table) (good : GoodTable T) (t : ℕ) (payload : List ℕ) (room :
       other s e z = refuses-by (no-struct (λ fs k. omega (arith, ap (λ (x : Shape). onStruct {A = ℕ} x 0 (λ _. 1)) (sym e ∙ k))))
 
       go : (s : Shape) → shape T t ≡ s
-          → Told (reading room (onStruct s (refused 46 0) (λ fs. cond (leb (length payload) 16384) (rootStruct (shape T) t fs (cursorAt payload 0)) (refused 7 0))))
+          → Told (reading (shape T) t room (onStruct s (refused 46 0) (λ fs. cond (leb (length payload) 16384) (rootStruct (shape T) t fs (cursorAt payload 0)) (refused 7 0))))
       go (struct fs) e = measured fs e (leb (length payload) 16384) refl
       go unknown e = other unknown e refl
       go (scalar x) e = other (scalar x) e refl
@@ -73,5 +73,5 @@ module _ (T : Table) (good : GoodTable T) (t : ℕ) (payload : List ℕ) (room :
   pub listed-within : (n p : ℕ) → Listed (shape T) t payload room n p → p ≤ length payload
   listed-within n p (no-struct h) = zero-le
   listed-within n p (too-long h) = zero-le
-  listed-within n p (faulty low high h) = h
+  listed-within n p (faulty f h) = h
   listed-within n p (too-few-rows fs v tail q h) = zero-le

@@ -18,7 +18,7 @@ use Rattle.value.specs.Read.{Item, plan, Own, plain, parts, walk, knownB
 use Rattle.value.specs.Spell.{encode}
 use Rattle.value.specs.Write.{RowReader, nextRow, rowOf, bitsAt, says, held, show, showRoot, Writing, refusal, written, writing, sheetRoot}
 use Rattle.value.specs.Fits.{Shows}
-use Rattle.value.specs.Listed.{RowFault, no-bool, no-string, repeated-key, absent-field, too-deep, unfit, outside, SheetListed, no-struct, faulty, too-long, too-small}
+use Rattle.value.specs.Listed.{RowFault, no-bool, no-string, repeated-key, absent-field, too-deep, many-pairs, unfit, outside, SheetListed, no-struct, faulty, too-long, too-small}
 use Rattle.value.proofs.Writing.{sheet-shows}
 
 -- a cursor over the rows of a sheet that has so many
@@ -76,7 +76,7 @@ module _ (total : ℕ) where
         check-named _ 50 k c _ unfit in-sheet w (λ c₁ w₁.
         check-named _ 51 k c₁ _ outside in-sheet w₁ (λ c₂ w₂. check-named _ 23 k c₂ _ no-string in-sheet w₂ (λ c₃ w₃. goes-on w₃)))
     says-named (array _) p n count c w = goes-on w
-    says-named (map _ _) p n count c w = goes-on w
+    says-named (map _ _) p n count c w = check-named _ 31 k c _ many-pairs in-sheet w (λ c₁ w₁. goes-on w₁)
     says-named (struct fs) p n count c w =
         named-then (bits-named fs p c w) (λ m c₁ w₁. check-named _ 50 k c₁ _ unfit in-sheet w₁ (λ c₂ w₂. goes-on w₂))
 

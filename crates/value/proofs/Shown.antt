@@ -61,7 +61,7 @@ module _ (B : List ℕ) (k : ℕ) where
       reads-check _ _ _ _ _ (λ e. reads-check _ _ _ _ _ (λ e′. reads-check _ _ _ _ _ (λ e″.
       stay (refl, (eqb-true _ 0 e, (leb-true _ _ e′, refl), asked 12 kind _ e″)))))
   says-reads (array e) p n count c = stay (refl, refl)
-  says-reads (map a b) p n count c = stay (refl, refl)
+  says-reads (map a b) p n count c = reads-check _ _ _ _ _ (λ e. stay (refl, (refl, leb-true count _ e)))
   says-reads (struct fs) p n count c =
       reads-then (bits-reads fs p c) (λ m c′ u q. reads-check _ _ _ _ _ (λ e.
       let b = both _ _ e in
@@ -116,7 +116,7 @@ module _ (B : List ℕ) (k : ℕ) where
   head-says : (s : Shape) (p n count h : ℕ) (c : CursorOf Row) → HeadFits B s p count h → says B k s p n count c ≡ seen (parts 0 h) c
   unfolding andThen
   head-says (array _) p n count h c q = rw q
-  head-says (map _ _) p n count h c q = rw q
+  head-says (map _ _) p n count h c q = rw (q .0, passes _ _ _ _ (le-leb h _ (q .1)))
   head-says (struct fs) p n count h c q =
       rw (bits-complete fs h p c (q .0), passes _ _ _ _ (both-true _ _ (lt-ltb h _ (q .1)) (eq-eqb _ _ (q .2))))
   head-says unknown p n count h c q = absurd q

@@ -73,7 +73,7 @@ own-reads (text kind) c =
     reads-then (count-reads _ c) (λ n c′ v s. reads-then (block-reads n c′) (λ x c″ u q. reads-check _ _ _ _ _ (λ e.
     stay (v, rw (append-nil, q .0), rw (q .1) s, asked 12 kind _ e))))
 own-reads (array e) c = reads-then (count-reads _ c) (λ n c′ u s. stay (rw append-nil s))
-own-reads (map k v) c = reads-then (count-reads _ c) (λ n c′ u s. stay (rw append-nil s))
+own-reads (map k v) c = reads-then (count-reads _ c) (λ n c′ u s. reads-check _ _ _ _ _ (λ e. stay (rw append-nil (s, leb-true n _ e))))
 own-reads (struct fs) c =
     reads-then (bitmap-reads fs c) (λ m c′ u q. reads-check _ _ _ _ _ (λ e. stay (rw append-nil (q, ltb-true m _ e))))
 

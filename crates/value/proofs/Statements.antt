@@ -2,41 +2,45 @@
 -- Assumes nothing.
 use mathlib.Core.Path.{_≡_, refl, sym, ap, _∙_, subst}
 use mathlib.Core.Logic.{_⊎_, _↔_}
-use mathlib.Core.List.{List, [], _++_, append-nil, map as each}
+use mathlib.Core.List.{List, [], _∷_, _++_, append-nil, map as each}
 use mathlib.Core.Option.{some}
 use mathlib.Core.Bool.{true}
-use Prim.Native.Nat.{ℕ, _+_, _*_, _/_, _%_, _^_, _≤_, _<_}
+use Prim.Native.Nat.{ℕ, suc, _+_, _-_, _*_, _/_, _%_, _^_, _≤_, _<_}
 use native.Mathlib.Omega.{arith}
 use lib.ListN.{length, getD}
 use borrow.Author.Tests.{leb-true, le-leb}
 use Rattle.wire.specs.Little.{Bytes}
+use Rattle.wire.specs.Varuint.{Spelled}
 use Rattle.wire.proofs.Cases.{differ}
 use Rattle.schema.specs.declared.Field.{Field}
-use Rattle.schema.specs.Table.{Table, struct, shape, bitmapBytes}
+use Rattle.schema.specs.Table.{Table, map, struct, shape, bitmapBytes}
 use Rattle.value.specs.declared.Row.{Row}
-use Rattle.value.specs.Answer.{Cursor, seen, cursorAt}
+use Rattle.value.specs.Answer.{Cursor, CursorOf, refused, seen, cursorAt}
 use Rattle.value.specs.Value.{Tree, Value, node, Values, value, depth}
+use Rattle.value.specs.Comparisons.{due, mapDue, comparisons, rowsDue, pairsAmong}
 use Rattle.value.specs.Read.{plainItem, present, plan, complete, rootBits, knownBits, unknownBits, parse, rootStruct, refusal, accepted, read}
-use Rattle.value.specs.Spell.{BitmapSpells, AllSpell, Spells, TailFits, RootSpells, KeysDiffer, encode}
+use Rattle.value.specs.Spell.{BitmapSpells, AllSpell, keysOf, Spells, TailFits, RootSpells, KeysDiffer, MapsSmall, encode}
 use Rattle.schema.specs.Check.{noField}
 use Rattle.schema.specs.Good.{GoodTable}
 use Rattle.schema.specs.Extend.{Extends}
 use Rattle.schema.proofs.Shapes.{shape-known}
 use Rattle.value.proofs.Shapes.{Solid, good-solid, Extension, good-extension}
-use Rattle.value.specs.Write.{refusal as refused-write, written, write}
+use Rattle.value.specs.Write.{refusal as refused-write, written, show, write}
 use Rattle.value.specs.Fits.{Shows, told, used}
 use Rattle.value.specs.Added.{carries, inner, firstAdded, NoneAdded}
 use Rattle.value.specs.Listed.{Listed, SheetListed}
 use Rattle.value.specs.Claims.{setBits, Rightful, ReadAs, Delimited, Writes, ByOld}
-use Rattle.value.proofs.Answers.{reads-end, yields-end}
+use Rattle.value.proofs.Answers.{reads-end, yields-end, seen-end}
 use Rattle.value.proofs.Bits.{bit-beyond}
 use Rattle.value.proofs.Fields as fields
 use Rattle.value.proofs.Depths as depths
 use Rattle.value.proofs.Sound.{parse-reads}
 use Rattle.value.proofs.Complete.{takes, parse-complete}
+use Rattle.value.proofs.Many as many
 use Rattle.value.proofs.Encode.{spelled-encoding, encoded, root-encoding}
-use Rattle.value.proofs.Root.{root-complete, root-tail}
-use Rattle.value.proofs.Differ.{root-differs}
+use Rattle.value.proofs.Root.{root-sound, root-complete, root-tail}
+use Rattle.value.proofs.Maps as maps
+use Rattle.value.proofs.Comparisons as compared
 use Rattle.value.proofs.Telling as telling
 use Rattle.value.proofs.Ignored.{ignored}
 use Rattle.value.proofs.Reading.{root-in, read-rightful, rightful-read, accepts}
@@ -60,6 +64,15 @@ present-is = fields.present-is
 -- The bits that are set in a bitmap's whole bytes are those of the fields that are present, and the unknown ones.
 pub unknown-is : (fs : List Field) (m : ℕ) → length (setBits m (8 * bitmapBytes (length fs))) ≡ length (present fs m) + unknownBits fs m
 unknown-is = fields.unknown-is
+
+-- ---- key comparisons
+
+-- Those of n keys are the pairs of an earlier key and a later one.
+pub due-pairs : (n : ℕ) → due n ≡ pairsAmong n
+due-pairs = compared.due-pairs
+
+pub due-half : (n : ℕ) → 2 * due n ≡ n * (n - 1)
+due-half = compared.due-half
 
 module _ (T : Table) (good : GoodTable T) (t : ℕ) where
   solid : (t : ℕ) → Solid (shape T t)
@@ -103,9 +116,31 @@ module _ (T : Table) (good : GoodTable T) (t : ℕ) where
       × (end .left ≡ rest)
   round-trip d v u rest at b q = read-iff-spelled d v rest _ .1 (encode (shape T) v t, refl, encoded (shape T) d t v u b q)
 
+  -- A composite's own comparisons are those of each later one of its keys with each earlier one.
+  pub own-due : (d h : ℕ) (vs : Values) (u : List ℕ) → Spells (shape T) d t (node h vs) u
+      → mapDue (shape T t) h ≡ pairsAmong (length (keysOf (plan (shape T t) h) vs))
+  own-due d h vs u q = compared.own-due (shape T) d t h vs u q
+
+  -- ---- maps of more than 64 pairs
+
+  -- A map whose count is above 64, with bytes enough for its pairs after it, is refused with 31 at the count, at any depth and whatever stands after it.
+  pub pairs-refused : (d k v n : ℕ) (u rest : List ℕ) (c : Cursor) → shape T t ≡ map k v → Spelled n u → c .left ≡ u ++ rest
+      → 2 * n ≤ length rest → 64 < n → parse (shape T) (suc d) t c ≡ refused 31 (c .at)
+  pairs-refused d k v n u rest c is s e = many.pairs-refused (shape T) d t k v is n u rest c s e
+
+  -- With too few bytes after it, it is refused with 20 there.
+  pub count-refused : (d k v n : ℕ) (u rest : List ℕ) (c : Cursor) → shape T t ≡ map k v → Spelled n u → c .left ≡ u ++ rest
+      → length rest < 2 * n → parse (shape T) (suc d) t c ≡ refused 20 (c .at)
+  count-refused d k v n u rest c is s e = many.count-refused (shape T) d t k v is n u rest c s e
+
+  -- A map's row whose count is above 64 is refused with 31 at that row, whatever rows follow.
+  pub row-refused : (d k v : ℕ) (B : List ℕ) (r : Row) (rs : List Row) (c : CursorOf Row) → shape T t ≡ map k v → c .left ≡ r ∷ rs → r .ty ≡ t
+      → 64 < r .count → show (shape T) B (suc d) t c ≡ refused 31 (c .at)
+  row-refused d k v B r rs c is = many.row-refused (shape T) d t k v is B r rs c
+
   -- ---- payloads
 
-  -- A refusal has one of 01's numbers, for the reason and at a place that they say: 46, 7, 20 to 28, or 30 for a payload otherwise right.
+  -- A refusal has one of 01's numbers, for the reason and at a place that they say: 46, 7, 20 to 28, 31, or 30 for a payload otherwise right.
   pub refused-listed : (payload : List ℕ) (room n p : ℕ) → read T t payload room ≡ refusal n p → Listed (shape T) t payload room n p
   refused-listed = refusals.listed T good t
 
@@ -113,12 +148,28 @@ module _ (T : Table) (good : GoodTable T) (t : ℕ) where
   pub refused-within : (payload : List ℕ) (room n p : ℕ) → read T t payload room ≡ refusal n p → p ≤ length payload
   refused-within payload room n p e = refusals.listed-within T good t payload room n p (refused-listed payload room n p e)
 
-  -- The reader accepts with exactly the rows that delimit the payload: there is one row a value, and no cell of any row is free.
-  pub rows-delimit : (payload : List ℕ) (room : ℕ) (rs : List Row) (place n : ℕ)
-      → (read T t payload room ≡ accepted rs place n) ↔ Delimited (shape T) t payload room rs place n
+  -- The reader accepts with exactly the rows that delimit the payload: there is one row a value, and no cell of any row is free. The comparisons due are
+  -- those of the payload's value.
+  pub rows-delimit : (payload : List ℕ) (room : ℕ) (rs : List Row) (place n c : ℕ)
+      → (read T t payload room ≡ accepted rs place n c) ↔ Delimited (shape T) t payload room rs place n c
   unfolding read
-  rows-delimit payload room rs place n =
-      (read-delimited (shape T) t payload room rs place n, delimited-read (shape T) t payload room rs place n solid)
+  rows-delimit payload room rs place n c =
+      (read-delimited (shape T) t payload room rs place n c, delimited-read (shape T) t payload room rs place n c solid)
+
+  -- The comparisons due are never above 258,048, and they are those that the rows count.
+  pub comparisons-within : (payload : List ℕ) (room : ℕ) (rs : List Row) (place n c : ℕ) → read T t payload room ≡ accepted rs place n c → c ≤ 258048
+  unfolding read
+  comparisons-within payload room rs place n c e =
+      let a = accepts (shape T) t payload room rs place n c e in
+      let q = seen-end (root-sound (shape T) t (a .fs) (cursorAt payload 0)) (a .reads) in
+      let b = compared.root-bound (shape T) solid t (a .fs) (a .is-struct) (value (a .tree)) payload (a .end .left) q in
+      omega (arith, b, a .has-due, a .short)
+
+  pub comparisons-counted : (payload : List ℕ) (room : ℕ) (rs : List Row) (place n c : ℕ) → read T t payload room ≡ accepted rs place n c → c ≡ rowsDue (shape T) rs
+  unfolding read
+  comparisons-counted payload room rs place n c e =
+      let a = accepts (shape T) t payload room rs place n c e in
+      sym (a .has-due) ∙ compared.read-due payload (shape T) t (a .fs) (a .is-struct) (a .tree) (a .end) (a .reads) ∙ ap (rowsDue (shape T)) (a .has-rows)
 
   module _ (fs : List Field) (st : shape T t ≡ struct fs) where
     -- The reader accepts, with rows that show v, exactly the payloads that spell v within the limits; the tail is what follows the known fields.
@@ -140,14 +191,14 @@ module _ (T : Table) (good : GoodTable T) (t : ℕ) where
     payload-is-encoding payload v b q = root-encoding (shape T) t fs st v payload b q
 
     -- An accepted payload has no tail exactly where no unknown bit of its root is set.
-    pub tail-iff-unknown : (payload : List ℕ) (room : ℕ) (rs : List Row) (place n : ℕ) → read T t payload room ≡ accepted rs place n
+    pub tail-iff-unknown : (payload : List ℕ) (room : ℕ) (rs : List Row) (place n c : ℕ) → read T t payload room ≡ accepted rs place n c
         → (n ≡ 0) ↔ (unknownBits fs (rootBits fs payload) ≡ 0)
     unfolding read
-    tail-iff-unknown payload room rs place n e =
-        let a = accepts (shape T) t payload room rs place n e in
+    tail-iff-unknown payload room rs place n c e =
+        let a = accepts (shape T) t payload room rs place n c e in
         let f : a .fs ≡ fs = cc (a .is-struct, st) in
         let s = root-in (shape T) t (a .fs) payload (a .tree) (a .end) (a .reads) .0 in
-        let r : ReadAs (shape T) t fs payload (read T t payload room) (value (a .tree)) place n = (rs, e, rw (f, a .has-rows) at s) in
+        let r : ReadAs (shape T) t fs payload (read T t payload room) (value (a .tree)) place n = (rs, e ∙ ap (accepted rs place n) (sym (a .has-due)), rw (f, a .has-rows) at s) in
         let (z, q, _, _, l, _) = accepted-iff-spelled payload room (value (a .tree)) place n .0 r in
         let t = root-tail (shape T) fs (value (a .tree)) payload z q in
         (λ none. omega (arith, t .0), λ none. sym l ∙ t .1 none)
@@ -162,9 +213,20 @@ module _ (T : Table) (good : GoodTable T) (t : ℕ) where
         → depth (node (knownBits fs m) vs) ≤ 16 → RootSpells (shape T) fs (node (knownBits fs m) vs) (x ++ (y ++ z)) z
     depth-allowed = depths.root-enough (shape T) fs
 
-    -- The keys of every map of an accepted payload differ as values. A value has one spelling, so that their bytes differ as well.
+    -- The keys of every map of an accepted payload differ as values. Bytes spell one value and a value has one spelling, so this is the same as: their bytes differ.
     pub keys-differ : (payload : List ℕ) (v : Value) (z : List ℕ) → RootSpells (shape T) fs v payload z → KeysDiffer (shape T) v t
-    keys-differ payload v z q = root-differs (shape T) t fs st v payload z q
+    keys-differ payload v z q = maps.root-differs (shape T) t fs st v payload z q
+
+    -- Every map of an accepted payload has 64 pairs at most, and so has every map that a sheet shows.
+    pub maps-small : (payload : List ℕ) (v : Value) (z : List ℕ) → RootSpells (shape T) fs v payload z → MapsSmall (shape T) v t
+    maps-small payload v z q = maps.root-small (shape T) t fs st v payload z q
+
+    pub shown-small : (B : List ℕ) (rs : List Row) (v : Value) → Shows (shape T) B t fs rs v → MapsSmall (shape T) v t
+    shown-small = maps.shown-small (shape T) t fs st
+
+    -- The comparisons due in a value that a sheet shows are those that its rows count.
+    pub shown-due : (B : List ℕ) (rs : List Row) (v : Value) → Shows (shape T) B t fs rs v → comparisons (shape T) v t ≡ rowsDue (shape T) rs
+    shown-due = compared.shown-due (shape T) t fs st
 
     -- Rows that tell the same types, counts, contents and known bits, over whatever bytes, show the same value.
     pub told-once : (B B′ : List ℕ) (v v′ : Value) (rs rs′ : List Row) → Shows (shape T) B t fs rs v → Shows (shape T) B′ t fs rs′ v′
@@ -201,7 +263,7 @@ module _ (T : Table) (good : GoodTable T) (t : ℕ) where
 
   -- The rows of a reading, over the payload, are written in no more bytes, and what is written is read as the same value, with no tail. Where the
   -- reading has no tail, what is written is the payload.
-  pub read-then-write : (payload : List ℕ) (room : ℕ) (rs : List Row) (place n : ℕ) → Bytes payload → read T t payload room ≡ accepted rs place n
+  pub read-then-write : (payload : List ℕ) (room : ℕ) (rs : List Row) (place n c : ℕ) → Bytes payload → read T t payload room ≡ accepted rs place n c
       → (room′ : ℕ) → length payload ≤ room′
       → (fs : List Field) × (v : Value) × (out : List ℕ)
       × (shape T t ≡ struct fs)
@@ -211,10 +273,10 @@ module _ (T : Table) (good : GoodTable T) (t : ℕ) where
       × (n ≡ 0 → out ≡ payload)
       × ReadAs (shape T) t fs out (read T t out room) v (length out) 0
   unfolding read write
-  read-then-write payload room rs place n b e room′ l =
-      let a = accepts (shape T) t payload room rs place n e in
+  read-then-write payload room rs place n c b e room′ l =
+      let a = accepts (shape T) t payload room rs place n c e in
       let s = subst (λ (x : List Row). Shows (shape T) payload t (a .fs) x (value (a .tree))) (a .has-rows) (root-in (shape T) t (a .fs) payload (a .tree) (a .end) (a .reads) .0) in
-      let (z, q, _, _, tail, _) = accepted-iff-spelled (a .fs) (a .is-struct) payload room (value (a .tree)) place n .0 (rs, e, s) in
+      let (z, q, _, _, tail, _) = accepted-iff-spelled (a .fs) (a .is-struct) payload room (value (a .tree)) place n .0 (rs, e ∙ ap (accepted rs place n) (sym (a .has-due)), s) in
       let w = spelled-written (shape T) solid t (a .fs) (a .is-struct) payload z (value (a .tree)) b q (a .short) rs s room′ l in (
         a .fs,
         value (a .tree),
@@ -257,15 +319,15 @@ module _ (old new : Table) (good : GoodTable old) (good′ : GoodTable new) (ext
         let (tree, end, e, u, a) = extended.new-by-old (shape old) (shape new) (length (old .types)) x t l fs gs st st′ payload room v q short in
         (tree, end, e, u, a, extended.refused-iff (shape old) (shape new) (length (old .types)) x t l fs gs st st′ payload room v _ a)
 
-    -- A payload that the old reader accepts, with no added field's bit set: the new reader gives the same rows and the same tail, and the rows show the
-    -- same value.
-    pub old-by-new : (rs : List Row) (place n : ℕ) → read old t payload room ≡ accepted rs place n → NoneAdded fs gs payload
-        → (read new t payload room ≡ accepted rs place n)
+    -- A payload that the old reader accepts, with no added field's bit set: the new reader gives the same rows, tail and comparisons due, and the rows
+    -- show the same value.
+    pub old-by-new : (rs : List Row) (place n c : ℕ) → read old t payload room ≡ accepted rs place n c → NoneAdded fs gs payload
+        → (read new t payload room ≡ accepted rs place n c)
         × ((v : Value) × Shows (shape old) payload t fs rs v × Shows (shape new) payload t (fs ++ gs) rs v)
     unfolding read
-    old-by-new rs place n e bare = extended.old-by-new (shape old) (shape new) (length (old .types)) x t l fs gs st st′ payload room rs place n e bare
+    old-by-new rs place n c e bare = extended.old-by-new (shape old) (shape new) (length (old .types)) x t l fs gs st st′ payload room rs place n c e bare
 
     -- None is set where there is no tail.
-    pub none-added : (rs : List Row) (place : ℕ) → read old t payload room ≡ accepted rs place 0 → NoneAdded fs gs payload
+    pub none-added : (rs : List Row) (place c : ℕ) → read old t payload room ≡ accepted rs place 0 c → NoneAdded fs gs payload
     unfolding read
-    none-added rs place e = extended.none-added (shape old) (shape new) (length (old .types)) x t l fs gs st st′ payload room rs place e
+    none-added rs place c e = extended.none-added (shape old) (shape new) (length (old .types)) x t l fs gs st st′ payload room rs place c e

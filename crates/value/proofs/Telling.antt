@@ -24,7 +24,7 @@ module _ (B B′ : List ℕ) where
   head-told : (s : Shape) (r r′ : Row) (h h′ : ℕ) → HeadFits B s (r .place) (r .count) h → HeadFits B′ s (r′ .place) (r′ .count) h′
       → r .count ≡ r′ .count → heldBy B s (r .place) (r .length) ≡ heldBy B′ s (r′ .place) (r′ .length) → h ≡ h′
   head-told (array _) r r′ h h′ q q′ e k = cc
-  head-told (map _ _) r r′ h h′ q q′ e k = cc
+  head-told (map _ _) r r′ h h′ q q′ e k = sym (q .0) ∙ e ∙ q′ .0
   head-told (struct fs) r r′ h h′ q q′ e k =
       let a : knownBits fs h ≡ knownBits fs h′ = rw (q .0 .1, q′ .0 .1) (cc) in
       sym (mod-eq-of-lt (q .1)) ∙ a ∙ mod-eq-of-lt (q′ .1)

@@ -140,7 +140,7 @@ own-bare unknown c = nothing
 own-bare (scalar kind) c = seen-then _ (λ x c′ _. seen-then _ (λ _ c″ _. value tt))
 own-bare (text kind) c = seen-then _ (λ k c′ _. seen-then _ (λ x c″ _. seen-then _ (λ _ c‴ _. value tt)))
 own-bare (array e) c = seen-then _ (λ k c′ _. value refl)
-own-bare (map k v) c = seen-then _ (λ j c′ _. value refl)
+own-bare (map k v) c = seen-then _ (λ j c′ _. seen-then _ (λ _ c″ _. value refl))
 own-bare (struct fs) c = seen-then _ (λ m c′ _. seen-then _ (λ _ c″ e. value (lt-leb _ m (omega (arith, ltb-true m (2 ^ length fs) (check-true _ _ _ _ e))))))
 
 pub bitmap-gain : (fs gs : List Field) → bitmapBytes (length (fs ++ gs)) ≡ bitmapBytes (length fs) → Optional gs → (c : Cursor) → bitmap (fs ++ gs) c ≡ bitmap fs c

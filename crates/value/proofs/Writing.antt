@@ -82,7 +82,7 @@ as-many S t fs B rs v (tree, r, f, k) = rw (← r, ← k) (sized tree)
 module _ (S : ℕ → Shape) (solid : (t : ℕ) → Solid (S t)) (t : ℕ) (fs : List Field) (st : S t ≡ struct fs) where
   -- The encoding of what a sheet shows is read as that value, with no tail.
   pub encoding-read : (B : List ℕ) (rs : List Row) (v : Value) → Shows S B t fs rs v → (out : List ℕ) → out ≡ encode S v t → length out ≤ 16384 → (room : ℕ) → length rs ≤ room
-      → ReadAs S t fs out (reading room (rootOf S t out)) v (length out) 0
+      → ReadAs S t fs out (reading S t room (rootOf S t out)) v (length out) 0
   encoding-read B rs v s out o l room b =
       let (tree, r, f, k) = s in
       let o′ : encode S (value tree) t ≡ out = rw k (sym o) in

@@ -40,7 +40,7 @@ module _ (B : List ℕ) where
 
   head-written : (s : Shape) (p c h : ℕ) → HeadFits B s p c h → length (plan s h) ≤ 16384 → HeadSpells s h (headBytes s h)
   head-written (array e) p c h q l = shortest-spelled h (omega (arith, length-replicate h (plainItem e)))
-  head-written (map a b) p c h q l = shortest-spelled h (omega (arith, length-pairs h a b))
+  head-written (map a b) p c h q l = (shortest-spelled h (omega (arith, length-pairs h a b)), q .1)
   head-written (struct fs) p c h q l = (bits-written fs h (q .1) (q .0 .2), q .1)
   head-written unknown p c h q l = absurd q
   head-written (scalar _) p c h q l = absurd q

@@ -10,7 +10,8 @@ use lib.ListN.{length}
 use Rattle.schema.specs.declared.Field.{Field}
 use Rattle.schema.specs.Table.{Shape, struct}
 use Rattle.value.specs.declared.Row.{Row}
-use Rattle.value.specs.Value.{Tree, rows, Value, size}
+use Rattle.value.specs.Value.{Tree, rows, Value, value, size}
+use Rattle.value.specs.Comparisons.{comparisons}
 use Rattle.value.specs.Read.{Reading, refusal, accepted}
 use Rattle.value.specs.Spell.{AllSpell, Spells, RootSpells, encode}
 use Rattle.value.specs.Fits.{RootFits, Shows}
@@ -33,20 +34,22 @@ module _ (S : ℕ → Shape) (t : ℕ) (fs : List Field) where
       × (length tail ≡ n)
       × (place + n ≡ length payload)
 
-  -- The answer accepts the payload with rows that show v.
+  -- The answer accepts the payload with rows that show v, and the key comparisons due are those of v.
   abbrev pub ReadAs : (payload : List ℕ) → Reading → Value → (place n : ℕ) → Type 0
-  ReadAs payload answer v place n = (rs : List Row) × (answer ≡ accepted rs place n) × Shows S payload t fs rs v
+  ReadAs payload answer v place n = (rs : List Row) × (answer ≡ accepted rs place n (comparisons S v t)) × Shows S payload t fs rs v
 
 -- The rows are those of a tree that fits the payload, so that each shows its type, its count and its content or bits; and the place and length of each
--- delimit the bytes of its value, the root's up to a tail of n bytes at a place. Payload and rows are within the limits.
-abbrev pub Delimited : (ℕ → Shape) → (t : ℕ) → (payload : List ℕ) (room : ℕ) → List Row → (place n : ℕ) → Type 0
-Delimited S t payload room rs place n =
+-- delimit the bytes of its value, the root's up to a tail of n bytes at a place. The key comparisons due are its value's. Payload and rows are within
+-- the limits.
+abbrev pub Delimited : (ℕ → Shape) → (t : ℕ) → (payload : List ℕ) (room : ℕ) → List Row → (place n due : ℕ) → Type 0
+Delimited S t payload room rs place n due =
     (fs : List Field) × (tree : Tree)
     × (S t ≡ struct fs)
     × (rows tree ≡ rs)
     × RootFits S payload t fs tree
     × RootDelimits S payload fs tree place
     × (place + n ≡ length payload)
+    × (comparisons S (value tree) t ≡ due)
     × (length payload ≤ 16384)
     × (length rs ≤ room)
 
@@ -61,8 +64,8 @@ Writes S t rs B room out =
     × (length out ≤ room)
 
 -- What a reader by the old shapes S answers where the new ones S′ allow the payload as the value v, a root of type t with the fields fs ++ gs:
--- 26 at the place of the first inner struct that carries an added field; without one the value without the added fields. The tail is the bytes of
--- the added fields that the root carries.
+-- 26 at the place of the first inner struct that carries an added field; without one the value without the added fields, and the key comparisons due in
+-- that. The tail is the bytes of the added fields that the root carries.
 abbrev pub ByOld : (S S′ : ℕ → Shape) (t : ℕ) (fs gs : List Field) (payload : List ℕ) (room : ℕ) → Value → Reading → (first : Option ℕ) → Type 0
 ByOld S S′ t fs gs payload room v answer (some p) = answer ≡ refusal 26 p
 ByOld S S′ t fs gs payload room v answer none =
@@ -71,4 +74,4 @@ ByOld S S′ t fs gs payload room v answer none =
     × AllSpell (Spells S′ 15) (addedItems fs gs v) (addedValues fs v) added
     × (rootCarries fs v ≡ false → added ≡ [])
     × Shows S payload t fs rs (without S v t)
-    × (answer ≡ cond (leb (length rs) room) (accepted rs (length known) (length added)) (refusal 30 0))
+    × (answer ≡ cond (leb (length rs) room) (accepted rs (length known) (length added) (comparisons S (without S v t) t)) (refusal 30 0))

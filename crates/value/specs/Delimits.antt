@@ -4,12 +4,11 @@ use mathlib.Core.Path.{_≡_}
 use mathlib.Core.List.{List, [], _∷_}
 use Prim.Native.Nat.{ℕ, zero, suc, _+_, _-_, _≤_}
 use lib.ListN.{length, drop}
-use Rattle.wire.specs.Varuint.{Spelled}
 use Rattle.schema.specs.declared.Field.{Field}
 use Rattle.schema.specs.Table.{Shape, unknown, scalar, text, array, map, struct, bitmapBytes}
 use Rattle.value.specs.Value.{Tree, tip, branch, Forest, stop, plus, Value, node, Values, values}
 use Rattle.value.specs.Read.{Item, plan}
-use Rattle.value.specs.Spell.{LeafSpells, AllSpell, WholeSpells, Spells, RootSpells}
+use Rattle.value.specs.Spell.{LeafSpells, HeadSpells, AllSpell, WholeSpells, Spells, RootSpells}
 use Rattle.value.specs.Write.{span}
 use Rattle.value.specs.Fits.{Spans}
 
@@ -24,8 +23,8 @@ AllStand P (i ∷ is) (plus t ts) start end = (next : ℕ) × P (i .type) t star
 -- map, which stand after the count.
 abbrev pub NodeSpan : (ℕ → Value → List ℕ → Type 0) → List ℕ → Shape → (head : ℕ) → Values → (start place n : ℕ) → Type 0
 NodeSpan P B (struct fs) m vs start p n = (p ≡ start) × WholeSpells P (struct fs) (node m vs) (span B p n)
-NodeSpan P B (array e) k vs start p n = (start ≤ p) × Spelled k (span B start (p - start)) × AllSpell P (plan (array e) k) vs (span B p n)
-NodeSpan P B (map a b) k vs start p n = (start ≤ p) × Spelled k (span B start (p - start)) × AllSpell P (plan (map a b) k) vs (span B p n)
+NodeSpan P B (array e) k vs start p n = (start ≤ p) × HeadSpells (array e) k (span B start (p - start)) × AllSpell P (plan (array e) k) vs (span B p n)
+NodeSpan P B (map a b) k vs start p n = (start ≤ p) × HeadSpells (map a b) k (span B start (p - start)) × AllSpell P (plan (map a b) k) vs (span B p n)
 NodeSpan P B unknown h vs start p n = ⊥
 NodeSpan P B (scalar _) h vs start p n = ⊥
 NodeSpan P B (text _) h vs start p n = ⊥

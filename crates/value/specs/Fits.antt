@@ -38,7 +38,7 @@ BitsFit B fs p m =
 -- A composite's row, by its place and count, shows the head h.
 abbrev pub HeadFits : List ℕ → Shape → (place count h : ℕ) → Type 0
 HeadFits B (array _) p c n = c ≡ n
-HeadFits B (map _ _) p c n = c ≡ n
+HeadFits B (map _ _) p c n = (c ≡ n) × (n ≤ 64)
 HeadFits B (struct fs) p c m = BitsFit B fs p m × (m < 2 ^ length fs) × (c ≡ counted (struct fs) m)
 HeadFits B unknown p c h = ⊥
 HeadFits B (scalar _) p c h = ⊥

@@ -1,6 +1,8 @@
 -- Values, the reading of payloads, and the reading of sheets for the writer.
 pub mod Answer
 pub mod Value
+pub mod Plan
+pub mod Comparisons
 pub mod Read
 pub mod Spell
 pub mod Sheet

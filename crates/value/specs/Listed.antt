@@ -11,12 +11,17 @@ use Rattle.value.specs.Value.{Value, size}
 use Rattle.value.specs.Spell.{RootSpells, encode}
 use Rattle.value.specs.Fits.{Shows}
 
--- The payload, as type t by the shapes S, with room for so many rows: 46 for a type that is no struct; 7 above 16,384 bytes; 20 to 28 at a place within
--- the payload or at its end; 30 where the payload is right and has more values than there is room for.
+-- The numbers of a value's fault.
+pub data ValueFault : ℕ → Type 0 where
+  within-list : {n : ℕ} → 20 ≤ n → n ≤ 28 → ValueFault n
+  many-pairs : ValueFault 31
+
+-- The payload, as type t by the shapes S, with room for so many rows: 46 for a type that is no struct; 7 above 16,384 bytes; a value's fault at a place
+-- within the payload or at its end; 30 where the payload is right and has more values than there is room for.
 pub data Listed (S : ℕ → Shape) (t : ℕ) (payload : List ℕ) (room : ℕ) : (number place : ℕ) → Type 0 where
   no-struct : ((fs : List Field) → S t ≡ struct fs → ⊥) → Listed S t payload room 46 0
   too-long : 16384 < length payload → Listed S t payload room 7 0
-  faulty : {n p : ℕ} → 20 ≤ n → n ≤ 28 → p ≤ length payload → Listed S t payload room n p
+  faulty : {n p : ℕ} → ValueFault n → p ≤ length payload → Listed S t payload room n p
   too-few-rows : (fs : List Field) (v : Value) (tail : List ℕ) → RootSpells S fs v payload tail → room < size v → Listed S t payload room 30 0
 
 -- The numbers of a row's fault.
@@ -26,6 +31,7 @@ pub data RowFault : ℕ → Type 0 where
   repeated-key : RowFault 24
   absent-field : RowFault 25
   too-deep : RowFault 28
+  many-pairs : RowFault 31
   unfit : RowFault 50
   outside : RowFault 51
 

@@ -5,51 +5,17 @@ use mathlib.Core.Bool.{Bool, true, false, not, _&&_, _||_, cond}
 use Prim.Native.Nat.{ℕ, zero, suc, _-_, _*_, _/_, _%_, _^_}
 use lib.Dec.{leb, ltb, eqb}
 use lib.Count.{onesIn}
-use lib.ListN.{length, take, replicate}
+use lib.ListN.{length, take}
 use Rattle.wire.specs.Little.{little}
 use Rattle.wire.specs.Utf8.{utf8}
 use Rattle.schema.specs.declared.Field.{Field}
 use Rattle.schema.specs.Table.{Table, Shape, unknown, scalar, text, array, map, struct, shape, width, bitmapBytes}
 use Rattle.value.specs.declared.Row.{Row}
 use Rattle.value.specs.Answer.{Answer, refused, seen, Reader, ReaderOf, _>>=_, _>>_, return, at, refuse, check, cursorAt, block, varUInt}
+pub use Rattle.value.specs.Plan.{Item}
+unfoldable pub use Rattle.value.specs.Plan.{plainItem, pairs, present, plan, counted}
+use Rattle.value.specs.Comparisons.{comparisons}
 use Rattle.value.specs.Value.{Tree, tip, branch, Forest, stop, plus, rows, value, content}
-
--- ---- what a composite holds
-
--- A value that a composite holds: its type, and whether it is a map's key.
-pub record Item : Type 0 where
-  pub type : ℕ
-  pub key : Bool
-
-abbrev pub plainItem : ℕ → Item
-plainItem t = record { type = t; key = false }
-
-abbrev pub pairs : ℕ → ℕ → ℕ → List Item
-pairs zero k v = []
-pairs (suc n) k v = record { type = k; key = true } ∷ plainItem v ∷ pairs n k v
-
--- The fields whose bits are set in m, least bit first.
-unfoldable pub present : List Field → ℕ → List Item
-present [] m = []
-present (f ∷ fs) m = cond (eqb (m % 2) 1) (plainItem (f .ty) ∷ present fs (m / 2)) (present fs (m / 2))
-
--- The items after a composite's head, in wire order. The head is the count, or the presence bits.
-abbrev pub plan : Shape → ℕ → List Item
-plan (array e) n = replicate n (plainItem e)
-plan (map k v) n = pairs n k v
-plan (struct fs) m = present fs m
-plan unknown h = []
-plan (scalar _) h = []
-plan (text _) h = []
-
--- The count of a composite's row: of elements, of pairs, of known fields whose bit is set.
-abbrev pub counted : Shape → ℕ → ℕ
-counted (struct fs) m = length (present fs m)
-counted (array _) n = n
-counted (map _ _) n = n
-counted unknown h = 0
-counted (scalar _) h = 0
-counted (text _) h = 0
 
 -- ---- a value's own bytes
 
@@ -97,8 +63,9 @@ own (text kind) = do
 own (array e) = do
   n ← count 1
   at λ start. return (parts (start .at) n)
-own (map k v) = do
+own (map k v) = at λ here. do
   n ← count 2
+  check (leb n 64) 31 (here .at)
   at λ start. return (parts (start .at) n)
 own (struct fs) = at λ start. do
   m ← bitmap fs
@@ -194,16 +161,17 @@ abbrev pub rootOf : (ℕ → Shape) → ℕ → List ℕ → Answer Tree
 rootOf S t payload =
     onStruct (S t) (refused 46 0) (λ fs. cond (leb (length payload) 16384) (rootStruct S t fs (cursorAt payload 0)) (refused 7 0))
 
--- The answer: a number with a place, or the rows with the tail's place and length.
+-- The answer: a number with a place, or the rows with the tail's place and length, and how many key comparisons were due.
 pub data Reading : Type 0 where
   refusal : (number place : ℕ) → Reading
-  accepted : List Row → (tailPlace tailLength : ℕ) → Reading
+  accepted : List Row → (tailPlace tailLength comparisons : ℕ) → Reading
 
--- The rows have to fit into a sheet with room for so many.
-abbrev pub reading : (room : ℕ) → Answer Tree → Reading
-reading room (refused n p) = refusal n p
-reading room (seen tree end) = cond (leb (length (rows tree)) room) (accepted (rows tree) (end .at) (length (end .left))) (refusal 30 0)
+-- The answer for a root of type t. Its rows have to fit into a sheet with room for so many.
+abbrev pub reading : (ℕ → Shape) → ℕ → (room : ℕ) → Answer Tree → Reading
+reading S t room (refused n p) = refusal n p
+reading S t room (seen tree end) =
+    cond (leb (length (rows tree)) room) (accepted (rows tree) (end .at) (length (end .left)) (comparisons S (value tree) t)) (refusal 30 0)
 
 -- A payload read as a struct of type t by a good table.
 unfoldable pub read : Table → ℕ → List ℕ → (room : ℕ) → Reading
-read T t payload room = reading room (rootOf (shape T) t payload)
+read T t payload room = reading (shape T) t room (rootOf (shape T) t payload)

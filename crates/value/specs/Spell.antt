@@ -28,10 +28,10 @@ LeafSpells (struct _) x bs = ⊥
 abbrev pub BitmapSpells : List Field → ℕ → List ℕ → Type 0
 BitmapSpells fs m bs = (length bs ≡ bitmapBytes (length fs)) × (little bs ≡ m) × (complete fs m ≡ true)
 
--- The bytes of a composite's head, which stand before what it holds. An inner struct has no unknown bit.
+-- The bytes of a composite's head, which stand before what it holds. A map has 64 pairs at most; an inner struct has no unknown bit.
 abbrev pub HeadSpells : Shape → (head : ℕ) → List ℕ → Type 0
 HeadSpells (array _) n bs = Spelled n bs
-HeadSpells (map _ _) n bs = Spelled n bs
+HeadSpells (map _ _) n bs = Spelled n bs × (n ≤ 64)
 HeadSpells (struct fs) m bs = BitmapSpells fs m bs × (m < 2 ^ length fs)
 HeadSpells unknown h bs = ⊥
 HeadSpells (scalar _) h bs = ⊥
@@ -80,7 +80,19 @@ RootSpells S fs (node h vs) bs tail =
     × AllSpell (Spells S 15) (plan (struct fs) h) vs y
     × TailFits (unknownBits fs m) tail
 
--- ---- the keys of maps, apart from how they are read
+-- ---- the maps of a value, apart from how they are read
+
+-- Q holds of every map in a value of type t: of the number of its pairs, and of its keys and values by turns.
+module _ (Q : (n : ℕ) → Values → Type 0) (S : ℕ → Shape) where
+  unfoldable mutual
+    pub EachMap : Value → (t : ℕ) → Type 0
+    EachMap (leaf x) t = Unit {0}
+    EachMap (node h vs) t = ((k v : ℕ) → S t ≡ map k v → Q h vs) × EachIn vs (plan (S t) h)
+
+    pub EachIn : Values → List Item → Type 0
+    EachIn none is = Unit {0}
+    EachIn (some v vs) [] = Unit {0}
+    EachIn (some v vs) (i ∷ is) = EachMap v (i .type) × EachIn vs is
 
 -- The i-th of some values.
 abbrev pub nth : Values → ℕ → Value
@@ -88,26 +100,19 @@ nth none i = leaf []
 nth (some v vs) zero = v
 nth (some v vs) (suc i) = nth vs i
 
--- No two keys of a map of n pairs are the same value.
-abbrev pub MapDiffers : Shape → (n : ℕ) → Values → Type 0
-MapDiffers (map _ _) n vs = (i j : ℕ) → i < j → j < n → nth vs (2 * i) ≡ nth vs (2 * j) → ⊥
-MapDiffers (array _) n vs = Unit {0}
-MapDiffers (struct _) m vs = Unit {0}
-MapDiffers unknown h vs = Unit {0}
-MapDiffers (scalar _) h vs = Unit {0}
-MapDiffers (text _) h vs = Unit {0}
+-- No two keys of n pairs are the same value.
+abbrev pub Differ : (n : ℕ) → Values → Type 0
+Differ n vs = (i j : ℕ) → i < j → j < n → nth vs (2 * i) ≡ nth vs (2 * j) → ⊥
 
--- The same of every map in a value of type t.
-module _ (S : ℕ → Shape) where
-  unfoldable mutual
-    pub KeysDiffer : Value → (t : ℕ) → Type 0
-    KeysDiffer (leaf x) t = Unit {0}
-    KeysDiffer (node h vs) t = MapDiffers (S t) h vs × AllDiffer vs (plan (S t) h)
+abbrev pub KeysDiffer : (ℕ → Shape) → Value → (t : ℕ) → Type 0
+KeysDiffer S v t = EachMap Differ S v t
 
-    pub AllDiffer : Values → List Item → Type 0
-    AllDiffer none is = Unit {0}
-    AllDiffer (some v vs) [] = Unit {0}
-    AllDiffer (some v vs) (i ∷ is) = KeysDiffer v (i .type) × AllDiffer vs is
+-- There are 64 pairs at most.
+abbrev pub Few : (n : ℕ) → Values → Type 0
+Few n vs = n ≤ 64
+
+abbrev pub MapsSmall : (ℕ → Shape) → Value → (t : ℕ) → Type 0
+MapsSmall S v t = EachMap Few S v t
 
 -- ---- the encoding
 

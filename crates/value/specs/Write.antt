@@ -64,7 +64,9 @@ module _ (B : List ℕ) (k : ℕ) where
     check (not (eqb kind 12) || utf8 (span B p n)) 23 k
     return (plain (span B p n))
   says (array _) p n c = return (parts 0 c)
-  says (map _ _) p n c = return (parts 0 c)
+  says (map _ _) p n c = do
+    check (leb c 64) 31 k
+    return (parts 0 c)
   says (struct fs) p n c = do
     m ← bitsAt fs p
     check (ltb m (2 ^ length fs) && eqb c (counted (struct fs) m)) 50 k

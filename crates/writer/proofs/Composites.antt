@@ -7,8 +7,8 @@ use Prim.Native.Nat.{ℕ, suc, _+_, _-_, _/_, _%_, _^_, _≤_, _<_}
 use native.Mathlib.Nat.{mod-eq-of-lt, mod-lt}
 use native.Mathlib.Decide.{decLt}
 use native.Mathlib.Omega.{arith}
-use borrow.Author.Tests.{lt-ltb, le-ltb, eq-eqb, ne-eqb}
-use lib.Dec.{ltb, eqb}
+use borrow.Author.Tests.{lt-ltb, le-ltb, le-leb, lt-leb, eq-eqb, ne-eqb}
+use lib.Dec.{ltb, leb, eqb}
 use lib.ListN.{length, replicate}
 use lib.Pow.{pow-pos}
 use Rattle.wire.specs.Little.{little, bytes}
@@ -36,44 +36,37 @@ use Rattle.writer.specs.declared.leaf.Head.the-variants.{Bits, Fault}
 use Rattle.writer.specs.declared.walk.Walk.the-variants.{Past}
 use Rattle.writer.specs.Emit.{put, cap, PutAt, done, stopped, emit, emitAll}
 use Rattle.writer.specs.Leaf.{rowsAt, dueOf, DueIn, RowDue, leafOf, LeafIn, LeafRow, headOf, HeadIn, Headed}
-use Rattle.writer.specs.Keys.{KeyIn, keyAt}
 use Rattle.writer.specs.Walk.{Walked}
-use Rattle.writer.proofs.Keys.{key-is}
 use Rattle.writer.proofs.Steps.{done-put, branch-bytes, tip-bytes, item-past, item-stop, key-stop, key-again, key-new, show-refused, show-bad, show-parts, says-accepted, leaf-shown, leaf-refused}
 
 -- ---- a leaf
 
-module _ (S : ℕ → Shape) (B : List ℕ) (d t : ℕ) (cells : List ℕ) (row kind : ℕ) (is : S t ≡ leafShape kind) (some : d ≡ 0 → ⊥)
-    (r : Leaf) (read : LeafRow cells B kind t row r) where
-  pub leaf-failed : (n : ℕ) → r ≡ BadLeaf n → show S B d t (rowsAt cells row) ≡ refused n row
-  leaf-failed n e =
-      rw (deep d some)
-      (leaf-refused S B (d - 1) t (rowsAt cells row) (leafShape kind) is n row (sym (read .same) ∙ ap (leafOf cells B row) e))
-
-  module _ (p n : ℕ) (e : r ≡ At p n) where
+module _ {cells B : List ℕ} {kind t row : ℕ} {r : Leaf} (read : LeafRow cells B kind t row r) where
+  module _ {p n : ℕ} (e : r ≡ At p n) where
     pub leaf-in : LeafIn cells B row (At p n)
     leaf-in = rw e at (read .within)
 
-    pub leaf-read : (w : Row) × (show S B d t (rowsAt cells row) ≡ seen (tip w (span B p n)) (rowsAt cells (row + 1)))
-    leaf-read =
+  module _ (S : ℕ → Shape) {d : ℕ} (is : S t ≡ leafShape kind) (some : d ≡ 0 → ⊥) where
+    pub leaf-failed : {n : ℕ} → r ≡ BadLeaf n → show S B d t (rowsAt cells row) ≡ refused n row
+    leaf-failed {n} e =
         rw (deep d some)
-        (leaf-shown S B (d - 1) t (rowsAt cells row) (leafShape kind) is (span B p n) (rowsAt cells (row + 1)) (sym (read .same) ∙ ap (leafOf cells B row) e))
+        (leaf-refused S B (d - 1) t (rowsAt cells row) (leafShape kind) is n row (sym (read .same) ∙ ap (leafOf cells B row) e))
 
-    pub leaf-key : span B p n ≡ keyAt cells B row
-    leaf-key = let i = leaf-in in key-is cells B row p n (i .1) (i .2)
+    module _ {p n : ℕ} (e : r ≡ At p n) where
+      pub leaf-read : (w : Row) × (show S B d t (rowsAt cells row) ≡ seen (tip w (span B p n)) (rowsAt cells (row + 1)))
+      leaf-read =
+          rw (deep d some)
+          (leaf-shown S B (d - 1) t (rowsAt cells row) (leafShape kind) is (span B p n) (rowsAt cells (row + 1)) (sym (read .same) ∙ ap (leafOf cells B row) e))
 
-    pub leaf-there : KeyIn cells B row
-    leaf-there = let i = leaf-in in (i .0, omega arith)
-
-    pub leaf-past : (pos : ℕ) (out : List ℕ) (next : ℕ) (mid : List ℕ) → PutAt out pos (leafBytes (leafShape kind) (span B p n)) next mid
-        → Walked cells (emit S t (show S B d t (rowsAt cells row)) pos out) (Past (row + 1) next) mid
-    unfolding emit
-    leaf-past pos out next mid q =
-        let w = leaf-read in
-        let i = leaf-in in
-        let h : mid ≡ put out pos (leafBytes (leafShape kind) (span B p n)) = q .holds in
-        let f : next ≡ cap (pos + length (leafBytes (leafShape kind) (span B p n))) = q .further in
-        record { same = rw (w .1, tip-bytes S t (w .0) (span B p n), is, ← h, ← f); within = (omega arith, q .capped) }
+      pub leaf-past : {pos : ℕ} {out : List ℕ} {next : ℕ} {mid : List ℕ} → PutAt out pos (leafBytes (leafShape kind) (span B p n)) next mid
+          → Walked cells (emit S t (show S B d t (rowsAt cells row)) pos out) (Past (row + 1) next) mid
+      unfolding emit
+      leaf-past {pos} {out} {next} {mid} q =
+          let w = leaf-read in
+          let i = leaf-in e in
+          let h : mid ≡ put out pos (leafBytes (leafShape kind) (span B p n)) = q .holds in
+          let f : next ≡ cap (pos + length (leafBytes (leafShape kind) (span B p n))) = q .further in
+          record { same = rw (w .1, tip-bytes S t (w .0) (span B p n), is, ← h, ← f); within = (omega arith, q .capped) }
 
 -- ---- composites
 
@@ -89,11 +82,11 @@ module _ (S : ℕ → Shape) (t : ℕ) (sh : Shape) (is : S t ≡ sh) (r : Row) 
   node-accepted : (m : AnswerOf Row Forest) (o : AnswerOf Row Tree) → o ≡ andThen m (λ ts c. seen (branch r h ts) c) → Accepted o → Accepted m
   node-accepted m o e a = accepted-first m _ (rw e at a)
 
-module _ (S : ℕ → Shape) (B : List ℕ) (d t : ℕ) (cells : List ℕ) (row : ℕ) (due : Due) (found : RowDue cells row t due) where
-  pub row-absent : due ≡ Missing → show S B (suc d) t (rowsAt cells row) ≡ refused 50 row
-  row-absent e = show-refused S B d t (rowsAt cells row) 50 row (sym (found .same) ∙ ap (dueOf cells row t) e)
+module _ {t : ℕ} {cells : List ℕ} {row : ℕ} {due : Due} (found : RowDue cells row t due) where
+  pub row-absent : (S : ℕ → Shape) (B : List ℕ) (d : ℕ) → due ≡ Missing → show S B (suc d) t (rowsAt cells row) ≡ refused 50 row
+  row-absent S B d e = show-refused S B d t (rowsAt cells row) 50 row (sym (found .same) ∙ ap (dueOf cells row t) e)
 
-  module _ (p n c : ℕ) (e : due ≡ Found p n c) where
+  module _ {p n c : ℕ} (e : due ≡ Found p n c) where
     abbrev own : Row
     own = record { ty = t; place = p; length = n; count = c }
 
@@ -103,108 +96,121 @@ module _ (S : ℕ → Shape) (B : List ℕ) (d t : ℕ) (cells : List ℕ) (row 
     pub row-read : rowOf t (rowsAt cells row) ≡ seen own (rowsAt cells (row + 1))
     row-read = sym (found .same) ∙ ap (dueOf cells row t) e
 
-    module _ (a : ℕ) (is : S t ≡ array a) where
-      array-node : show S B (suc d) t (rowsAt cells row) ≡ andThen (walk (show S B d) [] (replicate c (plainItem a)) (rowsAt cells (row + 1))) (λ ts c₁. seen (branch own c ts) c₁)
-      array-node = show-parts S B d t (rowsAt cells row) (array a) is own (rowsAt cells (row + 1)) row-read 0 c refl
+    module _ (S : ℕ → Shape) (B : List ℕ) (d : ℕ) where
+      module _ {a : ℕ} (is : S t ≡ array a) where
+        array-node : show S B (suc d) t (rowsAt cells row) ≡ andThen (walk (show S B d) [] (replicate c (plainItem a)) (rowsAt cells (row + 1))) (λ ts c₁. seen (branch own c ts) c₁)
+        array-node = show-parts S B d t (rowsAt cells row) (array a) is own (rowsAt cells (row + 1)) row-read 0 c refl
 
-      pub array-start : (out : List ℕ) (pos next : ℕ) (mid : List ℕ) → length out ≤ 16384 → PutAt out pos (varuintBytes c) next mid
-          → emitAll S (replicate c (plainItem a)) (walk (show S B d) [] (replicate c (plainItem a)) (rowsAt cells (row + 1))) next mid ≡ emit S t (show S B (suc d) t (rowsAt cells row)) pos out
-      array-start = node-start S t (array a) is own c _ _ array-node
+        pub array-start : {out : List ℕ} {pos next : ℕ} {mid : List ℕ} → length out ≤ 16384 → PutAt out pos (varuintBytes c) next mid
+            → emitAll S (replicate c (plainItem a)) (walk (show S B d) [] (replicate c (plainItem a)) (rowsAt cells (row + 1))) next mid ≡ emit S t (show S B (suc d) t (rowsAt cells row)) pos out
+        array-start = node-start S t (array a) is own c _ _ array-node _ _ _ _
 
-      pub array-accepted : Accepted (show S B (suc d) t (rowsAt cells row)) → Accepted (walk (show S B d) [] (replicate c (plainItem a)) (rowsAt cells (row + 1)))
-      array-accepted = node-accepted S t (array a) is own c _ _ array-node
+        pub array-accepted : Accepted (show S B (suc d) t (rowsAt cells row)) → Accepted (walk (show S B d) [] (replicate c (plainItem a)) (rowsAt cells (row + 1)))
+        array-accepted = node-accepted S t (array a) is own c _ _ array-node
 
-    module _ (k v : ℕ) (is : S t ≡ map k v) where
-      map-node : show S B (suc d) t (rowsAt cells row) ≡ andThen (walk (show S B d) [] (pairs c k v) (rowsAt cells (row + 1))) (λ ts c₁. seen (branch own c ts) c₁)
-      map-node = show-parts S B d t (rowsAt cells row) (map k v) is own (rowsAt cells (row + 1)) row-read 0 c refl
+      module _ {k v : ℕ} (is : S t ≡ map k v) where
+        -- a map of more than 64 pairs is refused
+        pub map-many : 64 < c → show S B (suc d) t (rowsAt cells row) ≡ refused 31 row
+        unfolding andThen check
+        map-many h =
+            let f : leb c 64 ≡ false = lt-leb c 64 h in
+            show-bad S B d t (rowsAt cells row) (map k v) is own (rowsAt cells (row + 1)) row-read 31 row (rw f)
 
-      pub map-start : (out : List ℕ) (pos next : ℕ) (mid : List ℕ) → length out ≤ 16384 → PutAt out pos (varuintBytes c) next mid
-          → emitAll S (pairs c k v) (walk (show S B d) [] (pairs c k v) (rowsAt cells (row + 1))) next mid ≡ emit S t (show S B (suc d) t (rowsAt cells row)) pos out
-      map-start = node-start S t (map k v) is own c _ _ map-node
-
-      pub map-accepted : Accepted (show S B (suc d) t (rowsAt cells row)) → Accepted (walk (show S B d) [] (pairs c k v) (rowsAt cells (row + 1)))
-      map-accepted = node-accepted S t (map k v) is own c _ _ map-node
-
-    module _ (fs : List Field) (is : S t ≡ struct fs) where
-      -- the presence bits of a struct that is accepted are complete
-      pub struct-known : Accepted (show S B (suc d) t (rowsAt cells row)) → complete fs (little (span B p (bitmapBytes (length fs)))) ≡ true
-      unfolding bitsAt
-      struct-known a =
-          let w = accepted-first (bitsAt B row fs p (rowsAt cells (row + 1))) _ (says-accepted S B d t (rowsAt cells row) (struct fs) is own (rowsAt cells (row + 1)) row-read a) in
-          let v = accepted-check (inside B p (bitmapBytes (length fs))) 51 row (rowsAt cells (row + 1)) _ w in
-          accepted-check (complete fs (little (span B p (bitmapBytes (length fs))))) 25 row (rowsAt cells (row + 1)) _ (v .1) .0
-
-      module _ (head : Head) (headed : Headed B fs p head) where
-        pub struct-fault : (number : ℕ) → head ≡ Fault number → show S B (suc d) t (rowsAt cells row) ≡ refused number row
-        unfolding andThen
-        struct-fault number q =
-            show-bad S B d t (rowsAt cells row) (struct fs) is own (rowsAt cells (row + 1)) row-read number row
-            (rw (sym (headed .same row (rowsAt cells (row + 1))) ∙ ap (headOf row (rowsAt cells (row + 1))) q))
-
-        module _ (word known ones unknown : ℕ) (q : head ≡ Bits word known ones unknown) where
-          head-in : HeadIn fs (Bits word known ones unknown)
-          head-in = rw q at (headed .within)
-
-          bits-read : bitsAt B row fs p (rowsAt cells (row + 1)) ≡ seen word (rowsAt cells (row + 1))
-          bits-read = sym (headed .same row (rowsAt cells (row + 1))) ∙ ap (headOf row (rowsAt cells (row + 1))) q
-
-          -- a word other than its known bits is not below 2 ^ fields
-          above : (word ≡ known → ⊥) → 2 ^ length fs ≤ word
-          above h = elim (decLt word (2 ^ length fs)) [
-            | yes l ↦ absurd (h (sym (head-in .0 ∙ mod-eq-of-lt l)))
-            | no g ↦ omega arith
-          ]
-
-          pub struct-unknown : (word ≡ known → ⊥) → show S B (suc d) t (rowsAt cells row) ≡ refused 50 row
+        module _ (few : c ≤ 64) where
+          map-node : show S B (suc d) t (rowsAt cells row) ≡ andThen (walk (show S B d) [] (pairs c k v) (rowsAt cells (row + 1))) (λ ts c₁. seen (branch own c ts) c₁)
           unfolding andThen check
-          struct-unknown h =
-              let f : ltb word (2 ^ length fs) ≡ false = le-ltb word (2 ^ length fs) (above h) in
-              show-bad S B d t (rowsAt cells row) (struct fs) is own (rowsAt cells (row + 1)) row-read 50 row (rw (bits-read, f))
+          map-node =
+              let f : leb c 64 ≡ true = le-leb c 64 few in
+              show-parts S B d t (rowsAt cells row) (map k v) is own (rowsAt cells (row + 1)) row-read 0 c (rw f)
 
-          module _ (same-word : word ≡ known) where
-            below : ltb word (2 ^ length fs) ≡ true
-            below =
-                lt-ltb word (2 ^ length fs)
-                (subst (λ (m : ℕ). m < 2 ^ length fs) (sym (same-word ∙ head-in .0)) (mod-lt word (pow-pos (length fs))))
+          pub map-start : {out : List ℕ} {pos next : ℕ} {mid : List ℕ} → length out ≤ 16384 → PutAt out pos (varuintBytes c) next mid
+              → emitAll S (pairs c k v) (walk (show S B d) [] (pairs c k v) (rowsAt cells (row + 1))) next mid ≡ emit S t (show S B (suc d) t (rowsAt cells row)) pos out
+          map-start = node-start S t (map k v) is own c _ _ map-node _ _ _ _
 
-            counts : ones ≡ length (present fs word)
-            counts = rw same-word (head-in .1)
+          pub map-accepted : Accepted (show S B (suc d) t (rowsAt cells row)) → Accepted (walk (show S B d) [] (pairs c k v) (rowsAt cells (row + 1)))
+          map-accepted = node-accepted S t (map k v) is own c _ _ map-node
 
-            pub struct-miscounted : (c ≡ ones → ⊥) → show S B (suc d) t (rowsAt cells row) ≡ refused 50 row
+      module _ {fs : List Field} (is : S t ≡ struct fs) where
+        -- the presence bits of a struct that is accepted are complete
+        pub struct-known : Accepted (show S B (suc d) t (rowsAt cells row)) → complete fs (little (span B p (bitmapBytes (length fs)))) ≡ true
+        unfolding bitsAt
+        struct-known a =
+            let w = accepted-first (bitsAt B row fs p (rowsAt cells (row + 1))) _ (says-accepted S B d t (rowsAt cells row) (struct fs) is own (rowsAt cells (row + 1)) row-read a) in
+            let v = accepted-check (inside B p (bitmapBytes (length fs))) 51 row (rowsAt cells (row + 1)) _ w in
+            accepted-check (complete fs (little (span B p (bitmapBytes (length fs))))) 25 row (rowsAt cells (row + 1)) _ (v .1) .0
+
+        module _ {head : Head} (headed : Headed B fs p head) where
+          pub struct-fault : {number : ℕ} → head ≡ Fault number → show S B (suc d) t (rowsAt cells row) ≡ refused number row
+          unfolding andThen
+          struct-fault {number} q =
+              show-bad S B d t (rowsAt cells row) (struct fs) is own (rowsAt cells (row + 1)) row-read number row
+              (rw (sym (headed .same row (rowsAt cells (row + 1))) ∙ ap (headOf row (rowsAt cells (row + 1))) q))
+
+          module _ {word known ones unknown : ℕ} (q : head ≡ Bits word known ones unknown) where
+            head-in : HeadIn fs (Bits word known ones unknown)
+            head-in = rw q at (headed .within)
+
+            bits-read : bitsAt B row fs p (rowsAt cells (row + 1)) ≡ seen word (rowsAt cells (row + 1))
+            bits-read = sym (headed .same row (rowsAt cells (row + 1))) ∙ ap (headOf row (rowsAt cells (row + 1))) q
+
+            -- a word other than its known bits is not below 2 ^ fields
+            above : (word ≡ known → ⊥) → 2 ^ length fs ≤ word
+            above h = elim (decLt word (2 ^ length fs)) [
+              | yes l ↦ absurd (h (sym (head-in .0 ∙ mod-eq-of-lt l)))
+              | no g ↦ omega arith
+            ]
+
+            pub struct-unknown : (word ≡ known → ⊥) → show S B (suc d) t (rowsAt cells row) ≡ refused 50 row
             unfolding andThen check
-            struct-miscounted h =
-                let f : eqb c (length (present fs word)) ≡ false = rw (← counts) (ne-eqb c ones h) in
-                show-bad S B d t (rowsAt cells row) (struct fs) is own (rowsAt cells (row + 1)) row-read 50 row (rw (bits-read, below, f))
+            struct-unknown h =
+                let f : ltb word (2 ^ length fs) ≡ false = le-ltb word (2 ^ length fs) (above h) in
+                show-bad S B d t (rowsAt cells row) (struct fs) is own (rowsAt cells (row + 1)) row-read 50 row (rw (bits-read, f))
 
-            module _ (k : c ≡ ones) where
-              struct-node : show S B (suc d) t (rowsAt cells row) ≡ andThen (walk (show S B d) [] (present fs known) (rowsAt cells (row + 1))) (λ ts c₁. seen (branch own known ts) c₁)
+            module _ (same-word : word ≡ known) where
+              below : ltb word (2 ^ length fs) ≡ true
+              below =
+                  lt-ltb word (2 ^ length fs)
+                  (subst (λ (m : ℕ). m < 2 ^ length fs) (sym (same-word ∙ head-in .0)) (mod-lt word (pow-pos (length fs))))
+
+              counts : ones ≡ length (present fs word)
+              counts = rw same-word (head-in .1)
+
+              pub struct-miscounted : (c ≡ ones → ⊥) → show S B (suc d) t (rowsAt cells row) ≡ refused 50 row
               unfolding andThen check
-              struct-node =
-                  let f : eqb c (length (present fs word)) ≡ true = rw (← counts) (eq-eqb c ones k) in
-                  rw (← same-word) (show-parts S B d t (rowsAt cells row) (struct fs) is own (rowsAt cells (row + 1)) row-read 0 word (rw (bits-read, below, f)))
+              struct-miscounted h =
+                  let f : eqb c (length (present fs word)) ≡ false = rw (← counts) (ne-eqb c ones h) in
+                  show-bad S B d t (rowsAt cells row) (struct fs) is own (rowsAt cells (row + 1)) row-read 50 row (rw (bits-read, below, f))
 
-              pub struct-start : (out : List ℕ) (pos next : ℕ) (mid : List ℕ) → length out ≤ 16384 → PutAt out pos (bytes (bitmapBytes (length fs)) known) next mid
-                  → emitAll S (present fs known) (walk (show S B d) [] (present fs known) (rowsAt cells (row + 1))) next mid ≡ emit S t (show S B (suc d) t (rowsAt cells row)) pos out
-              struct-start = node-start S t (struct fs) is own known _ _ struct-node
+              module _ (k : c ≡ ones) where
+                struct-node : show S B (suc d) t (rowsAt cells row) ≡ andThen (walk (show S B d) [] (present fs known) (rowsAt cells (row + 1))) (λ ts c₁. seen (branch own known ts) c₁)
+                unfolding andThen check
+                struct-node =
+                    let f : eqb c (length (present fs word)) ≡ true = rw (← counts) (eq-eqb c ones k) in
+                    rw (← same-word) (show-parts S B d t (rowsAt cells row) (struct fs) is own (rowsAt cells (row + 1)) row-read 0 word (rw (bits-read, below, f)))
 
-              pub struct-accepted : Accepted (show S B (suc d) t (rowsAt cells row)) → Accepted (walk (show S B d) [] (present fs known) (rowsAt cells (row + 1)))
-              struct-accepted = node-accepted S t (struct fs) is own known _ _ struct-node
+                pub struct-start : {m : ℕ} → length fs ≡ m → {out : List ℕ} {pos next : ℕ} {mid : List ℕ} → length out ≤ 16384 → PutAt out pos (bytes (bitmapBytes m) known) next mid
+                    → emitAll S (present fs known) (walk (show S B d) [] (present fs known) (rowsAt cells (row + 1))) next mid ≡ emit S t (show S B (suc d) t (rowsAt cells row)) pos out
+                struct-start long l put = node-start S t (struct fs) is own known _ _ struct-node _ _ _ _ l (rw long put)
+
+                pub struct-accepted : Accepted (show S B (suc d) t (rowsAt cells row)) → Accepted (walk (show S B d) [] (present fs known) (rowsAt cells (row + 1)))
+                struct-accepted = node-accepted S t (struct fs) is own known _ _ struct-node
 
 -- ---- elements of an array
 
-module _ (S : ℕ → Shape) (P : ℕ → RowReader Tree) (e left : ℕ) (some : 0 < left) (c : CursorOf Row) (pos : ℕ) (out : List ℕ) where
-  pub element-past : length out ≤ 16384 → (c′ : CursorOf Row) (next : ℕ) (mid : List ℕ) → done c′ next mid ≡ emit S e (P e c) pos out
-      → emitAll S (replicate (left - 1) (plainItem e)) (walk P [] (replicate (left - 1) (plainItem e)) c′) next mid
-      ≡ emitAll S (replicate left (plainItem e)) (walk P [] (replicate left (plainItem e)) c) pos out
-  element-past l c′ next mid h =
-      rw (elements-some e left some) (item-past S P [] (replicate (left - 1) (plainItem e)) e c pos out l c′ next mid h)
-
-  pub element-stop : (n q : ℕ) → stopped n q ≡ emit S e (P e c) pos out
-      → stopped n q ≡ emitAll S (replicate left (plainItem e)) (walk P [] (replicate left (plainItem e)) c) pos out
-  element-stop n q h = rw (elements-some e left some) (item-stop S P [] (replicate (left - 1) (plainItem e)) e c pos out n q h)
-
+module _ (P : ℕ → RowReader Tree) (e : ℕ) {left : ℕ} (some : 0 < left) (c : CursorOf Row) where
   pub element-accepted : Accepted (walk P [] (replicate left (plainItem e)) c) → Accepted (P e c)
   element-accepted h = item-accepted P [] (replicate (left - 1) (plainItem e)) e c (rw (elements-some e left some) at h)
+
+  module _ (S : ℕ → Shape) (pos : ℕ) (out : List ℕ) where
+    pub element-past : length out ≤ 16384 → {c′ : CursorOf Row} {next : ℕ} {mid : List ℕ} → done c′ next mid ≡ emit S e (P e c) pos out
+        → emitAll S (replicate (left - 1) (plainItem e)) (walk P [] (replicate (left - 1) (plainItem e)) c′) next mid
+        ≡ emitAll S (replicate left (plainItem e)) (walk P [] (replicate left (plainItem e)) c) pos out
+    element-past l {c′} {next} {mid} h =
+        rw (elements-some e left some) (item-past S P [] (replicate (left - 1) (plainItem e)) e c pos out l c′ next mid h)
+
+    pub element-stop : {n q : ℕ} → stopped n q ≡ emit S e (P e c) pos out
+        → stopped n q ≡ emitAll S (replicate left (plainItem e)) (walk P [] (replicate left (plainItem e)) c) pos out
+    element-stop {n} {q} h = rw (elements-some e left some) (item-stop S P [] (replicate (left - 1) (plainItem e)) e c pos out n q h)
 
 -- ---- fields of a struct
 
@@ -216,55 +222,55 @@ pub record Turned (S : ℕ → Shape) (P : ℕ → RowReader Tree) (cells : List
   pub behind : to′ ≤ 16385
   pub long : length out′ ≡ length out
 
-module _ (S : ℕ → Shape) (P : ℕ → RowReader Tree) (cells : List ℕ) (T : Table) (i left bits here to : ℕ) (out : List ℕ)
-    (some : 0 < left) (room : i + left ≤ length (T .fields)) where
-  module _ (f : Field) (is : f ≡ field T i) (b : bits % 2 ≡ 1) where
-    pub field-stop : (n q : ℕ) → stopped n q ≡ emit S (f .ty) (P (f .ty) (rowsAt cells here)) to out
-        → stopped n q ≡ emitAll S (present (fieldsFrom T i left) bits) (walk P [] (present (fieldsFrom T i left) bits) (rowsAt cells here)) to out
-    field-stop n q h =
-        rw (present-set T i left some room bits f is b)
-        (item-stop S P [] (present (fieldsFrom T (i + 1) (left - 1)) (bits / 2)) (f .ty) (rowsAt cells here) to out n q h)
-
+module _ (P : ℕ → RowReader Tree) (cells : List ℕ) (T : Table) (i : ℕ) {left : ℕ} (bits here : ℕ) (some : 0 < left) (room : i + left ≤ length (T .fields)) where
+  module _ {f : Field} (is : f ≡ field T i) (b : bits % 2 ≡ 1) where
     pub field-accepted : Accepted (walk P [] (present (fieldsFrom T i left) bits) (rowsAt cells here)) → Accepted (P (f .ty) (rowsAt cells here))
     field-accepted h =
         item-accepted P [] (present (fieldsFrom T (i + 1) (left - 1)) (bits / 2)) (f .ty) (rowsAt cells here)
         (rw (present-set T i left some room bits f is b) at h)
 
-    pub field-read : length out ≤ 16384 → (row next : ℕ) (mid : List ℕ) → Walked cells (emit S (f .ty) (P (f .ty) (rowsAt cells here)) to out) (Past row next) mid
-        → length mid ≡ length out
-        → (here′ to′ : ℕ) (out′ : List ℕ) → here′ ≡ row → to′ ≡ next → out′ ≡ mid → Turned S P cells T i left bits here to out here′ to′ out′
-    field-read l row next mid h k here′ to′ out′ e₁ e₂ e₃ =
-        let w = h .within in
-        rw (e₁, e₂, e₃)
-        (record {
-          same =
-              rw (present-set T i left some room bits f is b)
-              (item-past S P [] (present (fieldsFrom T (i + 1) (left - 1)) (bits / 2)) (f .ty) (rowsAt cells here) to out l (rowsAt cells row) next mid (h .same));
-          inside = w .0;
-          behind = w .1;
-          long = k;
-        })
+    module _ (S : ℕ → Shape) (to : ℕ) (out : List ℕ) where
+      pub field-stop : {n q : ℕ} → stopped n q ≡ emit S (f .ty) (P (f .ty) (rowsAt cells here)) to out
+          → stopped n q ≡ emitAll S (present (fieldsFrom T i left) bits) (walk P [] (present (fieldsFrom T i left) bits) (rowsAt cells here)) to out
+      field-stop {n} {q} h =
+          rw (present-set T i left some room bits f is b)
+          (item-stop S P [] (present (fieldsFrom T (i + 1) (left - 1)) (bits / 2)) (f .ty) (rowsAt cells here) to out n q h)
 
-  pub field-absent : (bits % 2 ≡ 1 → ⊥) → here ≤ length cells / 4 → to ≤ 16385
-      → (here′ to′ : ℕ) (out′ : List ℕ) → here′ ≡ here → to′ ≡ to → out′ ≡ out → Turned S P cells T i left bits here to out here′ to′ out′
-  field-absent b inside behind here′ to′ out′ e₁ e₂ e₃ =
+      pub field-read : length out ≤ 16384 → {row next : ℕ} {mid : List ℕ}
+          → Walked cells (emit S (f .ty) (P (f .ty) (rowsAt cells here)) to out) (Past row next) mid → length mid ≡ length out
+          → {here′ to′ : ℕ} {out′ : List ℕ} → here′ ≡ row → to′ ≡ next → out′ ≡ mid → Turned S P cells T i left bits here to out here′ to′ out′
+      field-read l {row} {next} {mid} h k e₁ e₂ e₃ =
+          let w = h .within in
+          rw (e₁, e₂, e₃)
+          (record {
+            same =
+                rw (present-set T i left some room bits f is b)
+                (item-past S P [] (present (fieldsFrom T (i + 1) (left - 1)) (bits / 2)) (f .ty) (rowsAt cells here) to out l (rowsAt cells row) next mid (h .same));
+            inside = w .0;
+            behind = w .1;
+            long = k;
+          })
+
+  pub field-absent : (S : ℕ → Shape) (to : ℕ) (out : List ℕ) → (bits % 2 ≡ 1 → ⊥) → here ≤ length cells / 4 → to ≤ 16385
+      → {here′ to′ : ℕ} {out′ : List ℕ} → here′ ≡ here → to′ ≡ to → out′ ≡ out → Turned S P cells T i left bits here to out here′ to′ out′
+  field-absent S to out b inside behind e₁ e₂ e₃ =
       rw (e₁, e₂, e₃)
       (record { same = rw (present-clear T i left some room bits b); inside = inside; behind = behind; long = refl })
 
 -- ---- pairs of a map
 
-module _ (S : ℕ → Shape) (P : ℕ → RowReader Tree) (k v n i : ℕ) (keys : List (List ℕ)) (cells : List ℕ) (here : ℕ) (some : i < n) where
+module _ (P : ℕ → RowReader Tree) (k v : ℕ) {n i : ℕ} (keys : List (List ℕ)) (cells : List ℕ) (here : ℕ) (some : i < n) where
   split : pairs (n - i) k v ≡ keyItem k ∷ (plainItem v ∷ pairs (n - i - 1) k v)
   split = pairs-some k v (n - i) (omega arith)
 
   pub pair-key-accepted : Accepted (walk P keys (pairs (n - i) k v) (rowsAt cells here)) → Accepted (P k (rowsAt cells here))
   pair-key-accepted h = key-accepted P keys (plainItem v ∷ pairs (n - i - 1) k v) k (rowsAt cells here) (rw split at h)
 
-  pub pair-key-stop : (to : ℕ) (out : List ℕ) (a q : ℕ) → P k (rowsAt cells here) ≡ refused a q
+  pub pair-key-stop : (S : ℕ → Shape) (to : ℕ) (out : List ℕ) {a q : ℕ} → P k (rowsAt cells here) ≡ refused a q
       → stopped a q ≡ emitAll S (pairs (n - i) k v) (walk P keys (pairs (n - i) k v) (rowsAt cells here)) to out
-  pair-key-stop to out a q e = rw split (key-stop S P keys (plainItem v ∷ pairs (n - i - 1) k v) k (rowsAt cells here) to out a q e)
+  pair-key-stop S to out {a} {q} e = rw split (key-stop S P keys (plainItem v ∷ pairs (n - i - 1) k v) k (rowsAt cells here) to out a q e)
 
-  module _ (x : List ℕ) (c′ : CursorOf Row) (read : (r : Row) × (P k (rowsAt cells here) ≡ seen (tip r x) c′)) where
+  module _ {x : List ℕ} {c′ : CursorOf Row} (read : (r : Row) × (P k (rowsAt cells here) ≡ seen (tip r x) c′)) where
     known : Accepted (walk P keys (pairs (n - i) k v) (rowsAt cells here)) → (among x keys ≡ false) × Accepted (walk P (x ∷ keys) (plainItem v ∷ pairs (n - i - 1) k v) c′)
     known h = key-known P keys (plainItem v ∷ pairs (n - i - 1) k v) k (rowsAt cells here) (read .0) x c′ (read .1) (rw split at h)
 
@@ -274,30 +280,31 @@ module _ (S : ℕ → Shape) (P : ℕ → RowReader Tree) (k v n i : ℕ) (keys 
     pub pair-value-accepted : Accepted (walk P keys (pairs (n - i) k v) (rowsAt cells here)) → Accepted (P v c′)
     pair-value-accepted h = item-accepted P (x ∷ keys) (pairs (n - i - 1) k v) v c′ (known h .1)
 
-    pub pair-again : (to : ℕ) (out : List ℕ) → among x keys ≡ true
-        → stopped 24 here ≡ emitAll S (pairs (n - i) k v) (walk P keys (pairs (n - i) k v) (rowsAt cells here)) to out
-    pair-again to out e =
-        rw split (key-again S P keys (plainItem v ∷ pairs (n - i - 1) k v) k (rowsAt cells here) (read .0) x c′ (read .1) to out e)
+    module _ (S : ℕ → Shape) (to : ℕ) (out : List ℕ) where
+      pub pair-again : among x keys ≡ true → stopped 24 here ≡ emitAll S (pairs (n - i) k v) (walk P keys (pairs (n - i) k v) (rowsAt cells here)) to out
+      pair-again e =
+          rw split (key-again S P keys (plainItem v ∷ pairs (n - i - 1) k v) k (rowsAt cells here) (read .0) x c′ (read .1) to out e)
 
-    module _ (new : among x keys ≡ false) (to : ℕ) (out : List ℕ) (next : ℕ) (mid : List ℕ) (l : length out ≤ 16384) (put : PutAt out to (leafBytes (S k) x) next mid) where
-      value-next : emitAll S (plainItem v ∷ pairs (n - i - 1) k v) (walk P (x ∷ keys) (plainItem v ∷ pairs (n - i - 1) k v) c′) next mid
-          ≡ emitAll S (pairs (n - i) k v) (walk P keys (pairs (n - i) k v) (rowsAt cells here)) to out
-      value-next =
-          rw split (key-new S P keys (plainItem v ∷ pairs (n - i - 1) k v) k (rowsAt cells here) (read .0) x c′ (read .1) to out next mid l put new)
+      module _ (new : among x keys ≡ false) {sh : Shape} (is : S k ≡ sh) {next : ℕ} {mid : List ℕ} (l : length out ≤ 16384)
+          (put : PutAt out to (leafBytes sh x) next mid) where
+        value-next : emitAll S (plainItem v ∷ pairs (n - i - 1) k v) (walk P (x ∷ keys) (plainItem v ∷ pairs (n - i - 1) k v) c′) next mid
+            ≡ emitAll S (pairs (n - i) k v) (walk P keys (pairs (n - i) k v) (rowsAt cells here)) to out
+        value-next =
+            rw split (key-new S P keys (plainItem v ∷ pairs (n - i - 1) k v) k (rowsAt cells here) (read .0) x c′ (read .1) to out next mid l (rw is put) new)
 
-      pub pair-value-stop : (a q : ℕ) → stopped a q ≡ emit S v (P v c′) next mid
-          → stopped a q ≡ emitAll S (pairs (n - i) k v) (walk P keys (pairs (n - i) k v) (rowsAt cells here)) to out
-      pair-value-stop a q e = item-stop S P (x ∷ keys) (pairs (n - i - 1) k v) v c′ next mid a q e ∙ value-next
+        pub pair-value-stop : {a q : ℕ} → stopped a q ≡ emit S v (P v c′) next mid
+            → stopped a q ≡ emitAll S (pairs (n - i) k v) (walk P keys (pairs (n - i) k v) (rowsAt cells here)) to out
+        pair-value-stop {a} {q} e = item-stop S P (x ∷ keys) (pairs (n - i - 1) k v) v c′ next mid a q e ∙ value-next
 
-      pub pair-value-past : length mid ≤ 16384 → (c″ : CursorOf Row) (to′ : ℕ) (out′ : List ℕ) → done c″ to′ out′ ≡ emit S v (P v c′) next mid
-          → (keys′ : List (List ℕ)) → keys′ ≡ x ∷ keys
-          → emitAll S (pairs (n - (i + 1)) k v) (walk P keys′ (pairs (n - (i + 1)) k v) c″) to′ out′
-          ≡ emitAll S (pairs (n - i) k v) (walk P keys (pairs (n - i) k v) (rowsAt cells here)) to out
-      pair-value-past l′ c″ to′ out′ e keys′ f =
-          let q : n - (i + 1) ≡ n - i - 1 = omega arith in
-          rw (f, q) (item-past S P (x ∷ keys) (pairs (n - i - 1) k v) v c′ next mid l′ c″ to′ out′ e ∙ value-next)
+        pub pair-value-past : length mid ≤ 16384 → {c″ : CursorOf Row} {to′ : ℕ} {out′ : List ℕ} → done c″ to′ out′ ≡ emit S v (P v c′) next mid
+            → {keys′ : List (List ℕ)} → keys′ ≡ x ∷ keys
+            → emitAll S (pairs (n - (i + 1)) k v) (walk P keys′ (pairs (n - (i + 1)) k v) c″) to′ out′
+            ≡ emitAll S (pairs (n - i) k v) (walk P keys (pairs (n - i) k v) (rowsAt cells here)) to out
+        pair-value-past l′ {c″} {to′} {out′} e f =
+            let q : n - (i + 1) ≡ n - i - 1 = omega arith in
+            rw (f, q) (item-past S P (x ∷ keys) (pairs (n - i - 1) k v) v c′ next mid l′ c″ to′ out′ e ∙ value-next)
 
 -- the loop over pairs starts with no key
-pub pairs-first : (S : ℕ → Shape) (P : ℕ → RowReader Tree) (k v n : ℕ) (keys : List (List ℕ)) (c : CursorOf Row) (to : ℕ) (out : List ℕ) → keys ≡ []
+pub pairs-first : (S : ℕ → Shape) (P : ℕ → RowReader Tree) (k v n : ℕ) {keys : List (List ℕ)} (c : CursorOf Row) (to : ℕ) (out : List ℕ) → keys ≡ []
     → emitAll S (pairs (n - 0) k v) (walk P keys (pairs (n - 0) k v) c) to out ≡ emitAll S (pairs n k v) (walk P [] (pairs n k v) c) to out
-pairs-first S P k v n keys c to out e = let q : n - 0 ≡ n = omega arith in rw (e, q)
+pairs-first S P k v n c to out e = let q : n - 0 ≡ n = omega arith in rw (e, q)

@@ -1,9 +1,9 @@
 -- Laws of the leaves: what each of their returns shows of the crate `value`'s reading of a row.
 -- Assumes nothing.
 use mathlib.Core.Path.{_≡_, refl, sym, ap, _∙_}
-use mathlib.Core.Bool.{Bool, true, false, not, _&&_, _||_}
-use mathlib.Core.List.{List, [], _∷_}
-use Prim.Native.Nat.{ℕ, zero, suc, _+_, _-_, _*_, _/_, _≤_, _<_}
+use mathlib.Core.Bool.{true, false, not, _&&_, _||_}
+use mathlib.Core.List.{List}
+use Prim.Native.Nat.{ℕ, _+_, _-_, _*_, _/_, _≤_, _<_}
 use native.Mathlib.Omega.{arith}
 use native.Mathlib.Numerals.{add-one}
 use native.Mathlib.Decide.{decLt, ℕ-discrete}
@@ -12,11 +12,10 @@ use lib.Dec.{ltb, eqb}
 use lib.ListN.{length, getD}
 use Rattle.wire.specs.Little.{little}
 use Rattle.wire.specs.Utf8.{utf8}
-use Rattle.wire.proofs.Numbers.{little-one}
 use Rattle.schema.specs.Table.{scalar, text, width}
 use Rattle.schema.proofs.Bools.{and-left, and-right}
 use Rattle.value.specs.declared.Row.{Row}
-use Rattle.value.specs.Answer.{CursorOf, AnswerOf, ReaderOf, refused, seen, andThen, check, Accepted}
+use Rattle.value.specs.Answer.{CursorOf, seen, andThen, check, Accepted}
 use Rattle.value.specs.Write.{nextRow, rowOf, span, inside, says}
 use Rattle.value.proofs.Answers.{accepted-first, accepted-check}
 use Rattle.value.proofs.Spans.{truth-byte}

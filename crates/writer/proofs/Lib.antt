@@ -1,7 +1,6 @@
 pub mod Puts
 pub mod Leaves
 pub mod Heads
-pub mod Keys
 pub mod Steps
 pub mod Composites
 pub mod Roots

@@ -30,7 +30,7 @@ use Rattle.writer.specs.Leaf.{rowsAt, dueOf, RowDue, headOf, HeadIn, Hea
 use Rattle.writer.proofs.Steps.{done-put, branch-bytes}
 use Rattle.writer.proofs.Composites.{row-read}
 
-module _ (S : ℕ → Shape) (B : List ℕ) (t : ℕ) (fs : List Field) (cells : List ℕ) (due : Due) (found : RowDue cells 0 t due) where
+module _ (S : ℕ → Shape) (B : List ℕ) (fs : List Field) {t : ℕ} {cells : List ℕ} {due : Due} (found : RowDue cells 0 t due) where
   -- what follows the row, the presence bits and the fields
   afterFields : Row → ℕ → Forest → RowReader Tree
   afterFields r h ts c = andThen (check (eqb (length (c .left)) 0) 50 (c .at) c) (λ _ c₁. seen (branch r h ts) c₁)
@@ -48,13 +48,13 @@ module _ (S : ℕ → Shape) (B : List ℕ) (t : ℕ) (fs : List Field) (cells :
   unfolding andThen
   root-absent e = rw (root-step, sym (found .same) ∙ ap (dueOf cells 0 t) e)
 
-  module _ (p n c : ℕ) (e : due ≡ Found p n c) where
+  module _ {p n c : ℕ} (e : due ≡ Found p n c) where
     abbrev own : Row
     own = record { ty = t; place = p; length = n; count = c }
 
     root-row : showRoot S B t fs (rowsAt cells 0) ≡ andThen (bitsAt B 0 fs p (rowsAt cells 1)) (afterBits own)
     unfolding andThen
-    root-row = rw (root-step, row-read S B 0 t cells 0 due found p n c e)
+    root-row = rw (root-step, row-read found e)
 
     pub root-known : Accepted (showRoot S B t fs (rowsAt cells 0)) → complete fs (little (span B p (bitmapBytes (length fs)))) ≡ true
     unfolding bitsAt
@@ -63,12 +63,12 @@ module _ (S : ℕ → Shape) (B : List ℕ) (t : ℕ) (fs : List Field) (cells :
         let v = accepted-check (inside B p (bitmapBytes (length fs))) 51 0 (rowsAt cells 1) _ w in
         accepted-check (complete fs (little (span B p (bitmapBytes (length fs))))) 25 0 (rowsAt cells 1) _ (v .1) .0
 
-    module _ (head : Head) (headed : Headed B fs p head) where
-      pub root-fault : (number : ℕ) → head ≡ Fault number → showRoot S B t fs (rowsAt cells 0) ≡ refused number 0
+    module _ {head : Head} (headed : Headed B fs p head) where
+      pub root-fault : {number : ℕ} → head ≡ Fault number → showRoot S B t fs (rowsAt cells 0) ≡ refused number 0
       unfolding andThen
-      root-fault number q = rw (root-row, sym (headed .same 0 (rowsAt cells 1)) ∙ ap (headOf 0 (rowsAt cells 1)) q)
+      root-fault q = rw (root-row, sym (headed .same 0 (rowsAt cells 1)) ∙ ap (headOf 0 (rowsAt cells 1)) q)
 
-      module _ (word known ones unknown : ℕ) (q : head ≡ Bits word known ones unknown) where
+      module _ {word known ones unknown : ℕ} (q : head ≡ Bits word known ones unknown) where
         root-in : HeadIn fs (Bits word known ones unknown)
         root-in = rw q at (headed .within)
 
@@ -93,16 +93,16 @@ module _ (S : ℕ → Shape) (B : List ℕ) (t : ℕ) (fs : List Field) (cells :
           root-accepted a = accepted-first _ _ (rw root-walk at a)
 
           module _ (out : List ℕ) (next : ℕ) (mid : List ℕ) where
-            pub root-stopped : (number place : ℕ) → stopped number place ≡ emitAll S (present fs known) (walk (show S B 15) [] (present fs known) (rowsAt cells 1)) next mid
+            pub root-stopped : {number place : ℕ} → stopped number place ≡ emitAll S (present fs known) (walk (show S B 15) [] (present fs known) (rowsAt cells 1)) next mid
                 → stopped number place ≡ emit S t (showRoot S B t fs (rowsAt cells 0)) 0 out
             unfolding andThen emit emitAll
-            root-stopped number place h = rw root-walk (go (walk (show S B 15) [] (present fs known) (rowsAt cells 1)) h)
+            root-stopped {number} {place} h = rw root-walk (go (walk (show S B 15) [] (present fs known) (rowsAt cells 1)) h)
               where
                 go : (m : AnswerOf Row Forest) → stopped number place ≡ emitAll S (present fs known) m next mid → stopped number place ≡ emit S t (andThen m (afterFields own known)) 0 out
                 go (refused _ _) h = h
                 go (seen ts c₁) h = differ cc
 
-            module _ (row pos : ℕ) (out′ : List ℕ)
+            module _ {row pos : ℕ} {out′ : List ℕ}
                 (h : done (rowsAt cells row) pos out′ ≡ emitAll S (present fs known) (walk (show S B 15) [] (present fs known) (rowsAt cells 1)) next mid) where
               left-over : row ≤ length cells / 4 → length (drop row (rowsOf cells)) + row ≡ length cells / 4
               left-over l = rw (length-drop, length-rows cells) (omega arith)
@@ -120,10 +120,11 @@ module _ (S : ℕ → Shape) (B : List ℕ) (t : ℕ) (fs : List Field) (cells :
                   go (refused _ _) h = differ cc
 
               -- its encoding is that of a struct with the known bits
-              pub root-done : row ≤ length cells / 4 → length cells / 4 ≤ row → S t ≡ struct fs → length out ≤ 16384 → PutAt out 0 (bytes (bitmapBytes (length fs)) known) next mid
+              pub root-done : row ≤ length cells / 4 → length cells / 4 ≤ row → S t ≡ struct fs → {m : ℕ} → length fs ≡ m → length out ≤ 16384
+                  → PutAt out 0 (bytes (bitmapBytes m) known) next mid
                   → done (rowsAt cells row) pos out′ ≡ emit S t (showRoot S B t fs (rowsAt cells 0)) 0 out
               unfolding andThen check emit emitAll afterFields
-              root-done l l′ is small p = rw root-walk (go (walk (show S B 15) [] (present fs known) (rowsAt cells 1)) h)
+              root-done l l′ is long small p = rw root-walk (go (walk (show S B 15) [] (present fs known) (rowsAt cells 1)) h)
                 where
                   go : (m : AnswerOf Row Forest) → done (rowsAt cells row) pos out′ ≡ emitAll S (present fs known) m next mid
                       → done (rowsAt cells row) pos out′ ≡ emit S t (andThen m (afterFields own known)) 0 out
@@ -132,5 +133,5 @@ module _ (S : ℕ → Shape) (B : List ℕ) (t : ℕ) (fs : List Field) (cells :
                       let none = left-over l in
                       let f : eqb (length (drop row (rowsOf cells))) 0 ≡ true = eq-eqb (length (drop row (rowsOf cells))) 0 (omega arith) in
                       rw (g, f, branch-bytes S t own known ts, is)
-                      (h ∙ rw g (done-put (rowsAt cells row) out 0 (bytes (bitmapBytes (length fs)) known) (encodeAll S (values ts) (present fs known)) next mid small p))
+                      (h ∙ rw g (done-put (rowsAt cells row) out 0 (bytes (bitmapBytes (length fs)) known) (encodeAll S (values ts) (present fs known)) next mid small (rw long p)))
                   go (refused _ _) h = differ cc

@@ -3,7 +3,7 @@
 use mathlib.Core.Path.{_≡_, refl, _∙_}
 use mathlib.Core.Bool.{Bool, true, false}
 use mathlib.Core.List.{List, [], _∷_, _++_}
-use Prim.Native.Nat.{ℕ, zero, suc, _+_, _/_, _≤_}
+use Prim.Native.Nat.{ℕ, zero, suc, _+_, _-_, _/_, _≤_}
 use native.Mathlib.Omega.{arith}
 use lib.Dec.{eqb}
 use lib.ListN.{length}
@@ -16,12 +16,13 @@ use Rattle.value.specs.Read.{Item, plainItem, plan, plain, parts, among, walk}
 use Rattle.value.specs.Spell.{leafBytes, headBytes, encode, encodeAll}
 use Rattle.value.specs.Write.{RowReader, nextRow, rowOf, says, held, show}
 use Rattle.value.proofs.Answers.{accepted-first}
+use Rattle.parts.proofs.Walks.{deep, deeper, shallower}
 use Rattle.parts.proofs.Items.{keyItem, afterItem, afterKey, item-step, key-step}
 use Rattle.writer.specs.declared.walk.Walk.{Walk}
 use Rattle.writer.specs.declared.walk.Walk.the-variants.{Past, Refused}
 use Rattle.writer.specs.Emit.{put, cap, PutAt, Final, done, stopped, emit, emitAll}
 use Rattle.writer.specs.Leaf.{rowsAt, rowSays}
-use Rattle.writer.specs.Walk.{Walked}
+use Rattle.writer.specs.Walk.{Walked, Ready}
 use Rattle.writer.proofs.Puts.{put-after}
 
 -- ---- ends
@@ -32,15 +33,17 @@ was w e = rw e at w
 pub renamed : {cells : List ℕ} {end end′ : Final} {r : Walk} {out : List ℕ} → end ≡ end′ → Walked cells end r out → Walked cells end′ r out
 renamed e w = rw e at w
 
-pub as-stopped : {cells : List ℕ} {end : Final} {out : List ℕ} (n q : ℕ) → stopped n q ≡ end → Walked cells end (Refused n q) out
-as-stopped n q e = record { same = e; within = tt }
+pub as-stopped : {cells : List ℕ} {end : Final} {out : List ℕ} {n q : ℕ} → stopped n q ≡ end → Walked cells end (Refused n q) out
+as-stopped e = record { same = e; within = tt }
 
 pub as-refused : {cells : List ℕ} {end : Final} {out : List ℕ} {r : Walk} {n q : ℕ} → r ≡ Refused n q → stopped n q ≡ end → Walked cells end r out
-as-refused e h = rw e (as-stopped _ _ h)
+as-refused e h = rw e (as-stopped h)
 
-pub stopped-at : (S : ℕ → Shape) (t : ℕ) (o : AnswerOf Row Tree) (pos : ℕ) (out : List ℕ) (n q : ℕ) → o ≡ refused n q → stopped n q ≡ emit S t o pos out
+-- a value that is refused ends its walk
+pub shown-refused : (S : ℕ → Shape) (t pos : ℕ) (out : List ℕ) {o : AnswerOf Row Tree} {cells out′ : List ℕ} {r : Walk} {n q : ℕ}
+    → r ≡ Refused n q → o ≡ refused n q → Walked cells (emit S t o pos out) r out′
 unfolding emit
-stopped-at S t o pos out n q e = rw e
+shown-refused S t pos out e h = as-refused e (rw h)
 
 -- where two walks have the same end, one accepts where the other does
 pub accepted-along : (S : ℕ → Shape) (is is′ : List Item) (o o′ : AnswerOf Row Forest) (pos pos′ : ℕ) (l m : List ℕ)
@@ -49,6 +52,13 @@ unfolding emitAll
 accepted-along S is is′ (seen a c) o′ pos pos′ l m e h = tt
 accepted-along S is is′ (refused n q) (seen b c) pos pos′ l m e h = differ cc
 accepted-along S is is′ (refused n q) (refused n′ q′) pos pos′ l m e h = h
+
+-- what a walker may assume of the next one
+pub onward : {A A′ : Type 0} {s cells out out′ : List ℕ} {row row′ pos pos′ : ℕ} {judge : Bool} {o : AnswerOf Row A} {o′ : AnswerOf Row A′}
+    → Ready s cells out row pos judge o → row′ ≤ length cells / 4 → pos′ ≤ 16385 → length out′ ≡ length out → (Accepted o → Accepted o′)
+    → Ready s cells out′ row′ pos′ judge o′
+onward w inside behind long held =
+    record { good = w .good; inside = inside; behind = behind; small = rw long (w .small); judged = λ j. held (w .judged j) }
 
 pub done-put : (c : CursorOf Row) (out : List ℕ) (pos : ℕ) (a b : List ℕ) (next : ℕ) (mid : List ℕ) → length out ≤ 16384 → PutAt out pos a next mid
     → done c (cap (next + length b)) (put mid next b) ≡ done c (cap (pos + length (a ++ b))) (put out pos (a ++ b))
@@ -128,9 +138,9 @@ unfolding walk emitAll encodeAll values put
 walk-end S P keys c pos out h = let e : cap (pos + 0) ≡ pos = omega arith in rw e
 
 -- where no item is left, the end is here
-pub walk-done : (S : ℕ → Shape) (P : ℕ → RowReader Tree) (keys : List (List ℕ)) (is : List Item) (cells : List ℕ) (row pos : ℕ) (out : List ℕ) (end : Final)
+pub walk-done : (S : ℕ → Shape) (P : ℕ → RowReader Tree) (keys : List (List ℕ)) {is : List Item} {cells : List ℕ} {row pos : ℕ} {out : List ℕ} {end : Final}
     → is ≡ [] → emitAll S is (walk P keys is (rowsAt cells row)) pos out ≡ end → row ≤ length cells / 4 → pos ≤ 16385 → Walked cells end (Past row pos) out
-walk-done S P keys is cells row pos out end e h i p =
+walk-done S P keys {cells} {row} {pos} {out} e h i p =
     record { same = walk-end S P keys (rowsAt cells row) pos out p ∙ (rw e at h); within = (i, p) }
 
 -- ---- a value by its row
@@ -194,21 +204,51 @@ module _ (S : ℕ → Shape) (B : List ℕ) (d t : ℕ) (c : CursorOf Row) where
     leaf-first (seen r c₁) h = accepted-first (says B (c .at) sh (r .place) (r .length) (r .count) c₁) _ h
     leaf-first (refused n q) h = h
 
-    pub leaf-accepted : Accepted (show S B (suc d) t c) → Accepted (rowSays B t sh c)
+    leaf-said : Accepted (show S B (suc d) t c) → Accepted (rowSays B t sh c)
     unfolding rowSays
-    leaf-accepted h = leaf-first (rowOf t c) (rw (show-step, is) at h)
+    leaf-said h = leaf-first (rowOf t c) (rw (show-step, is) at h)
 
--- a row of an unknown type is refused, whatever it is
-pub show-unknown : (S : ℕ → Shape) (B : List ℕ) (d t : ℕ) → S t ≡ unknown → (rs : List Row) (k : ℕ) → show S B (suc d) t (record { left = rs; at = k }) ≡ refused 50 k
-unfolding andThen rowOf nextRow check
-show-unknown S B d t is [] k = show-refused S B d t (record { left = []; at = k }) 50 k refl
-show-unknown S B d t is (r ∷ rs) k = go (eqb (r .ty) t) refl
-  where
-    go : (b : Bool) → eqb (r .ty) t ≡ b → show S B (suc d) t (record { left = r ∷ rs; at = k }) ≡ refused 50 k
-    go true e = show-bad S B d t (record { left = r ∷ rs; at = k }) unknown is r (record { left = rs; at = k + 1 }) (rw e) 50 k refl
-    go false e = show-refused S B d t (record { left = r ∷ rs; at = k }) 50 k (rw e)
+-- ---- by the depth that is left
 
 pub show-deep : (S : ℕ → Shape) (B : List ℕ) (d t : ℕ) (c : CursorOf Row) → d ≡ 0 → show S B d t c ≡ refused 28 (c .at)
 unfolding show
 show-deep S B zero t c e = refl
 show-deep S B (suc d) t c e = absurd (omega arith)
+
+module _ (S : ℕ → Shape) (B : List ℕ) {d : ℕ} (some : d ≡ 0 → ⊥) (t : ℕ) (c : CursorOf Row) where
+  pub accepted-deeper : Accepted (show S B d t c) → Accepted (show S B (suc (d - 1)) t c)
+  accepted-deeper = deeper (λ k. Accepted (show S B k t c)) d some
+
+  pub walked-deeper : (pos : ℕ) (out : List ℕ) {cells : List ℕ} {r : Walk} {out′ : List ℕ}
+      → Walked cells (emit S t (show S B (suc (d - 1)) t c) pos out) r out′ → Walked cells (emit S t (show S B d t c) pos out) r out′
+  walked-deeper pos out {cells} {r} {out′} = shallower (λ k. Walked cells (emit S t (show S B k t c) pos out) r out′) d some
+
+  pub leaf-accepted : {sh : Shape} → S t ≡ sh → Accepted (show S B d t c) → Accepted (rowSays B t sh c)
+  leaf-accepted {sh} is a = leaf-said S B (d - 1) t c sh is (accepted-deeper a)
+
+row-none : (t k : ℕ) → rowOf t (record { left = []; at = k }) ≡ refused 50 k
+unfolding andThen rowOf nextRow
+row-none t k = refl
+
+module _ (r : Row) (rest : List Row) (t k : ℕ) where
+  row-typed : eqb (r .ty) t ≡ true → rowOf t (record { left = r ∷ rest; at = k }) ≡ seen r (record { left = rest; at = k + 1 })
+  unfolding andThen rowOf nextRow check
+  row-typed e = rw e
+
+  row-other : eqb (r .ty) t ≡ false → rowOf t (record { left = r ∷ rest; at = k }) ≡ refused 50 k
+  unfolding andThen rowOf nextRow check
+  row-other e = rw e
+
+-- a row of an unknown type is refused, whatever it is
+pub show-unknown : (S : ℕ → Shape) (B : List ℕ) {d : ℕ} (some : d ≡ 0 → ⊥) (t : ℕ) (rs : List Row) (k : ℕ) → S t ≡ unknown
+    → show S B d t (record { left = rs; at = k }) ≡ refused 50 k
+show-unknown S B {d} some t rs k is = rw (deep d some) (whatever rs)
+  where
+    either : (r : Row) (rest : List Row) (b : Bool) → eqb (r .ty) t ≡ b → show S B (suc (d - 1)) t (record { left = r ∷ rest; at = k }) ≡ refused 50 k
+    either r rest true e =
+        show-bad S B (d - 1) t (record { left = r ∷ rest; at = k }) unknown is r (record { left = rest; at = k + 1 }) (row-typed r rest t k e) 50 k refl
+    either r rest false e = show-refused S B (d - 1) t (record { left = r ∷ rest; at = k }) 50 k (row-other r rest t k e)
+
+    whatever : (rs : List Row) → show S B (suc (d - 1)) t (record { left = rs; at = k }) ≡ refused 50 k
+    whatever [] = show-refused S B (d - 1) t (record { left = []; at = k }) 50 k (row-none t k)
+    whatever (r ∷ rest) = either r rest (eqb (r .ty) t) refl

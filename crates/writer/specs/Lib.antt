@@ -1,6 +1,5 @@
 -- The writer in code: how bytes are put into the output, what its leaves and walkers answer, the keys of a map, and what its entries answer.
 pub mod Emit
 pub mod Leaf
-pub mod Keys
 pub mod Walk
 pub mod Entry

@@ -1,5 +1,4 @@
 // The value writer: the rows of a sheet over their bytes, written as a payload.
-pub mod key;
 pub mod leaf;
 pub mod put;
 pub mod walk;

@@ -1,9 +1,6 @@
 // The walkers: a value, and the arrays, maps and structs that hold values, call each other in a cycle; the depth still allowed falls.
 // They go over the rows of the sheet by the schema table s and put each value's encoding into the output, from `pos` on, where it has a place.
 // A walk that does not judge trusts that the same walk has been judged: it skips the tests that would read contents or keys again.
-use crate::key::is_kept;
-use crate::key::is_key;
-use crate::key::mark_of;
 use crate::leaf::Due;
 use crate::leaf::Head;
 use crate::leaf::Leaf;
@@ -13,24 +10,21 @@ use crate::leaf::row_due;
 use crate::put::put_bits;
 use crate::put::put_content;
 use crate::put::put_number;
+use parts::key::is_repeated;
 use schema::Layout;
 use schema::access::type_row;
 use schema::file::layout_of;
 use schema::rows::field_row;
 use schema::rows::row;
 ghost use mathlib.Core.Path.{_≡_};
-ghost use mathlib.Core.Bool.{false, cond};
 ghost use mathlib.Core.List.{[]};
-ghost use Prim.Native.Nat.{suc, _+_, _≤_, _<_, min};
-ghost use lib.ListN.{length, set, replicate};
+ghost use Prim.Native.Nat.{suc, _+_, _/_, _≤_, _<_};
+ghost use lib.ListN.{length, replicate};
 ghost use Rattle.schema.specs.Table.{rowAt, array, map, struct};
 ghost use Rattle.schema.specs.File.{Laid, tableOf};
-ghost use Rattle.schema.specs.Check.{IsGood};
-ghost use Rattle.value.specs.Read.{plainItem, pairs, present, among};
-ghost use Rattle.value.specs.Write.{span};
+ghost use Rattle.value.specs.Read.{plainItem, pairs, present};
 ghost use Rattle.writer.specs.declared.walk.Walk.the-variants.{Refused};
 ghost use Rattle.parts.specs.Shape.{fieldsFrom, shapeIn};
-ghost use Rattle.writer.specs.Keys.{Stands, keysPast};
 ghost use Rattle.writer.specs.Walk.{valueIn, itemsIn, rootIn, valueEnd, itemsEnd, rootEnd, Walked, Ready};
 
 // The row and the place in the output after what was written, or a refusal with its row.
@@ -268,71 +262,7 @@ fn array(
     }
 }
 
-fn least(a: usize, b: usize) -> usize
-    ensures { λ r. ⌜ r ≡ min a b ⌝ }
-{
-    if a < b { a } else { b }
-}
-
-fn either(t: bool, a: usize, b: usize) -> usize
-    ensures { λ r. ⌜ r ≡ cond t a b ⌝ }
-{
-    if t { a } else { b }
-}
-
-// Keeps a number of a key, its row or its mark, as number i, where there is a place for it.
-fn keep(kept: &mut [usize], i: usize, x: usize)
-    ensures { λ _. ⌜ now (kept .exit) ≡ set (now (kept .entry)) i x ⌝ }
-{
-    if i < kept.len() {
-        kept[i] = x;
-    }
-}
-
-// Whether one of m pairs from a row on, whose values have the type val, has the key of the n bytes at a place; where nothing is judged, none has.
-// Values are passed by a walk into an output of one byte, which is not looked at.
-fn has_key(
-    s: &[u8],
-    sheet: &[u32],
-    source: &[u8],
-    val: u32,
-    from: usize,
-    m: usize,
-    place: usize,
-    n: usize,
-    depth: usize,
-    judge: bool,
-) -> bool
-    requires { ⌜ IsGood (now s) × (place + n ≤ length (now source)) × Stands (now s) (now source) (now sheet) depth val m from × (judge ≡ false → among (span (now source) place n) (keysPast (now s) (now source) (now sheet) depth val m from []) ≡ false) ⌝ }
-    ensures { λ r. ⌜ r ≡ among (span (now (source .entry)) place n) (keysPast (now (s .entry)) (now (source .entry)) (now (sheet .entry)) depth val m from []) ⌝ }
-{
-    if !judge {
-        return false;
-    }
-    let mut spare = [0u8; 1];
-    let mut left = m;
-    let mut here = from;
-    while 0 < left {
-        if is_key(sheet, source, here, place, n) {
-            return true;
-        }
-        match value(s, sheet, source, &mut spare, val, here + 1, 0, depth, false) {
-            Walk::Refused {
-                number: _,
-                place: _,
-            } => {
-                return false;
-            }
-            Walk::Past { row, pos: _ } => {
-                here = row;
-            }
-        }
-        left = left - 1;
-    }
-    false
-}
-
-// A map of type ty. The rows of its keys and their marks are kept in arrays: few pairs need only short ones.
+// A map of type ty. One of more than 64 pairs is refused at its row. Its keys are kept in an array, a short one where there are few.
 fn mapping(
     s: &[u8],
     sheet: &[u32],
@@ -357,17 +287,18 @@ fn mapping(
             length: _,
             count,
         } => {
+            if 64 < count {
+                return refused(31, row);
+            }
             let next = put_number(out, pos, count as u64);
-            if (count <= 64) | !judge {
-                let mut kept = [0usize; 64];
-                let mut marks = [0usize; 64];
+            if count <= 8 {
+                let mut keys = [0usize; 16];
                 return pairs(
                     s,
                     sheet,
                     source,
                     out,
-                    &mut kept,
-                    &mut marks,
+                    &mut keys,
                     key,
                     val,
                     count,
@@ -377,15 +308,13 @@ fn mapping(
                     judge,
                 );
             }
-            let mut kept = [0usize; 4096];
-            let mut marks = [0usize; 4096];
+            let mut keys = [0usize; 128];
             pairs(
                 s,
                 sheet,
                 source,
                 out,
-                &mut kept,
-                &mut marks,
+                &mut keys,
                 key,
                 val,
                 count,
@@ -398,15 +327,13 @@ fn mapping(
     }
 }
 
-// The n pairs of a map from a row on. The rows of the first keys and their marks are kept, as many as there is room for; `from` is the row after
-// their pairs. The arrays are scratch: what they hold afterwards means nothing.
+// The n pairs of a map from a row on. What `keys` holds afterwards means nothing.
 fn pairs(
     s: &[u8],
     sheet: &[u32],
     source: &[u8],
     out: &mut [u8],
-    kept: &mut [usize],
-    marks: &mut [usize],
+    keys: &mut [usize],
     key: u32,
     val: u32,
     n: usize,
@@ -416,7 +343,7 @@ fn pairs(
     judge: bool,
 ) -> Walk
     requires { ⌜ Ready (now s) (now sheet) (now out) start pos judge (itemsIn (now s) (now source) (now sheet) depth [] (pairs n key val) start) ⌝ }
-    requires { ⌜ (0 < rowAt (tableOf (now s)) key .kind) × (rowAt (tableOf (now s)) key .kind < 14) × (length (now marks) ≡ length (now kept)) ⌝ }
+    requires { ⌜ (0 < rowAt (tableOf (now s)) key .kind) × (rowAt (tableOf (now s)) key .kind < 14) × (n ≤ length (now keys) / 2) × (n ≤ 64) ⌝ }
     ensures { λ r. ⌜ Walked (now (sheet .entry)) (itemsEnd (now (s .entry)) (now (source .entry)) (now (sheet .entry)) depth [] (pairs n key val) start pos (now (out .entry))) r (now (out .exit)) ⌝ }
 {
     let t = type_row(s, key as usize);
@@ -425,7 +352,6 @@ fn pairs(
     let mut i = 0;
     let mut here = start;
     let mut to = pos;
-    let mut from = start;
     while i < n {
         if depth == 0 {
             return refused(28, here);
@@ -435,23 +361,7 @@ fn pairs(
                 return refused(number, here);
             }
             Leaf::At { place, length } => {
-                let held = least(i, kept.len());
-                let mark = mark_of(source, place, length);
-                if is_kept(sheet, source, kept, marks, held, place, length, mark, judge) {
-                    return refused(24, here);
-                }
-                if has_key(
-                    s,
-                    sheet,
-                    source,
-                    val,
-                    from,
-                    i - held,
-                    place,
-                    length,
-                    depth,
-                    judge,
-                ) {
+                if is_repeated(source, keys, i, place, length, judge) {
                     return refused(24, here);
                 }
                 let next = put_content(out, to, kind, source, place, length);
@@ -471,9 +381,6 @@ fn pairs(
                         return Walk::Refused { number, place };
                     }
                     Walk::Past { row, pos } => {
-                        keep(kept, i, here);
-                        keep(marks, i, mark);
-                        from = either(i < kept.len(), row, from);
                         here = row;
                         to = pos;
                     }

@@ -124,7 +124,7 @@ pub fn extends(old: &[u8], new: &[u8], answer: &mut [u64]) -> u32 {
     }
 }
 
-/// Stores the place, the rows, and the tail's place and length.
+/// Stores the place, the rows, the tail's place and length, and the comparisons.
 pub fn read(schema: &[u8], ty: u32, payload: &[u8], sheet: &mut [u32], answer: &mut [u64]) -> u32 {
     // SAFETY: each pointer and length are those of a Rust slice; the two that
     // are written do not overlap, since both are `&mut`.
@@ -235,9 +235,9 @@ pub fn write_frame(
     }
 }
 
-/// Stores the place, the bytes used, the rows, the tail's place and length, and
-/// the calls open. The table has three cells a record, for the correlation, the
-/// method number and the marks.
+/// Stores the place, the bytes used, the rows, the tail's place and length, the
+/// calls open and the comparisons. The table has three cells a record, for the
+/// correlation, the method number and the marks.
 pub fn receive(
     table: &mut [u64],
     schema: &[u8],
@@ -277,6 +277,7 @@ mod tests {
     fn with_any_room(stores: usize, mut call: impl FnMut(&mut [u64]) -> u32) {
         let mut whole = [FILL; 9];
         let number = call(&mut whole);
+        assert!(whole[..stores].iter().all(|&cell| cell != FILL));
         assert!(whole[stores..].iter().all(|&cell| cell == FILL));
         for room in 0..whole.len() {
             let mut cells = [FILL; 9];
@@ -291,11 +292,11 @@ mod tests {
     fn answers_fill_the_cells_that_there_are() {
         with_any_room(1, |cells| check_table(&[], cells));
         with_any_room(2, |cells| extends(&[], &[], cells));
-        with_any_room(4, |cells| read(&[], 0, &[], &mut [], cells));
+        with_any_room(5, |cells| read(&[], 0, &[], &mut [], cells));
         with_any_room(2, |cells| write(&[], 0, &[], &[], &mut [], cells));
         with_any_room(4, |cells| scalar(&[], [0; 4], &[], cells));
         with_any_room(7, |cells| read_frame(&[], cells));
-        with_any_room(6, |cells| receive(&mut [], &[], b'C', &[], &mut [], cells));
+        with_any_room(7, |cells| receive(&mut [], &[], b'C', &[], &mut [], cells));
         with_any_room(1, |cells| write_frame(9, [0; 3], 0, &[], &mut [], cells));
     }
 
@@ -309,5 +310,35 @@ mod tests {
         assert_eq!(cells, [4, 5, 6, 7, correlation, 26, 2]);
         assert_eq!(out[26..28], [9, 8]);
         assert!(out[28..].iter().all(|&byte| byte == 0));
+    }
+
+    /// uint8, a map from it to itself, a struct with one such map, and a method
+    /// that takes it.
+    fn map_schema() -> Vec<u8> {
+        let types = [6, 0, 0, 15, 0, 0, 16, 0, 1];
+        let method = [1, 2, 3, 12, 2, 2, u32::MAX, u32::MAX];
+        let words = [&types[..], &[1, 0], &method, &[36, 44, 76, 1]].concat();
+        words.iter().flat_map(|word| word.to_le_bytes()).collect()
+    }
+
+    #[test]
+    fn comparisons_are_stored_last_and_none_at_a_refusal() {
+        let (schema, mut sheet) = (map_schema(), [0; 32]);
+        let right = [1, 3, 10, 0, 20, 0, 30, 0];
+        let mut cells = [FILL; 5];
+        assert_eq!(read(&schema, 2, &right, &mut sheet, &mut cells), 0);
+        assert_eq!(cells, [0, 8, 8, 0, 3]);
+        let surplus = [&right[..], &[0]].concat();
+        assert_eq!(read(&schema, 2, &surplus, &mut sheet, &mut cells), 27);
+        assert_eq!(cells, [8, 0, 0, 0, 0]);
+
+        let (mut table, mut frame, mut cells) = ([0; 3 * 128], [0; 35], [FILL; 7]);
+        let mut receive = |correlation, payload: &[u8]| {
+            write_frame(1, [1, 2, 3], correlation, payload, &mut frame, &mut []);
+            receive(&mut table, &schema, b'C', &frame, &mut sheet, &mut cells);
+            cells
+        };
+        assert_eq!(receive(1, &right), [0, 34, 8, 8, 0, 1, 3]);
+        assert_eq!(receive(2, &surplus), [8, 35, 0, 0, 0, 1, 0]);
     }
 }

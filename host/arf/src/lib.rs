@@ -2,8 +2,9 @@
 //!
 //! Each function lends its slices to the static library of `crates/exports`,
 //! whose Rattle source is proved, and hands its answer on as a Rust value. No
-//! function panics or fails for any input: what the rules do not allow comes
-//! back as a [`Refusal`] with the number and the place that they give it.
+//! function panics or fails for any input, on a thread that has [`STACK`] bytes
+//! of stack: what the rules do not allow comes back as a [`Refusal`] with the
+//! number and the place that they give it.
 //!
 //! ```
 //! // uint8, a struct with one such field, and no method.
@@ -24,8 +25,10 @@
 #![deny(unsafe_op_in_unsafe_fn)]
 
 mod ffi;
+mod limits;
 mod refusal;
 
+pub use limits::{MAX_COMPARISONS, MAX_DEPTH, MAX_PAIRS, MAX_PAYLOAD, SLOTS, STACK};
 pub use refusal::Refusal;
 
 /// A value for the number 0, and a refusal for any other.
@@ -75,14 +78,18 @@ pub struct Reading {
     pub tail_place: usize,
     /// How many bytes the tail has.
     pub tail_length: usize,
+    /// How many key comparisons the maps of the payload asked for: each later
+    /// key against each earlier key of its map.
+    pub comparisons: usize,
 }
 
 impl Reading {
-    fn from_cells([rows, tail_place, tail_length]: [u64; 3]) -> Reading {
+    fn from_cells([rows, tail_place, tail_length, comparisons]: [u64; 4]) -> Reading {
         Reading {
             rows: rows as usize,
             tail_place: tail_place as usize,
             tail_length: tail_length as usize,
+            comparisons: comparisons as usize,
         }
     }
 }
@@ -99,13 +106,32 @@ impl Reading {
 /// assert_eq!((refused.number, refused.place), (25, 0));
 /// assert_eq!(sheet, [0; 8]);
 /// ```
+///
+/// The reading says how many comparisons the keys of its maps asked for, and a
+/// map of more than [`MAX_PAIRS`] pairs is refused at its count.
+///
+/// ```
+/// // uint8, a map from it to itself, and a struct with one such map.
+/// let words = [6u32, 0, 0, 15, 0, 0, 16, 0, 1, 1, 0, 36, 44, 44, 1];
+/// let schema: Vec<u8> = words.iter().flat_map(|word| word.to_le_bytes()).collect();
+/// let mut sheet = [0; 32];
+/// // The second key is compared with the first, and the third with both.
+/// let payload = [0x01, 3, 10, 0, 20, 0, 30, 0];
+/// let reading = arf::read(&schema, 2, &payload, &mut sheet).unwrap();
+/// assert_eq!((reading.rows, reading.comparisons), (8, 3));
+///
+/// let mut payload = vec![0x01, 65];
+/// payload.extend((0..65).flat_map(|key| [key, 0]));
+/// let refused = arf::read(&schema, 2, &payload, &mut sheet).unwrap_err();
+/// assert_eq!((refused.number, refused.place), (31, 1));
+/// ```
 pub fn read(
     schema: &[u8],
     type_number: u32,
     payload: &[u8],
     sheet: &mut [u32],
 ) -> Result<Reading, Refusal> {
-    let mut cells = [0; 4];
+    let mut cells = [0; 5];
     let number = ffi::read(schema, type_number, payload, sheet, &mut cells);
     let [place, reading @ ..] = cells;
     answer(number, place, Reading::from_cells(reading))
@@ -324,9 +350,6 @@ pub fn write_frame(header: &Header, payload: &[u8], out: &mut [u8]) -> Result<us
     answer(number, 0, cells[0] as usize)
 }
 
-/// The number of slots of a call table.
-pub const SLOTS: usize = 128;
-
 /// The record of one slot. A free slot is zero in every member.
 #[derive(Clone, Copy, Debug, Default, PartialEq, Eq)]
 pub struct Call {
@@ -386,7 +409,7 @@ pub enum Outcome {
 #[derive(Clone, Copy, Debug, PartialEq, Eq)]
 pub struct Received {
     pub outcome: Outcome,
-    /// How many bytes were used.
+    /// How many bytes were used: the frame's length, or 0.
     pub used: usize,
     /// How many calls are open afterwards.
     pub open: usize,
@@ -438,6 +461,57 @@ impl CallTable {
     /// assert_eq!(table.receive(&schema, b'S', &frame, &mut sheet).open, 0);
     /// assert_eq!(table, CallTable::fresh());
     /// ```
+    ///
+    /// # Bytes used
+    ///
+    /// A frame that is accepted, or refused with 8 to 14, 20 to 29 or 31, is
+    /// used whole, and the next one starts behind it. For 1 to 7, 15, 30 and 40
+    /// to 44 `used` is 0, and the same call would give the same answer, so a
+    /// loop over a buffer has to do something else:
+    ///
+    /// - 1, which is [`Outcome::More`]: wait for more bytes, and call again
+    ///   with these before them.
+    /// - 2 to 7: end the connection, since these bytes are no frame and none can
+    ///   be found behind them.
+    /// - 15, 40 to 44: stop, since the call table or the schema is at fault and
+    ///   no frame can be judged.
+    /// - 30: call again with a longer sheet; no call has changed.
+    ///
+    /// ```
+    /// use arf::{CallTable, Outcome, Refusal};
+    ///
+    /// /// Judges the frames of a buffer and gives the bytes left to wait with.
+    /// fn judge(
+    ///     table: &mut CallTable,
+    ///     schema: &[u8],
+    ///     mut buffer: &[u8],
+    ///     sheet: &mut Vec<u32>,
+    /// ) -> Result<usize, Refusal> {
+    ///     loop {
+    ///         let received = table.receive(schema, b'C', buffer, sheet);
+    ///         match received.outcome {
+    ///             Outcome::More => return Ok(buffer.len()),
+    ///             Outcome::Refused(refusal) if refusal.number == 30 => {
+    ///                 sheet.resize(2 * sheet.len() + 4, 0)
+    ///             }
+    ///             Outcome::Refused(refusal) if received.used == 0 => return Err(refusal),
+    ///             _ => buffer = &buffer[received.used..],
+    ///         }
+    ///     }
+    /// }
+    ///
+    /// // A table with no method, so that every whole frame is 9 and is used.
+    /// let schema = [0, 0, 0, 0, 0, 0, 0, 0, 0, 0, 0, 0, 1, 0, 0, 0];
+    /// let mut frame = [0; 26];
+    /// let header = arf::Header { kind: 1, ..Default::default() };
+    /// arf::write_frame(&header, &[], &mut frame).unwrap();
+    /// let mut buffer = [frame, frame].concat();
+    /// let (mut table, mut sheet) = (CallTable::fresh(), Vec::new());
+    /// assert_eq!(judge(&mut table, &schema, &buffer[..40], &mut sheet), Ok(14));
+    /// buffer[26] = 0;
+    /// let refused = judge(&mut table, &schema, &buffer, &mut sheet).unwrap_err();
+    /// assert_eq!(refused.number, 2);
+    /// ```
     pub fn receive(
         &mut self,
         schema: &[u8],
@@ -446,10 +520,10 @@ impl CallTable {
         sheet: &mut [u32],
     ) -> Received {
         let table = self.cells.as_flattened_mut();
-        let mut cells = [0; 6];
+        let mut cells = [0; 7];
         let number = ffi::receive(table, schema, side, bytes, sheet, &mut cells);
-        let [place, used, rows, tail_place, tail_length, open] = cells;
-        let reading = Reading::from_cells([rows, tail_place, tail_length]);
+        let [place, used, rows, tail_place, tail_length, open, comparisons] = cells;
+        let reading = Reading::from_cells([rows, tail_place, tail_length, comparisons]);
         let outcome = match answer(number, place, reading) {
             Ok(reading) => Outcome::Accepted(reading),
             Err(_) if number == 1 => Outcome::More,

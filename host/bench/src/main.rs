@@ -3,18 +3,12 @@
 
 #![forbid(unsafe_code)]
 
-mod measure;
-mod samples;
-
 use std::hint::black_box;
 
+use bench::measure::{side_by_side, Times};
+use bench::samples::{self, Sample};
+use bench::CELLS;
 use reference::MAX_PAYLOAD;
-
-use measure::{side_by_side, Times};
-use samples::Sample;
-
-/// The sheet has room for the rows of any payload.
-const CELLS: usize = 4 * 16_384;
 
 fn main() {
     println!("| entry | input | library | reference | library / reference |");
@@ -24,7 +18,8 @@ fn main() {
     payloads.iter().for_each(read);
     payloads.iter().for_each(write);
     let receipt = samples::receipt();
-    frame(&receipt);
+    frame_read(&receipt);
+    frame_write(&receipt);
     receive("INVOKE with a 100-byte receipt", 1, 1_000, &receipt);
     let cancel = Sample {
         payload: Vec::new(),
@@ -63,9 +58,11 @@ fn read(sample: &Sample) {
     let (schema, payload) = (&sample.schema[..], &sample.payload[..]);
     let (mut ours, mut theirs) = (vec![0; CELLS], vec![0; CELLS]);
     let reading = arf::read(schema, sample.type_number, payload, &mut ours);
-    let rows = reading.expect("the payload is right").rows;
+    let reading = reading.expect("the payload is right");
     let expected = reference::read(schema, sample.type_number, payload, &mut theirs);
-    assert_eq!(expected.map(|reading| reading.rows), Ok(rows));
+    let expected = expected.expect("the payload is right");
+    assert_eq!(reading.rows, expected.rows);
+    assert_eq!(reading.comparisons, expected.comparisons);
     assert_eq!(ours, theirs);
     let times = side_by_side(
         |clear| {
@@ -83,7 +80,8 @@ fn read(sample: &Sample) {
             reference::read(schema, sample.type_number, payload, &mut theirs)
         },
     );
-    figure("read", &format!("{}, {rows} rows", sample.name), times);
+    let input = format!("{}, {} rows", sample.name, reading.rows);
+    figure("read", &input, times);
 }
 
 fn write(sample: &Sample) {
@@ -117,15 +115,8 @@ fn write(sample: &Sample) {
     figure("write", sample.name, times);
 }
 
-fn frame(sample: &Sample) {
-    let header = reference::Header {
-        kind: 1,
-        identifiers: [1, 2, 3],
-        correlation: 9,
-    };
-    let mut bytes = vec![0; 26 + sample.payload.len()];
-    let written = reference::write_frame(&header, &sample.payload, &mut bytes);
-    assert_eq!(written, Ok(bytes.len()));
+fn frame_read(sample: &Sample) {
+    let bytes = samples::frame(1, 9, &sample.payload);
     let whole = arf::read_frame(&bytes);
     assert!(matches!(
         whole,
@@ -136,6 +127,10 @@ fn frame(sample: &Sample) {
         |_| reference::read_frame(black_box(&bytes)),
     );
     figure("frame read", "frame of a 100-byte receipt", times);
+}
+
+fn frame_write(sample: &Sample) {
+    let expected = samples::frame(1, 9, &sample.payload);
     let ours = arf::Header {
         kind: 1,
         package: 1,
@@ -143,9 +138,15 @@ fn frame(sample: &Sample) {
         method: 3,
         correlation: 9,
     };
+    let theirs = reference::Header {
+        kind: 1,
+        identifiers: [1, 2, 3],
+        correlation: 9,
+    };
     let (mut out, mut other) = (vec![0; 200], vec![0; 200]);
     let length = arf::write_frame(&ours, &sample.payload, &mut out);
-    assert_eq!((length, &out[..bytes.len()]), (Ok(bytes.len()), &bytes[..]));
+    assert_eq!(length, Ok(expected.len()));
+    assert_eq!(out[..expected.len()], expected);
     let times = side_by_side(
         |clear| {
             if clear {
@@ -157,7 +158,7 @@ fn frame(sample: &Sample) {
             if clear {
                 other.fill(0);
             }
-            reference::write_frame(black_box(&header), black_box(&sample.payload), &mut other)
+            reference::write_frame(black_box(&theirs), black_box(&sample.payload), &mut other)
         },
     );
     figure("frame write", "frame of a 100-byte receipt", times);
@@ -166,14 +167,7 @@ fn frame(sample: &Sample) {
 /// One frame of a kind with 100 calls open. Each call starts from a copy of the
 /// same call table, on both sides.
 fn receive(input: &str, kind: u32, correlation: u64, sample: &Sample) {
-    let header = reference::Header {
-        kind,
-        identifiers: [1, 2, 3],
-        correlation,
-    };
-    let mut bytes = vec![0; 26 + sample.payload.len()];
-    let written = reference::write_frame(&header, &sample.payload, &mut bytes);
-    assert_eq!(written, Ok(bytes.len()));
+    let bytes = samples::frame(kind, correlation, &sample.payload);
     let mut calls = [arf::Call::default(); arf::SLOTS];
     let mut other = reference::CallTable::fresh();
     for (correlation, (call, record)) in (0..100).zip(calls.iter_mut().zip(&mut other.slots)) {

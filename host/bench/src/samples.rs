@@ -43,7 +43,7 @@ pub fn full_table() -> Vec<u8> {
 }
 
 /// The shortest VarUInt of a number.
-fn size(number: usize) -> Vec<u8> {
+pub fn size(number: usize) -> Vec<u8> {
     let mut out = vec![0; 10];
     let length = reference::varuint::encode(number as u64, &mut out);
     out.truncate(length);
@@ -51,7 +51,7 @@ fn size(number: usize) -> Vec<u8> {
 }
 
 /// A length and that many bytes.
-fn text(content: &[u8]) -> Vec<u8> {
+pub fn text(content: &[u8]) -> Vec<u8> {
     [&size(content.len()), content].concat()
 }
 
@@ -129,17 +129,70 @@ fn nested_arrays() -> Sample {
     })
 }
 
-/// Maps of 64 pairs each, from keys of a kind to words.
-fn maps(name: &'static str, kind: u32, key: fn(usize) -> Vec<u8>) -> Sample {
+/// A kind, and a value of it.
+type Number = (u32, &'static [u8]);
+
+const BYTE: Number = (UINT8, &[7]);
+const WORD: Number = (UINT32, &[4, 3, 2, 1]);
+
+/// Maps of so many pairs each, from keys of a kind to a number.
+fn maps(
+    name: &'static str,
+    pairs: usize,
+    number: Number,
+    kind: u32,
+    key: fn(usize) -> Vec<u8>,
+) -> Sample {
     let mut table = Table::default();
     let keys = table.add_type(kind, 0, 0);
-    let word = table.add_type(UINT32, 0, 0);
-    let map = table.add_type(MAP, keys, word);
+    let values = table.add_type(number.0, 0, 0);
+    let map = table.add_type(MAP, keys, values);
     let array = table.add_type(ARRAY, map, 0);
-    longest(name, table, array, |room| {
-        let pair = |index| [key(index), vec![4, 3, 2, 1]].concat();
-        let pairs: Vec<u8> = (0..64).flat_map(pair).collect();
-        counted(room, |_| [size(64), pairs.clone()].concat())
+    let pair = |index| [&key(index), number.1].concat();
+    let map: Vec<u8> = (0..pairs).flat_map(pair).collect();
+    let map = [size(pairs), map].concat();
+    longest(name, table, array, |room| counted(room, |_| map.clone()))
+}
+
+/// Maps at their worst: the widest keys of a number, keys that differ in the
+/// middle alone, nearly the most keys to compare that a payload can have, and
+/// many small maps, beside each other and in each other.
+fn worst_maps() -> Vec<Sample> {
+    vec![
+        maps("64-pair maps, uint64 keys", 64, WORD, UINT64, |index| {
+            (index as u64).to_le_bytes().to_vec()
+        }),
+        maps(
+            "64-pair maps, 18-byte keys alike at both ends",
+            64,
+            WORD,
+            STRING,
+            |index| text(format!("receipt-{index:02}-account").as_bytes()),
+        ),
+        maps("64-pair maps, uint8 keys", 64, BYTE, UINT8, |index| {
+            vec![index as u8]
+        }),
+        maps("2-pair maps, uint8 keys", 2, BYTE, UINT8, |index| {
+            vec![index as u8]
+        }),
+        nested_maps(),
+    ]
+}
+
+/// Maps of two pairs in maps, 13 levels of them, so that the innermost keys
+/// and values stand at depth 16. Each map has the next one and an empty one.
+fn nested_maps() -> Sample {
+    let mut table = Table::default();
+    let byte = table.add_type(UINT8, 0, 0);
+    let mut map = table.add_type(MAP, byte, byte);
+    let mut nest = vec![2, 0, 7, 1, 8];
+    for _ in 1..13 {
+        map = table.add_type(MAP, byte, map);
+        nest = [&[2, 0, 0, 1], &nest[..]].concat();
+    }
+    let array = table.add_type(ARRAY, map, 0);
+    longest("maps in maps, 13 levels", table, array, |room| {
+        counted(room, |_| nest.clone())
     })
 }
 
@@ -193,19 +246,34 @@ pub fn receipt() -> Sample {
     }
 }
 
+/// A frame of a kind for the method 1, 2, 3, as the tables here have it.
+pub fn frame(kind: u32, correlation: u64, payload: &[u8]) -> Vec<u8> {
+    let header = reference::Header {
+        kind,
+        identifiers: [1, 2, 3],
+        correlation,
+    };
+    let mut bytes = vec![0; 40 + payload.len()];
+    let length = reference::write_frame(&header, payload, &mut bytes);
+    bytes.truncate(length.expect("the payload is not too long"));
+    bytes
+}
+
 /// The payloads that the reader and the writer are measured on.
 pub fn payloads() -> Vec<Sample> {
-    vec![
+    let mut all = vec![
         small_structs(),
         string("long string, ASCII", "a"),
         string("long string, two-byte characters", "é"),
         nested_arrays(),
-        maps("64-pair maps, uint32 keys", UINT32, |index| {
+        maps("64-pair maps, uint32 keys", 64, WORD, UINT32, |index| {
             (index as u32).to_le_bytes().to_vec()
         }),
-        maps("64-pair maps, string keys", STRING, |index| {
+        maps("64-pair maps, string keys", 64, WORD, STRING, |index| {
             text(format!("key-{index:02}").as_bytes())
         }),
-        receipt(),
-    ]
+    ];
+    all.extend(worst_maps());
+    all.push(receipt());
+    all
 }

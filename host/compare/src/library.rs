@@ -60,8 +60,14 @@ fn extends(case: &ExtendsCase, text: &mut String) {
     line(text, &[number, place, yes.into()]);
 }
 
-fn reading_numbers(reading: arf::Reading) -> [u64; 3] {
-    [reading.rows, reading.tail_place, reading.tail_length].map(|number| number as u64)
+fn reading_numbers(reading: arf::Reading) -> [u64; 4] {
+    [
+        reading.rows,
+        reading.tail_place,
+        reading.tail_length,
+        reading.comparisons,
+    ]
+    .map(|number| number as u64)
 }
 
 fn read(case: &ReadCase, text: &mut String) {
@@ -69,9 +75,19 @@ fn read(case: &ReadCase, text: &mut String) {
         arf::read(&case.schema, case.type_number, &case.payload, sheet)
     });
     let (number, place, reading) = outcome(result, arf::Reading::default());
-    let [rows, tail_place, tail_length] = reading_numbers(reading);
-    let sum = sheet_sum(&sheet);
-    line(text, &[number, place, rows, tail_place, tail_length, sum]);
+    let [rows, tail_place, tail_length, comparisons] = reading_numbers(reading);
+    line(
+        text,
+        &[
+            number,
+            place,
+            rows,
+            tail_place,
+            tail_length,
+            comparisons,
+            sheet_sum(&sheet),
+        ],
+    );
 }
 
 /// A scalar's case and two numbers; the own bits of a NaN show as 0.
@@ -155,7 +171,7 @@ fn receive(
     schema: &[u8],
     cells: usize,
     (side, data): (u8, &[u8]),
-) -> [u64; 8] {
+) -> [u64; 9] {
     let (received, sheet) = lend(CELL_FILL, cells, |sheet| {
         table.receive(schema, side, data, sheet)
     });
@@ -164,7 +180,7 @@ fn receive(
         arf::Outcome::More => (1, 0, arf::Reading::default()),
         arf::Outcome::Refused(refusal) => outcome(Err(refusal), arf::Reading::default()),
     };
-    let [rows, tail_place, tail_length] = reading_numbers(reading);
+    let [rows, tail_place, tail_length, comparisons] = reading_numbers(reading);
     [
         number,
         place,
@@ -173,6 +189,7 @@ fn receive(
         tail_place,
         tail_length,
         received.open as u64,
+        comparisons,
         sheet_sum(&sheet),
     ]
 }

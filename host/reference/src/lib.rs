@@ -42,3 +42,9 @@ pub const MAX_PAYLOAD: usize = 16_384;
 
 /// The deepest a value may stand; the root stands at depth 1.
 pub const MAX_DEPTH: u32 = 16;
+
+/// The most pairs a map may have.
+pub const MAX_PAIRS: usize = 64;
+
+/// No reading has more key comparisons due: those of 128 maps of 64 pairs.
+pub const MAX_COMPARISONS: usize = 258_048;

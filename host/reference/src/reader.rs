@@ -7,7 +7,7 @@ use crate::refusal::{Reason, Refusal};
 use crate::schema::{Schema, Type};
 use crate::utf8;
 use crate::varuint::{self, Decoded};
-use crate::{MAX_DEPTH, MAX_PAYLOAD};
+use crate::{MAX_DEPTH, MAX_PAIRS, MAX_PAYLOAD};
 
 /// What an accepted payload shows beside its rows.
 #[derive(Clone, Copy, Debug, Default, PartialEq, Eq)]
@@ -18,6 +18,9 @@ pub struct Reading {
     pub tail_place: usize,
     /// How many bytes the tail has.
     pub tail_length: usize,
+    /// The key comparisons that were due: each later key of a map against each
+    /// earlier one, over all maps read.
+    pub comparisons: usize,
 }
 
 /// Reads a payload of a struct type and shows it on the sheet.
@@ -59,6 +62,7 @@ struct Judge<'a> {
     rows: usize,
     unknown_bits: usize,
     keys: Keys<'a>,
+    comparisons: usize,
 }
 
 impl<'a> Judge<'a> {
@@ -70,6 +74,7 @@ impl<'a> Judge<'a> {
             rows: 0,
             unknown_bits: 0,
             keys: Keys::default(),
+            comparisons: 0,
         }
     }
 
@@ -88,6 +93,7 @@ impl<'a> Judge<'a> {
             rows: self.rows,
             tail_place,
             tail_length,
+            comparisons: self.comparisons,
         })
     }
 
@@ -176,17 +182,23 @@ impl<'a> Judge<'a> {
         Ok(())
     }
 
-    /// A map; a repeated key is refused before its value is looked at.
+    /// A map; too many pairs are refused before any key, and a repeated key
+    /// before its value is looked at.
     fn map(&mut self, key: u32, value: u32, depth: u32) -> Result<(), Refusal> {
+        let count_place = self.position;
         let count = self.size(2)?;
+        if count > MAX_PAIRS {
+            return Err(Reason::TooManyPairs.at(count_place));
+        }
         let start = self.keys.begin();
-        for _ in 0..count {
+        for earlier in 0..count {
             let place = self.position;
             let leaf = self.enter(key, depth + 1)?;
             let content = self.leaf(leaf)?;
             if !self.keys.insert(start, content) {
                 return Err(Reason::DuplicateKey.at(place));
             }
+            self.comparisons += earlier;
             self.value(value, depth + 1)?;
         }
         self.keys.end(start);

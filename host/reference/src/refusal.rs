@@ -54,6 +54,8 @@ pub enum Reason {
     UnexpectedPayload = 29,
     /// The sheet has too few rows.
     SheetTooSmall = 30,
+    /// A map has more than 64 pairs.
+    TooManyPairs = 31,
     /// The shape of the schema file is wrong.
     SchemaShape = 40,
     /// The schema file has too many types, fields or methods.
@@ -82,9 +84,10 @@ impl Reason {
         self as u32
     }
 
-    /// Whether this is one of the payload refusals, 20 to 29, which end a call.
+    /// Whether this is one of the payload refusals, 20 to 29 and 31, which end
+    /// a call.
     pub const fn ends_call(self) -> bool {
-        matches!(self.number(), 20..=29)
+        matches!(self.number(), 20..=29 | 31)
     }
 
     /// This reason at a place.

@@ -7,7 +7,7 @@ use crate::refusal::{Reason, Refusal};
 use crate::scalar::{content_fault, fits, span};
 use crate::schema::{Schema, Type};
 use crate::varuint;
-use crate::{MAX_DEPTH, MAX_PAYLOAD};
+use crate::{MAX_DEPTH, MAX_PAIRS, MAX_PAYLOAD};
 
 /// Writes the value that a sheet shows over its bytes and gives the length.
 pub fn write(
@@ -32,8 +32,8 @@ pub fn write(
 }
 
 /// Walks the rows a type asks for and finds the first fault, or measures the
-/// output. Counts are believed, but each child needs a row, so the walk ends
-/// with the rows at the latest.
+/// output. Counts are believed, but for a map's limit; each child needs a row,
+/// so the walk ends with the rows at the latest.
 struct Judge<'a> {
     schema: &'a Schema<'a>,
     rows: &'a [[u32; 4]],
@@ -69,6 +69,7 @@ impl<'a> Judge<'a> {
         let count = found[3];
         match self.schema.type_row(due) {
             Type::Array { element } => self.array(element, count, depth),
+            Type::Map { .. } if count > MAX_PAIRS as u32 => Err(Reason::TooManyPairs.at(row)),
             Type::Map { key, value } => self.map(key, value, count, depth),
             Type::Struct { first, count } => self.structure(row, found, (first, count), depth),
             leaf => self.leaf(row, found, leaf).map(|_| ()),

@@ -68,9 +68,9 @@ impl Line {
         assert!(sheet[4 * rows..].iter().all(|&cell| cell == CELL));
         assert_eq!(received.open, self.table.open_count());
         let number = received.number();
-        let uses = matches!(number, 0 | 8..=14 | 20..=29);
+        let uses = matches!(number, 0 | 8..=14 | 20..=29 | 31);
         assert_eq!(received.used > 0, uses, "{number}");
-        if !matches!(number, 0 | 20..=29) {
+        if !matches!(number, 0 | 20..=29 | 31) {
             assert_eq!(self.table, before);
         }
         let changed = (0..128).filter(|&slot| self.table.slots[slot] != before.slots[slot]);
@@ -207,6 +207,7 @@ fn readings_of_accepted_frames() {
         rows: 2,
         tail_place: 2,
         tail_length: 2,
+        comparisons: 0,
     };
     assert_eq!(received.outcome, Outcome::Accepted(reading));
     let bytes = frame(Kind::Response, [0, 0, 15], 9, &[1, 7]);
@@ -215,6 +216,7 @@ fn readings_of_accepted_frames() {
         rows: 2,
         tail_place: 2,
         tail_length: 0,
+        comparisons: 0,
     };
     assert_eq!(received.outcome, Outcome::Accepted(reading));
     assert_eq!(received.used, bytes.len());
@@ -291,6 +293,74 @@ fn payload_refusals_end_the_call() {
             assert_eq!(line.table, CallTable::fresh());
         }
     }
+}
+
+/// A struct with a map of uint8 to uint8 of so many pairs.
+fn mapped(pairs: u8) -> Vec<u8> {
+    let pairs: Vec<u8> = (0..pairs).flat_map(|key| [key, 0]).collect();
+    [&[1, pairs.len() as u8 / 2], &pairs[..]].concat()
+}
+
+/// A connection with one method of form 15, whose four types have a map.
+fn maps_line() -> Line {
+    let schema = Table {
+        types: vec![[6, 0, 0], [15, 0, 0], [16, 0, 1]],
+        fields: vec![[1, 0]],
+        methods: vec![[0, 0, 15, 15, 2, 2, 2, 2]],
+    };
+    Line {
+        schema: schema.bytes(),
+        table: CallTable::fresh(),
+    }
+}
+
+#[test]
+fn maps_of_65_pairs_end_the_call() {
+    let send = |line: &mut Line, kind: Kind, pairs: u8| {
+        let bytes = frame(kind, [0, 0, 15], 9, &mapped(pairs));
+        let received = line.send(kind.side(), &bytes, 4 * 130);
+        assert_eq!(received.used, bytes.len());
+        received
+    };
+    let refused = Outcome::Refused(TooManyPairs.at(1));
+    let mut line = maps_line();
+    let received = send(&mut line, Kind::Invoke, 65);
+    assert_eq!((received.outcome, received.open), (refused, 0));
+    for kind in [Kind::InStream, Kind::Response, Kind::OutStream] {
+        let received = send(&mut line, Kind::Invoke, 64);
+        assert_eq!((received.number(), received.open), (0, 1));
+        if kind == Kind::OutStream {
+            assert_eq!(send(&mut line, Kind::Response, 63).number(), 0);
+        }
+        let received = send(&mut line, kind, 65);
+        assert_eq!((received.outcome, received.open), (refused, 0));
+        assert_eq!(received.reading(), Reading::default());
+        assert_eq!(line.table, CallTable::fresh());
+        assert_eq!(send(&mut line, kind, 64).number(), 11);
+    }
+}
+
+#[test]
+fn comparisons_of_frames() {
+    let mut line = maps_line();
+    let mut due = |kind: Kind, payload: &[u8], cells| {
+        let bytes = frame(kind, [0, 0, 15], 9, payload);
+        let received = line.send(kind.side(), &bytes, cells);
+        (received.number(), received.reading().comparisons)
+    };
+    let most = 4 * 130;
+    assert_eq!(due(Kind::Invoke, &mapped(65), 0), (31, 0));
+    assert_eq!(due(Kind::Invoke, &mapped(64), most - 1), (30, 0));
+    assert_eq!(due(Kind::Invoke, &mapped(64), most), (0, 2_016));
+    assert_eq!(due(Kind::InStream, &mapped(0), most), (0, 0));
+    assert_eq!(due(Kind::InStream, &mapped(2), most), (0, 1));
+    assert_eq!(due(Kind::InStream, &mapped(10), most), (0, 45));
+    assert_eq!(due(Kind::InStream, &mapped(64), most - 1), (30, 0));
+    assert_eq!(due(Kind::InClose, &[], most), (0, 0));
+    assert_eq!(due(Kind::InStream, &mapped(64), most), (14, 0));
+    assert_eq!(due(Kind::Response, &mapped(63), most), (0, 1_953));
+    assert_eq!(due(Kind::OutStream, &mapped(3), most), (0, 3));
+    assert_eq!(due(Kind::Error, &mapped(64), most), (0, 0));
 }
 
 #[test]

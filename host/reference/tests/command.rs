@@ -117,6 +117,18 @@ fn listings_of_a_file_of_cases() {
 stopped 0 left 0
 ";
     assert!(text.contains(worked));
+    let maps = "frame side kind call answer place rows open
+1 C 1 1 31 1 0 0
+2 C 2 1 11 0 0 0
+3 C 1 1 0 0 130 1
+4 C 2 1 0 0 130 1
+5 S 6 1 31 1 0 0
+6 C 2 1 11 0 0 0
+7 C 1 2 24 128 0 0
+8 C 1 2 0 0 2 1
+stopped 0 left 0
+";
+    assert!(text.contains(maps));
     for end in [
         "0 left 0",
         "1 left 7",

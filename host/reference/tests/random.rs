@@ -5,11 +5,12 @@ mod common;
 
 use std::collections::BTreeMap;
 
-use common::{table_t, BYTE, CELL};
+use common::{comparisons, table_t, BYTE, CELL};
 use reference::cases::{answer_file, read_file, Case, ReadCase, WriteCase};
 use reference::generate::rng::Rng;
 use reference::generate::table::Table;
 use reference::generate::Generator;
+use reference::varuint::{decode, Decoded};
 use reference::*;
 
 /// Cases of all codes from a seed.
@@ -23,20 +24,20 @@ fn numbers(code: u8) -> Vec<u32> {
     let table = 40..=44;
     match code {
         1 | 2 => [0].into_iter().chain(table).collect(),
-        3 => [0, 7, 30, 46]
+        3 => [0, 7, 30, 31, 46]
             .into_iter()
             .chain(20..=28)
             .chain(table)
             .collect(),
         4 => [0, 22, 23, 50, 51].into_iter().chain(table).collect(),
         5 => {
-            let own = [0, 7, 22, 23, 24, 25, 28, 46, 50, 51, 52];
+            let own = [0, 7, 22, 23, 24, 25, 28, 31, 46, 50, 51, 52];
             own.into_iter().chain(table).collect()
         }
         6 => (0..=7).collect(),
         7 => vec![0, 4, 7, 52],
-        8 => (0..=14).chain(20..=30).chain(table).collect(),
-        _ => (0..=15).chain(20..=30).chain(table).collect(),
+        8 => (0..=14).chain(20..=31).chain(table).collect(),
+        _ => (0..=15).chain(20..=31).chain(table).collect(),
     }
 }
 
@@ -91,6 +92,9 @@ fn rows(case: &ReadCase) -> Option<(Vec<u32>, Reading)> {
     let mut sheet = vec![CELL; 4 * (case.payload.len() + 1)];
     let reading = read(&case.schema, case.type_number, &case.payload, &mut sheet).ok()?;
     sheet.truncate(4 * reading.rows);
+    let due = comparisons(&case.schema, sheet.as_chunks().0);
+    assert_eq!(reading.comparisons, due);
+    assert!(due <= MAX_COMPARISONS);
     Some((sheet, reading))
 }
 
@@ -240,23 +244,170 @@ fn spare_groups_of_every_length_come_up() {
             }
         }
     }
-    for length in 2..=10 {
-        for (code, number, least) in [
-            (3, 21, 20),
-            (6, 6, 12),
-            (8, 6, 3),
-            (8, 21, 3),
-            (9, 6, 1),
-            (9, 21, 1),
-        ] {
-            let count = counts.remove(&(code, number, length)).unwrap_or(0);
-            assert!(
-                count >= least,
-                "code {code} number {number} length {length}: {count}"
-            );
+    for (code, number) in [(3, 21), (6, 6), (8, 6), (8, 21), (9, 6), (9, 21)] {
+        let of_length = |length| counts.get(&(code, number, length)).unwrap_or(&0);
+        let all: usize = (2..=10).map(of_length).sum();
+        assert!(all >= 30, "code {code} number {number}: {all}");
+        let fewest = (2..=10).map(of_length).min();
+        assert!(code > 6 || fewest >= Some(&10), "{counts:?}");
+    }
+}
+
+/// The key kind of a map type, none of another.
+fn key_kind(schema: &[u8], number: u32) -> Option<u32> {
+    let row = |number: u32| schema[12 * number as usize..].as_chunks::<4>().0;
+    let kind = |number| u32::from_le_bytes(row(number)[0]);
+    (kind(number) == 15).then(|| kind(u32::from_le_bytes(row(number)[1])))
+}
+
+/// The key kind and pairs of each map that rows show.
+fn maps_shown(schema: &[u8], sheet: &[u32]) -> Vec<(u32, u32)> {
+    let rows = sheet.as_chunks::<4>().0.iter();
+    rows.filter_map(|row| Some((key_kind(schema, row[0])?, row[3])))
+        .collect()
+}
+
+/// The key kinds and pairs of the maps that a case accepts or shows to be
+/// above the limit.
+fn maps_of_case(case: &Case) -> Vec<(u32, u32)> {
+    let answer = answers(case)[0];
+    match case {
+        Case::Read(case) if answer.0 == 0 => {
+            maps_shown(&case.schema, &rows(case).unwrap_or_default().0)
+        }
+        Case::Write(case) if answer.0 == 0 => maps_shown(&case.schema, &case.sheet),
+        Case::Write(case) if answer.0 == 31 => {
+            maps_shown(&case.schema, &case.sheet[4 * answer.1..][..4])
+        }
+        _ => Vec::new(),
+    }
+}
+
+/// How often maps of each key kind and size come up in the cases of a code.
+fn map_counts(code: u8) -> BTreeMap<(u32, u32), usize> {
+    let mut counts = BTreeMap::new();
+    let mut generator = Generator::new(12, &[code]);
+    for _ in 0..10_000 {
+        for map in maps_of_case(&generator.case().unwrap()) {
+            *counts.entry(map).or_insert(0) += 1;
         }
     }
-    assert!(counts.is_empty(), "{counts:?}");
+    counts
+}
+
+#[test]
+fn maps_of_every_size_and_key_kind_come_up() {
+    let (read, written) = (map_counts(3), map_counts(5));
+    for kind in [1, 2, 3, 4, 5, 6, 7, 8, 9, 12, 13] {
+        let sizes: &[u32] = match kind {
+            1 => &[0, 1, 2],
+            _ => &[0, 1, 2, 63, 64],
+        };
+        for pairs in sizes {
+            let map = (kind, *pairs);
+            assert!(read.contains_key(&map), "reader: {map:?}");
+            assert!(written.contains_key(&map), "writer: {map:?}");
+        }
+        assert!(written.contains_key(&(kind, 65)), "writer: {kind}");
+    }
+    let thousands = |(_, pairs): &(u32, u32)| (1_000..10_000).contains(pairs);
+    assert!(written.keys().any(thousands));
+}
+
+/// The payloads of a case, one for each answer; none where there is no whole
+/// frame.
+fn payloads(case: &Case) -> Vec<Option<&[u8]>> {
+    let payload = |bytes| match read_frame(bytes) {
+        FrameAnswer::Whole(frame) => Some(&bytes[frame.payload_place..frame.length()]),
+        _ => None,
+    };
+    match case {
+        Case::Read(case) => vec![Some(&case.payload)],
+        _ => handed_in(case).into_iter().map(payload).collect(),
+    }
+}
+
+/// Whether a key late in the map of 64 pairs that is the first field is
+/// refused, by the place in the payload.
+fn is_late((payload, answer): &(Option<&[u8]>, (u32, usize))) -> bool {
+    let late = |payload: &[u8]| payload[1] == 64 && answer.1 > payload.len() * 3 / 4;
+    answer.0 == 24 && payload.is_some_and(late)
+}
+
+#[test]
+fn keys_repeated_late_come_up() {
+    let mut counts = BTreeMap::new();
+    for case in cases(13, 20_000) {
+        let answers = answers(&case);
+        let late = match &case {
+            // The first field is the second row.
+            Case::Write(case) => {
+                let full = case.sheet.get(7) == Some(&64);
+                usize::from(full && answers[0].0 == 24 && answers[0].1 >= 120)
+            }
+            _ => {
+                let payloads = payloads(&case).into_iter();
+                payloads.zip(answers).filter(is_late).count()
+            }
+        };
+        *counts.entry(case.code()).or_insert(0) += late;
+    }
+    for (code, least) in [(3, 10), (5, 10), (8, 5), (9, 5)] {
+        assert!(counts[&code] >= least, "code {code}: {counts:?}");
+    }
+}
+
+#[test]
+fn counts_above_64_come_up() {
+    let mut counts = BTreeMap::new();
+    for case in cases(14, 20_000) {
+        for (payload, (number, place)) in payloads(&case).into_iter().zip(answers(&case)) {
+            let Some(payload) = payload.filter(|_| number == 31) else {
+                continue;
+            };
+            let Decoded::Whole { value, .. } = decode(&payload[place..]) else {
+                panic!("no count at {place}");
+            };
+            assert!(value > 64);
+            let size = if value > 999 { 1_000 } else { value.min(66) };
+            *counts.entry((case.code(), size)).or_insert(0) += 1;
+        }
+    }
+    for (code, size, least) in [
+        (3, 65, 20),
+        (3, 66, 20),
+        (3, 1_000, 5),
+        (8, 65, 10),
+        (8, 1_000, 2),
+        (9, 65, 10),
+        (9, 1_000, 2),
+    ] {
+        let count = counts.get(&(code, size)).unwrap_or(&0);
+        assert!(*count >= least, "code {code} pairs {size}: {count}");
+    }
+}
+
+#[test]
+fn the_most_comparisons_come_up() {
+    let mut seen = BTreeMap::new();
+    for case in cases(15, 20_000) {
+        let mut text = String::new();
+        case.answer(&mut text);
+        let place = match case.code() {
+            3 => 5,
+            8 | 9 => 7,
+            _ => continue,
+        };
+        for line in text.lines() {
+            let number: usize = line.split(' ').nth(place).unwrap().parse().unwrap();
+            assert!(number <= MAX_COMPARISONS);
+            assert!(number == 0 || line.starts_with("0 "));
+            let most = seen.entry(case.code()).or_insert(0);
+            *most = number.max(*most);
+        }
+    }
+    assert_eq!((seen[&3], seen[&8]), (257_985, 257_985));
+    assert!(seen[&9] >= 2_016);
 }
 
 #[test]
@@ -339,7 +490,7 @@ fn a_frame_carries_what_the_reader_says() {
     for case in cases(9, 20_000) {
         let Case::Read(case) = case else { continue };
         let alone = read(&case.schema, case.type_number, &case.payload, &mut []);
-        if alone.is_err_and(|refusal| !matches!(refusal.number(), 20..=30)) {
+        if alone.is_err_and(|refusal| !matches!(refusal.number(), 20..=31)) {
             continue;
         }
         let schema = with_method(&case.schema, case.type_number);
@@ -366,7 +517,7 @@ fn a_frame_carries_what_the_reader_says() {
         *seen.entry(number).or_insert(0) += 1;
     }
     let numbers: Vec<u32> = seen.keys().copied().collect();
-    assert_eq!(numbers, [0, 20, 21, 22, 23, 24, 25, 26, 27, 28, 30]);
+    assert_eq!(numbers, [0, 20, 21, 22, 23, 24, 25, 26, 27, 28, 30, 31]);
 }
 
 /// Bytes that are close to something meaningful.

@@ -2,9 +2,10 @@
 
 mod common;
 
-use common::{read_rows, refusal, table_t, CELL};
+use common::{comparisons, read_rows, refusal, table_t, CELL};
+use reference::generate::rng::Rng;
 use reference::generate::table::Table;
-use reference::{read, Reason, Refusal};
+use reference::{read, Reason, Refusal, MAX_COMPARISONS};
 use Reason::*;
 
 /// A table whose type 1 is a struct with one required field of type 0.
@@ -173,25 +174,234 @@ fn keys_of_inner_maps_stand_apart() {
     assert_eq!(fault(&schema, 3, &outer), Some((DuplicateKey, 8)));
 }
 
-#[test]
-fn large_maps() {
-    let schema = mapping(7, 6);
-    let pairs = 5_460u16;
-    let mut payload = vec![1, 0xD4, 0x2A];
-    for key in 0..pairs {
-        payload.extend(key.to_le_bytes());
-        payload.push(0);
+/// The key comparisons that a right payload has due.
+fn due(schema: &[u8], root: u32, payload: &[u8]) -> usize {
+    let mut sheet = vec![CELL; 4 * 16_384];
+    read(schema, root, payload, &mut sheet).unwrap().comparisons
+}
+
+/// A map of uint8 keys from 0 up, each with the same value.
+fn pairs(count: u8, value: &[u8]) -> Vec<u8> {
+    assert!(count < 0x80);
+    let mut bytes = vec![count];
+    for key in 0..count {
+        bytes.push(key);
+        bytes.extend(value);
     }
-    assert_eq!(fault(&schema, 3, &payload), None);
-    let last = payload.len() - 3;
-    payload[last..last + 2].copy_from_slice(&[0, 0]);
-    assert_eq!(
-        fault(&schema, 3, &payload),
-        Some((DuplicateKey, last as u32))
-    );
-    let bytes = mapping(6, 6);
-    let many = [&[1, 0xFE, 0x3F][..], &[3, 3].repeat(8_190)].concat();
-    assert_eq!(fault(&bytes, 3, &many), Some((DuplicateKey, 5)));
+    bytes
+}
+
+/// The key of a number: 0 to 64 for all kinds but bool.
+fn key(kind: u32, number: u8) -> Vec<u8> {
+    match kind {
+        12 | 13 => [&[3][..], b"k", &[number], b"k"].concat(),
+        2..=5 => vec![number; 1 << (kind - 2)],
+        _ => vec![number; 1 << (kind - 6)],
+    }
+}
+
+#[test]
+fn maps_of_64_and_65_pairs() {
+    for kind in [2, 3, 4, 5, 6, 7, 8, 9, 12, 13] {
+        let schema = mapping(kind, 1);
+        let map = |count: u8| {
+            let pair = |number| [key(kind, number), vec![0]].concat();
+            let pairs: Vec<u8> = (0..count).flat_map(pair).collect();
+            [&[1, count][..], &pairs].concat()
+        };
+        for count in [0, 1, 2, 63, 64] {
+            assert_eq!(fault(&schema, 3, &map(count)), None);
+            let number = usize::from(count);
+            let expected = number * number.saturating_sub(1) / 2;
+            assert_eq!(due(&schema, 3, &map(count)), expected);
+        }
+        assert_eq!(fault(&schema, 3, &map(65)), Some((TooManyPairs, 1)));
+        let mut repeated = map(64);
+        let last = repeated.len() - 1 - key(kind, 0).len();
+        repeated.splice(last..repeated.len() - 1, key(kind, 0));
+        let answer = fault(&schema, 3, &repeated);
+        assert_eq!(answer, Some((DuplicateKey, last as u32)));
+    }
+}
+
+#[test]
+fn too_many_pairs_come_after_20_and_21_and_before_any_key() {
+    let schema = mapping(1, 1);
+    let excess = Some((TooManyPairs, 1));
+    let short = Some((ExceedsRemaining, 1));
+    // Whatever the pairs are: bools that are none, or all equal.
+    for byte in [0, 9] {
+        let map = |after: usize| [&[1, 65][..], &vec![byte; after]].concat();
+        assert_eq!(fault(&schema, 3, &map(130)), excess);
+        assert_eq!(fault(&schema, 3, &map(131)), excess);
+        assert_eq!(fault(&schema, 3, &map(129)), short);
+        assert_eq!(fault(&schema, 3, &map(0)), short);
+    }
+    let spare = [&[1, 0xC1, 0][..], &[0; 130]].concat();
+    assert_eq!(fault(&schema, 3, &spare), Some((MalformedVarUint, 1)));
+    let thousands = [&[1, 0xFE, 0x3F][..], &[0; 16_380]].concat();
+    assert_eq!(fault(&schema, 3, &thousands), excess);
+    let cut = &thousands[..16_382];
+    assert_eq!(fault(&schema, 3, cut), short);
+    let few = [&[1, 64][..], &[0; 128]].concat();
+    assert_eq!(fault(&schema, 3, &few), Some((DuplicateKey, 4)));
+    // The sheet is not asked for before the payload is right.
+    let answer = read(&schema, 3, &thousands, &mut []);
+    assert_eq!(answer, Err(TooManyPairs.at(1)));
+}
+
+#[test]
+fn too_many_pairs_and_depth() {
+    let schema = nest();
+    let at = |depth: usize| [&[4][..], &[1, 9].repeat(depth - 2), &[65], &[7; 130]].concat();
+    for depth in 2..=16 {
+        let place = 2 * depth as u32 - 3;
+        assert_eq!(fault(&schema, 0, &at(depth)), Some((TooManyPairs, place)));
+    }
+    // A key at depth 17, and a map there.
+    assert_eq!(fault(&schema, 0, &at(17)), Some((TooDeep, 30)));
+    let map = [&[1; 15][..], &[4, 65], &[7; 130]].concat();
+    assert_eq!(fault(&schema, 0, &map), Some((TooDeep, 16)));
+}
+
+#[test]
+fn the_first_fault_of_two_maps() {
+    // A struct of two maps of uint8 to bool.
+    let schema = Table {
+        types: vec![[6, 0, 0], [1, 0, 0], [15, 0, 1], [16, 0, 2]],
+        fields: vec![[2, 0], [2, 0]],
+        methods: vec![],
+    }
+    .bytes();
+    let two = |first: Vec<u8>, second: Vec<u8>| [&[3], &first[..], &second].concat();
+    let good = two(pairs(64, &[0]), pairs(63, &[1]));
+    assert_eq!(fault(&schema, 3, &good), None);
+    assert_eq!(due(&schema, 3, &good), 2_016 + 1_953);
+    let second = two(pairs(64, &[0]), pairs(65, &[1]));
+    assert_eq!(fault(&schema, 3, &second), Some((TooManyPairs, 130)));
+    let repeated = two(vec![2, 5, 0, 5, 0], pairs(65, &[1]));
+    assert_eq!(fault(&schema, 3, &repeated), Some((DuplicateKey, 4)));
+    let both = two(pairs(65, &[0]), vec![2, 5, 0, 5, 0]);
+    assert_eq!(fault(&schema, 3, &both), Some((TooManyPairs, 1)));
+}
+
+#[test]
+fn comparisons_of_nested_maps() {
+    // A struct of an array of structs, each with a map of uint8 to maps.
+    let schema = Table {
+        types: vec![
+            [6, 0, 0],
+            [15, 0, 0],
+            [15, 0, 1],
+            [16, 0, 1],
+            [14, 3, 0],
+            [16, 1, 2],
+        ],
+        fields: vec![[2, 0], [4, 0], [2, 1]],
+        methods: vec![],
+    }
+    .bytes();
+    let element = |outer, inner| [&[1], &pairs(outer, &pairs(inner, &[7]))[..]].concat();
+    let root = |elements: &[Vec<u8>]| [&[1, elements.len() as u8], &elements.concat()[..]].concat();
+    let one = |outer, inner| due(&schema, 5, &root(&[element(outer, inner)]));
+    assert_eq!(one(0, 0), 0);
+    assert_eq!(one(1, 1), 0);
+    assert_eq!(one(2, 3), 1 + 2 * 3);
+    assert_eq!(one(64, 64), 65 * 2_016);
+    let three = root(&[element(3, 4), element(64, 0), element(1, 64)]);
+    assert_eq!(due(&schema, 5, &three), (3 + 3 * 6) + 2_016 + 2_016);
+    let excess = root(&[element(64, 1), element(1, 65)]);
+    let place = 2 + 1 + 1 + 64 * 4 + 1 + 2;
+    assert_eq!(fault(&schema, 5, &excess), Some((TooManyPairs, place)));
+    // What is in a tail is not read.
+    let tail = [&[5, 0][..], &pairs(9, &[7])].concat();
+    assert_eq!(due(&schema, 5, &tail), 0);
+}
+
+/// A map of uint8 to maps of its own type, whose maps have the counts that are
+/// left, the next first; where none is left they are empty.
+fn maps_of_maps(counts: &mut Vec<u8>, levels: usize, bytes: &mut Vec<u8>) {
+    let count = match levels {
+        0 => 0,
+        _ => counts.pop().unwrap_or(0),
+    };
+    bytes.push(count);
+    for key in 0..count {
+        bytes.push(key);
+        maps_of_maps(counts, levels - 1, bytes);
+    }
+}
+
+/// The table of such maps; type 2 is a struct with one.
+fn maps_of_maps_table() -> Vec<u8> {
+    Table {
+        types: vec![[6, 0, 0], [15, 0, 1], [16, 0, 1]],
+        fields: vec![[1, 0]],
+        methods: vec![],
+    }
+    .bytes()
+}
+
+/// Each pair takes two bytes or more, as a map among the values has its count
+/// for its byte, and there are a bitmap and the first map's count besides. So
+/// 16,384 bytes hold 8,191 pairs at most: 127 maps of 64 and one of 63.
+#[test]
+fn the_most_comparisons() {
+    let schema = maps_of_maps_table();
+    for levels in 3..=14 {
+        let payload = |counts: Vec<u8>| {
+            let mut counts = counts;
+            let mut bytes = vec![1];
+            maps_of_maps(&mut counts, levels, &mut bytes);
+            bytes
+        };
+        let most = payload([vec![63], vec![64; 127]].concat());
+        assert_eq!(most.len(), 16_384);
+        let (rows, ..) = read_rows(&schema, 2, &most).unwrap();
+        assert_eq!(rows.len(), 16_384);
+        assert_eq!(due(&schema, 2, &most), 127 * 2_016 + 1_953);
+        assert_eq!(due(&schema, 2, &most), MAX_COMPARISONS - 63);
+        let excess = payload([vec![63, 63], vec![64; 125], vec![65]].concat());
+        assert_eq!(excess.len(), 16_384);
+        assert_eq!(fault(&schema, 2, &excess), Some((TooManyPairs, 1)));
+        let long = payload(vec![64; 128]);
+        assert_eq!(fault(&schema, 2, &long), Some((PayloadTooLong, 0)));
+    }
+}
+
+#[test]
+fn no_payload_of_random_maps_has_more_comparisons() {
+    let schema = maps_of_maps_table();
+    let mut rng = Rng::new(12);
+    for _ in 0..300 {
+        let (mut counts, mut left) = (Vec::new(), 8_191);
+        while left > 0 {
+            let least = rng.pick(&[1, 60, 64]);
+            let count = rng.range(least, 64).min(left);
+            counts.push(count as u8);
+            left -= count;
+        }
+        rng.shuffle(&mut counts);
+        let mut payload = vec![1];
+        maps_of_maps(&mut counts, rng.range(3, 14), &mut payload);
+        assert!(payload.len() <= 16_384);
+        let (rows, ..) = read_rows(&schema, 2, &payload).unwrap();
+        assert!(comparisons(&schema, &rows) <= MAX_COMPARISONS - 63);
+    }
+}
+
+#[test]
+fn many_maps_in_an_array() {
+    let schema = Table {
+        types: vec![[6, 0, 0], [15, 0, 0], [14, 1, 0], [16, 0, 1]],
+        fields: vec![[2, 0]],
+        methods: vec![],
+    }
+    .bytes();
+    let maps = [pairs(64, &[0]).repeat(126), pairs(63, &[0])].concat();
+    let payload = [&[1, 127], &maps[..]].concat();
+    assert_eq!(payload.len(), 16_383);
+    assert_eq!(due(&schema, 3, &payload), 126 * 2_016 + 1_953);
 }
 
 #[test]

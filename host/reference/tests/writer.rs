@@ -258,24 +258,116 @@ fn types_that_are_no_struct_and_bad_tables() {
     assert_eq!(written(&table_t(), 4, &[], P1), Err(SheetMisfit.at(0)));
 }
 
-#[test]
-fn many_long_keys_that_are_hard_to_tell_apart() {
+/// A table of a struct with a map of a key kind and uint8 values, and the rows
+/// of so many pairs with the same key.
+fn map_rows(kind: u32, pairs: u32, key: [u32; 4]) -> (Vec<u8>, Vec<[u32; 4]>) {
     let schema = Table {
-        types: vec![[13, 0, 0], [6, 0, 0], [15, 0, 1], [16, 0, 1]],
+        types: vec![[kind, 0, 0], [6, 0, 0], [15, 0, 1], [16, 0, 1]],
         fields: vec![[2, 0]],
         methods: vec![],
     }
     .bytes();
-    let pairs = 4_000u32;
+    let mut rows = vec![[3, 0, 0, 1], [2, 0, 0, pairs]];
+    for _ in 0..pairs {
+        rows.extend([key, [1, 0, 1, 0]]);
+    }
+    (schema, rows)
+}
+
+#[test]
+fn maps_of_64_and_65_pairs() {
+    for kind in [2, 3, 4, 5, 6, 7, 8, 9, 12, 13] {
+        let width = match kind {
+            2..=5 => 1 << (kind - 2),
+            6..=9 => 1 << (kind - 6),
+            _ => 3,
+        };
+        let data: Vec<u8> = [vec![1], (0..8).flat_map(|_| 0..100).collect()].concat();
+        let map = |pairs| {
+            let (schema, mut rows) = map_rows(kind, pairs, [0, 0, width, 0]);
+            for pair in 0..pairs as usize {
+                rows[2 + 2 * pair][1] = 1 + pair as u32;
+            }
+            (schema, rows)
+        };
+        let prefix = u32::from(kind > 9);
+        for pairs in [0, 1, 2, 63, 64] {
+            let (schema, rows) = map(pairs);
+            let out = written(&schema, 3, &rows, &data).unwrap();
+            assert_eq!(out.len() as u32, 2 + pairs * (prefix + width + 1));
+        }
+        let (schema, rows) = map(65);
+        let excess = Err(TooManyPairs.at(1));
+        assert_eq!(written(&schema, 3, &rows, &data), excess);
+        let (schema, mut rows) = map(64);
+        rows[128] = rows[2];
+        let repeated = Err(DuplicateKey.at(128));
+        assert_eq!(written(&schema, 3, &rows, &data), repeated);
+    }
+}
+
+#[test]
+fn too_many_pairs_come_after_28_and_50_and_before_the_first_key() {
+    let excess = Err(TooManyPairs.at(1));
+    // Equal keys, keys outside, keys of another width, and keys that are no bool.
+    for key in [[0, 0, 1, 0], [0, 9, 1, 0], [0, 0, 2, 0], [0, 1, 1, 0]] {
+        let (schema, rows) = map_rows(1, 65, key);
+        assert_eq!(written(&schema, 3, &rows, &[1, 2]), excess);
+        assert_eq!(written(&schema, 3, &rows[..2], &[1, 2]), excess);
+        let (_, fewer) = map_rows(1, 64, key);
+        assert_ne!(written(&schema, 3, &fewer, &[1, 2]), excess);
+    }
+    for count in [65, 66, 4_000, 1 << 31, u32::MAX] {
+        let (schema, mut rows) = map_rows(6, 1, [0, 0, 1, 0]);
+        rows[1][3] = count;
+        assert_eq!(written(&schema, 3, &rows, &[1]), excess);
+        rows[1][0] = 0;
+        assert_eq!(written(&schema, 3, &rows, &[1]), Err(SheetMisfit.at(1)));
+    }
+    let (schema, mut rows) = map_rows(6, 65, [0, 0, 1, 0]);
+    rows[0][3] = 2;
+    assert_eq!(written(&schema, 3, &rows, &[1]), Err(SheetMisfit.at(0)));
+    let (_, rows) = map_rows(6, 64, [0, 0, 1, 0]);
+    let missing = Err(SheetMisfit.at(2));
+    assert_eq!(written(&schema, 3, &rows[..2], &[1]), missing);
+}
+
+#[test]
+fn too_many_pairs_and_depth() {
+    // A struct of itself, or of a map of uint8 to maps of its own type.
+    let schema = Table {
+        types: vec![[6, 0, 0], [15, 0, 1], [16, 0, 2]],
+        fields: vec![[1, 1], [2, 1]],
+        methods: vec![],
+    }
+    .bytes();
+    let at = |depth: usize| {
+        let outer = [[1, 0, 0, 1], [0, 0, 1, 0]].repeat(depth - 2);
+        [&[[2, 0, 0, 1]], &outer[..], &[[1, 0, 0, 65]]].concat()
+    };
+    for depth in 2..=16 {
+        let answer = written(&schema, 2, &at(depth), &[1]);
+        assert_eq!(answer, Err(TooManyPairs.at(2 * depth - 3)));
+    }
+    // A key at depth 17, and a map there.
+    assert_eq!(written(&schema, 2, &at(17), &[1]), Err(TooDeep.at(30)));
+    let mut rows = vec![[2, 0, 0, 1]; 16];
+    rows[15][1] = 1;
+    rows.push([1, 0, 0, 65]);
+    let deep = written(&schema, 2, &rows, &[2, 1]);
+    assert_eq!(deep, Err(TooDeep.at(16)));
+}
+
+#[test]
+fn long_keys_that_are_hard_to_tell_apart() {
+    let (schema, mut rows) = map_rows(13, 64, [0, 0, 20_001, 0]);
     let mut data = vec![1; 40_000];
     data[20_000] = 2;
-    let mut rows = vec![[3, 0, 0, 1], [2, 0, 0, pairs]];
-    for pair in 0..pairs {
-        rows.push([0, pair, 20_001, 0]);
-        rows.push([1, 0, 1, 0]);
+    for pair in 0..64 {
+        rows[2 + 2 * pair][1] = pair as u32;
     }
     assert_eq!(written(&schema, 3, &rows, &data), Err(PayloadTooLong.at(0)));
-    rows[8_000] = rows[2];
-    let repeated = Err(DuplicateKey.at(8_000));
+    rows[128] = rows[2];
+    let repeated = Err(DuplicateKey.at(128));
     assert_eq!(written(&schema, 3, &rows, &data), repeated);
 }

@@ -19,8 +19,14 @@ write-spec =
     -- write-sheet-requires
     (λ c κs. sym (c .before .before .before .check .ensures) ∙ c .before .enum-told .given .1)
     -- returns
-    (λ c. file-refused (c .before .before .before .before .before .before .before .before .args .s .now) (c .before .before .before .before .before .before .before .before .args .ty) (c .before .before .before .before .before .before .before .before .args .sheet .now) (c .before .before .before .before .before .before .before .before .args .source .now) (c .before .before .before .before .before .before .before .before .args .out .now) _ _ (sym (c .before .before .before .check .ensures) ∙ c .before .number .given .1))
+    (λ c.
+    let args = c .before .before .before .before .before .before .before .before .args in
+    file-refused (args .s .now) (args .ty) (args .sheet .now) (args .source .now) (args .out .now) _ _ (sym (c .before .before .before .check .ensures) ∙ c .before .number .given .1))
     -- same-length
     (λ c. search needs)
     -- returns-2
-    (λ c. file-good (c .before .before .before .before .before .before .before .before .before .before .before .args .s .now) (c .before .before .before .before .before .before .before .before .before .before .before .args .ty) (c .before .before .before .before .before .before .before .before .before .before .before .args .sheet .now) (c .before .before .before .before .before .before .before .before .before .before .before .args .source .now) (c .before .before .before .before .before .before .before .before .before .before .before .args .out .now) _ (sym (c .before .before .before .before .before .before .check .ensures) ∙ c .before .before .before .before .enum-told .given .1) (c .before .before .write-sheet .ensures)))
+    (λ c.
+    let args = c .before .before .before .before .before .before .before .before .before .before .before .args in
+    let check = c .before .before .before .before .before .before .check in
+    let enum-told = c .before .before .before .before .enum-told in
+    file-good (args .s .now) (args .ty) (args .sheet .now) (args .source .now) (args .out .now) _ (sym (check .ensures) ∙ enum-told .given .1) (c .before .before .write-sheet .ensures)))

@@ -19,7 +19,10 @@ write-sheet-spec =
     -- type-row-requires
     (λ c κs. search needs)
     -- returns
-    (λ c. entry-other (c .before .before .before .before .before .before .before .args .s .now) (c .before .before .before .before .before .before .before .pre) (c .before .before .before .before .before .before .before .args .ty) (c .before .before .before .before .before .before .before .args .sheet .now) (c .before .before .before .before .before .before .before .args .source .now) (c .before .before .before .before .before .before .before .args .out .now) _ (c .before .before .type-row .ensures) (c .if1 .taken))
+    (λ c.
+    let args = c .before .before .before .before .before .before .before .args in
+    let asked = c .before .before .before .before .before .before .before .pre in
+    entry-other (args .s .now) asked (args .ty) (args .sheet .now) (args .source .now) (args .out .now) _ (c .before .before .type-row .ensures) (c .if1 .taken))
     -- cast-first
     (λ c. search needs)
     -- cast-n
@@ -29,7 +32,15 @@ write-sheet-spec =
     -- slice-aggregate-root
     (λ c. search needs)
     -- root-requires
-    (λ c κs. ((record { good = c .before .before .before .before .before .before .before .before .before .before .pre; inside = omega arith; behind = omega arith; small = omega arith; judged = λ j. absurd (false≢true (sym j)) }, (shape-struct (tableOf (c .before .before .before .before .before .before .before .before .before .before .args .s .now)) (c .before .before .before .before .before .before .before .before .before .before .args .ty) _ (c .before .before .before .before .before .type-row .ensures) (c .before .before .before .if1 .left))), struct-row (c .before .before .before .before .before .before .before .before .before .before .args .s .now) (c .before .before .before .before .before .before .before .before .before .before .pre) (c .before .before .before .before .before .before .before .before .before .before .args .ty) _ (c .before .before .before .before .before .type-row .ensures) (c .before .before .before .if1 .left)))
+    (λ c κs.
+    let asked = c .before .before .before .before .before .before .before .before .before .before .pre in
+    let args = c .before .before .before .before .before .before .before .before .before .before .args in
+    let type-row = c .before .before .before .before .before .type-row in
+    let if1 = c .before .before .before .if1 in
+    let is = shape-struct (tableOf (args .s .now)) (args .ty) _ (type-row .ensures) (if1 .left) in (
+      (record { good = asked; inside = omega arith; behind = omega arith; small = omega arith; judged = λ j. absurd (false≢true (sym j)) }, is),
+      struct-row (args .s .now) asked (args .ty) _ (type-row .ensures) (if1 .left),
+    ))
     -- enum-known-number
     (λ c. search needs)
     -- enum-known-pos
@@ -37,22 +48,75 @@ write-sheet-spec =
     -- same-length
     (λ c. search needs)
     -- returns-2
-    (λ c. entry-long (c .before .before .before .before .before .before .before .before .before .before .before .before .before .before .before .before .before .args .s .now) (c .before .before .before .before .before .before .before .before .before .before .before .before .before .before .before .before .before .args .ty) (c .before .before .before .before .before .before .before .before .before .before .before .before .before .before .before .before .before .args .sheet .now) (c .before .before .before .before .before .before .before .before .before .before .before .before .before .before .before .before .before .args .source .now) (c .before .before .before .before .before .before .before .before .before .before .before .before .before .before .before .before .before .args .out .now) (fieldsFrom (tableOf (c .before .before .before .before .before .before .before .before .before .before .before .before .before .before .before .before .before .args .s .now)) (c .before .before .before .before .before .before .before .before .before .before .before .before .type-row .result .a) (c .before .before .before .before .before .before .before .before .before .before .before .before .type-row .result .b)) (shape-struct (tableOf (c .before .before .before .before .before .before .before .before .before .before .before .before .before .before .before .before .before .args .s .now)) (c .before .before .before .before .before .before .before .before .before .before .before .before .before .before .before .before .before .args .ty) _ (c .before .before .before .before .before .before .before .before .before .before .before .before .type-row .ensures) (c .before .before .before .before .before .before .before .before .before .before .if1 .left)) _ _ _ (c .before .before .before .before .before .before .root .ensures) (c .before .before .before .before .before .before .root .kept .1 .1 .1 .0) _ _ (c .before .before .pos .given .1) (c .if2 .taken))
+    (λ c.
+    let args = c .before .before .before .before .before .before .before .before .before .before .before .before .before .before .before .before .before .args in
+    let type-row = c .before .before .before .before .before .before .before .before .before .before .before .before .type-row in
+    let if1 = c .before .before .before .before .before .before .before .before .before .before .if1 in
+    let root = c .before .before .before .before .before .before .root in
+    let T = tableOf (args .s .now) in
+    entry-long (args .s .now) (args .ty) (args .sheet .now) (args .source .now) (args .out .now) (fieldsFrom T (type-row .result .a) (type-row .result .b))
+    (shape-struct T (args .ty) _ (type-row .ensures) (if1 .left)) _ _ _ (root .ensures) (root .kept .1 .1 .1 .0) _ _ (c .before .before .pos .given .1) (c .if2 .taken))
     -- same-length-2
     (λ c. search needs)
     -- returns-3
-    (λ c. entry-room (c .before .before .before .before .before .before .before .before .before .before .before .before .before .before .before .before .before .before .args .s .now) (c .before .before .before .before .before .before .before .before .before .before .before .before .before .before .before .before .before .before .args .ty) (c .before .before .before .before .before .before .before .before .before .before .before .before .before .before .before .before .before .before .args .sheet .now) (c .before .before .before .before .before .before .before .before .before .before .before .before .before .before .before .before .before .before .args .source .now) (c .before .before .before .before .before .before .before .before .before .before .before .before .before .before .before .before .before .before .args .out .now) (fieldsFrom (tableOf (c .before .before .before .before .before .before .before .before .before .before .before .before .before .before .before .before .before .before .args .s .now)) (c .before .before .before .before .before .before .before .before .before .before .before .before .before .type-row .result .a) (c .before .before .before .before .before .before .before .before .before .before .before .before .before .type-row .result .b)) (shape-struct (tableOf (c .before .before .before .before .before .before .before .before .before .before .before .before .before .before .before .before .before .before .args .s .now)) (c .before .before .before .before .before .before .before .before .before .before .before .before .before .before .before .before .before .before .args .ty) _ (c .before .before .before .before .before .before .before .before .before .before .before .before .before .type-row .ensures) (c .before .before .before .before .before .before .before .before .before .before .before .if1 .left)) _ _ _ (c .before .before .before .before .before .before .before .root .ensures) (c .before .before .before .before .before .before .before .root .kept .1 .1 .1 .0) _ _ (c .before .before .before .pos .given .1) (c .before .if2 .left) (c .if3 .taken))
+    (λ c.
+    let args = c .before .before .before .before .before .before .before .before .before .before .before .before .before .before .before .before .before .before .args in
+    let type-row = c .before .before .before .before .before .before .before .before .before .before .before .before .before .type-row in
+    let if1 = c .before .before .before .before .before .before .before .before .before .before .before .if1 in
+    let root = c .before .before .before .before .before .before .before .root in
+    let T = tableOf (args .s .now) in
+    entry-room (args .s .now) (args .ty) (args .sheet .now) (args .source .now) (args .out .now) (fieldsFrom T (type-row .result .a) (type-row .result .b))
+    (shape-struct T (args .ty) _ (type-row .ensures) (if1 .left)) _ _ _ (root .ensures) (root .kept .1 .1 .1 .0) _ _ (c .before .before .before .pos .given .1) (c .before .if2 .left) (c .if3 .taken))
     -- slice-relend-prefix-root-2
     (λ c. search needs)
     -- slice-aggregate-root-2
     (λ c. sym (length-take-le _ _ (c .before .if3 .left)))
     -- root-requires-2
-    (λ c κs. ((record { good = c .before .before .before .before .before .before .before .before .before .before .before .before .before .before .before .before .before .before .before .pre; inside = omega arith; behind = omega arith; small = rw (length-take-le _ _ (c .before .if3 .left)) (c .before .before .if2 .left); judged = λ j. entry-accepted (c .before .before .before .before .before .before .before .before .before .before .before .before .before .before .before .before .before .before .before .args .s .now) (c .before .before .before .before .before .before .before .before .before .before .before .before .before .before .before .before .before .before .before .args .ty) (c .before .before .before .before .before .before .before .before .before .before .before .before .before .before .before .before .before .before .before .args .sheet .now) (c .before .before .before .before .before .before .before .before .before .before .before .before .before .before .before .before .before .before .before .args .source .now) (c .before .before .before .before .before .before .before .before .before .before .before .before .before .before .before .before .before .before .before .args .out .now) (fieldsFrom (tableOf (c .before .before .before .before .before .before .before .before .before .before .before .before .before .before .before .before .before .before .before .args .s .now)) (c .before .before .before .before .before .before .before .before .before .before .before .before .before .before .type-row .result .a) (c .before .before .before .before .before .before .before .before .before .before .before .before .before .before .type-row .result .b)) (shape-struct (tableOf (c .before .before .before .before .before .before .before .before .before .before .before .before .before .before .before .before .before .before .before .args .s .now)) (c .before .before .before .before .before .before .before .before .before .before .before .before .before .before .before .before .before .before .before .args .ty) _ (c .before .before .before .before .before .before .before .before .before .before .before .before .before .before .type-row .ensures) (c .before .before .before .before .before .before .before .before .before .before .before .before .if1 .left)) _ _ _ (c .before .before .before .before .before .before .before .before .root .ensures) (c .before .before .before .before .before .before .before .before .root .kept .1 .1 .1 .0) _ _ (c .before .before .before .before .pos .given .1) }, (shape-struct (tableOf (c .before .before .before .before .before .before .before .before .before .before .before .before .before .before .before .before .before .before .before .args .s .now)) (c .before .before .before .before .before .before .before .before .before .before .before .before .before .before .before .before .before .before .before .args .ty) _ (c .before .before .before .before .before .before .before .before .before .before .before .before .before .before .type-row .ensures) (c .before .before .before .before .before .before .before .before .before .before .before .before .if1 .left))), struct-row (c .before .before .before .before .before .before .before .before .before .before .before .before .before .before .before .before .before .before .before .args .s .now) (c .before .before .before .before .before .before .before .before .before .before .before .before .before .before .before .before .before .before .before .pre) (c .before .before .before .before .before .before .before .before .before .before .before .before .before .before .before .before .before .before .before .args .ty) _ (c .before .before .before .before .before .before .before .before .before .before .before .before .before .before .type-row .ensures) (c .before .before .before .before .before .before .before .before .before .before .before .before .if1 .left)))
+    (λ c κs.
+    let asked = c .before .before .before .before .before .before .before .before .before .before .before .before .before .before .before .before .before .before .before .pre in
+    let args = c .before .before .before .before .before .before .before .before .before .before .before .before .before .before .before .before .before .before .before .args in
+    let type-row = c .before .before .before .before .before .before .before .before .before .before .before .before .before .before .type-row in
+    let if1 = c .before .before .before .before .before .before .before .before .before .before .before .before .if1 in
+    let root = c .before .before .before .before .before .before .before .before .root in
+    let T = tableOf (args .s .now) in
+    let is = shape-struct T (args .ty) _ (type-row .ensures) (if1 .left) in
+    let fs = fieldsFrom T (type-row .result .a) (type-row .result .b) in (
+      (
+        record {
+          good = asked;
+          inside = omega arith;
+          behind = omega arith;
+          small = rw (length-take-le _ _ (c .before .if3 .left)) (c .before .before .if2 .left);
+          judged = λ j.
+              entry-accepted (args .s .now) (args .ty) (args .sheet .now) (args .source .now) (args .out .now) fs is _ _ _ (root .ensures)
+              (root .kept .1 .1 .1 .0) _ _ (c .before .before .before .before .pos .given .1);
+        },
+        is,
+      ),
+      struct-row (args .s .now) asked (args .ty) _ (type-row .ensures) (if1 .left),
+    ))
     -- same-length-3
     (λ c. search needs)
     -- returns-4
-    (λ c. entry-refused (c .before .before .before .before .before .before .before .before .before .before .before .before .before .before .before .before .args .s .now) (c .before .before .before .before .before .before .before .before .before .before .before .before .before .before .before .before .args .ty) (c .before .before .before .before .before .before .before .before .before .before .before .before .before .before .before .before .args .sheet .now) (c .before .before .before .before .before .before .before .before .before .before .before .before .before .before .before .before .args .source .now) (c .before .before .before .before .before .before .before .before .before .before .before .before .before .before .before .before .args .out .now) (fieldsFrom (tableOf (c .before .before .before .before .before .before .before .before .before .before .before .before .before .before .before .before .args .s .now)) (c .before .before .before .before .before .before .before .before .before .before .before .type-row .result .a) (c .before .before .before .before .before .before .before .before .before .before .before .type-row .result .b)) (shape-struct (tableOf (c .before .before .before .before .before .before .before .before .before .before .before .before .before .before .before .before .args .s .now)) (c .before .before .before .before .before .before .before .before .before .before .before .before .before .before .before .before .args .ty) _ (c .before .before .before .before .before .before .before .before .before .before .before .type-row .ensures) (c .before .before .before .before .before .before .before .before .before .if1 .left)) _ _ _ (c .before .before .before .before .before .root .ensures) (c .before .before .before .before .before .root .kept .1 .1 .1 .0) _ _ (c .before .number .given .1))
+    (λ c.
+    let args = c .before .before .before .before .before .before .before .before .before .before .before .before .before .before .before .before .args in
+    let type-row = c .before .before .before .before .before .before .before .before .before .before .before .type-row in
+    let if1 = c .before .before .before .before .before .before .before .before .before .if1 in
+    let root = c .before .before .before .before .before .root in
+    let T = tableOf (args .s .now) in
+    entry-refused (args .s .now) (args .ty) (args .sheet .now) (args .source .now) (args .out .now) (fieldsFrom T (type-row .result .a) (type-row .result .b))
+    (shape-struct T (args .ty) _ (type-row .ensures) (if1 .left)) _ _ _ (root .ensures) (root .kept .1 .1 .1 .0) _ _ (c .before .number .given .1))
     -- same-length-4
     (λ c. search needs)
     -- returns-5
-    (λ c. entry-written (c .before .before .before .before .before .before .before .before .before .before .before .before .before .before .before .before .before .before .before .before .before .before .args .s .now) (c .before .before .before .before .before .before .before .before .before .before .before .before .before .before .before .before .before .before .before .before .before .before .args .ty) (c .before .before .before .before .before .before .before .before .before .before .before .before .before .before .before .before .before .before .before .before .before .before .args .sheet .now) (c .before .before .before .before .before .before .before .before .before .before .before .before .before .before .before .before .before .before .before .before .before .before .args .source .now) (c .before .before .before .before .before .before .before .before .before .before .before .before .before .before .before .before .before .before .before .before .before .before .args .out .now) (fieldsFrom (tableOf (c .before .before .before .before .before .before .before .before .before .before .before .before .before .before .before .before .before .before .before .before .before .before .args .s .now)) (c .before .before .before .before .before .before .before .before .before .before .before .before .before .before .before .before .before .type-row .result .a) (c .before .before .before .before .before .before .before .before .before .before .before .before .before .before .before .before .before .type-row .result .b)) (shape-struct (tableOf (c .before .before .before .before .before .before .before .before .before .before .before .before .before .before .before .before .before .before .before .before .before .before .args .s .now)) (c .before .before .before .before .before .before .before .before .before .before .before .before .before .before .before .before .before .before .before .before .before .before .args .ty) _ (c .before .before .before .before .before .before .before .before .before .before .before .before .before .before .before .before .before .type-row .ensures) (c .before .before .before .before .before .before .before .before .before .before .before .before .before .before .before .if1 .left)) _ _ _ (c .before .before .before .before .before .before .before .before .before .before .before .root .ensures) (c .before .before .before .before .before .before .before .before .before .before .before .root .kept .1 .1 .1 .0) _ _ (c .before .before .before .before .before .before .before .pos .given .1) (c .before .before .before .before .before .if2 .left) (c .before .before .before .before .if3 .left) _ _ (c .before .before .root2 .ensures)))
+    (λ c.
+    let args = c .before .before .before .before .before .before .before .before .before .before .before .before .before .before .before .before .before .before .before .before .before .before .args in
+    let type-row = c .before .before .before .before .before .before .before .before .before .before .before .before .before .before .before .before .before .type-row in
+    let if1 = c .before .before .before .before .before .before .before .before .before .before .before .before .before .before .before .if1 in
+    let root = c .before .before .before .before .before .before .before .before .before .before .before .root in
+    let pos = c .before .before .before .before .before .before .before .pos in
+    let if2 = c .before .before .before .before .before .if2 in
+    let T = tableOf (args .s .now) in
+    entry-written (args .s .now) (args .ty) (args .sheet .now) (args .source .now) (args .out .now) (fieldsFrom T (type-row .result .a) (type-row .result .b))
+    (shape-struct T (args .ty) _ (type-row .ensures) (if1 .left)) _ _ _ (root .ensures) (root .kept .1 .1 .1 .0) _ _ (pos .given .1) (if2 .left) (c .before .before .before .before .if3 .left) _ _
+    (c .before .before .root2 .ensures)))

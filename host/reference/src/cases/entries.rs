@@ -92,9 +92,15 @@ pub struct ReadCase {
     pub cells: usize,
 }
 
-/// The three numbers of a reading.
-fn reading_numbers(reading: Reading) -> [u64; 3] {
-    [reading.rows, reading.tail_place, reading.tail_length].map(|number| number as u64)
+/// The numbers of a reading: rows, tail place, tail length, comparisons.
+fn reading_numbers(reading: Reading) -> [u64; 4] {
+    [
+        reading.rows,
+        reading.tail_place,
+        reading.tail_length,
+        reading.comparisons,
+    ]
+    .map(|number| number as u64)
 }
 
 impl Entry for ReadCase {
@@ -118,9 +124,17 @@ impl Entry for ReadCase {
         let mut sheet = vec![CELL_FILL; self.cells];
         let result = read(&self.schema, self.type_number, &self.payload, &mut sheet);
         let (number, place, reading) = outcome(result, Reading::default());
-        let [rows, tail_place, tail_length] = reading_numbers(reading);
-        let sum = sheet_sum(&sheet);
-        line(text, &[number, place, rows, tail_place, tail_length, sum]);
+        let [rows, tail_place, tail_length, comparisons] = reading_numbers(reading);
+        let numbers = [
+            number,
+            place,
+            rows,
+            tail_place,
+            tail_length,
+            comparisons,
+            sheet_sum(&sheet),
+        ];
+        line(text, &numbers);
     }
 }
 
@@ -281,10 +295,10 @@ impl Entry for FrameWriteCase {
 }
 
 /// One frame against a call table, with a newly filled sheet.
-fn receive(table: &mut CallTable, schema: &[u8], cells: usize, sent: (u8, &[u8])) -> [u64; 8] {
+fn receive(table: &mut CallTable, schema: &[u8], cells: usize, sent: (u8, &[u8])) -> [u64; 9] {
     let mut sheet = vec![CELL_FILL; cells];
     let received = table.receive(schema, sent.0, sent.1, &mut sheet);
-    let [rows, tail_place, tail_length] = reading_numbers(received.reading());
+    let [rows, tail_place, tail_length, comparisons] = reading_numbers(received.reading());
     [
         received.number().into(),
         received.place().into(),
@@ -293,6 +307,7 @@ fn receive(table: &mut CallTable, schema: &[u8], cells: usize, sent: (u8, &[u8])
         tail_place,
         tail_length,
         received.open as u64,
+        comparisons,
         sheet_sum(&sheet),
     ]
 }
@@ -365,19 +380,8 @@ impl Entry for ReceiveCase {
         let mut table = self.table.clone();
         let sent = (self.side, &self.data[..]);
         let numbers = receive(&mut table, &self.schema, self.cells, sent);
-        let [number, place, used, rows, tail_place, tail_length, open, sum] = numbers;
-        let next = call_table_sum(&table);
-        let all = [
-            number,
-            place,
-            used,
-            rows,
-            tail_place,
-            tail_length,
-            open,
-            sum,
-            next,
-        ];
+        let mut all = numbers.to_vec();
+        all.push(call_table_sum(&table));
         line(text, &all);
     }
 }

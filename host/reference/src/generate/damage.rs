@@ -1,5 +1,6 @@
 //! Ways to make a payload wrong, one for each refusal of the reader.
 
+use super::maps::excessive;
 use super::rng::Rng;
 use super::table::Table;
 use super::value::{overlong, padded, random_text, unfinished, varuint, Mark, Payload, Spot};
@@ -173,6 +174,58 @@ pub fn padded_key(rng: &mut Rng, _: &Table, payload: &Payload) -> Option<Vec<u8>
     Some(replaced(payload, later.place, later.end, &new))
 }
 
+/// One of the last keys of a map of many pairs that is an earlier one again
+/// (24).
+pub fn repeated_late_key(rng: &mut Rng, _: &Table, payload: &Payload) -> Option<Vec<u8>> {
+    let any = choose(rng, payload, |mark| matches!(mark.spot, Spot::Key { .. }))?;
+    let marks = payload.marks.iter();
+    let keys: Vec<&Mark> = marks.filter(|mark| mark.spot == any.spot).collect();
+    if keys.len() < 32 {
+        return None;
+    }
+    let late = keys.len() - 1 - rng.below(3);
+    let earlier = match rng.below(3) {
+        0 => 0,
+        1 => late - 1,
+        _ => rng.below(late),
+    };
+    let key = &payload.bytes[keys[earlier].place..keys[earlier].end];
+    Some(replaced(payload, keys[late].place, keys[late].end, key))
+}
+
+/// The payload with another count of a map, and so many bytes after it.
+fn recounted(rng: &mut Rng, payload: &Payload, count: &[u8], after: usize) -> Option<Vec<u8>> {
+    let mark = choose(rng, payload, |mark| mark.spot == Spot::MapCount)?;
+    let mut bytes = [&payload.bytes[..mark.place], count].concat();
+    let rest = &payload.bytes[mark.end..];
+    bytes.extend(&rest[..after.min(rest.len())]);
+    let missing = after.saturating_sub(rest.len());
+    bytes.extend(rng.bytes(missing));
+    Some(bytes)
+}
+
+/// A map's count above 64, with bytes enough for as many pairs (31).
+pub fn many_pairs(rng: &mut Rng, _: &Table, payload: &Payload) -> Option<Vec<u8>> {
+    let count = excessive(rng);
+    let after = 2 * count + rng.pick(&[0, 0, 1, 9]);
+    recounted(rng, payload, &varuint(count as u64), after)
+}
+
+/// A map's count above 64, with bytes for fewer pairs (20).
+pub fn many_pairs_cut(rng: &mut Rng, _: &Table, payload: &Payload) -> Option<Vec<u8>> {
+    let count = excessive(rng);
+    let after = 2 * count - rng.pick(&[1, 1, 2, 9, count]);
+    recounted(rng, payload, &varuint(count as u64), after)
+}
+
+/// A map's count above 64 with spare zero groups (21).
+pub fn padded_pairs(rng: &mut Rng, _: &Table, payload: &Payload) -> Option<Vec<u8>> {
+    let count = excessive(rng);
+    let bytes = padded(rng, count as u64)?;
+    let after = 2 * count - rng.pick(&[0, 0, 1, count]);
+    recounted(rng, payload, &bytes, after)
+}
+
 /// A required field's bit cleared, maybe with an unknown bit set (25).
 pub fn absent(rng: &mut Rng, table: &Table, payload: &Payload) -> Option<Vec<u8>> {
     let mark = choose(rng, payload, |mark| {
@@ -280,6 +333,7 @@ pub fn twice(rng: &mut Rng, table: &Table, payload: &Payload) -> Option<Vec<u8>>
         oversized,
         malformed,
         padded_size,
+        many_pairs,
         not_bool,
         not_utf8,
         repeated_key,

@@ -2,21 +2,25 @@
 
 use super::damage::Damage;
 use super::frames::{frame_bytes, spoil};
-use super::payload::payload_of;
+use super::maps::{allowed, give_pairs, Pairs};
+use super::payload::{payload_of, value_of};
 use super::rng::Rng;
-use super::table::{add_method, add_method_of, Table, ARRAY, MAP, STRING};
+use super::table::{add_method, add_method_of, key_kind, Table, ARRAY, MAP, STRING};
 use super::value::{Content, Maker, Types, Value};
 use crate::calls::{Call, CallTable, FORMS, SLOTS};
 use crate::frame::{Header, Kind};
 use crate::schema::{Schema, NO_TYPE};
+use crate::MAX_PAIRS;
 
 /// A frame and the side it comes from.
 pub type Sent = (u8, Vec<u8>);
 
-/// One connection: its table and its calls so far.
+/// One connection: its table, its calls so far, and whether the maps in its
+/// right payloads have many pairs.
 pub struct Line {
     pub table: Table,
     pub calls: CallTable,
+    large_maps: bool,
 }
 
 /// A small table with methods; its structs can go wrong in every way.
@@ -48,21 +52,50 @@ fn line_table(rng: &mut Rng) -> Table {
     table
 }
 
+/// A table with methods whose values have maps: in the root, in arrays of
+/// structs and in maps.
+fn maps_table(rng: &mut Rng) -> Table {
+    let mut table = Table::default();
+    let key = table.add_type(key_kind(rng), 0, 0);
+    let other = table.add_type(key_kind(rng), 0, 0);
+    let value = table.add_type(rng.pick(&[1, 6, STRING]), 0, 0);
+    let map = table.add_type(MAP, key, value);
+    let maps = table.add_type(MAP, other, map);
+    let inner = table.add_struct(&[[map, 0], [value, 1]]);
+    let list = table.add_type(ARRAY, inner, 0);
+    table.add_struct(&[[map, 1], [list, 1], [maps, 1]]);
+    table.add_struct(&[[maps, 0], [value, 1]]);
+    add_method_of(rng, &mut table, 15);
+    for _ in 0..rng.range(1, 3) {
+        add_method(rng, &mut table);
+    }
+    table
+}
+
 impl Line {
     /// A new connection.
     pub fn fresh(rng: &mut Rng) -> Line {
         Line {
             table: line_table(rng),
             calls: CallTable::fresh(),
+            large_maps: false,
         }
     }
 
-    /// A connection in the middle of its life, with so many open calls.
-    pub fn busy(rng: &mut Rng, open: usize) -> Line {
-        let mut line = Line::fresh(rng);
-        let bytes = line.table.bytes();
+    /// A new connection whose payloads have maps of many pairs.
+    pub fn with_maps(rng: &mut Rng) -> Line {
+        Line {
+            table: maps_table(rng),
+            calls: CallTable::fresh(),
+            large_maps: true,
+        }
+    }
+
+    /// The connection in the middle of its life, with so many open calls.
+    pub fn busy(mut self, rng: &mut Rng, open: usize) -> Line {
+        let bytes = self.table.bytes();
         let Ok(schema) = Schema::check(&bytes) else {
-            return line;
+            return self;
         };
         let mut slots: Vec<usize> = (0..SLOTS).collect();
         if rng.one_in(2) {
@@ -73,9 +106,9 @@ impl Line {
                 true => rng.bits() | 1 << 32,
                 false => index as u64,
             };
-            line.calls.slots[slot] = open_call(rng, &schema, correlation);
+            self.calls.slots[slot] = open_call(rng, &schema, correlation);
         }
-        line
+        self
     }
 
     fn open_calls(&self) -> Vec<Call> {
@@ -128,8 +161,11 @@ impl Line {
         let types = Types::new(&self.table);
         let full = rng.one_in(3);
         match self.payload_type(method, kind) {
+            Some(number) if self.large_maps => {
+                with_pairs(rng, &types, number, allowed).unwrap_or_default()
+            }
             Some(number) => {
-                payload_of(rng, &types, number, full).map_or(Vec::new(), |made| made.bytes)
+                value_of(rng, &types, number, full).map_or(Vec::new(), |made| made.bytes())
             }
             None if kind == Kind::Error => {
                 let length = rng.below(6);
@@ -143,6 +179,16 @@ impl Line {
 /// A frame that is sent by its own side.
 fn sent(header: &Header, kind: Kind, payload: &[u8]) -> Sent {
     (kind.side(), frame_bytes(header, payload))
+}
+
+/// A payload of a type with a map of so many pairs, where it has one.
+fn with_pairs(rng: &mut Rng, types: &Types, number: u32, pairs: Pairs) -> Option<Vec<u8>> {
+    let mut value = value_of(rng, types, number, true)?;
+    for _ in 0..rng.range(1, 2) {
+        let count = pairs(rng);
+        give_pairs(rng, types, &mut value, count);
+    }
+    Some(value.bytes())
 }
 
 /// The kinds an open call may see next.
@@ -296,6 +342,23 @@ pub fn damaged(rng: &mut Rng, line: &Line, damage: Damage) -> Option<Sent> {
     let (header, kind, number) = carrying(rng, line)?;
     let payload = payload_of(rng, &Types::new(&line.table), number, true)?;
     let bytes = damage(rng, &line.table, &payload)?;
+    Some(sent(&header, kind, &bytes))
+}
+
+/// A frame whose payload has a map of so many pairs.
+pub fn mapped(rng: &mut Rng, line: &Line, pairs: Pairs) -> Option<Sent> {
+    let (header, kind, number) = carrying(rng, line)?;
+    let bytes = with_pairs(rng, &Types::new(&line.table), number, pairs)?;
+    Some(sent(&header, kind, &bytes))
+}
+
+/// A frame whose payload has a map of 64 pairs, damaged in one way.
+pub fn mapped_damaged(rng: &mut Rng, line: &Line, damage: Damage) -> Option<Sent> {
+    let (header, kind, number) = carrying(rng, line)?;
+    let types = Types::new(&line.table);
+    let mut value = value_of(rng, &types, number, true)?;
+    give_pairs(rng, &types, &mut value, MAX_PAIRS)?;
+    let bytes = damage(rng, &line.table, &value.payload())?;
     Some(sent(&header, kind, &bytes))
 }
 

@@ -173,6 +173,35 @@ fn records() -> Vec<Vec<u8>> {
     records
 }
 
+/// Calls of one method with maps of 64 pairs, of 65, and with a key repeated.
+fn maps() -> ListingCase {
+    let table = Table {
+        types: vec![[6, 0, 0], [15, 0, 0], [16, 0, 1]],
+        fields: vec![[1, 0]],
+        methods: vec![[1, 2, 3, 15, 2, 2, 2, 2]],
+    };
+    let map = |pairs: u8| -> Vec<u8> {
+        let content = (0..pairs).flat_map(|key| [key, 0]);
+        [1, pairs].into_iter().chain(content).collect()
+    };
+    let mut repeated = map(64);
+    repeated[2 + 2 * 63] = 0;
+    let record = [
+        entry(Kind::Invoke, 1, &map(65)),
+        entry(Kind::InStream, 1, &map(64)),
+        entry(Kind::Invoke, 1, &map(64)),
+        entry(Kind::InStream, 1, &map(64)),
+        entry(Kind::Response, 1, &map(65)),
+        entry(Kind::InStream, 1, &map(64)),
+        entry(Kind::Invoke, 2, &repeated),
+        entry(Kind::Invoke, 2, &map(0)),
+    ];
+    ListingCase {
+        schema: table.bytes(),
+        record: record.concat(),
+    }
+}
+
 /// Records at the limit of 65,536 bytes: as many entries as fit, with the
 /// longest identifiers; the last one cut, or with a payload that makes the
 /// record full; and one byte more.
@@ -217,6 +246,7 @@ pub fn cases(seed: u64, number: usize) -> Vec<ListingCase> {
     };
     let mut cases: Vec<ListingCase> = records().into_iter().map(by_t).collect();
     cases.extend(long_records().into_iter().map(by_t));
+    cases.push(maps());
     for schema in schemas() {
         for record in [Vec::new(), worked()] {
             let schema = schema.clone();

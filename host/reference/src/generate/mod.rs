@@ -10,6 +10,7 @@ mod fault;
 mod frames;
 mod line;
 pub mod listings;
+mod maps;
 mod pair;
 mod payload;
 mod reading;

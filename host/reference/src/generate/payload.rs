@@ -1,10 +1,9 @@
 //! Right payloads of random tables, or of tables that hold a wanted kind.
 
+use super::maps::give_pairs;
 use super::rng::Rng;
-use super::table::{
-    good_table, is_key_kind, random_field, random_table, Table, ARRAY, MAP, STRUCT,
-};
-use super::value::{Maker, Payload, Types};
+use super::table::{good_table, key_kind, random_field, random_table, Table, ARRAY, MAP, STRUCT};
+use super::value::{Maker, Payload, Types, Value};
 
 /// A table, a struct type of it and a right payload of that type.
 pub struct Sample {
@@ -13,8 +12,8 @@ pub struct Sample {
     pub payload: Payload,
 }
 
-/// A random value of a type as a payload; none if the type has no small value.
-pub fn payload_of(rng: &mut Rng, types: &Types, root: u32, full: bool) -> Option<Payload> {
+/// A random value of a type; none if the type has no small value.
+pub fn value_of(rng: &mut Rng, types: &Types, root: u32, full: bool) -> Option<Value> {
     if !types.fits(root, 16) {
         return None;
     }
@@ -28,7 +27,16 @@ pub fn payload_of(rng: &mut Rng, types: &Types, root: u32, full: bool) -> Option
         budget,
         full,
     };
-    let value = maker.value(root, 16);
+    Some(maker.value(root, 16))
+}
+
+/// A random value as a payload, sometimes with a map of many pairs.
+pub fn payload_of(rng: &mut Rng, types: &Types, root: u32, full: bool) -> Option<Payload> {
+    let mut value = value_of(rng, types, root, full)?;
+    if rng.one_in(60) {
+        let count = rng.pick(&[2, 20, 63, 64]);
+        give_pairs(rng, types, &mut value, count);
+    }
     Some(value.payload())
 }
 
@@ -63,7 +71,7 @@ pub fn table_holding(rng: &mut Rng, wanted: u32) -> (Table, u32) {
         held = match rng.below(3) {
             0 => table.add_type(ARRAY, held, 0),
             1 => {
-                let key = table.add_type(rng.pick(&[1, 2, 6, 7, 9, 12, 13]), 0, 0);
+                let key = table.add_type(key_kind(rng), 0, 0);
                 table.add_type(MAP, key, held)
             }
             _ => add_holder(rng, &mut table, held),
@@ -91,13 +99,7 @@ fn add_wanted(rng: &mut Rng, table: &mut Table, wanted: u32) -> u32 {
     match wanted {
         ARRAY => table.add_type(ARRAY, any, 0),
         MAP => {
-            let kind = loop {
-                let kind = rng.range(1, 13) as u32;
-                if is_key_kind(kind) {
-                    break kind;
-                }
-            };
-            let key = table.add_type(kind, 0, 0);
+            let key = table.add_type(key_kind(rng), 0, 0);
             let value = table.add_type(rng.pick(&[1, 6, 7, 12]), 0, 0);
             table.add_type(MAP, key, value)
         }

@@ -1,7 +1,8 @@
 //! Cases for the payload reader.
 
-use super::damage::Damage;
+use super::damage::{repeated_late_key, Damage};
 use super::deep::{deep_table, deep_value};
+use super::maps::{fullest, map_value, maps_of_maps, Pairs};
 use super::pair::{extended, old_table};
 use super::payload::{payload_of, sample, sample_holding};
 use super::rng::Rng;
@@ -149,26 +150,39 @@ pub fn read_too_long(rng: &mut Rng) -> Case {
     read_long(rng, length)
 }
 
-/// A map of more pairs than the eye can see, right or with a repeated key.
-pub fn read_large_map(rng: &mut Rng) -> Case {
-    let mut table = Table::default();
-    let key = table.add_type(7, 0, 0);
-    let value = table.add_type(1, 0, 0);
-    let map = table.add_type(MAP, key, value);
-    let root = table.add_struct(&[[map, 0]]);
-    let pairs = rng.range(300, 700) as u16;
-    let mut payload = vec![1];
-    payload.extend(varuint(pairs.into()));
-    for pair in 0..pairs {
-        payload.extend((pair ^ 0x2A5).to_le_bytes());
-        payload.push((pair % 2) as u8);
+/// A payload with a map of so many pairs, damaged or not.
+pub fn read_map(rng: &mut Rng, pairs: Pairs, damage: Damage) -> Case {
+    loop {
+        let count = pairs(rng);
+        let (table, value) = map_value(rng, count);
+        let payload = value.payload();
+        match damage(rng, &table, &payload) {
+            Some(bytes) if bytes.len() <= MAX_PAYLOAD => {
+                return read_case(rng, &table, value.number, bytes)
+            }
+            _ => {}
+        }
     }
-    if rng.one_in(2) {
-        let last = payload.len() - 3;
-        let other = last - 3 * rng.range(1, pairs as usize - 1);
-        payload.copy_within(other..other + 2, last);
+}
+
+/// Maps of maps that fill a payload of 16,384 bytes, or nearly, and have as
+/// many key comparisons due as can be; in some, one pair or key too many.
+pub fn read_maps_of_maps(rng: &mut Rng) -> Case {
+    let mut counts = fullest();
+    let last = counts.len() - 1;
+    match rng.below(6) {
+        0 => (counts[0], counts[1]) = (65, 63),
+        1 => counts[last] = 65,
+        2 => counts.truncate(rng.range(1, last)),
+        _ => {}
     }
-    read_case(rng, &table, root, payload)
+    let (table, value) = maps_of_maps(rng, counts);
+    let payload = value.payload();
+    let repeated = match rng.one_in(4) {
+        true => repeated_late_key(rng, &table, &payload),
+        false => None,
+    };
+    read_case(rng, &table, value.number, repeated.unwrap_or(payload.bytes))
 }
 
 /// A new table's payload for the old table, or the other way round.

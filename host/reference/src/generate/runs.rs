@@ -2,10 +2,17 @@
 //! frames against any.
 
 use super::damage::Damage;
+use super::frames::frame_bytes;
 use super::line::{damaged, either, end, open, spoilt, step, Line, Sent};
+use super::maps::{fullest, maps_of_maps};
 use super::rng::Rng;
+use super::table::add_method_of;
 use crate::calls::{FORMS, SLOTS};
 use crate::cases::{Case, ReceiveCase, RunCase};
+use crate::frame::{Header, Kind};
+
+/// The sheet's cells of a line whose payloads have maps of many pairs.
+const MAP_CELLS: usize = 2_000;
 
 /// The sheet's cells of a line: enough, with odd ones, or very few.
 fn cells(rng: &mut Rng) -> usize {
@@ -26,11 +33,11 @@ fn send(line: &mut Line, schema: &[u8], cells: usize, sent: &Sent) {
 /// occasion, the run goes on in a right way.
 pub fn run(
     rng: &mut Rng,
+    mut line: Line,
     frames: usize,
     cells: usize,
     next: impl Fn(&mut Rng, &Line) -> Option<Sent>,
 ) -> Case {
-    let mut line = Line::fresh(rng);
     let schema = line.table.bytes();
     let mut all = Vec::new();
     while all.len() < frames {
@@ -49,8 +56,9 @@ pub fn run(
 
 /// A run that keeps the order of calls.
 pub fn run_good(rng: &mut Rng) -> Case {
+    let line = Line::fresh(rng);
     let frames = rng.range(4, 16);
-    run(rng, frames, 400, |rng, line| match rng.below(4) {
+    run(rng, line, frames, 400, |rng, line| match rng.below(4) {
         0 => open(rng, line),
         _ => step(rng, line),
     })
@@ -58,12 +66,44 @@ pub fn run_good(rng: &mut Rng) -> Case {
 
 /// A run in which one sort of frame comes up again and again.
 pub fn run_with(rng: &mut Rng, action: impl Fn(&mut Rng, &Line) -> Option<Sent>) -> Case {
+    let line = Line::fresh(rng);
     let frames = rng.range(4, 10);
     let cells = cells(rng);
-    run(rng, frames, cells, |rng, line| match rng.below(5) {
+    run(rng, line, frames, cells, |rng, line| match rng.below(5) {
         0 => open(rng, line),
         1 | 2 => step(rng, line),
         _ => action(rng, line),
+    })
+}
+
+/// The same for payloads with maps of many pairs.
+pub fn run_maps(rng: &mut Rng, action: impl Fn(&mut Rng, &Line) -> Option<Sent>) -> Case {
+    let line = Line::with_maps(rng);
+    let frames = rng.range(2, 5);
+    run(rng, line, frames, MAP_CELLS, |rng, line| {
+        match rng.below(4) {
+            0 => open(rng, line),
+            1 => step(rng, line),
+            _ => action(rng, line),
+        }
+    })
+}
+
+/// An INVOKE with as many key comparisons due as can be, and a sheet of just
+/// enough rows, or of one too few.
+pub fn run_maps_of_maps(rng: &mut Rng) -> Case {
+    let (mut table, value) = maps_of_maps(rng, fullest());
+    add_method_of(rng, &mut table, 8);
+    let [package, service, method, ..] = table.methods[0];
+    let header = Header {
+        kind: Kind::Invoke as u32,
+        identifiers: [package, service, method],
+        correlation: rng.bits(),
+    };
+    Case::Run(RunCase {
+        schema: table.bytes(),
+        cells: rng.pick(&[65_535, 65_536, 65_536]),
+        frames: vec![(b'C', frame_bytes(&header, &value.bytes()))],
     })
 }
 
@@ -79,20 +119,21 @@ pub fn run_spoilt(rng: &mut Rng, number: u32) -> Case {
 
 /// A run with a sheet of very few rows (30).
 pub fn run_small_sheet(rng: &mut Rng) -> Case {
+    let line = Line::fresh(rng);
     let frames = rng.range(4, 8);
     let cells = rng.below(12);
-    run(rng, frames, cells, either)
+    run(rng, line, frames, cells, either)
 }
 
 /// A run that opens 128 calls, goes on opening (13), ends some and opens again.
 pub fn run_full(rng: &mut Rng) -> Case {
+    let line = Line::fresh(rng);
     let frames = rng.range(134, 140);
-    run(rng, frames, 80, |rng, line| match line.calls.open_count() {
-        SLOTS => match rng.below(4) {
-            0 => end(rng, line),
+    run(rng, line, frames, 80, |rng, line| {
+        match line.calls.open_count() {
+            SLOTS if rng.one_in(4) => end(rng, line),
             _ => open(rng, line),
-        },
-        _ => open(rng, line),
+        }
     })
 }
 
@@ -125,13 +166,24 @@ fn open_count(rng: &mut Rng) -> usize {
 pub fn receive_with(rng: &mut Rng, action: impl Fn(&mut Rng, &Line) -> Option<Sent>) -> Case {
     loop {
         let open = open_count(rng);
-        let line = Line::busy(rng, open);
+        let line = Line::fresh(rng).busy(rng, open);
         if let Some(mut sent) = action(rng, &line) {
             if rng.one_in(6) {
                 sent.1.push(0xAF);
             }
             let cells = cells(rng);
             return receive_case(line, cells, sent);
+        }
+    }
+}
+
+/// The same for a payload with maps of many pairs.
+pub fn receive_maps(rng: &mut Rng, action: impl Fn(&mut Rng, &Line) -> Option<Sent>) -> Case {
+    loop {
+        let open = open_count(rng);
+        let line = Line::with_maps(rng).busy(rng, open);
+        if let Some(sent) = action(rng, &line) {
+            return receive_case(line, MAP_CELLS, sent);
         }
     }
 }
@@ -150,7 +202,7 @@ pub fn receive_spoilt(rng: &mut Rng, number: u32) -> Case {
 pub fn receive_small_sheet(rng: &mut Rng) -> Case {
     loop {
         let open = rng.range(0, 4);
-        let line = Line::busy(rng, open);
+        let line = Line::fresh(rng).busy(rng, open);
         if let Some(sent) = either(rng, &line) {
             let cells = rng.below(9);
             return receive_case(line, cells, sent);
@@ -161,7 +213,7 @@ pub fn receive_small_sheet(rng: &mut Rng) -> Case {
 /// An INVOKE when all slots are taken (13).
 pub fn receive_full(rng: &mut Rng) -> Case {
     loop {
-        let line = Line::busy(rng, SLOTS);
+        let line = Line::fresh(rng).busy(rng, SLOTS);
         if let Some(sent) = open(rng, &line) {
             return receive_case(line, 40, sent);
         }
@@ -172,7 +224,7 @@ pub fn receive_full(rng: &mut Rng) -> Case {
 pub fn receive_bad_calls(rng: &mut Rng) -> Case {
     loop {
         let open = rng.pick(&[0, 1, 2, 4, 60, 127, 128]);
-        let mut line = Line::busy(rng, open);
+        let mut line = Line::fresh(rng).busy(rng, open);
         let fault = rng.range(2, 7) as u32;
         let sent = match rng.one_in(4) {
             true => spoilt(rng, &line, fault),
@@ -237,7 +289,7 @@ fn spoil_free(rng: &mut Rng, line: &mut Line) -> Option<()> {
 /// A frame under a table with a fault, the call table good or not.
 pub fn receive_bad_table(rng: &mut Rng, fault: fn(&mut Rng) -> Vec<u8>) -> Case {
     let open = rng.pick(&[0, 1, 3]);
-    let mut line = Line::busy(rng, open);
+    let mut line = Line::fresh(rng).busy(rng, open);
     let sent = either(rng, &line).unwrap_or((b'C', Vec::new()));
     if rng.one_in(3) {
         spoil_calls(rng, &mut line);

@@ -2,6 +2,7 @@
 
 use super::damage::{bad_text, tail};
 use super::deep::{deep_table, deep_value};
+use super::maps::{map_value, Pairs};
 use super::payload::{sample, sample_holding, Sample};
 use super::reading::no_struct;
 use super::rng::Rng;
@@ -31,6 +32,18 @@ impl Sheet {
             root,
             data,
         })
+    }
+
+    /// The rows of a value, as a reader without limits would give them.
+    fn of_value(table: Table, value: &Value) -> Sheet {
+        let mut sheet = Sheet {
+            table,
+            root: value.number,
+            rows: Vec::new(),
+            data: Vec::new(),
+        };
+        lay_out(value, &mut sheet);
+        sheet
     }
 
     fn from_sample(rng: &mut Rng, sample: Sample) -> Option<Sheet> {
@@ -118,7 +131,19 @@ pub fn write_sized(rng: &mut Rng, damage: Damage) -> Case {
     write_holding(rng, wanted, damage)
 }
 
-/// As the reading gave it.
+/// A sheet of a value with a map of so many pairs, changed.
+pub fn write_map(rng: &mut Rng, pairs: Pairs, damage: Damage) -> Case {
+    loop {
+        let count = pairs(rng);
+        let (table, value) = map_value(rng, count);
+        let mut sheet = Sheet::of_value(table, &value);
+        if damage(rng, &mut sheet).is_some() {
+            return sheet.case(rng);
+        }
+    }
+}
+
+/// The sheet as it is.
 pub fn as_read(_: &mut Rng, _: &mut Sheet) -> Option<()> {
     Some(())
 }
@@ -213,6 +238,33 @@ pub fn struct_count(rng: &mut Rng, sheet: &mut Sheet) -> Option<()> {
     let was = sheet.rows[row][3];
     let other = [was.wrapping_add(1), was.wrapping_sub(1), 64, u32::MAX];
     sheet.rows[row][3] = rng.pick(&other);
+    Some(())
+}
+
+/// A map's count above 64, whatever rows follow (31).
+pub fn many_pairs(rng: &mut Rng, sheet: &mut Sheet) -> Option<()> {
+    let row = sheet.pick_row(rng, |kind| kind == MAP)?;
+    sheet.rows[row][3] = rng.pick(&[65, 65, 66, 128, 1_000, 8_192, 1 << 31, u32::MAX]);
+    if rng.one_in(4) {
+        sheet.rows.truncate(row + 1);
+    }
+    Some(())
+}
+
+/// A map's count above 64 in a row of another type (50).
+pub fn many_pairs_other_type(rng: &mut Rng, sheet: &mut Sheet) -> Option<()> {
+    let row = sheet.pick_row(rng, |kind| kind == MAP)?;
+    sheet.rows[row][3] = rng.pick(&[65, 66, u32::MAX]);
+    sheet.rows[row][0] ^= 1;
+    Some(())
+}
+
+/// Most rows and bytes missing, in most cases.
+pub fn few_rows(rng: &mut Rng, sheet: &mut Sheet) -> Option<()> {
+    if !rng.one_in(6) {
+        sheet.rows.truncate(rng.range(10, 200));
+        sheet.data.truncate(1_000);
+    }
     Some(())
 }
 
@@ -324,17 +376,33 @@ pub fn not_utf8(rng: &mut Rng, sheet: &mut Sheet) -> Option<()> {
     Some(())
 }
 
-/// Two keys of a map over the same or equal bytes (24). The second key of a
-/// map of leaves stands two rows after the first.
+/// Two keys of a map over the same or equal bytes (24).
 pub fn repeated_key(rng: &mut Rng, sheet: &mut Sheet) -> Option<()> {
+    repeat_key(rng, sheet, 2, |rng, pairs| rng.range(1, pairs - 1))
+}
+
+/// One of the last keys of a map of many pairs that is an earlier one again
+/// (24).
+pub fn repeated_late_key(rng: &mut Rng, sheet: &mut Sheet) -> Option<()> {
+    repeat_key(rng, sheet, 32, |rng, pairs| pairs - 1 - rng.below(3))
+}
+
+/// A later key of a map with at least so many pairs made an earlier one. The
+/// second key of a map of leaves stands two rows after the first.
+fn repeat_key(
+    rng: &mut Rng,
+    sheet: &mut Sheet,
+    least: usize,
+    later: fn(&mut Rng, usize) -> usize,
+) -> Option<()> {
     let map = sheet.pick_row(rng, |kind| kind == MAP)?;
     let [_, key, value] = sheet.table.types[sheet.rows[map][0] as usize];
     let leaves = sheet.table.types[value as usize][0] < ARRAY;
     let pairs = sheet.rows[map][3] as usize;
-    if pairs < 2 || !leaves {
+    if pairs < least || !leaves {
         return None;
     }
-    let later = rng.range(1, pairs - 1);
+    let later = later(rng, pairs);
     let earlier = map + 1 + 2 * rng.below(later);
     let later = map + 1 + 2 * later;
     if later >= sheet.rows.len() {
@@ -378,6 +446,7 @@ pub fn twice(rng: &mut Rng, sheet: &mut Sheet) -> Option<()> {
         leaf_count,
         struct_count,
         list_count,
+        many_pairs,
         inner_bit,
         absent,
         not_bool,
@@ -448,22 +517,16 @@ pub fn write_long(rng: &mut Rng) -> Case {
     })
 }
 
-/// A nest of so many levels, its rows as a reader without a depth limit would
-/// give them.
-pub fn write_deep(rng: &mut Rng, levels: usize) -> Case {
+/// A nest of so many levels, its rows changed or not.
+pub fn write_deep(rng: &mut Rng, levels: usize, damage: Damage) -> Case {
     let table = deep_table(rng);
     let root = rng.pick(&[0, 0, 0, 6]);
     let value = deep_value(rng, &table, root, levels - 1);
-    let mut sheet = Sheet {
-        table,
-        root,
-        rows: Vec::new(),
-        data: Vec::new(),
-    };
-    lay_out(&value, &mut sheet);
+    let mut sheet = Sheet::of_value(table, &value);
     if rng.one_in(4) {
         sheet.rows.truncate(levels.min(sheet.rows.len()) - 1);
     }
+    damage(rng, &mut sheet);
     sheet.case(rng)
 }
 

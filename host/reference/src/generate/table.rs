@@ -22,6 +22,11 @@ pub fn is_key_kind(kind: u32) -> bool {
     matches!(kind, 1..=9 | STRING | BYTES)
 }
 
+/// A kind that a map may have as its key.
+pub fn key_kind(rng: &mut Rng) -> u32 {
+    rng.pick(&[1, 2, 3, 4, 5, 6, 7, 8, 9, STRING, BYTES])
+}
+
 impl Table {
     /// The schema file.
     pub fn bytes(&self) -> Vec<u8> {

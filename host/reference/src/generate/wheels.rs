@@ -1,7 +1,7 @@
 //! The sorts of case of each code, and their shares.
 
 use super::{
-    aim, any, damage, fault, frames, line, pair, reading, runs, scalars, sheet, table, Wheel,
+    aim, any, damage, fault, frames, line, maps, pair, reading, runs, scalars, sheet, table, Wheel,
 };
 use crate::cases::{Case, TableCase};
 
@@ -50,7 +50,7 @@ const EXTENDS: Wheel = &[
 ];
 
 const READ: Wheel = &[
-    any(76, |rng| reading::read_any(rng, damage::whole)),
+    any(84, |rng| reading::read_any(rng, damage::whole)),
     any(48, |rng| reading::read_sized(rng, damage::whole)),
     any(24, |rng| reading::read_any(rng, damage::tail)),
     any(20, |rng| reading::read_across(rng, true)),
@@ -92,16 +92,40 @@ const READ: Wheel = &[
     any(8, |rng| reading::read_sized(rng, damage::twice)),
     any(10, reading::read_random),
     aim(5, 40, |rng| reading::read_bad_table(rng, fault::bad_shape)),
-    aim(3, 41, |rng| {
+    aim(4, 41, |rng| {
         reading::read_bad_table(rng, fault::too_many_rows)
     }),
     aim(5, 42, |rng| reading::read_bad_table(rng, fault::bad_type)),
     aim(5, 43, |rng| reading::read_bad_table(rng, fault::bad_field)),
     aim(5, 44, |rng| reading::read_bad_table(rng, fault::bad_method)),
     aim(8, 46, reading::read_no_struct),
-    aim(3, 7, reading::read_too_long),
+    aim(4, 7, reading::read_too_long),
     aim(1, 0, |rng| reading::read_long(rng, crate::MAX_PAYLOAD)),
-    any(1, reading::read_large_map),
+    aim(16, 0, |rng| {
+        reading::read_map(rng, maps::allowed, damage::whole)
+    }),
+    aim(14, 31, |rng| {
+        reading::read_map(rng, maps::excessive, damage::whole)
+    }),
+    aim(1, 31, |rng| {
+        reading::read_map(rng, maps::thousands, damage::whole)
+    }),
+    aim(10, 31, |rng| {
+        reading::read_holding(rng, table::MAP, damage::many_pairs)
+    }),
+    any(4, |rng| reading::read_deep(rng, 16, damage::many_pairs)),
+    any(4, |rng| reading::read_deep(rng, 17, damage::many_pairs)),
+    aim(6, 20, |rng| {
+        reading::read_holding(rng, table::MAP, damage::many_pairs_cut)
+    }),
+    aim(6, 21, |rng| {
+        reading::read_holding(rng, table::MAP, damage::padded_pairs)
+    }),
+    aim(12, 24, |rng| {
+        reading::read_map(rng, maps::most, damage::repeated_late_key)
+    }),
+    any(8, |rng| reading::read_map(rng, maps::most, damage::noise)),
+    any(1, reading::read_maps_of_maps),
 ];
 
 /// Payloads of one table read by another that extends it, or that it extends.
@@ -135,7 +159,7 @@ const SCALAR: Wheel = &[
 ];
 
 const WRITE: Wheel = &[
-    any(46, |rng| sheet::write_any(rng, sheet::as_read)),
+    any(52, |rng| sheet::write_any(rng, sheet::as_read)),
     any(30, |rng| sheet::write_any(rng, sheet::made_up)),
     aim(10, 0, |rng| {
         sheet::write_holding(rng, table::MAP, sheet::made_up)
@@ -161,9 +185,30 @@ const WRITE: Wheel = &[
     aim(18, 24, |rng| {
         sheet::write_holding(rng, table::MAP, sheet::repeated_key)
     }),
-    any(6, |rng| sheet::write_deep(rng, 15)),
-    any(8, |rng| sheet::write_deep(rng, 16)),
-    aim(12, 28, |rng| sheet::write_deep(rng, 17)),
+    any(6, |rng| sheet::write_deep(rng, 15, sheet::as_read)),
+    any(8, |rng| sheet::write_deep(rng, 16, sheet::as_read)),
+    aim(12, 28, |rng| sheet::write_deep(rng, 17, sheet::as_read)),
+    any(3, |rng| sheet::write_deep(rng, 16, sheet::many_pairs)),
+    any(3, |rng| sheet::write_deep(rng, 17, sheet::many_pairs)),
+    aim(8, 0, |rng| {
+        sheet::write_map(rng, maps::allowed, sheet::made_up)
+    }),
+    aim(5, 31, |rng| {
+        sheet::write_map(rng, maps::excessive, sheet::as_read)
+    }),
+    aim(1, 31, |rng| {
+        sheet::write_map(rng, maps::thousand, sheet::few_rows)
+    }),
+    aim(14, 31, |rng| {
+        sheet::write_holding(rng, table::MAP, sheet::many_pairs)
+    }),
+    aim(5, 50, |rng| {
+        sheet::write_holding(rng, table::MAP, sheet::many_pairs_other_type)
+    }),
+    aim(7, 24, |rng| {
+        sheet::write_map(rng, maps::most, sheet::repeated_late_key)
+    }),
+    any(3, |rng| sheet::write_map(rng, maps::most, sheet::noise)),
     aim(10, 7, sheet::write_long),
     any(4, sheet::write_long),
     aim(14, 52, sheet::write_small_output),
@@ -204,7 +249,7 @@ const FRAME_WRITE: Wheel = &[
 ];
 
 const RUN: Wheel = &[
-    any(56, runs::run_good),
+    any(62, runs::run_good),
     any(2, runs::run_full),
     aim(6, 30, runs::run_small_sheet),
     any(5, |rng| runs::run_with(rng, line::wrong_side)),
@@ -226,7 +271,7 @@ const RUN: Wheel = &[
     aim(3, 20, |rng| runs::run_damaged(rng, damage::oversized)),
     any(5, |rng| runs::run_damaged(rng, damage::tail)),
     aim(3, 21, |rng| runs::run_damaged(rng, damage::malformed)),
-    aim(8, 21, |rng| runs::run_damaged(rng, damage::padded_size)),
+    aim(12, 21, |rng| runs::run_damaged(rng, damage::padded_size)),
     aim(4, 22, |rng| runs::run_damaged(rng, damage::not_bool)),
     aim(4, 23, |rng| runs::run_damaged(rng, damage::not_utf8)),
     aim(5, 24, |rng| runs::run_damaged(rng, damage::repeated_key)),
@@ -234,6 +279,24 @@ const RUN: Wheel = &[
     aim(4, 26, |rng| runs::run_damaged(rng, damage::inner_bit)),
     aim(4, 27, |rng| runs::run_damaged(rng, damage::surplus)),
     aim(5, 28, |rng| runs::run_with(rng, line::deep)),
+    any(6, |rng| runs::run_maps(rng, line::either)),
+    aim(5, 31, |rng| {
+        runs::run_maps(rng, |rng, line| line::mapped(rng, line, maps::excessive))
+    }),
+    aim(5, 31, |rng| {
+        runs::run_maps(rng, |rng, line| {
+            line::damaged(rng, line, damage::many_pairs)
+        })
+    }),
+    aim(3, 24, |rng| {
+        runs::run_maps(rng, |rng, line| {
+            line::mapped_damaged(rng, line, damage::repeated_late_key)
+        })
+    }),
+    aim(1, 31, |rng| {
+        runs::run_maps(rng, |rng, line| line::mapped(rng, line, maps::thousand))
+    }),
+    any(1, runs::run_maps_of_maps),
     aim(4, 40, |rng| runs::run_bad_table(rng, fault::bad_shape)),
     aim(3, 41, |rng| runs::run_bad_table(rng, fault::too_many_rows)),
     aim(4, 42, |rng| runs::run_bad_table(rng, fault::bad_type)),
@@ -274,6 +337,23 @@ const RECEIVE: Wheel = &[
     aim(3, 26, |rng| runs::receive_damaged(rng, damage::inner_bit)),
     aim(3, 27, |rng| runs::receive_damaged(rng, damage::surplus)),
     aim(3, 28, |rng| runs::receive_with(rng, line::deep)),
+    any(4, |rng| runs::receive_maps(rng, line::either)),
+    aim(3, 31, |rng| {
+        runs::receive_maps(rng, |rng, line| line::mapped(rng, line, maps::excessive))
+    }),
+    aim(1, 31, |rng| {
+        runs::receive_maps(rng, |rng, line| line::mapped(rng, line, maps::thousand))
+    }),
+    aim(4, 31, |rng| {
+        runs::receive_maps(rng, |rng, line| {
+            line::damaged(rng, line, damage::many_pairs)
+        })
+    }),
+    aim(3, 24, |rng| {
+        runs::receive_maps(rng, |rng, line| {
+            line::mapped_damaged(rng, line, damage::repeated_late_key)
+        })
+    }),
     aim(6, 29, |rng| {
         runs::receive_with(rng, line::unexpected_payload)
     }),

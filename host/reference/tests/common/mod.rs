@@ -3,7 +3,8 @@
 #![allow(dead_code)]
 
 use reference::generate::table::Table;
-use reference::{read, Reason, Refusal};
+use reference::schema::Type;
+use reference::{read, Reason, Refusal, Schema, MAX_COMPARISONS};
 
 /// What stands in every cell and byte that must stay untouched.
 pub const CELL: u32 = 0xA5A5_A5A5;
@@ -32,8 +33,19 @@ pub fn refusal(reason: Reason, place: usize) -> Rows {
     Err(reason.at(place))
 }
 
+/// The key comparisons due by the maps that a sheet shows.
+pub fn comparisons(schema: &[u8], rows: &[[u32; 4]]) -> usize {
+    let schema = Schema::check(schema).unwrap();
+    let is_map = |row: &&[u32; 4]| matches!(schema.type_row(row[0]), Type::Map { .. });
+    let counts = rows.iter().filter(is_map).map(|row| row[3] as usize);
+    counts
+        .map(|count| count * count.saturating_sub(1) / 2)
+        .sum()
+}
+
 /// Reads with a sheet of exactly enough rows and some odd cells, and checks
-/// that nothing else is touched and that one row less is too few.
+/// that nothing else is touched, that one row less is too few, and that the
+/// comparisons are those of the maps shown.
 pub fn read_rows(schema: &[u8], type_number: u32, payload: &[u8]) -> Rows {
     let mut sheet = vec![CELL; 4 * 16_400];
     let reading = match read(schema, type_number, payload, &mut sheet) {
@@ -50,5 +62,7 @@ pub fn read_rows(schema: &[u8], type_number: u32, payload: &[u8]) -> Rows {
     assert_eq!(answer, Err(Reason::SheetTooSmall.at(0)));
     assert!(small.iter().all(|&cell| cell == CELL));
     let rows = used.as_chunks::<4>().0.to_vec();
+    assert_eq!(reading.comparisons, comparisons(schema, &rows));
+    assert!(reading.comparisons <= MAX_COMPARISONS);
     Ok((rows, reading.tail_place, reading.tail_length))
 }

@@ -13,11 +13,11 @@ use Rattle.schema.specs.File.{tableOf}
 use Rattle.value.specs.Answer.{refused, cursorAt, Accepted}
 use Rattle.value.specs.Value.{rows, rowsAll}
 use Rattle.value.specs.Read.{plainItem, pairs, present, walk, parse}
-use Rattle.reader.specs.Leaf.{keysIn, Spans}
 use Rattle.reader.specs.Walk.{walkOf}
-use Rattle.reader.proofs.Keys.{spans-more}
 use Rattle.reader.proofs.Steps.{renamed, was, as-refused, stop-at, further, composite-past, composite-stop, rest-accepted, parse-refused, own-accepted, parse-deep, leaf-failed, leaf-in, leaf-parsed, leaf-past}
-use Rattle.reader.proofs.Composites.{count-in, array-refused, array-whole, map-refused, map-whole, bitmap-accepted, struct-refused, head-in, struct-unknown, struct-whole, element-past, element-stop, element-accepted, Turned, field-stop, field-deep, field-accepted, field-read, field-absent, pair-key-accepted, pair-key-stop, pair-known, pair-again, pair-value-accepted, pair-value-stop, pair-value-past, pairs-first, pairs-again, emptied}
+use Rattle.reader.proofs.Composites.{count-in, array-refused, array-whole, map-refused, map-many, map-whole, bitmap-accepted, struct-refused, head-in, struct-unknown, struct-whole}
+use Rattle.reader.proofs.Composites.{element-past, element-stop, element-accepted, Turned, field-stop, field-deep, field-accepted, field-read, field-absent}
+use Rattle.reader.proofs.Composites.{pair-key-accepted, pair-key-stop, pair-known, pair-again, pair-value-accepted, pair-value-stop, pair-value-past, pairs-first, pairs-again, emptied}
 use Prim.Native.Nat.{ℕ, _<_}
 use borrow.Fn.Kinds.{In}
 use borrow.Fn.PlainCycle.{Measures, is, falls, and}
@@ -42,7 +42,7 @@ use Rattle.reader.proofs.walk.+array+composite+fields+mapping+pairs+str
 use Rattle.reader.proofs.walk.value.Reads as value
 use Rattle.reader.proofs.walk.value.Kinds as value-kinds
 use Rattle.reader.proofs.walk.+array+composite+fields+mapping+pairs+structure+value.Lts-value as value-lts
-use Rattle.reader.proofs.key.is_repeated.Reads as is-repeated-reads
+use Rattle.parts.proofs.key.is_repeated.Reads as is-repeated-reads
 use Rattle.reader.proofs.leaf.content.Reads as content-reads
 use Rattle.reader.proofs.leaf.presence.Reads as presence-reads
 use Rattle.reader.proofs.leaf.read_count.Reads as read-count-reads
@@ -51,6 +51,8 @@ use Rattle.reader.proofs.walk.leaves.Reads as leaves-reads
 use Rattle.schema.proofs.access.field.Reads as field-reads
 use Rattle.schema.proofs.access.type_row.Reads as type-row-reads
 use Rattle.parts.specs.Shape.{leafShape, fieldsFrom}
+use Rattle.parts.specs.Keys.{keysIn, Kept}
+use Rattle.parts.proofs.Keys.{keys-none}
 use Rattle.parts.proofs.Tables.{few-fields, field-row, array-row, struct-row, map-row, shape-array, shape-map, shape-struct, shape-none, shape-past, shape-leaf}
 use Rattle.parts.proofs.Presence.{present-end}
 use Rattle.parts.proofs.Items.{elements-none, pairs-none}
@@ -70,8 +72,8 @@ abbrev μ-fields : Measures 3 fields-kinds.ps ℕ
 abbrev μ-mapping : Measures 3 mapping-kinds.ps ℕ
 μ-mapping κs a = 4 * a .1 .1 .1 .1 .1 .1 .1 .0 + 2
 
-abbrev μ-pairs : Measures 5 pairs-kinds.ps ℕ
-μ-pairs κs a = 4 * a .1 .1 .1 .1 .1 .1 .1 .1 .1 .1 .0 + 1
+abbrev μ-pairs : Measures 4 pairs-kinds.ps ℕ
+μ-pairs κs a = 4 * a .1 .1 .1 .1 .1 .1 .1 .1 .1 .0 + 1
 
 abbrev μ-structure : Measures 3 structure-kinds.ps ℕ
 μ-structure κs a = 4 * a .1 .1 .1 .1 .1 .1 .1 .0 + 2
@@ -104,11 +106,11 @@ mapping-at t = and 3 mapping-kinds.ps (is 3 mapping-kinds.ps μ-mapping t) mappi
 abbrev mapping-below : ℕ → In 3 mapping-kinds.ps
 mapping-below t = and 3 mapping-kinds.ps (falls 3 mapping-kinds.ps _<_ μ-mapping t) mapping.Pre
 
-abbrev pairs-at : ℕ → In 5 pairs-kinds.ps
-pairs-at t = and 5 pairs-kinds.ps (is 5 pairs-kinds.ps μ-pairs t) pairs.Pre
+abbrev pairs-at : ℕ → In 4 pairs-kinds.ps
+pairs-at t = and 4 pairs-kinds.ps (is 4 pairs-kinds.ps μ-pairs t) pairs.Pre
 
-abbrev pairs-below : ℕ → In 5 pairs-kinds.ps
-pairs-below t = and 5 pairs-kinds.ps (falls 5 pairs-kinds.ps _<_ μ-pairs t) pairs.Pre
+abbrev pairs-below : ℕ → In 4 pairs-kinds.ps
+pairs-below t = and 4 pairs-kinds.ps (falls 4 pairs-kinds.ps _<_ μ-pairs t) pairs.Pre
 
 abbrev structure-at : ℕ → In 3 structure-kinds.ps
 structure-at t = and 3 structure-kinds.ps (is 3 structure-kinds.ps μ-structure t) structure.Pre
@@ -142,14 +144,14 @@ abbrev fields-μ-loop : fields-lts.MeasureT-loop
 fields-μ-loop s p sheet₀ ty first n known count place start depth row judge i₀ left₀ bits₀ here₀ below₀ sheet i left bits here below = left
 
 abbrev pairs-Inv-loop : pairs-lts.InvT-loop
-pairs-Inv-loop s p sheet₀ starts₀ ends₀ ty key val n start depth row judge kind i₀ here₀ below₀ sheet starts ends i here below =
-    (walkOf rowsAll (walk (parse (shape (tableOf s)) depth) (keysIn p starts ends i) (pairs (n - i) key val) (cursorAt p here)) below sheet
+pairs-Inv-loop s p sheet₀ keys₀ ty key val n start depth row judge kind i₀ here₀ below₀ sheet keys i here below =
+    (walkOf rowsAll (walk (parse (shape (tableOf s)) depth) (keysIn p keys i) (pairs (n - i) key val) (cursorAt p here)) below sheet
     ≡ walkOf rowsAll (walk (parse (shape (tableOf s)) depth) [] (pairs n key val) (cursorAt p start)) (row + 1) sheet₀)
     × (here ≤ length p) × (below ≤ here) × (start ≤ here) × (length sheet ≡ length sheet₀) × (i ≤ n)
-    × (length starts ≡ length starts₀) × (length ends ≡ length ends₀) × Spans p starts ends i
+    × (length keys ≡ length keys₀) × Kept p keys judge i
 
 abbrev pairs-μ-loop : pairs-lts.MeasureT-loop
-pairs-μ-loop s p sheet₀ starts₀ ends₀ ty key val n start depth row judge kind i₀ here₀ below₀ sheet starts ends i here below = n - i
+pairs-μ-loop s p sheet₀ keys₀ ty key val n start depth row judge kind i₀ here₀ below₀ sheet keys i here below = n - i
 
 array-spec : {M : Type 1} (t : ℕ) → array-lts.Closed (read-count-reads.Asked, read-count-reads.Learnt, type-row-reads.Asked, type-row-reads.Learnt, leaves-reads.Asked, leaves-reads.Learnt, composite-below t, composite.Post, put-row-reads.Asked, put-row-reads.Learnt) (array-at t) array.Post M
 array-spec t =
@@ -572,70 +574,94 @@ mapping-spec t =
     (λ c. search needs)
     -- enum-known-n
     (λ c. search needs)
+    -- returns
+    (λ c.
+    let there = c .before .before in
+    let args = there .before .before .before .before .before .before .args in
+    let asked = there .before .before .before .before .before .before .pre in
+    let read = there .before .before .read-count .ensures in
+    let counted = there .n in
+    let S = shape (tableOf (args .s .now)) in
+    let p = args .p .now in
+    as-refused _ _ _ (map-many S (args .depth) (args .ty) p (args .at) (args .key) (args .val) (asked .1 .0 .1) _ read _ _ (counted .given .1) (c .if1 .taken)))
     -- slice-aggregate-pairs
-    (λ c. search needs)
-    -- slice-aggregate-pairs-2
     (λ c. search needs)
     -- pairs-requires
     (λ c κs.
-    let asked = c .before .before .before .before .before .before .before .before .before .before .before .pre in
-    let args = c .before .before .before .before .before .before .before .before .before .before .before .args in
-    let read-count = c .before .before .before .before .before .before .before .read-count in
-    let counted = c .before .before .before .before .before .n in
+    let there = c .before .before .before .before .before in
+    let args = there .before .before .before .before .before .before .args in
+    let asked = there .before .before .before .before .before .before .pre in
+    let read = there .before .before .read-count .ensures in
+    let counted = there .n in
     let S = shape (tableOf (args .s .now)) in
     let p = args .p .now in
-    let pre = asked .1 .0 .0 in
-    let w = count-in S (args .depth) (args .ty) p (args .at) 2 _ (read-count .ensures) (counted .given .0 .0) (counted .given .0 .1 .0) (counted .given .1) in (
+    let few = c .before .before .before .if1 .left in
+    let w = count-in S (args .depth) (args .ty) p (args .at) 2 _ read _ _ (counted .given .1) in
+    let same = map-whole S (args .depth) (args .ty) p (args .at) (args .key) (args .val) (asked .1 .0 .1) _ read _ _ (counted .given .1) few in
+    let pre = asked .1 .0 .0 in (
       omega arith,
       (
-        record { good = pre .good; small = pre .small; inside = omega arith; behind = omega arith; judged = λ j. rw (map-whole S (args .depth) (args .ty) p (args .at) (args .key) (args .val) (asked .1 .0 .1) _ (read-count .ensures) (counted .given .0 .0) (counted .given .0 .1 .0) (counted .given .1)) at (pre .judged j) },
-        (asked .1 .1 .0, asked .1 .1 .1, omega arith, omega arith, omega arith),
+        record { good = pre .good; small = pre .small; inside = omega arith; behind = omega arith; judged = λ j. rw same at (pre .judged j) },
+        (asked .1 .1 .0, asked .1 .1 .1, omega arith, few),
       ),
     ))
     -- same-length
-    (λ c. c .before .before .before .before .pairs .kept .1 .1 .0)
-    -- returns
+    (λ c. c .before .before .before .pairs .kept .1 .1 .0)
+    -- returns-2
     (λ c.
-    let args = c .before .before .before .before .before .before .before .before .before .before .before .before .before .before .before .before .args in
-    let read-count = c .before .before .before .before .before .before .before .before .before .before .before .before .read-count in
-    let counted = c .before .before .before .before .before .before .before .before .before .before .n in
+    let there = c .before .before .before .before .before .before .before .before .before in
+    let args = there .before .before .before .before .before .before .args in
+    let asked = there .before .before .before .before .before .before .pre in
+    let read = there .before .before .read-count .ensures in
+    let counted = there .n in
     let S = shape (tableOf (args .s .now)) in
     let p = args .p .now in
-    let w = count-in S (args .depth) (args .ty) p (args .at) 2 _ (read-count .ensures) (counted .given .0 .0) (counted .given .0 .1 .0) (counted .given .1) in renamed (map-whole S (args .depth) (args .ty) p (args .at) (args .key) (args .val) (c .before .before .before .before .before .before .before .before .before .before .before .before .before .before .before .before .pre .1 .0 .1) _ (read-count .ensures) (counted .given .0 .0) (counted .given .0 .1 .0) (counted .given .1)) (further (counted .given .0 .1 .0) (args .at + 1) _ (omega (arith, w)) (c .before .before .before .before .pairs .ensures)))
-    -- slice-aggregate-pairs-3
-    (λ c. search needs)
-    -- slice-aggregate-pairs-4
+    let few = c .before .before .before .before .before .before .before .if1 .left in
+    let w = count-in S (args .depth) (args .ty) p (args .at) 2 _ read _ _ (counted .given .1) in
+    let same = map-whole S (args .depth) (args .ty) p (args .at) (args .key) (args .val) (asked .1 .0 .1) _ read _ _ (counted .given .1) few in
+    renamed same (further (counted .given .0 .1 .0) (args .at + 1) _ (omega (arith, w)) (c .before .before .before .pairs .ensures)))
+    -- slice-aggregate-pairs-2
     (λ c. search needs)
     -- pairs-requires-2
     (λ c κs.
-    let asked = c .before .before .before .before .before .before .before .before .before .before .before .pre in
-    let args = c .before .before .before .before .before .before .before .before .before .before .before .args in
-    let read-count = c .before .before .before .before .before .before .before .read-count in
-    let counted = c .before .before .before .before .before .n in
+    let there = c .before .before .before .before .before in
+    let args = there .before .before .before .before .before .before .args in
+    let asked = there .before .before .before .before .before .before .pre in
+    let read = there .before .before .read-count .ensures in
+    let counted = there .n in
     let S = shape (tableOf (args .s .now)) in
     let p = args .p .now in
-    let pre = asked .1 .0 .0 in
-    let w = count-in S (args .depth) (args .ty) p (args .at) 2 _ (read-count .ensures) (counted .given .0 .0) (counted .given .0 .1 .0) (counted .given .1) in (
+    let few = c .before .before .before .if1 .left in
+    let w = count-in S (args .depth) (args .ty) p (args .at) 2 _ read _ _ (counted .given .1) in
+    let same = map-whole S (args .depth) (args .ty) p (args .at) (args .key) (args .val) (asked .1 .0 .1) _ read _ _ (counted .given .1) few in
+    let pre = asked .1 .0 .0 in (
       omega arith,
       (
-        record { good = pre .good; small = pre .small; inside = omega arith; behind = omega arith; judged = λ j. rw (map-whole S (args .depth) (args .ty) p (args .at) (args .key) (args .val) (asked .1 .0 .1) _ (read-count .ensures) (counted .given .0 .0) (counted .given .0 .1 .0) (counted .given .1)) at (pre .judged j) },
-        (asked .1 .1 .0, asked .1 .1 .1, omega arith, omega arith, omega arith),
+        record { good = pre .good; small = pre .small; inside = omega arith; behind = omega arith; judged = λ j. rw same at (pre .judged j) },
+        (asked .1 .1 .0, asked .1 .1 .1, omega arith, few),
       ),
     ))
-    -- returns-2
-    (λ c.
-    let args = c .before .before .before .before .before .before .before .args in
-    as-refused _ _ _ (map-refused (shape (tableOf (args .s .now))) (args .depth) (args .ty) (args .p .now) (args .at) (args .key) (args .val) (c .before .before .before .before .before .before .before .pre .1 .0 .1) _ (c .before .before .before .read-count .ensures) _ (c .before .number .given .1)))
-    -- same-length-2
-    (λ c. c .before .before .before .before .pairs2 .kept .1 .1 .0)
     -- returns-3
     (λ c.
-    let args = c .before .before .before .before .before .before .before .before .before .before .before .before .before .before .before .before .args in
-    let read-count = c .before .before .before .before .before .before .before .before .before .before .before .before .read-count in
-    let counted = c .before .before .before .before .before .before .before .before .before .before .n in
+    let args = c .before .before .before .before .before .before .before .args in
+    let is = c .before .before .before .before .before .before .before .pre .1 .0 .1 in
+    let read = c .before .before .before .read-count .ensures in
+    as-refused _ _ _ (map-refused (shape (tableOf (args .s .now))) (args .depth) (args .ty) (args .p .now) (args .at) (args .key) (args .val) is _ read _ (c .before .number .given .1)))
+    -- same-length-2
+    (λ c. c .before .before .before .pairs2 .kept .1 .1 .0)
+    -- returns-4
+    (λ c.
+    let there = c .before .before .before .before .before .before .before .before .before in
+    let args = there .before .before .before .before .before .before .args in
+    let asked = there .before .before .before .before .before .before .pre in
+    let read = there .before .before .read-count .ensures in
+    let counted = there .n in
     let S = shape (tableOf (args .s .now)) in
     let p = args .p .now in
-    let w = count-in S (args .depth) (args .ty) p (args .at) 2 _ (read-count .ensures) (counted .given .0 .0) (counted .given .0 .1 .0) (counted .given .1) in renamed (map-whole S (args .depth) (args .ty) p (args .at) (args .key) (args .val) (c .before .before .before .before .before .before .before .before .before .before .before .before .before .before .before .before .pre .1 .0 .1) _ (read-count .ensures) (counted .given .0 .0) (counted .given .0 .1 .0) (counted .given .1)) (further (counted .given .0 .1 .0) (args .at + 1) _ (omega (arith, w)) (c .before .before .before .before .pairs2 .ensures)))
+    let few = c .before .before .before .before .before .before .before .if1 .left in
+    let w = count-in S (args .depth) (args .ty) p (args .at) 2 _ read _ _ (counted .given .1) in
+    let same = map-whole S (args .depth) (args .ty) p (args .at) (args .key) (args .val) (asked .1 .0 .1) _ read _ _ (counted .given .1) few in
+    renamed same (further (counted .given .0 .1 .0) (args .at + 1) _ (omega (arith, w)) (c .before .before .before .pairs2 .ensures)))
 
 pairs-spec : {M : Type 1} (t : ℕ) → pairs-lts.Closed (type-row-reads.Asked, type-row-reads.Learnt, content-reads.Asked, content-reads.Learnt, is-repeated-reads.Asked, is-repeated-reads.Learnt, put-row-reads.Asked, put-row-reads.Learnt, value-below t, value.Post) (pairs-at t) pairs.Post M
 pairs-spec t =
@@ -650,173 +676,223 @@ pairs-spec t =
     (λ c. search needs)
     -- loop-holds
     (λ c.
-    let args = c .before .before .before .before .before .before .before .args in
-    let pre = c .before .before .before .before .before .before .before .pre .1 .0 in
-    (pairs-first (parse (shape (tableOf (args .s .now))) (args .depth)) (args .p .now) (args .key) (args .val) (args .n) _ _ _ _ _, pre .inside, pre .behind, omega arith, refl, omega arith, refl, refl, λ j lt. absurd (omega arith)))
+    let args = c .before .before .before .before .before .before .args in
+    let pre = c .before .before .before .before .before .before .pre .1 .0 in
+    (pairs-first (parse (shape (tableOf (args .s .now))) (args .depth)) (args .key) (args .val) (args .n) _ _ _ _ (keys-none (args .p .now) _), pre .inside, pre .behind, omega arith, refl, omega arith, refl, λ j lt. absurd (omega arith)))
     -- same-length
     (λ c. c .before .before .loop .inv .4)
     -- same-length-2
     (λ c. c .before .before .loop .inv .6)
-    -- same-length-3
-    (λ c. c .before .before .loop .inv .7)
     -- returns
     (λ c.
-    let args = c .before .before .before .before .before .before .before .before .before .before .args in
-    let loop = c .before .before .loop in
-    let P = parse (shape (tableOf (args .s .now))) (args .depth) in
+    let turn = c .before .before in
+    let args = turn .before .before .before .before .before .before .before .args in
+    let loop = turn .loop in
     let p = args .p .now in
+    let P = parse (shape (tableOf (args .s .now))) (args .depth) in
+    let keys = keysIn p (loop .keys) (loop .i) in
     composite-stop P (map (args .key) (args .val)) (args .ty) (args .start) (args .n) (cursorAt p (args .start)) (args .row) (args .sheet .now) p (args .start) _ _ _
-    (pair-key-stop P p (args .key) (args .val) (args .n) (loop .i) (keysIn p (loop .starts) (loop .ends) (loop .i)) (loop .here) (c .before .loop-test .taken) (loop .below) (loop .sheet) _ _ (parse-deep (shape (tableOf (args .s .now))) (args .depth) (args .key) (cursorAt p (loop .here)) (c .if1 .taken)) ∙ loop .inv .0))
+    (pair-key-stop P p (args .key) (args .val) (args .n) (loop .i) keys (loop .here) (c .before .loop-test .taken) (loop .below) (loop .sheet) _ _ (parse-deep (shape (tableOf (args .s .now))) (args .depth) (args .key) (cursorAt p (loop .here)) (c .if1 .taken)) ∙ loop .inv .0))
     -- content-requires
     (λ c κs.
-    let asked = c .before .before .before .before .before .before .before .before .before .before .pre in
-    let loop = c .before .before .loop in
-    let type-row = c .before .before .before .before .type-row in
-    let args = c .before .before .before .before .before .before .before .before .before .before .args in
-    let P = parse (shape (tableOf (args .s .now))) (args .depth) in
-    let S = shape (tableOf (args .s .now)) in
+    let turn = c .before .before in
+    let args = turn .before .before .before .before .before .before .before .args in
+    let asked = turn .before .before .before .before .before .before .before .pre in
+    let type-row = turn .before .before .type-row in
+    let loop = turn .loop in
     let p = args .p .now in
-    let here = cursorAt p (loop .here) in
-    let pre = asked .1 .0 in
-    let inv = loop .inv in (
-      pre .small,
-      inv .1,
+    let T = tableOf (args .s .now) in
+    let S = shape T in
+    let P = parse (shape (tableOf (args .s .now))) (args .depth) in
+    let kind = leafShape (type-row .result .kind) in
+    let leaf = shape-leaf T (args .key) (type-row .result) (type-row .ensures) (rw (type-row .ensures) (asked .1 .1 .0)) (rw (type-row .ensures) (asked .1 .1 .1)) in
+    let keys = keysIn p (loop .keys) (loop .i) in
+    let here = cursorAt p (loop .here) in (
+      asked .1 .0 .small,
+      loop .inv .1,
       rw (type-row .ensures) (asked .1 .1 .0),
       rw (type-row .ensures) (asked .1 .1 .1),
       λ j.
-          own-accepted S (args .depth - 1) (args .key) here (leafShape (type-row .result .kind)) (shape-leaf (tableOf (args .s .now)) (args .key) (type-row .result) (type-row .ensures) (rw (type-row .ensures) (asked .1 .1 .0)) (rw (type-row .ensures) (asked .1 .1 .1)))
+          own-accepted S (args .depth - 1) (args .key) here kind leaf
           (deeper (λ k. Accepted (parse S k (args .key) here)) (args .depth) (c .if1 .left)
-          (pair-key-accepted P p (args .key) (args .val) (args .n) (loop .i) (keysIn p (loop .starts) (loop .ends) (loop .i)) (loop .here) (c .before .loop-test .taken) (rest-accepted P (map (args .key) (args .val)) (args .ty) (args .start) (args .n) (cursorAt p (args .start)) (args .row) (args .sheet .now) (walk P (keysIn p (loop .starts) (loop .ends) (loop .i)) (pairs (args .n - loop .i) (args .key) (args .val)) here) (loop .below) (loop .sheet) (loop .inv .0) (asked .1 .0 .judged j)))),
+          (pair-key-accepted P p (args .key) (args .val) (args .n) (loop .i) keys (loop .here) (c .before .loop-test .taken) (rest-accepted P (map (args .key) (args .val)) (args .ty) (args .start) (args .n) (cursorAt p (args .start)) (args .row) (args .sheet .now) (walk P keys (pairs (args .n - loop .i) (args .key) (args .val)) (cursorAt p (loop .here))) (loop .below) (loop .sheet)
+          (loop .inv .0) (asked .1 .0 .judged j)))),
     ))
-    -- enum-known-number
+    -- enum-known-place
     (λ c. search needs)
-    -- same-length-4
+    -- same-length-3
     (λ c. c .before .before .before .before .before .before .loop .inv .4)
-    -- same-length-5
+    -- same-length-4
     (λ c. c .before .before .before .before .before .before .loop .inv .6)
-    -- same-length-6
-    (λ c. c .before .before .before .before .before .before .loop .inv .7)
     -- returns-2
     (λ c.
-    let args = c .before .before .before .before .before .before .before .before .before .before .before .before .before .before .args in
-    let loop = c .before .before .before .before .before .before .loop in
-    let type-row = c .before .before .before .before .before .before .before .before .type-row in
-    let asked = c .before .before .before .before .before .before .before .before .before .before .before .before .before .before .pre in
-    let P = parse (shape (tableOf (args .s .now))) (args .depth) in
-    let T = tableOf (args .s .now) in
+    let turn = c .before .before .before .before .before .before in
+    let args = turn .before .before .before .before .before .before .before .args in
+    let asked = turn .before .before .before .before .before .before .before .pre in
+    let type-row = turn .before .before .type-row in
+    let loop = turn .loop in
     let p = args .p .now in
+    let T = tableOf (args .s .now) in
+    let P = parse (shape (tableOf (args .s .now))) (args .depth) in
+    let kind = leafShape (type-row .result .kind) in
+    let leaf = shape-leaf T (args .key) (type-row .result) (type-row .ensures) (rw (type-row .ensures) (asked .1 .1 .0)) (rw (type-row .ensures) (asked .1 .1 .1)) in
+    let keys = keysIn p (loop .keys) (loop .i) in
     composite-stop P (map (args .key) (args .val)) (args .ty) (args .start) (args .n) (cursorAt p (args .start)) (args .row) (args .sheet .now) p (args .start) _ _ _
-    (pair-key-stop P p (args .key) (args .val) (args .n) (loop .i) (keysIn p (loop .starts) (loop .ends) (loop .i)) (loop .here) (c .before .before .before .before .before .loop-test .taken) (loop .below) (loop .sheet) _ _ (leaf-failed (shape T) (args .depth) (args .key) (leafShape (type-row .result .kind)) (shape-leaf T (args .key) (type-row .result) (type-row .ensures) (rw (type-row .ensures) (asked .1 .1 .0)) (rw (type-row .ensures) (asked .1 .1 .1))) (c .before .before .before .before .if1 .left) p (loop .here) _ (c .before .before .before .content .ensures) _ _ (c .before .place .given .1)) ∙ loop .inv .0))
+    (pair-key-stop P p (args .key) (args .val) (args .n) (loop .i) keys (loop .here) (c .before .before .before .before .before .loop-test .taken) (loop .below) (loop .sheet) _ _
+    (leaf-failed (shape T) (args .depth) (args .key) kind leaf (c .before .before .before .before .if1 .left) p (loop .here) _ (c .before .before .before .content .ensures) _ _ (c .before .place .given .1)) ∙ loop .inv .0))
     -- enum-known-from
     (λ c. search needs)
+    -- sub-is-repeated
+    (λ c.
+    let key = c .before in
+    let turn = key .before .before .before .before .before .before in
+    let args = turn .before .before .before .before .before .before .before .args in
+    let asked = turn .before .before .before .before .before .before .before .pre in
+    let type-row = turn .before .before .type-row in
+    let loop = turn .loop in
+    let p = args .p .now in
+    let T = tableOf (args .s .now) in
+    let kind = leafShape (type-row .result .kind) in
+    let leaf = shape-leaf T (args .key) (type-row .result) (type-row .ensures) (rw (type-row .ensures) (asked .1 .1 .0)) (rw (type-row .ensures) (asked .1 .1 .1)) in
+    let content = key .before .before .before .content in
+    let span = key .before .from in
+    let deep = key .before .before .before .before .if1 .left in
+    let i = leaf-in (shape T) (args .depth) (args .key) kind leaf deep p (loop .here) _ (content .ensures) (span .given .0 .0) (span .given .0 .1 .0) (span .given .1) in
+    omega (arith, i .0))
     -- is-repeated-requires
     (λ c κs.
-    let loop = c .before .before .before .before .before .before .before .before .loop in
-    let args = c .before .before .before .before .before .before .before .before .before .before .before .before .before .before .before .before .args in
-    let type-row = c .before .before .before .before .before .before .before .before .before .before .type-row in
-    let asked = c .before .before .before .before .before .before .before .before .before .before .before .before .before .before .before .before .pre in
-    let if1 = c .before .before .before .before .before .before .if1 in
-    let content = c .before .before .before .before .before .content in
-    let span = c .before .before .before .from in
-    let loop-test = c .before .before .before .before .before .before .before .loop-test in
-    let P = parse (shape (tableOf (args .s .now))) (args .depth) in
-    let S = shape (tableOf (args .s .now)) in
-    let T = tableOf (args .s .now) in
+    let key = c .before in
+    let turn = key .before .before .before .before .before .before in
+    let args = turn .before .before .before .before .before .before .before .args in
+    let asked = turn .before .before .before .before .before .before .before .pre in
+    let type-row = turn .before .before .type-row in
+    let loop = turn .loop in
     let p = args .p .now in
-    let inv = loop .inv in
-    let i = (leaf-in S (args .depth) (args .key) (leafShape (type-row .result .kind)) (shape-leaf T (args .key) (type-row .result) (type-row .ensures) (rw (type-row .ensures) (asked .1 .1 .0)) (rw (type-row .ensures) (asked .1 .1 .1))) (if1 .left) p (loop .here) _ (content .ensures) (span .given .0 .0) (span .given .0 .1 .0) (span .given .1)) in (
-      omega (arith, loop-test .taken, inv .6, asked .1 .1 .2),
-      omega (arith, loop-test .taken, inv .7, asked .1 .1 .3),
-      i .0,
-      i .1,
-      inv .8,
-      λ j.
-          pair-known P p (args .key) (args .val) (args .n) (loop .i) (keysIn p (loop .starts) (loop .ends) (loop .i)) (loop .here) (loop-test .taken) (span .given .0 .0) (span .given .0 .1 .0) (leaf-parsed S (args .depth) (args .key) (leafShape (type-row .result .kind)) (shape-leaf T (args .key) (type-row .result) (type-row .ensures) (rw (type-row .ensures) (asked .1 .1 .0)) (rw (type-row .ensures) (asked .1 .1 .1))) (if1 .left) p (loop .here) _ (content .ensures) (span .given .0 .0) (span .given .0 .1 .0) (span .given .1)) (rest-accepted P (map (args .key) (args .val)) (args .ty) (args .start) (args .n) (cursorAt p (args .start)) (args .row) (args .sheet .now) (walk P (keysIn p (loop .starts) (loop .ends) (loop .i)) (pairs (args .n - loop .i) (args .key) (args .val)) (cursorAt p (loop .here))) (loop .below) (loop .sheet) (loop .inv .0) (asked .1 .0 .judged j)),
+    let T = tableOf (args .s .now) in
+    let P = parse (shape (tableOf (args .s .now))) (args .depth) in
+    let kind = leafShape (type-row .result .kind) in
+    let leaf = shape-leaf T (args .key) (type-row .result) (type-row .ensures) (rw (type-row .ensures) (asked .1 .1 .0)) (rw (type-row .ensures) (asked .1 .1 .1)) in
+    let keys = keysIn p (loop .keys) (loop .i) in
+    let content = key .before .before .before .content in
+    let span = key .before .from in
+    let some = key .before .before .before .before .before .loop-test .taken in
+    let deep = key .before .before .before .before .if1 .left in
+    let i = leaf-in (shape T) (args .depth) (args .key) kind leaf deep p (loop .here) _ (content .ensures) (span .given .0 .0) (span .given .0 .1 .0) (span .given .1) in
+    let read = leaf-parsed (shape T) (args .depth) (args .key) kind leaf deep p (loop .here) _ (content .ensures) (span .given .0 .0) (span .given .0 .1 .0) (span .given .1) in
+    let small = asked .1 .0 .small in (
+      (
+        omega (arith, some, loop .inv .6, asked .1 .1 .2),
+        omega (arith, i .0, i .1, small),
+        omega (arith, i .0, i .1, small),
+        omega (arith, i .0, i .1),
+        loop .inv .7,
+      ),
+      λ j. pair-known P p (args .key) (args .val) (args .n) (loop .i) keys (loop .here) some (span .given .0 .0) (span .given .0 .1 .0) read (rest-accepted P (map (args .key) (args .val)) (args .ty) (args .start) (args .n) (cursorAt p (args .start)) (args .row) (args .sheet .now) (walk P keys (pairs (args .n - loop .i) (args .key) (args .val)) (cursorAt p (loop .here))) (loop .below) (loop .sheet)
+          (loop .inv .0) (asked .1 .0 .judged j)),
     ))
-    -- same-length-7
-    (λ c. c .before .before .before .before .before .before .before .before .before .before .loop .inv .4)
-    -- same-length-8
-    (λ c. c .before .before .before .before .before .before .before .before .before .before .loop .inv .6)
-    -- same-length-9
-    (λ c. c .before .before .before .before .before .before .before .before .before .before .loop .inv .7)
+    -- same-length-5
+    (λ c. c .before .before .before .before .before .before .before .before .before .before .before .loop .inv .4)
+    -- same-length-6
+    (λ c. c .before .before .before .is-repeated .kept .1 .0 ∙ c .before .before .before .before .before .before .before .before .before .before .before .loop .inv .6)
     -- returns-3
     (λ c.
-    let args = c .before .before .before .before .before .before .before .before .before .before .before .before .before .before .before .before .before .before .args in
-    let loop = c .before .before .before .before .before .before .before .before .before .before .loop in
-    let span = c .before .before .before .before .before .from in
-    let type-row = c .before .before .before .before .before .before .before .before .before .before .before .before .type-row in
-    let asked = c .before .before .before .before .before .before .before .before .before .before .before .before .before .before .before .before .before .before .pre in
-    let P = parse (shape (tableOf (args .s .now))) (args .depth) in
-    let T = tableOf (args .s .now) in
+    let key = c .before .before .before .before .before in
+    let turn = key .before .before .before .before .before .before in
+    let args = turn .before .before .before .before .before .before .before .args in
+    let asked = turn .before .before .before .before .before .before .before .pre in
+    let type-row = turn .before .before .type-row in
+    let loop = turn .loop in
     let p = args .p .now in
+    let T = tableOf (args .s .now) in
+    let P = parse (shape (tableOf (args .s .now))) (args .depth) in
+    let kind = leafShape (type-row .result .kind) in
+    let leaf = shape-leaf T (args .key) (type-row .result) (type-row .ensures) (rw (type-row .ensures) (asked .1 .1 .0)) (rw (type-row .ensures) (asked .1 .1 .1)) in
+    let keys = keysIn p (loop .keys) (loop .i) in
+    let content = key .before .before .before .content in
+    let span = key .before .from in
+    let some = key .before .before .before .before .before .loop-test .taken in
+    let deep = key .before .before .before .before .if1 .left in
+    let read = leaf-parsed (shape T) (args .depth) (args .key) kind leaf deep p (loop .here) _ (content .ensures) (span .given .0 .0) (span .given .0 .1 .0) (span .given .1) in
     composite-stop P (map (args .key) (args .val)) (args .ty) (args .start) (args .n) (cursorAt p (args .start)) (args .row) (args .sheet .now) p (args .start) _ _ _
-    (pair-again P p (args .key) (args .val) (args .n) (loop .i) (keysIn p (loop .starts) (loop .ends) (loop .i)) (loop .here) (c .before .before .before .before .before .before .before .before .before .loop-test .taken) (span .given .0 .0) (span .given .0 .1 .0) (leaf-parsed (shape T) (args .depth) (args .key) (leafShape (type-row .result .kind)) (shape-leaf T (args .key) (type-row .result) (type-row .ensures) (rw (type-row .ensures) (asked .1 .1 .0)) (rw (type-row .ensures) (asked .1 .1 .1))) (c .before .before .before .before .before .before .before .before .if1 .left) p (loop .here) _ (c .before .before .before .before .before .before .before .content .ensures) (span .given .0 .0) (span .given .0 .1 .0) (span .given .1)) (loop .below) (loop .sheet) (sym (c .before .is-repeated .ensures) ∙ c .if2 .taken) ∙ loop .inv .0))
-    -- cast-starts
-    (λ c.
-    let args = c .before .before .before .before .before .before .before .before .before .before .before .before .before .before .before .before .before .before .args in
-    let type-row = c .before .before .before .before .before .before .before .before .before .before .before .before .type-row in
-    let asked = c .before .before .before .before .before .before .before .before .before .before .before .before .before .before .before .before .before .before .pre in
-    let span = c .before .before .before .before .before .from in
-    let T = tableOf (args .s .now) in
-    let i = (leaf-in (shape T) (args .depth) (args .key) (leafShape (type-row .result .kind)) (shape-leaf T (args .key) (type-row .result) (type-row .ensures) (rw (type-row .ensures) (asked .1 .1 .0)) (rw (type-row .ensures) (asked .1 .1 .1))) (c .before .before .before .before .before .before .before .before .if1 .left) (args .p .now) (c .before .before .before .before .before .before .before .before .before .before .loop .here) _ (c .before .before .before .before .before .before .before .content .ensures) (span .given .0 .0) (span .given .0 .1 .0) (span .given .1)) in let pre = asked .1 .0 in omega arith)
-    -- mul-starts
-    (λ c. search needs)
-    -- slice-write-starts
-    (λ c. search needs)
-    -- cast-ends
-    (λ c.
-    let args = c .before .before .before .before .before .before .before .before .before .before .before .before .before .before .before .before .before .before .args in
-    let type-row = c .before .before .before .before .before .before .before .before .before .before .before .before .type-row in
-    let asked = c .before .before .before .before .before .before .before .before .before .before .before .before .before .before .before .before .before .before .pre in
-    let span = c .before .before .before .before .before .from in
-    let T = tableOf (args .s .now) in
-    let i = (leaf-in (shape T) (args .depth) (args .key) (leafShape (type-row .result .kind)) (shape-leaf T (args .key) (type-row .result) (type-row .ensures) (rw (type-row .ensures) (asked .1 .1 .0)) (rw (type-row .ensures) (asked .1 .1 .1))) (c .before .before .before .before .before .before .before .before .if1 .left) (args .p .now) (c .before .before .before .before .before .before .before .before .before .before .loop .here) _ (c .before .before .before .before .before .before .before .content .ensures) (span .given .0 .0) (span .given .0 .1 .0) (span .given .1)) in let pre = asked .1 .0 in omega arith)
-    -- mul-ends
-    (λ c. search needs)
-    -- slice-write-ends
-    (λ c. search needs)
+    (pair-again P p (args .key) (args .val) (args .n) (loop .i) keys (loop .here) some (span .given .0 .0) (span .given .0 .1 .0) read (loop .below) (loop .sheet) (sym (c .before .before .before .is-repeated .ensures .0) ∙ c .if2 .taken) ∙ loop .inv .0))
     -- sub-put-row
     (λ c.
-    let args = c .before .before .before .before .before .before .before .before .before .before .before .before .before .before .before .before .before .before .before .args in
-    let type-row = c .before .before .before .before .before .before .before .before .before .before .before .before .before .type-row in
-    let asked = c .before .before .before .before .before .before .before .before .before .before .before .before .before .before .before .before .before .before .before .pre in
-    let span = c .before .before .before .before .before .before .from in
+    let key = c .before .before .before .before .before .before in
+    let turn = key .before .before .before .before .before .before in
+    let args = turn .before .before .before .before .before .before .before .args in
+    let asked = turn .before .before .before .before .before .before .before .pre in
+    let type-row = turn .before .before .type-row in
+    let loop = turn .loop in
+    let p = args .p .now in
     let T = tableOf (args .s .now) in
-    let i = (leaf-in (shape T) (args .depth) (args .key) (leafShape (type-row .result .kind)) (shape-leaf T (args .key) (type-row .result) (type-row .ensures) (rw (type-row .ensures) (asked .1 .1 .0)) (rw (type-row .ensures) (asked .1 .1 .1))) (c .before .before .before .before .before .before .before .before .before .if1 .left) (args .p .now) (c .before .before .before .before .before .before .before .before .before .before .before .loop .here) _ (c .before .before .before .before .before .before .before .before .content .ensures) (span .given .0 .0) (span .given .0 .1 .0) (span .given .1)) in omega arith)
+    let kind = leafShape (type-row .result .kind) in
+    let leaf = shape-leaf T (args .key) (type-row .result) (type-row .ensures) (rw (type-row .ensures) (asked .1 .1 .0)) (rw (type-row .ensures) (asked .1 .1 .1)) in
+    let content = key .before .before .before .content in
+    let span = key .before .from in
+    let deep = key .before .before .before .before .if1 .left in
+    let i = leaf-in (shape T) (args .depth) (args .key) kind leaf deep p (loop .here) _ (content .ensures) (span .given .0 .0) (span .given .0 .1 .0) (span .given .1) in
+    omega (arith, i .0))
     -- put-row-requires
     (λ c κs.
-    let args = c .before .before .before .before .before .before .before .before .before .before .before .before .before .before .before .before .before .before .before .args in
-    let type-row = c .before .before .before .before .before .before .before .before .before .before .before .before .before .type-row in
-    let asked = c .before .before .before .before .before .before .before .before .before .before .before .before .before .before .before .before .before .before .before .pre in
-    let loop = c .before .before .before .before .before .before .before .before .before .before .before .loop in
-    let span = c .before .before .before .before .before .before .from in
-    let T = tableOf (args .s .now) in
-    let i = (leaf-in (shape T) (args .depth) (args .key) (leafShape (type-row .result .kind)) (shape-leaf T (args .key) (type-row .result) (type-row .ensures) (rw (type-row .ensures) (asked .1 .1 .0)) (rw (type-row .ensures) (asked .1 .1 .1))) (c .before .before .before .before .before .before .before .before .before .if1 .left) (args .p .now) (loop .here) _ (c .before .before .before .before .before .before .before .before .content .ensures) (span .given .0 .0) (span .given .0 .1 .0) (span .given .1)) in let pre = asked .1 .0 in let inv = loop .inv in omega arith)
-    -- add-value
-    (λ c.
-    let args = c .before .before .before .before .before .before .before .before .before .before .before .before .before .before .before .before .before .before .before .before .before .before .before .args in
-    let type-row = c .before .before .before .before .before .before .before .before .before .before .before .before .before .before .before .before .before .type-row in
-    let asked = c .before .before .before .before .before .before .before .before .before .before .before .before .before .before .before .before .before .before .before .before .before .before .before .pre in
-    let loop = c .before .before .before .before .before .before .before .before .before .before .before .before .before .before .before .loop in
-    let span = c .before .before .before .before .before .before .before .before .before .before .from in
-    let T = tableOf (args .s .now) in
-    let i = (leaf-in (shape T) (args .depth) (args .key) (leafShape (type-row .result .kind)) (shape-leaf T (args .key) (type-row .result) (type-row .ensures) (rw (type-row .ensures) (asked .1 .1 .0)) (rw (type-row .ensures) (asked .1 .1 .1))) (c .before .before .before .before .before .before .before .before .before .before .before .before .before .if1 .left) (args .p .now) (loop .here) _ (c .before .before .before .before .before .before .before .before .before .before .before .before .content .ensures) (span .given .0 .0) (span .given .0 .1 .0) (span .given .1)) in let pre = asked .1 .0 in let inv = loop .inv in omega arith)
-    -- value-requires
-    (λ c κs.
-    let asked = c .before .before .before .before .before .before .before .before .before .before .before .before .before .before .before .before .before .before .before .before .before .before .before .pre in
-    let loop = c .before .before .before .before .before .before .before .before .before .before .before .before .before .before .before .loop in
-    let args = c .before .before .before .before .before .before .before .before .before .before .before .before .before .before .before .before .before .before .before .before .before .before .before .args in
-    let type-row = c .before .before .before .before .before .before .before .before .before .before .before .before .before .before .before .before .before .type-row in
-    let if1 = c .before .before .before .before .before .before .before .before .before .before .before .before .before .if1 in
-    let content = c .before .before .before .before .before .before .before .before .before .before .before .before .content in
-    let span = c .before .before .before .before .before .before .before .before .before .before .from in
-    let P = parse (shape (tableOf (args .s .now))) (args .depth) in
-    let S = shape (tableOf (args .s .now)) in
-    let T = tableOf (args .s .now) in
+    let key = c .before .before .before .before .before .before in
+    let turn = key .before .before .before .before .before .before in
+    let args = turn .before .before .before .before .before .before .before .args in
+    let asked = turn .before .before .before .before .before .before .before .pre in
+    let type-row = turn .before .before .type-row in
+    let loop = turn .loop in
     let p = args .p .now in
+    let T = tableOf (args .s .now) in
+    let kind = leafShape (type-row .result .kind) in
+    let leaf = shape-leaf T (args .key) (type-row .result) (type-row .ensures) (rw (type-row .ensures) (asked .1 .1 .0)) (rw (type-row .ensures) (asked .1 .1 .1)) in
+    let content = key .before .before .before .content in
+    let span = key .before .from in
+    let deep = key .before .before .before .before .if1 .left in
+    let i = leaf-in (shape T) (args .depth) (args .key) kind leaf deep p (loop .here) _ (content .ensures) (span .given .0 .0) (span .given .0 .1 .0) (span .given .1) in
     let pre = asked .1 .0 in
     let inv = loop .inv in
-    let i = (leaf-in S (args .depth) (args .key) (leafShape (type-row .result .kind)) (shape-leaf T (args .key) (type-row .result) (type-row .ensures) (rw (type-row .ensures) (asked .1 .1 .0)) (rw (type-row .ensures) (asked .1 .1 .1))) (if1 .left) p (loop .here) _ (content .ensures) (span .given .0 .0) (span .given .0 .1 .0) (span .given .1)) in (
+    omega arith)
+    -- add-value
+    (λ c.
+    let key = c .before .before .before .before .before .before .before .before .before .before in
+    let turn = key .before .before .before .before .before .before in
+    let args = turn .before .before .before .before .before .before .before .args in
+    let asked = turn .before .before .before .before .before .before .before .pre in
+    let type-row = turn .before .before .type-row in
+    let loop = turn .loop in
+    let p = args .p .now in
+    let T = tableOf (args .s .now) in
+    let kind = leafShape (type-row .result .kind) in
+    let leaf = shape-leaf T (args .key) (type-row .result) (type-row .ensures) (rw (type-row .ensures) (asked .1 .1 .0)) (rw (type-row .ensures) (asked .1 .1 .1)) in
+    let content = key .before .before .before .content in
+    let span = key .before .from in
+    let deep = key .before .before .before .before .if1 .left in
+    let i = leaf-in (shape T) (args .depth) (args .key) kind leaf deep p (loop .here) _ (content .ensures) (span .given .0 .0) (span .given .0 .1 .0) (span .given .1) in
+    let pre = asked .1 .0 in
+    let inv = loop .inv in
+    omega arith)
+    -- value-requires
+    (λ c κs.
+    let key = c .before .before .before .before .before .before .before .before .before .before in
+    let turn = key .before .before .before .before .before .before in
+    let args = turn .before .before .before .before .before .before .before .args in
+    let asked = turn .before .before .before .before .before .before .before .pre in
+    let type-row = turn .before .before .type-row in
+    let loop = turn .loop in
+    let p = args .p .now in
+    let T = tableOf (args .s .now) in
+    let P = parse (shape (tableOf (args .s .now))) (args .depth) in
+    let kind = leafShape (type-row .result .kind) in
+    let leaf = shape-leaf T (args .key) (type-row .result) (type-row .ensures) (rw (type-row .ensures) (asked .1 .1 .0)) (rw (type-row .ensures) (asked .1 .1 .1)) in
+    let keys = keysIn p (loop .keys) (loop .i) in
+    let content = key .before .before .before .content in
+    let span = key .before .from in
+    let some = key .before .before .before .before .before .loop-test .taken in
+    let deep = key .before .before .before .before .if1 .left in
+    let i = leaf-in (shape T) (args .depth) (args .key) kind leaf deep p (loop .here) _ (content .ensures) (span .given .0 .0) (span .given .0 .1 .0) (span .given .1) in
+    let read = leaf-parsed (shape T) (args .depth) (args .key) kind leaf deep p (loop .here) _ (content .ensures) (span .given .0 .0) (span .given .0 .1 .0) (span .given .1) in
+    let pre = asked .1 .0 in
+    let inv = loop .inv in
+    let new = sym (c .before .before .before .before .before .before .before .before .is-repeated .ensures .0) ∙ c .before .before .before .before .before .if2 .left in (
       omega (arith, asked .0),
       record {
         good = pre .good;
@@ -824,91 +900,110 @@ pairs-spec t =
         inside = i .1;
         behind = omega (arith, i, inv .2);
         judged = λ j.
-            pair-value-accepted P p (args .key) (args .val) (args .n) (loop .i) (keysIn p (loop .starts) (loop .ends) (loop .i)) (loop .here) (c .before .before .before .before .before .before .before .before .before .before .before .before .before .before .loop-test .taken) (span .given .0 .0) (span .given .0 .1 .0) (leaf-parsed S (args .depth) (args .key) (leafShape (type-row .result .kind)) (shape-leaf T (args .key) (type-row .result) (type-row .ensures) (rw (type-row .ensures) (asked .1 .1 .0)) (rw (type-row .ensures) (asked .1 .1 .1))) (if1 .left) p (loop .here) _ (content .ensures) (span .given .0 .0) (span .given .0 .1 .0) (span .given .1)) (sym (c .before .before .before .before .before .before .is-repeated .ensures) ∙ c .before .before .before .before .before .if2 .left) (loop .below) (loop .sheet) _ (c .before .before .before .put-row .ensures) (rest-accepted P (map (args .key) (args .val)) (args .ty) (args .start) (args .n) (cursorAt p (args .start)) (args .row) (args .sheet .now) (walk P (keysIn p (loop .starts) (loop .ends) (loop .i)) (pairs (args .n - loop .i) (args .key) (args .val)) (cursorAt p (loop .here))) (loop .below) (loop .sheet) (loop .inv .0) (asked .1 .0 .judged j));
+            pair-value-accepted P p (args .key) (args .val) (args .n) (loop .i) keys (loop .here) some (span .given .0 .0) (span .given .0 .1 .0) read new (loop .below) (loop .sheet) _ (c .before .before .before .put-row .ensures)
+            (rest-accepted P (map (args .key) (args .val)) (args .ty) (args .start) (args .n) (cursorAt p (args .start)) (args .row) (args .sheet .now) (walk P keys (pairs (args .n - loop .i) (args .key) (args .val)) (cursorAt p (loop .here))) (loop .below) (loop .sheet)
+            (loop .inv .0) (asked .1 .0 .judged j));
       },
     ))
-    -- enum-known-number-2
+    -- enum-known-number
     (λ c. search needs)
-    -- same-length-10
-    (λ c. c .before .before .before .before .before .value .kept .1 .1 .0 ∙ c .before .before .before .before .before .before .before .before .before .put-row .kept .0 ∙ c .before .before .before .before .before .before .before .before .before .before .before .before .before .before .before .before .before .before .before .before .before .loop .inv .4)
-    -- same-length-11
-    (λ c. length-set (c .before .before .before .before .before .before .before .before .before .before .before .before .before .before .before .before .before .before .before .before .before .loop .starts) _ _ ∙ c .before .before .before .before .before .before .before .before .before .before .before .before .before .before .before .before .before .before .before .before .before .loop .inv .6)
-    -- same-length-12
-    (λ c. length-set (c .before .before .before .before .before .before .before .before .before .before .before .before .before .before .before .before .before .before .before .before .before .loop .ends) _ _ ∙ c .before .before .before .before .before .before .before .before .before .before .before .before .before .before .before .before .before .before .before .before .before .loop .inv .7)
+    -- same-length-7
+    (λ c.
+    let put-row = c .before .before .before .before .before .before .before .before .before .put-row in
+    c .before .before .before .before .before .value .kept .1 .1 .0 ∙ put-row .kept .0 ∙ c .before .before .before .before .before .before .before .before .before .before .before .before .before .before .before .before .before .before .before .before .before .before .loop .inv .4)
+    -- same-length-8
+    (λ c. c .before .before .before .before .before .before .before .before .before .before .before .before .before .before .is-repeated .kept .1 .0 ∙ c .before .before .before .before .before .before .before .before .before .before .before .before .before .before .before .before .before .before .before .before .before .before .loop .inv .6)
     -- returns-4
     (λ c.
-    let args = c .before .before .before .before .before .before .before .before .before .before .before .before .before .before .before .before .before .before .before .before .before .before .before .before .before .before .before .before .before .args in
-    let loop = c .before .before .before .before .before .before .before .before .before .before .before .before .before .before .before .before .before .before .before .before .before .loop in
-    let span = c .before .before .before .before .before .before .before .before .before .before .before .before .before .before .before .before .from in
-    let type-row = c .before .before .before .before .before .before .before .before .before .before .before .before .before .before .before .before .before .before .before .before .before .before .before .type-row in
-    let asked = c .before .before .before .before .before .before .before .before .before .before .before .before .before .before .before .before .before .before .before .before .before .before .before .before .before .before .before .before .before .pre in
-    let P = parse (shape (tableOf (args .s .now))) (args .depth) in
-    let T = tableOf (args .s .now) in
+    let key = c .before .before .before .before .before .before .before .before .before .before .before .before .before .before .before .before in
+    let turn = key .before .before .before .before .before .before in
+    let args = turn .before .before .before .before .before .before .before .args in
+    let asked = turn .before .before .before .before .before .before .before .pre in
+    let type-row = turn .before .before .type-row in
+    let loop = turn .loop in
     let p = args .p .now in
+    let T = tableOf (args .s .now) in
+    let P = parse (shape (tableOf (args .s .now))) (args .depth) in
+    let kind = leafShape (type-row .result .kind) in
+    let leaf = shape-leaf T (args .key) (type-row .result) (type-row .ensures) (rw (type-row .ensures) (asked .1 .1 .0)) (rw (type-row .ensures) (asked .1 .1 .1)) in
+    let keys = keysIn p (loop .keys) (loop .i) in
+    let content = key .before .before .before .content in
+    let span = key .before .from in
+    let some = key .before .before .before .before .before .loop-test .taken in
+    let deep = key .before .before .before .before .if1 .left in
+    let read = leaf-parsed (shape T) (args .depth) (args .key) kind leaf deep p (loop .here) _ (content .ensures) (span .given .0 .0) (span .given .0 .1 .0) (span .given .1) in
+    let new = sym (c .before .before .before .before .before .before .before .before .before .before .before .before .before .before .is-repeated .ensures .0) ∙ c .before .before .before .before .before .before .before .before .before .before .before .if2 .left in
     composite-stop P (map (args .key) (args .val)) (args .ty) (args .start) (args .n) (cursorAt p (args .start)) (args .row) (args .sheet .now) p (args .start) _ _ _
-    (pair-value-stop P p (args .key) (args .val) (args .n) (loop .i) (keysIn p (loop .starts) (loop .ends) (loop .i)) (loop .here) (c .before .before .before .before .before .before .before .before .before .before .before .before .before .before .before .before .before .before .before .before .loop-test .taken) (span .given .0 .0) (span .given .0 .1 .0) (leaf-parsed (shape T) (args .depth) (args .key) (leafShape (type-row .result .kind)) (shape-leaf T (args .key) (type-row .result) (type-row .ensures) (rw (type-row .ensures) (asked .1 .1 .0)) (rw (type-row .ensures) (asked .1 .1 .1))) (c .before .before .before .before .before .before .before .before .before .before .before .before .before .before .before .before .before .before .before .if1 .left) p (loop .here) _ (c .before .before .before .before .before .before .before .before .before .before .before .before .before .before .before .before .before .before .content .ensures) (span .given .0 .0) (span .given .0 .1 .0) (span .given .1)) (sym (c .before .before .before .before .before .before .before .before .before .before .before .before .is-repeated .ensures) ∙ c .before .before .before .before .before .before .before .before .before .before .before .if2 .left) (loop .below) (loop .sheet) _ (c .before .before .before .before .before .before .before .before .before .put-row .ensures) _ _ (was (c .before .before .before .before .before .value .ensures) (c .before .number .given .1) .same) ∙ loop .inv .0))
+    (pair-value-stop P p (args .key) (args .val) (args .n) (loop .i) keys (loop .here) some (span .given .0 .0) (span .given .0 .1 .0) read new (loop .below) (loop .sheet) _ (c .before .before .before .before .before .before .before .before .before .put-row .ensures) _ _
+    (was (c .before .before .before .before .before .value .ensures) (c .before .number .given .1) .same) ∙ loop .inv .0))
     -- enum-known-next
     (λ c. search needs)
     -- add-i
-    (λ c. omega (arith, c .before .before .before .before .before .before .before .before .before .before .before .before .before .before .before .before .before .before .before .before .loop-test .taken, c .before .before .before .before .before .before .before .before .before .before .before .before .before .before .before .before .before .before .before .before .before .before .before .before .before .before .before .before .before .pre .1 .1 .4))
+    (λ c.
+    let key = c .before .before .before .before .before .before .before .before .before .before .before .before .before .before .before .before in
+    omega (arith, key .before .before .before .before .before .loop-test .taken, key .before .before .before .before .before .before .before .before .before .before .before .before .before .pre .1 .1 .3))
     -- loop-less
-    (λ c. omega (arith, c .before .before .before .before .before .before .before .before .before .before .before .before .before .before .before .before .before .before .before .before .loop-test .taken))
+    (λ c. omega (arith, c .before .before .before .before .before .before .before .before .before .before .before .before .before .before .before .before .before .before .before .before .before .loop-test .taken))
     -- loop-again
     (λ c.
-    let loop = c .before .before .before .before .before .before .before .before .before .before .before .before .before .before .before .before .before .before .before .before .before .loop in
-    let args = c .before .before .before .before .before .before .before .before .before .before .before .before .before .before .before .before .before .before .before .before .before .before .before .before .before .before .before .before .before .args in
-    let type-row = c .before .before .before .before .before .before .before .before .before .before .before .before .before .before .before .before .before .before .before .before .before .before .before .type-row in
-    let asked = c .before .before .before .before .before .before .before .before .before .before .before .before .before .before .before .before .before .before .before .before .before .before .before .before .before .before .before .before .before .pre in
-    let if1 = c .before .before .before .before .before .before .before .before .before .before .before .before .before .before .before .before .before .before .before .if1 in
-    let content = c .before .before .before .before .before .before .before .before .before .before .before .before .before .before .before .before .before .before .content in
-    let span = c .before .before .before .before .before .before .before .before .before .before .before .before .before .before .before .before .from in
+    let key = c .before .before .before .before .before .before .before .before .before .before .before .before .before .before .before .before in
+    let turn = key .before .before .before .before .before .before in
+    let args = turn .before .before .before .before .before .before .before .args in
+    let asked = turn .before .before .before .before .before .before .before .pre in
+    let type-row = turn .before .before .type-row in
+    let loop = turn .loop in
+    let p = args .p .now in
+    let T = tableOf (args .s .now) in
+    let P = parse (shape (tableOf (args .s .now))) (args .depth) in
+    let kind = leafShape (type-row .result .kind) in
+    let leaf = shape-leaf T (args .key) (type-row .result) (type-row .ensures) (rw (type-row .ensures) (asked .1 .1 .0)) (rw (type-row .ensures) (asked .1 .1 .1)) in
+    let keys = keysIn p (loop .keys) (loop .i) in
+    let content = key .before .before .before .content in
+    let span = key .before .from in
+    let some = key .before .before .before .before .before .loop-test .taken in
+    let deep = key .before .before .before .before .if1 .left in
+    let i = leaf-in (shape T) (args .depth) (args .key) kind leaf deep p (loop .here) _ (content .ensures) (span .given .0 .0) (span .given .0 .1 .0) (span .given .1) in
+    let read = leaf-parsed (shape T) (args .depth) (args .key) kind leaf deep p (loop .here) _ (content .ensures) (span .given .0 .0) (span .given .0 .1 .0) (span .given .1) in
+    let is-repeated = c .before .before .before .before .before .before .before .before .before .before .before .before .before .before .is-repeated in
+    let new = sym (is-repeated .ensures .0) ∙ c .before .before .before .before .before .before .before .before .before .before .before .if2 .left in
+    let put-row = c .before .before .before .before .before .before .before .before .before .put-row in
     let value = c .before .before .before .before .before .value in
     let past = c .before .next in
-    let loop-test = c .before .before .before .before .before .before .before .before .before .before .before .before .before .before .before .before .before .before .before .before .loop-test in
-    let put-row = c .before .before .before .before .before .before .before .before .before .put-row in
-    let P = parse (shape (tableOf (args .s .now))) (args .depth) in
-    let S = shape (tableOf (args .s .now)) in
-    let T = tableOf (args .s .now) in
-    let p = args .p .now in
     let inv = loop .inv in
-    let i = (leaf-in S (args .depth) (args .key) (leafShape (type-row .result .kind)) (shape-leaf T (args .key) (type-row .result) (type-row .ensures) (rw (type-row .ensures) (asked .1 .1 .0)) (rw (type-row .ensures) (asked .1 .1 .1))) (if1 .left) p (loop .here) _ (content .ensures) (span .given .0 .0) (span .given .0 .1 .0) (span .given .1)) in
-    let w = was (value .ensures) (past .given .1) in
-    let ls : loop .i < length (loop .starts) = omega (arith, loop-test .taken, inv .6, asked .1 .1 .2) in
-    let le : loop .i < length (loop .ends) = omega (arith, loop-test .taken, inv .7, asked .1 .1 .3) in (
-      pairs-again P p (args .key) (args .val) (args .n) (loop .i) (span .given .0 .0) (span .given .0 .1 .0) (loop .starts) (loop .ends) (cursorAt p (past .given .0 .0)) (past .given .0 .1 .0) _ _ ls le
-          (sym (pair-value-past P p (args .key) (args .val) (args .n) (loop .i) (keysIn p (loop .starts) (loop .ends) (loop .i)) (loop .here) (loop-test .taken) (span .given .0 .0) (span .given .0 .1 .0) (leaf-parsed S (args .depth) (args .key) (leafShape (type-row .result .kind)) (shape-leaf T (args .key) (type-row .result) (type-row .ensures) (rw (type-row .ensures) (asked .1 .1 .0)) (rw (type-row .ensures) (asked .1 .1 .1))) (if1 .left) p (loop .here) _ (content .ensures) (span .given .0 .0) (span .given .0 .1 .0) (span .given .1)) (sym (c .before .before .before .before .before .before .before .before .before .before .before .before .is-repeated .ensures) ∙ c .before .before .before .before .before .before .before .before .before .before .before .if2 .left) (loop .below) (loop .sheet) _ (put-row .ensures) (past .given .0 .0) (past .given .0 .1 .0) _ (w .same)) ∙ inv .0),
+    let w = was (value .ensures) (past .given .1) in (
+      pairs-again P (args .key) (args .val) (args .n) (loop .i) _ keys _ (cursorAt p (past .given .0 .0)) (past .given .0 .1 .0) _ _ (is-repeated .ensures .1)
+          (sym (pair-value-past P p (args .key) (args .val) (args .n) (loop .i) keys (loop .here) some (span .given .0 .0) (span .given .0 .1 .0) read new (loop .below) (loop .sheet) _ (put-row .ensures) (past .given .0 .0) (past .given .0 .1 .0) _ (w .same)) ∙ inv .0),
       w .within .0,
       w .within .1,
       omega (arith, inv .3, i .2, w .within .2),
       value .kept .1 .1 .0 ∙ put-row .kept .0 ∙ inv .4,
-      omega (arith, loop-test .taken),
-      length-set (loop .starts) _ _ ∙ inv .6,
-      length-set (loop .ends) _ _ ∙ inv .7,
-      spans-more p (loop .starts) (loop .ends) (loop .i) (span .given .0 .0) (span .given .0 .1 .0) ls le (i .0) (i .1) (inv .8),
+      omega (arith, some),
+      is-repeated .kept .1 .0 ∙ inv .6,
+      is-repeated .ensures .2,
     ))
     -- sub-put-row-2
     (λ c. omega arith)
     -- put-row-requires-2
     (λ c κs.
-    let pre = c .before .before .before .before .before .before .before .before .before .before .pre .1 .0 in
+    let pre = c .before .before .before .before .before .before .before .before .before .pre .1 .0 in
     let inv = c .before .before .loop .inv in
     omega arith)
-    -- same-length-13
+    -- same-length-9
     (λ c. c .before .before .put-row2 .kept .0 ∙ c .before .before .before .before .before .loop .inv .4)
-    -- same-length-14
+    -- same-length-10
     (λ c. c .before .before .before .before .before .loop .inv .6)
-    -- same-length-15
-    (λ c. c .before .before .before .before .before .loop .inv .7)
     -- returns-5
     (λ c.
-    let loop = c .before .before .before .before .before .loop in
-    let args = c .before .before .before .before .before .before .before .before .before .before .before .before .before .args in
-    let P = parse (shape (tableOf (args .s .now))) (args .depth) in
+    let turn = c .before .before .before .before .before in
+    let args = turn .before .before .before .before .before .before .before .args in
+    let loop = turn .loop in
     let p = args .p .now in
+    let P = parse (shape (tableOf (args .s .now))) (args .depth) in
+    let keys = keysIn p (loop .keys) (loop .i) in
     let inv = loop .inv in
-    composite-past P (map (args .key) (args .val)) (args .ty) (args .start) (args .n) (cursorAt p (args .start)) (args .row) (args .sheet .now) p (args .start) _ _ (loop .sheet) _ (keysIn p (loop .starts) (loop .ends) (loop .i))
-    (emptied P (keysIn p (loop .starts) (loop .ends) (loop .i)) (pairs (args .n - loop .i) (args .key) (args .val)) _ _ _ _ (pairs-none (args .key) (args .val) (args .n - loop .i) (omega (arith, c .before .before .before .before .loop-test .left))) (inv .0))
-    (c .before .before .put-row2 .ensures) (inv .1) (inv .2) (inv .3))
+    let none = pairs-none (args .key) (args .val) (args .n - loop .i) (omega (arith, c .before .before .before .before .loop-test .left)) in
+    composite-past P (map (args .key) (args .val)) (args .ty) (args .start) (args .n) (cursorAt p (args .start)) (args .row) (args .sheet .now) p (args .start) _ _ (loop .sheet) _ keys
+    (emptied P keys (pairs (args .n - loop .i) (args .key) (args .val)) _ _ _ _ none (inv .0)) (c .before .before .put-row2 .ensures) (inv .1) (inv .2) (inv .3))
 
 structure-spec : {M : Type 1} (t : ℕ) → structure-lts.Closed (presence-reads.Asked, presence-reads.Learnt, fields-below t, fields.Post) (structure-at t) structure.Post M
 structure-spec t =

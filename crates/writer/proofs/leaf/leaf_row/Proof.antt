@@ -11,25 +11,53 @@ leaf-row-spec =
     tie.close
     (tie.spec
     -- mul-k
-    (λ c. let h = leaf-row-in (c .before .before .before .args .sheet .now) (c .before .before .before .args .source .now) (c .before .before .before .args .kind) (c .before .before .before .args .ty) (c .before .before .before .args .row) (c .before .before .before .pre (not-true _ (c .if1 .taken))) in search needs)
+    (λ c.
+    let args = c .before .before .before .args in
+    let h = leaf-row-in (args .sheet .now) (args .source .now) (args .kind) (args .ty) (args .row) (c .before .before .before .pre (not-true _ (c .if1 .taken))) in
+    search needs)
     -- add-wide
-    (λ c. let h = leaf-row-in (c .before .before .before .args .sheet .now) (c .before .before .before .args .source .now) (c .before .before .before .args .kind) (c .before .before .before .args .ty) (c .before .before .before .args .row) (c .before .before .before .pre (not-true _ (c .if1 .taken))) in search needs)
+    (λ c.
+    let args = c .before .before .before .args in
+    let h = leaf-row-in (args .sheet .now) (args .source .now) (args .kind) (args .ty) (args .row) (c .before .before .before .pre (not-true _ (c .if1 .taken))) in
+    search needs)
     -- mul-wide
-    (λ c. let h = leaf-row-in (c .before .before .before .args .sheet .now) (c .before .before .before .args .source .now) (c .before .before .before .args .kind) (c .before .before .before .args .ty) (c .before .before .before .args .row) (c .before .before .before .pre (not-true _ (c .if1 .taken))) in search needs)
+    (λ c.
+    let args = c .before .before .before .args in
+    let h = leaf-row-in (args .sheet .now) (args .source .now) (args .kind) (args .ty) (args .row) (c .before .before .before .pre (not-true _ (c .if1 .taken))) in
+    search needs)
     -- shared-slice-read-wide
-    (λ c. let h = leaf-row-in (c .before .before .before .before .args .sheet .now) (c .before .before .before .before .args .source .now) (c .before .before .before .before .args .kind) (c .before .before .before .before .args .ty) (c .before .before .before .before .args .row) (c .before .before .before .before .pre (not-true _ (c .before .if1 .taken))) in search needs)
+    (λ c.
+    let args = c .before .before .before .before .args in
+    let h = leaf-row-in (args .sheet .now) (args .source .now) (args .kind) (args .ty) (args .row) (c .before .before .before .before .pre (not-true _ (c .before .if1 .taken))) in
+    search needs)
     -- wide-requires
     (λ c κs. search needs)
     -- add-wide-2
-    (λ c. let h = leaf-row-in (c .before .before .before .before .before .args .sheet .now) (c .before .before .before .before .before .args .source .now) (c .before .before .before .before .before .args .kind) (c .before .before .before .before .before .args .ty) (c .before .before .before .before .before .args .row) (c .before .before .before .before .before .pre (not-true _ (c .before .before .if1 .taken))) in search needs)
+    (λ c.
+    let args = c .before .before .before .before .before .args in
+    let asked = c .before .before .before .before .before .pre in
+    let h = leaf-row-in (args .sheet .now) (args .source .now) (args .kind) (args .ty) (args .row) (asked (not-true _ (c .before .before .if1 .taken))) in
+    search needs)
     -- mul-wide-2
-    (λ c. let h = leaf-row-in (c .before .before .before .before .before .args .sheet .now) (c .before .before .before .before .before .args .source .now) (c .before .before .before .before .before .args .kind) (c .before .before .before .before .before .args .ty) (c .before .before .before .before .before .args .row) (c .before .before .before .before .before .pre (not-true _ (c .before .before .if1 .taken))) in search needs)
+    (λ c.
+    let args = c .before .before .before .before .before .args in
+    let asked = c .before .before .before .before .before .pre in
+    let h = leaf-row-in (args .sheet .now) (args .source .now) (args .kind) (args .ty) (args .row) (asked (not-true _ (c .before .before .if1 .taken))) in
+    search needs)
     -- shared-slice-read-wide-2
-    (λ c. let h = leaf-row-in (c .before .before .before .before .before .before .args .sheet .now) (c .before .before .before .before .before .before .args .source .now) (c .before .before .before .before .before .before .args .kind) (c .before .before .before .before .before .before .args .ty) (c .before .before .before .before .before .before .args .row) (c .before .before .before .before .before .before .pre (not-true _ (c .before .before .before .if1 .taken))) in search needs)
+    (λ c.
+    let args = c .before .before .before .before .before .before .args in
+    let asked = c .before .before .before .before .before .before .pre in
+    let h = leaf-row-in (args .sheet .now) (args .source .now) (args .kind) (args .ty) (args .row) (asked (not-true _ (c .before .before .before .if1 .taken))) in
+    search needs)
     -- wide-requires-2
     (λ c κs. search needs)
     -- returns
-    (λ c. leaf-known (c .before .before .before .before .before .before .before .args .sheet .now) (c .before .before .before .before .before .before .before .args .source .now) (c .before .before .before .before .before .before .before .args .kind) (c .before .before .before .before .before .before .before .args .ty) (c .before .before .before .before .before .before .before .args .row) (c .before .before .before .before .before .before .before .pre (not-true _ (c .before .before .before .before .if1 .taken))) _ _ (c .before .before .wide .ensures) (c .wide2 .ensures))
+    (λ c.
+    let args = c .before .before .before .before .before .before .before .args in
+    let asked = c .before .before .before .before .before .before .before .pre in
+    leaf-known (args .sheet .now) (args .source .now) (args .kind) (args .ty) (args .row) (asked (not-true _ (c .before .before .before .before .if1 .taken))) _ _ (c .before .before .wide .ensures)
+    (c .wide2 .ensures))
     -- row-due-requires
     (λ c κs. search needs)
     -- enum-told
@@ -37,14 +65,30 @@ leaf-row-spec =
     -- enum-known-place
     (λ c. search needs)
     -- content-requires
-    (λ c κs. let w = row-small (c .before .before .before .before .before .before .before .args .sheet .now) (c .before .before .before .before .before .before .before .args .source .now) (c .before .before .before .before .before .before .before .args .kind) (c .before .before .before .before .before .before .before .args .ty) (c .before .before .before .before .before .before .before .args .row) _ (c .before .before .before .row-due .ensures) (c .before .place .given .0 .0) (c .before .place .given .0 .1 .0) (c .before .place .given .0 .1 .1 .0) (c .before .place .given .1) in w)
+    (λ c κs.
+    let args = c .before .before .before .before .before .before .before .args in
+    let placed = c .before .place in
+    let w = row-small (args .sheet .now) (args .source .now) (args .kind) (args .ty) (args .row) _ (c .before .before .before .row-due .ensures) (placed .given .0 .0) (placed .given .0 .1 .0) (placed .given .0 .1 .1 .0) (placed .given .1) in
+    w)
     -- enum-known-number
     (λ c. search needs)
     -- enum-told-2
     (λ c. search needs)
     -- returns-2
-    (λ c. leaf-missing (c .before .before .before .before .before .before .args .sheet .now) (c .before .before .before .before .before .before .args .source .now) (c .before .before .before .before .before .before .args .kind) (c .before .before .before .before .before .before .args .ty) (c .before .before .before .before .before .before .args .row) _ (c .before .before .row-due .ensures) (c .enum-told .given .1))
+    (λ c.
+    let args = c .before .before .before .before .before .before .args in
+    leaf-missing (args .sheet .now) (args .source .now) (args .kind) (args .ty) (args .row) _ (c .before .before .row-due .ensures) (c .enum-told .given .1))
     -- returns-3
-    (λ c. leaf-bad (c .before .before .before .before .before .before .before .before .before .before .before .args .sheet .now) (c .before .before .before .before .before .before .before .before .before .before .before .args .source .now) (c .before .before .before .before .before .before .before .before .before .before .before .args .kind) (c .before .before .before .before .before .before .before .before .before .before .before .args .ty) (c .before .before .before .before .before .before .before .before .before .before .before .args .row) _ (c .before .before .before .before .before .before .before .row-due .ensures) (c .before .before .before .before .before .place .given .0 .0) (c .before .before .before .before .before .place .given .0 .1 .0) (c .before .before .before .before .before .place .given .0 .1 .1 .0) (c .before .before .before .before .before .place .given .1) _ (c .before .before .before .content .ensures) _ (c .before .number .given .1))
+    (λ c.
+    let args = c .before .before .before .before .before .before .before .before .before .before .before .args in
+    let row-due = c .before .before .before .before .before .before .before .row-due in
+    let placed = c .before .before .before .before .before .place in
+    leaf-bad (args .sheet .now) (args .source .now) (args .kind) (args .ty) (args .row) _ (row-due .ensures) (placed .given .0 .0) (placed .given .0 .1 .0) (placed .given .0 .1 .1 .0)
+    (placed .given .1) _ (c .before .before .before .content .ensures) _ (c .before .number .given .1))
     -- returns-4
-    (λ c. leaf-fine (c .before .before .before .before .before .before .before .before .before .before .args .sheet .now) (c .before .before .before .before .before .before .before .before .before .before .args .source .now) (c .before .before .before .before .before .before .before .before .before .before .args .kind) (c .before .before .before .before .before .before .before .before .before .before .args .ty) (c .before .before .before .before .before .before .before .before .before .before .args .row) _ (c .before .before .before .before .before .before .row-due .ensures) (c .before .before .before .before .place .given .0 .0) (c .before .before .before .before .place .given .0 .1 .0) (c .before .before .before .before .place .given .0 .1 .1 .0) (c .before .before .before .before .place .given .1) _ (c .before .before .content .ensures) (c .enum-told2 .given .1)))
+    (λ c.
+    let args = c .before .before .before .before .before .before .before .before .before .before .args in
+    let row-due = c .before .before .before .before .before .before .row-due in
+    let placed = c .before .before .before .before .place in
+    leaf-fine (args .sheet .now) (args .source .now) (args .kind) (args .ty) (args .row) _ (row-due .ensures) (placed .given .0 .0) (placed .given .0 .1 .0) (placed .given .0 .1 .1 .0)
+    (placed .given .1) _ (c .before .before .content .ensures) (c .enum-told2 .given .1)))

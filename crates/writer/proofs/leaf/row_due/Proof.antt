@@ -44,4 +44,7 @@ row-due-spec =
     -- wide-requires-3
     (λ c κs. search needs)
     -- returns-3
-    (λ c. row-found _ _ _ (c .before .before .before .before .before .before .before .before .if1 .left) (c .before .before .before .before .before .before .if2 .left) _ _ _ (c .before .before .before .before .wide .ensures) (c .before .before .wide2 .ensures) (c .wide3 .ensures .0)))
+    (λ c.
+    let if1 = c .before .before .before .before .before .before .before .before .if1 in
+    let if2 = c .before .before .before .before .before .before .if2 in
+    row-found _ _ _ (if1 .left) (if2 .left) _ _ _ (c .before .before .before .before .wide .ensures) (c .before .before .wide2 .ensures) (c .wide3 .ensures .0)))

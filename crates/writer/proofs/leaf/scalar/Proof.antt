@@ -13,18 +13,53 @@ scalar-spec =
     -- width-of-requires
     (λ c κs. search needs)
     -- returns
-    (λ c. scalar-wide (c .before .before .before .args .source .now) (c .before .before .before .args .kind) (c .before .before .before .args .place) (c .before .before .before .args .n) (c .before .before .before .args .count) (c .before .before .before .pre .0) (λ e. c .if1 .taken (e ∙ sym (c .before .width-of .ensures))))
+    (λ c.
+    let args = c .before .before .before .args in
+    scalar-wide (args .source .now) (args .kind) (args .place) (args .n) (args .count) (c .before .before .before .pre .0) (λ e. c .if1 .taken (e ∙ sym (c .before .width-of .ensures))))
     -- returns-2
-    (λ c. scalar-counted (c .before .before .before .before .args .source .now) (c .before .before .before .before .args .kind) (c .before .before .before .before .args .place) (c .before .before .before .before .args .n) (c .before .before .before .before .args .count) (c .before .before .before .before .pre .0) (c .before .if1 .left ∙ c .before .before .width-of .ensures) (c .if2 .taken))
+    (λ c.
+    let args = c .before .before .before .before .args in
+    scalar-counted (args .source .now) (args .kind) (args .place) (args .n) (args .count) (c .before .before .before .before .pre .0) (c .before .if1 .left ∙ c .before .before .width-of .ensures)
+    (c .if2 .taken))
     -- add-if3
     (λ c. search needs)
     -- returns-3
-    (λ c. scalar-outside (c .before .before .before .before .before .args .source .now) (c .before .before .before .before .before .args .kind) (c .before .before .before .before .before .args .place) (c .before .before .before .before .before .args .n) (c .before .before .before .before .before .args .count) (c .before .before .before .before .before .pre .0) (c .before .before .if1 .left ∙ c .before .before .before .width-of .ensures) (c .before .if2 .left) (c .if3 .taken))
+    (λ c.
+    let args = c .before .before .before .before .before .args in
+    let asked = c .before .before .before .before .before .pre in
+    scalar-outside (args .source .now) (args .kind) (args .place) (args .n) (args .count) (asked .0) (c .before .before .if1 .left ∙ c .before .before .before .width-of .ensures)
+    (c .before .if2 .left) (c .if3 .taken))
     -- shared-slice-read-if5
-    (λ c. one-byte (c .before .before .before .before .before .before .before .args .source .now) (c .before .before .before .before .before .before .before .args .kind) (c .before .before .before .before .before .before .before .args .place) (c .before .before .before .before .before .before .before .args .n) (c .before .before .before .before .before .before .before .args .count) (c .before .before .before .before .before .before .before .pre .0) (c .before .before .before .before .if1 .left ∙ c .before .before .before .before .before .width-of .ensures) (c .before .before .before .if2 .left) (c .before .before .if3 .left) (c .before .if4 .taken))
+    (λ c.
+    let args = c .before .before .before .before .before .before .before .args in
+    let asked = c .before .before .before .before .before .before .before .pre in
+    let width-of = c .before .before .before .before .before .width-of in
+    one-byte (args .source .now) (args .kind) (args .place) (args .n) (args .count) (asked .0) (c .before .before .before .before .if1 .left ∙ width-of .ensures) (c .before .before .before .if2 .left)
+    (c .before .before .if3 .left) (c .before .if4 .taken))
     -- returns-4
-    (λ c. scalar-bad (c .before .before .before .before .before .before .before .before .args .source .now) (c .before .before .before .before .before .before .before .before .args .kind) (c .before .before .before .before .before .before .before .before .args .place) (c .before .before .before .before .before .before .before .before .args .n) (c .before .before .before .before .before .before .before .before .args .count) (c .before .before .before .before .before .before .before .before .pre .0) (c .before .before .before .before .before .if1 .left ∙ c .before .before .before .before .before .before .width-of .ensures) (c .before .before .before .before .if2 .left) (c .before .before .before .if3 .left) (c .before .before .if4 .taken) (c .if5 .taken))
+    (λ c.
+    let args = c .before .before .before .before .before .before .before .before .args in
+    let asked = c .before .before .before .before .before .before .before .before .pre in
+    let width-of = c .before .before .before .before .before .before .width-of in
+    let if1 = c .before .before .before .before .before .if1 in
+    scalar-bad (args .source .now) (args .kind) (args .place) (args .n) (args .count) (asked .0) (if1 .left ∙ width-of .ensures) (c .before .before .before .before .if2 .left)
+    (c .before .before .before .if3 .left) (c .before .before .if4 .taken) (c .if5 .taken))
     -- returns-5
-    (λ c. scalar-fine (c .before .before .before .before .before .before .before .before .args .source .now) (c .before .before .before .before .before .before .before .before .args .kind) (c .before .before .before .before .before .before .before .before .args .place) (c .before .before .before .before .before .before .before .before .args .n) (c .before .before .before .before .before .before .before .before .args .count) (c .before .before .before .before .before .before .before .before .pre .0) (c .before .before .before .before .before .if1 .left ∙ c .before .before .before .before .before .before .width-of .ensures) (c .before .before .before .before .if2 .left) (c .before .before .before .if3 .left) (scalar-truth (c .before .before .before .before .before .before .before .before .args .source .now) (c .before .before .before .before .before .before .before .before .args .kind) (c .before .before .before .before .before .before .before .before .args .place) (c .before .before .before .before .before .before .before .before .args .n) (c .before .before .before .before .before .before .before .before .args .count) (c .before .before .before .before .before .before .before .before .pre .0) (c .before .before .before .before .before .if1 .left ∙ c .before .before .before .before .before .before .width-of .ensures) (c .before .before .before .before .if2 .left) (c .before .before .before .if3 .left) (c .before .before .if4 .taken) (c .if5 .left)))
+    (λ c.
+    let args = c .before .before .before .before .before .before .before .before .args in
+    let asked = c .before .before .before .before .before .before .before .before .pre in
+    let width-of = c .before .before .before .before .before .before .width-of in
+    let if1 = c .before .before .before .before .before .if1 in
+    let if2 = c .before .before .before .before .if2 in
+    let if3 = c .before .before .before .if3 in
+    scalar-fine (args .source .now) (args .kind) (args .place) (args .n) (args .count) (asked .0) (if1 .left ∙ width-of .ensures) (if2 .left) (if3 .left)
+    (scalar-truth (args .source .now) (args .kind) (args .place) (args .n) (args .count) (asked .0) (if1 .left ∙ width-of .ensures) (if2 .left) (if3 .left) (c .before .before .if4 .taken)
+    (c .if5 .left)))
     -- returns-6
-    (λ c. scalar-fine (c .before .before .before .before .before .before .args .source .now) (c .before .before .before .before .before .before .args .kind) (c .before .before .before .before .before .before .args .place) (c .before .before .before .before .before .before .args .n) (c .before .before .before .before .before .before .args .count) (c .before .before .before .before .before .before .pre .0) (c .before .before .before .if1 .left ∙ c .before .before .before .before .width-of .ensures) (c .before .before .if2 .left) (c .before .if3 .left) (scalar-other (c .before .before .before .before .before .before .args .source .now) (c .before .before .before .before .before .before .args .kind) (c .before .before .before .before .before .before .args .place) (c .before .before .before .before .before .before .args .n) (c .before .before .before .before .before .before .args .count) (c .before .before .before .before .before .before .pre .0) (c .before .before .before .if1 .left ∙ c .before .before .before .before .width-of .ensures) (c .before .before .if2 .left) (c .before .if3 .left) (c .if4 .left))))
+    (λ c.
+    let args = c .before .before .before .before .before .before .args in
+    let asked = c .before .before .before .before .before .before .pre in
+    let width-of = c .before .before .before .before .width-of in
+    let if1 = c .before .before .before .if1 in
+    scalar-fine (args .source .now) (args .kind) (args .place) (args .n) (args .count) (asked .0) (if1 .left ∙ width-of .ensures) (c .before .before .if2 .left) (c .before .if3 .left)
+    (scalar-other (args .source .now) (args .kind) (args .place) (args .n) (args .count) (asked .0) (if1 .left ∙ width-of .ensures) (c .before .before .if2 .left) (c .before .if3 .left) (c .if4 .left))))

@@ -20,14 +20,26 @@ text-spec =
     -- add-if2
     (λ c. search needs)
     -- returns-2
-    (λ c. text-outside (c .before .before .before .args .source .now) (c .before .before .before .args .kind) (c .before .before .before .args .place) (c .before .before .before .args .n) (c .before .before .before .args .count) (c .before .before .before .pre .0) (c .before .if1 .left) (c .if2 .taken))
+    (λ c.
+    let args = c .before .before .before .args in
+    text-outside (args .source .now) (args .kind) (args .place) (args .n) (args .count) (c .before .before .before .pre .0) (c .before .if1 .left) (c .if2 .taken))
     -- add-valid
     (λ c. search needs)
     -- valid-requires
     (λ c κs. search needs)
     -- returns-3
-    (λ c. text-bad (c .before .before .before .before .before .before .args .source .now) (c .before .before .before .before .before .before .args .kind) (c .before .before .before .before .before .before .args .place) (c .before .before .before .before .before .before .args .n) (c .before .before .before .before .before .before .args .count) (c .before .before .before .before .before .before .pre .0) (c .before .before .before .before .if1 .left) (c .before .before .before .if2 .left) (c .before .before .if3 .taken) (sym (c .before .valid .ensures ∙ ap (λ (l : List ℕ). utf8 l) (slice-span (c .before .before .before .before .before .before .args .source .now) (c .before .before .before .before .before .before .args .place) (c .before .before .before .before .before .before .args .n))) ∙ not-true _ (c .if4 .taken)))
+    (λ c.
+    let args = c .before .before .before .before .before .before .args in
+    let asked = c .before .before .before .before .before .before .pre in
+    text-bad (args .source .now) (args .kind) (args .place) (args .n) (args .count) (asked .0) (c .before .before .before .before .if1 .left) (c .before .before .before .if2 .left)
+    (c .before .before .if3 .taken) (sym (c .before .valid .ensures ∙ ap (λ (l : List ℕ). utf8 l) (slice-span (args .source .now) (args .place) (args .n))) ∙ not-true _ (c .if4 .taken)))
     -- returns-4
-    (λ c. text-valid (c .before .before .before .before .before .before .args .source .now) (c .before .before .before .before .before .before .args .kind) (c .before .before .before .before .before .before .args .place) (c .before .before .before .before .before .before .args .n) (c .before .before .before .before .before .before .args .count) (c .before .before .before .before .before .before .pre .0) (c .before .before .before .before .if1 .left) (c .before .before .before .if2 .left) (c .before .before .if3 .taken) (sym (c .before .valid .ensures ∙ ap (λ (l : List ℕ). utf8 l) (slice-span (c .before .before .before .before .before .before .args .source .now) (c .before .before .before .before .before .before .args .place) (c .before .before .before .before .before .before .args .n))) ∙ not-false _ (c .if4 .left)))
+    (λ c.
+    let args = c .before .before .before .before .before .before .args in
+    let asked = c .before .before .before .before .before .before .pre in
+    text-valid (args .source .now) (args .kind) (args .place) (args .n) (args .count) (asked .0) (c .before .before .before .before .if1 .left) (c .before .before .before .if2 .left)
+    (c .before .before .if3 .taken) (sym (c .before .valid .ensures ∙ ap (λ (l : List ℕ). utf8 l) (slice-span (args .source .now) (args .place) (args .n))) ∙ not-false _ (c .if4 .left)))
     -- returns-5
-    (λ c. text-plain (c .before .before .before .before .args .source .now) (c .before .before .before .before .args .kind) (c .before .before .before .before .args .place) (c .before .before .before .before .args .n) (c .before .before .before .before .args .count) (c .before .before .before .before .pre .0) (c .before .before .if1 .left) (c .before .if2 .left) (c .if3 .left)))
+    (λ c.
+    let args = c .before .before .before .before .args in
+    text-plain (args .source .now) (args .kind) (args .place) (args .n) (args .count) (c .before .before .before .before .pre .0) (c .before .before .if1 .left) (c .before .if2 .left) (c .if3 .left)))

@@ -37,7 +37,11 @@ put-bits-spec =
     -- loop-less
     (λ c. omega arith)
     -- loop-again
-    (λ c. (bits-turn _ _ _ _ _ _ _ (c .before .before .before .before .before .loop .inv .0) (c .before .before .before .before .loop-test .taken) _ (c .before .before .put-byte .ensures), omega arith, c .before .before .put-byte .kept .0 ∙ c .before .before .before .before .before .loop .inv .2))
+    (λ c.
+    let loop = c .before .before .before .before .before .loop in
+    let loop-test = c .before .before .before .before .loop-test in
+    let put-byte = c .before .before .put-byte in
+    (bits-turn _ _ _ _ _ _ _ (loop .inv .0) (loop-test .taken) _ (put-byte .ensures), omega arith, put-byte .kept .0 ∙ loop .inv .2))
     -- further-requires
     (λ c κs. search needs)
     -- same-length

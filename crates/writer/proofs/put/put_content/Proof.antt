@@ -17,4 +17,8 @@ put-content-spec =
     -- same-length
     (λ c. search needs)
     -- returns
-    (λ c. content-put _ _ (c .before .before .before .before .before .before .before .before .before .before .args .kind) _ _ _ _ _ (c .before .before .before .before .before .before .before .before .before .before .pre .1) (rw (length-span (c .before .before .before .before .before .before .before .before .before .before .args .source .now) (c .before .before .before .before .before .before .before .before .before .before .args .from) (c .before .before .before .before .before .before .before .before .before .before .args .n) (c .before .before .before .before .before .before .before .before .before .before .pre .2)) (c .before .before .before .before .before .before .put-length .ensures)) (c .before .before .put-span .ensures)))
+    (λ c.
+    let args = c .before .before .before .before .before .before .before .before .before .before .args in
+    let asked = c .before .before .before .before .before .before .before .before .before .before .pre in
+    let put-length = c .before .before .before .before .before .before .put-length in
+    content-put _ _ (args .kind) _ _ _ _ _ (asked .1) (rw (length-span (args .source .now) (args .from) (args .n) (asked .2)) (put-length .ensures)) (c .before .before .put-span .ensures)))

@@ -31,22 +31,42 @@ put-number-spec =
     -- put-byte-requires
     (λ c κs. search needs)
     -- add-at
-    (λ c. let h = groups-near (c .before .before .before .before .before .before .before .args .out .now) (c .before .before .before .before .before .before .before .args .pos) (c .before .before .before .before .before .before .before .args .x) (c .before .before .before .before .before .loop .out) (c .before .before .before .before .before .loop .at) (c .before .before .before .before .before .loop .y) (c .before .before .before .before .before .loop .inv .1) (omega arith) in omega arith)
+    (λ c.
+    let args = c .before .before .before .before .before .before .before .args in
+    let loop = c .before .before .before .before .before .loop in
+    let h = groups-near (args .out .now) (args .pos) (args .x) (loop .out) (loop .at) (loop .y) (loop .inv .1) (omega arith) in
+    omega arith)
     -- loop-less
     (λ c. omega arith)
     -- loop-again
-    (λ c. (c .before .before .put-byte .kept .0 ∙ c .before .before .before .before .before .loop .inv .0, groups-more (c .before .before .before .before .before .before .before .args .out .now) (c .before .before .before .before .before .before .before .args .pos) (c .before .before .before .before .before .before .before .args .x) (c .before .before .before .before .before .loop .out) (c .before .before .before .before .before .loop .at) (c .before .before .before .before .before .loop .y) (c .before .before .before .before .before .loop .inv .1) _ (c .before .before .put-byte .ensures) (c .before .before .before .before .loop-test .taken)))
+    (λ c.
+    let args = c .before .before .before .before .before .before .before .args in
+    let loop = c .before .before .before .before .before .loop in
+    let loop-test = c .before .before .before .before .loop-test in
+    let put-byte = c .before .before .put-byte in
+    (put-byte .kept .0 ∙ loop .inv .0, groups-more (args .out .now) (args .pos) (args .x) (loop .out) (loop .at) (loop .y) (loop .inv .1) _ (put-byte .ensures) (loop-test .taken)))
     -- cast-put-byte-2
     (λ c. search needs)
     -- put-byte-requires-2
     (λ c κs. search needs)
     -- add-further
-    (λ c. let h = groups-near (c .before .before .before .before .before .before .before .args .out .now) (c .before .before .before .before .before .before .before .args .pos) (c .before .before .before .before .before .before .before .args .x) (c .before .before .before .before .before .loop .out) (c .before .before .before .before .before .loop .at) (c .before .before .before .before .before .loop .y) (c .before .before .before .before .before .loop .inv .1) (omega arith) in omega arith)
+    (λ c.
+    let args = c .before .before .before .before .before .before .before .args in
+    let loop = c .before .before .before .before .before .loop in
+    let h = groups-near (args .out .now) (args .pos) (args .x) (loop .out) (loop .at) (loop .y) (loop .inv .1) (omega arith) in
+    omega arith)
     -- sub-further
-    (λ c. let h = groups-last (c .before .before .before .before .before .before .before .args .out .now) (c .before .before .before .before .before .before .before .args .pos) (c .before .before .before .before .before .before .before .args .x) (c .before .before .before .before .before .loop .out) (c .before .before .before .before .before .loop .at) (c .before .before .before .before .before .loop .y) (c .before .before .before .before .before .loop .inv .1) (omega arith) in omega arith)
+    (λ c.
+    let args = c .before .before .before .before .before .before .before .args in
+    let loop = c .before .before .before .before .before .loop in
+    let h = groups-last (args .out .now) (args .pos) (args .x) (loop .out) (loop .at) (loop .y) (loop .inv .1) (omega arith) in
+    omega arith)
     -- further-requires
     (λ c κs. search needs)
     -- same-length
     (λ c. c .before .before .before .put-byte2 .kept .0 ∙ c .before .before .before .before .before .before .loop .inv .0)
     -- returns
-    (λ c. groups-done (c .before .before .before .before .before .before .before .before .args .out .now) (c .before .before .before .before .before .before .before .before .args .pos) (c .before .before .before .before .before .before .before .before .args .x) (c .before .before .before .before .before .before .loop .out) (c .before .before .before .before .before .before .loop .at) (c .before .before .before .before .before .before .loop .y) (c .before .before .before .before .before .before .loop .inv .1) (omega arith) _ (c .before .before .before .put-byte2 .ensures) _ (c .further .ensures)))
+    (λ c.
+    let args = c .before .before .before .before .before .before .before .before .args in
+    let loop = c .before .before .before .before .before .before .loop in
+    groups-done (args .out .now) (args .pos) (args .x) (loop .out) (loop .at) (loop .y) (loop .inv .1) (omega arith) _ (c .before .before .before .put-byte2 .ensures) _ (c .further .ensures)))

@@ -40,10 +40,18 @@ put-span-spec =
     -- loop-less
     (λ c. omega arith)
     -- loop-again
-    (λ c. let e = c .before .before .before .fitting .ensures in (span-turn (c .before .before .loop .out) (c .before .before .before .before .before .before .args .pos) (c .before .before .before .before .before .before .args .source .now) (c .before .before .before .before .before .before .args .from) _ (c .before .before .loop .i) (c .before .loop-test .taken) (omega arith) ∙ c .before .before .loop .inv .0, omega arith, simp length-set (c .before .before .loop .inv .2)))
+    (λ c.
+    let args = c .before .before .before .before .before .before .args in
+    let loop = c .before .before .loop in
+    let e = c .before .before .before .fitting .ensures in
+    (span-turn (loop .out) (args .pos) (args .source .now) (args .from) _ (loop .i) (c .before .loop-test .taken) (omega arith) ∙ loop .inv .0, omega arith, simp length-set (loop .inv .2)))
     -- further-requires
     (λ c κs. search needs)
     -- same-length
     (λ c. c .before .before .loop .inv .2)
     -- returns
-    (λ c. let e = c .before .before .before .fitting .ensures in span-done _ (c .before .before .before .before .before .before .args .pos) (c .before .before .before .before .before .before .args .source .now) (c .before .before .before .before .before .before .args .from) _ _ _ _ (c .before .before .loop .inv .0) (c .before .loop-test .left) (e .0) (c .before .before .before .before .before .before .pre .1) (e .2) _ (c .further .ensures)))
+    (λ c.
+    let args = c .before .before .before .before .before .before .args in
+    let asked = c .before .before .before .before .before .before .pre in
+    let e = c .before .before .before .fitting .ensures in
+    span-done _ (args .pos) (args .source .now) (args .from) _ _ _ _ (c .before .before .loop .inv .0) (c .before .loop-test .left) (e .0) (asked .1) (e .2) _ (c .further .ensures)))

@@ -1,16 +1,12 @@
 -- `writer::walk::leaf` meets its contract.
 -- Assumes nothing.
 use borrow.Author.Needs.{needs}
-use Prim.Native.Nat.{_-_}
+use mathlib.Core.Path.{_≡_}
 use native.Mathlib.Omega.{arith}
 use Rattle.schema.specs.Table.{shape}
 use Rattle.schema.specs.File.{tableOf}
-use Rattle.value.specs.Write.{show}
-use Rattle.value.specs.Answer.{Accepted}
 use Rattle.parts.proofs.Tables.{shape-kind}
-use Rattle.parts.proofs.Walks.{deeper}
-use Rattle.writer.specs.Leaf.{rowsAt}
-use Rattle.writer.proofs.Steps.{as-refused, stopped-at, leaf-accepted}
+use Rattle.writer.proofs.Steps.{shown-refused, leaf-accepted}
 use Rattle.writer.proofs.Composites.{leaf-failed, leaf-in, leaf-past}
 use Rattle.writer.proofs.walk.leaf.Statement.{statement}
 use Rattle.writer.proofs.walk.leaf.Tie as tie
@@ -20,7 +16,14 @@ leaf-spec =
     tie.close
     (tie.spec
     -- leaf-row-requires
-    (λ c κs. λ j. leaf-accepted (shape (tableOf (c .before .before .before .before .args .s .now))) (c .before .before .before .before .args .source .now) (c .before .before .before .before .args .depth - 1) (c .before .before .before .before .args .ty) (rowsAt (c .before .before .before .before .args .sheet .now) (c .before .before .before .before .args .row)) _ (shape-kind (tableOf (c .before .before .before .before .args .s .now)) (c .before .before .before .before .args .ty) (c .before .before .before .before .args .kind) (c .before .before .before .before .pre .1 .1) (c .before .before .before .before .pre .1 .0) (c .before .before .before .before .pre .1 .2)) (deeper (λ k. Accepted (show (shape (tableOf (c .before .before .before .before .args .s .now))) (c .before .before .before .before .args .source .now) k (c .before .before .before .before .args .ty) (rowsAt (c .before .before .before .before .args .sheet .now) (c .before .before .before .before .args .row)))) (c .before .before .before .before .args .depth) (λ q. omega (arith, q, c .before .before .before .before .pre .1 .3)) (c .before .before .before .before .pre .0 .judged j)))
+    (λ c κs.
+    let asked = c .before .before .before .before .pre in
+    let args = c .before .before .before .before .args in
+    let T = tableOf (args .s .now) in
+    let S = shape T in
+    let some : args .depth ≡ 0 → ⊥ = λ q. omega (arith, q, asked .1 .3) in
+    let kind = shape-kind T (args .ty) (args .kind) (asked .1 .1) (asked .1 .0) (asked .1 .2) in
+    λ j. leaf-accepted S _ some _ _ kind (asked .0 .judged j))
     -- enum-known-number
     (λ c. search needs)
     -- refused-requires
@@ -28,12 +31,35 @@ leaf-spec =
     -- enum-known-place
     (λ c. search needs)
     -- put-content-requires
-    (λ c κs. let i = leaf-in (shape (tableOf (c .before .before .before .before .before .before .before .before .before .args .s .now))) (c .before .before .before .before .before .before .before .before .before .args .source .now) (c .before .before .before .before .before .before .before .before .before .args .depth) (c .before .before .before .before .before .before .before .before .before .args .ty) (c .before .before .before .before .before .before .before .before .before .args .sheet .now) (c .before .before .before .before .before .before .before .before .before .args .row) (c .before .before .before .before .before .before .before .before .before .args .kind) (shape-kind (tableOf (c .before .before .before .before .before .before .before .before .before .args .s .now)) (c .before .before .before .before .before .before .before .before .before .args .ty) (c .before .before .before .before .before .before .before .before .before .args .kind) (c .before .before .before .before .before .before .before .before .before .pre .1 .1) (c .before .before .before .before .before .before .before .before .before .pre .1 .0) (c .before .before .before .before .before .before .before .before .before .pre .1 .2)) (λ q. omega (arith, q, c .before .before .before .before .before .before .before .before .before .pre .1 .3)) _ (c .before .before .before .before .leaf-row .ensures) (c .before .before .place .given .0 .0) (c .before .before .place .given .0 .1 .0) (c .before .before .place .given .1) in (c .before .before .before .before .before .before .before .before .before .pre .0 .behind, c .before .before .before .before .before .before .before .before .before .pre .0 .small, i .3))
+    (λ c κs.
+    let asked = c .before .before .before .before .before .before .before .before .before .pre in
+    let own = leaf-in (c .before .before .before .before .leaf-row .ensures) (c .before .before .place .given .1) in
+    (asked .0 .behind, asked .0 .small, own .3))
     -- add-t19
-    (λ c. let i = leaf-in (shape (tableOf (c .before .before .before .before .before .before .before .before .before .before .before .before .args .s .now))) (c .before .before .before .before .before .before .before .before .before .before .before .before .args .source .now) (c .before .before .before .before .before .before .before .before .before .before .before .before .args .depth) (c .before .before .before .before .before .before .before .before .before .before .before .before .args .ty) (c .before .before .before .before .before .before .before .before .before .before .before .before .args .sheet .now) (c .before .before .before .before .before .before .before .before .before .before .before .before .args .row) (c .before .before .before .before .before .before .before .before .before .before .before .before .args .kind) (shape-kind (tableOf (c .before .before .before .before .before .before .before .before .before .before .before .before .args .s .now)) (c .before .before .before .before .before .before .before .before .before .before .before .before .args .ty) (c .before .before .before .before .before .before .before .before .before .before .before .before .args .kind) (c .before .before .before .before .before .before .before .before .before .before .before .before .pre .1 .1) (c .before .before .before .before .before .before .before .before .before .before .before .before .pre .1 .0) (c .before .before .before .before .before .before .before .before .before .before .before .before .pre .1 .2)) (λ q. omega (arith, q, c .before .before .before .before .before .before .before .before .before .before .before .before .pre .1 .3)) _ (c .before .before .before .before .before .before .before .leaf-row .ensures) (c .before .before .before .before .before .place .given .0 .0) (c .before .before .before .before .before .place .given .0 .1 .0) (c .before .before .before .before .before .place .given .1) in omega (arith, i .0))
+    (λ c.
+    let leaf-row = c .before .before .before .before .before .before .before .leaf-row in
+    let placed = c .before .before .before .before .before .place in
+    let own = leaf-in (leaf-row .ensures) (placed .given .1) in
+    omega (arith, own .0))
     -- returns
-    (λ c. as-refused (c .refused .ensures) (stopped-at (shape (tableOf (c .before .before .before .before .before .before .before .before .before .args .s .now))) (c .before .before .before .before .before .before .before .before .before .args .ty) _ (c .before .before .before .before .before .before .before .before .before .args .pos) (c .before .before .before .before .before .before .before .before .before .args .out .now) _ (c .before .before .before .before .before .before .before .before .before .args .row) (leaf-failed (shape (tableOf (c .before .before .before .before .before .before .before .before .before .args .s .now))) (c .before .before .before .before .before .before .before .before .before .args .source .now) (c .before .before .before .before .before .before .before .before .before .args .depth) (c .before .before .before .before .before .before .before .before .before .args .ty) (c .before .before .before .before .before .before .before .before .before .args .sheet .now) (c .before .before .before .before .before .before .before .before .before .args .row) (c .before .before .before .before .before .before .before .before .before .args .kind) (shape-kind (tableOf (c .before .before .before .before .before .before .before .before .before .args .s .now)) (c .before .before .before .before .before .before .before .before .before .args .ty) (c .before .before .before .before .before .before .before .before .before .args .kind) (c .before .before .before .before .before .before .before .before .before .pre .1 .1) (c .before .before .before .before .before .before .before .before .before .pre .1 .0) (c .before .before .before .before .before .before .before .before .before .pre .1 .2)) (λ q. omega (arith, q, c .before .before .before .before .before .before .before .before .before .pre .1 .3)) _ (c .before .before .before .before .leaf-row .ensures) _ (c .before .before .number .given .1))))
+    (λ c.
+    let args = c .before .before .before .before .before .before .before .before .before .args in
+    let asked = c .before .before .before .before .before .before .before .before .before .pre in
+    let T = tableOf (args .s .now) in
+    let S = shape T in
+    let kind = shape-kind T (args .ty) (args .kind) (asked .1 .1) (asked .1 .0) (asked .1 .2) in
+    let some : args .depth ≡ 0 → ⊥ = λ q. omega (arith, q, asked .1 .3) in
+    shown-refused _ _ _ _ (c .refused .ensures) (leaf-failed (c .before .before .before .before .leaf-row .ensures) S kind some (c .before .before .number .given .1)))
     -- same-length
     (λ c. c .before .before .put-content .kept .0)
     -- returns-2
-    (λ c. leaf-past (shape (tableOf (c .before .before .before .before .before .before .before .before .before .before .before .before .args .s .now))) (c .before .before .before .before .before .before .before .before .before .before .before .before .args .source .now) (c .before .before .before .before .before .before .before .before .before .before .before .before .args .depth) (c .before .before .before .before .before .before .before .before .before .before .before .before .args .ty) (c .before .before .before .before .before .before .before .before .before .before .before .before .args .sheet .now) (c .before .before .before .before .before .before .before .before .before .before .before .before .args .row) (c .before .before .before .before .before .before .before .before .before .before .before .before .args .kind) (shape-kind (tableOf (c .before .before .before .before .before .before .before .before .before .before .before .before .args .s .now)) (c .before .before .before .before .before .before .before .before .before .before .before .before .args .ty) (c .before .before .before .before .before .before .before .before .before .before .before .before .args .kind) (c .before .before .before .before .before .before .before .before .before .before .before .before .pre .1 .1) (c .before .before .before .before .before .before .before .before .before .before .before .before .pre .1 .0) (c .before .before .before .before .before .before .before .before .before .before .before .before .pre .1 .2)) (λ q. omega (arith, q, c .before .before .before .before .before .before .before .before .before .before .before .before .pre .1 .3)) _ (c .before .before .before .before .before .before .before .leaf-row .ensures) (c .before .before .before .before .before .place .given .0 .0) (c .before .before .before .before .before .place .given .0 .1 .0) (c .before .before .before .before .before .place .given .1) (c .before .before .before .before .before .before .before .before .before .before .before .before .args .pos) (c .before .before .before .before .before .before .before .before .before .before .before .before .args .out .now) _ _ (c .before .before .put-content .ensures)))
+    (λ c.
+    let args = c .before .before .before .before .before .before .before .before .before .before .before .before .args in
+    let asked = c .before .before .before .before .before .before .before .before .before .before .before .before .pre in
+    let leaf-row = c .before .before .before .before .before .before .before .leaf-row in
+    let placed = c .before .before .before .before .before .place in
+    let T = tableOf (args .s .now) in
+    let S = shape T in
+    let kind = shape-kind T (args .ty) (args .kind) (asked .1 .1) (asked .1 .0) (asked .1 .2) in
+    let some : args .depth ≡ 0 → ⊥ = λ q. omega (arith, q, asked .1 .3) in
+    leaf-past (leaf-row .ensures) S kind some (placed .given .1) (c .before .before .put-content .ensures)))

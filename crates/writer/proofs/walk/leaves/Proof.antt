@@ -10,14 +10,11 @@ use Rattle.schema.specs.Table.{shape}
 use Rattle.schema.specs.File.{tableOf}
 use Rattle.value.specs.Read.{plainItem, walk}
 use Rattle.value.specs.Write.{show}
-use Rattle.value.specs.Answer.{Accepted}
-use Rattle.parts.proofs.Tables.{shape-kind}
-use Rattle.parts.proofs.Walks.{deeper}
 use Rattle.parts.proofs.Items.{elements-none}
 use Rattle.writer.specs.Emit.{emitAll}
 use Rattle.writer.specs.Leaf.{rowsAt}
-use Rattle.writer.proofs.Steps.{was, as-stopped, accepted-along, walk-done, stopped-at, leaf-accepted}
-use Rattle.writer.proofs.Composites.{element-past, element-stop, element-accepted, leaf-failed, leaf-in, leaf-past}
+use Rattle.writer.proofs.Steps.{was, as-stopped, accepted-along, onward, walk-done}
+use Rattle.writer.proofs.Composites.{element-past, element-stop, element-accepted}
 use Rattle.writer.proofs.walk.leaves.Statement.{statement}
 use Rattle.writer.proofs.walk.leaves.Tie as tie
 
@@ -37,18 +34,28 @@ leaves-spec =
     Inv-loop
     μ-loop
     -- loop-holds
-    (λ c. (refl, c .before .before .before .before .pre .0 .inside, c .before .before .before .before .pre .0 .behind, refl))
+    (λ c.
+    let asked = c .before .before .before .before .pre in
+    (refl, asked .0 .inside, asked .0 .behind, refl))
     -- leaf-requires
     (λ c κs.
-    let pre = c .before .before .before .before .before .before .before .pre .0 in
-    let inv = c .before .before .loop .inv in
-    (record { good = pre .good; inside = inv .1; behind = inv .2; small = rw (inv .3) (pre .small); judged = λ j. element-accepted (shape (tableOf (c .before .before .before .before .before .before .before .args .s .now))) (show (shape (tableOf (c .before .before .before .before .before .before .before .args .s .now))) (c .before .before .before .before .before .before .before .args .source .now) (c .before .before .before .before .before .before .before .args .depth)) (c .before .before .before .before .before .before .before .args .elem) (c .before .before .loop .left) (c .before .loop-test .taken) (rowsAt (c .before .before .before .before .before .before .before .args .sheet .now) (c .before .before .loop .here)) (c .before .before .loop .to) (c .before .before .loop .out) (accepted-along (shape (tableOf (c .before .before .before .before .before .before .before .args .s .now))) _ _ _ _ _ _ _ _ (inv .0) (pre .judged j)) }, c .before .before .before .before .before .before .before .pre .1))
+    let turn = c .before .before in
+    let asked = turn .before .before .before .before .before .pre in
+    let inv = turn .loop .inv in
+    (onward (asked .0) (inv .1) (inv .2) (inv .3) (λ a. element-accepted _ _ (c .before .loop-test .taken) _ (accepted-along _ _ _ _ _ _ _ _ _ (turn .loop .inv .0) a)), asked .1))
     -- enum-known-number
     (λ c. search needs)
     -- same-length
-    (λ c. c .before .before .before .before .before .leaf .kept .1 .1 .1 .0 ∙ c .before .before .before .before .before .before .before .before .loop .inv .3)
+    (λ c.
+    let loop = c .before .before .before .before .before .before .before .before .loop in
+    let leaf = c .before .before .before .before .before .leaf in
+    leaf .kept .1 .1 .1 .0 ∙ loop .inv .3)
     -- returns
-    (λ c. as-stopped _ _ (element-stop (shape (tableOf (c .before .before .before .before .before .before .before .before .before .before .before .before .before .args .s .now))) (show (shape (tableOf (c .before .before .before .before .before .before .before .before .before .before .before .before .before .args .s .now))) (c .before .before .before .before .before .before .before .before .before .before .before .before .before .args .source .now) (c .before .before .before .before .before .before .before .before .before .before .before .before .before .args .depth)) (c .before .before .before .before .before .before .before .before .before .before .before .before .before .args .elem) (c .before .before .before .before .before .before .before .before .loop .left) (c .before .before .before .before .before .before .before .loop-test .taken) (rowsAt (c .before .before .before .before .before .before .before .before .before .before .before .before .before .args .sheet .now) (c .before .before .before .before .before .before .before .before .loop .here)) (c .before .before .before .before .before .before .before .before .loop .to) (c .before .before .before .before .before .before .before .before .loop .out) _ _ (was (c .before .before .before .before .before .leaf .ensures) (c .before .number .given .1) .same) ∙ c .before .before .before .before .before .before .before .before .loop .inv .0))
+    (λ c.
+    let loop = c .before .before .before .before .before .before .before .before .loop in
+    let loop-test = c .before .before .before .before .before .before .before .loop-test in
+    let leaf = c .before .before .before .before .before .leaf in
+    as-stopped (element-stop _ _ (loop-test .taken) _ _ _ _ (was (leaf .ensures) (c .before .number .given .1) .same) ∙ loop .inv .0))
     -- enum-known-row
     (λ c. search needs)
     -- sub-left
@@ -57,9 +64,21 @@ leaves-spec =
     (λ c. omega arith)
     -- loop-again
     (λ c.
-    let w = was (c .before .before .before .before .before .leaf .ensures) (c .before .row .given .1) in
-    (element-past (shape (tableOf (c .before .before .before .before .before .before .before .before .before .before .before .before .before .args .s .now))) (show (shape (tableOf (c .before .before .before .before .before .before .before .before .before .before .before .before .before .args .s .now))) (c .before .before .before .before .before .before .before .before .before .before .before .before .before .args .source .now) (c .before .before .before .before .before .before .before .before .before .before .before .before .before .args .depth)) (c .before .before .before .before .before .before .before .before .before .before .before .before .before .args .elem) (c .before .before .before .before .before .before .before .before .loop .left) (c .before .before .before .before .before .before .before .loop-test .taken) (rowsAt (c .before .before .before .before .before .before .before .before .before .before .before .before .before .args .sheet .now) (c .before .before .before .before .before .before .before .before .loop .here)) (c .before .before .before .before .before .before .before .before .loop .to) (c .before .before .before .before .before .before .before .before .loop .out) (rw (c .before .before .before .before .before .before .before .before .loop .inv .3) (c .before .before .before .before .before .before .before .before .before .before .before .before .before .pre .0 .small)) _ _ _ (w .same) ∙ c .before .before .before .before .before .before .before .before .loop .inv .0, w .within .0, w .within .1, c .before .before .before .before .before .leaf .kept .1 .1 .1 .0 ∙ c .before .before .before .before .before .before .before .before .loop .inv .3))
+    let turn = c .before .before .before .before .before .before .before .before in
+    let asked = turn .before .before .before .before .before .pre in
+    let loop-test = c .before .before .before .before .before .before .before .loop-test in
+    let leaf = c .before .before .before .before .before .leaf in
+    let small : length (turn .loop .out) ≤ 16384 = rw (turn .loop .inv .3) (asked .0 .small) in
+    let w = was (leaf .ensures) (c .before .row .given .1) in (
+      element-past _ _ (loop-test .taken) _ _ _ _ small (w .same) ∙ turn .loop .inv .0,
+      w .within .0,
+      w .within .1,
+      leaf .kept .1 .1 .1 .0 ∙ turn .loop .inv .3,
+    ))
     -- same-length-2
     (λ c. c .before .loop .inv .3)
     -- returns-2
-    (λ c. walk-done (shape (tableOf (c .before .before .before .before .before .before .args .s .now))) (show (shape (tableOf (c .before .before .before .before .before .before .args .s .now))) (c .before .before .before .before .before .before .args .source .now) (c .before .before .before .before .before .before .args .depth)) [] (replicate (c .before .loop .left) (plainItem (c .before .before .before .before .before .before .args .elem))) (c .before .before .before .before .before .before .args .sheet .now) (c .before .loop .here) (c .before .loop .to) (c .before .loop .out) _ (elements-none (c .before .before .before .before .before .before .args .elem) (c .before .loop .left) (c .loop-test .left)) (c .before .loop .inv .0) (c .before .loop .inv .1) (c .before .loop .inv .2)))
+    (λ c.
+    let args = c .before .before .before .before .before .before .args in
+    let inv = c .before .loop .inv in
+    walk-done _ _ _ (elements-none (args .elem) (c .before .loop .left) (c .loop-test .left)) (inv .0) (inv .1) (inv .2)))

@@ -1,0 +1,127 @@
+// The keys of a map, kept while its pairs are walked: their digests in the first half of a slice of numbers, where they stand in the second.
+use std::num::wrapping_add_usize;
+use wire::little::number;
+ghost use mathlib.Core.Path.{_≡_};
+ghost use mathlib.Core.Bool.{true, false};
+ghost use mathlib.Core.List.{_∷_};
+ghost use Prim.Native.Nat.{_+_, _/_, _%_, _≤_, _<_};
+ghost use lib.ListN.{length};
+ghost use Rattle.value.specs.Read.{same, among};
+ghost use Rattle.value.specs.Write.{span};
+ghost use Rattle.parts.specs.Keys.{mixed, digest, holds, whereIs, keyAt, keysIn, Kept};
+
+// Nine times a digest, and a word more.
+fn mix(d: usize, w: usize) -> usize
+    ensures { λ r. ⌜ r ≡ mixed d w ⌝ }
+{
+    wrapping_add_usize(wrapping_add_usize(d << 3, d), w)
+}
+
+// The digest of the n bytes at a place, by words of eight bytes; where nothing is judged, any number.
+fn digest_of(s: &[u8], place: usize, n: usize, judge: bool) -> usize
+    requires { ⌜ place + n ≤ length (now s) ⌝ }
+    ensures { λ r. ⌜ (judge ≡ true → r ≡ digest (span (now (s .entry)) place n)) ⌝ }
+{
+    if !judge {
+        return 0;
+    }
+    let words = n / 8;
+    let mut d: usize = 0;
+    let mut i = 0;
+    while i < words {
+        d = mix(d, number(s, place + 8 * i, 8) as usize);
+        i = i + 1;
+    }
+    mix(d, number(s, place + 8 * words, n % 8) as usize)
+}
+
+// Whether d is one of the first n digests. All are looked at: a loop without a way out compares several at a time.
+fn has_digest(keys: &[usize], n: usize, d: usize) -> bool
+    requires { ⌜ n ≤ length (now keys) ⌝ }
+    ensures { λ r. ⌜ r ≡ holds (now (keys .entry)) n d ⌝ }
+{
+    let mut found = false;
+    let mut i = 0;
+    while i < n {
+        found = found | (keys[i] == d);
+        i = i + 1;
+    }
+    found
+}
+
+// Two spans have the same bytes.
+fn is_same(s: &[u8], a: usize, n: usize, b: usize, m: usize) -> bool
+    requires { ⌜ (a + n ≤ length (now s)) × (b + m ≤ length (now s)) ⌝ }
+    ensures { λ r. ⌜ r ≡ same (span (now (s .entry)) a n) (span (now (s .entry)) b m) ⌝ }
+{
+    if n != m {
+        return false;
+    }
+    let mut i = 0;
+    while i < n {
+        if s[a + i] != s[b + i] {
+            return false;
+        }
+        i = i + 1;
+    }
+    true
+}
+
+// The n bytes at a place are the content of key j.
+fn is_key(s: &[u8], keys: &[usize], j: usize, place: usize, n: usize) -> bool
+    requires { ⌜ (j < length (now keys) / 2) × (whereIs (now keys) j / 4294967296 + whereIs (now keys) j % 4294967296 ≤ length (now s)) × (place + n ≤ length (now s)) ⌝ }
+    ensures { λ r. ⌜ r ≡ same (span (now (s .entry)) place n) (keyAt (now (s .entry)) (now (keys .entry)) j) ⌝ }
+{
+    let x = keys[keys.len() / 2 + j];
+    is_same(s, place, n, x / 4294967296, x % 4294967296)
+}
+
+// Whether the n bytes at a place, whose digest is d, are the content of one of the first held keys; where nothing is judged, they are known not to be.
+fn is_among(
+    s: &[u8],
+    keys: &[usize],
+    held: usize,
+    place: usize,
+    n: usize,
+    d: usize,
+    judge: bool,
+) -> bool
+    requires { ⌜ (held ≤ length (now keys) / 2) × (place + n ≤ length (now s)) × Kept (now s) (now keys) judge held ⌝ }
+    requires { ⌜ (judge ≡ true → d ≡ digest (span (now s) place n)) × (judge ≡ false → among (span (now s) place n) (keysIn (now s) (now keys) held) ≡ false) ⌝ }
+    ensures { λ r. ⌜ r ≡ among (span (now (s .entry)) place n) (keysIn (now (s .entry)) (now (keys .entry)) held) ⌝ }
+{
+    if !judge {
+        return false;
+    }
+    if !has_digest(keys, held, d) {
+        return false;
+    }
+    let mut j = held;
+    while 0 < j {
+        j = j - 1;
+        if is_key(s, keys, j, place, n) {
+            return true;
+        }
+    }
+    false
+}
+
+// Whether the n bytes at a place are the content of one of the first i keys; they are kept as the next. Where nothing is judged, they are known to be new.
+pub fn is_repeated(
+    s: &[u8],
+    keys: &mut [usize],
+    i: usize,
+    place: usize,
+    n: usize,
+    judge: bool,
+) -> bool
+    requires { ⌜ (i < length (now keys) / 2) × (place < 4294967296) × (n < 4294967296) × (place + n ≤ length (now s)) × Kept (now s) (now keys) judge i ⌝ }
+    requires { ⌜ (judge ≡ false → among (span (now s) place n) (keysIn (now s) (now keys) i) ≡ false) ⌝ }
+    ensures { λ r. ⌜ (r ≡ among (span (now (s .entry)) place n) (keysIn (now (s .entry)) (now (keys .entry)) i)) × (keysIn (now (s .entry)) (now (keys .exit)) (i + 1) ≡ span (now (s .entry)) place n ∷ keysIn (now (s .entry)) (now (keys .entry)) i) × Kept (now (s .entry)) (now (keys .exit)) judge (i + 1) ⌝ }
+{
+    let half = keys.len() / 2;
+    let d = digest_of(s, place, n, judge);
+    keys[half + i] = place * 4294967296 + n;
+    keys[i] = d;
+    is_among(s, keys, i, place, n, d, judge)
+}

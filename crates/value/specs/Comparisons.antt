@@ -1,0 +1,52 @@
+-- How many key comparisons are due in a value: each later key against each earlier key of its map, over all maps in it. No reader is mentioned.
+-- Assumes nothing.
+use mathlib.Core.List.{List, [], _∷_}
+use mathlib.Core.Bool.{cond}
+use Prim.Native.Nat.{ℕ, zero, suc, _+_}
+use lib.Dec.{ltb}
+use Rattle.schema.specs.Table.{Shape, unknown, scalar, text, array, map, struct}
+use Rattle.value.specs.declared.Row.{Row}
+use Rattle.value.specs.Value.{Value, leaf, node, Values, none, some}
+use Rattle.value.specs.Plan.{Item, plan}
+
+-- Of n keys: none for the first, one for the second, and so on.
+unfoldable pub due : ℕ → ℕ
+due zero = 0
+due (suc n) = n + due n
+
+-- Of a composite's own keys: a map has as many as pairs, no other composite has any.
+abbrev pub mapDue : Shape → (head : ℕ) → ℕ
+mapDue (map _ _) n = due n
+mapDue (array _) n = 0
+mapDue (struct _) m = 0
+mapDue unknown h = 0
+mapDue (scalar _) h = 0
+mapDue (text _) h = 0
+
+module _ (S : ℕ → Shape) where
+  -- In a value of type t, over all the maps in it.
+  unfoldable mutual
+    pub comparisons : Value → (t : ℕ) → ℕ
+    comparisons (leaf x) t = 0
+    comparisons (node h vs) t = mapDue (S t) h + comparisonsAll vs (plan (S t) h)
+
+    pub comparisonsAll : Values → List Item → ℕ
+    comparisonsAll none is = 0
+    comparisonsAll (some v vs) [] = 0
+    comparisonsAll (some v vs) (i ∷ is) = comparisons v (i .type) + comparisonsAll vs is
+
+  -- The same from rows: those of a map's type count its pairs.
+  unfoldable pub rowsDue : List Row → ℕ
+  rowsDue [] = 0
+  rowsDue (r ∷ rs) = mapDue (S (r .ty)) (r .count) + rowsDue rs
+
+-- ---- the same by counting
+
+-- The sum of f over the numbers below n.
+abbrev pub sum : (n : ℕ) → (ℕ → ℕ) → ℕ
+sum zero f = 0
+sum (suc n) f = sum n f + f n
+
+-- How many pairs of an earlier i and a later j there are among n.
+abbrev pub pairsAmong : (n : ℕ) → ℕ
+pairsAmong n = sum n (λ j. sum n (λ i. cond (ltb i j) 1 0))
