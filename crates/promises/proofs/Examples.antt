@@ -1,7 +1,8 @@
--- The worked pair of schema files: 01's table T, and T with an optional uint8 added to the struct inside the answer's array, or to the answer itself.
+-- The worked pair of schema files: 01's table T, and T with an optional uint8 added to the struct inside the answer's array, or to the answer itself;
+-- and P1 to P10 over the bytes of T's file.
 -- Assumes nothing.
-use mathlib.Core.Path.{_≡_, refl, ap, _∙_}
-use mathlib.Core.List.{List, [], _∷_}
+use mathlib.Core.Path.{_≡_, refl, ap, ap₂, _∙_}
+use mathlib.Core.List.{List, [], _∷_, map}
 use Prim.Native.Nat.{ℕ, _≤_}
 use lib.Count.{onesIn}
 use lib.ListN.{length}
@@ -22,21 +23,17 @@ use Rattle.value.specs.Value as value
 use Rattle.value.specs.Comparisons as comparisons
 use Rattle.value.specs.Read as read
 use Rattle.value.specs.Read.{Reading, refusal, accepted}
+use Rattle.value.specs.Sheet.{cellsOf}
 use Rattle.value.proofs.Reading.{accepts, accepted-of}
 use Rattle.value.proofs.Examples.{innerAdded, rootAdded}
 use Rattle.reader.specs.declared.Reading.the-variants.{Shown, Refused}
 use Rattle.reader.specs.Sheet.{shownIn}
 use Rattle.reader.specs.Entry.{outcome, outcomeOf, room, readOutcome}
+use Rattle.promises.specs.Cases.{Case, caseOf, Hold, P5, P6, lent, worked}
 use Rattle.promises.proofs.Entries.{read-by}
 
 abbrev row : ℕ → ℕ → ℕ → ℕ → Row
 row t p l n = record { ty = t; place = p; length = l; count = n }
-
-abbrev P5 : List ℕ
-P5 = 0x01 ∷ 0x02 ∷ 0x05 ∷ 0x00 ∷ 0x05 ∷ 0x01 ∷ 0x07 ∷ []
-
-abbrev P6 : List ℕ
-P6 = 0x05 ∷ 0x01 ∷ 0x01 ∷ 0x07 ∷ 0x09 ∷ []
 
 -- The rows of P5 by the new table; those of P6 by the new one, and by T.
 abbrev pub innerRows : List Row
@@ -122,3 +119,18 @@ module _ (sheet : List ℕ) where
 
   pub root-by-old : 4 ≤ room sheet → readOutcome file 4 P6 sheet ≡ outcome (Shown 4 4 1 0) (shownIn sheet knownRows)
   root-by-old h = by-rows file T P6 _ T-good T-rows (roomier T 4 P6 4 knownRows 4 1 0 (computed .3) (room sheet) h)
+
+-- ---- P1 to P10, over the bytes of T's file
+
+by-T : (sheet : List ℕ) (cases : List Case) → map (λ (c : Case). caseOf (c .payload) (readOutcome file 4 (c .payload) sheet)) cases
+    ≡ map (λ (c : Case). caseOf (c .payload) (outcomeOf sheet (read.read T 4 (c .payload) (room sheet)))) cases
+by-T sheet [] = refl
+by-T sheet (c ∷ cases) = ap₂ _∷_ (ap (caseOf (c .payload)) (by-rows sheet file T (c .payload) _ T-good T-rows refl)) (by-T sheet cases)
+
+worked-by-T : map (λ (c : Case). caseOf (c .payload) (outcomeOf lent (read.read T 4 (c .payload) (room lent)))) worked ≡ worked
+unfolding cellsOf read.read read.rootStruct read.ending onesIn read.parse read.walk read.bitmap read.count read.present read.complete
+    table.shape answer.andThen answer.check answer.block answer.varUInt little.little varuint.front varuint.groups utf8.run utf8.next utf8.leadOf utf8.rows value.rows value.value comparisons.comparisons
+worked-by-T = refl
+
+pub p1-to-p10 : Hold file 4 lent worked
+p1-to-p10 = by-T lent worked ∙ worked-by-T

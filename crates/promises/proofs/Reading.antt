@@ -1,6 +1,6 @@
 -- Demand 2, the reader: what `read` answers and leaves in the sheet.
 -- Assumes nothing.
-use mathlib.Core.Path.{_≡_, refl, sym, ap, _∙_}
+use mathlib.Core.Path.{_≡_, refl, sym, ap, ap₂, _∙_}
 use mathlib.Core.Logic.{_⊎_, inl, inr, _↔_}
 use mathlib.Core.List.{List}
 use mathlib.Core.Bool.{false}
@@ -17,20 +17,23 @@ use Rattle.schema.specs.File.{tableOf}
 use Rattle.schema.specs.Check.{checked, IsGood}
 use Rattle.schema.proofs.Goods.{good-table}
 use Rattle.value.specs.declared.Row.{Row}
-use Rattle.value.specs.Value.{Value, rows, size}
+use Rattle.value.specs.Value.{Tree, Value, leaf, node, rows, size}
 use Rattle.value.specs.Comparisons.{comparisons, rowsDue}
 use Rattle.value.specs.Read.{rootBits, unknownBits, refusal, accepted, read}
-use Rattle.value.specs.Fits.{Shows}
+use Rattle.value.specs.Fits.{RootFits, Shows}
+use Rattle.value.specs.Delimits.{RootDelimits}
 use Rattle.value.specs.Claims.{Rightful, Delimited}
 use Rattle.value.specs.Listed.{Listed}
+use Rattle.value.proofs.Shapes.{good-solid}
 use Rattle.value.proofs.Reading.{as-root, accepts}
+use Rattle.value.proofs.Determined.{determined}
 use Rattle.value.proofs.Statements as value
 use Rattle.reader.specs.declared.Reading.{Reading}
 use Rattle.reader.specs.declared.Reading.the-variants.{Shown, Refused}
 use Rattle.reader.specs.Sheet.{shownIn}
-use Rattle.reader.specs.Entry.{outcome, outcomeOf, room, byTable, readOutcome, payloadOutcome, Numbers, numbers}
+use Rattle.reader.specs.Entry.{Outcome, outcome, readingIn, sheetIn, outcomeOf, room, byTable, readOutcome, payloadOutcome, Numbers, numbers}
 use Rattle.reader.proofs.Entries.{read-within}
-use Rattle.promises.specs.Claims.{shapes, firstRows, ReadsAs}
+use Rattle.promises.specs.Claims.{shapes, firstRows, ReadsAs, AnswersAs}
 use Rattle.promises.proofs.Entries.{rows-back, shown-size, shown-good, shown-from, read-by, refused-from, reads-of, of-reads}
 
 -- A payload is accepted and shown as v exactly when it spells v within the limits and the rows fit into the sheet; the tail is what follows the known
@@ -64,6 +67,12 @@ rows-delimit s good ty payload sheet k place n c after = (
   where
     iff : (rs : List Row) → (read (tableOf s) ty payload (room sheet) ≡ accepted rs place n c) ↔ Delimited (shapes s) ty payload (room sheet) rs place n c
     iff rs = value.rows-delimit (tableOf s) (good-table s good) ty payload (room sheet) rs place n c
+
+-- A payload has one tree that fits it and delimits its bytes, up to one tail: the places are its own.
+pub placed-once : (s : List ℕ) → IsGood s → (ty : ℕ) (fs : List Field) (payload : List ℕ) (tree other : Tree) (end end′ : ℕ)
+    → RootFits (shapes s) payload ty fs tree → RootFits (shapes s) payload ty fs other
+    → RootDelimits (shapes s) payload fs tree end → RootDelimits (shapes s) payload fs other end′ → (tree ≡ other) × (end ≡ end′)
+placed-once s good ty fs payload = determined (shapes s) (good-solid (tableOf s) (good-table s good)) payload ty fs
 
 -- What is read has no tail exactly where no unknown bit of its root is set.
 pub tail-iff-unknown : (s : List ℕ) (ty : ℕ) (fs : List Field) → shapes s ty ≡ struct fs → (payload sheet : List ℕ) (k place n c : ℕ) (after : List ℕ)
@@ -136,3 +145,39 @@ shown-by-numbers (Refused m q) k place n c h e = absurd (omega (arith, ap (λ (x
 pub refused-by-numbers : (r : Reading) (m q : ℕ) → 0 < m → numbers r ≡ numbers (Refused m q) → r ≡ Refused m q
 refused-by-numbers (Shown k place n c) m q h e = absurd (omega (arith, ap (λ (x : Numbers). x .number) e))
 refused-by-numbers (Refused m′ q′) m q h e = cc (ap (λ (x : Numbers). x .number) e, ap (λ (x : Numbers). x .place) e)
+
+shown-answer : (o : Outcome) (r : Reading) → readingIn o ≡ r → o ≡ outcome r (sheetIn o)
+shown-answer (outcome r sheet) r′ e = ap (λ (x : Reading). outcome x sheet) e
+
+refused-answer : (o : Outcome) (m q : ℕ) → 0 < m → numbers (readingIn o) .number ≡ m → numbers (readingIn o) .place ≡ q → o ≡ outcome (Refused m q) (sheetIn o)
+refused-answer (outcome (Shown k place n c) after) m q h e f = absurd (omega (arith, e, h))
+refused-answer (outcome (Refused m′ q′) after) m q h e f = ap₂ (λ (i j : ℕ). outcome (Refused i j) after) e f
+
+some-values : (v : Value) → 0 < size v
+unfolding size
+some-values (leaf x) = omega arith
+some-values (node h vs) = omega arith
+
+-- A payload is answered with 0 and the numbers of v, and v is shown, exactly when the payload spells v within the limits and the rows fit into the sheet.
+pub zero-iff-spelled : (s : List ℕ) → IsGood s → (ty : ℕ) (fs : List Field) → shapes s ty ≡ struct fs → (payload sheet : List ℕ) (v : Value) (place n : ℕ)
+    → AnswersAs s ty fs payload sheet v place n ↔ Rightful (shapes s) ty fs payload (room sheet) v place n
+zero-iff-spelled s good ty fs st payload sheet v place n =
+    let iff = shown-iff-spelled s good ty fs st payload sheet v place n in (
+      λ (e, shows, l, d).
+          let o = readOutcome s ty payload sheet in
+          let r : readingIn o ≡ Shown (size v) place n (comparisons (shapes s) v ty) = shown-by-numbers (readingIn o) (size v) place n _ (some-values v) e in
+          iff .0 (sheetIn o, shown-answer o _ r, shows, l, d),
+      λ q. let (after, e, shows, l, d) = iff .1 q in rw e (refl, shows, l, d),
+    )
+
+-- The number m above 0 and the place q come back exactly for that refusal, which leaves the sheet as it was.
+pub number-iff-refused : (s : List ℕ) (ty : ℕ) (payload sheet : List ℕ) (m q : ℕ) → 0 < m
+    → (let told = numbers (readingIn (readOutcome s ty payload sheet)) in (told .number ≡ m) × (told .place ≡ q))
+    ↔ (readOutcome s ty payload sheet ≡ outcome (Refused m q) sheet)
+number-iff-refused s ty payload sheet m q h = (
+  λ (e, f).
+      let o = readOutcome s ty payload sheet in
+      let r = refused-answer o m q h e f in
+      r ∙ ap (outcome (Refused m q)) (refused-untouched s ty payload sheet m q (sheetIn o) r),
+  λ r. rw r (refl, refl),
+)

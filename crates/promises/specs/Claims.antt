@@ -11,16 +11,15 @@ use Rattle.schema.specs.declared.Field.{Field}
 use Rattle.schema.specs.Table.{Shape, shape}
 use Rattle.schema.specs.File.{tableOf}
 use Rattle.value.specs.declared.Row.{Row}
-use Rattle.value.specs.Answer.{Cursor, seen, cursorAt}
 use Rattle.value.specs.Value.{Tree, Value, value, size}
 use Rattle.value.specs.Comparisons.{comparisons}
-use Rattle.value.specs.Read.{rootStruct}
 use Rattle.value.specs.Sheet.{rowsOf}
-use Rattle.value.specs.Spell.{AllSpell, Spells}
-use Rattle.value.specs.Fits.{Shows}
+use Rattle.value.specs.Spell.{AllSpell, Spells, RootSpells}
+use Rattle.value.specs.Fits.{RootFits, Shows}
+use Rattle.value.specs.Delimits.{RootDelimits}
 use Rattle.value.specs.Added.{inner, firstAdded, rootCarries, without, addedItems, addedValues}
 use Rattle.reader.specs.declared.Reading.the-variants.{Shown, Refused}
-use Rattle.reader.specs.Entry.{outcome, room, readOutcome}
+use Rattle.reader.specs.Entry.{outcome, readingIn, sheetIn, room, readOutcome, numbers}
 
 -- The shapes of the types that a schema file holds.
 abbrev pub shapes : List ℕ → ℕ → Shape
@@ -39,26 +38,39 @@ ReadsAs schema ty fs payload sheet v place n =
     × (length after ≡ length sheet)
     × (drop (4 * size v) after ≡ drop (4 * size v) sheet)
 
+-- The same in 01's numbers: 0, as many rows as v has values, the tail, and the key comparisons of v.
+abbrev pub AnswersAs : (schema : List ℕ) (ty : ℕ) (fs : List Field) (payload sheet : List ℕ) → Value → (place n : ℕ) → Type 0
+AnswersAs schema ty fs payload sheet v place n =
+    let answer = readOutcome schema ty payload sheet in
+    (numbers (readingIn answer)
+    ≡ record { number = 0; place = 0; rows = size v; tailPlace = place; tailLength = n; comparisons = comparisons (shapes schema) v ty })
+    × Shows (shapes schema) payload ty fs (firstRows (size v) (sheetIn answer)) v
+    × (length (sheetIn answer) ≡ length sheet)
+    × (drop (4 * size v) (sheetIn answer) ≡ drop (4 * size v) sheet)
+
 -- ---- an old file and a new one that extends it: a root of type ty has the fields fs in the old one and fs ++ gs in the new one
 
 module _ (old new : List ℕ) (ty : ℕ) (fs gs : List Field) (payload sheet : List ℕ) (v : Value) where
   -- What the old reader answers where the new rules allow the payload as v: 26 at the place of the first inner struct that carries an added field.
-  -- Without one the payload is the bytes of what is known and then those of the added fields that the root carries, which are the tail, and the
-  -- reader shows the value without the added fields, or answers 30 where the sheet has too few rows for it.
+  -- Without one the payload is the bytes of what is known and then those of the added fields that the root carries. By the old rules it spells the value
+  -- without the added fields and ends in just those bytes, which are the tail; the reader shows that value, or answers 30 where the sheet has too few
+  -- rows for it.
   abbrev pub OldAnswers : (first : Option ℕ) → Type 0
   OldAnswers (some p) = readOutcome old ty payload sheet ≡ outcome (Refused 26 p) sheet
   OldAnswers none =
       (known : List ℕ) × (added : List ℕ)
       × (payload ≡ known ++ added)
+      × RootSpells (shapes old) fs (without (shapes old) v ty) payload added
       × AllSpell (Spells (shapes new) 15) (addedItems fs gs v) (addedValues fs v) added
       × (rootCarries fs v ≡ false → added ≡ [])
       × (size (without (shapes old) v ty) ≤ room sheet → ReadsAs old ty fs payload sheet (without (shapes old) v ty) (length known) (length added))
       × (room sheet < size (without (shapes old) v ty) → readOutcome old ty payload sheet ≡ outcome (Refused 30 0) sheet)
 
-  -- The same, with the tree of v by the new rules, which has the places.
+  -- The same, with the tree of v that has the places: by the new shapes it fits the payload and delimits its bytes up to the end.
   abbrev pub NewByOld : Type 0
   NewByOld =
-      (tree : Tree) × (end : Cursor) × (rootStruct (shapes new) ty (fs ++ gs) (cursorAt payload 0) ≡ seen tree end)
+      (tree : Tree) × RootFits (shapes new) payload ty (fs ++ gs) tree
+      × RootDelimits (shapes new) payload (fs ++ gs) tree (length payload)
       × (value tree ≡ v)
       × OldAnswers (firstAdded (inner (shapes old) tree ty))
       × ((p : ℕ) → (readOutcome old ty payload sheet ≡ outcome (Refused 26 p) sheet) ↔ (firstAdded (inner (shapes old) tree ty) ≡ some p))

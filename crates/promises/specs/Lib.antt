@@ -1,2 +1,3 @@
--- What the theorems claim.
+-- What the theorems claim, and the worked cases.
 pub mod Claims
+pub mod Cases
