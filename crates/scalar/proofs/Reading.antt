@@ -8,7 +8,9 @@ use native.Mathlib.Omega.{arith}
 use borrow.Author.Tests.{eq-eqb, le-leb, eqb-true, leb-true, ltb-true}
 use lib.Dec.{leb}
 use lib.ListN.{length}
+use Rattle.wire.specs.Utf8.{Utf8}
 use Rattle.wire.proofs.Cases.{cond-case}
+use Rattle.wire.proofs.Utf8s.{utf8-is}
 use Rattle.schema.specs.declared.Field.{Field}
 use Rattle.schema.specs.Table.{Table, Shape, unknown, scalar, text, array, map, struct, shape}
 use Rattle.value.specs.declared.Row.{Row}
@@ -36,7 +38,7 @@ module _ (bytes : List ℕ) (r : Row) where
       rw (eq-eqb (r .count) 0 (f .1), e) (number-told kind (r .place) (r .length) bytes (f .0) (le-leb _ _ (f .2 .0)) (rw e at (f .3)))
   fits-shown (text kind) x f =
       let e = f .1 .1 in
-      (rw (eq-eqb (r .count) 0 (f .0)) (text-is kind (r .place) (r .length) bytes (le-leb _ _ (f .1 .0)) (rw e at (f .2))), sym e)
+      (rw (eq-eqb (r .count) 0 (f .0)) (text-is kind (r .place) (r .length) bytes (le-leb _ _ (f .1 .0)) (λ h. utf8-is _ .1 (subst Utf8 e (f .2 h)))), sym e)
   fits-shown unknown x f = f
   fits-shown (array _) x f = f
   fits-shown (map _ _) x f = f
@@ -61,7 +63,7 @@ module _ (bytes : List ℕ) (r : Row) where
       let a = passed _ _ _ _ e in
       let b = passed _ _ _ _ (a .1) in
       let c = passed _ _ _ _ (b .1) in
-      (eqb-true _ _ (a .0), (leb-true _ _ (b .0), refl), asked 12 kind _ (c .0))
+      (eqb-true _ _ (a .0), (leb-true _ _ (b .0), refl), λ h. utf8-is _ .0 (asked 12 kind _ (c .0) h))
   shown-fits unknown e = absurd (omega arith)
   shown-fits (array _) e = absurd (omega arith)
   shown-fits (map _ _) e = absurd (omega arith)

@@ -12,6 +12,7 @@ use borrow.Author.Tests.{lt-ltb, le-leb, eqb-true}
 use Rattle.wire.specs.Varuint.{front, Spelled}
 use Rattle.wire.specs.declared.varuint.VarUInt.the-variants.{Number}
 use Rattle.wire.proofs.Varuints.{spelled-reads, spelled-pos}
+use Rattle.wire.proofs.Utf8s.{utf8-is}
 use Rattle.schema.specs.declared.Field.{Field}
 use Rattle.schema.specs.Table.{Shape, unknown, scalar, text, array, map, struct, bitmapBytes}
 use Rattle.value.specs.Answer.{Cursor, seen, Reader, andThen, check, block, varUInt}
@@ -94,7 +95,7 @@ leaf-complete (scalar kind) x u rest c q e =
     (goes _ (passes _ _ _ _ (asks 1 kind _ (λ h. lt-ltb _ 2 (q .2 h)))) (gives (refl, refl)))
 leaf-complete (text kind) x u rest c q e =
     goes _ (count-complete _ (length x) (q .0) (x ++ rest) c (q .2) (e ∙ rw (q .1, append-assoc)) (simp length-append (omega arith)))
-    (goes _ (block-complete _ x rest _ refl refl) (goes _ (passes _ _ _ _ (asks 12 kind _ (q .3))) (gives (refl, refl))))
+    (goes _ (block-complete _ x rest _ refl refl) (goes _ (passes _ _ _ _ (asks 12 kind _ (λ k. utf8-is x .1 (q .3 k)))) (gives (refl, refl))))
 leaf-complete unknown x u rest c q e = absurd q
 leaf-complete (array _) x u rest c q e = absurd q
 leaf-complete (map _ _) x u rest c q e = absurd q

@@ -7,6 +7,7 @@ use native.Mathlib.Omega.{arith}
 use lib.ListN.{length, drop, length-append, length-drop}
 use lib.Seq.{take-append-seam, drop-append-seam, drop-drop}
 use borrow.Author.Tests.{ltb-true, leb-true, not-true}
+use Rattle.wire.proofs.Utf8s.{utf8-is}
 use Rattle.schema.specs.declared.Field.{Field}
 use Rattle.schema.specs.Table.{Shape, unknown, scalar, text, array, map, struct}
 use Rattle.value.specs.Answer.{Cursor, Answer, Reader, block}
@@ -67,7 +68,7 @@ module _ (B : List ℕ) where
   own-placed (text kind) c o =
       seen-after (count-placed _ c o) (λ n c₁ o₁. seen-after (block-placed n c₁ o₁) (λ x c′ w. seen-check _ _ _ _ _ (λ e.
       let p : c′ .at - length x ≡ c₁ .at = omega arith in
-      holds (w .0, (refl, rw (p, w .2) (w .3), asked 12 kind _ e)))))
+      holds (w .0, (refl, rw (p, w .2) (w .3), λ k. utf8-is _ .0 (asked 12 kind _ e k))))))
   own-placed (array e) c o = seen-after (count-placed _ c o) (λ n c₁ o₁. holds (o₁, refl))
   own-placed (map a b) c o = seen-after (count-placed _ c o) (λ n c₁ o₁. seen-check _ _ _ _ _ (λ e. holds (o₁, (refl, leb-true n _ e))))
   own-placed (struct fs) c o =

@@ -7,6 +7,7 @@ use Prim.Native.Nat.{ℕ, zero, suc, _+_}
 use lib.ListN.{length}
 use borrow.Author.Tests.{ltb-true, lt-ltb, leb-true, le-leb, eqb-true, eq-eqb, not-true}
 use Rattle.wire.proofs.Cases.{nothing-left}
+use Rattle.wire.proofs.Utf8s.{utf8-is}
 use Rattle.schema.specs.declared.Field.{Field}
 use Rattle.schema.specs.Table.{Shape, unknown, scalar, text, array, map, struct}
 use Rattle.value.specs.declared.Row.{Row}
@@ -59,7 +60,7 @@ module _ (B : List ℕ) (k : ℕ) where
       stay (refl, (eqb-true _ _ (b .0), eqb-true _ 0 (b .1), (leb-true _ _ e′, refl), λ h. ltb-true _ 2 (asked 1 kind _ e″ h))))))
   says-reads (text kind) p n count c =
       reads-check _ _ _ _ _ (λ e. reads-check _ _ _ _ _ (λ e′. reads-check _ _ _ _ _ (λ e″.
-      stay (refl, (eqb-true _ 0 e, (leb-true _ _ e′, refl), asked 12 kind _ e″)))))
+      stay (refl, (eqb-true _ 0 e, (leb-true _ _ e′, refl), λ h. utf8-is _ .0 (asked 12 kind _ e″ h))))))
   says-reads (array e) p n count c = stay (refl, refl)
   says-reads (map a b) p n count c = reads-check _ _ _ _ _ (λ e. stay (refl, (refl, leb-true count _ e)))
   says-reads (struct fs) p n count c =
@@ -107,7 +108,7 @@ module _ (B : List ℕ) (k : ℕ) where
   leaf-says (scalar kind) p n count x c q =
       rw (passes _ _ _ _ (both-true _ _ (eq-eqb _ _ (q .0)) (eq-eqb _ 0 (q .1))), passes _ _ _ _ (le-leb _ _ (q .2 .0)), ← q .2 .1, passes _ _ _ _ (asks 1 kind _ (λ h. lt-ltb _ 2 (q .3 h))))
   leaf-says (text kind) p n count x c q =
-      rw (passes _ _ _ _ (eq-eqb _ 0 (q .0)), passes _ _ _ _ (le-leb _ _ (q .1 .0)), ← q .1 .1, passes _ _ _ _ (asks 12 kind _ (q .2)))
+      rw (passes _ _ _ _ (eq-eqb _ 0 (q .0)), passes _ _ _ _ (le-leb _ _ (q .1 .0)), ← q .1 .1, passes _ _ _ _ (asks 12 kind _ (λ h. utf8-is _ .1 (q .2 h))))
   leaf-says unknown p n count x c q = absurd q
   leaf-says (array _) p n count x c q = absurd q
   leaf-says (map _ _) p n count x c q = absurd q

@@ -13,6 +13,7 @@ use Rattle.wire.specs.Varuint.{front, Spelled}
 use Rattle.wire.specs.declared.varuint.VarUInt.{VarUInt}
 use Rattle.wire.specs.declared.varuint.VarUInt.the-variants.{Number, Cut, Malformed}
 use Rattle.wire.proofs.Varuints.{read-spelled}
+use Rattle.wire.proofs.Utf8s.{utf8-is}
 use Rattle.schema.specs.declared.Field.{Field}
 use Rattle.schema.specs.Table.{Shape, unknown, scalar, text, array, map, struct}
 use Rattle.value.specs.Answer.{Cursor, Reader, numberAt, block, varUInt}
@@ -71,7 +72,7 @@ own-reads (scalar kind) c =
     stay (rw (append-nil, q .0) (refl, q .1, λ k. ltb-true _ 2 (asked 1 kind _ e k)))))
 own-reads (text kind) c =
     reads-then (count-reads _ c) (λ n c′ v s. reads-then (block-reads n c′) (λ x c″ u q. reads-check _ _ _ _ _ (λ e.
-    stay (v, rw (append-nil, q .0), rw (q .1) s, asked 12 kind _ e))))
+    stay (v, rw (append-nil, q .0), rw (q .1) s, λ k. utf8-is _ .0 (asked 12 kind _ e k)))))
 own-reads (array e) c = reads-then (count-reads _ c) (λ n c′ u s. stay (rw append-nil s))
 own-reads (map k v) c = reads-then (count-reads _ c) (λ n c′ u s. reads-check _ _ _ _ _ (λ e. stay (rw append-nil (s, leb-true n _ e))))
 own-reads (struct fs) c =

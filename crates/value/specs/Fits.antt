@@ -6,7 +6,7 @@ use mathlib.Core.Bool.{true}
 use Prim.Native.Nat.{ℕ, zero, suc, _+_, _^_, _≤_, _<_}
 use lib.ListN.{length}
 use Rattle.wire.specs.Little.{little}
-use Rattle.wire.specs.Utf8.{utf8}
+use Rattle.wire.specs.Utf8.{Utf8}
 use Rattle.schema.specs.declared.Field.{Field}
 use Rattle.schema.specs.Table.{Shape, unknown, scalar, text, array, map, struct, width, bitmapBytes}
 use Rattle.value.specs.declared.Row.{Row}
@@ -24,7 +24,7 @@ Spans B p n x = (p + n ≤ length B) × (x ≡ span B p n)
 -- The row of a scalar, a string or bytes, by its place, length and count, shows the content x.
 abbrev pub LeafFits : List ℕ → Shape → (place n count : ℕ) → List ℕ → Type 0
 LeafFits B (scalar kind) p n c x = (n ≡ width kind) × (c ≡ 0) × Spans B p n x × (kind ≡ 1 → little x < 2)
-LeafFits B (text kind) p n c x = (c ≡ 0) × Spans B p n x × (kind ≡ 12 → utf8 x ≡ true)
+LeafFits B (text kind) p n c x = (c ≡ 0) × Spans B p n x × (kind ≡ 12 → Utf8 x)
 LeafFits B unknown p n c x = ⊥
 LeafFits B (array _) p n c x = ⊥
 LeafFits B (map _ _) p n c x = ⊥

@@ -7,7 +7,7 @@ use Prim.Native.Nat.{ℕ, zero, suc, _*_, _^_, _≤_, _<_}
 use lib.ListN.{length, getD}
 use Rattle.wire.specs.Varuint.{Spelled, varuintBytes}
 use Rattle.wire.specs.Little.{little, bytes}
-use Rattle.wire.specs.Utf8.{utf8}
+use Rattle.wire.specs.Utf8.{Utf8}
 use Rattle.schema.specs.declared.Field.{Field}
 use Rattle.schema.specs.Table.{Shape, unknown, scalar, text, array, map, struct, width, bitmapBytes}
 use Rattle.value.specs.Value.{Value, leaf, node, Values, none, some, content}
@@ -18,7 +18,7 @@ use Rattle.value.specs.Read.{Item, plan, complete, withKey, knownBits, u
 -- The bytes of a scalar, a string or bytes with the content x.
 abbrev pub LeafSpells : Shape → (x bs : List ℕ) → Type 0
 LeafSpells (scalar kind) x bs = (bs ≡ x) × (length x ≡ width kind) × (kind ≡ 1 → little x < 2)
-LeafSpells (text kind) x bs = (n : List ℕ) × (bs ≡ n ++ x) × Spelled (length x) n × (kind ≡ 12 → utf8 x ≡ true)
+LeafSpells (text kind) x bs = (n : List ℕ) × (bs ≡ n ++ x) × Spelled (length x) n × (kind ≡ 12 → Utf8 x)
 LeafSpells unknown x bs = ⊥
 LeafSpells (array _) x bs = ⊥
 LeafSpells (map _ _) x bs = ⊥

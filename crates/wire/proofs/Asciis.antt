@@ -1,20 +1,20 @@
--- Characters of one byte: laws of `ascii` of `specs/Utf8.antt`, over any number of bytes.
+-- Characters of the row UTF8-1: laws of `ascii` of `specs/Utf8.antt`, over any number of bytes.
 -- Assumes nothing.
 use mathlib.Core.Path.{_≡_, refl, sym, ap, ap₂, subst, _∙_}
-use mathlib.Core.Bool.{Bool, false, _&&_, not, and-true, and-false}
-use mathlib.Core.List.{List, [], _∷_}
+use mathlib.Core.Bool.{Bool, true, false, _&&_, not, and-true, and-false}
+use mathlib.Core.List.{List, [], _∷_, _++_}
 use Prim.Native.Nat.{ℕ, zero, suc, _+_, _-_, _*_, _^_, _<_, _≤_}
 use native.Mathlib.Nat.{suc-inj, zero-add}
 use native.Mathlib.Decide.{decLt}
 use native.Mathlib.Omega.{arith}
-use borrow.Author.Tests.{eq-eqb, ne-eqb, lt-ltb, le-ltb, not-false}
+use borrow.Author.Tests.{eq-eqb, ne-eqb, le-leb, lt-leb, not-false}
 use lib.Bits.{bitAnd, and-comm, and-shifted, and-block}
-use lib.Dec.{T, eqb, ltb, lit<}
-use lib.ListN.{length, getD, take, drop, take-append-drop}
-use lib.Seq.{slice, take-take, drop-drop, drop-cons}
+use lib.Dec.{T, eqb, leb, lit<}
+use lib.ListN.{length, getD, take, drop}
+use lib.Seq.{slice, drop-cons}
 use Rattle.wire.specs.Little.{little, Bytes}
-use Rattle.wire.specs.Utf8.{utf8, ascii}
-use Rattle.wire.proofs.Utf8s.{ascii-skip}
+use Rattle.wire.specs.Utf8.{rows, rowAt, In, matches, isChar, utf8, ascii}
+use Rattle.wire.proofs.Utf8s.{and-both, both-and, row-mem, run-char, part-pass}
 
 -- ---- the top bits of n bytes, as one number
 
@@ -22,14 +22,16 @@ abbrev pub tops : ℕ → ℕ
 tops zero = 0
 tops (suc n) = 128 + 256 * tops n
 
-top-bit : (b : ℕ) → b < 256 → eqb (bitAnd b 128) 0 ≡ ltb b 128
+-- the top bit is not set exactly in the bytes of the row UTF8-1
+top-bit : (b : ℕ) → b < 256 → eqb (bitAnd b 128) 0 ≡ isChar (rowAt 0) (b ∷ [])
+unfolding rows matches
 top-bit b h = elim (decLt b 128) [
-  | yes l ↦ eq-eqb (bitAnd b 128) 0 (and-comm b 128 ∙ and-shifted 1 7 b l) ∙ sym (lt-ltb b 128 l)
+  | yes l ↦ eq-eqb (bitAnd b 128) 0 (and-comm b 128 ∙ and-shifted 1 7 b l) ∙ sym (rw (le-leb 0 b (omega arith), le-leb b 0x7F (omega arith)))
   | no n ↦
       let r = b - 128 in
       let is : b ≡ 1 * 2 ^ 7 + r = omega arith in
       let set : bitAnd b 128 ≡ 1 * 2 ^ 7 + bitAnd r 0 = ap (λ (x : ℕ). bitAnd x 128) is ∙ and-block 7 1 1 r 0 (omega arith) (lit< tt) in
-      ne-eqb (bitAnd b 128) 0 (λ z. omega arith) ∙ sym (le-ltb b 128 (omega arith))
+      ne-eqb (bitAnd b 128) 0 (λ z. omega arith) ∙ sym (rw (lt-leb b 0x7F (omega arith), and-false (leb 0 b)))
 ]
 
 zero-sum : (x y : ℕ) → eqb (x * 2 ^ 8 + y) 0 ≡ eqb y 0 && eqb x 0
@@ -50,25 +52,23 @@ tops-ascii (suc n) (b ∷ s) h e =
 
 -- ---- a part of ASCII in front is passed
 
-part : (k i t : ℕ) (l : List ℕ) → i + k ≤ t → take k (slice i t l) ≡ take k (drop i l)
-part k zero t l h = take-take k t l (omega arith)
-part k (suc i) zero l h = absurd (omega arith)
-part k (suc i) (suc t) [] h = refl
-part k (suc i) (suc t) (x ∷ l) h = part k i t l (omega arith)
-
-pub ascii-pass : (s : List ℕ) (i k to : ℕ) → i + k ≤ to → T (ascii (take k (drop i s))) → utf8 (slice (i + k) to s) ≡ utf8 (slice i to s)
-ascii-pass s i k to h t =
-    let l = slice i to s in
-    sym (ap utf8 (sym (take-append-drop k l)) ∙ ascii-skip (take k l) (drop k l) (rw (part k i to s h) t) ∙ ap utf8 (drop-drop k i (take to s)))
+ascii-skip : (c s : List ℕ) → T (ascii c) → utf8 (c ++ s) ≡ utf8 s
+unfolding ascii
+ascii-skip [] s t = refl
+ascii-skip (b ∷ c) s t =
+    let both = and-both (isChar (rowAt 0) (b ∷ [])) (ascii c) t in
+    run-char (rowAt 0) (b ∷ []) (c ++ s) (row-mem 0 (rowAt 0) (lit< tt) refl) (both .0) ∙ ascii-skip c s (both .1)
 
 -- a word that the test r found to be ASCII
 pub word-pass : (s : List ℕ) (i next to : ℕ) (r : Bool) → next ≡ i + 8 → next ≤ to → r ≡ ascii (take 8 (drop i s)) → not r ≡ false
     → utf8 (slice next to s) ≡ utf8 (slice i to s)
 word-pass s i next to r e l is t =
-    ap (λ (j : ℕ). utf8 (slice j to s)) e ∙ ascii-pass s i 8 to (omega arith) (subst T (sym (not-false r t) ∙ is) tt)
+    ap (λ (j : ℕ). utf8 (slice j to s)) e ∙ part-pass s i 8 to (omega arith) (λ u. ascii-skip (take 8 (drop i s)) u (subst T (sym (not-false r t) ∙ is) tt))
 
-pub byte-pass : (s : List ℕ) (i to : ℕ) → i < to → to ≤ length s → getD s i 0 < 0x80 → utf8 (slice (i + 1) to s) ≡ utf8 (slice i to s)
-unfolding ascii
-byte-pass s i to l h b =
+-- and a byte
+pub byte-pass : (s : List ℕ) (i to : ℕ) → i < to → to ≤ length s → In (rowAt 0 .1) (getD s i 0) ≡ true → utf8 (slice (i + 1) to s) ≡ utf8 (slice i to s)
+unfolding rows matches
+byte-pass s i to l h is =
     let inside : i < length s = omega arith in
-    ascii-pass s i 1 to (omega arith) (rw (drop-cons s i 0 inside, lt-ltb (getD s i 0) 0x80 b) tt)
+    part-pass s i 1 to (omega arith)
+    (λ t. rw (drop-cons s i 0 inside) (run-char (rowAt 0) (getD s i 0 ∷ []) t (row-mem 0 (rowAt 0) (lit< tt) refl) (both-and (In (rowAt 0 .1) (getD s i 0)) true (subst T (sym is) tt) tt)))

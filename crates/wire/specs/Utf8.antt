@@ -1,43 +1,64 @@
--- UTF-8 by RFC 3629: the table of section 4, what it allows, and the test that goes through the bytes one by one.
-use Prim.Native.Nat.{ℕ, zero, suc}
+-- UTF-8 by RFC 3629: the table of its section 4, what the table allows, and the test that goes through the bytes one by one.
+use Prim.Native.Nat.{ℕ}
 use mathlib.Core.List.{List, [], _∷_, _++_, List·Memᴰ}
 use mathlib.Core.Bool.{Bool, true, false, _&&_, cond}
-use lib.Dec.{T, leb, ltb, eqb}
+use lib.Dec.{T, leb}
+use lib.ListN.{getD, take, drop}
+use Rattle.wire.specs.declared.utf8.Range.{Range}
 use Rattle.wire.specs.declared.utf8.Row.{Row}
-use Rattle.wire.specs.declared.utf8.Step.{Step}
-use Rattle.wire.specs.declared.utf8.Step.the-variants.{Due, Bad}
 
-abbrev row : ℕ → ℕ → ℕ → ℕ → ℕ → Row
-row low high more first last = record { 0 = low; 1 = high; 2 = more; 3 = first; 4 = last }
+-- a range of bytes: the lowest and the highest
+abbrev pub range : ℕ → ℕ → Range
+range low high = record { 0 = low; 1 = high }
 
--- the lead byte's range, how many bytes follow it, and the range of the first of them
+-- a row: how many bytes a character has, and the range of each, the lead byte's first
+abbrev pub row : ℕ → Range → Range → Range → Range → Row
+row n lead second third fourth = record { 0 = n; 1 = lead; 2 = second; 3 = third; 4 = fourth }
+
+-- UTF8-tail = %x80-BF
+abbrev pub tail : Range
+tail = range 0x80 0xBF
+
+-- no byte is in it
+abbrev pub empty : Range
+empty = range 0x01 0x00
+
 unfoldable pub rows : List Row
 rows =
-    row 0x00 0x7F 0 0x80 0xBF
-    ∷ row 0xC2 0xDF 1 0x80 0xBF
-    ∷ row 0xE0 0xE0 2 0xA0 0xBF
-    ∷ row 0xE1 0xEC 2 0x80 0xBF
-    ∷ row 0xED 0xED 2 0x80 0x9F
-    ∷ row 0xEE 0xEF 2 0x80 0xBF
-    ∷ row 0xF0 0xF0 3 0x90 0xBF
-    ∷ row 0xF1 0xF3 3 0x80 0xBF
-    ∷ row 0xF4 0xF4 3 0x80 0x8F
+    -- UTF8-1 = %x00-7F
+    row 1 (range 0x00 0x7F) empty empty empty
+    -- UTF8-2 = %xC2-DF UTF8-tail
+    ∷ row 2 (range 0xC2 0xDF) tail empty empty
+    -- UTF8-3 = %xE0 %xA0-BF UTF8-tail / %xE1-EC 2( UTF8-tail ) / %xED %x80-9F UTF8-tail / %xEE-EF 2( UTF8-tail )
+    ∷ row 3 (range 0xE0 0xE0) (range 0xA0 0xBF) tail empty
+    ∷ row 3 (range 0xE1 0xEC) tail tail empty
+    ∷ row 3 (range 0xED 0xED) (range 0x80 0x9F) tail empty
+    ∷ row 3 (range 0xEE 0xEF) tail tail empty
+    -- UTF8-4 = %xF0 %x90-BF 2( UTF8-tail ) / %xF1-F3 3( UTF8-tail ) / %xF4 %x80-8F 2( UTF8-tail )
+    ∷ row 4 (range 0xF0 0xF0) (range 0x90 0xBF) tail tail
+    ∷ row 4 (range 0xF1 0xF3) tail tail tail
+    ∷ row 4 (range 0xF4 0xF4) (range 0x80 0x8F) tail tail
     ∷ []
 
 -- ---- the definition: the bytes split into characters, each of a row of the table
 
--- c follows a lead byte: n bytes, the first in low to high, and each after it in 80 to BF
-unfoldable pub follows : ℕ → ℕ → ℕ → List ℕ → Bool
-follows zero low high [] = true
-follows zero low high (b ∷ c) = false
-follows (suc n) low high [] = false
-follows (suc n) low high (b ∷ c) = (leb low b && leb b high) && follows n 0x80 0xBF c
+abbrev pub In : Range → ℕ → Bool
+In g b = leb (g .0) b && leb b (g .1)
+
+-- the ranges of a row's bytes
+abbrev pub ranges : Row → List Range
+ranges r = take (r .0) (r .1 ∷ r .2 ∷ r .3 ∷ r .4 ∷ [])
+
+-- as many bytes as ranges, each in its own
+unfoldable pub matches : List Range → List ℕ → Bool
+matches [] [] = true
+matches [] (b ∷ c) = false
+matches (g ∷ gs) [] = false
+matches (g ∷ gs) (b ∷ c) = In g b && matches gs c
 
 -- c is a character of the row r
-unfoldable pub isChar : Row → List ℕ → Bool
-unfolding follows
-isChar r [] = false
-isChar r (b ∷ c) = (leb (r .0) b && leb b (r .1)) && follows (r .2) (r .3) (r .4) c
+abbrev pub isChar : Row → List ℕ → Bool
+isChar r c = matches (ranges r) c
 
 -- s is the characters cs, one after the other
 pub data Split : List (List ℕ) → List ℕ → Type 0 where
@@ -49,27 +70,30 @@ Utf8 s = (cs : List (List ℕ)) × Split cs s
 
 -- ---- the test
 
--- what a lead byte makes due
-unfoldable pub leadOf : ℕ → List Row → Step
-leadOf b [] = Bad
-leadOf b (r ∷ rs) = cond (leb (r .0) b && leb b (r .1)) (Due (r .2) (r .3) (r .4)) (leadOf b rs)
+-- the ranges of the bytes due after the lead byte b, by the first row that has it; where none has it, no byte will do
+unfoldable pub leadOf : ℕ → List Row → List Range
+leadOf b [] = empty ∷ []
+leadOf b (r ∷ rs) = cond (In (r .1) b) (drop 1 (ranges r)) (leadOf b rs)
 
--- what is due after the byte b, where n bytes were
-unfoldable pub next : ℕ → ℕ → ℕ → ℕ → Step
-next zero low high b = leadOf b rows
-next (suc n) low high b = cond (leb low b && leb b high) (Due n 0x80 0xBF) Bad
+unfoldable pub next : ℕ → List Range
+next b = leadOf b rows
 
-unfoldable pub run : Step → List ℕ → Bool
-run Bad [] = false
-run Bad (b ∷ s) = false
-run (Due n low high) [] = eqb n 0
-run (Due n low high) (b ∷ s) = run (next n low high b) s
+-- whether s is bytes in the ranges due, and then characters
+unfoldable pub run : List Range → List ℕ → Bool
+run [] [] = true
+run [] (b ∷ s) = run (next b) s
+run (g ∷ gs) [] = false
+run (g ∷ gs) (b ∷ s) = In g b && run gs s
 
 -- whether s is UTF-8
 abbrev pub utf8 : List ℕ → Bool
-utf8 s = run (Due 0 0x80 0xBF) s
+utf8 s = run [] s
 
--- whether s has only characters of one byte
+-- the row at a place of the table; past its end, one of no bytes
+abbrev pub rowAt : ℕ → Row
+rowAt k = let no = range 0 0 in getD rows k (row 0 no no no no)
+
+-- whether s has only characters of the row UTF8-1
 unfoldable pub ascii : List ℕ → Bool
 ascii [] = true
-ascii (b ∷ s) = ltb b 0x80 && ascii s
+ascii (b ∷ s) = isChar (rowAt 0) (b ∷ []) && ascii s

@@ -1,84 +1,106 @@
-// UTF-8 by RFC 3629, character by character over the table of its section 4.
+// UTF-8 by RFC 3629, over the table of its section 4.
 use crate::little::number;
 ghost use mathlib.Core.Path.{_≡_};
-ghost use mathlib.Core.Bool.{_&&_};
-ghost use Prim.Native.Nat.{_+_, _≤_};
-ghost use lib.Dec.{leb};
+ghost use mathlib.Core.Bool.{false};
+ghost use mathlib.Core.List.{[], _∷_, List·Memᴰ};
+ghost use Prim.Native.Nat.{_+_, _<_, _≤_};
 ghost use lib.ListN.{length, take, drop};
 ghost use lib.Seq.{slice};
-ghost use Rattle.wire.specs.Utf8.{leadOf, rows, follows, utf8, ascii};
+ghost use Rattle.wire.specs.Utf8.{rows, In, isChar, leadOf, next, utf8, ascii};
 
-// A row of the RFC's table: the range of the lead byte, the number of bytes that follow it, and the range of the first of these.
-// Those after that are in 80 to BF.
-pub struct Row(pub u8, pub u8, pub u8, pub u8, pub u8);
+// A range of bytes: the lowest and the highest.
+pub struct Range(pub u8, pub u8);
 
-// What is due after a byte: `left` bytes, the next of them in low to high.
-pub enum Step {
-    Due { left: u8, low: u8, high: u8 },
-    Bad,
-}
+// A row of the table: how many bytes a character has, and the range of each, the lead byte's first. EMPTY stands for a byte that it has not.
+pub struct Row(pub u8, pub Range, pub Range, pub Range, pub Range);
+
+// UTF8-tail = %x80-BF
+const TAIL: Range = Range(0x80, 0xBF);
+
+// No byte is in it.
+const EMPTY: Range = Range(0x01, 0x00);
 
 const ROWS: [Row; 9] = [
-    Row(0x00, 0x7F, 0, 0x80, 0xBF),
-    Row(0xC2, 0xDF, 1, 0x80, 0xBF),
-    Row(0xE0, 0xE0, 2, 0xA0, 0xBF),
-    Row(0xE1, 0xEC, 2, 0x80, 0xBF),
-    Row(0xED, 0xED, 2, 0x80, 0x9F),
-    Row(0xEE, 0xEF, 2, 0x80, 0xBF),
-    Row(0xF0, 0xF0, 3, 0x90, 0xBF),
-    Row(0xF1, 0xF3, 3, 0x80, 0xBF),
-    Row(0xF4, 0xF4, 3, 0x80, 0x8F),
+    // UTF8-1 = %x00-7F
+    Row(1, Range(0x00, 0x7F), EMPTY, EMPTY, EMPTY),
+    // UTF8-2 = %xC2-DF UTF8-tail
+    Row(2, Range(0xC2, 0xDF), TAIL, EMPTY, EMPTY),
+    // UTF8-3 = %xE0 %xA0-BF UTF8-tail / %xE1-EC 2( UTF8-tail ) / %xED %x80-9F UTF8-tail / %xEE-EF 2( UTF8-tail )
+    Row(3, Range(0xE0, 0xE0), Range(0xA0, 0xBF), TAIL, EMPTY),
+    Row(3, Range(0xE1, 0xEC), TAIL, TAIL, EMPTY),
+    Row(3, Range(0xED, 0xED), Range(0x80, 0x9F), TAIL, EMPTY),
+    Row(3, Range(0xEE, 0xEF), TAIL, TAIL, EMPTY),
+    // UTF8-4 = %xF0 %x90-BF 2( UTF8-tail ) / %xF1-F3 3( UTF8-tail ) / %xF4 %x80-8F 2( UTF8-tail )
+    Row(4, Range(0xF0, 0xF0), Range(0x90, 0xBF), TAIL, TAIL),
+    Row(4, Range(0xF1, 0xF3), TAIL, TAIL, TAIL),
+    Row(4, Range(0xF4, 0xF4), Range(0x80, 0x8F), TAIL, TAIL),
 ];
 
-// What a lead byte makes due: by the first row that has it.
-pub fn lead(b: u8) -> Step
-    ensures { λ r. ⌜ r ≡ leadOf b rows ⌝ }
+// Where the rows UTF8-1 and UTF8-2 stand.
+const UTF8_1: usize = 0;
+
+const UTF8_2: usize = 1;
+
+// Whether a byte is in a range.
+fn within(g: Range, b: u8) -> bool
+    ensures { λ r. ⌜ r ≡ In g b ⌝ }
+{
+    (g.0 <= b) & (b <= g.1)
+}
+
+// The row that has b as a lead byte; where none has it, the last row.
+fn row_of(b: u8) -> Row
+    ensures { λ r. ⌜ List·Memᴰ r rows × (leadOf b (r ∷ []) ≡ next b) ⌝ }
 {
     let mut r = ROWS[0];
     let mut k: usize = 0;
-    while !((r.0 <= b) & (b <= r.1)) {
-        if k == 8 {
-            return Step::Bad;
+    while k < 8 {
+        if within(r.1, b) {
+            return r;
         }
         k += 1;
         r = ROWS[k];
     }
-    Step::Due {
-        left: r.2,
-        low: r.3,
-        high: r.4,
-    }
+    r
 }
 
-// Whether the bytes that are due stand from a place on.
-fn follow(s: &[u8], from: usize, to: usize, left: u8, low: u8, high: u8) -> bool
-    requires { ⌜ ((from ≤ to) × (to ≤ length (now s))) × (left ≤ 3) ⌝ }
-    ensures { λ r. ⌜ r ≡ follows left low high (take left (slice from to (now (s .entry)))) ⌝ }
+// Whether the bytes from a place on are a character of the row, each byte in its range.
+fn is_char(s: &[u8], at: usize, row: Row) -> bool
+    requires { ⌜ ((1 ≤ row .0) × (row .0 ≤ 4)) × (at + row .0 ≤ length (now s)) ⌝ }
+    ensures { λ r. ⌜ r ≡ isChar row (take (row .0) (drop at (now (s .entry)))) ⌝ }
 {
-    let mut l = low;
-    let mut h = high;
-    let mut i = from;
-    let mut k: u8 = 0;
-    while k < 3 {
-        if k == left {
-            return true;
-        }
-        if i == to {
-            return false;
-        }
-        let b = s[i];
-        if !((l <= b) & (b <= h)) {
-            return false;
-        }
-        l = 0x80;
-        h = 0xBF;
-        i += 1;
-        k += 1;
+    let one = within(row.1, s[at]);
+    if row.0 == 1 {
+        return one;
     }
-    true
+    let two = one & within(row.2, s[at + 1]);
+    if row.0 == 2 {
+        return two;
+    }
+    let three = two & within(row.3, s[at + 2]);
+    if row.0 == 3 {
+        return three;
+    }
+    three & within(row.4, s[at + 3])
 }
 
-// Whether the eight bytes from at are below 80: no byte's top bit is set.
+// From a place on, past characters of one row.
+fn skip_row(s: &[u8], from: usize, to: usize, row: Row) -> usize
+    requires { ⌜ ((from ≤ to) × (to ≤ length (now s))) × List·Memᴰ row rows ⌝ }
+    ensures { λ r. ⌜ ((from ≤ r) × (r ≤ to)) × (utf8 (slice r to (now (s .entry))) ≡ utf8 (slice from to (now (s .entry)))) × (r ≡ from → isChar row (take (row .0) (slice from to (now (s .entry)))) ≡ false) ⌝ }
+{
+    let n = row.0 as usize;
+    let mut i = from;
+    while n <= to - i {
+        if !is_char(s, i, row) {
+            return i;
+        }
+        i += n;
+    }
+    i
+}
+
+// Whether the eight bytes from at are characters of the row UTF8-1: no byte's top bit is set.
 fn ascii_word(s: &[u8], at: usize) -> bool
     requires { ⌜ at + 8 ≤ length (now s) ⌝ }
     ensures { λ r. ⌜ r ≡ ascii (take 8 (drop at (now (s .entry)))) ⌝ }
@@ -86,7 +108,7 @@ fn ascii_word(s: &[u8], at: usize) -> bool
     number(s, at, 8) & 0x8080_8080_8080_8080 == 0
 }
 
-// From a place on, past words of eight bytes below 80.
+// From a place on, past words of eight characters of one byte.
 fn skip_words(s: &[u8], from: usize, to: usize) -> usize
     requires { ⌜ (from ≤ to) × (to ≤ length (now s)) ⌝ }
     ensures { λ r. ⌜ ((from ≤ r) × (r ≤ to)) × (utf8 (slice r to (now (s .entry))) ≡ utf8 (slice from to (now (s .entry)))) ⌝ }
@@ -125,21 +147,15 @@ fn skip_blocks(s: &[u8], from: usize, to: usize) -> usize
     i
 }
 
-// Whether two bytes are a character.
-fn is_pair(a: u8, b: u8) -> bool
-    ensures { λ r. ⌜ r ≡ (leb 0xC2 a && leb a 0xDF) && (leb 0x80 b && leb b 0xBF) ⌝ }
-{
-    ((0xC2 <= a) & (a <= 0xDF)) & ((0x80 <= b) & (b <= 0xBF))
-}
-
-// From a place on, past characters of two bytes.
+// From a place on, past characters of the row UTF8-2.
 fn skip_pairs(s: &[u8], from: usize, to: usize) -> usize
     requires { ⌜ (from ≤ to) × (to ≤ length (now s)) ⌝ }
     ensures { λ r. ⌜ ((from ≤ r) × (r ≤ to)) × (utf8 (slice r to (now (s .entry))) ≡ utf8 (slice from to (now (s .entry)))) ⌝ }
 {
+    let row = ROWS[UTF8_2];
     let mut i = from;
     while 2 <= to - i {
-        if !is_pair(s[i], s[i + 1]) {
+        if !(within(row.1, s[i]) & within(row.2, s[i + 1])) {
             return i;
         }
         i += 2;
@@ -147,28 +163,34 @@ fn skip_pairs(s: &[u8], from: usize, to: usize) -> usize
     i
 }
 
-// Whether the bytes from `from` up to `to` are UTF-8, character by character; a run of ASCII is passed by blocks, one of two-byte characters by pairs.
+// From a place on, past characters of the row that has the byte there; it stays at the place only where the bytes are not UTF-8. Two-byte characters are tried before the table is searched.
+fn skip_run(s: &[u8], from: usize, to: usize) -> usize
+    requires { ⌜ (from < to) × (to ≤ length (now s)) ⌝ }
+    ensures { λ r. ⌜ ((from ≤ r) × (r ≤ to)) × (utf8 (slice r to (now (s .entry))) ≡ utf8 (slice from to (now (s .entry)))) × (r ≡ from → utf8 (slice from to (now (s .entry))) ≡ false) ⌝ }
+{
+    let end = skip_pairs(s, from, to);
+    if end != from {
+        return end;
+    }
+    skip_row(s, from, to, row_of(s[from]))
+}
+
+// Whether the bytes from `from` up to `to` are UTF-8: run by run of characters of one row, those of one byte by blocks.
 pub fn valid(s: &[u8], from: usize, to: usize) -> bool
     requires { ⌜ (from ≤ to) × (to ≤ length (now s)) ⌝ }
     ensures { λ r. ⌜ r ≡ utf8 (slice from to (now (s .entry))) ⌝ }
 {
     let mut i = from;
     while i < to {
-        let b = s[i];
-        if b < 0x80 {
+        let one = ROWS[UTF8_1];
+        if within(one.1, s[i]) {
             i = skip_words(s, skip_blocks(s, i + 1, to), to);
         } else {
-            match lead(b) {
-                Step::Due { left, low, high } => {
-                    if !follow(s, i + 1, to, left, low, high) {
-                        return false;
-                    }
-                    i = skip_pairs(s, i + 1 + left as usize, to);
-                }
-                Step::Bad => {
-                    return false;
-                }
+            let end = skip_run(s, i, to);
+            if end == i {
+                return false;
             }
+            i = end;
         }
     }
     true

@@ -1,27 +1,29 @@
--- `wire::utf8::skip_pairs` meets its contract: each pair passed is a character.
+-- `wire::utf8::skip_pairs` meets its contract: each pair passed is a character of the row UTF8-2.
 -- Assumes nothing.
 use mathlib.Core.Path.{_≡_, refl, _∙_}
-use Prim.Native.Nat.{_+_, _-_, _≤_}
+use Prim.Native.Nat.{_-_, _≤_}
 use native.Mathlib.Omega.{arith}
 use borrow.Author.Needs.{needs}
 use lib.Seq.{slice}
-use Rattle.wire.specs.Utf8.{utf8}
+use Rattle.wire.specs.Utf8.{rows, utf8}
 use Rattle.wire.proofs.Utf8s.{pair-pass}
 use Rattle.wire.proofs.utf8.skip_pairs.Statement.{statement}
 use Rattle.wire.proofs.utf8.skip_pairs.Tie as tie
 
 abbrev Inv-loop : tie.InvT-loop
-Inv-loop s from to i₀ i = ((from ≤ i) × (i ≤ to)) × (utf8 (slice i to s) ≡ utf8 (slice from to s))
+Inv-loop s from to row i₀ i = ((from ≤ i) × (i ≤ to)) × (utf8 (slice i to s) ≡ utf8 (slice from to s))
 
 abbrev μ-loop : tie.MeasureT-loop
-μ-loop s from to i₀ i = to - i
+μ-loop s from to row i₀ i = to - i
 
 loop-again : tie.Need-loop-again Inv-loop μ-loop
+unfolding rows
 loop-again c =
-    let l = c .before .before .before .before .before in
-    let a = l .before .before .args in
-    let w = c .before .is-pair in
-    (omega arith, pair-pass (a .s .now) (l .loop .i) (l .loop .i + 2) (a .to) (w .result) refl (omega arith) (omega arith) (w .ensures) (c .if1 .left) ∙ l .loop .inv .1)
+    let one = c .before .before .before .within in
+    let two = c .before .within2 in
+    let l = c .before .before .before .before .before .before in
+    let a = l .before .before .before .args in
+    (omega arith, pair-pass (a .s .now) (l .loop .i) (a .to) (one .result) (two .result) (omega arith) (omega arith) (one .ensures) (two .ensures) (c .if1 .left) ∙ l .loop .inv .1)
 
 pub skip-pairs-spec : {M : Type 1} → statement M
 skip-pairs-spec =
@@ -29,14 +31,16 @@ skip-pairs-spec =
     (tie.spec
     Inv-loop
     μ-loop
+    (λ c. search needs)
     (λ c. (omega arith, refl))
     (λ c. search needs)
-    (λ c. omega arith)
-    (λ c. omega arith)
-    (λ c. omega arith)
+    (λ c. search needs)
     (λ c κs. search needs)
-    (λ c. c .before .before .before .before .before .loop .inv)
-    (λ c. omega arith)
-    (λ c. omega arith)
+    (λ c. search needs)
+    (λ c. search needs)
+    (λ c κs. search needs)
+    (λ c. c .before .before .before .before .before .before .loop .inv)
+    (λ c. search needs)
+    (λ c. search needs)
     loop-again
     (λ c. c .before .loop .inv))
