@@ -29,14 +29,19 @@ rows =
     row 1 (range 0x00 0x7F) empty empty empty
     -- UTF8-2 = %xC2-DF UTF8-tail
     ∷ row 2 (range 0xC2 0xDF) tail empty empty
-    -- UTF8-3 = %xE0 %xA0-BF UTF8-tail / %xE1-EC 2( UTF8-tail ) / %xED %x80-9F UTF8-tail / %xEE-EF 2( UTF8-tail )
+    -- UTF8-3 = %xE0 %xA0-BF UTF8-tail /
     ∷ row 3 (range 0xE0 0xE0) (range 0xA0 0xBF) tail empty
+    --          %xE1-EC 2( UTF8-tail ) /
     ∷ row 3 (range 0xE1 0xEC) tail tail empty
+    --          %xED %x80-9F UTF8-tail /
     ∷ row 3 (range 0xED 0xED) (range 0x80 0x9F) tail empty
+    --          %xEE-EF 2( UTF8-tail )
     ∷ row 3 (range 0xEE 0xEF) tail tail empty
-    -- UTF8-4 = %xF0 %x90-BF 2( UTF8-tail ) / %xF1-F3 3( UTF8-tail ) / %xF4 %x80-8F 2( UTF8-tail )
+    -- UTF8-4 = %xF0 %x90-BF 2( UTF8-tail ) /
     ∷ row 4 (range 0xF0 0xF0) (range 0x90 0xBF) tail tail
+    --          %xF1-F3 3( UTF8-tail ) /
     ∷ row 4 (range 0xF1 0xF3) tail tail tail
+    --          %xF4 %x80-8F 2( UTF8-tail )
     ∷ row 4 (range 0xF4 0xF4) (range 0x80 0x8F) tail tail
     ∷ []
 
@@ -56,11 +61,11 @@ matches [] (b ∷ c) = false
 matches (g ∷ gs) [] = false
 matches (g ∷ gs) (b ∷ c) = In g b && matches gs c
 
--- c is a character of the row r
+-- c is a character of the row r: a UTF8-char
 abbrev pub isChar : Row → List ℕ → Bool
 isChar r c = matches (ranges r) c
 
--- s is the characters cs, one after the other
+-- s is the characters cs, one after the other: UTF8-octets = *( UTF8-char )
 pub data Split : List (List ℕ) → List ℕ → Type 0 where
   none : Split [] []
   char : (r : Row) (c : List ℕ) (cs : List (List ℕ)) (s : List ℕ) → List·Memᴰ r rows → T (isChar r c) → Split cs s → Split (c ∷ cs) (c ++ s)

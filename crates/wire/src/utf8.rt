@@ -25,14 +25,19 @@ const ROWS: [Row; 9] = [
     Row(1, Range(0x00, 0x7F), EMPTY, EMPTY, EMPTY),
     // UTF8-2 = %xC2-DF UTF8-tail
     Row(2, Range(0xC2, 0xDF), TAIL, EMPTY, EMPTY),
-    // UTF8-3 = %xE0 %xA0-BF UTF8-tail / %xE1-EC 2( UTF8-tail ) / %xED %x80-9F UTF8-tail / %xEE-EF 2( UTF8-tail )
+    // UTF8-3 = %xE0 %xA0-BF UTF8-tail /
     Row(3, Range(0xE0, 0xE0), Range(0xA0, 0xBF), TAIL, EMPTY),
+    //          %xE1-EC 2( UTF8-tail ) /
     Row(3, Range(0xE1, 0xEC), TAIL, TAIL, EMPTY),
+    //          %xED %x80-9F UTF8-tail /
     Row(3, Range(0xED, 0xED), Range(0x80, 0x9F), TAIL, EMPTY),
+    //          %xEE-EF 2( UTF8-tail )
     Row(3, Range(0xEE, 0xEF), TAIL, TAIL, EMPTY),
-    // UTF8-4 = %xF0 %x90-BF 2( UTF8-tail ) / %xF1-F3 3( UTF8-tail ) / %xF4 %x80-8F 2( UTF8-tail )
+    // UTF8-4 = %xF0 %x90-BF 2( UTF8-tail ) /
     Row(4, Range(0xF0, 0xF0), Range(0x90, 0xBF), TAIL, TAIL),
+    //          %xF1-F3 3( UTF8-tail ) /
     Row(4, Range(0xF1, 0xF3), TAIL, TAIL, TAIL),
+    //          %xF4 %x80-8F 2( UTF8-tail )
     Row(4, Range(0xF4, 0xF4), Range(0x80, 0x8F), TAIL, TAIL),
 ];
 
