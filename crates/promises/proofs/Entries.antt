@@ -1,10 +1,10 @@
 -- The answers of the entries, taken apart and put together.
 -- Assumes nothing.
 use mathlib.Core.Path.{_≡_, refl, sym, ap, _∙_, subst}
-use mathlib.Core.List.{List, [], _++_, append-nil}
+use mathlib.Core.List.{List, [], append-nil}
 use Prim.Native.Nat.{ℕ, _*_, _≤_}
 use native.Mathlib.Omega.{arith}
-use lib.ListN.{length, take, drop, length-append, length-drop}
+use lib.ListN.{length, drop, length-append, length-drop}
 use lib.Seq.{take-at, drop-at}
 use Rattle.wire.proofs.Cases.{differ}
 use Rattle.schema.specs.declared.Field.{Field}
@@ -18,7 +18,6 @@ use Rattle.value.specs.Value.{Value, value, size}
 use Rattle.value.specs.Comparisons.{comparisons}
 use Rattle.value.specs.Read as value
 use Rattle.value.specs.Read.{accepted}
-use Rattle.value.specs.Write as written
 use Rattle.value.specs.Sheet.{rowsOf, cellsOf}
 use Rattle.value.specs.Fits.{Shows}
 use Rattle.value.specs.Claims.{ReadAs}
@@ -27,8 +26,6 @@ use Rattle.value.proofs.Reading.{sized, accepts, root-in}
 use Rattle.reader.specs.declared.Reading.the-variants.{Shown, Refused}
 use Rattle.reader.specs.Sheet.{shownIn}
 use Rattle.reader.specs.Entry.{outcome, outcomeOf, room, payloadOutcome, byTable, readOutcome}
-use Rattle.writer.specs.declared.Writing.the-variants.{Written}
-use Rattle.writer.specs.Entry as writer
 use Rattle.promises.specs.Claims.{shapes, firstRows, ReadsAs}
 
 -- ---- a sheet in which rows are shown
@@ -62,7 +59,7 @@ shown-size s payload ty fs rs v (tree, r, _, u) = sym (ap length r) ∙ sized tr
 -- ---- the reader
 
 -- An accepting answer is an accepted payload with its rows.
-accepted-from : (sheet : List ℕ) (a : value.Reading) (k place n c : ℕ) (after : List ℕ) → outcomeOf sheet a ≡ outcome (Shown k place n c) after
+pub accepted-from : (sheet : List ℕ) (a : value.Reading) (k place n c : ℕ) (after : List ℕ) → outcomeOf sheet a ≡ outcome (Shown k place n c) after
     → (rs : List Row) × (a ≡ accepted rs place n c) × (length rs ≡ k) × (after ≡ shownIn sheet rs)
 accepted-from sheet (value.refusal m q) k place n c after e = differ cc
 accepted-from sheet (accepted rs p l d) k place n c after e = (rs, cc, cc, cc)
@@ -82,6 +79,10 @@ module _ (s : List ℕ) (ty : ℕ) (payload sheet : List ℕ) where
   pub read-by : IsGood s → readOutcome s ty payload sheet ≡ outcomeOf sheet (value.read (tableOf s) ty payload (room sheet))
   unfolding readOutcome payloadOutcome
   read-by good = rw good
+
+  pub read-faulty : (n q : ℕ) → checked s ≡ Faulty n q → readOutcome s ty payload sheet ≡ outcome (Refused n q) sheet
+  unfolding readOutcome
+  read-faulty n q e = rw e
 
   -- Only by a good file is anything shown.
   pub shown-good : (k place n c : ℕ) (after : List ℕ) → readOutcome s ty payload sheet ≡ outcome (Shown k place n c) after → IsGood s
@@ -127,34 +128,3 @@ module _ (s : List ℕ) (ty : ℕ) (payload sheet : List ℕ) where
       of-reads (after, e, shows, _, _) =
           let (rs, a, k-is, after-is) = shown-from (size v) place n _ after e in
           (rs, a, subst (λ (l : List Row). Shows (shapes s) payload ty fs l v) (rows-back sheet rs (size v) after k-is after-is) shows)
-
--- ---- the writer
-
--- An accepting answer has the bytes written at the output's front.
-written-from : (out : List ℕ) (a : written.Writing) (n : ℕ) (out′ : List ℕ) → writer.outcomeOf out a ≡ writer.outcome (Written n) out′
-    → (bs : List ℕ) × (a ≡ written.written bs) × (length bs ≡ n) × (out′ ≡ bs ++ drop (length bs) out)
-written-from out (written.refusal m q) n out′ e = differ cc
-written-from out (written.written bs) n out′ e = (bs, refl, cc, cc)
-
-good-written : (c : Checked) (other : writer.Outcome) (out : List ℕ) (n : ℕ) (out′ : List ℕ)
-    → writer.byVerdict c other out ≡ writer.outcome (Written n) out′ → c ≡ Good
-good-written Good other out n out′ e = refl
-good-written (Faulty m q) other out n out′ e = differ cc
-
-module _ (s : List ℕ) (ty : ℕ) (sheet B out : List ℕ) where
-  pub write-by : IsGood s → writer.fileOutcome s ty sheet B out ≡ writer.outcomeOf out (written.write (tableOf s) ty (rowsOf sheet) B (length out))
-  unfolding writer.fileOutcome writer.sheetOutcome
-  write-by good = rw good
-
-  module _ (n : ℕ) (out′ : List ℕ) (e : writer.fileOutcome s ty sheet B out ≡ writer.outcome (Written n) out′) where
-    -- Only by a good file is anything written.
-    pub written-good : IsGood s
-    unfolding writer.fileOutcome
-    written-good = good-written (checked s) (writer.sheetOutcome s ty sheet B out) out n out′ e
-
-    pub written-is : (bs : List ℕ) × (written.write (tableOf s) ty (rowsOf sheet) B (length out) ≡ written.written bs) × (length bs ≡ n) × (take n out′ ≡ bs)
-        × (out′ ≡ bs ++ drop n out)
-    written-is =
-        let (bs, w, l, o) = written-from out (written.write (tableOf s) ty (rowsOf sheet) B (length out)) n out′ (sym (write-by written-good) ∙ e) in
-        let o′ : out′ ≡ bs ++ drop n out = o ∙ ap (λ (k : ℕ). bs ++ drop k out) l in
-        (bs, w, l, ap (take n) o′ ∙ take-at bs (drop n out) n l, o′)

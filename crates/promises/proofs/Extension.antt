@@ -12,7 +12,7 @@ use lib.Dec.{leb}
 use lib.ListN.{length, take, drop, length-append}
 use lib.Seq.{drop-at}
 use lib.Pow.{pow-pos}
-use Rattle.wire.proofs.Cases.{differ, nothing-left}
+use Rattle.wire.proofs.Cases.{differ}
 use Rattle.schema.specs.declared.Field.{Field}
 use Rattle.schema.specs.declared.Checked.{Checked}
 use Rattle.schema.specs.declared.Checked.the-variants.{Good, Refused as Faulty}
@@ -46,9 +46,9 @@ use Rattle.writer.specs.declared.Writing.the-variants.{Written}
 use Rattle.writer.specs.Entry as writer
 use Rattle.writer.specs.Entry.{fileOutcome}
 use Rattle.promises.specs.Claims.{shapes, firstRows, ReadsAs, OldAnswers, NewByOld}
-use Rattle.promises.proofs.Entries.{rows-back, shown-size, refused-from, read-by, shown-from, accepted-shows, written-is}
+use Rattle.promises.proofs.Entries.{rows-back, shown-size, refused-from, read-by, shown-from, accepted-shows}
 use Rattle.promises.proofs.Reading.{shown-iff-spelled, too-few-rows, tail-iff-unknown, comparisons-of}
-use Rattle.promises.proofs.ReadBack.{read-back}
+use Rattle.promises.proofs.ReadBack.{written-spelled, read-back}
 
 -- ---- what one reader accepts
 
@@ -93,11 +93,11 @@ both-good Good (Faulty n p) b e = differ cc
 both-good (Faulty n p) c′ b e = differ cc
 
 module _ (old new : List ℕ) (yes : extension old new ≡ Yes) where
-  goods : IsGood old × IsGood new
+  pub goods : IsGood old × IsGood new
   unfolding extension
   goods = both-good (checked old) (checked new) (extended (tableOf old) (tableOf new)) yes
 
-  extends : Extends (tableOf old) (tableOf new)
+  pub extends : Extends (tableOf old) (tableOf new)
   extends = yes-iff old new (goods .0) (goods .1) .0 yes
 
   module _ (ty : ℕ) (fs : List Field) (st : shapes old ty ≡ struct fs) where
@@ -160,14 +160,8 @@ module _ (old new : List ℕ) (yes : extension old new ≡ Yes) where
       pub written-by-new : (cells B out : List ℕ) (n : ℕ) (out′ : List ℕ) → fileOutcome new ty cells B out ≡ writer.outcome (Written n) out′ → (sheet : List ℕ)
           → (v : Value) × Shows (shapes new) B ty (fs ++ gs) (rowsOf cells) v × NewByOld old new ty fs gs (take n out′) sheet v
       written-by-new cells B out n out′ e sheet =
-          let (bs, w, _, t, _) = written-is new ty cells B out n out′ e in
-          let (hs, v, is, shows, r) = value.read-back (tableOf new) (good-table new (goods .1)) ty (rowsOf cells) B (length out) bs w (length (rowsOf cells)) (omega arith) in
-          let same : hs ≡ fs ++ gs = cc (is, st′) in
-          let shows′ : Shows (shapes new) B ty (fs ++ gs) (rowsOf cells) v = subst (λ (l : List Field). Shows (shapes new) B ty l (rowsOf cells) v) same shows in
-          let (tail, q, short, _, bare, _) = value.accepted-iff-spelled (tableOf new) (good-table new (goods .1)) ty hs is bs (length (rowsOf cells)) v (length bs) 0 .0 r in
-          let q′ : RootSpells (shapes new) (fs ++ gs) v bs [] =
-          subst (λ (z : List ℕ). RootSpells (shapes new) (fs ++ gs) v bs z) (nothing-left tail bare) (subst (λ (l : List Field). RootSpells (shapes new) l v bs tail) same q) in
-          (v, shows′, subst (λ (p : List ℕ). NewByOld old new ty fs gs p sheet v) (sym t) (new-by-old bs sheet v q′ short))
+          let (v, shows, q, short) = written-spelled new ty (fs ++ gs) st′ cells B out n out′ e in
+          (v, shows, new-by-old (take n out′) sheet v q short)
 
       -- A payload that the old reader accepts, with no added field's bit set: the new reader gives the same answer, with the same tail, and the same
       -- sheet, and what its rows show by the old table they show by the new one.

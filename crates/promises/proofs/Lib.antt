@@ -1,4 +1,5 @@
 pub mod Entries
+pub mod Refusals
 pub mod Reading
 pub mod ReadBack
 pub mod Extension

@@ -1,29 +1,27 @@
 -- Demand 2, the writer and both together: what `write` writes is read back as the value of its sheet, and what `read` shows is written, without
 -- unknown bits to the same bytes.
 -- Assumes nothing.
-use mathlib.Core.Path.{_≡_, refl, ap, _∙_}
-use mathlib.Core.Logic.{_⊎_, inl, inr, _↔_}
-use mathlib.Core.List.{List, _++_}
+use mathlib.Core.Path.{_≡_, refl, sym, ap, _∙_, subst}
+use mathlib.Core.Logic.{_↔_}
+use mathlib.Core.List.{List, [], _++_}
 use Prim.Native.Nat.{ℕ, _*_, _/_, _≤_}
 use native.Mathlib.Omega.{arith}
 use lib.ListN.{length, take, drop}
 use Rattle.wire.specs.Little.{Bytes}
-use Rattle.wire.proofs.Cases.{differ}
+use Rattle.wire.proofs.Cases.{nothing-left}
 use Rattle.schema.specs.declared.Field.{Field}
-use Rattle.schema.specs.declared.Checked.{Checked}
-use Rattle.schema.specs.declared.Checked.the-variants.{Good, Refused as Faulty}
 use Rattle.schema.specs.Table.{struct}
 use Rattle.schema.specs.File.{tableOf}
-use Rattle.schema.specs.Check.{checked, IsGood}
+use Rattle.schema.specs.Check.{IsGood}
 use Rattle.schema.proofs.Goods.{good-table}
 use Rattle.value.specs.declared.Row.{Row}
 use Rattle.value.specs.Value.{Value}
 use Rattle.value.specs.Read.{rootBits, unknownBits}
-use Rattle.value.specs.Write.{Writing, refusal, written, write}
+use Rattle.value.specs.Write.{written, write}
 use Rattle.value.specs.Sheet.{rowsOf}
+use Rattle.value.specs.Spell.{RootSpells}
 use Rattle.value.specs.Fits.{Shows}
 use Rattle.value.specs.Claims.{Writes}
-use Rattle.value.specs.Listed.{SheetListed}
 use Rattle.value.proofs.Sheets.{length-rows}
 use Rattle.value.proofs.Statements as value
 use Rattle.reader.specs.declared.Reading.the-variants.{Shown}
@@ -32,8 +30,10 @@ use Rattle.writer.specs.declared.Writing.the-variants.{Written, Refused}
 use Rattle.writer.specs.Entry as writer
 use Rattle.writer.specs.Entry.{fileOutcome}
 use Rattle.promises.specs.Claims.{shapes, firstRows, ReadsAs}
+use Rattle.promises.proofs.Refusals.{write-refused-iff}
 use Rattle.promises.proofs.Reading.{tail-iff-unknown}
-use Rattle.promises.proofs.Entries.{rows-back, shown-good, shown-from, reads-of, write-by, written-good, written-is}
+use Rattle.writer.proofs.Outcomes.{write-by, written-good, written-is}
+use Rattle.promises.proofs.Entries.{rows-back, shown-good, shown-from, reads-of}
 
 -- By a good file a sheet over its bytes is accepted exactly when it shows a value whose encoding is a payload and fits into the output. The encoding
 -- stands at the output's front, and past it nothing changes. This rules out a writer that refuses all or writes nothing.
@@ -50,39 +50,10 @@ written-iff-shown s good ty sheet B out n out′ = (
     iff : (bs : List ℕ) → (write (tableOf s) ty (rowsOf sheet) B (length out) ≡ written bs) ↔ Writes (shapes s) ty (rowsOf sheet) B (length out) bs
     iff bs = value.written-iff-shown (tableOf s) (good-table s good) ty (rowsOf sheet) B (length out) bs
 
-unwritten : (out : List ℕ) (a : Writing) (n q : ℕ) (out′ : List ℕ) → writer.outcomeOf out a ≡ writer.outcome (Refused n q) out′ → out′ ≡ out
-unwritten out (refusal m p) n q out′ e = cc
-unwritten out (written bs) n q out′ e = differ cc
-
-refused-by : (c : Checked) (s : List ℕ) (ty : ℕ) (sheet B out : List ℕ) (n q : ℕ) (out′ : List ℕ)
-    → writer.byVerdict c (writer.sheetOutcome s ty sheet B out) out ≡ writer.outcome (Refused n q) out′ → out′ ≡ out
-unfolding writer.sheetOutcome
-refused-by Good s ty sheet B out n q out′ e = unwritten out (write (tableOf s) ty (rowsOf sheet) B (length out)) n q out′ e
-refused-by (Faulty m p) s ty sheet B out n q out′ e = cc
-
-unwritten-from : (out : List ℕ) (a : Writing) (n q : ℕ) (out′ : List ℕ) → writer.outcomeOf out a ≡ writer.outcome (Refused n q) out′ → a ≡ refusal n q
-unwritten-from out (refusal m p) n q out′ e = cc
-unwritten-from out (written bs) n q out′ e = differ cc
-
-listed-by : (c : Checked) (s : List ℕ) → checked s ≡ c → (ty : ℕ) (sheet B out : List ℕ) (n q : ℕ) (out′ : List ℕ)
-    → writer.byVerdict c (writer.sheetOutcome s ty sheet B out) out ≡ writer.outcome (Refused n q) out′
-    → (checked s ≡ Faulty n q) ⊎ SheetListed (shapes s) ty (rowsOf sheet) B (length out) n q
-unfolding writer.sheetOutcome
-listed-by Good s good ty sheet B out n q out′ e =
-    inr (value.write-listed (tableOf s) (good-table s good) ty (rowsOf sheet) B (length out) n q (unwritten-from out (write (tableOf s) ty (rowsOf sheet) B (length out)) n q out′ e))
-listed-by (Faulty m p) s bad ty sheet B out n q out′ e = inl (bad ∙ cc)
-
--- Every refusal is the schema file's own, or one that 01 lists for a sheet, for the reason that it says; a row's fault names the row.
-pub listed : (s : List ℕ) (ty : ℕ) (sheet B out : List ℕ) (n q : ℕ) (out′ : List ℕ)
-    → fileOutcome s ty sheet B out ≡ writer.outcome (Refused n q) out′ → (checked s ≡ Faulty n q) ⊎ SheetListed (shapes s) ty (rowsOf sheet) B (length out) n q
-unfolding writer.fileOutcome
-listed s ty sheet B out n q out′ e = listed-by (checked s) s refl ty sheet B out n q out′ e
-
 -- At every refusal, the schema file's too, the output stays untouched.
 pub refused-untouched : (s : List ℕ) (ty : ℕ) (sheet B out : List ℕ) (n q : ℕ) (out′ : List ℕ)
     → fileOutcome s ty sheet B out ≡ writer.outcome (Refused n q) out′ → out′ ≡ out
-unfolding fileOutcome
-refused-untouched s ty sheet B out n q out′ e = refused-by (checked s) s ty sheet B out n q out′ e
+refused-untouched s ty sheet B out n q out′ e = write-refused-iff s ty sheet B out n q out′ .0 e .0
 
 whole : (s : List ℕ) (ty : ℕ) (fs : List Field) (v : Value) (sheet bs payload : List ℕ) (n : ℕ) → payload ≡ bs → length bs ≡ n
     → ReadsAs s ty fs bs sheet v (length bs) 0 → ReadsAs s ty fs payload sheet v n 0
@@ -101,6 +72,24 @@ module _ (s : List ℕ) (ty : ℕ) (sheet B out : List ℕ) (n : ℕ) (out′ : 
       let (bs, w, l, t, _) = written-is s ty sheet B out n out′ e in
       let (fs, v, st, shows, r) = value.read-back (tableOf s) (good-table s good) ty (rowsOf sheet) B (length out) bs w (room sheet′) (omega (arith, length-rows sheet, h)) in
       (fs, v, st, shows, whole s ty fs v sheet′ bs (take n out′) n t l (reads-of s ty bs sheet′ good fs v (length bs) 0 r))
+
+-- What is written spells the value that the writer's sheet shows, within the limit and with nothing after it.
+pub written-spelled : (s : List ℕ) (ty : ℕ) (fs : List Field) → shapes s ty ≡ struct fs → (cells B out : List ℕ) (n : ℕ) (out′ : List ℕ)
+    → fileOutcome s ty cells B out ≡ writer.outcome (Written n) out′
+    → (v : Value) × Shows (shapes s) B ty fs (rowsOf cells) v × RootSpells (shapes s) fs v (take n out′) [] × (length (take n out′) ≤ 16384)
+written-spelled s ty fs st cells B out n out′ e =
+    let good = written-good s ty cells B out n out′ e in
+    let (bs, w, _, t, _) = written-is s ty cells B out n out′ e in
+    let (hs, v, is, shows, r) = value.read-back (tableOf s) (good-table s good) ty (rowsOf cells) B (length out) bs w (length (rowsOf cells)) (omega arith) in
+    let same : hs ≡ fs = cc (is, st) in
+    let (tail, q, short, _, bare, _) = value.accepted-iff-spelled (tableOf s) (good-table s good) ty hs is bs (length (rowsOf cells)) v (length bs) 0 .0 r in
+    let q′ : RootSpells (shapes s) fs v bs [] =
+    subst (λ (z : List ℕ). RootSpells (shapes s) fs v bs z) (nothing-left tail bare) (subst (λ (l : List Field). RootSpells (shapes s) l v bs tail) same q) in (
+      v,
+      subst (λ (l : List Field). Shows (shapes s) B ty l (rowsOf cells) v) same shows,
+      subst (λ (p : List ℕ). RootSpells (shapes s) fs v p []) (sym t) q′,
+      subst (λ (p : List ℕ). length p ≤ 16384) (sym t) short,
+    )
 
 -- What the writer answers to just the rows shown over the payload.
 rewritten : (s : List ℕ) (ty : ℕ) (payload sheet : List ℕ) (k place n c : ℕ) (after : List ℕ) → Bytes payload

@@ -1,7 +1,7 @@
 -- Demand 2, the reader: what `read` answers and leaves in the sheet.
 -- Assumes nothing.
 use mathlib.Core.Path.{_≡_, refl, sym, ap, ap₂, _∙_}
-use mathlib.Core.Logic.{_⊎_, inl, inr, _↔_}
+use mathlib.Core.Logic.{_↔_}
 use mathlib.Core.List.{List}
 use mathlib.Core.Bool.{false}
 use Prim.Native.Nat.{ℕ, _≤_, _<_}
@@ -10,11 +10,9 @@ use borrow.Author.Tests.{lt-leb}
 use lib.Dec.{leb}
 use lib.ListN.{length}
 use Rattle.schema.specs.declared.Field.{Field}
-use Rattle.schema.specs.declared.Checked.{Checked}
-use Rattle.schema.specs.declared.Checked.the-variants.{Good, Refused as Faulty}
 use Rattle.schema.specs.Table.{struct}
 use Rattle.schema.specs.File.{tableOf}
-use Rattle.schema.specs.Check.{checked, IsGood}
+use Rattle.schema.specs.Check.{IsGood}
 use Rattle.schema.proofs.Goods.{good-table}
 use Rattle.value.specs.declared.Row.{Row}
 use Rattle.value.specs.Value.{Tree, Value, leaf, node, rows, size}
@@ -23,7 +21,6 @@ use Rattle.value.specs.Read.{rootBits, unknownBits, refusal, accepted, read}
 use Rattle.value.specs.Fits.{RootFits, Shows}
 use Rattle.value.specs.Delimits.{RootDelimits}
 use Rattle.value.specs.Claims.{Rightful, Delimited}
-use Rattle.value.specs.Listed.{Listed}
 use Rattle.value.proofs.Shapes.{good-solid}
 use Rattle.value.proofs.Reading.{as-root, accepts}
 use Rattle.value.proofs.Determined.{determined}
@@ -31,10 +28,11 @@ use Rattle.value.proofs.Statements as value
 use Rattle.reader.specs.declared.Reading.{Reading}
 use Rattle.reader.specs.declared.Reading.the-variants.{Shown, Refused}
 use Rattle.reader.specs.Sheet.{shownIn}
-use Rattle.reader.specs.Entry.{Outcome, outcome, readingIn, sheetIn, outcomeOf, room, byTable, readOutcome, payloadOutcome, Numbers, numbers}
+use Rattle.reader.specs.Entry.{Outcome, outcome, readingIn, sheetIn, outcomeOf, room, readOutcome, Numbers, numbers}
 use Rattle.reader.proofs.Entries.{read-within}
 use Rattle.promises.specs.Claims.{shapes, firstRows, ReadsAs, AnswersAs}
 use Rattle.promises.proofs.Entries.{rows-back, shown-size, shown-good, shown-from, read-by, refused-from, reads-of, of-reads}
+use Rattle.promises.proofs.Refusals.{read-refused-iff}
 
 -- A payload is accepted and shown as v exactly when it spells v within the limits and the rows fit into the sheet; the tail is what follows the known
 -- fields. This rules out a reader that refuses all (every rightful payload is accepted) and invented rows (they show the value that is spelled).
@@ -102,17 +100,10 @@ module _ (s : List ℕ) (ty : ℕ) (payload sheet : List ℕ) (k place n c : ℕ
 
 -- ---- refusals
 
-refused-by : (c : Checked) (s : List ℕ) (ty : ℕ) (payload sheet : List ℕ) (n q : ℕ) (after : List ℕ)
-    → byTable c s ty payload sheet ≡ outcome (Refused n q) after → after ≡ sheet
-unfolding payloadOutcome
-refused-by Good s ty payload sheet n q after e = refused-from sheet (read (tableOf s) ty payload (room sheet)) n q after e .1
-refused-by (Faulty m p) s ty payload sheet n q after e = cc
-
 -- At every refusal, the schema file's too, the sheet stays untouched.
 pub refused-untouched : (s : List ℕ) (ty : ℕ) (payload sheet : List ℕ) (n q : ℕ) (after : List ℕ)
     → readOutcome s ty payload sheet ≡ outcome (Refused n q) after → after ≡ sheet
-unfolding readOutcome
-refused-untouched s ty payload sheet n q after e = refused-by (checked s) s ty payload sheet n q after e
+refused-untouched s ty payload sheet n q after e = read-refused-iff s ty payload sheet n q after .0 e .0
 
 -- By a good file a refusal's place lies within the payload or at its end.
 pub refused-within : (s : List ℕ) → IsGood s → (ty : ℕ) (payload sheet : List ℕ) (n q : ℕ) (after : List ℕ)
@@ -120,19 +111,6 @@ pub refused-within : (s : List ℕ) → IsGood s → (ty : ℕ) (payload sheet :
 refused-within s good ty payload sheet n q after e =
     value.refused-within (tableOf s) (good-table s good) ty payload (room sheet) n q
     (refused-from sheet (read (tableOf s) ty payload (room sheet)) n q after (sym (read-by s ty payload sheet good) ∙ e) .0)
-
-listed-by : (c : Checked) (s : List ℕ) → checked s ≡ c → (ty : ℕ) (payload sheet : List ℕ) (n q : ℕ) (after : List ℕ)
-    → byTable c s ty payload sheet ≡ outcome (Refused n q) after → (checked s ≡ Faulty n q) ⊎ Listed (shapes s) ty payload (room sheet) n q
-unfolding payloadOutcome
-listed-by Good s good ty payload sheet n q after e =
-    inr (value.refused-listed (tableOf s) (good-table s good) ty payload (room sheet) n q (refused-from sheet (read (tableOf s) ty payload (room sheet)) n q after e .0))
-listed-by (Faulty m p) s bad ty payload sheet n q after e = inl (bad ∙ cc)
-
--- Every refusal is the schema file's own, or one that 01 lists for a payload, for the reason that it says.
-pub listed : (s : List ℕ) (ty : ℕ) (payload sheet : List ℕ) (n q : ℕ) (after : List ℕ)
-    → readOutcome s ty payload sheet ≡ outcome (Refused n q) after → (checked s ≡ Faulty n q) ⊎ Listed (shapes s) ty payload (room sheet) n q
-unfolding readOutcome
-listed s ty payload sheet n q after e = listed-by (checked s) s refl ty payload sheet n q after e
 
 -- ---- 01's numbers
 

@@ -1,15 +1,17 @@
 -- What the theorems of proofs/ claim of the answers of the entries `read` and `write`, which their contracts fix by `readOutcome` and `fileOutcome`.
 -- Assumes nothing.
 use mathlib.Core.Path.{_≡_}
-use mathlib.Core.Logic.{_↔_}
+use mathlib.Core.Logic.{_⊎_, _↔_}
 use mathlib.Core.List.{List, [], _++_}
 use mathlib.Core.Option.{Option, none, some}
 use mathlib.Core.Bool.{false}
 use Prim.Native.Nat.{ℕ, _*_, _≤_, _<_}
 use lib.ListN.{length, take, drop}
 use Rattle.schema.specs.declared.Field.{Field}
+use Rattle.schema.specs.declared.Checked.the-variants.{Refused as Faulty}
 use Rattle.schema.specs.Table.{Shape, shape}
 use Rattle.schema.specs.File.{tableOf}
+use Rattle.schema.specs.Check.{checked, IsGood}
 use Rattle.value.specs.declared.Row.{Row}
 use Rattle.value.specs.Value.{Tree, Value, value, size}
 use Rattle.value.specs.Comparisons.{comparisons}
@@ -17,6 +19,8 @@ use Rattle.value.specs.Sheet.{rowsOf}
 use Rattle.value.specs.Spell.{AllSpell, Spells, RootSpells}
 use Rattle.value.specs.Fits.{RootFits, Shows}
 use Rattle.value.specs.Delimits.{RootDelimits}
+use Rattle.value.specs.Reasons.{Reason}
+use Rattle.value.specs.SheetReasons.{SheetReason}
 use Rattle.value.specs.Added.{inner, firstAdded, rootCarries, without, addedItems, addedValues}
 use Rattle.reader.specs.declared.Reading.the-variants.{Shown, Refused}
 use Rattle.reader.specs.Entry.{outcome, readingIn, sheetIn, room, readOutcome, numbers}
@@ -47,6 +51,16 @@ AnswersAs schema ty fs payload sheet v place n =
     × Shows (shapes schema) payload ty fs (firstRows (size v) (sheetIn answer)) v
     × (length (sheetIn answer) ≡ length sheet)
     × (drop (4 * size v) (sheetIn answer) ≡ drop (4 * size v) sheet)
+
+-- ---- refusals
+
+-- The schema file is refused with the number at the place; or it is good, and the payload has this reason, with room for so many rows.
+abbrev pub ReadReason : (schema : List ℕ) (ty : ℕ) (payload : List ℕ) (space number place : ℕ) → Type 0
+ReadReason schema ty payload space n q = (checked schema ≡ Faulty n q) ⊎ (IsGood schema × Reason (shapes schema) ty payload space n q)
+
+-- The same for the rows of a sheet over bytes, with room for so many bytes.
+abbrev pub WriteReason : (schema : List ℕ) (ty : ℕ) → List Row → (bytes : List ℕ) (space number place : ℕ) → Type 0
+WriteReason schema ty rs bytes space n q = (checked schema ≡ Faulty n q) ⊎ (IsGood schema × SheetReason (shapes schema) ty rs bytes space n q)
 
 -- ---- an old file and a new one that extends it: a root of type ty has the fields fs in the old one and fs ++ gs in the new one
 

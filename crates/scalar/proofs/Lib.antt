@@ -1,7 +1,7 @@
 pub mod Floats
 pub mod Widths
 pub mod Answers
-pub mod Listed
+pub mod Reasons
 pub mod Identity
 pub mod Twos
 pub mod Reading

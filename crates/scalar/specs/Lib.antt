@@ -2,4 +2,4 @@
 pub mod Scalar
 pub mod Leaves
 pub mod Range
-pub mod Listed
+pub mod Reasons

@@ -49,6 +49,10 @@ module _ {E A : Type 0} {R : A → List E → Type 0} where
   reads-check true n p c f h = h refl
   reads-check false n p c f h = not-ok
 
+pub reads-map : {E A : Type 0} {c : CursorOf E} {R Q : A → List E → Type 0} {m : AnswerOf E A} → Reads c R m → ((a : A) (u : List E) → R a u → Q a u) → Reads c Q m
+reads-map not-ok h = not-ok
+reads-map (ok {a} u l k r) h = ok u l k (h a u r)
+
 -- An answer that accepts, and of what it has Q holds.
 pub data Yields {E A : Type 0} (Q : A → CursorOf E → Type 0) : AnswerOf E A → Type 0 where
   gives : {a : A} {c : CursorOf E} → Q a c → Yields Q (seen a c)

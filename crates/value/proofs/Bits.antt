@@ -76,6 +76,12 @@ unfolding complete
 complete-gain [] gs m o = complete-optional gs m o
 complete-gain (f ∷ fs) gs m o = rw (complete-gain fs gs (m / 2) o)
 
+-- Only the known bits matter.
+pub complete-mod : (fs : List Field) (m : ℕ) → complete fs (knownBits fs m) ≡ complete fs m
+unfolding complete
+complete-mod [] m = refl
+complete-mod (f ∷ fs) m = rw (← add-one (length fs), mod-mod-pow m (length fs) 1, field m (length fs) 1, complete-mod fs (m / 2))
+
 -- ---- the bits of a longer struct: those of fs, and those of gs after them
 
 module _ (fs gs : List Field) (m : ℕ) where

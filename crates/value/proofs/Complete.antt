@@ -19,6 +19,7 @@ use Rattle.value.specs.Answer.{Cursor, seen, Reader, andThen, check, blo
 use Rattle.value.specs.Value.{Tree, Value, leaf, node, Values, none, some, value, values}
 use Rattle.value.specs.Read.{Item, plain, parts, plainItem, pairs, plan, bitmap, enough, count, own, walk, whole, parse}
 use Rattle.value.specs.Spell.{LeafSpells, BitmapSpells, HeadSpells, AllSpell, WholeSpells, Spells}
+use Rattle.value.specs.Reasons.{least}
 use Rattle.value.proofs.Shapes.{Solid}
 use Rattle.value.proofs.Answers.{Yields, gives, yields-then, goes, passes}
 use Rattle.value.proofs.Keys.{Fresh, apart-fresh}
@@ -57,7 +58,7 @@ pub length-pairs : (n k v : ℕ) → length (pairs n k v) ≡ 2 * n
 length-pairs zero k v = refl
 length-pairs (suc n) k v = omega (arith, length-pairs n k v)
 
-block-complete : (n : ℕ) (x rest : List ℕ) (c : Cursor) → length x ≡ n → c .left ≡ x ++ rest → block n c ≡ seen x (record { left = rest; at = c .at + n })
+pub block-complete : (n : ℕ) (x rest : List ℕ) (c : Cursor) → length x ≡ n → c .left ≡ x ++ rest → block n c ≡ seen x (record { left = rest; at = c .at + n })
 unfolding block andThen check
 block-complete n x rest c h e =
     let l : leb (length x) (length (x ++ rest)) ≡ true = le-leb (length x) (length (x ++ rest)) (simp length-append (omega arith)) in
@@ -101,17 +102,25 @@ leaf-complete (array _) x u rest c q e = absurd q
 leaf-complete (map _ _) x u rest c q e = absurd q
 leaf-complete (struct _) x u rest c q e = absurd q
 
-head-complete : (s : Shape) (h : ℕ) (u rest : List ℕ) (c : Cursor) → HeadSpells s h u → c .left ≡ u ++ rest → length (plan s h) ≤ length rest
+pub head-complete : (s : Shape) (h : ℕ) (u rest : List ℕ) (c : Cursor) → HeadSpells s h u → c .left ≡ u ++ rest → least s * h ≤ length rest
     → Yields (λ o c′. (start : ℕ) × (o ≡ parts start h) × (c′ .left ≡ rest)) (own s c)
-head-complete (array e) n u rest c q l h =
-    goes _ (count-complete _ n u rest c q l (omega (arith, length-replicate n (plainItem e)))) (gives (_, refl, refl))
+head-complete (array e) n u rest c q l h = goes _ (count-complete _ n u rest c q l h) (gives (_, refl, refl))
 head-complete (map k v) n u rest c q l h =
-    goes _ (count-complete _ n u rest c (q .0) l (omega (arith, length-pairs n k v))) (goes _ (passes _ _ _ _ (le-leb n _ (q .1))) (gives (_, refl, refl)))
+    goes _ (count-complete _ n u rest c (q .0) l h) (goes _ (passes _ _ _ _ (le-leb n _ (q .1))) (gives (_, refl, refl)))
 head-complete (struct fs) m u rest c q l h =
     goes _ (bitmap-complete fs m u rest c (q .0) l) (goes _ (passes _ _ _ _ (lt-ltb m _ (q .1))) (gives (_, refl, refl)))
 head-complete unknown n u rest c q l h = absurd q
 head-complete (scalar _) n u rest c q l h = absurd q
 head-complete (text _) n u rest c q l h = absurd q
+
+-- A count asks for no more bytes than there are items.
+least-plan : (s : Shape) (n : ℕ) (u : List ℕ) → HeadSpells s n u → least s * n ≤ length (plan s n)
+least-plan (array e) n u q = omega (arith, length-replicate n (plainItem e))
+least-plan (map k v) n u q = omega (arith, length-pairs n k v)
+least-plan (struct fs) n u q = omega arith
+least-plan unknown n u q = absurd q
+least-plan (scalar _) n u q = absurd q
+least-plan (text _) n u q = absurd q
 
 module _ (P : ℕ → Value → List ℕ → Type 0) (pos : (t : ℕ) (v : Value) (u : List ℕ) → P t v u → 0 < length u)
     (p : ℕ → Reader Tree)
@@ -133,7 +142,7 @@ module _ (P : ℕ → Value → List ℕ → Type 0) (pos : (t : ℕ) (v : Value
     unfolding value
     whole-complete t s (leaf x) u rest c q l = yields-then (leaf-complete s x u rest c q l) (λ o c′ w. rw (w .0) (gives (refl, w .1)))
     whole-complete t s (node h vs) u rest c q l =
-        yields-then (head-complete s h (q .0) (q .1 ++ rest) c (q .3) (l ∙ rw (q .2, append-assoc)) (simp length-append (omega (arith, all-take P pos (plan s h) vs (q .1) (q .4))))) (λ o c′ w.
+        yields-then (head-complete s h (q .0) (q .1 ++ rest) c (q .3) (l ∙ rw (q .2, append-assoc)) (simp length-append (omega (arith, least-plan s h (q .0) (q .3), all-take P pos (plan s h) vs (q .1) (q .4))))) (λ o c′ w.
         rw (w .1) (yields-then (walk-complete [] (plan s h) vs (q .1) rest c′ (q .4) (apart-fresh (plan s h) vs (q .5)) (w .2)) (λ ts c″ w′. gives (rw (w′ .0), w′ .1))))
 
 module _ (S : ℕ → Shape) (solid : (t : ℕ) → Solid (S t)) where

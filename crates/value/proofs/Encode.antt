@@ -4,8 +4,9 @@ use mathlib.Core.Path.{_≡_, refl, sym, ap, ap₂, subst, _∙_}
 use mathlib.Core.List.{List, [], _∷_, _++_, append-nil}
 use Prim.Native.Nat.{ℕ, zero, suc, _*_, _^_, _≤_, _<_}
 use native.Mathlib.Omega.{arith}
-use lib.ListN.{length, length-append}
+use lib.ListN.{length, take, drop, length-append}
 use lib.Pow.{pow-mono}
+use lib.Seq.{take-at, drop-at}
 use Rattle.wire.specs.Little.{bytes, Bytes}
 use Rattle.wire.proofs.Numbers.{length-bytes, bytes-little, bytes-parts, little-below, pow-bytes}
 use Rattle.wire.proofs.Varuints.{spelled-is}
@@ -68,7 +69,7 @@ module _ (S : ℕ → Shape) where
   -- ---- the root
 
   module _ (t : ℕ) (fs : List Field) (st : S t ≡ struct fs) where
-    -- Its encoding is no longer than the payload,
+    -- Its encoding is no longer than the payload.
     pub root-short : (v : Value) (u z : List ℕ) → Bytes u → RootSpells S fs v u z → length (encode S v t) ≤ length u
     unfolding encode
     root-short (leaf x) u z b q = absurd q
@@ -78,7 +79,21 @@ module _ (S : ℕ → Shape) where
         let is : y ≡ encodeAll S vs (plan (struct fs) h) = all-is (Spells S 15) (spelled-encoding 15) (plan (struct fs) h) vs y by all in
         rw (e, st, ← is) (simp length-append (omega (arith, length-bytes (bitmapBytes (length fs)) h, bitmap .0)))
 
-    -- and is the payload where there is no tail.
+    -- A payload is its own presence bytes, its value's encoding after the presence bytes of that, and the tail.
+    pub root-parts : (v : Value) (u z : List ℕ) → Bytes u → RootSpells S fs v u z
+        → u ≡ take (bitmapBytes (length fs)) u ++ (drop (bitmapBytes (length fs)) (encode S v t) ++ z)
+    unfolding encode
+    root-parts (leaf x) u z b q = absurd q
+    root-parts (node h vs) u z b q =
+        let (m, x, y, e, bitmap, _, all, _) = q in
+        let k = bitmapBytes (length fs) in
+        let by = bytes-parts (y ++ z) y z refl (bytes-parts u x (y ++ z) e b .1) .0 in
+        let is : y ≡ encodeAll S vs (plan (struct fs) h) = all-is (Spells S 15) (spelled-encoding 15) (plan (struct fs) h) vs y by all in
+        let front : take k u ≡ x = ap (take k) e ∙ take-at x (y ++ z) k (bitmap .0) in
+        let known : drop k (bytes k h ++ encodeAll S vs (plan (struct fs) h)) ≡ y = drop-at (bytes k h) (encodeAll S vs (plan (struct fs) h)) k (length-bytes k h) ∙ sym is in
+        rw (st, front, known) e
+
+    -- The encoding is the payload where there is no tail.
     pub root-encoding : (v : Value) (u : List ℕ) → Bytes u → RootSpells S fs v u [] → u ≡ encode S v t
     unfolding encode
     root-encoding (leaf x) u b q = absurd q

@@ -3,7 +3,7 @@
 use mathlib.Core.Path.{_≡_, refl, sym, ap, ap₂, _∙_}
 use mathlib.Core.Logic.{_⊎_, inl, inr, ⊎-elim}
 use mathlib.Core.List.{List, [], _∷_, _++_, map}
-use mathlib.Core.Bool.{Bool, true, false, cond, _||_}
+use mathlib.Core.Bool.{Bool, true, false, cond, _&&_, _||_}
 use Prim.Native.Nat.{ℕ, zero, suc, _+_, _-_, _*_, _/_, _%_, _^_, _≤_, _<_}
 use native.Mathlib.Omega.{arith}
 use native.Mathlib.Nat.{div-one}
@@ -12,13 +12,14 @@ use lib.Count.{onesIn}
 use lib.Dec.{eqb}
 use lib.ListN.{length, getD, take, length-append}
 use lib.Seq.{take-suc, take-length, length-take-le}
-use borrow.Author.Tests.{eqb-true, eq-eqb}
+use borrow.Author.Tests.{eqb-true, eqb-false, eq-eqb}
 use Rattle.schema.specs.declared.Field.{Field}
 use Rattle.schema.specs.Table.{bitmapBytes}
 use Rattle.schema.specs.Check.{noField}
-use Rattle.schema.proofs.Bools.{and-left, and-right, and-i, or-left, or-right, or-cases}
+use Rattle.schema.proofs.Bools.{and-left, and-right, and-i, or-left, or-right, or-cases, or-false, clash, is-false}
 use Rattle.value.specs.Read.{Item, plainItem, present, complete, unknownBits}
 use Rattle.value.specs.Claims.{setBits}
+use Rattle.value.specs.Reasons.{Absent}
 use Rattle.value.proofs.Bits.{half-pow, present-append, length-present, ones-add}
 
 -- ---- what is required
@@ -51,6 +52,28 @@ met-complete (f ∷ fs) m w =
     (λ b. or-right (eqb (f .optional) 1) _ (eq-eqb (m % 2) 1 (rw (div-one m) at b)))
     (w 0 (omega arith)))
     (met-complete fs (m / 2) (λ i h. rw (half-pow m i) at (w (suc i) (omega arith))))
+
+zero-bit : (b : ℕ) → (b ≡ 1 → ⊥) → b < 2 → b ≡ 0
+zero-bit zero n h = refl
+zero-bit (suc zero) n h = absurd (n refl)
+zero-bit (suc (suc b)) n h = absurd (omega arith)
+
+-- Where the test fails, a required field is absent, and the other way round.
+pub lacking : (fs : List Field) (m : ℕ) → complete fs m ≡ false → (i : ℕ) × Absent fs m i
+unfolding complete
+lacking [] m e = clash true refl e
+lacking (f ∷ fs) m e = go (eqb (f .optional) 1 || eqb (m % 2) 1) refl e (lacking fs (m / 2))
+  where
+    go : (b : Bool) → (eqb (f .optional) 1 || eqb (m % 2) 1) ≡ b → b && complete fs (m / 2) ≡ false
+        → (complete fs (m / 2) ≡ false → (i : ℕ) × Absent fs (m / 2) i) → (i : ℕ) × Absent (f ∷ fs) m i
+    go true t e on = let (i, (l, o, bit)) = on e in (suc i, (omega arith, o, rw (half-pow m i) bit))
+    go false t e on =
+        let w = or-false (eqb (f .optional) 1) (eqb (m % 2) 1) t in
+        let bit = eqb-false (m % 2) 1 (w .1) in
+        (0, (omega arith, eqb-false (f .optional) 1 (w .0), rw (div-one m) (zero-bit (m % 2) bit (omega arith))))
+
+pub lacks : (fs : List Field) (m i : ℕ) → Absent fs m i → complete fs m ≡ false
+lacks fs m i (l, o, bit) = is-false (complete fs m) (λ e. ⊎-elim o (λ set. omega arith) (complete-met fs m e i l))
 
 -- ---- what is present
 

@@ -19,7 +19,7 @@ Fresh keys [] vs = Unit {0}
 Fresh keys (i ∷ is) none = Unit {0}
 Fresh keys (i ∷ is) (some v vs) = (i .key && among (content v) keys ≡ false) × Fresh (withKey (i .key) (content v) keys) is vs
 
-same-refl : (x : List ℕ) → same x x ≡ true
+pub same-refl : (x : List ℕ) → same x x ≡ true
 same-refl [] = refl
 same-refl (a ∷ x) = rw (eq-eqb a a refl, same-refl x)
 

@@ -1,108 +1,104 @@
--- A value's refusals are 20 to 28 and 31: no type of a good table leads to another number.
+-- The numbers of the refusals. A value's are 20 to 28 and 31: no type of a good table leads to another number.
 -- Assumes nothing.
-use mathlib.Core.Path.{_≡_, refl}
-use mathlib.Core.Bool.{Bool, true, false}
-use mathlib.Core.List.{List, [], _∷_}
-use Prim.Native.Nat.{ℕ, zero, suc, _-_, _≤_, _<_}
+use mathlib.Core.Path.{_≡_}
+use mathlib.Core.List.{List}
+use Prim.Native.Nat.{ℕ}
 use lib.Dec.{lit≤}
-use lib.ListN.{length, drop}
-use Rattle.wire.specs.declared.varuint.VarUInt.{VarUInt}
-use Rattle.wire.specs.declared.varuint.VarUInt.the-variants.{Number, Cut, Malformed}
-use Rattle.wire.specs.Varuint.{front}
 use Rattle.schema.specs.declared.Field.{Field}
-use Rattle.schema.specs.Table.{Table, Shape, unknown, scalar, text, array, map, struct, shape}
+use Rattle.schema.specs.Table.{Table, Shape, struct, shape}
 use Rattle.schema.specs.Good.{GoodTable}
-use Rattle.schema.proofs.Shapes.{known}
-use Rattle.value.specs.Answer.{Cursor, Answer, refused, seen, Reader, andThen, check, numberAt, block, varUInt}
-use Rattle.value.specs.Value.{Tree}
-use Rattle.value.specs.Read.{Item, plan, Own, plain, parts, count, bitmap, own, walk, whole, parse, knownBits, ending, rootStruct}
-use Rattle.value.specs.Listed.{ValueFault, within-list, many-pairs}
-use Rattle.value.proofs.Shapes.{good-closed}
-use Rattle.value.proofs.TwoTables.{Below, plan-below}
+use Rattle.value.specs.declared.Row.{Row}
+use Rattle.value.specs.Answer.{Cursor, Answer, refused, seen}
+use Rattle.value.specs.Read.{rootStruct}
+use Rattle.value.specs.Reasons.{BitmapFault, cut, absent, OwnFault, cut-number, bad-number, exceeds, cut-scalar, no-bool, no-string, many-pairs, bits, unknown-bit}
+use Rattle.value.specs.Reasons.{Faulty, too-deep, own, inner, repeated, RootFault, bits as root-bits, field, surplus, short-tail}
+use Rattle.value.specs.Reasons.{Reason, no-struct, too-long, faulty, too-few-rows}
+use Rattle.value.specs.SheetReasons as sheet
+use Rattle.value.specs.Listed as listed
+use Rattle.value.specs.Listed.{ValueFault, within-list, many-pairs as pairs, ReadNumber, WriteNumber}
+use Rattle.value.proofs.Blames.{Blames, fine, blames}
+use Rattle.value.proofs.Refusals.{good-blames}
 
 -- an answer that is no refusal, or one with a number of a value's fault
 pub data Numbered {A : Type 0} : Answer A → Type 0 where
   refuses : {k p : ℕ} → ValueFault k → Numbered (refused k p)
   goes-on : {a : A} {c : Cursor} → Numbered (seen a c)
 
-numbered-then : {A B : Type 0} {m : Answer A} {f : A → Reader B} → Numbered m → ((a : A) (c : Cursor) → Numbered (f a c)) → Numbered (andThen m f)
-unfolding andThen
-numbered-then (refuses f) next = refuses f
-numbered-then (goes-on {a} {c}) next = next a c
+bitmap-number : {fs : List Field} {x rest : List ℕ} {n : ℕ} → BitmapFault fs x rest n → ValueFault n
+bitmap-number (cut h) = within-list (lit≤ tt) (lit≤ tt)
+bitmap-number (absent i l a) = within-list (lit≤ tt) (lit≤ tt)
 
-test-numbered : (b : Bool) (k p : ℕ) (c : Cursor) → ValueFault k → Numbered (check b k p c)
-unfolding check
-test-numbered true k p c f = goes-on
-test-numbered false k p c f = refuses f
+own-number : {s : Shape} {u x rest : List ℕ} {n : ℕ} → OwnFault s u x rest n → ValueFault n
+own-number (cut-number h w) = within-list (lit≤ tt) (lit≤ tt)
+own-number (bad-number h w) = within-list (lit≤ tt) (lit≤ tt)
+own-number (exceeds m s h) = within-list (lit≤ tt) (lit≤ tt)
+own-number (cut-scalar h) = within-list (lit≤ tt) (lit≤ tt)
+own-number (no-bool h) = within-list (lit≤ tt) (lit≤ tt)
+own-number (no-string s h) = within-list (lit≤ tt) (lit≤ tt)
+own-number (many-pairs m s room h) = pairs
+own-number (bits f) = bitmap-number f
+own-number (unknown-bit m s b) = within-list (lit≤ tt) (lit≤ tt)
 
-check-numbered : {B : Type 0} (b : Bool) (k p : ℕ) (c : Cursor) (f : Unit {0} → Reader B) → ValueFault k → ((c : Cursor) → Numbered (f tt c)) → Numbered (andThen (check b k p c) f)
-check-numbered b k p c f w next = numbered-then (test-numbered b k p c w) (λ u. next)
+module _ {S : ℕ → Shape} where
+  value-number : {d t n : ℕ} {u x rest : List ℕ} → Faulty S d t u x rest n → ValueFault n
+  value-number too-deep = within-list (lit≤ tt) (lit≤ tt)
+  value-number (own f) = own-number f
+  value-number (inner due f) = value-number f
+  value-number (repeated due key v s h) = within-list (lit≤ tt) (lit≤ tt)
 
--- ---- own bytes
+  pub fault-number : {fs : List Field} {u x rest : List ℕ} {n : ℕ} → RootFault S fs u x rest n → ValueFault n
+  fault-number (root-bits f) = bitmap-number f
+  fault-number (field due f) = value-number f
+  fault-number (surplus due none some) = within-list (lit≤ tt) (lit≤ tt)
+  fault-number (short-tail due few) = within-list (lit≤ tt) (lit≤ tt)
 
-block-numbered : (n : ℕ) (c : Cursor) → Numbered (block n c)
-unfolding block
-block-numbered n c = check-numbered _ 20 _ _ _ (within-list (lit≤ tt) (lit≤ tt)) (λ c′. goes-on)
-
-var-numbered : (c : Cursor) → Numbered (varUInt c)
-unfolding varUInt
-var-numbered c = go (front (c .left) (c .at))
+pub root-numbered : (T : Table) → GoodTable T → (t : ℕ) (fs : List Field) → shape T t ≡ struct fs → (c : Cursor) → Numbered (rootStruct (shape T) t fs c)
+root-numbered T good t fs st c = go (good-blames T good t fs st c)
   where
-    go : (r : VarUInt) → Numbered (numberAt c r)
-    go (Number n next) = goes-on {c = record { left = drop (next - c .at) (c .left); at = next }}
-    go Cut = refuses {k = 20} (within-list (lit≤ tt) (lit≤ tt))
-    go Malformed = refuses {k = 21} (within-list (lit≤ tt) (lit≤ tt))
+    go : {A : Type 0} {m : Answer A} → Blames c (RootFault (shape T) fs) m → Numbered m
+    go fine = goes-on
+    go (blames u x rest l k f) = refuses (fault-number f)
 
-count-numbered : (least : ℕ) (c : Cursor) → Numbered (count least c)
-unfolding count
-count-numbered least c = numbered-then (var-numbered c) (λ n c′. check-numbered _ 20 _ _ _ (within-list (lit≤ tt) (lit≤ tt)) (λ c″. goes-on))
+pub reason-number : {S : ℕ → Shape} {t room n p : ℕ} {payload : List ℕ} → Reason S t payload room n p → ReadNumber n
+reason-number (no-struct h) = listed.no-struct
+reason-number (too-long fs st h) = listed.too-long
+reason-number (faulty fs u x rest st short e f) = listed.value (fault-number f)
+reason-number (too-few-rows fs v tail st short s h) = listed.too-few-rows
 
-bitmap-numbered : (fs : List Field) (c : Cursor) → Numbered (bitmap fs c)
-unfolding bitmap
-bitmap-numbered fs c = numbered-then (block-numbered _ c) (λ x c′. check-numbered _ 25 _ _ _ (within-list (lit≤ tt) (lit≤ tt)) (λ c″. goes-on))
+-- ---- of a sheet
 
-own-numbered : (s : Shape) → (s ≡ unknown → ⊥) → (c : Cursor) → Numbered (own s c)
-own-numbered unknown h c = absurd (h refl)
-own-numbered (scalar _) h c = numbered-then (block-numbered _ c) (λ x c′. check-numbered _ 22 _ _ _ (within-list (lit≤ tt) (lit≤ tt)) (λ c″. goes-on))
-own-numbered (text _) h c =
-    numbered-then (count-numbered _ c) (λ n c₁. numbered-then (block-numbered n c₁) (λ x c′. check-numbered _ 23 _ _ _ (within-list (lit≤ tt) (lit≤ tt)) (λ c″. goes-on)))
-own-numbered (array _) h c = numbered-then (count-numbered _ c) (λ n c₁. goes-on)
-own-numbered (map _ _) h c = numbered-then (count-numbered _ c) (λ n c₁. check-numbered _ 31 _ _ _ many-pairs (λ c″. goes-on))
-own-numbered (struct fs) h c = numbered-then (bitmap-numbered fs c) (λ m c₁. check-numbered _ 26 _ _ _ (within-list (lit≤ tt) (lit≤ tt)) (λ c″. goes-on))
+module _ {B : List ℕ} where
+  bits-number : {fs : List Field} {p n : ℕ} → sheet.BitsFault B fs p n → WriteNumber n
+  bits-number (sheet.outside h) = listed.outside
+  bits-number (sheet.absent i h a) = listed.absent-field
 
--- ---- whole values
+  row-number : {s : Shape} {p n c number : ℕ} → sheet.RowFault B s p n c number → WriteNumber number
+  row-number (sheet.scalar-unfit h) = listed.unfit
+  row-number (sheet.scalar-outside w h) = listed.outside
+  row-number (sheet.no-bool b w s h) = listed.no-bool
+  row-number (sheet.text-unfit h) = listed.unfit
+  row-number (sheet.text-outside h) = listed.outside
+  row-number (sheet.no-string x s h) = listed.no-string
+  row-number (sheet.many-pairs h) = listed.many-pairs
+  row-number (sheet.bits f) = bits-number f
+  row-number (sheet.struct-unfit m s h) = listed.unfit
 
-module _ (n : ℕ) (p : ℕ → Reader Tree) (child : (t : ℕ) (c : Cursor) → t < n → Numbered (p t c)) where
-  walk-numbered : (keys : List (List ℕ)) (is : List Item) (c : Cursor) → Below n is → Numbered (walk p keys is c)
-  unfolding walk
-  walk-numbered keys [] c w = goes-on
-  walk-numbered keys (i ∷ is) c w =
-      numbered-then (child (i .type) c (w .0)) (λ t c₁. check-numbered _ 24 _ _ _ (within-list (lit≤ tt) (lit≤ tt)) (λ c₂.
-      numbered-then (walk-numbered _ is c₂ (w .1)) (λ ts c₃. goes-on)))
+  shown-number : {S : ℕ → Shape} {d t n : ℕ} {u x rest : List Row} → sheet.SheetFaulty B S d t u x rest n → WriteNumber n
+  shown-number sheet.too-deep = listed.too-deep
+  shown-number (sheet.no-row h) = listed.unfit
+  shown-number (sheet.own of-type f) = row-number f
+  shown-number (sheet.inner due f) = shown-number f
+  shown-number (sheet.repeated tree due key f h) = listed.repeated-key
 
-  whole-numbered : (t : ℕ) (s : Shape) (o : Own) (c : Cursor) → ((head : ℕ) → Below n (plan s head)) → Numbered (whole p t s o c)
-  whole-numbered t s (plain x) c w = goes-on
-  whole-numbered t s (parts start head) c w = numbered-then (walk-numbered [] (plan s head) c (w head)) (λ ts c₁. goes-on)
+  sheet-number : {S : ℕ → Shape} {t n : ℕ} {fs : List Field} {u x rest : List Row} → sheet.SheetFault B S t fs u x rest n → WriteNumber n
+  sheet-number (sheet.no-row h) = listed.unfit
+  sheet-number (sheet.bits of-type f) = bits-number f
+  sheet-number (sheet.miscounted m of-type s h) = listed.unfit
+  sheet-number (sheet.field due f) = shown-number f
+  sheet-number (sheet.left-over due some) = listed.unfit
 
-module _ (T : Table) (g : GoodTable T) where
-  shape-types : (t head : ℕ) → Below (length (T .types)) (plan (shape T t) head)
-  shape-types t head = plan-below (length (T .types)) (shape T t) head (good-closed T g t)
-
-  parse-numbered : (d t : ℕ) (c : Cursor) → t < length (T .types) → Numbered (parse (shape T) d t c)
-  unfolding parse
-  parse-numbered zero t c h = refuses {k = 28} (within-list (lit≤ tt) (lit≤ tt))
-  parse-numbered (suc d) t c h =
-      numbered-then (own-numbered (shape T t) (known T g t h) c) (λ o c₁.
-      whole-numbered (length (T .types)) (parse (shape T) d) (parse-numbered d) t (shape T t) o c₁ (shape-types t))
-
-  ending-numbered : (k : ℕ) (c : Cursor) → Numbered (ending k c)
-  unfolding ending
-  ending-numbered zero c = test-numbered _ 27 _ _ (within-list (lit≤ tt) (lit≤ tt))
-  ending-numbered (suc k) c = test-numbered _ 20 _ _ (within-list (lit≤ tt) (lit≤ tt))
-
-  pub root-numbered : (t : ℕ) (fs : List Field) → shape T t ≡ struct fs → (c : Cursor) → Numbered (rootStruct (shape T) t fs c)
-  unfolding rootStruct
-  root-numbered t fs e c =
-      numbered-then (bitmap-numbered fs c) (λ m c₁.
-      numbered-then (walk-numbered (length (T .types)) (parse (shape T) 15) (parse-numbered 15) [] _ c₁ (rw e at (shape-types t (knownBits fs m)))) (λ ts c₂.
-      numbered-then (ending-numbered _ c₂) (λ _ c₃. goes-on)))
+pub sheet-reason-number : {S : ℕ → Shape} {t room n k : ℕ} {rs : List Row} {B : List ℕ} → sheet.SheetReason S t rs B room n k → WriteNumber n
+sheet-reason-number (sheet.no-struct h) = listed.no-struct
+sheet-reason-number (sheet.faulty fs u x rest st e f) = sheet-number f
+sheet-reason-number (sheet.too-long fs v st s h) = listed.too-long
+sheet-reason-number (sheet.too-small fs v st s h h′) = listed.too-small

@@ -36,7 +36,7 @@ unfolding present
 present-unkeyed [] m = tt
 present-unkeyed (f ∷ fs) m = unkeyed-cond (eqb (m % 2) 1) _ _ (refl, present-unkeyed fs (m / 2)) (present-unkeyed fs (m / 2))
 
-unkeyed-fresh : (keys : List (List ℕ)) (is : List Item) (vs : Values) → Unkeyed is → Fresh keys is vs
+pub unkeyed-fresh : (keys : List (List ℕ)) (is : List Item) (vs : Values) → Unkeyed is → Fresh keys is vs
 unkeyed-fresh keys [] vs u = tt
 unkeyed-fresh keys (i ∷ is) none u = tt
 unkeyed-fresh keys (i ∷ is) (some v vs) u = (rw (u .0), unkeyed-fresh _ is vs (u .1))

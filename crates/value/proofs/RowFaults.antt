@@ -1,153 +1,227 @@
--- The refusals of a sheet are those that 01 lists, and a row's fault names the row.
+-- What the writer refuses of a sheet has its reason.
 -- Assumes nothing.
-use mathlib.Core.Path.{_≡_, refl, subst}
-use mathlib.Core.Bool.{Bool, true, false, cond}
-use mathlib.Core.List.{List, [], _∷_, _++_}
-use Prim.Native.Nat.{ℕ, zero, suc, _+_, _≤_, _<_}
+use mathlib.Core.Path.{_≡_, refl, sym, ap, subst, _∙_}
+use mathlib.Core.Logic.{_⊎_, inl, inr, ⊎-elim}
+use mathlib.Core.Bool.{Bool, true, false, _&&_}
+use mathlib.Core.List.{List, [], _∷_, append-nil}
+use Prim.Native.Nat.{ℕ, zero, suc, _+_, _^_, _≤_, _<_}
 use native.Mathlib.Omega.{arith}
-use lib.Dec.{leb}
+use lib.Dec.{ltb, eqb}
 use lib.ListN.{length}
-use borrow.Author.Tests.{leb-true, leb-false}
-use Rattle.wire.proofs.Cases.{differ}
+use borrow.Author.Tests.{leb-true, leb-false, ltb-false, eqb-true, eqb-false}
+use Rattle.wire.specs.Little.{little}
+use Rattle.wire.specs.Utf8.{utf8}
+use Rattle.wire.proofs.Utf8s.{utf8-is}
 use Rattle.schema.specs.declared.Field.{Field}
-use Rattle.schema.specs.Table.{Shape, unknown, scalar, text, array, map, struct}
+use Rattle.schema.specs.Table.{Shape, unknown, scalar, text, array, map, struct, width}
+use Rattle.schema.proofs.Bools.{clash, and-left, and-right}
 use Rattle.value.specs.declared.Row.{Row}
-use Rattle.value.specs.Answer.{CursorOf, AnswerOf, refused, seen, andThen, check}
-use Rattle.value.specs.Value.{Tree, Value, value}
-use Rattle.value.specs.Read.{Item, plan, Own, plain, parts, walk, knownBits, onStruct}
-use Rattle.value.specs.Spell.{encode}
-use Rattle.value.specs.Write.{RowReader, nextRow, rowOf, bitsAt, says, held, show, showRoot, Writing, refusal, written, writing, sheetRoot}
-use Rattle.value.specs.Fits.{Shows}
-use Rattle.value.specs.Listed.{RowFault, no-bool, no-string, repeated-key, absent-field, too-deep, many-pairs, unfit, outside, SheetListed, no-struct, faulty, too-long, too-small}
-use Rattle.value.proofs.Writing.{sheet-shows}
+use Rattle.value.specs.Answer.{CursorOf, refused}
+use Rattle.value.specs.Value.{Tree, Forest, stop, plus, rows, rowsAll, Value, value, Values, none, some, values, content}
+use Rattle.value.specs.Read.{Item, plan, counted, Own, plain, parts, walk, knownBits}
+use Rattle.value.specs.Spell.{AllSpell, keysOf}
+use Rattle.value.specs.Write.{nextRow, rowOf, bitsAt, says, held, show, showRoot, span}
+use Rattle.value.specs.Fits.{BitsFit, HeadFits, AllFit, Fits}
+use Rattle.value.specs.SheetReasons.{NoRow, missing, other, BitsFault, outside, absent, RowFault, scalar-unfit, scalar-outside, no-bool, text-unfit, text-outside, no-string, many-pairs, bits, struct-unfit}
+use Rattle.value.specs.SheetReasons.{RowDue, SheetFaulty, too-deep, no-row, own, inner, repeated, RootRowDue, SheetFault, no-row as no-root, bits as root-bits, miscounted, field, left-over}
+use Rattle.value.proofs.Answers.{Reads, reads-map}
+use Rattle.value.proofs.Bits.{bit-beyond}
+use Rattle.value.proofs.Blames.{Blames, fine, blames, blames-then, blames-check, blames-on, blames-map}
+use Rattle.value.proofs.Fields.{lacking}
+use Rattle.value.proofs.Keys.{fresh-apart}
+use Rattle.value.proofs.Reasons.{denied, unkeyed-at, some-left}
+use Rattle.value.proofs.Root.{Unkeyed, present-unkeyed}
+use Rattle.value.proofs.Shown.{next-reads, row-reads, bits-reads, says-reads, Says, show-sound, walk-shows}
+use Rattle.value.proofs.Spans.{length-span}
+use Rattle.value.proofs.Stops.{Stops, ItemFault, walk-blames, met, met-none}
+use Rattle.value.proofs.TwoTables.{Below}
 
--- a cursor over the rows of a sheet that has so many
-abbrev Among : ℕ → CursorOf Row → Type 0
-Among total c = c .at + length (c .left) ≡ total
+-- ---- one row
 
-module _ (total : ℕ) where
-  -- a row's fault at one of the rows or after the last, or a cursor over the rows
-  data Named {A : Type 0} : AnswerOf Row A → Type 0 where
-    fault : {n k : ℕ} → RowFault n → k ≤ total → Named (refused n k)
-    goes-on : {a : A} {c : CursorOf Row} → Among total c → Named (seen a c)
-
-  named-then : {A B : Type 0} {m : AnswerOf Row A} {f : A → RowReader B} → Named m → ((a : A) (c : CursorOf Row) → Among total c → Named (f a c)) → Named (andThen m f)
-  unfolding andThen
-  named-then (fault n h) next = fault n h
-  named-then (goes-on {a} {c} h) next = next a c h
-
-  test-named : (b : Bool) (n k : ℕ) (c : CursorOf Row) → RowFault n → k ≤ total → Among total c → Named (check b n k c)
-  unfolding check
-  test-named true n k c f h w = goes-on w
-  test-named false n k c f h w = fault f h
-
-  check-named : {B : Type 0} (b : Bool) (n k : ℕ) (c : CursorOf Row) (f : Unit {0} → RowReader B) → RowFault n → k ≤ total → Among total c
-      → ((c : CursorOf Row) → Among total c → Named (f tt c)) → Named (andThen (check b n k c) f)
-  check-named b n k c f fault-is h w next = named-then (test-named b n k c fault-is h w) (λ u. next)
-
-  next-named : (c : CursorOf Row) → Among total c → Named (nextRow c)
+module _ {F : (u x rest : List Row) → ℕ → Type 0} (t : ℕ) (c : CursorOf Row) (f : (x rest : List Row) → NoRow t x rest → F [] x rest 50) where
+  next-blames : Blames c F (nextRow c)
   unfolding nextRow
-  next-named c w = go (c .left) refl
+  next-blames = go (c .left) refl
     where
-      go : (l : List Row) → c .left ≡ l → Named (nextRow (record { left = l; at = c .at }))
-      go [] e = fault {k = c .at} unfit (omega arith)
-      go (r ∷ rs) e =
-          let h : c .at + length (r ∷ rs) ≡ total = rw e at w in
-          goes-on {c = record { left = rs; at = c .at + 1 }} (omega arith)
+      go : (l : List Row) → c .left ≡ l → Blames c F (nextRow (record { left = l; at = c .at }))
+      go [] e = blames {p = c .at} [] [] [] e (omega arith) (f [] [] missing)
+      go (r ∷ rs) e = fine
 
-  row-named : (t : ℕ) (c : CursorOf Row) → Among total c → Named (rowOf t c)
+  row-blames : Blames c F (rowOf t c)
   unfolding rowOf
-  row-named t c w = named-then (next-named c w) (λ r c₁ w₁. check-named _ 50 _ c₁ _ unfit (omega arith) w₁ (λ c₂ w₂. goes-on w₂))
+  row-blames =
+      blames-then (next-reads c) next-blames (λ r c₁ u _ l k q.
+      blames-check _ _ _ _ _ (λ e. blames [] (r ∷ []) (c₁ .left) (l ∙ rw q) (omega arith) (f (r ∷ []) (c₁ .left) (other (eqb-false (r .ty) t e)))) (λ _. fine))
 
-  -- ---- what a row says
+both-not : (a b : Bool) → a && b ≡ false → (a ≡ false) ⊎ (b ≡ false)
+both-not true b e = inr e
+both-not false b e = inl refl
 
-  module _ (B : List ℕ) (k : ℕ) (in-sheet : k ≤ total) where
-    bits-named : (fs : List Field) (p : ℕ) (c : CursorOf Row) → Among total c → Named (bitsAt B k fs p c)
+module _ (B : List ℕ) where
+  scalar-fault : (kind p n k : ℕ) → eqb n (width kind) && eqb k 0 ≡ false → RowFault B (scalar kind) p n k 50
+  scalar-fault kind p n k e = scalar-unfit (⊎-elim (λ w. inl (eqb-false n (width kind) w)) (λ z. inr (eqb-false k 0 z)) (both-not _ _ e))
+
+  pub bool-fault : (kind p n : ℕ) → kind ≡ 1 → n ≡ width kind → p + n ≤ length B → 2 ≤ little (span B p n) → RowFault B (scalar kind) p n 0 22
+  unfolding little
+  bool-fault kind p n one w inside high =
+      subst (λ (k : ℕ). RowFault B (scalar k) p n 0 22) (sym one) (go (span B p n) refl (length-span B p n inside ∙ w ∙ ap width one) high)
+    where
+      go : (x : List ℕ) → x ≡ span B p n → length x ≡ 1 → 2 ≤ little x → RowFault B (scalar 1) p n 0 22
+      go [] e l h = absurd (omega arith)
+      go (b ∷ []) e l h = no-bool b (w ∙ ap width one) (inside, e) (omega arith)
+      go (b ∷ b′ ∷ x) e l h = absurd (omega arith)
+
+  pub string-fault : (kind p n : ℕ) → kind ≡ 12 → p + n ≤ length B → utf8 (span B p n) ≡ false → RowFault B (text kind) p n 0 23
+  string-fault kind p n is inside e = rw is (no-string (span B p n) (inside, refl) (λ w. clash (utf8 (span B p n)) (utf8-is (span B p n) .1 w) e))
+
+  struct-fault : (fs : List Field) (p n k m : ℕ) → BitsFit B fs p m → ltb m (2 ^ length fs) && eqb k (counted (struct fs) m) ≡ false → RowFault B (struct fs) p n k 50
+  struct-fault fs p n k m q e =
+      struct-unfit m q (⊎-elim (λ b. inl (bit-beyond (length fs) m .0 (ltb-false m _ b))) (λ z. inr (eqb-false k _ z)) (both-not _ _ e))
+
+  -- The first of the rows left at the cursor c, by its place, length and count.
+  module _ {F : (u x rest : List Row) → ℕ → Type 0} (c : CursorOf Row) (r : Row) (rest : List Row) (l : c .left ≡ r ∷ rest) where
+    blamed : {A : Type 0} {n : ℕ} → F [] (r ∷ []) rest n → Blames {A = A} c F (refused n (c .at))
+    blamed f = blames {p = c .at} [] (r ∷ []) rest l (omega arith) f
+
+    bits-blames : (fs : List Field) (p : ℕ) (c₁ : CursorOf Row) → ((n : ℕ) → BitsFault B fs p n → F [] (r ∷ []) rest n) → Blames c F (bitsAt B (c .at) fs p c₁)
     unfolding bitsAt
-    bits-named fs p c w =
-        check-named _ 51 k c _ outside in-sheet w (λ c₁ w₁. check-named _ 25 k c₁ _ absent-field in-sheet w₁ (λ c₂ w₂. goes-on w₂))
+    bits-blames fs p c₁ f =
+        blames-check _ _ _ _ _ (λ e. blamed (f _ (outside (leb-false _ _ e)))) (λ e.
+        blames-check _ _ _ _ _ (λ e′. let w = lacking fs _ e′ in blamed (f _ (absent (w .0) (leb-true _ _ e) (w .1)))) (λ _. fine))
 
-    says-named : (s : Shape) (p n count : ℕ) (c : CursorOf Row) → Among total c → Named (says B k s p n count c)
-    says-named unknown p n count c w = fault unfit in-sheet
-    says-named (scalar kind) p n count c w =
-        check-named _ 50 k c _ unfit in-sheet w (λ c₁ w₁.
-        check-named _ 51 k c₁ _ outside in-sheet w₁ (λ c₂ w₂. check-named _ 22 k c₂ _ no-bool in-sheet w₂ (λ c₃ w₃. goes-on w₃)))
-    says-named (text kind) p n count c w =
-        check-named _ 50 k c _ unfit in-sheet w (λ c₁ w₁.
-        check-named _ 51 k c₁ _ outside in-sheet w₁ (λ c₂ w₂. check-named _ 23 k c₂ _ no-string in-sheet w₂ (λ c₃ w₃. goes-on w₃)))
-    says-named (array _) p n count c w = goes-on w
-    says-named (map _ _) p n count c w = check-named _ 31 k c _ many-pairs in-sheet w (λ c₁ w₁. goes-on w₁)
-    says-named (struct fs) p n count c w =
-        named-then (bits-named fs p c w) (λ m c₁ w₁. check-named _ 50 k c₁ _ unfit in-sheet w₁ (λ c₂ w₂. goes-on w₂))
+    says-blames : (s : Shape) → (s ≡ unknown → ⊥) → (p n k : ℕ) (c₁ : CursorOf Row) → ((number : ℕ) → RowFault B s p n k number → F [] (r ∷ []) rest number)
+        → Blames c F (says B (c .at) s p n k c₁)
+    says-blames unknown h p n k c₁ f = absurd (h refl)
+    says-blames (scalar kind) h p n k c₁ f =
+        blames-check _ _ _ _ _ (λ e. blamed (f _ (scalar-fault kind p n k e))) (λ e.
+        let w = eqb-true n (width kind) (and-left _ _ e) in
+        let z = eqb-true k 0 (and-right (eqb n (width kind)) _ e) in
+        blames-check _ _ _ _ _ (λ e′. blamed (f _ (rw z (scalar-outside w (leb-false _ _ e′))))) (λ e′.
+        blames-check _ _ _ _ _ (λ e″. let d = denied 1 kind _ e″ in blamed (f _ (rw z (bool-fault kind p n (d .0) w (leb-true _ _ e′) (ltb-false _ 2 (d .1)))))) (λ _. fine)))
+    says-blames (text kind) h p n k c₁ f =
+        blames-check _ _ _ _ _ (λ e. blamed (f _ (text-unfit (eqb-false k 0 e)))) (λ e.
+        let z = eqb-true k 0 e in
+        blames-check _ _ _ _ _ (λ e′. blamed (f _ (rw z (text-outside (leb-false _ _ e′))))) (λ e′.
+        blames-check _ _ _ _ _ (λ e″. let d = denied 12 kind _ e″ in blamed (f _ (rw z (string-fault kind p n (d .0) (leb-true _ _ e′) (d .1))))) (λ _. fine)))
+    says-blames (array e) h p n k c₁ f = fine
+    says-blames (map a b) h p n k c₁ f = blames-check _ _ _ _ _ (λ e. blamed (f _ (many-pairs (leb-false k 64 e)))) (λ _. fine)
+    says-blames (struct fs) h p n k c₁ f =
+        blames-then (bits-reads B (c .at) fs p c₁) (bits-blames fs p c₁ (λ m g. f m (bits g))) (λ m c₂ u _ _ _ q.
+        blames-check _ _ _ _ _ (λ e. blamed (f _ (struct-fault fs p n k m (q .1) e))) (λ _. fine))
 
-  -- ---- whole values
+-- ---- whole values
 
-  module _ (p : ℕ → RowReader Tree) (child : (t : ℕ) (c : CursorOf Row) → Among total c → Named (p t c)) where
-    walk-named : (keys : List (List ℕ)) (is : List Item) (c : CursorOf Row) → Among total c → Named (walk p keys is c)
-    unfolding walk
-    walk-named keys [] c w = goes-on w
-    walk-named keys (i ∷ is) c w =
-        named-then (child (i .type) c w) (λ t c₁ w₁.
-        check-named _ 24 _ c₁ _ repeated-key (omega arith) w₁ (λ c₂ w₂. named-then (walk-named _ is c₂ w₂) (λ ts c₃ w₃. goes-on w₃)))
+-- The rows u are those of a tree that fits, and show v.
+abbrev pub RowsShow : (ℕ → Shape) → List ℕ → (d t : ℕ) → Value → List Row → Type 0
+RowsShow S B d t v u = (tree : Tree) × (rows tree ≡ u) × (value tree ≡ v) × Fits S B d t tree
 
-    held-named : (r : Row) (s : Shape) (o : Own) (c : CursorOf Row) → Among total c → Named (held p r s o c)
-    held-named r s (plain x) c w = goes-on w
-    held-named r s (parts _ head) c w = named-then (walk-named [] (plan s head) c w) (λ ts c₁ w₁. goes-on w₁)
+module _ (S : ℕ → Shape) (B : List ℕ) where
+  pub forest-of : (d : ℕ) (is : List Item) (vs : Values) (y : List Row) → AllSpell (RowsShow S B d) is vs y
+      → (ts : Forest) × AllFit (Fits S B d) is ts × (rowsAll ts ≡ y) × (values ts ≡ vs)
+  unfolding rowsAll values
+  forest-of d [] none y q = (stop, tt, sym q, refl)
+  forest-of d [] (some v vs) y q = absurd q
+  forest-of d (i ∷ is) none y q = absurd q
+  forest-of d (i ∷ is) (some v vs) y (x, y′, e, (tree, has-rows, has-value, f), qs) =
+      let (ts, fit, all-rows, all-values) = forest-of d is vs y′ qs in
+      (plus tree ts, (f, fit), rw (has-rows, all-rows) (sym e), rw (has-value, all-values))
 
-  module _ (S : ℕ → Shape) (B : List ℕ) where
-    show-named : (d t : ℕ) (c : CursorOf Row) → Among total c → Named (show S B d t c)
+  pub of-forest : (d : ℕ) (is : List Item) (ts : Forest) → AllFit (Fits S B d) is ts → AllSpell (RowsShow S B d) is (values ts) (rowsAll ts)
+  unfolding rowsAll values
+  of-forest d [] stop q = refl
+  of-forest d [] (plus tree ts) q = absurd q
+  of-forest d (i ∷ is) stop q = absurd q
+  of-forest d (i ∷ is) (plus tree ts) q = (rows tree, rowsAll ts, refl, (tree, refl, refl, q .0), of-forest d is ts (q .1))
+
+  pub show-reads : (d t : ℕ) (c : CursorOf Row) → Reads c (λ tree u. RowsShow S B d t (value tree) u) (show S B d t c)
+  show-reads d t c = reads-map (show-sound S B d t c) (λ tree u q. (tree, sym (q .0), refl, q .1))
+
+  module _ (types : ℕ) (there : (t : ℕ) → t < types → S t ≡ unknown → ⊥) (below : (t head : ℕ) → Below types (plan (S t) head)) where
+    held-fault : (d t h : ℕ) (r : Row) (w x rest : List Row) (n : ℕ) → r .ty ≡ t → HeadFits B (S t) (r .place) (r .count) h
+        → Stops (RowsShow S B d) (SheetFaulty B S d) [] (plan (S t) h) w x rest n → SheetFaulty B S (suc d) t (r ∷ w) x rest n
+    held-fault d t h r w x rest n of-type starts q = go (forest-of d (q .before) (q .shown) (q .y) (q .spelled)) (q .fault)
+      where
+        due : (ts : Forest) → AllFit (Fits S B d) (q .before) ts → values ts ≡ q .shown → RowDue B S d t r ts (q .item) (keysOf (q .before) (q .shown))
+        due ts fit e = record {
+          head = h;
+          before = q .before;
+          after = q .after;
+          of-type = of-type;
+          starts = starts;
+          planned = q .split;
+          fit = fit;
+          apart = rw e (fresh-apart (q .before) (q .shown) (q .fresh));
+          keys = ap (keysOf (q .before)) e;
+        }
+
+        go : (ts : Forest) × AllFit (Fits S B d) (q .before) ts × (rowsAll ts ≡ q .y) × (values ts ≡ q .shown)
+            → ItemFault (RowsShow S B d) (SheetFaulty B S d) (q .item) (met [] (q .before) (q .shown)) (q .w) x rest n → SheetFaulty B S (suc d) t (r ∷ w) x rest n
+        go (ts, fit, all-rows, all-values) (inl f) = rw (q .place, ← all-rows) (inner (due ts fit all-values) f)
+        go (ts, fit, all-rows, all-values) (inr (v, none-of-it, number, key, (tree, has-rows, has-value, f), again)) =
+            rw (q .place, none-of-it, number, append-nil, ← all-rows, ← has-rows)
+            (repeated tree (due ts fit all-values) key f (rw has-value (met-none (q .before) (q .shown) (content v) again)))
+
+    show-blames : (d t : ℕ) (c : CursorOf Row) → t < types → Blames c (SheetFaulty B S d t) (show S B d t c)
     unfolding show
-    show-named zero t c w = fault {k = c .at} too-deep (omega arith)
-    show-named (suc d) t c w =
-        named-then (row-named t c w) (λ r c₁ w₁.
-        named-then (says-named B (c .at) (omega arith) (S t) (r .place) (r .length) (r .count) c₁ w₁) (λ o c₂ w₂.
-        held-named (show S B d) (show-named d) r (S t) o c₂ w₂))
+    show-blames zero t c h = blames {p = c .at} [] [] (c .left) refl (omega arith) too-deep
+    show-blames (suc d) t c h =
+        blames-then (row-reads t c) (row-blames t c (λ x rest w. no-row w)) (λ r c₁ u _ l k q.
+        let first : c .left ≡ r ∷ c₁ .left = l ∙ rw (q .0) in
+        let one : length u ≡ 1 = ap length (q .0) in
+        blames-then (says-reads B (c .at) (S t) (r .place) (r .length) (r .count) c₁)
+        (says-blames B c r (c₁ .left) first (S t) (there t h) (r .place) (r .length) (r .count) c₁ (λ n f. own (q .1) f))
+        (λ o c₂ u₂ _ l₂ k₂ q₂.
+        let none-of-it : length u₂ ≡ 0 = ap length (q₂ .0) in
+        go o r c₂ (first ∙ ap (λ (z : List Row). r ∷ z) (l₂ ∙ rw (q₂ .0))) (omega arith) (q .1) (q₂ .1)
+        (λ head. walk-blames (RowsShow S B d) (SheetFaulty B S d) (show S B d) types (show-reads d) (show-blames d) [] (plan (S t) head) c₂ (below t head))))
+      where
+        go : (o : Own) (r : Row) (c₂ : CursorOf Row) → c .left ≡ r ∷ c₂ .left → c₂ .at ≡ c .at + 1 → r .ty ≡ t → Says B (S t) (r .place) (r .length) (r .count) o
+            → ((head : ℕ) → Blames c₂ (Stops (RowsShow S B d) (SheetFaulty B S d) [] (plan (S t) head)) (walk (show S B d) [] (plan (S t) head) c₂))
+            → Blames c (SheetFaulty B S (suc d) t) (held (show S B d) r (S t) o c₂)
+        go (plain x) r c₂ l k of-type q on = fine
+        go (parts _ head) r c₂ l k of-type q on =
+            blames-map (blames-on (r ∷ []) l k (on head) (λ w x rest n _ f. held-fault d t head r w x rest n of-type q f)) (λ _ _. fine)
 
-    root-named : (t : ℕ) (fs : List Field) (c : CursorOf Row) → Among total c → Named (showRoot S B t fs c)
+    -- ---- the root
+
+    field-fault : (t : ℕ) (fs : List Field) (m : ℕ) (r : Row) (w x rest : List Row) (n : ℕ) → r .ty ≡ t → BitsFit B fs (r .place) m
+        → r .count ≡ counted (struct fs) (knownBits fs m) → Stops (RowsShow S B 15) (SheetFaulty B S 15) [] (plan (struct fs) (knownBits fs m)) w x rest n
+        → SheetFault B S t fs (r ∷ w) x rest n
+    field-fault t fs m r w x rest n of-type starts count q = go (forest-of 15 (q .before) (q .shown) (q .y) (q .spelled)) (q .fault)
+      where
+        go : (ts : Forest) × AllFit (Fits S B 15) (q .before) ts × (rowsAll ts ≡ q .y) × (values ts ≡ q .shown)
+            → ItemFault (RowsShow S B 15) (SheetFaulty B S 15) (q .item) (met [] (q .before) (q .shown)) (q .w) x rest n → SheetFault B S t fs (r ∷ w) x rest n
+        go (ts, fit, all-rows, _) (inl f) =
+            rw (q .place, ← all-rows) (field (record { m = m; before = q .before; of-type = of-type; starts = starts; count = count; planned = q .split; fit = fit }) f)
+        go _ (inr (v, _, _, key, _, _)) =
+            clash (q .item .key) key (unkeyed-at (q .before) (q .item) (q .after) (subst Unkeyed (q .split) (present-unkeyed fs (knownBits fs m))))
+
+    pub sheet-blames : (t : ℕ) (fs : List Field) → S t ≡ struct fs → (c : CursorOf Row) → Blames c (SheetFault B S t fs) (showRoot S B t fs c)
     unfolding showRoot
-    root-named t fs c w =
-        let start : c .at ≤ total = omega arith in
-        named-then (row-named t c w) (λ r c₁ w₁.
-        named-then (bits-named B (c .at) start fs (r .place) c₁ w₁) (λ m c₂ w₂.
-        check-named _ 50 (c .at) c₂ _ unfit start w₂ (λ c₃ w₃.
-        named-then (walk-named (show S B 15) (show-named 15) [] (plan (struct fs) (knownBits fs m)) c₃ w₃) (λ ts c₄ w₄.
-        check-named _ 50 (c₄ .at) c₄ _ unfit (omega arith) w₄ (λ c₅ w₅. goes-on w₅)))))
-
--- ---- the whole writer
-
-module _ (S : ℕ → Shape) (t : ℕ) (rs : List Row) (B : List ℕ) (room : ℕ) where
-  data Told : Writing → Type 0 where
-    wrote : {out : List ℕ} → Told (written out)
-    refuses : {n k : ℕ} → SheetListed S t rs B room n k → Told (refusal n k)
-
-  fitting : (fs : List Field) (v : Value) → Shows S B t fs rs v → (a b : Bool) → leb (length (encode S v t)) 16384 ≡ a → leb (length (encode S v t)) room ≡ b
-      → Told (cond a (cond b (written (encode S v t)) (refusal 52 0)) (refusal 7 0))
-  fitting fs v s true true p q = wrote
-  fitting fs v s true false p q = refuses (too-small fs v s (leb-true _ _ p) (leb-false _ _ q))
-  fitting fs v s false b p q = refuses (too-long fs v s (leb-false _ _ p))
-
-  judged : (fs : List Field) (m : AnswerOf Row Tree) → showRoot S B t fs (record { left = rs; at = 0 }) ≡ m → Named (length rs) m → Told (writing S t room m)
-  judged fs (refused n k) e (fault f h) = refuses (faulty {n = n} {k = k} f h)
-  judged fs (seen tree end) e (goes-on h) =
-      fitting fs (value tree) (sheet-shows S t fs rs B tree end e) (leb (length (encode S (value tree) t)) 16384) (leb (length (encode S (value tree) t)) room) refl refl
-
-  told : Told (writing S t room (sheetRoot S t rs B))
-  told = go (S t) refl
-    where
-      no : (s : Shape) → S t ≡ s → ((fs : List Field) → s ≡ struct fs → ⊥) → SheetListed S t rs B room 46 0
-      no s e h = no-struct (λ fs k. h fs (cc (e, k)))
-
-      go : (s : Shape) → S t ≡ s → Told (writing S t room (onStruct s (refused 46 0) (λ fs. showRoot S B t fs (record { left = rs; at = 0 }))))
-      go (struct fs) e = judged fs _ refl (root-named (length rs) S B t fs (record { left = rs; at = 0 }) (omega arith))
-      go unknown e = refuses (no unknown e (λ fs k. differ cc))
-      go (scalar x) e = refuses (no (scalar x) e (λ fs k. differ cc))
-      go (text x) e = refuses (no (text x) e (λ fs k. differ cc))
-      go (array x) e = refuses (no (array x) e (λ fs k. differ cc))
-      go (map x y) e = refuses (no (map x y) e (λ fs k. differ cc))
-
-  -- A refusal has a number that 01 lists, for the reason that it says.
-  pub sheet-listed : (n k : ℕ) → writing S t room (sheetRoot S t rs B) ≡ refusal n k → SheetListed S t rs B room n k
-  sheet-listed n k e = go (subst Told e told)
-    where
-      go : Told (refusal n k) → SheetListed S t rs B room n k
-      go (refuses l) = l
+    sheet-blames t fs st c =
+        blames-then (row-reads t c) (row-blames t c (λ x rest w. no-root w)) (λ r c₁ u _ l k q.
+        let first : c .left ≡ r ∷ c₁ .left = l ∙ rw (q .0) in
+        let one : length u ≡ 1 = ap length (q .0) in
+        blames-then (bits-reads B (c .at) fs (r .place) c₁) (bits-blames B c r (c₁ .left) first fs (r .place) c₁ (λ n f. root-bits (q .1) f)) (λ m c₂ u₂ _ l₂ k₂ q₂.
+        let none-of-it : length u₂ ≡ 0 = ap length (q₂ .0) in
+        let l′ : c .left ≡ r ∷ c₂ .left = first ∙ ap (λ (z : List Row). r ∷ z) (l₂ ∙ rw (q₂ .0)) in
+        let k′ : c₂ .at ≡ c .at + 1 = omega arith in
+        blames-check _ _ _ _ _ (λ e. blamed B c r (c₁ .left) first (miscounted m (q .1) (q₂ .1) (eqb-false _ _ e))) (λ e.
+        blames-then (walk-shows (Fits S B 15) (show S B 15) (show-sound S B 15) [] _ c₂)
+        (blames-on (r ∷ []) l′ k′
+        (walk-blames (RowsShow S B 15) (SheetFaulty B S 15) (show S B 15) types (show-reads 15) (show-blames 15) [] _ c₂ (rw st at (below t (knownBits fs m))))
+        (λ w x rest n _ f. field-fault t fs m r w x rest n (q .1) (q₂ .1) (eqb-true _ _ e) f))
+        (λ ts c₃ u₃ _ l₃ k₃ q₃.
+        let all : RootRowDue B S t fs r ts [] = record {
+          m = m;
+          before = plan (struct fs) (knownBits fs m);
+          of-type = q .1;
+          starts = q₂ .1;
+          count = eqb-true _ _ e;
+          planned = sym (append-nil _);
+          fit = q₃ .1;
+        } in
+        let long : length u₃ ≡ length (rowsAll ts) = ap length (q₃ .0) in
+        blames-check _ _ _ _ _
+        (λ e′. blames (r ∷ rowsAll ts) (c₃ .left) [] (l′ ∙ ap (λ (z : List Row). r ∷ z) (l₃ ∙ rw (append-nil, q₃ .0))) (omega arith) (left-over all (some-left (c₃ .left) (eqb-false _ 0 e′))))
+        (λ _. fine)))))

@@ -30,7 +30,7 @@ both-true a b e f = and-eq-true-iff a b .1 (e, f)
 
 -- ---- what is accepted fits
 
-next-reads : (c : CursorOf Row) → Reads c (λ r u. u ≡ r ∷ []) (nextRow c)
+pub next-reads : (c : CursorOf Row) → Reads c (λ r u. u ≡ r ∷ []) (nextRow c)
 unfolding nextRow
 next-reads c = go (c .left) refl
   where
@@ -38,21 +38,21 @@ next-reads c = go (c .left) refl
     go [] e = not-ok
     go (r ∷ rs) e = ok (r ∷ []) e refl refl
 
-row-reads : (t : ℕ) (c : CursorOf Row) → Reads c (λ r u. (u ≡ r ∷ []) × (r .ty ≡ t)) (rowOf t c)
+pub row-reads : (t : ℕ) (c : CursorOf Row) → Reads c (λ r u. (u ≡ r ∷ []) × (r .ty ≡ t)) (rowOf t c)
 unfolding rowOf
 row-reads t c = reads-then (next-reads c) (λ r c′ u q. reads-check _ _ _ _ _ (λ e. stay (rw (append-nil, q), eqb-true _ t e)))
 
 -- What a row says.
-abbrev Says : List ℕ → Shape → (place n count : ℕ) → Own → Type 0
+abbrev pub Says : List ℕ → Shape → (place n count : ℕ) → Own → Type 0
 Says B s p n c (plain x) = LeafFits B s p n c x
 Says B s p n c (parts _ h) = HeadFits B s p c h
 
 module _ (B : List ℕ) (k : ℕ) where
-  bits-reads : (fs : List Field) (p : ℕ) (c : CursorOf Row) → Reads c (λ m u. (u ≡ []) × BitsFit B fs p m) (bitsAt B k fs p c)
+  pub bits-reads : (fs : List Field) (p : ℕ) (c : CursorOf Row) → Reads c (λ m u. (u ≡ []) × BitsFit B fs p m) (bitsAt B k fs p c)
   unfolding bitsAt
   bits-reads fs p c = reads-check _ _ _ _ _ (λ e. reads-check _ _ _ _ _ (λ e′. stay (refl, (leb-true _ _ e, refl, e′))))
 
-  says-reads : (s : Shape) (p n count : ℕ) (c : CursorOf Row) → Reads c (λ o u. (u ≡ []) × Says B s p n count o) (says B k s p n count c)
+  pub says-reads : (s : Shape) (p n count : ℕ) (c : CursorOf Row) → Reads c (λ o u. (u ≡ []) × Says B s p n count o) (says B k s p n count c)
   says-reads unknown p n count c = not-ok
   says-reads (scalar kind) p n count c =
       reads-check _ _ _ _ _ (λ e. reads-check _ _ _ _ _ (λ e′. reads-check _ _ _ _ _ (λ e″.
@@ -69,7 +69,7 @@ module _ (B : List ℕ) (k : ℕ) where
       stay (rw append-nil (q .0), (q .1, ltb-true _ _ (b .0), eqb-true _ _ (b .1)))))
 
 module _ (P : ℕ → Tree → Type 0) (p : ℕ → RowReader Tree) (pP : (t : ℕ) (c : CursorOf Row) → Reads c (λ tree u. (u ≡ rows tree) × P t tree) (p t c)) where
-  walk-shows : (keys : List (List ℕ)) (is : List Item) (c : CursorOf Row)
+  pub walk-shows : (keys : List (List ℕ)) (is : List Item) (c : CursorOf Row)
       → Reads c (λ ts u. (u ≡ rowsAll ts) × AllFit P is ts × Fresh keys is (values ts)) (walk p keys is c)
   unfolding walk rowsAll values
   walk-shows keys [] c = stay (refl, tt, tt)
@@ -85,7 +85,7 @@ module _ (P : ℕ → Tree → Type 0) (p : ℕ → RowReader Tree) (pP : (t : �
       reads-then (walk-shows [] (plan s head) c) (λ ts c′ u w. stay (rw (append-nil, w .0), (h, q, w .1, fresh-apart (plan s head) (values ts) (w .2))))
 
 module _ (S : ℕ → Shape) (B : List ℕ) where
-  show-sound : (d t : ℕ) (c : CursorOf Row) → Reads c (λ tree u. (u ≡ rows tree) × Fits S B d t tree) (show S B d t c)
+  pub show-sound : (d t : ℕ) (c : CursorOf Row) → Reads c (λ tree u. (u ≡ rows tree) × Fits S B d t tree) (show S B d t c)
   unfolding show
   show-sound zero t c = not-ok
   show-sound (suc d) t c =
@@ -94,12 +94,12 @@ module _ (S : ℕ → Shape) (B : List ℕ) where
 
 -- ---- what fits is accepted
 
-row-complete : (t : ℕ) (r : Row) (rest : List Row) (c : CursorOf Row) → r .ty ≡ t → c .left ≡ r ∷ rest → rowOf t c ≡ seen r (record { left = rest; at = c .at + 1 })
+pub row-complete : (t : ℕ) (r : Row) (rest : List Row) (c : CursorOf Row) → r .ty ≡ t → c .left ≡ r ∷ rest → rowOf t c ≡ seen r (record { left = rest; at = c .at + 1 })
 unfolding rowOf nextRow andThen
 row-complete t r rest c h e = rw (e, passes _ _ _ _ (eq-eqb (r .ty) t h))
 
 module _ (B : List ℕ) (k : ℕ) where
-  bits-complete : (fs : List Field) (m p : ℕ) (c : CursorOf Row) → BitsFit B fs p m → bitsAt B k fs p c ≡ seen m c
+  pub bits-complete : (fs : List Field) (m p : ℕ) (c : CursorOf Row) → BitsFit B fs p m → bitsAt B k fs p c ≡ seen m c
   unfolding bitsAt andThen
   bits-complete fs m p c q = rw (passes _ _ _ _ (le-leb _ _ (q .0)), ← q .1, passes _ _ _ _ (q .2))
 
@@ -114,7 +114,7 @@ module _ (B : List ℕ) (k : ℕ) where
   leaf-says (map _ _) p n count x c q = absurd q
   leaf-says (struct _) p n count x c q = absurd q
 
-  head-says : (s : Shape) (p n count h : ℕ) (c : CursorOf Row) → HeadFits B s p count h → says B k s p n count c ≡ seen (parts 0 h) c
+  pub head-says : (s : Shape) (p n count h : ℕ) (c : CursorOf Row) → HeadFits B s p count h → says B k s p n count c ≡ seen (parts 0 h) c
   unfolding andThen
   head-says (array _) p n count h c q = rw q
   head-says (map _ _) p n count h c q = rw (q .0, passes _ _ _ _ (le-leb h _ (q .1)))
@@ -124,13 +124,13 @@ module _ (B : List ℕ) (k : ℕ) where
   head-says (scalar _) p n count h c q = absurd q
   head-says (text _) p n count h c q = absurd q
 
-abbrev AtEnd : {A : Type 0} → A → List Row → A → CursorOf Row → Type 0
+abbrev pub AtEnd : {A : Type 0} → A → List Row → A → CursorOf Row → Type 0
 AtEnd x rest y c = (y ≡ x) × (c .left ≡ rest)
 
 module _ (P : ℕ → Tree → Type 0) (p : ℕ → RowReader Tree)
     (pP : (t : ℕ) (tree : Tree) (rest : List Row) (c : CursorOf Row) → P t tree → c .left ≡ rows tree ++ rest → Yields (AtEnd tree rest) (p t c))
   where
-    walk-shown : (keys : List (List ℕ)) (is : List Item) (ts : Forest) (rest : List Row) (c : CursorOf Row) → AllFit P is ts → Fresh keys is (values ts)
+    pub walk-shown : (keys : List (List ℕ)) (is : List Item) (ts : Forest) (rest : List Row) (c : CursorOf Row) → AllFit P is ts → Fresh keys is (values ts)
         → c .left ≡ rowsAll ts ++ rest → Yields (AtEnd ts rest) (walk p keys is c)
     unfolding walk rowsAll values
     walk-shown keys [] stop rest c q f l = gives (refl, l)
@@ -151,7 +151,7 @@ module _ (P : ℕ → Tree → Type 0) (p : ℕ → RowReader Tree)
         (yields-then (walk-shown [] (plan s h) ts rest _ (q .2) (apart-fresh (plan s h) (values ts) (q .3)) refl) (λ ys c″ w. gives (rw (w .0), w .1))))
 
 module _ (S : ℕ → Shape) (B : List ℕ) where
-  show-complete : (d t : ℕ) (tree : Tree) (rest : List Row) (c : CursorOf Row) → Fits S B d t tree → c .left ≡ rows tree ++ rest → Yields (AtEnd tree rest) (show S B d t c)
+  pub show-complete : (d t : ℕ) (tree : Tree) (rest : List Row) (c : CursorOf Row) → Fits S B d t tree → c .left ≡ rows tree ++ rest → Yields (AtEnd tree rest) (show S B d t c)
   unfolding show
   show-complete zero t tree rest c q l = absurd q
   show-complete (suc d) t tree rest c q l = whole-shown (Fits S B d) (show S B d) (show-complete d) B (c .at) (S t) t tree rest c q l

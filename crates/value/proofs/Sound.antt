@@ -36,7 +36,7 @@ past s u rest at next e h =
     let k : next - at ≡ length u = omega arith in
     rw (k, e, drop-append-seam)
 
-var-reads : (c : Cursor) → Reads c (λ n u. Spelled n u) (varUInt c)
+pub var-reads : (c : Cursor) → Reads c (λ n u. Spelled n u) (varUInt c)
 unfolding varUInt
 var-reads c = go (front (c .left) (c .at)) refl
   where

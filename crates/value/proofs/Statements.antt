@@ -28,7 +28,9 @@ use Rattle.value.proofs.Shapes.{Solid, good-solid, Extension, good-exte
 use Rattle.value.specs.Write.{refusal as refused-write, written, show, write}
 use Rattle.value.specs.Fits.{Shows, told, used}
 use Rattle.value.specs.Added.{carries, inner, firstAdded, NoneAdded}
-use Rattle.value.specs.Listed.{Listed, SheetListed}
+use Rattle.value.specs.Reasons.{RootFault, Reason, faulty, Settles}
+use Rattle.value.specs.SheetReasons.{SheetReason}
+use Rattle.value.specs.Listed.{ReadNumber, WriteNumber}
 use Rattle.value.specs.Claims.{setBits, Rightful, ReadAs, Delimited, Writes, ByOld}
 use Rattle.value.proofs.Answers.{reads-end, yields-end, seen-end}
 use Rattle.value.proofs.Bits.{bit-beyond}
@@ -45,7 +47,9 @@ use Rattle.value.proofs.Telling as telling
 use Rattle.value.proofs.Ignored.{ignored}
 use Rattle.value.proofs.Reading.{root-in, read-rightful, rightful-read, accepts}
 use Rattle.value.proofs.Refusals as refusals
-use Rattle.value.proofs.RowFaults.{sheet-listed}
+use Rattle.value.proofs.Settled.{settled}
+use Rattle.value.proofs.Numbers.{reason-number, sheet-reason-number}
+use Rattle.value.proofs.SheetRefusals as sheets
 use Rattle.value.proofs.Determined.{read-delimited, delimited-read}
 use Rattle.value.proofs.Writing.{written-shown, shown-written, encoding-read, spelled-written}
 use Rattle.value.proofs.Extended as extended
@@ -140,13 +144,24 @@ module _ (T : Table) (good : GoodTable T) (t : ℕ) where
 
   -- ---- payloads
 
-  -- A refusal has one of 01's numbers, for the reason and at a place that they say: 46, 7, 20 to 28, 31, or 30 for a payload otherwise right.
-  pub refused-listed : (payload : List ℕ) (room n p : ℕ) → read T t payload room ≡ refusal n p → Listed (shape T) t payload room n p
-  refused-listed = refusals.listed T good t
+  -- The reader refuses with a number at a place exactly for its reason, which says what stands there and what before it.
+  pub refused-iff : (payload : List ℕ) (room n p : ℕ) → (read T t payload room ≡ refusal n p) ↔ Reason (shape T) t payload room n p
+  refused-iff payload room n p = (refusals.reason T good t payload room n p, refusals.refuses T good t payload room n p)
+
+  -- Where the number is 21 to 26, 28 or 31, what follows the faulty bytes does not matter: with any other bytes there, as many or more, the payload is
+  -- refused alike.
+  pub after-free : (fs : List Field) (u x rest : List ℕ) (n : ℕ) → shape T t ≡ struct fs → RootFault (shape T) fs u x rest n → Settles n
+      → (more : List ℕ) (room : ℕ) → length rest ≤ length more → length (u ++ (x ++ more)) ≤ 16384 → read T t (u ++ (x ++ more)) room ≡ refusal n (length u)
+  after-free fs u x rest n st f w more room longer short =
+      refused-iff (u ++ (x ++ more)) room n (length u) .1 (faulty fs u x more st short refl (settled more f w longer))
+
+  -- A refusal has one of 01's numbers: 46, 7, 30, or 20 to 28 and 31 for a value's fault.
+  pub refused-number : (payload : List ℕ) (room n p : ℕ) → read T t payload room ≡ refusal n p → ReadNumber n
+  refused-number payload room n p e = reason-number (refused-iff payload room n p .0 e)
 
   -- A refusal's place lies within the payload or at its end.
   pub refused-within : (payload : List ℕ) (room n p : ℕ) → read T t payload room ≡ refusal n p → p ≤ length payload
-  refused-within payload room n p e = refusals.listed-within T good t payload room n p (refused-listed payload room n p e)
+  refused-within payload room n p e = refusals.reason-within T good t payload room n p (refused-iff payload room n p .0 e)
 
   -- The reader accepts with exactly the rows that delimit the payload: there is one row a value, and no cell of any row is free. The comparisons due are
   -- those of the payload's value.
@@ -240,10 +255,17 @@ module _ (T : Table) (good : GoodTable T) (t : ℕ) where
   unfolding write
   written-iff-shown rs B room out = (written-shown (shape T) t rs B room out, shown-written (shape T) t rs B room out)
 
-  -- A refusal has one of 01's numbers, for the reason that it says; a row's fault names the row, or the number of rows where one is missing.
-  pub write-listed : (rs : List Row) (B : List ℕ) (room n k : ℕ) → write T t rs B room ≡ refused-write n k → SheetListed (shape T) t rs B room n k
-  unfolding write
-  write-listed = sheet-listed (shape T) t
+  -- The writer refuses with a number at a row exactly for its reason, which says what that row shows and what the rows before it show.
+  pub write-refused-iff : (rs : List Row) (B : List ℕ) (room n k : ℕ) → (write T t rs B room ≡ refused-write n k) ↔ SheetReason (shape T) t rs B room n k
+  write-refused-iff rs B room n k = (sheets.reason T good t rs B room n k, sheets.refuses T good t rs B room n k)
+
+  -- A refusal has one of 01's numbers: 46, 7, 52, or a row's fault.
+  pub write-refused-number : (rs : List Row) (B : List ℕ) (room n k : ℕ) → write T t rs B room ≡ refused-write n k → WriteNumber n
+  write-refused-number rs B room n k e = sheet-reason-number (write-refused-iff rs B room n k .0 e)
+
+  -- A refusal names a row that is there, or the number of rows.
+  pub write-refused-within : (rs : List Row) (B : List ℕ) (room n k : ℕ) → write T t rs B room ≡ refused-write n k → k ≤ length rs
+  write-refused-within rs B room n k e = sheets.reason-within T good t rs B room n k (write-refused-iff rs B room n k .0 e)
 
   -- Array and map places and composite lengths do not matter.
   pub only-used : (rs rs′ : List Row) (B : List ℕ) (room : ℕ) → each (used (shape T)) rs ≡ each (used (shape T)) rs′ → write T t rs B room ≡ write T t rs′ B room

@@ -30,7 +30,7 @@ use Rattle.value.proofs.Reading.{sized, rightful-read}
 never : {A : Type 0} {n p : ℕ} {out : List ℕ} → refusal n p ≡ written out → A
 never e = differ cc
 
-fitted-inv : (room : ℕ) (out out′ : List ℕ) → fitted room out ≡ written out′ → (out ≡ out′) × (length out ≤ 16384) × (length out ≤ room)
+pub fitted-inv : (room : ℕ) (out out′ : List ℕ) → fitted room out ≡ written out′ → (out ≡ out′) × (length out ≤ 16384) × (length out ≤ room)
 fitted-inv room out out′ e = go (leb (length out) 16384) (leb (length out) room) refl refl e
   where
     go : (a b : Bool) → leb (length out) 16384 ≡ a → leb (length out) room ≡ b → cond a (cond b (written out) (refusal 52 0)) (refusal 7 0) ≡ written out′

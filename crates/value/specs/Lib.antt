@@ -10,5 +10,7 @@ pub mod Write
 pub mod Fits
 pub mod Delimits
 pub mod Added
+pub mod Reasons
+pub mod SheetReasons
 pub mod Listed
 pub mod Claims

@@ -38,11 +38,11 @@ HeadSpells (scalar _) h bs = ⊥
 HeadSpells (text _) h bs = ⊥
 
 -- The values of a plan one after the other, each by the relation P of its type.
-abbrev pub AllSpell : (ℕ → Value → List ℕ → Type 0) → List Item → Values → List ℕ → Type 0
+abbrev pub AllSpell : {E : Type 0} → (ℕ → Value → List E → Type 0) → List Item → Values → List E → Type 0
 AllSpell P [] none bs = bs ≡ []
 AllSpell P [] (some v vs) bs = ⊥
 AllSpell P (i ∷ is) none bs = ⊥
-AllSpell P (i ∷ is) (some v vs) bs = (x : List ℕ) × (y : List ℕ) × (bs ≡ x ++ y) × P (i .type) v x × AllSpell P is vs y
+AllSpell {E} P (i ∷ is) (some v vs) bs = (x : List E) × (y : List E) × (bs ≡ x ++ y) × P (i .type) v x × AllSpell P is vs y
 
 -- The contents of the keys among the values of a plan, in wire order.
 abbrev pub keysOf : List Item → Values → List (List ℕ)

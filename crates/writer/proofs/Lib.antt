@@ -5,3 +5,4 @@ pub mod Steps
 pub mod Composites
 pub mod Roots
 pub mod Entries
+pub mod Outcomes
