@@ -22,6 +22,7 @@ ghost use Rattle.reader.specs.Entry.{Outcome, readOutcome};
 ghost use Rattle.scalar.specs.Scalar.{scalarBy};
 ghost use Rattle.schema.specs.Check.{checked};
 ghost use Rattle.schema.specs.Extend.{extension};
+ghost use Rattle.valueframe.specs.Entry.{frameOutcome};
 ghost use Rattle.writer.specs.Entry as writer;
 
 // The verdict on a schema table: good, or the first fault's number and place.
@@ -73,6 +74,21 @@ pub fn write_frame(header: Header, payload: &[u8], out: &mut [u8]) -> FrameWritt
     ensures { λ r. ⌜ (r ≡ writtenOf header (now (payload .entry)) (length (now (out .entry)))) × (now (out .exit) ≡ outputOf r header (now (payload .entry)) (now (out .entry))) ⌝ }
 {
     frame::write_frame(header, payload, out)
+}
+
+// Writes the frame of a header and of the value that the sheet's rows show over the source, straight to the output: the bytes that `write` and then
+// `write_frame` give. Type 4294967295 stands for an empty payload. The frame's length, or the refusal's number and place, which leaves the output as it was.
+pub fn write_value_frame(
+    header: Header,
+    schema: &[u8],
+    ty: u32,
+    sheet: &[u32],
+    source: &[u8],
+    out: &mut [u8],
+) -> Writing
+    ensures { λ r. ⌜ writer.outcome r (now (out .exit)) ≡ frameOutcome header (now (schema .entry)) ty (now (sheet .entry)) (now (source .entry)) (now (out .entry)) ⌝ }
+{
+    valueframe::write_value_frame(header, schema, ty, sheet, source, out)
 }
 
 // The call table at the start: all slots free and zero.

@@ -5,7 +5,7 @@ use crate::sums;
 use crate::tables::MOST;
 
 // The most bytes of an output, and what each holds before the call.
-pub const ROOM: usize = 20000;
+pub const ROOM: usize = 140000;
 
 pub const BYTE: u8 = 165;
 
@@ -73,7 +73,7 @@ pub fn write() -> bool {
     whole
 }
 
-fn read_header(whole: &mut bool) -> frame::Header {
+pub fn read_header(whole: &mut bool) -> frame::Header {
     let kind = input::word(whole);
     let package = input::word(whole);
     let service = input::word(whole);

@@ -24,6 +24,7 @@ fn run_case() -> bool {
         7 => frames::write(),
         8 => lines::run(),
         9 => lines::receive(),
+        15 => values::write_frame(),
         _ => false,
     };
     if !done {

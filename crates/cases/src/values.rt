@@ -1,6 +1,7 @@
-// Cases of the payload reader, of the scalar entry and of the payload writer.
+// Cases of the payload reader, of the scalar entry, of the payload writer and of the writer of a whole frame.
 use crate::frames::BYTE;
 use crate::frames::ROOM;
+use crate::frames::read_header;
 use crate::input;
 use crate::output;
 use crate::sums;
@@ -163,7 +164,12 @@ pub fn write() -> bool {
 }
 
 fn show_written(schema: &[u8], ty: u32, sheet: &[u32], data: &[u8], out: &mut [u8]) {
-    match arf::write(schema, ty, sheet, data, out) {
+    print_writing(arf::write(schema, ty, sheet, data, out));
+    output::last(sums::of_bytes(out));
+}
+
+fn print_writing(answer: writer::Writing) {
+    match answer {
         writer::Writing::Written { length } => {
             output::number(0);
             output::number(0);
@@ -175,5 +181,42 @@ fn show_written(schema: &[u8], ty: u32, sheet: &[u32], data: &[u8], out: &mut [u
             output::number(0);
         }
     }
+}
+
+// Code 15: a header, then as for code 5. The line has number, place, the frame's length and the output's sum.
+pub fn write_frame() -> bool {
+    let mut schema = [0u8; MOST];
+    let mut sheet = [CELL; MOST];
+    let mut data = [0u8; MOST];
+    let mut out = [BYTE; ROOM];
+    let mut whole = true;
+    let header = read_header(&mut whole);
+    let n = input::bytes(&mut schema, &mut whole);
+    let ty = input::word(&mut whole);
+    let cells = input::sheet(&mut sheet, &mut whole);
+    let m = input::bytes(&mut data, &mut whole);
+    let room = input::room(&out, &mut whole);
+    if whole {
+        show_frame(
+            header,
+            &schema[..n],
+            ty,
+            &sheet[..cells],
+            &data[..m],
+            &mut out[..room],
+        );
+    }
+    whole
+}
+
+fn show_frame(
+    header: frame::Header,
+    schema: &[u8],
+    ty: u32,
+    sheet: &[u32],
+    data: &[u8],
+    out: &mut [u8],
+) {
+    print_writing(arf::write_value_frame(header, schema, ty, sheet, data, out));
     output::last(sums::of_bytes(out));
 }

@@ -22,6 +22,7 @@ use Rattle.reader.specs.Entry.{readingIn, sheetIn, readOutcome, numbers}
 use Rattle.writer.specs.declared.Writing.{Writing}
 use Rattle.writer.specs.declared.Writing.the-variants.{Written, Refused as Unwritten}
 use Rattle.writer.specs.Entry as writer
+use Rattle.valueframe.specs.Entry.{frameOutcome}
 use Rattle.calls.specs.declared.Call.{Call}
 use Rattle.line.specs.declared.Received.{Received}
 use Rattle.line.specs.Answer.{Line, line, stopped}
@@ -92,7 +93,14 @@ writing schema ty sheet bytes out = writingOf (writer.fileOutcome schema ty shee
 abbrev pub outputAfter : (schema : List ℕ) (ty : ℕ) (sheet bytes out : List ℕ) → List ℕ
 outputAfter schema ty sheet bytes out = outputOf (writer.fileOutcome schema ty sheet bytes out)
 
--- A payload written: place, length.
+-- The same of a frame written from a value.
+abbrev pub framing : Header → (schema : List ℕ) (ty : ℕ) (sheet bytes out : List ℕ) → Writing
+framing h schema ty sheet bytes out = writingOf (frameOutcome h schema ty sheet bytes out)
+
+abbrev pub framedAfter : Header → (schema : List ℕ) (ty : ℕ) (sheet bytes out : List ℕ) → List ℕ
+framedAfter h schema ty sheet bytes out = outputOf (frameOutcome h schema ty sheet bytes out)
+
+-- A payload written, or a frame from a value: place, length.
 abbrev pub writeCells : Writing → List ℕ
 writeCells (Written n) = 0 ∷ n ∷ []
 writeCells (Unwritten number place) = place ∷ 0 ∷ []

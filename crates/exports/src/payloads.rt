@@ -1,11 +1,13 @@
-// The payload reader and the payload writer.
+// The payload reader, the payload writer, and the writer of a whole frame from a value.
 use crate::cells::store;
+use frame::Header;
 use reader::Reading;
 use writer::Writing;
 ghost use mathlib.Core.Path.{_≡_};
 ghost use Rattle.exports.specs.Cells.{stored};
 ghost use Rattle.arf.specs.Numbers.{writeNumber};
-ghost use Rattle.exports.specs.Answers.{readNumber, readCells, reading, sheetAfter, writeCells, writing, outputAfter};
+ghost use Rattle.exports.specs.Answers.{headerOf, readNumber, readCells, reading, sheetAfter, writeCells, writing, outputAfter};
+ghost use Rattle.exports.specs.Answers.{framing, framedAfter};
 
 fn read_number(a: Reading) -> u32
     ensures { λ r. ⌜ r ≡ readNumber a ⌝ }
@@ -93,6 +95,38 @@ pub extern "C" fn arf_write(
     ensures { λ _. ⌜ now (answer .exit) ≡ stored (now (answer .entry)) (writeCells (writing (now (schema .entry)) ty (now (sheet .entry)) (now (bytes .entry)) (now (out .entry)))) ⌝ }
 {
     let a = arf::write(schema, ty, sheet, bytes, out);
+    let cells = write_cells(a);
+    store(answer, &cells);
+    write_number(a)
+}
+
+// Writes a frame with the value that a sheet shows over its bytes; type 4294967295 is an empty payload. answer: place, the frame's length.
+#[no_mangle]
+pub extern "C" fn arf_write_value_frame(
+    kind: u32,
+    package: u32,
+    service: u32,
+    method: u32,
+    correlation: u64,
+    schema: &[u8],
+    ty: u32,
+    sheet: &[u32],
+    bytes: &[u8],
+    out: &mut [u8],
+    answer: &mut [u64],
+) -> u32
+    ensures { λ r. ⌜ r ≡ writeNumber (framing (headerOf kind «package» service method correlation) (now (schema .entry)) ty (now (sheet .entry)) (now (bytes .entry)) (now (out .entry))) ⌝ }
+    ensures { λ _. ⌜ now (out .exit) ≡ framedAfter (headerOf kind «package» service method correlation) (now (schema .entry)) ty (now (sheet .entry)) (now (bytes .entry)) (now (out .entry)) ⌝ }
+    ensures { λ _. ⌜ now (answer .exit) ≡ stored (now (answer .entry)) (writeCells (framing (headerOf kind «package» service method correlation) (now (schema .entry)) ty (now (sheet .entry)) (now (bytes .entry)) (now (out .entry)))) ⌝ }
+{
+    let header = Header {
+        kind,
+        package,
+        service,
+        method,
+        correlation,
+    };
+    let a = arf::write_value_frame(header, schema, ty, sheet, bytes, out);
     let cells = write_cells(a);
     store(answer, &cells);
     write_number(a)

@@ -17,7 +17,7 @@ use Rattle.frame.specs.declared.FrameWritten.the-variants.{Written, Refu
 use Rattle.frame.specs.Frame.{knownKind}
 use Rattle.frame.specs.Written.{frontBytes, frameBytes, writtenOf, outputOf}
 
-sets-append : (d : List ℕ) (at : ℕ) (vs ws : List ℕ) → sets d at (vs ++ ws) ≡ sets (sets d at vs) (at + length vs) ws
+pub sets-append : (d : List ℕ) (at : ℕ) (vs ws : List ℕ) → sets d at (vs ++ ws) ≡ sets (sets d at vs) (at + length vs) ws
 sets-append d at [] ws = rw add-zero
 sets-append d at (v ∷ vs) ws = let e : at + suc (length vs) ≡ suc at + length vs = omega arith in rw e (sets-append (set d at v) (suc at) vs ws)
 

@@ -42,7 +42,7 @@ pub enum FrameWritten {
 }
 
 // One of the eight kinds.
-fn known_kind(kind: u32) -> bool
+pub fn known_kind(kind: u32) -> bool
     ensures { λ r. ⌜ r ≡ knownKind kind ⌝ }
 {
     (1 <= kind) & (kind <= 8)
@@ -185,8 +185,15 @@ fn write_start(out: &mut [u8], kind: u32)
     out[4] = 0x00;
 }
 
+// The place of a payload of n bytes in its frame.
+pub fn payload_place(n: u64) -> usize
+    ensures { λ r. ⌜ (r ≡ 25 + length (varuintBytes n)) × (r ≤ 35) ⌝ }
+{
+    25 + wire::varuint::size(n)
+}
+
 // All before the payload, of which there are n bytes.
-fn write_front(out: &mut [u8], header: Header, n: u64)
+pub fn write_front(out: &mut [u8], header: Header, n: u64)
     requires { ⌜ (25 + length (varuintBytes n) ≤ length (now out)) × (header .kind ≤ 8) ⌝ }
     ensures { λ _. ⌜ now (out .exit) ≡ written (now (out .entry)) 0 (frontBytes header n) ⌝ }
 {
@@ -209,7 +216,7 @@ pub fn write_frame(header: Header, payload: &[u8], out: &mut [u8]) -> FrameWritt
     if 16384 < n {
         return FrameWritten::Refused(7);
     }
-    let place = 25 + wire::varuint::size(n as u64);
+    let place = payload_place(n as u64);
     if out.len() < place + n {
         return FrameWritten::Refused(52);
     }

@@ -3,4 +3,5 @@ pub mod Refusals
 pub mod Reading
 pub mod ReadBack
 pub mod Extension
+pub mod ValueFrames
 pub mod Examples

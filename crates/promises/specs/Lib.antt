@@ -1,3 +1,4 @@
 -- What the theorems claim, and the worked cases.
 pub mod Claims
 pub mod Cases
+pub mod ValueFrames

@@ -1,14 +1,14 @@
 -- Laws of the entries: what each of their returns shows of the whole writing.
 -- Assumes nothing.
-use mathlib.Core.Path.{_≡_, sym, ap, _∙_}
-use mathlib.Core.Bool.{true, false}
+use mathlib.Core.Path.{_≡_, refl, sym, ap, subst, _∙_}
+use mathlib.Core.Bool.{Bool, true, false, cond}
 use mathlib.Core.List.{List, _++_, append-nil}
 use Prim.Native.Nat.{ℕ, _+_, _≤_, _<_}
+use native.Mathlib.Decide.{ℕ-discrete}
 use native.Mathlib.Omega.{arith}
-use borrow.Author.Tests.{le-leb, lt-leb}
+use borrow.Author.Tests.{leb-true, le-leb, lt-leb}
 use lib.Dec.{leb}
-use lib.ListN.{length, take, drop, drop-of-length-le}
-use lib.Seq.{length-take-le}
+use lib.ListN.{length, drop, drop-of-length-le}
 use Rattle.wire.proofs.Cases.{differ}
 use Rattle.schema.specs.declared.TypeRow.{TypeRow}
 use Rattle.schema.specs.declared.Field.{Field}
@@ -20,31 +20,86 @@ use Rattle.value.specs.declared.Row.{Row}
 use Rattle.value.specs.Answer.{CursorOf, AnswerOf, refused, seen, Accepted}
 use Rattle.value.specs.Value.{Tree, value}
 use Rattle.value.specs.Spell.{encode}
-use Rattle.value.specs.Write.{showRoot, fitted, writing, write}
+use Rattle.value.specs.Sheet.{rowsOf}
+use Rattle.value.specs.Write.{showRoot, sheetRoot, Writing, refusal, written, fitted, writing, write}
 use Rattle.parts.proofs.Tables.{no-struct}
-use Rattle.parts.proofs.Walks.{nothing-before}
 use Rattle.writer.specs.declared.Writing.the-variants.{Written, Refused}
 use Rattle.writer.specs.declared.walk.Walk.{Walk}
 use Rattle.writer.specs.declared.walk.Walk.the-variants.{Past, Refused as Stopped}
 use Rattle.writer.specs.Emit.{put, cap, done, stopped, emit}
 use Rattle.writer.specs.Leaf.{rowsAt}
 use Rattle.writer.specs.Walk.{endOf, Walked}
-use Rattle.writer.specs.Entry.{Outcome, outcome, outcomeOf, sheetOutcome, fileOutcome}
+use Rattle.writer.specs.Entry.{Outcome, outcome, outcomeOf, payloadBy, lengthOf, within, sheetOutcome, fileOutcome}
 use Rattle.writer.proofs.Puts.{put-whole}
+
+-- ---- a payload and its length
+
+pub length-refused : (w : Writing) {n q : ℕ} → lengthOf w ≡ Refused n q → w ≡ refusal n q
+length-refused (refusal _ _) e = cc
+length-refused (written _) e = differ cc
+
+pub length-written : (w : Writing) {n : ℕ} → lengthOf w ≡ Written n → (bs : List ℕ) × (w ≡ written bs) × (length bs ≡ n)
+length-written (refusal _ _) e = differ cc
+length-written (written bs) e = (bs, refl, cc)
+
+fitted-same : (room : ℕ) (bs bs′ : List ℕ) → fitted room bs ≡ written bs′ → (bs ≡ bs′) × (length bs ≤ 16384)
+fitted-same room bs bs′ e = go (leb (length bs) 16384) (leb (length bs) room) refl e
+  where
+    go : (a b : Bool) → leb (length bs) 16384 ≡ a → cond a (cond b (written bs) (refusal 52 0)) (refusal 7 0) ≡ written bs′ → (bs ≡ bs′) × (length bs ≤ 16384)
+    go true true l e = (cc, leb-true (length bs) 16384 l)
+    go true false l e = differ cc
+    go false b l e = differ cc
+
+pub written-length : {w : Writing} {bs : List ℕ} {n : ℕ} → w ≡ written bs → lengthOf w ≡ Written n → length bs ≡ n
+written-length is e = let f = sym (ap lengthOf is) ∙ e in cc
+
+-- the room for the output comes last
+room-fitted : (room : ℕ) (bs : List ℕ) → fitted room bs ≡ within room (fitted 16384 bs)
+room-fitted room bs = go (leb (length bs) 16384)
+  where
+    go : (a : Bool) → cond a (cond (leb (length bs) room) (written bs) (refusal 52 0)) (refusal 7 0) ≡ within room (cond a (cond a (written bs) (refusal 52 0)) (refusal 7 0))
+    go true = refl
+    go false = refl
+
+room-writing : (S : ℕ → Shape) (t room : ℕ) (m : AnswerOf Row Tree) → writing S t room m ≡ within room (writing S t 16384 m)
+room-writing S t room (refused n p) = refl
+room-writing S t room (seen tree end) = room-fitted room (encode S (value tree) t)
+
+pub room-last : (s : List ℕ) (ty : ℕ) (cells B : List ℕ) (room : ℕ) → write (tableOf s) ty (rowsOf cells) B room ≡ within room (payloadBy s ty cells B)
+unfolding write payloadBy
+room-last s ty cells B room = room-writing (shape (tableOf s)) ty room (sheetRoot (shape (tableOf s)) ty (rowsOf cells) B)
+
+-- a payload is within the limit
+pub payload-small : (s : List ℕ) (ty : ℕ) (cells B bs : List ℕ) → payloadBy s ty cells B ≡ written bs → length bs ≤ 16384
+unfolding payloadBy write
+payload-small s ty cells B bs e = go (sheetRoot (shape (tableOf s)) ty (rowsOf cells) B) e
+  where
+    go : (m : AnswerOf Row Tree) → writing (shape (tableOf s)) ty 16384 m ≡ written bs → length bs ≤ 16384
+    go (refused n p) e = differ cc
+    go (seen tree end) e = let (same, small) = fitted-same 16384 (encode (shape (tableOf s)) (value tree) ty) bs e in subst (λ (x : List ℕ). length x ≤ 16384) same small
 
 -- ---- a type that is no struct
 
-pub entry-other : (s : List ℕ) → IsGood s → (ty : ℕ) (cells B out : List ℕ) (r : TypeRow) → r ≡ rowAt (tableOf s) ty → (r .kind ≡ 16 → ⊥)
-    → outcome (Refused 46 0) out ≡ sheetOutcome s ty cells B out
-unfolding sheetOutcome write
-entry-other s good ty cells B out r is h =
-    sym (ap (λ (m : AnswerOf Row Tree). outcomeOf out (writing (shape (tableOf s)) ty (length out) m))
-    (no-struct s good ty r is h (refused 46 0) (λ fs. showRoot (shape (tableOf s)) B ty fs (rowsAt cells 0))))
+pub payload-other : (s : List ℕ) → IsGood s → (ty : ℕ) (cells B : List ℕ) (r : TypeRow) → r ≡ rowAt (tableOf s) ty → (r .kind ≡ 16 → ⊥) → payloadBy s ty cells B ≡ refusal 46 0
+unfolding payloadBy write
+payload-other s good ty cells B r is h =
+    ap (λ (m : AnswerOf Row Tree). writing (shape (tableOf s)) ty 16384 m)
+    (no-struct s good ty r is h (refused 46 0) (λ fs. showRoot (shape (tableOf s)) B ty fs (rowsAt cells 0)))
+
+-- what has a length is a struct
+pub payload-struct : (s : List ℕ) → IsGood s → (ty : ℕ) (cells B : List ℕ) (r : TypeRow) → r ≡ rowAt (tableOf s) ty → {n : ℕ} → lengthOf (payloadBy s ty cells B) ≡ Written n → r .kind ≡ 16
+payload-struct s good ty cells B r is e = elim (ℕ-discrete (r .kind) 16) [
+  | yes k ↦ k
+  | no k ↦ never (ap lengthOf (sym (payload-other s good ty cells B r is k)) ∙ e)
+]
+  where
+    never : {A : Type 0} {n m q : ℕ} → Refused m q ≡ Written n → A
+    never e = differ cc
 
 -- ---- the two walks
 
 -- what a walk that ended has shown
-emit-done : (S : ℕ → Shape) (t : ℕ) (m : AnswerOf Row Tree) (c : CursorOf Row) (pos : ℕ) (out out′ : List ℕ) → done c pos out′ ≡ emit S t m 0 out
+pub emit-done : (S : ℕ → Shape) (t : ℕ) (m : AnswerOf Row Tree) (c : CursorOf Row) (pos : ℕ) (out out′ : List ℕ) → done c pos out′ ≡ emit S t m 0 out
     → (tree : Tree) × (m ≡ seen tree c) × (pos ≡ cap (length (encode S (value tree) t))) × (out′ ≡ put out 0 (encode S (value tree) t))
 unfolding emit
 emit-done S t (refused _ _) c pos out out′ e = differ cc
@@ -53,81 +108,100 @@ emit-done S t (seen tree end) c pos out out′ e =
     let f : pos ≡ cap (0 + length (encode S (value tree) t)) = cc in
     (tree, cc, f ∙ ap (λ (n : ℕ). cap n) z, cc)
 
-emit-stopped : (S : ℕ → Shape) (t : ℕ) (m : AnswerOf Row Tree) (n q : ℕ) (out : List ℕ) → stopped n q ≡ emit S t m 0 out → m ≡ refused n q
+pub emit-stopped : (S : ℕ → Shape) (t : ℕ) (m : AnswerOf Row Tree) (n q : ℕ) (out : List ℕ) → stopped n q ≡ emit S t m 0 out → m ≡ refused n q
 unfolding emit
 emit-stopped S t (refused _ _) n q out e = cc
 emit-stopped S t (seen tree end) n q out e = differ cc
 
--- The first walk is lent no byte of the output.
-module _ (s : List ℕ) (ty : ℕ) (cells B out : List ℕ) (fs : List Field) (is : shape (tableOf s) ty ≡ struct fs)
-    (o o′ : List ℕ) (r : Walk) (walked : Walked cells (emit (shape (tableOf s)) ty (showRoot (shape (tableOf s)) B ty fs (rowsAt cells 0)) 0 o) r o′) (z : length o′ ≡ 0) where
-  same-out : o′ ++ out ≡ out
-  same-out = nothing-before o′ out z
+module _ (s : List ℕ) (ty : ℕ) (cells B : List ℕ) (fs : List Field) (is : shape (tableOf s) ty ≡ struct fs) where
+  payload-by : (m : AnswerOf Row Tree) → showRoot (shape (tableOf s)) B ty fs (rowsAt cells 0) ≡ m → payloadBy s ty cells B ≡ writing (shape (tableOf s)) ty 16384 m
+  unfolding payloadBy write
+  payload-by m e = rw (is, e)
 
-  entry-by : (m : AnswerOf Row Tree) → showRoot (shape (tableOf s)) B ty fs (rowsAt cells 0) ≡ m
-      → sheetOutcome s ty cells B out ≡ outcomeOf out (writing (shape (tableOf s)) ty (length out) m)
-  unfolding sheetOutcome write
-  entry-by m e = rw (is, e)
+  -- The first walk measures.
+  module _ (o o′ : List ℕ) (r : Walk) (walked : Walked cells (emit (shape (tableOf s)) ty (showRoot (shape (tableOf s)) B ty fs (rowsAt cells 0)) 0 o) r o′) where
+    pub payload-refused : (n q : ℕ) → r ≡ Stopped n q → payloadBy s ty cells B ≡ refusal n q
+    payload-refused n q e =
+        let w : stopped n q ≡ emit (shape (tableOf s)) ty (showRoot (shape (tableOf s)) B ty fs (rowsAt cells 0)) 0 o = rw e at (walked .same) in
+        payload-by (refused n q) (emit-stopped (shape (tableOf s)) ty _ n q o w)
 
-  pub entry-refused : (n q : ℕ) → r ≡ Stopped n q → outcome (Refused n q) (o′ ++ out) ≡ sheetOutcome s ty cells B out
-  entry-refused n q e =
-      let w : stopped n q ≡ emit (shape (tableOf s)) ty (showRoot (shape (tableOf s)) B ty fs (rowsAt cells 0)) 0 o = rw e at (walked .same) in
-      rw (same-out, entry-by (refused n q) (emit-stopped (shape (tableOf s)) ty _ n q o w))
+    module _ (row pos : ℕ) (e : r ≡ Past row pos) where
+      shown : (tree : Tree) × (payloadBy s ty cells B ≡ fitted 16384 (encode (shape (tableOf s)) (value tree) ty)) × (pos ≡ cap (length (encode (shape (tableOf s)) (value tree) ty)))
+      shown =
+          let w : done (rowsAt cells row) pos o′ ≡ emit (shape (tableOf s)) ty (showRoot (shape (tableOf s)) B ty fs (rowsAt cells 0)) 0 o = rw e at (walked .same) in
+          let (tree, read, size, _) = emit-done (shape (tableOf s)) ty _ (rowsAt cells row) pos o o′ w in
+          (tree, payload-by (seen tree (rowsAt cells row)) read, size)
 
-  module _ (row pos : ℕ) (e : r ≡ Past row pos) where
-    shown : (tree : Tree) × (showRoot (shape (tableOf s)) B ty fs (rowsAt cells 0) ≡ seen tree (rowsAt cells row)) × (pos ≡ cap (length (encode (shape (tableOf s)) (value tree) ty))) × (o′ ≡ put o 0 (encode (shape (tableOf s)) (value tree) ty))
-    shown =
-        let w : done (rowsAt cells row) pos o′ ≡ emit (shape (tableOf s)) ty (showRoot (shape (tableOf s)) B ty fs (rowsAt cells 0)) 0 o = rw e at (walked .same) in
-        emit-done (shape (tableOf s)) ty _ (rowsAt cells row) pos o o′ w
+      abbrev bs : List ℕ
+      bs = encode (shape (tableOf s)) (value (shown .0)) ty
 
-    abbrev bs : List ℕ
-    bs = encode (shape (tableOf s)) (value (shown .0)) ty
+      pub payload-long : 16384 < pos → payloadBy s ty cells B ≡ refusal 7 0
+      payload-long h =
+          let p = shown .2 in
+          let a : leb (length bs) 16384 ≡ false = lt-leb (length bs) 16384 (omega arith) in
+          shown .1 ∙ rw a
 
-    entry-shown : sheetOutcome s ty cells B out ≡ outcomeOf out (fitted (length out) bs)
-    entry-shown = entry-by (seen (shown .0) (rowsAt cells row)) (shown .1)
+      pub payload-length : pos ≤ 16384 → lengthOf (payloadBy s ty cells B) ≡ Written pos
+      payload-length h =
+          let p = shown .2 in
+          let n : length bs ≡ pos = omega arith in
+          let a : leb (length bs) 16384 ≡ true = le-leb (length bs) 16384 (omega arith) in
+          ap lengthOf (shown .1) ∙ rw a (ap Written n)
 
-    pub entry-accepted : Accepted (showRoot (shape (tableOf s)) B ty fs (rowsAt cells 0))
-    entry-accepted = rw (shown .1) tt
+  -- The second writes what was measured, into an output of its length.
+  module _ {n : ℕ} (measured : lengthOf (payloadBy s ty cells B) ≡ Written n) where
+    pub payload-room : n ≤ 16384
+    payload-room =
+        let (bs, is, size) = length-written (payloadBy s ty cells B) measured in
+        omega (arith, size, payload-small s ty cells B bs is)
 
-    pub entry-long : 16384 < pos → outcome (Refused 7 0) (o′ ++ out) ≡ sheetOutcome s ty cells B out
-    entry-long h =
-        let p = shown .2 in
-        let a : leb (length bs) 16384 ≡ false = lt-leb (length bs) 16384 (omega arith) in
-        rw (same-out, entry-shown, a)
-
-    pub entry-room : pos ≤ 16384 → length (o′ ++ out) < pos → outcome (Refused 52 0) (o′ ++ out) ≡ sheetOutcome s ty cells B out
-    entry-room h l =
-        let p = shown .2 in
-        let l′ : length out < pos = rw (ap length same-out) at l in
-        let a : leb (length bs) 16384 ≡ true = le-leb (length bs) 16384 (omega arith) in
-        let b : leb (length bs) (length out) ≡ false = lt-leb (length bs) (length out) (omega arith) in
-        rw (same-out, entry-shown, a, b)
-
-    -- The second is lent as much as is written.
-    pub entry-written : pos ≤ 16384 → pos ≤ length (o′ ++ out) → (r₂ : Walk) (o₂ : List ℕ)
-        → Walked cells (emit (shape (tableOf s)) ty (showRoot (shape (tableOf s)) B ty fs (rowsAt cells 0)) 0 (take pos (o′ ++ out))) r₂ o₂
-        → outcome (Written pos) (o₂ ++ drop pos (o′ ++ out)) ≡ sheetOutcome s ty cells B out
-    unfolding emit
-    entry-written h l r₂ o₂ w =
-        let p = shown .2 in
-        let l′ : pos ≤ length out = rw (ap length same-out) at l in
-        let n : length bs ≡ pos = omega arith in
-        let a : leb (length bs) 16384 ≡ true = le-leb (length bs) 16384 (omega arith) in
-        let b : leb (length bs) (length out) ≡ true = le-leb (length bs) (length out) (omega arith) in
-        rw (same-out, entry-shown, a, b, n) (go r₂ (rw (same-out, shown .1) at (w .same)))
+    pub payload-accepted : Accepted (showRoot (shape (tableOf s)) B ty fs (rowsAt cells 0))
+    payload-accepted = go (showRoot (shape (tableOf s)) B ty fs (rowsAt cells 0)) refl
       where
-        last : length bs ≡ pos → pos ≤ length out → o₂ ≡ put (take pos out) 0 bs → o₂ ≡ bs
-        last n l′ e =
-            let k : length (take pos out) ≡ pos = length-take-le pos out l′ in
-            e ∙ put-whole (take pos out) bs (omega arith) ∙ ap (λ (x : List ℕ). bs ++ x) (drop-of-length-le (take pos out) {i = length bs} (omega arith)) ∙ append-nil bs
+        go : (m : AnswerOf Row Tree) → showRoot (shape (tableOf s)) B ty fs (rowsAt cells 0) ≡ m → Accepted m
+        go (refused k q) e = let f = ap lengthOf (payload-by (refused k q) e) in differ cc
+        go (seen tree end) e = tt
 
-        go : (r₂ : Walk) → endOf cells r₂ o₂ ≡ done (rowsAt cells row) (cap (0 + length bs)) (put (take pos out) 0 bs) → outcome (Written pos) (o₂ ++ drop pos out) ≡ outcome (Written pos) (bs ++ drop pos out)
-        go (Past row₂ pos₂) e =
-            let p = shown .2 in
-            let l′ : pos ≤ length out = rw (ap length same-out) at l in
-            let f : o₂ ≡ put (take pos out) 0 bs = cc in
-            rw (last (omega arith) l′ f)
-        go (Stopped n q) e = differ cc
+    pub payload-put : (o o′ : List ℕ) (r : Walk) → length o ≡ n → Walked cells (emit (shape (tableOf s)) ty (showRoot (shape (tableOf s)) B ty fs (rowsAt cells 0)) 0 o) r o′
+        → payloadBy s ty cells B ≡ written o′
+    payload-put o o′ r room walked = go r (walked .same)
+      where
+        go : (r : Walk) → endOf cells r o′ ≡ emit (shape (tableOf s)) ty (showRoot (shape (tableOf s)) B ty fs (rowsAt cells 0)) 0 o → payloadBy s ty cells B ≡ written o′
+        go (Past row pos) e =
+            let (tree, read, _, puts) = emit-done (shape (tableOf s)) ty _ (rowsAt cells row) pos o o′ e in
+            let bs = encode (shape (tableOf s)) (value tree) ty in
+            let by = payload-by (seen tree (rowsAt cells row)) read in
+            let (bs′, same, size) = length-written (payloadBy s ty cells B) measured in
+            let own : bs ≡ bs′ = fitted-same 16384 bs bs′ (sym by ∙ same) .0 in
+            let room′ : length bs ≡ length o = ap length own ∙ size ∙ sym room in
+            let whole : o′ ≡ bs = puts ∙ put-whole o bs (omega arith) ∙ ap (λ (x : List ℕ). bs ++ x) (drop-of-length-le o {i = length bs} (omega arith)) ∙ append-nil bs in
+            same ∙ ap written (sym own ∙ sym whole)
+        go (Stopped k q) e =
+            let f = ap lengthOf (payload-by (refused k q) (emit-stopped (shape (tableOf s)) ty _ k q o e)) in
+            differ cc
+
+-- ---- the entry: the payload, where the output has room for it
+
+module _ (s : List ℕ) (ty : ℕ) (cells B out : List ℕ) where
+  entry-by : {w : Writing} → payloadBy s ty cells B ≡ w → outcomeOf out (within (length out) w) ≡ sheetOutcome s ty cells B out
+  unfolding sheetOutcome
+  entry-by e = ap (outcomeOf out) (ap (within (length out)) (sym e) ∙ sym (room-last s ty cells B (length out)))
+
+  pub entry-refused : (n q : ℕ) → lengthOf (payloadBy s ty cells B) ≡ Refused n q → outcome (Refused n q) out ≡ sheetOutcome s ty cells B out
+  entry-refused n q e = entry-by (length-refused _ e)
+
+  pub entry-room : (n : ℕ) → lengthOf (payloadBy s ty cells B) ≡ Written n → length out < n → outcome (Refused 52 0) out ≡ sheetOutcome s ty cells B out
+  entry-room n e l =
+      let (bs, is, size) = length-written (payloadBy s ty cells B) e in
+      let a : leb (length bs) (length out) ≡ false = lt-leb (length bs) (length out) (omega arith) in
+      (rw a at (entry-by is))
+
+  pub entry-written : (n : ℕ) → lengthOf (payloadBy s ty cells B) ≡ Written n → n ≤ length out → (bs : List ℕ) → payloadBy s ty cells B ≡ written bs
+      → outcome (Written n) (bs ++ drop n out) ≡ sheetOutcome s ty cells B out
+  entry-written n e l bs is =
+      let size = written-length is e in
+      let a : leb (length bs) (length out) ≡ true = le-leb (length bs) (length out) (omega arith) in
+      rw (← size) (rw a at (entry-by is))
 
 -- ---- any table
 

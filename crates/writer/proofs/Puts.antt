@@ -121,7 +121,7 @@ module _ (out : List ℕ) (pos : ℕ) (B : List ℕ) (from : ℕ) where
 
 -- ---- the whole output
 
-put-seam : (a out bs : List ℕ) → length bs ≤ length out → put (a ++ out) (length a) bs ≡ a ++ (bs ++ drop (length bs) out)
+pub put-seam : (a out bs : List ℕ) → length bs ≤ length out → put (a ++ out) (length a) bs ≡ a ++ (bs ++ drop (length bs) out)
 unfolding put
 put-seam a out [] h = refl
 put-seam a [] (b ∷ bs) h = absurd (omega arith)

@@ -1,7 +1,9 @@
 -- What the entries answer.
 -- Assumes nothing.
 use mathlib.Core.List.{List, _++_}
+use mathlib.Core.Bool.{cond}
 use Prim.Native.Nat.{ℕ}
+use lib.Dec.{leb}
 use lib.ListN.{length, drop}
 use Rattle.schema.specs.declared.Checked.{Checked}
 use Rattle.schema.specs.declared.Checked.the-variants.{Good, Refused as TableRefused}
@@ -20,6 +22,20 @@ pub data Outcome : Type 0 where
 abbrev pub outcomeOf : List ℕ → value.Writing → Outcome
 outcomeOf out (value.refusal n q) = outcome (Refused n q) out
 outcomeOf out (value.written bs) = outcome (Written (length bs)) (bs ++ drop (length bs) out)
+
+-- The payload that a sheet's cells over the bytes B make by a good table, or the refusal. 16,384 bytes hold every payload, so that 52 is left out.
+unfoldable pub payloadBy : (schema : List ℕ) (ty : ℕ) (cells B : List ℕ) → value.Writing
+payloadBy schema ty cells B = value.write (tableOf schema) ty (rowsOf cells) B 16384
+
+-- Its length.
+abbrev pub lengthOf : value.Writing → Writing
+lengthOf (value.refusal n q) = Refused n q
+lengthOf (value.written bs) = Written (length bs)
+
+-- It, where it fits into the room for the output.
+abbrev pub within : (room : ℕ) → value.Writing → value.Writing
+within room (value.refusal n q) = value.refusal n q
+within room (value.written bs) = cond (leb (length bs) room) (value.written bs) (value.refusal 52 0)
 
 -- A sheet's cells over the bytes B, written by a good table.
 unfoldable pub sheetOutcome : (schema : List ℕ) (ty : ℕ) (cells B out : List ℕ) → Outcome

@@ -9,8 +9,10 @@ use schema::Checked;
 use schema::access::type_row;
 use schema::check::check;
 ghost use mathlib.Core.Path.{_≡_};
+ghost use lib.ListN.{length};
 ghost use Rattle.schema.specs.Check.{IsGood};
-ghost use Rattle.writer.specs.Entry.{outcome, sheetOutcome, fileOutcome};
+ghost use Rattle.value.specs.Write.{written};
+ghost use Rattle.writer.specs.Entry.{outcome, lengthOf, payloadBy, sheetOutcome, fileOutcome};
 
 // The answer: the length of what was written, or the refusal's number and place.
 pub enum Writing {
@@ -18,11 +20,11 @@ pub enum Writing {
     Refused { number: u32, place: usize },
 }
 
-// The sheet's rows over the source, written as a struct of type ty by a good table. The first walk judges and measures, with no output;
-// the second writes, where all fits.
-pub fn write_sheet(s: &[u8], ty: u32, sheet: &[u32], source: &[u8], out: &mut [u8]) -> Writing
+// The length of the payload that the sheet's rows over the source make as a struct of type ty by a good table; or the refusal, which leaves out the
+// output's room.
+pub fn measure(s: &[u8], ty: u32, sheet: &[u32], source: &[u8]) -> Writing
     requires { ⌜ IsGood (now s) ⌝ }
-    ensures { λ r. ⌜ outcome r (now (out .exit)) ≡ sheetOutcome (now (s .entry)) ty (now (sheet .entry)) (now (source .entry)) (now (out .entry)) ⌝ }
+    ensures { λ r. ⌜ r ≡ lengthOf (payloadBy (now (s .entry)) ty (now (sheet .entry)) (now (source .entry))) ⌝ }
 {
     let t = type_row(s, ty as usize);
     if t.kind != 16 {
@@ -31,9 +33,17 @@ pub fn write_sheet(s: &[u8], ty: u32, sheet: &[u32], source: &[u8], out: &mut [u
             place: 0,
         };
     }
-    let first = t.a as usize;
-    let n = t.b as usize;
-    match root(s, sheet, source, &mut out[..0], ty, first, n, true) {
+    let mut none = [0u8; 1];
+    match root(
+        s,
+        sheet,
+        source,
+        &mut none[..0],
+        ty,
+        t.a as usize,
+        t.b as usize,
+        true,
+    ) {
         Walk::Refused { number, place } => Writing::Refused { number, place },
         Walk::Past { row: _, pos } => {
             if 16384 < pos {
@@ -42,14 +52,38 @@ pub fn write_sheet(s: &[u8], ty: u32, sheet: &[u32], source: &[u8], out: &mut [u
                     place: 0,
                 };
             }
-            if out.len() < pos {
+            Writing::Written { length: pos }
+        }
+    }
+}
+
+// Writes a payload that was measured into an output of its length.
+pub fn put_payload(s: &[u8], ty: u32, sheet: &[u32], source: &[u8], out: &mut [u8])
+    requires { ⌜ IsGood (now s) ⌝ }
+    requires { ⌜ lengthOf (payloadBy (now s) ty (now sheet) (now source)) ≡ Writing.Written (length (now out)) ⌝ }
+    ensures { λ _. ⌜ payloadBy (now (s .entry)) ty (now (sheet .entry)) (now (source .entry)) ≡ written (now (out .exit)) ⌝ }
+{
+    let t = type_row(s, ty as usize);
+    root(s, sheet, source, out, ty, t.a as usize, t.b as usize, false);
+}
+
+// The sheet's rows over the source, written as a struct of type ty by a good table. The first walk judges and measures, with no output;
+// the second writes, where all fits.
+pub fn write_sheet(s: &[u8], ty: u32, sheet: &[u32], source: &[u8], out: &mut [u8]) -> Writing
+    requires { ⌜ IsGood (now s) ⌝ }
+    ensures { λ r. ⌜ outcome r (now (out .exit)) ≡ sheetOutcome (now (s .entry)) ty (now (sheet .entry)) (now (source .entry)) (now (out .entry)) ⌝ }
+{
+    match measure(s, ty, sheet, source) {
+        Writing::Refused { number, place } => Writing::Refused { number, place },
+        Writing::Written { length } => {
+            if out.len() < length {
                 return Writing::Refused {
                     number: 52,
                     place: 0,
                 };
             }
-            root(s, sheet, source, &mut out[..pos], ty, first, n, false);
-            Writing::Written { length: pos }
+            put_payload(s, ty, sheet, source, &mut out[..length]);
+            Writing::Written { length }
         }
     }
 }

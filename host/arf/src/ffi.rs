@@ -94,6 +94,25 @@ extern "C" {
         answer: *mut u64,
         answer_n: usize,
     ) -> u32;
+
+    fn arf_write_value_frame(
+        kind: u32,
+        package: u32,
+        service: u32,
+        method: u32,
+        correlation: u64,
+        schema: *const u8,
+        schema_n: usize,
+        ty: u32,
+        sheet: *const u32,
+        sheet_n: usize,
+        bytes: *const u8,
+        bytes_n: usize,
+        out: *mut u8,
+        out_n: usize,
+        answer: *mut u64,
+        answer_n: usize,
+    ) -> u32;
 }
 
 /// Stores the place.
@@ -235,6 +254,42 @@ pub fn write_frame(
     }
 }
 
+/// Stores the place and the frame's length. The header is kind, package,
+/// service and method; the value is its type, its sheet and the sheet's bytes.
+pub fn write_value_frame(
+    header: [u32; 4],
+    correlation: u64,
+    schema: &[u8],
+    value: (u32, &[u32], &[u8]),
+    out: &mut [u8],
+    answer: &mut [u64],
+) -> u32 {
+    let [kind, package, service, method] = header;
+    let (ty, sheet, bytes) = value;
+    // SAFETY: each pointer and length are those of a Rust slice; the two that
+    // are written do not overlap, since both are `&mut`.
+    unsafe {
+        arf_write_value_frame(
+            kind,
+            package,
+            service,
+            method,
+            correlation,
+            schema.as_ptr(),
+            schema.len(),
+            ty,
+            sheet.as_ptr(),
+            sheet.len(),
+            bytes.as_ptr(),
+            bytes.len(),
+            out.as_mut_ptr(),
+            out.len(),
+            answer.as_mut_ptr(),
+            answer.len(),
+        )
+    }
+}
+
 /// Stores the place, the bytes used, the rows, the tail's place and length, the
 /// calls open and the comparisons. The table has three cells a record, for the
 /// correlation, the method number and the marks.
@@ -298,6 +353,9 @@ mod tests {
         with_any_room(7, |cells| read_frame(&[], cells));
         with_any_room(7, |cells| receive(&mut [], &[], b'C', &[], &mut [], cells));
         with_any_room(1, |cells| write_frame(9, [0; 3], 0, &[], &mut [], cells));
+        with_any_room(2, |cells| {
+            write_value_frame([0; 4], 0, &[], (0, &[], &[]), &mut [], cells)
+        });
     }
 
     #[test]
@@ -310,6 +368,30 @@ mod tests {
         assert_eq!(cells, [4, 5, 6, 7, correlation, 26, 2]);
         assert_eq!(out[26..28], [9, 8]);
         assert!(out[28..].iter().all(|&byte| byte == 0));
+    }
+
+    #[test]
+    fn a_value_crosses_into_its_frame() {
+        let (schema, mut out, mut cells) = (map_schema(), [0; 40], [FILL; 2]);
+        let correlation = 0x0807_0605_0403_0201;
+        // One pair of 7 and 8.
+        let sheet = [2, 0, 4, 1, 1, 0, 0, 1, 0, 1, 1, 0, 0, 2, 1, 0];
+        let value = (2, &sheet[..], &[1, 7, 8][..]);
+        let header = [4, 5, 6, 7];
+        let number = write_value_frame(header, correlation, &schema, value, &mut out, &mut cells);
+        assert_eq!((number, cells), (0, [0, 30]));
+        let mut read = [0; 7];
+        assert_eq!(read_frame(&out, &mut read), 0);
+        assert_eq!(read, [4, 5, 6, 7, correlation, 26, 4]);
+        assert_eq!(out[26..30], [1, 1, 7, 8]);
+        assert!(out[30..].iter().all(|&byte| byte == 0));
+
+        // The last row is missing.
+        let value = (2, &sheet[..12], &[1, 7, 8][..]);
+        let (before, mut cells) = (out, [FILL; 2]);
+        let number = write_value_frame(header, correlation, &schema, value, &mut out, &mut cells);
+        assert_eq!((number, cells), (50, [3, 0]));
+        assert_eq!(out, before);
     }
 
     /// uint8, a map from it to itself, a struct with one such map, and a method

@@ -28,7 +28,9 @@ mod ffi;
 mod limits;
 mod refusal;
 
-pub use limits::{MAX_COMPARISONS, MAX_DEPTH, MAX_PAIRS, MAX_PAYLOAD, SLOTS, STACK};
+pub use limits::{
+    MAX_COMPARISONS, MAX_DEPTH, MAX_FRAME, MAX_PAIRS, MAX_PAYLOAD, NO_VALUE, SLOTS, STACK,
+};
 pub use refusal::Refusal;
 
 /// A value for the number 0, and a refusal for any other.
@@ -348,6 +350,64 @@ pub fn write_frame(header: &Header, payload: &[u8], out: &mut [u8]) -> Result<us
         &mut cells,
     );
     answer(number, 0, cells[0] as usize)
+}
+
+/// Writes the frame of a header and of the value that a sheet shows over its
+/// bytes, and gives the frame's length: the bytes that [`write`] and then
+/// [`write_frame`] give, straight to the output. A refusal leaves the output as
+/// it was, and what stands after the frame stays as it was too; [`MAX_FRAME`]
+/// bytes are room enough for any frame.
+///
+/// The refusals, in their order: the table's, 4 for the header's kind, 46, those
+/// of [`write`] for its rows, 7 for the payload and 52 for the whole frame.
+///
+/// ```
+/// // uint8, and a struct with one such field.
+/// let words = [6u32, 0, 0, 16, 0, 1, 0, 0, 24, 32, 32, 1];
+/// let schema: Vec<u8> = words.iter().flat_map(|word| word.to_le_bytes()).collect();
+/// let header = arf::Header { kind: 1, package: 1, service: 2, method: 3, correlation: 9 };
+/// let sheet = [1, 0, 2, 1, 0, 1, 1, 0];
+/// let mut out = [0; 28];
+/// let length = arf::write_value_frame(&header, &schema, 1, &sheet, &[0x01, 0x07], &mut out);
+/// assert_eq!(length, Ok(28));
+///
+/// let mut expected = [0; 28];
+/// arf::write_frame(&header, &[0x01, 0x07], &mut expected).unwrap();
+/// assert_eq!(out, expected);
+/// ```
+///
+/// Type [`NO_VALUE`] with an empty sheet is an empty payload; a row there is
+/// left over. The table is checked all the same, and the bytes are not looked at.
+///
+/// ```
+/// let empty = [0, 0, 0, 0, 0, 0, 0, 0, 0, 0, 0, 0, 1, 0, 0, 0];
+/// let header = arf::Header { kind: 3, ..Default::default() };
+/// let mut out = [0; 26];
+/// let length = arf::write_value_frame(&header, &empty, arf::NO_VALUE, &[], &[], &mut out);
+/// assert_eq!(length, Ok(26));
+///
+/// let row = [0; 4];
+/// let refused = arf::write_value_frame(&header, &empty, arf::NO_VALUE, &row, &[], &mut out);
+/// assert_eq!(refused, Err(arf::Refusal { number: 50, place: 0 }));
+/// ```
+pub fn write_value_frame(
+    header: &Header,
+    schema: &[u8],
+    type_number: u32,
+    sheet: &[u32],
+    bytes: &[u8],
+    out: &mut [u8],
+) -> Result<usize, Refusal> {
+    let mut cells = [0; 2];
+    let number = ffi::write_value_frame(
+        [header.kind, header.package, header.service, header.method],
+        header.correlation,
+        schema,
+        (type_number, sheet, bytes),
+        out,
+        &mut cells,
+    );
+    answer(number, cells[0], cells[1] as usize)
 }
 
 /// The record of one slot. A free slot is zero in every member.

@@ -3,6 +3,16 @@
 /// The most bytes of a payload; a longer one is refused with 7.
 pub const MAX_PAYLOAD: usize = 16_384;
 
+/// The most bytes of a frame: a header of 25 bytes, the payload's length, which
+/// takes three bytes at most, and the payload.
+pub const MAX_FRAME: usize = 25 + 3 + MAX_PAYLOAD;
+
+/// The type number that stands for no value: [`write_value_frame`] writes an
+/// empty payload for it. No table has a type of this number.
+///
+/// [`write_value_frame`]: crate::write_value_frame
+pub const NO_VALUE: u32 = u32::MAX;
+
 /// The greatest depth of a value, where the root stands at 1; a deeper one is
 /// refused with 28.
 pub const MAX_DEPTH: usize = 16;

@@ -26,7 +26,22 @@ fn main() {
         ..receipt
     };
     receive("CANCEL, no payload", 8, 50, &cancel);
+    println!();
+    println!("| input | one write | two in turn | one / two |");
+    println!("|---|---|---|---|");
+    let long = payloads
+        .iter()
+        .filter(|sample| IN_TURN.contains(&sample.name));
+    long.for_each(value_frame);
 }
+
+/// The payloads on which one write is held against two in turn.
+const IN_TURN: &[&str] = &[
+    "small structs",
+    "long string, ASCII",
+    "64-pair maps, string keys",
+    "receipt of 100 bytes",
+];
 
 /// A line of the table.
 fn figure(entry: &str, input: &str, times: Times) {
@@ -84,11 +99,18 @@ fn read(sample: &Sample) {
     figure("read", &input, times);
 }
 
-fn write(sample: &Sample) {
-    let (schema, payload) = (&sample.schema[..], &sample.payload[..]);
+/// The rows that the reader shows, for a writer.
+fn sheet_of(sample: &Sample) -> Vec<u32> {
     let mut sheet = vec![0; CELLS];
+    let (schema, payload) = (&sample.schema[..], &sample.payload[..]);
     let reading = reference::read(schema, sample.type_number, payload, &mut sheet);
     sheet.truncate(4 * reading.expect("the payload is right").rows);
+    sheet
+}
+
+fn write(sample: &Sample) {
+    let (schema, payload) = (&sample.schema[..], &sample.payload[..]);
+    let sheet = sheet_of(sample);
     let (mut ours, mut theirs) = (vec![0; MAX_PAYLOAD], vec![0; MAX_PAYLOAD]);
     let length = arf::write(schema, sample.type_number, &sheet, payload, &mut ours);
     let expected = reference::write(schema, sample.type_number, &sheet, payload, &mut theirs);
@@ -129,22 +151,60 @@ fn frame_read(sample: &Sample) {
     figure("frame read", "frame of a 100-byte receipt", times);
 }
 
+/// The header of INVOKE for the method 1, 2, 3.
+const INVOKE: arf::Header = arf::Header {
+    kind: 1,
+    package: 1,
+    service: 2,
+    method: 3,
+    correlation: 9,
+};
+
+/// One write for a whole frame, beside the library's value writer and frame
+/// writer in turn.
+fn value_frame(sample: &Sample) {
+    let (schema, payload) = (&sample.schema[..], &sample.payload[..]);
+    let (ty, sheet) = (sample.type_number, sheet_of(sample));
+    let expected = samples::frame(1, 9, payload);
+    let (mut one, mut two) = (vec![0; expected.len()], vec![0; expected.len()]);
+    let mut between = vec![0; MAX_PAYLOAD];
+    let in_turn = |clear, between: &mut [u8], out: &mut [u8]| {
+        if clear {
+            out.fill(0);
+        }
+        let (schema, sheet, payload) = black_box((schema, &sheet[..], payload));
+        let length = arf::write(schema, ty, sheet, payload, between)?;
+        arf::write_frame(black_box(&INVOKE), &between[..length], out)
+    };
+    let at_once = |clear, out: &mut [u8]| {
+        if clear {
+            out.fill(0);
+        }
+        let (schema, sheet, payload) = black_box((schema, &sheet[..], payload));
+        arf::write_value_frame(black_box(&INVOKE), schema, ty, sheet, payload, out)
+    };
+    assert_eq!(at_once(true, &mut one), Ok(expected.len()));
+    assert_eq!(in_turn(true, &mut between, &mut two), Ok(expected.len()));
+    assert_eq!((&one, &two), (&expected, &expected));
+    let times = side_by_side(
+        |clear| at_once(clear, &mut one),
+        |clear| in_turn(clear, &mut between, &mut two),
+    );
+    let (once, turns) = (times.library, times.reference);
+    let ratio = once / turns;
+    let (once, turns) = (show(once), show(turns));
+    println!("| {} | {once} | {turns} | {ratio:.2} |", sample.name);
+}
+
 fn frame_write(sample: &Sample) {
     let expected = samples::frame(1, 9, &sample.payload);
-    let ours = arf::Header {
-        kind: 1,
-        package: 1,
-        service: 2,
-        method: 3,
-        correlation: 9,
-    };
     let theirs = reference::Header {
         kind: 1,
         identifiers: [1, 2, 3],
         correlation: 9,
     };
     let (mut out, mut other) = (vec![0; 200], vec![0; 200]);
-    let length = arf::write_frame(&ours, &sample.payload, &mut out);
+    let length = arf::write_frame(&INVOKE, &sample.payload, &mut out);
     assert_eq!(length, Ok(expected.len()));
     assert_eq!(out[..expected.len()], expected);
     let times = side_by_side(
@@ -152,7 +212,7 @@ fn frame_write(sample: &Sample) {
             if clear {
                 out.fill(0);
             }
-            arf::write_frame(black_box(&ours), black_box(&sample.payload), &mut out)
+            arf::write_frame(black_box(&INVOKE), black_box(&sample.payload), &mut out)
         },
         |clear| {
             if clear {

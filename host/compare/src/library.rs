@@ -2,11 +2,11 @@
 
 use reference::cases::{
     call_table_sum, line, sheet_sum, sum, Case, ExtendsCase, FrameCase, FrameWriteCase, ReadCase,
-    ReceiveCase, RunCase, ScalarCase, TableCase, WriteCase, BYTE_FILL, CELL_FILL,
+    ReceiveCase, RunCase, ScalarCase, TableCase, ValueFrameCase, WriteCase, BYTE_FILL, CELL_FILL,
 };
 
 /// The codes of the entries that the library has.
-pub const CODES: &[u8] = &[1, 2, 3, 4, 5, 6, 7, 8, 9];
+pub const CODES: &[u8] = &[1, 2, 3, 4, 5, 6, 7, 8, 9, 15];
 
 /// How many cells or bytes before and after a lent buffer are watched.
 const MARGIN: usize = 16;
@@ -23,6 +23,7 @@ pub fn answer(case: &Case, text: &mut String) {
         Case::FrameWrite(case) => frame_write(case, text),
         Case::Run(case) => run(case, text),
         Case::Receive(case) => receive_one(case, text),
+        Case::ValueFrame(case) => value_frame(case, text),
     }
 }
 
@@ -149,20 +150,34 @@ fn frame(case: &FrameCase, text: &mut String) {
     line(text, &numbers);
 }
 
-fn frame_write(case: &FrameWriteCase, text: &mut String) {
-    let [package, service, method] = case.header.identifiers;
-    let header = arf::Header {
-        kind: case.header.kind,
+fn header(header: &reference::Header) -> arf::Header {
+    let [package, service, method] = header.identifiers;
+    arf::Header {
+        kind: header.kind,
         package,
         service,
         method,
-        correlation: case.header.correlation,
-    };
+        correlation: header.correlation,
+    }
+}
+
+fn frame_write(case: &FrameWriteCase, text: &mut String) {
+    let header = header(&case.header);
     let (result, out) = lend(BYTE_FILL, case.room, |out| {
         arf::write_frame(&header, &case.payload, out)
     });
     let (number, _, length) = outcome(result, 0);
     line(text, &[number, length as u64, sum(out)]);
+}
+
+fn value_frame(case: &ValueFrameCase, text: &mut String) {
+    let header = header(&case.header);
+    let (result, out) = lend(BYTE_FILL, case.room, |out| {
+        let (schema, sheet, data) = (&case.schema, &case.sheet, &case.data);
+        arf::write_value_frame(&header, schema, case.type_number, sheet, data, out)
+    });
+    let (number, place, length) = outcome(result, 0);
+    line(text, &[number, place, length as u64, sum(out)]);
 }
 
 /// One frame against a call table, with a newly filled sheet.
@@ -203,17 +218,27 @@ fn run(case: &RunCase, text: &mut String) {
 }
 
 fn receive_one(case: &ReceiveCase, text: &mut String) {
-    let calls = case.table.slots.map(|call| arf::Call {
+    let mut table = table_of(&case.table);
+    let sent = (case.side, &case.data[..]);
+    let numbers = receive(&mut table, &case.schema, case.cells, sent);
+    let mut all = numbers.to_vec();
+    all.push(table_sum(&table));
+    line(text, &all);
+}
+
+/// The library's table with the records of the reference's.
+fn table_of(table: &reference::CallTable) -> arf::CallTable {
+    arf::CallTable::from_calls(&table.slots.map(|call| arf::Call {
         open: call.open,
         correlation: call.correlation,
         method: call.method,
         response: call.response,
         input_closed: call.input_closed,
         output_closed: call.output_closed,
-    });
-    let mut table = arf::CallTable::from_calls(&calls);
-    let sent = (case.side, &case.data[..]);
-    let numbers = receive(&mut table, &case.schema, case.cells, sent);
+    }))
+}
+
+fn table_sum(table: &arf::CallTable) -> u64 {
     let slots = table.calls().map(|call| reference::Call {
         open: call.open,
         correlation: call.correlation,
@@ -222,8 +247,5 @@ fn receive_one(case: &ReceiveCase, text: &mut String) {
         input_closed: call.input_closed,
         output_closed: call.output_closed,
     });
-    let next = call_table_sum(&reference::CallTable { slots });
-    let mut all = numbers.to_vec();
-    all.push(next);
-    line(text, &all);
+    call_table_sum(&reference::CallTable { slots })
 }

@@ -91,7 +91,7 @@ fn replay(file: &str) -> Result<String, String> {
 struct Tally {
     total: usize,
     done: usize,
-    codes: [usize; 10],
+    codes: [usize; 256],
     shown: Instant,
 }
 
@@ -100,7 +100,7 @@ impl Tally {
         Tally {
             total,
             done: 0,
-            codes: [0; 10],
+            codes: [0; 256],
             shown: Instant::now(),
         }
     }

@@ -152,16 +152,30 @@ pub fn write_frame(header: &Header, payload: &[u8], out: &mut [u8]) -> Result<us
     if payload.len() > MAX_PAYLOAD {
         return Err(Reason::PayloadTooLong);
     }
-    let size = payload.len() as u64;
-    let payload_place = HEADER + varuint::length(size);
-    let length = payload_place + payload.len();
+    let length = frame_length(payload.len());
     let out = out.get_mut(..length).ok_or(Reason::OutputTooSmall)?;
+    write_start(kind, header, payload.len(), out).copy_from_slice(payload);
+    Ok(length)
+}
+
+/// The length of a frame with a payload of so many bytes.
+pub(crate) fn frame_length(size: usize) -> usize {
+    HEADER + varuint::length(size as u64) + size
+}
+
+/// Writes everything before the payload to an output of the frame's length,
+/// and gives the rest of it.
+pub(crate) fn write_start<'o>(
+    kind: Kind,
+    header: &Header,
+    size: usize,
+    out: &'o mut [u8],
+) -> &'o mut [u8] {
     out[..5].copy_from_slice(&[0xAF, 0x01, 1, kind as u8, 0]);
     for (index, identifier) in header.identifiers.iter().enumerate() {
         out[5 + 4 * index..][..4].copy_from_slice(&identifier.to_le_bytes());
     }
     out[17..HEADER].copy_from_slice(&header.correlation.to_le_bytes());
-    varuint::encode(size, &mut out[HEADER..]);
-    out[payload_place..].copy_from_slice(payload);
-    Ok(length)
+    let place = HEADER + varuint::encode(size as u64, &mut out[HEADER..]);
+    &mut out[place..]
 }

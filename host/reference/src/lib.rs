@@ -23,6 +23,7 @@ pub mod refusal;
 pub mod scalar;
 pub mod schema;
 pub mod utf8;
+pub mod value_frame;
 pub mod varuint;
 pub mod writer;
 
@@ -35,6 +36,7 @@ pub use receive::{Outcome, Received};
 pub use refusal::{Reason, Refusal};
 pub use scalar::{scalar, Scalar};
 pub use schema::{check_table, Schema};
+pub use value_frame::write_value_frame;
 pub use writer::write;
 
 /// The most bytes a payload may have.

@@ -11,7 +11,7 @@
 //! ```
 //!
 //! SCHEMA and RECORD are files. CODES is a list such as `1,2` and selects the
-//! entries the cases are about; without it all nine come up. The word `across`
+//! entries the cases are about; without it all come up. The word `across`
 //! in its place asks for payloads of one table that are read by another, where
 //! one of the two extends the other. The same SEED, N and CODES always give the
 //! same case file. `count` prints a line for each entry and answer: the code,
@@ -28,7 +28,7 @@ use std::process::ExitCode;
 use reference::cases::{answer_file, list_file, put_listings};
 use reference::generate::carrier::files as example_files;
 use reference::generate::listings::cases as listing_cases;
-use reference::generate::Generator;
+use reference::generate::{is_code, Generator};
 
 const USAGE: &str = "usage: reference list SCHEMA RECORD
        reference listings SEED N
@@ -107,12 +107,12 @@ fn generator(seed: &str, number: &str, codes: &str) -> Result<(Generator, usize)
     if codes == "across" {
         return Ok((Generator::across(seed), number));
     }
-    let known = |code: &str| code.parse().ok().filter(|code| (1..=9).contains(code));
+    let known = |code: &str| code.parse().ok().filter(|&code| is_code(code));
     let codes: Option<Vec<u8>> = match codes {
         "" => Some(Vec::new()),
         list => list.split(',').map(known).collect(),
     };
-    let codes = codes.ok_or("codes are numbers from 1 to 9 with commas between")?;
+    let codes = codes.ok_or("codes are numbers of entries with commas between")?;
     Ok((Generator::new(seed, &codes), number))
 }
 

@@ -18,17 +18,54 @@ pub fn write(
     out: &mut [u8],
 ) -> Result<usize, Refusal> {
     let schema = Schema::check(schema)?;
-    schema.check_struct(type_number)?;
-    let (rows, _) = sheet.as_chunks::<4>();
-    let length = Judge::new(&schema, rows, bytes).sheet(type_number)?;
-    if length > MAX_PAYLOAD as u64 {
-        return Err(Reason::PayloadTooLong.at(0));
+    let sheet = Judged::new(&schema, type_number, sheet, bytes)?;
+    let length = payload_length(sheet.length)?;
+    let out = out.get_mut(..length).ok_or(Reason::OutputTooSmall.at(0))?;
+    sheet.emit(out);
+    Ok(length)
+}
+
+/// The length of an output, if a payload may be as long.
+#[inline]
+pub(crate) fn payload_length(length: u64) -> Result<usize, Refusal> {
+    match length <= MAX_PAYLOAD as u64 {
+        true => Ok(length as usize),
+        false => Err(Reason::PayloadTooLong.at(0)),
     }
-    let out = out
-        .get_mut(..length as usize)
-        .ok_or(Reason::OutputTooSmall.at(0))?;
-    emit(&schema, rows, bytes, out);
-    Ok(length as usize)
+}
+
+/// A sheet that shows a value of the type asked for, and the bytes that the
+/// value takes.
+pub(crate) struct Judged<'a> {
+    schema: &'a Schema<'a>,
+    rows: &'a [[u32; 4]],
+    bytes: &'a [u8],
+    pub length: u64,
+}
+
+impl<'a> Judged<'a> {
+    /// Judges the type, each row, and that none is left over.
+    pub fn new(
+        schema: &'a Schema<'a>,
+        type_number: u32,
+        sheet: &'a [u32],
+        bytes: &'a [u8],
+    ) -> Result<Self, Refusal> {
+        schema.check_struct(type_number)?;
+        let (rows, _) = sheet.as_chunks::<4>();
+        let length = Judge::new(schema, rows, bytes).sheet(type_number)?;
+        Ok(Judged {
+            schema,
+            rows,
+            bytes,
+            length,
+        })
+    }
+
+    /// Writes the value to the start of an output with room enough.
+    pub fn emit(&self, out: &mut [u8]) {
+        emit(self.schema, self.rows, self.bytes, out);
+    }
 }
 
 /// Walks the rows a type asks for and finds the first fault, or measures the

@@ -6,7 +6,7 @@ mod common;
 use std::collections::BTreeMap;
 
 use common::{comparisons, table_t, BYTE, CELL};
-use reference::cases::{answer_file, read_file, Case, ReadCase, WriteCase};
+use reference::cases::{answer_file, read_file, Case, FrameWriteCase, ReadCase, WriteCase};
 use reference::generate::rng::Rng;
 use reference::generate::table::Table;
 use reference::generate::Generator;
@@ -36,6 +36,7 @@ fn numbers(code: u8) -> Vec<u32> {
         }
         6 => (0..=7).collect(),
         7 => vec![0, 4, 7, 52],
+        15 => numbers(5).into_iter().chain([4]).collect(),
         8 => (0..=14).chain(20..=31).chain(table).collect(),
         _ => (0..=15).chain(20..=31).chain(table).collect(),
     }
@@ -44,18 +45,35 @@ fn numbers(code: u8) -> Vec<u32> {
 #[test]
 fn every_number_comes_up() {
     let mut counts = BTreeMap::new();
-    for case in cases(1, 20_000) {
+    for case in cases(1, 24_000) {
         for number in case.numbers() {
             *counts.entry((case.code(), number)).or_insert(0) += 1;
         }
     }
-    for code in 1..=9 {
+    for code in (1..=9).chain([15]) {
         for number in numbers(code) {
             let count = counts.remove(&(code, number)).unwrap_or(0);
             assert!(count >= 20, "code {code} number {number}: {count}");
         }
     }
     assert!(counts.is_empty(), "{counts:?}");
+}
+
+/// A code that is added later changes none of the cases of the others.
+#[test]
+fn codes_do_not_disturb_each_other() {
+    let mut all = cases(16, 3_000);
+    all.retain(|case| case.code() <= 9);
+    let mut first = Generator::new(16, &[1, 2, 3, 4, 5, 6, 7, 8, 9]);
+    assert!(all.iter().all(|case| first.case().as_ref() == Some(case)));
+    for code in [15] {
+        let mut alone = Generator::new(16, &[code]);
+        for case in cases(16, 3_000) {
+            if case.code() == code {
+                assert_eq!(alone.case(), Some(case));
+            }
+        }
+    }
 }
 
 #[test]
@@ -76,8 +94,28 @@ fn case_files_read_back_and_keep_the_limits() {
 }
 
 #[test]
+fn outputs_of_140000_bytes_and_one_more() {
+    let frame = |room| {
+        let case = FrameWriteCase {
+            header: Header::default(),
+            payload: Vec::new(),
+            room,
+        };
+        let mut file = Vec::new();
+        Case::FrameWrite(case).put(&mut file);
+        answer_file(&file)
+    };
+    assert!(frame(140_000).starts_with("4 0 "));
+    assert_eq!(frame(140_001), "cut\n");
+}
+
+#[test]
 fn case_files_stay_small() {
-    for (codes, limit) in [(&[1, 2][..], 2_500_000), (&[3, 4], 2_000_000)] {
+    for (codes, limit) in [
+        (&[1, 2][..], 2_500_000),
+        (&[3, 4], 2_000_000),
+        (&[15], 3_750_000),
+    ] {
         let mut generator = Generator::new(3, codes);
         let mut file = Vec::new();
         for _ in 0..5_000 {
@@ -572,6 +610,14 @@ fn nothing_panics_on_random_bytes() {
         let _ = scalar(&schema, row, &bytes);
         if write(&schema, root, &sheet, &bytes, &mut out).is_err() {
             assert_eq!(out, [BYTE; 30]);
+        }
+        let header = Header {
+            kind: rng.below(10) as u32,
+            ..Header::default()
+        };
+        let mut out = [BYTE; 60];
+        if write_value_frame(&header, &schema, root, &sheet, &bytes, &mut out).is_err() {
+            assert_eq!(out, [BYTE; 60]);
         }
         let data = near(&mut rng, &frame);
         let _ = read_frame(&data);

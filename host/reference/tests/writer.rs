@@ -2,7 +2,7 @@
 
 mod common;
 
-use common::{table_t, BYTE};
+use common::{table_t, BYTE, P1, P1_ROWS};
 use reference::generate::table::Table;
 use reference::{write, Reason, Refusal};
 use Reason::*;
@@ -15,18 +15,6 @@ fn written(schema: &[u8], root: u32, rows: &[[u32; 4]], data: &[u8]) -> Result<V
     assert!(out[used..].iter().all(|&byte| byte == BYTE));
     answer.map(|length| out[..length].to_vec())
 }
-
-const P1: &[u8] = &[1, 2, 3, 7, 2, b'o', b'k', 1, 0];
-
-const P1_ROWS: [[u32; 4]; 7] = [
-    [4, 0, 9, 1],
-    [3, 2, 7, 2],
-    [2, 2, 5, 2],
-    [0, 3, 1, 0],
-    [1, 5, 2, 0],
-    [2, 7, 2, 1],
-    [0, 8, 1, 0],
-];
 
 /// P1's rows with one cell changed.
 fn with(row: usize, cell: usize, number: u32) -> Vec<[u32; 4]> {

@@ -8,7 +8,6 @@ use borrow.Author.Needs.{needs}
 use borrow.Author.Tests.{not-true, not-false}
 use lib.ListN.{length}
 use Rattle.wire.specs.Varuint.{varuintBytes}
-use Rattle.wire.proofs.Varuints.{shortest-ten}
 use Rattle.frame.specs.Frame.{knownKind}
 use Rattle.frame.specs.Written.{outputOf}
 use Rattle.frame.proofs.Tests.{known-bounds}
@@ -20,11 +19,8 @@ known : (c : tie.Else1) → knownKind (c .before .before .before .before .args .
 known c = sym (c .before .known-kind .ensures) ∙ not-false _ (c .if1 .left)
 
 -- the place of the payload
-placed : (c : tie.After-size) → c .size .result ≡ length (varuintBytes (length (c .before .before .before .before .before .before .args .payload .now)))
-placed c = c .size .ensures
-
-small : (c : tie.After-size) → c .size .result ≤ 10
-small c = rw (placed c) (shortest-ten _ (omega arith))
+placed : (c : tie.After-payload-place) → c .payload-place .result ≡ 25 + length (varuintBytes (length (c .before .before .before .before .before .before .args .payload .now)))
+placed c = c .payload-place .ensures .0
 
 returns : tie.Need-returns
 unfolding outputOf
@@ -56,8 +52,7 @@ write-frame-spec =
     returns
     returns-2
     (λ c κs. search needs)
-    (λ c. omega (arith, small c))
-    (λ c. omega (arith, small c))
+    (λ c. omega (arith, c .payload-place .ensures .1))
     returns-3
     (λ c κs. let s = c .before .before in (omega (arith, placed s), known-bounds _ (known (s .before .before)) .1))
     (λ c κs. search needs)

@@ -17,8 +17,8 @@ use bench::samples::frame;
 use bench::CELLS;
 use reference::MAX_PAYLOAD;
 
-/// What is measured; a trial runs one of them, or nothing.
-const ENTRIES: [&str; 3] = ["read", "write", "receive"];
+/// What is measured, `frame` for `write_value_frame`; a trial runs one of them, or nothing.
+const ENTRIES: [&str; 4] = ["read", "write", "receive", "frame"];
 const NOTHING: &str = "nothing";
 
 /// More than any entry may take, in KiB.
@@ -114,13 +114,22 @@ fn trial(entry: &str, nest: usize, kib: usize) -> ExitCode {
 /// The number that an entry answers for a nest.
 fn run(entry: &str, nest: &Nest, kib: usize) -> u32 {
     let (schema, ty, payload) = (&nest.schema[..], nest.type_number, &nest.payload[..]);
-    let (mut sheet, mut out) = (vec![0; CELLS], vec![0; MAX_PAYLOAD]);
+    let (mut sheet, mut out) = (vec![0; CELLS], vec![0; MAX_PAYLOAD + 40]);
+    let header = arf::Header {
+        kind: 1,
+        ..Default::default()
+    };
     let invoke = frame(1, 1_000, payload);
     let mut table = Box::new(open_calls());
     match entry {
         "read" => on_thread(kib, || number(arf::read(schema, ty, payload, &mut sheet))),
         "write" => on_thread(kib, || {
             number(arf::write(schema, ty, &nest.sheet, payload, &mut out))
+        }),
+        "frame" => on_thread(kib, || {
+            let sheet = &nest.sheet;
+            let written = arf::write_value_frame(&header, schema, ty, sheet, payload, &mut out);
+            number(written)
         }),
         "receive" => on_thread(kib, || {
             match table.receive(schema, b'C', &invoke, &mut sheet).outcome {

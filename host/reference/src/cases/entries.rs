@@ -1,9 +1,9 @@
-//! The nine sorts of case: how each is taken from a file, put into one, and
-//! answered.
+//! The sorts of case of codes 1 to 9: how each is taken from a file, put into
+//! one, and answered.
 
 use super::format::{
-    call_table_sum, line, put_bytes, put_call_table, put_words, sheet_sum, sum, Input, Sent,
-    MAX_CELLS, MAX_OUTPUT,
+    call_table_sum, line, put_bytes, put_call_table, put_header, put_sheet, put_words, sheet_sum,
+    sum, Input, Sent, MAX_CELLS, MAX_OUTPUT,
 };
 use crate::calls::CallTable;
 use crate::frame::{read_frame, write_frame, FrameAnswer, Header};
@@ -30,7 +30,7 @@ pub trait Entry {
 }
 
 /// The number and place of a result, and its value, or the given one.
-fn outcome<T>(result: Result<T, Refusal>, refused: T) -> (u64, u64, T) {
+pub(super) fn outcome<T>(result: Result<T, Refusal>, refused: T) -> (u64, u64, T) {
     match result {
         Ok(value) => (0, 0, value),
         Err(refusal) => (refusal.number().into(), refusal.place.into(), refused),
@@ -206,8 +206,8 @@ impl Entry for WriteCase {
 
     fn put(&self, out: &mut Vec<u8>) {
         put_bytes(out, &self.schema);
-        put_words(out, &[self.type_number, self.sheet.len() as u32]);
-        put_words(out, &self.sheet);
+        put_words(out, &[self.type_number]);
+        put_sheet(out, &self.sheet);
         put_bytes(out, &self.data);
         put_words(out, &[self.room as u32]);
     }
@@ -277,9 +277,7 @@ impl Entry for FrameWriteCase {
     }
 
     fn put(&self, out: &mut Vec<u8>) {
-        put_words(out, &[self.header.kind]);
-        put_words(out, &self.header.identifiers);
-        out.extend(self.header.correlation.to_le_bytes());
+        put_header(out, &self.header);
         put_bytes(out, &self.payload);
         put_words(out, &[self.room as u32]);
     }

@@ -9,7 +9,7 @@ use crate::frame::Header;
 /// The most a case may ask for.
 pub const MAX_BYTES: usize = 70_000;
 pub const MAX_CELLS: usize = 70_000;
-pub const MAX_OUTPUT: usize = 20_000;
+pub const MAX_OUTPUT: usize = 140_000;
 pub const MAX_FRAMES: usize = 1_000;
 
 /// A frame and the side byte it comes with.
@@ -114,6 +114,17 @@ pub fn put_words(out: &mut Vec<u8>, words: &[u32]) {
 pub fn put_bytes(out: &mut Vec<u8>, bytes: &[u8]) {
     put_words(out, &[bytes.len() as u32]);
     out.extend(bytes);
+}
+
+pub fn put_sheet(out: &mut Vec<u8>, sheet: &[u32]) {
+    put_words(out, &[sheet.len() as u32]);
+    put_words(out, sheet);
+}
+
+pub fn put_header(out: &mut Vec<u8>, header: &Header) {
+    put_words(out, &[header.kind]);
+    put_words(out, &header.identifiers);
+    out.extend(header.correlation.to_le_bytes());
 }
 
 pub fn put_call_table(out: &mut Vec<u8>, table: &CallTable) {

@@ -6,6 +6,7 @@
 mod entries;
 mod format;
 mod listings;
+mod value_frame;
 
 pub use entries::{
     ExtendsCase, FrameCase, FrameWriteCase, ReadCase, ReceiveCase, RunCase, ScalarCase, TableCase,
@@ -16,6 +17,7 @@ pub use format::{
 };
 
 pub use listings::{list_file, put_listings, ListingCase};
+pub use value_frame::ValueFrameCase;
 
 use entries::Entry;
 use format::Input;
@@ -32,6 +34,7 @@ pub enum Case {
     FrameWrite(FrameWriteCase),
     Run(RunCase),
     Receive(ReceiveCase),
+    ValueFrame(ValueFrameCase),
 }
 
 impl Case {
@@ -47,6 +50,7 @@ impl Case {
             Case::FrameWrite(_) => 7,
             Case::Run(_) => 8,
             Case::Receive(_) => 9,
+            Case::ValueFrame(_) => 15,
         }
     }
 
@@ -61,6 +65,7 @@ impl Case {
             Case::FrameWrite(case) => case,
             Case::Run(case) => case,
             Case::Receive(case) => case,
+            Case::ValueFrame(case) => case,
         }
     }
 
@@ -76,6 +81,7 @@ impl Case {
             7 => Case::FrameWrite(FrameWriteCase::take(input)?),
             8 => Case::Run(RunCase::take(input)?),
             9 => Case::Receive(ReceiveCase::take(input)?),
+            15 => Case::ValueFrame(ValueFrameCase::take(input)?),
             _ => return None,
         })
     }

@@ -19,12 +19,19 @@ pub fn frame_bytes(header: &Header, payload: &[u8]) -> Vec<u8> {
     bytes
 }
 
-fn random_header(rng: &mut Rng) -> Header {
+pub fn random_header(rng: &mut Rng) -> Header {
     Header {
         kind: rng.range(1, 8) as u32,
         identifiers: [rng.word(), rng.word() >> 28, rng.word()],
         correlation: rng.bits() >> rng.pick(&[0, 0, 32, 60]),
     }
+}
+
+/// A header of a kind that does not exist.
+pub fn random_kind_fault(rng: &mut Rng) -> Header {
+    let mut header = random_header(rng);
+    header.kind = rng.pick(&[0, 9, 10, 255, 256, 257, 264, 1 << 31, u32::MAX]);
+    header
 }
 
 fn random_frame(rng: &mut Rng) -> Vec<u8> {
@@ -164,8 +171,7 @@ pub fn frame_write_longest(rng: &mut Rng) -> Case {
 
 /// A kind that does not exist (4), also with the other faults.
 pub fn frame_write_kind(rng: &mut Rng) -> Case {
-    let mut header = random_header(rng);
-    header.kind = rng.pick(&[0, 9, 10, 255, 256, 257, 264, 1 << 31, u32::MAX]);
+    let header = random_kind_fault(rng);
     let length = rng.below(20);
     let missing = rng.pick(&[0, 0, 1, 40]);
     frame_write(rng, header, length, |whole| whole.saturating_sub(missing))

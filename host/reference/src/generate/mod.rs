@@ -20,11 +20,12 @@ mod scalars;
 mod sheet;
 pub mod table;
 mod value;
+mod value_frames;
 mod wheels;
 
 use crate::cases::Case;
 use rng::Rng;
-use wheels::{ACROSS, CODES};
+use wheels::{ACROSS, CODES, LATER_CODES};
 
 /// Makes one case.
 type Maker = fn(&mut Rng) -> Case;
@@ -58,25 +59,44 @@ const fn aim(share: usize, number: u32, make: Maker) -> Sort {
 /// The sorts of one code.
 type Wheel = &'static [Sort];
 
+/// A code, how often it comes up among all, and its wheel.
+type Code = (u8, usize, Wheel);
+
+/// A code with a random stream of its own, so that its cases do not depend on
+/// which other codes there are.
+struct Stream {
+    share: usize,
+    wheel: Wheel,
+    rng: Rng,
+    turn: usize,
+}
+
 /// Makes cases one after the other, always the same from the same seed.
 pub struct Generator {
     rng: Rng,
-    codes: Vec<(u8, usize, Wheel)>,
+    codes: Vec<Code>,
     turns: [usize; 256],
+    later: Vec<Stream>,
+    choice: Rng,
+}
+
+/// Whether there are cases of a code.
+pub fn is_code(code: u8) -> bool {
+    let codes = CODES.iter().chain(LATER_CODES);
+    codes.into_iter().any(|&(known, ..)| known == code)
 }
 
 impl Generator {
     /// A generator for some codes; none named means all.
     pub fn new(seed: u64, codes: &[u8]) -> Self {
-        let wanted = |code: &u8| codes.is_empty() || codes.contains(code);
+        let wanted = |(code, ..): &&Code| codes.is_empty() || codes.contains(code);
+        let later = LATER_CODES.iter().filter(wanted);
         Generator {
             rng: Rng::new(seed),
-            codes: CODES
-                .iter()
-                .filter(|(code, ..)| wanted(code))
-                .copied()
-                .collect(),
+            codes: CODES.iter().filter(wanted).copied().collect(),
             turns: [0; 256],
+            later: later.map(|code| Stream::new(seed, code)).collect(),
+            choice: Rng::new(!seed),
         }
     }
 
@@ -87,11 +107,27 @@ impl Generator {
             rng: Rng::new(seed),
             codes: vec![(3, 1, ACROSS)],
             turns: [0; 256],
+            later: Vec::new(),
+            choice: Rng::new(!seed),
         }
     }
 
     /// The next case, or none if no code is known.
     pub fn case(&mut self) -> Option<Case> {
+        let first: usize = self.codes.iter().map(|(_, share, _)| share).sum();
+        let later: usize = self.later.iter().map(|stream| stream.share).sum();
+        let mut place = self.choice.below(first + later);
+        for stream in &mut self.later {
+            if place < stream.share {
+                return Some(stream.case());
+            }
+            place -= stream.share;
+        }
+        self.first_case()
+    }
+
+    /// The next case of the codes that share one random stream.
+    fn first_case(&mut self) -> Option<Case> {
         let total: usize = self.codes.iter().map(|(_, share, _)| share).sum();
         let mut place = self.rng.below(total);
         for &(code, share, wheel) in &self.codes {
@@ -103,6 +139,23 @@ impl Generator {
             place -= share;
         }
         None
+    }
+}
+
+impl Stream {
+    fn new(seed: u64, &(code, share, wheel): &Code) -> Self {
+        Stream {
+            share,
+            wheel,
+            rng: Rng::new(seed ^ u64::from(code) << 56),
+            turn: 0,
+        }
+    }
+
+    fn case(&mut self) -> Case {
+        let turn = self.turn;
+        self.turn += 1;
+        spin(self.wheel, turn).case(&mut self.rng)
     }
 }
 
@@ -136,6 +189,20 @@ fn spin(wheel: Wheel, turn: usize) -> &'static Sort {
         place -= sort.share;
     }
     &wheel[0]
+}
+
+/// A case of any sort of a wheel, or of those that aim at a number.
+fn draw(rng: &mut Rng, wheel: Wheel, number: Option<u32>) -> Case {
+    let aims = |sort: &&Sort| number.is_none() || sort.aim == number;
+    let total = wheel.iter().filter(aims).map(|sort| sort.share).sum();
+    let mut place = rng.below(total);
+    for sort in wheel.iter().filter(aims) {
+        if place < sort.share {
+            return sort.case(rng);
+        }
+        place -= sort.share;
+    }
+    wheel[0].case(rng)
 }
 
 fn coprime(a: usize, b: usize) -> bool {

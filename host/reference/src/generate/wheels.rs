@@ -1,13 +1,13 @@
 //! The sorts of case of each code, and their shares.
 
 use super::{
-    aim, any, damage, fault, frames, line, maps, pair, reading, runs, scalars, sheet, table, Wheel,
+    aim, any, damage, fault, frames, line, maps, pair, reading, runs, scalars, sheet, table,
+    value_frames, Code, Wheel,
 };
 use crate::cases::{Case, TableCase};
 
-/// The codes of the case file, how often each comes up among all codes, and
-/// its wheel.
-pub const CODES: &[(u8, usize, Wheel)] = &[
+/// The codes that share one random stream.
+pub const CODES: &[Code] = &[
     (1, 10, TABLE),
     (2, 10, EXTENDS),
     (3, 22, READ),
@@ -18,6 +18,9 @@ pub const CODES: &[(u8, usize, Wheel)] = &[
     (8, 8, RUN),
     (9, 8, RECEIVE),
 ];
+
+/// The codes with a random stream each.
+pub const LATER_CODES: &[Code] = &[(15, 12, VALUE_FRAME)];
 
 const TABLE: Wheel = &[
     aim(60, 0, |rng| table_case(table::good_table(rng).bytes())),
@@ -158,7 +161,8 @@ const SCALAR: Wheel = &[
     }),
 ];
 
-const WRITE: Wheel = &[
+/// The writer's sheets; those that write more than a value take them too.
+pub const WRITE: Wheel = &[
     any(52, |rng| sheet::write_any(rng, sheet::as_read)),
     any(30, |rng| sheet::write_any(rng, sheet::made_up)),
     aim(10, 0, |rng| {
@@ -366,6 +370,44 @@ const RECEIVE: Wheel = &[
     aim(3, 42, |rng| runs::receive_bad_table(rng, fault::bad_type)),
     aim(3, 43, |rng| runs::receive_bad_table(rng, fault::bad_field)),
     aim(3, 44, |rng| runs::receive_bad_table(rng, fault::bad_method)),
+];
+
+const VALUE_FRAME: Wheel = &[
+    any(70, |rng| value_frames::value_frame(rng, None)),
+    aim(60, 0, |rng| value_frames::value_frame(rng, None)),
+    aim(12, 22, |rng| value_frames::value_frame(rng, Some(22))),
+    aim(12, 23, |rng| value_frames::value_frame(rng, Some(23))),
+    aim(12, 24, |rng| value_frames::value_frame(rng, Some(24))),
+    aim(12, 25, |rng| value_frames::value_frame(rng, Some(25))),
+    aim(12, 28, |rng| value_frames::value_frame(rng, Some(28))),
+    aim(12, 31, |rng| value_frames::value_frame(rng, Some(31))),
+    aim(12, 46, |rng| value_frames::value_frame(rng, Some(46))),
+    aim(30, 50, |rng| value_frames::value_frame(rng, Some(50))),
+    aim(12, 51, |rng| value_frames::value_frame(rng, Some(51))),
+    aim(30, 52, value_frames::small_output),
+    any(14, value_frames::at_a_limit),
+    aim(10, 7, value_frames::too_long),
+    aim(14, 4, |rng| value_frames::bad_kind(rng, None)),
+    aim(6, 4, |rng| value_frames::bad_kind(rng, Some(46))),
+    aim(6, 4, |rng| value_frames::bad_kind(rng, Some(50))),
+    aim(3, 4, |rng| value_frames::bad_kind(rng, Some(7))),
+    aim(3, 40, |rng| value_frames::bad_kind(rng, Some(40))),
+    aim(2, 41, |rng| value_frames::bad_kind(rng, Some(41))),
+    aim(3, 42, |rng| value_frames::bad_kind(rng, Some(42))),
+    aim(3, 43, |rng| value_frames::bad_kind(rng, Some(43))),
+    aim(3, 44, |rng| value_frames::bad_kind(rng, Some(44))),
+    aim(5, 40, |rng| value_frames::value_frame(rng, Some(40))),
+    aim(4, 41, |rng| value_frames::value_frame(rng, Some(41))),
+    aim(5, 42, |rng| value_frames::value_frame(rng, Some(42))),
+    aim(5, 43, |rng| value_frames::value_frame(rng, Some(43))),
+    aim(5, 44, |rng| value_frames::value_frame(rng, Some(44))),
+    aim(24, 0, value_frames::empty),
+    aim(12, 50, value_frames::empty_with_rows),
+    aim(10, 52, value_frames::empty_small_output),
+    aim(8, 4, value_frames::empty_bad_kind),
+    any(8, |rng| {
+        value_frames::empty_bad_table(rng, fault::any_fault)
+    }),
 ];
 
 fn table_case(schema: Vec<u8>) -> Case {

@@ -25,6 +25,19 @@ pub fn table_t() -> Vec<u8> {
     .bytes()
 }
 
+/// Payload P1 of type 4 of table T, and its rows.
+pub const P1: &[u8] = &[1, 2, 3, 7, 2, b'o', b'k', 1, 0];
+
+pub const P1_ROWS: [[u32; 4]; 7] = [
+    [4, 0, 9, 1],
+    [3, 2, 7, 2],
+    [2, 2, 5, 2],
+    [0, 3, 1, 0],
+    [1, 5, 2, 0],
+    [2, 7, 2, 1],
+    [0, 8, 1, 0],
+];
+
 /// A reading's rows, tail place and tail length.
 pub type Rows = Result<(Vec<[u32; 4]>, usize, usize), Refusal>;
 
