@@ -14,6 +14,7 @@ use writer::Writing;
 ghost use mathlib.Core.Path.{_≡_};
 ghost use lib.ListN.{length};
 ghost use Rattle.calls.specs.Slots.{freshTable};
+ghost use Rattle.forward.specs.Entry.{forwardOutcome};
 ghost use Rattle.frame.specs.Frame.{frameOf};
 ghost use Rattle.frame.specs.Written.{writtenOf, outputOf};
 ghost use Rattle.line.specs.Answer.{line};
@@ -60,6 +61,22 @@ pub fn write(schema: &[u8], ty: u32, sheet: &[u32], source: &[u8], out: &mut [u8
     ensures { λ r. ⌜ writer.outcome r (now (out .exit)) ≡ writer.fileOutcome (now (schema .entry)) ty (now (sheet .entry)) (now (source .entry)) (now (out .entry)) ⌝ }
 {
     writer::write(schema, ty, sheet, source, out)
+}
+
+// Writes the sheet's rows over the source like `write`, and passes on what the table does not know: the root's unknown bits are kept, and the tail, the
+// bytes of the source at its place, stands after the known fields.
+pub fn forward(
+    schema: &[u8],
+    ty: u32,
+    sheet: &[u32],
+    source: &[u8],
+    tail_place: usize,
+    tail_length: usize,
+    out: &mut [u8],
+) -> Writing
+    ensures { λ r. ⌜ writer.outcome r (now (out .exit)) ≡ forwardOutcome (now (schema .entry)) ty (now (sheet .entry)) (now (source .entry)) «tail_place» «tail_length» (now (out .entry)) ⌝ }
+{
+    forward::forward(schema, ty, sheet, source, tail_place, tail_length, out)
 }
 
 // Reads the frame at the front of the bytes: its header with the payload's place and length, more bytes needed, or a refusal's number.

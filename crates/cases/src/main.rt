@@ -25,6 +25,7 @@ fn run_case() -> bool {
         8 => lines::run(),
         9 => lines::receive(),
         15 => values::write_frame(),
+        18 => values::forward(),
         _ => false,
     };
     if !done {

@@ -1,4 +1,4 @@
-// Cases of the payload reader, of the scalar entry, of the payload writer and of the writer of a whole frame.
+// Cases of the payload reader, of the scalar entry, of the payload writer, of the writer of a whole frame and of the forwarding writer.
 use crate::frames::BYTE;
 use crate::frames::ROOM;
 use crate::frames::read_header;
@@ -218,5 +218,55 @@ fn show_frame(
     out: &mut [u8],
 ) {
     print_writing(arf::write_value_frame(header, schema, ty, sheet, data, out));
+    output::last(sums::of_bytes(out));
+}
+
+// Code 18: a table, a type, a sheet, its bytes, the tail's place and length and the output's length. The line has number, place, the payload's length and
+// the output's sum.
+pub fn forward() -> bool {
+    let mut schema = [0u8; MOST];
+    let mut sheet = [CELL; MOST];
+    let mut data = [0u8; MOST];
+    let mut out = [BYTE; ROOM];
+    let mut whole = true;
+    let n = input::bytes(&mut schema, &mut whole);
+    let ty = input::word(&mut whole);
+    let cells = input::sheet(&mut sheet, &mut whole);
+    let m = input::bytes(&mut data, &mut whole);
+    let place = input::word(&mut whole);
+    let length = input::word(&mut whole);
+    let room = input::room(&out, &mut whole);
+    if whole {
+        show_forwarded(
+            &schema[..n],
+            ty,
+            &sheet[..cells],
+            &data[..m],
+            place,
+            length,
+            &mut out[..room],
+        );
+    }
+    whole
+}
+
+fn show_forwarded(
+    schema: &[u8],
+    ty: u32,
+    sheet: &[u32],
+    data: &[u8],
+    place: u32,
+    length: u32,
+    out: &mut [u8],
+) {
+    print_writing(arf::forward(
+        schema,
+        ty,
+        sheet,
+        data,
+        place as usize,
+        length as usize,
+        out,
+    ));
     output::last(sums::of_bytes(out));
 }

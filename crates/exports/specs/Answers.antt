@@ -23,6 +23,7 @@ use Rattle.writer.specs.declared.Writing.{Writing}
 use Rattle.writer.specs.declared.Writing.the-variants.{Written, Refused as Unwritten}
 use Rattle.writer.specs.Entry as writer
 use Rattle.valueframe.specs.Entry.{frameOutcome}
+use Rattle.forward.specs.Entry.{forwardOutcome}
 use Rattle.calls.specs.declared.Call.{Call}
 use Rattle.line.specs.declared.Received.{Received}
 use Rattle.line.specs.Answer.{Line, line, stopped}
@@ -99,6 +100,13 @@ framing h schema ty sheet bytes out = writingOf (frameOutcome h schema ty sheet 
 
 abbrev pub framedAfter : Header → (schema : List ℕ) (ty : ℕ) (sheet bytes out : List ℕ) → List ℕ
 framedAfter h schema ty sheet bytes out = outputOf (frameOutcome h schema ty sheet bytes out)
+
+-- The same of the forwarding writer, with a tail of n bytes at a place.
+abbrev pub forwarding : (schema : List ℕ) (ty : ℕ) (sheet bytes : List ℕ) (place n : ℕ) (out : List ℕ) → Writing
+forwarding schema ty sheet bytes place n out = writingOf (forwardOutcome schema ty sheet bytes place n out)
+
+abbrev pub forwardedAfter : (schema : List ℕ) (ty : ℕ) (sheet bytes : List ℕ) (place n : ℕ) (out : List ℕ) → List ℕ
+forwardedAfter schema ty sheet bytes place n out = outputOf (forwardOutcome schema ty sheet bytes place n out)
 
 -- A payload written, or a frame from a value: place, length.
 abbrev pub writeCells : Writing → List ℕ

@@ -1,4 +1,4 @@
-// The payload reader, the payload writer, and the writer of a whole frame from a value.
+// The payload reader, the payload writer, the writer of a whole frame from a value, and the forwarding writer.
 use crate::cells::store;
 use frame::Header;
 use reader::Reading;
@@ -6,8 +6,8 @@ use writer::Writing;
 ghost use mathlib.Core.Path.{_≡_};
 ghost use Rattle.exports.specs.Cells.{stored};
 ghost use Rattle.arf.specs.Numbers.{writeNumber};
-ghost use Rattle.exports.specs.Answers.{headerOf, readNumber, readCells, reading, sheetAfter, writeCells, writing, outputAfter};
-ghost use Rattle.exports.specs.Answers.{framing, framedAfter};
+ghost use Rattle.exports.specs.Answers.{headerOf, readNumber, readCells, reading, sheetAfter};
+ghost use Rattle.exports.specs.Answers.{writeCells, writing, outputAfter, framing, framedAfter, forwarding, forwardedAfter};
 
 fn read_number(a: Reading) -> u32
     ensures { λ r. ⌜ r ≡ readNumber a ⌝ }
@@ -127,6 +127,29 @@ pub extern "C" fn arf_write_value_frame(
         correlation,
     };
     let a = arf::write_value_frame(header, schema, ty, sheet, bytes, out);
+    let cells = write_cells(a);
+    store(answer, &cells);
+    write_number(a)
+}
+
+// Writes the value that a sheet shows over its bytes, with the root's unknown bits kept and the tail after the known fields. answer: place, the payload's
+// length.
+#[no_mangle]
+pub extern "C" fn arf_forward(
+    schema: &[u8],
+    ty: u32,
+    sheet: &[u32],
+    bytes: &[u8],
+    tail_place: usize,
+    tail_length: usize,
+    out: &mut [u8],
+    answer: &mut [u64],
+) -> u32
+    ensures { λ r. ⌜ r ≡ writeNumber (forwarding (now (schema .entry)) ty (now (sheet .entry)) (now (bytes .entry)) «tail_place» «tail_length» (now (out .entry))) ⌝ }
+    ensures { λ _. ⌜ now (out .exit) ≡ forwardedAfter (now (schema .entry)) ty (now (sheet .entry)) (now (bytes .entry)) «tail_place» «tail_length» (now (out .entry)) ⌝ }
+    ensures { λ _. ⌜ now (answer .exit) ≡ stored (now (answer .entry)) (writeCells (forwarding (now (schema .entry)) ty (now (sheet .entry)) (now (bytes .entry)) «tail_place» «tail_length» (now (out .entry)))) ⌝ }
+{
+    let a = arf::forward(schema, ty, sheet, bytes, tail_place, tail_length, out);
     let cells = write_cells(a);
     store(answer, &cells);
     write_number(a)

@@ -1,9 +1,10 @@
 -- The worked pair of schema files: 01's table T, and T with an optional uint8 added to the struct inside the answer's array, or to the answer itself;
--- and P1 to P10 over the bytes of T's file.
+-- P1 to P10 over the bytes of T's file; and a relay by T's file.
 -- Assumes nothing.
 use mathlib.Core.Path.{_≡_, refl, ap, ap₂, _∙_}
 use mathlib.Core.List.{List, [], _∷_, map}
 use Prim.Native.Nat.{ℕ, _≤_}
+use native.Mathlib.Omega.{arith}
 use lib.Count.{onesIn}
 use lib.ListN.{length}
 use Rattle.wire.specs.Little as little
@@ -23,14 +24,21 @@ use Rattle.value.specs.Value as value
 use Rattle.value.specs.Comparisons as comparisons
 use Rattle.value.specs.Read as read
 use Rattle.value.specs.Read.{Reading, refusal, accepted}
-use Rattle.value.specs.Sheet.{cellsOf}
+use Rattle.value.specs.Sheet.{rowsOf, cellsOf}
+use Rattle.value.specs.Spell as spell
+use Rattle.value.specs.Write as write
 use Rattle.value.proofs.Reading.{accepts, accepted-of}
 use Rattle.value.proofs.Examples.{innerAdded, rootAdded}
 use Rattle.reader.specs.declared.Reading.the-variants.{Shown, Refused}
 use Rattle.reader.specs.Sheet.{shownIn}
 use Rattle.reader.specs.Entry.{outcome, outcomeOf, room, readOutcome}
-use Rattle.promises.specs.Cases.{Case, caseOf, Hold, P5, P6, lent, worked}
+use Rattle.writer.specs.declared.Writing.the-variants.{Written}
+use Rattle.writer.specs.Entry as writer
+use Rattle.writer.proofs.Outcomes.{write-by}
+use Rattle.forward.specs.Forward.{forward}
+use Rattle.promises.specs.Cases.{Case, caseOf, Hold, P5, P6, lent, worked, newCells, oldCells, blank, RelaysP6}
 use Rattle.promises.proofs.Entries.{read-by}
+use Rattle.promises.proofs.Forwarding.{forward-by}
 
 abbrev row : ℕ → ℕ → ℕ → ℕ → Row
 row t p l n = record { ty = t; place = p; length = l; count = n }
@@ -134,3 +142,22 @@ worked-by-T = refl
 
 pub p1-to-p10 : Hold file 4 lent worked
 p1-to-p10 = by-T lent worked ∙ worked-by-T
+
+-- ---- a relay by T's file, between a writer and a reader by the file with a third field in type 4
+
+relay-written : (write.write rootTable 4 (rowsOf newCells) P6 6 ≡ write.written P6)
+    × (forward T 4 (rowsOf oldCells) P6 4 1 6 ≡ write.written P6)
+    × (write.write T 4 (rowsOf oldCells) P6 6 ≡ write.written (0x01 ∷ 0x01 ∷ 0x01 ∷ 0x07 ∷ []))
+unfolding rootAdded rowsOf forward write.write write.showRoot write.show write.rowOf write.nextRow write.bitsAt read.walk read.present read.complete onesIn
+    table.shape answer.andThen answer.check little.little little.bytes varuint.varuintBytes varuint.shortest utf8.run utf8.next utf8.leadOf utf8.rows value.value spell.encode
+relay-written = (refl, refl, refl)
+
+pub relays-P6 : RelaysP6 file wider
+unfolding cellsOf
+relays-P6 = record {
+  written = write-by wider 4 newCells P6 blank (new-good .1) ∙ ap (λ (U : Table). writer.outcomeOf blank (write.write U 4 (rowsOf newCells) P6 6)) (new-rows .1) ∙ ap (writer.outcomeOf blank) (relay-written .0);
+  read = root-by-old lent (omega arith);
+  forwarded = forward-by file 4 oldCells P6 4 1 blank T-good ∙ ap (λ (U : Table). writer.outcomeOf blank (forward U 4 (rowsOf oldCells) P6 4 1 6)) T-rows ∙ ap (writer.outcomeOf blank) (relay-written .1);
+  shown-again = root-by-new lent (omega arith);
+  lost = write-by file 4 oldCells P6 blank T-good ∙ ap (λ (U : Table). writer.outcomeOf blank (write.write U 4 (rowsOf oldCells) P6 6)) T-rows ∙ ap (writer.outcomeOf blank) (relay-written .2);
+}

@@ -4,4 +4,5 @@ pub mod Reading
 pub mod ReadBack
 pub mod Extension
 pub mod ValueFrames
+pub mod Forwarding
 pub mod Examples

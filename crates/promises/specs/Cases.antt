@@ -1,10 +1,15 @@
--- Worked cases: what `read` answers to some payloads, in 01's numbers, and every cell of the sheet afterwards.
+-- Worked cases: what `read` answers to some payloads, in 01's numbers, and every cell of the sheet afterwards; and a relay, entry by entry.
 -- Assumes nothing.
 use mathlib.Core.Path.{_≡_}
 use mathlib.Core.List.{List, [], _∷_, _++_, map}
 use Prim.Native.Nat.{ℕ}
-use lib.ListN.{length, drop, replicate}
+use lib.ListN.{length, take, drop, replicate}
+use Rattle.reader.specs.declared.Reading.the-variants.{Shown}
 use Rattle.reader.specs.Entry.{Outcome, outcome, readOutcome, Numbers, numbers}
+use Rattle.writer.specs.declared.Writing.the-variants.{Written}
+use Rattle.writer.specs.Entry as writer
+use Rattle.writer.specs.Entry.{fileOutcome}
+use Rattle.forward.specs.Entry.{forwardOutcome}
 
 pub record Case : Type 0 where
   pub payload : List ℕ
@@ -55,3 +60,25 @@ worked =
     ∷ refused (0x01 ∷ 0x80 ∷ 0x00 ∷ []) 21 1
     ∷ refused (0x01 ∷ 0x02 ∷ 0x01 ∷ 0x07 ∷ []) 20 4
     ∷ []
+
+-- ---- a relay
+
+-- The rows of P6 as a struct of type 4 by T, and where type 4 has a third field.
+abbrev pub oldCells : List ℕ
+oldCells = 4 ∷ 0 ∷ 4 ∷ 1 ∷ 3 ∷ 2 ∷ 2 ∷ 1 ∷ 2 ∷ 2 ∷ 2 ∷ 1 ∷ 0 ∷ 3 ∷ 1 ∷ 0 ∷ []
+
+abbrev pub newCells : List ℕ
+newCells = 4 ∷ 0 ∷ 5 ∷ 2 ∷ 3 ∷ 2 ∷ 2 ∷ 1 ∷ 2 ∷ 2 ∷ 2 ∷ 1 ∷ 0 ∷ 3 ∷ 1 ∷ 0 ∷ 0 ∷ 4 ∷ 1 ∷ 0 ∷ []
+
+-- Six bytes of A5.
+abbrev pub blank : List ℕ
+blank = replicate 6 0xA5
+
+-- P6 by four entries in turn, by an old file and a new one: written by the new file; read by the old one, with a tail; forwarded by the old one, as just the
+-- rows shown with that tail, to P6 again; and read by the new one, which shows the added field. The plain writer by the old file loses it.
+pub record RelaysP6 (old new : List ℕ) : Type 0 where
+  pub written : fileOutcome new 4 newCells P6 blank ≡ writer.outcome (Written 5) (P6 ++ (0xA5 ∷ []))
+  pub read : readOutcome old 4 P6 lent ≡ outcome (Shown 4 4 1 0) (oldCells ++ drop 16 lent)
+  pub forwarded : forwardOutcome old 4 (take 16 (oldCells ++ drop 16 lent)) P6 4 1 blank ≡ writer.outcome (Written 5) (P6 ++ (0xA5 ∷ []))
+  pub shown-again : readOutcome new 4 P6 lent ≡ outcome (Shown 5 5 0 0) (newCells ++ drop 20 lent)
+  pub lost : fileOutcome old 4 oldCells P6 blank ≡ writer.outcome (Written 4) (0x01 ∷ 0x01 ∷ 0x01 ∷ 0x07 ∷ 0xA5 ∷ 0xA5 ∷ [])

@@ -1,4 +1,5 @@
--- What the theorems of proofs/ claim of the answers of the entries `read` and `write`, which their contracts fix by `readOutcome` and `fileOutcome`.
+-- What the theorems of proofs/ claim of the answers of the entries `read`, `write` and `forward`, which their contracts fix by `readOutcome`, `fileOutcome`
+-- and `forwardOutcome`.
 -- Assumes nothing.
 use mathlib.Core.Path.{_≡_}
 use mathlib.Core.Logic.{_⊎_, _↔_}
@@ -24,6 +25,7 @@ use Rattle.value.specs.SheetReasons.{SheetReason}
 use Rattle.value.specs.Added.{inner, firstAdded, rootCarries, without, addedItems, addedValues}
 use Rattle.reader.specs.declared.Reading.the-variants.{Shown, Refused}
 use Rattle.reader.specs.Entry.{outcome, readingIn, sheetIn, room, readOutcome, numbers}
+use Rattle.forward.specs.Claims.{ForwardListed}
 
 -- The shapes of the types that a schema file holds.
 abbrev pub shapes : List ℕ → ℕ → Shape
@@ -61,6 +63,10 @@ ReadReason schema ty payload space n q = (checked schema ≡ Faulty n q) ⊎ (Is
 -- The same for the rows of a sheet over bytes, with room for so many bytes.
 abbrev pub WriteReason : (schema : List ℕ) (ty : ℕ) → List Row → (bytes : List ℕ) (space number place : ℕ) → Type 0
 WriteReason schema ty rs bytes space n q = (checked schema ≡ Faulty n q) ⊎ (IsGood schema × SheetReason (shapes schema) ty rs bytes space n q)
+
+-- The same for such rows with a tail of m bytes at a place of those bytes.
+abbrev pub ForwardReason : (schema : List ℕ) (ty : ℕ) → List Row → (bytes : List ℕ) (place m space number row : ℕ) → Type 0
+ForwardReason schema ty rs bytes place m space n q = (checked schema ≡ Faulty n q) ⊎ (IsGood schema × ForwardListed (shapes schema) ty rs bytes place m space n q)
 
 -- ---- an old file and a new one that extends it: a root of type ty has the fields fs in the old one and fs ++ gs in the new one
 

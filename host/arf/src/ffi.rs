@@ -52,6 +52,22 @@ extern "C" {
         answer_n: usize,
     ) -> u32;
 
+    fn arf_forward(
+        schema: *const u8,
+        schema_n: usize,
+        ty: u32,
+        sheet: *const u32,
+        sheet_n: usize,
+        bytes: *const u8,
+        bytes_n: usize,
+        tail_place: usize,
+        tail_length: usize,
+        out: *mut u8,
+        out_n: usize,
+        answer: *mut u64,
+        answer_n: usize,
+    ) -> u32;
+
     fn arf_scalar(
         schema: *const u8,
         schema_n: usize,
@@ -182,6 +198,38 @@ pub fn write(
             sheet.len(),
             bytes.as_ptr(),
             bytes.len(),
+            out.as_mut_ptr(),
+            out.len(),
+            answer.as_mut_ptr(),
+            answer.len(),
+        )
+    }
+}
+
+/// Stores the place and the length written. The tail is a place and a length.
+pub fn forward(
+    schema: &[u8],
+    ty: u32,
+    sheet: &[u32],
+    bytes: &[u8],
+    tail: [usize; 2],
+    out: &mut [u8],
+    answer: &mut [u64],
+) -> u32 {
+    let [tail_place, tail_length] = tail;
+    // SAFETY: each pointer and length are those of a Rust slice; the two that
+    // are written do not overlap, since both are `&mut`.
+    unsafe {
+        arf_forward(
+            schema.as_ptr(),
+            schema.len(),
+            ty,
+            sheet.as_ptr(),
+            sheet.len(),
+            bytes.as_ptr(),
+            bytes.len(),
+            tail_place,
+            tail_length,
             out.as_mut_ptr(),
             out.len(),
             answer.as_mut_ptr(),
@@ -349,6 +397,7 @@ mod tests {
         with_any_room(2, |cells| extends(&[], &[], cells));
         with_any_room(5, |cells| read(&[], 0, &[], &mut [], cells));
         with_any_room(2, |cells| write(&[], 0, &[], &[], &mut [], cells));
+        with_any_room(2, |cells| forward(&[], 0, &[], &[], [0; 2], &mut [], cells));
         with_any_room(4, |cells| scalar(&[], [0; 4], &[], cells));
         with_any_room(7, |cells| read_frame(&[], cells));
         with_any_room(7, |cells| receive(&mut [], &[], b'C', &[], &mut [], cells));
@@ -392,6 +441,52 @@ mod tests {
         let number = write_value_frame(header, correlation, &schema, value, &mut out, &mut cells);
         assert_eq!((number, cells), (50, [3, 0]));
         assert_eq!(out, before);
+    }
+
+    /// uint8, and a struct with one such field.
+    fn struct_schema() -> Vec<u8> {
+        let words = [6u32, 0, 0, 16, 0, 1, 0, 0, 24, 32, 32, 1];
+        words.iter().flat_map(|word| word.to_le_bytes()).collect()
+    }
+
+    #[test]
+    fn tails_are_judged_once_the_rows_are_right() {
+        let (schema, sheet) = (struct_schema(), [1, 0, 2, 1, 0, 1, 1, 0]);
+        let (mut out, mut cells) = ([0xA5; 6], [FILL; 2]);
+        let mut call = |sheet: &[u32], bits, tail| {
+            let bytes = [bits, 7, 8, 9];
+            let number = forward(&schema, 1, sheet, &bytes, tail, &mut out[1..4], &mut cells);
+            (number, cells, out)
+        };
+        let untouched = [0xA5; 6];
+        // A row is left over, whatever the tail; then the tail outside the
+        // bytes, also where place and length wrap, and an empty one there.
+        let surplus = [&sheet[..], &sheet[4..]].concat();
+        assert_eq!(call(&surplus, 1, [9, 9]), (50, [2, 0], untouched));
+        assert_eq!(call(&sheet, 1, [3, 2]), (51, [0, 0], untouched));
+        assert_eq!(call(&sheet, 3, [usize::MAX, 2]), (51, [0, 0], untouched));
+        assert_eq!(call(&sheet, 1, [5, 0]), (51, [0, 0], untouched));
+        // Two unknown bits and one byte; a byte and no unknown bit.
+        assert_eq!(call(&sheet, 7, [3, 1]), (50, [0, 0], untouched));
+        assert_eq!(call(&sheet, 1, [3, 1]), (50, [0, 0], untouched));
+        // The whole does not fit, and then it does.
+        assert_eq!(call(&sheet, 3, [1, 2]), (52, [0, 0], untouched));
+        let written = [0xA5, 3, 7, 9, 0xA5, 0xA5];
+        assert_eq!(call(&sheet, 3, [3, 1]), (0, [0, 3], written));
+    }
+
+    #[test]
+    fn a_whole_above_the_limit_comes_before_the_room() {
+        let (schema, sheet) = (struct_schema(), [1, 0, 2, 1, 0, 1, 1, 0]);
+        let mut bytes = vec![0; crate::MAX_PAYLOAD + 1];
+        bytes[..2].copy_from_slice(&[3, 7]);
+        let mut out = vec![0; bytes.len()];
+        for (extra, number) in [(0, 0), (1, 7)] {
+            let tail = [2, crate::MAX_PAYLOAD - 2 + extra];
+            let answer = |out: &mut [u8]| forward(&schema, 1, &sheet, &bytes, tail, out, &mut []);
+            assert_eq!(answer(&mut out), number);
+            assert_eq!(answer(&mut []), if number == 0 { 52 } else { 7 });
+        }
     }
 
     /// uint8, a map from it to itself, a struct with one such map, and a method

@@ -165,6 +165,76 @@ pub fn write(
     answer(number, cells[0], cells[1] as usize)
 }
 
+/// Writes like [`write`], and passes on what the table does not know: the
+/// unknown bits of the root are kept, and the tail of the bytes stands after the
+/// known fields. A refusal leaves the output as it was, and what stands after
+/// the bytes written stays as it was too.
+///
+/// The refusals of [`write`] come first, up to a row that is left over. Then, at
+/// place 0: 51 for a tail outside the bytes, 50 for one that is shorter than the
+/// unknown bits or present without any, 7 and 52 for the whole.
+///
+/// A relay reads a payload by its own table and forwards just the rows shown,
+/// with the tail that the reading tells. Whatever it can read comes out as the
+/// same bytes, so that a reader by a newer table misses nothing.
+///
+/// ```
+/// fn relay(schema: &[u8], type_number: u32, payload: &[u8]) -> Result<Vec<u8>, arf::Refusal> {
+///     // Each value has a byte at least, so there are never more rows.
+///     let mut sheet = vec![0; 4 * payload.len()];
+///     let reading = arf::read(schema, type_number, payload, &mut sheet)?;
+///     let rows = &sheet[..4 * reading.rows];
+///     let (place, length) = (reading.tail_place, reading.tail_length);
+///     let mut out = vec![0; payload.len()];
+///     arf::forward(schema, type_number, rows, payload, place, length, &mut out)?;
+///     Ok(out)
+/// }
+///
+/// // uint8, and a struct with one such field; the new table adds an optional one.
+/// let old = [6u32, 0, 0, 16, 0, 1, 0, 0, 24, 32, 32, 1];
+/// let new = [6u32, 0, 0, 16, 0, 2, 0, 0, 0, 1, 24, 40, 40, 1];
+/// let file = |words: &[u32]| -> Vec<u8> { words.iter().flat_map(|w| w.to_le_bytes()).collect() };
+/// let (old, new) = (file(&old), file(&new));
+/// assert_eq!(arf::extends(&old, &new), Ok(true));
+///
+/// // Both fields of the new table.
+/// let payload = [0x03, 0x07, 0x09];
+/// let relayed = relay(&old, 1, &payload).unwrap();
+/// assert_eq!(relayed, payload);
+/// let (mut before, mut after) = ([0; 12], [0; 12]);
+/// let reading = arf::read(&new, 1, &payload, &mut before).unwrap();
+/// assert_eq!((reading.rows, reading.tail_length), (3, 0));
+/// assert_eq!(arf::read(&new, 1, &relayed, &mut after), Ok(reading));
+/// assert_eq!(after, before);
+///
+/// // The plain writer leaves out what the old table does not know.
+/// let mut sheet = [0; 8];
+/// arf::read(&old, 1, &payload, &mut sheet).unwrap();
+/// let mut out = [0; 3];
+/// assert_eq!(arf::write(&old, 1, &sheet, &payload, &mut out), Ok(2));
+/// assert_eq!(out, [0x01, 0x07, 0x00]);
+///
+/// // A tail outside the bytes, and one that is shorter than the unknown bits.
+/// let mut tail = |place, length| {
+///     arf::forward(&old, 1, &sheet, &payload, place, length, &mut out).unwrap_err().number
+/// };
+/// assert_eq!((tail(3, 1), tail(3, 0)), (51, 50));
+/// ```
+pub fn forward(
+    schema: &[u8],
+    type_number: u32,
+    sheet: &[u32],
+    bytes: &[u8],
+    tail_place: usize,
+    tail_length: usize,
+    out: &mut [u8],
+) -> Result<usize, Refusal> {
+    let tail = [tail_place, tail_length];
+    let mut cells = [0; 2];
+    let number = ffi::forward(schema, type_number, sheet, bytes, tail, out, &mut cells);
+    answer(number, cells[0], cells[1] as usize)
+}
+
 /// A row of a sheet.
 #[derive(Clone, Copy, Debug, PartialEq, Eq)]
 pub struct Row {

@@ -53,8 +53,8 @@ const MEANINGS: &[(u32, &str)] = &[
     (43, "a field is at fault"),
     (44, "a method is at fault"),
     (46, "the type asked for is no struct"),
-    (50, "the sheet does not fit"),
-    (51, "a span lies outside the bytes"),
+    (50, "the sheet or its tail does not fit"),
+    (51, "a span or the tail lies outside the bytes"),
     (52, "the output is too small"),
 ];
 

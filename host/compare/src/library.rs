@@ -1,12 +1,13 @@
 //! The answers of the static library to cases, in the words of the case file.
 
 use reference::cases::{
-    call_table_sum, line, sheet_sum, sum, Case, ExtendsCase, FrameCase, FrameWriteCase, ReadCase,
-    ReceiveCase, RunCase, ScalarCase, TableCase, ValueFrameCase, WriteCase, BYTE_FILL, CELL_FILL,
+    call_table_sum, line, sheet_sum, sum, Case, ExtendsCase, ForwardCase, FrameCase,
+    FrameWriteCase, ReadCase, ReceiveCase, RunCase, ScalarCase, TableCase, ValueFrameCase,
+    WriteCase, BYTE_FILL, CELL_FILL,
 };
 
 /// The codes of the entries that the library has.
-pub const CODES: &[u8] = &[1, 2, 3, 4, 5, 6, 7, 8, 9, 15];
+pub const CODES: &[u8] = &[1, 2, 3, 4, 5, 6, 7, 8, 9, 15, 18];
 
 /// How many cells or bytes before and after a lent buffer are watched.
 const MARGIN: usize = 16;
@@ -24,6 +25,7 @@ pub fn answer(case: &Case, text: &mut String) {
         Case::Run(case) => run(case, text),
         Case::Receive(case) => receive_one(case, text),
         Case::ValueFrame(case) => value_frame(case, text),
+        Case::Forward(case) => forward(case, text),
     }
 }
 
@@ -123,6 +125,16 @@ fn write(case: &WriteCase, text: &mut String) {
     let (result, out) = lend(BYTE_FILL, case.room, |out| {
         let (schema, sheet, data) = (&case.schema, &case.sheet, &case.data);
         arf::write(schema, case.type_number, sheet, data, out)
+    });
+    let (number, place, length) = outcome(result, 0);
+    line(text, &[number, place, length as u64, sum(out)]);
+}
+
+fn forward(case: &ForwardCase, text: &mut String) {
+    let (result, out) = lend(BYTE_FILL, case.room, |out| {
+        let (schema, sheet, data) = (&case.schema, &case.sheet, &case.data);
+        let (place, length) = (case.tail.place as usize, case.tail.length as usize);
+        arf::forward(schema, case.type_number, sheet, data, place, length, out)
     });
     let (number, place, length) = outcome(result, 0);
     line(text, &[number, place, length as u64, sum(out)]);

@@ -13,6 +13,7 @@ pub mod bitmap;
 pub mod calls;
 pub mod cases;
 pub mod extension;
+pub mod forward;
 pub mod frame;
 pub mod generate;
 pub mod keys;
@@ -29,6 +30,7 @@ pub mod writer;
 
 pub use calls::{Call, CallTable};
 pub use extension::extends;
+pub use forward::{forward, Tail};
 pub use frame::{read_frame, write_frame, Frame, FrameAnswer, Header};
 pub use listing::list;
 pub use reader::{read, Reading};

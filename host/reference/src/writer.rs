@@ -62,6 +62,27 @@ impl<'a> Judged<'a> {
         })
     }
 
+    /// The fields that the root's type has.
+    fn root_fields(&self) -> u32 {
+        match self.schema.type_row(self.rows[0][0]) {
+            Type::Struct { count, .. } => count,
+            _ => 0,
+        }
+    }
+
+    /// The presence bytes of the root as they stand in the bytes.
+    pub fn root_bitmap(&self) -> &'a [u8] {
+        let width = bitmap::width(self.root_fields());
+        &self.bytes[self.rows[0][1] as usize..][..width]
+    }
+
+    /// How many bits the root sets beyond its known fields.
+    pub fn unknown_bits(&self) -> usize {
+        let bits = bitmap::load(self.root_bitmap());
+        let unknown = bits & !bitmap::known(self.root_fields());
+        unknown.count_ones() as usize
+    }
+
     /// Writes the value to the start of an output with room enough.
     pub fn emit(&self, out: &mut [u8]) {
         emit(self.schema, self.rows, self.bytes, out);

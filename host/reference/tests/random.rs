@@ -37,6 +37,7 @@ fn numbers(code: u8) -> Vec<u32> {
         6 => (0..=7).collect(),
         7 => vec![0, 4, 7, 52],
         15 => numbers(5).into_iter().chain([4]).collect(),
+        18 => numbers(5),
         8 => (0..=14).chain(20..=31).chain(table).collect(),
         _ => (0..=15).chain(20..=31).chain(table).collect(),
     }
@@ -45,12 +46,12 @@ fn numbers(code: u8) -> Vec<u32> {
 #[test]
 fn every_number_comes_up() {
     let mut counts = BTreeMap::new();
-    for case in cases(1, 24_000) {
+    for case in cases(1, 27_000) {
         for number in case.numbers() {
             *counts.entry((case.code(), number)).or_insert(0) += 1;
         }
     }
-    for code in (1..=9).chain([15]) {
+    for code in (1..=9).chain([15, 18]) {
         for number in numbers(code) {
             let count = counts.remove(&(code, number)).unwrap_or(0);
             assert!(count >= 20, "code {code} number {number}: {count}");
@@ -66,7 +67,7 @@ fn codes_do_not_disturb_each_other() {
     all.retain(|case| case.code() <= 9);
     let mut first = Generator::new(16, &[1, 2, 3, 4, 5, 6, 7, 8, 9]);
     assert!(all.iter().all(|case| first.case().as_ref() == Some(case)));
-    for code in [15] {
+    for code in [15, 18] {
         let mut alone = Generator::new(16, &[code]);
         for case in cases(16, 3_000) {
             if case.code() == code {
@@ -115,6 +116,7 @@ fn case_files_stay_small() {
         (&[1, 2][..], 2_500_000),
         (&[3, 4], 2_000_000),
         (&[15], 3_750_000),
+        (&[18], 4_000_000),
     ] {
         let mut generator = Generator::new(3, codes);
         let mut file = Vec::new();
@@ -617,6 +619,14 @@ fn nothing_panics_on_random_bytes() {
         };
         let mut out = [BYTE; 60];
         if write_value_frame(&header, &schema, root, &sheet, &bytes, &mut out).is_err() {
+            assert_eq!(out, [BYTE; 60]);
+        }
+        let tail = Tail {
+            place: rng.word() >> rng.pick(&[0, 26, 30]),
+            length: rng.word() >> rng.pick(&[0, 26, 30]),
+        };
+        let mut out = [BYTE; 60];
+        if forward(&schema, root, &sheet, &bytes, tail, &mut out).is_err() {
             assert_eq!(out, [BYTE; 60]);
         }
         let data = near(&mut rng, &frame);

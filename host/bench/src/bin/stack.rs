@@ -18,7 +18,7 @@ use bench::CELLS;
 use reference::MAX_PAYLOAD;
 
 /// What is measured, `frame` for `write_value_frame`; a trial runs one of them, or nothing.
-const ENTRIES: [&str; 4] = ["read", "write", "receive", "frame"];
+const ENTRIES: [&str; 5] = ["read", "write", "forward", "receive", "frame"];
 const NOTHING: &str = "nothing";
 
 /// More than any entry may take, in KiB.
@@ -130,6 +130,10 @@ fn run(entry: &str, nest: &Nest, kib: usize) -> u32 {
             let sheet = &nest.sheet;
             let written = arf::write_value_frame(&header, schema, ty, sheet, payload, &mut out);
             number(written)
+        }),
+        "forward" => on_thread(kib, || {
+            let (sheet, end) = (&nest.sheet[..], payload.len());
+            number(arf::forward(schema, ty, sheet, payload, end, 0, &mut out))
         }),
         "receive" => on_thread(kib, || {
             match table.receive(schema, b'C', &invoke, &mut sheet).outcome {

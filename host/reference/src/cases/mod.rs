@@ -5,6 +5,7 @@
 
 mod entries;
 mod format;
+mod forward;
 mod listings;
 mod value_frame;
 
@@ -16,6 +17,7 @@ pub use format::{
     call_table_sum, line, sheet_sum, sum, MAX_BYTES, MAX_CELLS, MAX_FRAMES, MAX_OUTPUT,
 };
 
+pub use forward::ForwardCase;
 pub use listings::{list_file, put_listings, ListingCase};
 pub use value_frame::ValueFrameCase;
 
@@ -35,6 +37,7 @@ pub enum Case {
     Run(RunCase),
     Receive(ReceiveCase),
     ValueFrame(ValueFrameCase),
+    Forward(ForwardCase),
 }
 
 impl Case {
@@ -51,6 +54,7 @@ impl Case {
             Case::Run(_) => 8,
             Case::Receive(_) => 9,
             Case::ValueFrame(_) => 15,
+            Case::Forward(_) => 18,
         }
     }
 
@@ -66,6 +70,7 @@ impl Case {
             Case::Run(case) => case,
             Case::Receive(case) => case,
             Case::ValueFrame(case) => case,
+            Case::Forward(case) => case,
         }
     }
 
@@ -82,6 +87,7 @@ impl Case {
             8 => Case::Run(RunCase::take(input)?),
             9 => Case::Receive(ReceiveCase::take(input)?),
             15 => Case::ValueFrame(ValueFrameCase::take(input)?),
+            18 => Case::Forward(ForwardCase::take(input)?),
             _ => return None,
         })
     }

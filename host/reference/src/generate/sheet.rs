@@ -517,6 +517,32 @@ pub fn write_long(rng: &mut Rng) -> Case {
     })
 }
 
+/// A value of so many bytes, by spans over the same bytes.
+pub fn sized(rng: &mut Rng, size: usize) -> WriteCase {
+    const ITEM: usize = 500;
+    let mut table = Table::default();
+    let text = table.add_type(rng.pick(&[STRING, BYTES]), 0, 0);
+    let list = table.add_type(ARRAY, text, 0);
+    let root = table.add_struct(&[[list, 0]]);
+    // The bitmap and the count take a byte each, an item two besides its own.
+    let mut left = size - 2;
+    let mut rows = vec![[root, 0, 0, 1], [list, 0, 0, 0]];
+    while left > ITEM + 2 + 130 {
+        rows.push([text, 1, ITEM as u32, 0]);
+        left -= ITEM + 2;
+    }
+    let last = left - if left > 128 { 2 } else { 1 };
+    rows.push([text, 1, last as u32, 0]);
+    rows[1][3] = rows.len() as u32 - 2;
+    WriteCase {
+        schema: table.bytes(),
+        type_number: root,
+        sheet: rows.concat(),
+        data: [vec![1], vec![b'y'; ITEM + 132]].concat(),
+        room: 0,
+    }
+}
+
 /// A nest of so many levels, its rows changed or not.
 pub fn write_deep(rng: &mut Rng, levels: usize, damage: Damage) -> Case {
     let table = deep_table(rng);

@@ -1,24 +1,14 @@
 //! Cases for the writer of a frame and its value at once.
 
-use super::draw;
 use super::frames::{random_header, random_kind_fault};
 use super::rng::Rng;
-use super::table::{good_table, Table, ARRAY, BYTES, STRING};
-use super::wheels::WRITE;
+use super::sheet::sized;
+use super::table::good_table;
+use super::wheels::writer_sheet;
 use crate::cases::{Case, ValueFrameCase, WriteCase};
 use crate::frame::{frame_length, Header};
 use crate::schema::NO_TYPE;
 use crate::{write, MAX_PAYLOAD};
-
-/// A sheet of the value writer: any, or one that the writer answers with a
-/// number.
-fn sheet(rng: &mut Rng, number: Option<u32>) -> WriteCase {
-    loop {
-        if let Case::Write(case) = draw(rng, WRITE, number) {
-            return case;
-        }
-    }
-}
 
 /// The length of the frame, if the sheet is right.
 fn whole(case: &WriteCase) -> Option<usize> {
@@ -52,7 +42,7 @@ fn behind(header: Header, sheet: WriteCase, room: usize) -> Case {
 /// A header and a sheet of the value writer.
 pub fn value_frame(rng: &mut Rng, number: Option<u32>) -> Case {
     let header = random_header(rng);
-    let sheet = sheet(rng, number);
+    let sheet = writer_sheet(rng, number);
     let length = whole(&sheet).unwrap_or(60);
     let room = room(rng, length);
     behind(header, sheet, room)
@@ -61,7 +51,7 @@ pub fn value_frame(rng: &mut Rng, number: Option<u32>) -> Case {
 /// A kind that does not exist (4), behind a table at fault or before any other
 /// refusal.
 pub fn bad_kind(rng: &mut Rng, number: Option<u32>) -> Case {
-    let sheet = sheet(rng, number);
+    let sheet = writer_sheet(rng, number);
     let header = random_kind_fault(rng);
     let length = whole(&sheet).unwrap_or(60);
     let room = rng.pick(&[0, length, length + 5]);
@@ -73,38 +63,12 @@ pub fn bad_kind(rng: &mut Rng, number: Option<u32>) -> Case {
 pub fn small_output(rng: &mut Rng) -> Case {
     loop {
         let header = random_header(rng);
-        let sheet = sheet(rng, None);
+        let sheet = writer_sheet(rng, None);
         if let Some(length) = whole(&sheet) {
             let missing = rng.range(1, length);
             let room = length - rng.pick(&[1, 1, 1, 2, 25, 26, missing, length]);
             return behind(header, sheet, room);
         }
-    }
-}
-
-/// A value of so many bytes, by spans over the same bytes.
-fn sized(rng: &mut Rng, size: usize) -> WriteCase {
-    const ITEM: usize = 500;
-    let mut table = Table::default();
-    let text = table.add_type(rng.pick(&[STRING, BYTES]), 0, 0);
-    let list = table.add_type(ARRAY, text, 0);
-    let root = table.add_struct(&[[list, 0]]);
-    // The bitmap and the count take a byte each, an item two besides its own.
-    let mut left = size - 2;
-    let mut rows = vec![[root, 0, 0, 1], [list, 0, 0, 0]];
-    while left > ITEM + 2 + 130 {
-        rows.push([text, 1, ITEM as u32, 0]);
-        left -= ITEM + 2;
-    }
-    let last = left - if left > 128 { 2 } else { 1 };
-    rows.push([text, 1, last as u32, 0]);
-    rows[1][3] = rows.len() as u32 - 2;
-    WriteCase {
-        schema: table.bytes(),
-        type_number: root,
-        sheet: rows.concat(),
-        data: [vec![1], vec![b'y'; ITEM + 132]].concat(),
-        room: 0,
     }
 }
 

@@ -1,10 +1,11 @@
 //! The sorts of case of each code, and their shares.
 
+use super::rng::Rng;
 use super::{
-    aim, any, damage, fault, frames, line, maps, pair, reading, runs, scalars, sheet, table,
-    value_frames, Code, Wheel,
+    aim, any, damage, draw, fault, forwards, frames, line, maps, pair, reading, runs, scalars,
+    sheet, table, value_frames, Code, Wheel,
 };
-use crate::cases::{Case, TableCase};
+use crate::cases::{Case, TableCase, WriteCase};
 
 /// The codes that share one random stream.
 pub const CODES: &[Code] = &[
@@ -20,7 +21,7 @@ pub const CODES: &[Code] = &[
 ];
 
 /// The codes with a random stream each.
-pub const LATER_CODES: &[Code] = &[(15, 12, VALUE_FRAME)];
+pub const LATER_CODES: &[Code] = &[(15, 12, VALUE_FRAME), (18, 12, FORWARD)];
 
 const TABLE: Wheel = &[
     aim(60, 0, |rng| table_case(table::good_table(rng).bytes())),
@@ -161,8 +162,7 @@ const SCALAR: Wheel = &[
     }),
 ];
 
-/// The writer's sheets; those that write more than a value take them too.
-pub const WRITE: Wheel = &[
+const WRITE: Wheel = &[
     any(52, |rng| sheet::write_any(rng, sheet::as_read)),
     any(30, |rng| sheet::write_any(rng, sheet::made_up)),
     aim(10, 0, |rng| {
@@ -409,6 +409,84 @@ const VALUE_FRAME: Wheel = &[
         value_frames::empty_bad_table(rng, fault::any_fault)
     }),
 ];
+
+const FORWARD: Wheel = &[
+    aim(60, 0, |rng| forwards::as_read(rng, damage::tail)),
+    aim(14, 0, |rng| forwards::as_read(rng, damage::whole)),
+    aim(24, 0, forwards::relayed),
+    aim(40, 0, |rng| forwards::sheet(rng, None, forwards::right)),
+    any(60, |rng| forwards::sheet(rng, None, forwards::any_tail)),
+    aim(14, 0, |rng| forwards::sheet(rng, Some(0), forwards::longer)),
+    aim(24, 50, |rng| forwards::sheet(rng, Some(0), forwards::short)),
+    aim(20, 50, |rng| {
+        forwards::sheet(rng, Some(0), forwards::without_bits)
+    }),
+    aim(30, 51, |rng| {
+        forwards::sheet(rng, Some(0), forwards::outside)
+    }),
+    aim(14, 51, |rng| {
+        forwards::sheet(rng, Some(0), forwards::empty_beyond)
+    }),
+    aim(12, 22, |rng| {
+        forwards::sheet(rng, Some(22), forwards::any_tail)
+    }),
+    aim(12, 23, |rng| {
+        forwards::sheet(rng, Some(23), forwards::any_tail)
+    }),
+    aim(12, 24, |rng| {
+        forwards::sheet(rng, Some(24), forwards::any_tail)
+    }),
+    aim(12, 25, |rng| {
+        forwards::sheet(rng, Some(25), forwards::any_tail)
+    }),
+    aim(12, 28, |rng| {
+        forwards::sheet(rng, Some(28), forwards::any_tail)
+    }),
+    aim(12, 31, |rng| {
+        forwards::sheet(rng, Some(31), forwards::any_tail)
+    }),
+    aim(12, 46, |rng| {
+        forwards::sheet(rng, Some(46), forwards::any_tail)
+    }),
+    aim(20, 50, |rng| {
+        forwards::sheet(rng, Some(50), forwards::any_tail)
+    }),
+    aim(16, 50, |rng| {
+        forwards::sheet(rng, Some(50), forwards::right)
+    }),
+    aim(12, 51, |rng| {
+        forwards::sheet(rng, Some(51), forwards::any_tail)
+    }),
+    aim(12, 50, forwards::inner_bits),
+    aim(30, 52, forwards::small_output),
+    any(14, forwards::at_the_limit),
+    aim(12, 7, forwards::too_long),
+    any(6, forwards::too_long),
+    aim(7, 40, |rng| {
+        forwards::sheet(rng, Some(40), forwards::any_tail)
+    }),
+    aim(6, 41, |rng| {
+        forwards::sheet(rng, Some(41), forwards::any_tail)
+    }),
+    aim(7, 42, |rng| {
+        forwards::sheet(rng, Some(42), forwards::any_tail)
+    }),
+    aim(7, 43, |rng| {
+        forwards::sheet(rng, Some(43), forwards::any_tail)
+    }),
+    aim(7, 44, |rng| {
+        forwards::sheet(rng, Some(44), forwards::any_tail)
+    }),
+];
+
+/// A sheet for the value writer: any, or one that it answers with a number.
+pub fn writer_sheet(rng: &mut Rng, number: Option<u32>) -> WriteCase {
+    loop {
+        if let Case::Write(case) = draw(rng, WRITE, number) {
+            return case;
+        }
+    }
+}
 
 fn table_case(schema: Vec<u8>) -> Case {
     Case::Table(TableCase { schema })

@@ -1,0 +1,4 @@
+pub mod Laws
+pub mod Statements
+pub mod Entries
+pub mod Examples
