@@ -6,6 +6,7 @@ use frame::FrameWritten;
 use frame::Header;
 use line::Received;
 use reader::Reading;
+use salvage::Salvaging;
 use scalar::Answer;
 use schema::Checked;
 use schema::Extended;
@@ -20,6 +21,7 @@ ghost use Rattle.frame.specs.Written.{writtenOf, outputOf};
 ghost use Rattle.line.specs.Answer.{line};
 ghost use Rattle.line.specs.Receive.{received};
 ghost use Rattle.reader.specs.Entry.{Outcome, readOutcome};
+ghost use Rattle.salvage.specs.Salvage.{outcome, salvageOf};
 ghost use Rattle.scalar.specs.Scalar.{scalarBy};
 ghost use Rattle.schema.specs.Check.{checked};
 ghost use Rattle.schema.specs.Extend.{extension};
@@ -126,4 +128,12 @@ pub fn receive(
     ensures { λ r. ⌜ line r (now (sheet .exit)) ≡ received (now (schema .entry)) side (now (bytes .entry)) (now (sheet .entry)) (table .slots) ⌝ }
 {
     line::receive::receive(table, schema, side, bytes, sheet)
+}
+
+// Copies every entry of a record that can be kept, and lists the spans left out, place and length of each: the entries kept, the bytes copied and the
+// spans listed, or a refusal's number, which leaves both buffers as they were.
+pub fn salvage(record: &[u8], copy: &mut [u8], spans: &mut [u32]) -> Salvaging
+    ensures { λ r. ⌜ outcome r (now (copy .exit)) (now (spans .exit)) ≡ salvageOf (now («record» .entry)) (now (copy .entry)) (now (spans .entry)) ⌝ }
+{
+    salvage::salvage(record, copy, spans)
 }

@@ -3,6 +3,7 @@ mod frames;
 mod input;
 mod lines;
 mod output;
+mod records;
 mod sums;
 mod tables;
 mod values;
@@ -25,6 +26,7 @@ fn run_case() -> bool {
         8 => lines::run(),
         9 => lines::receive(),
         15 => values::write_frame(),
+        17 => records::salvage(),
         18 => values::forward(),
         _ => false,
     };

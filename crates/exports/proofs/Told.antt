@@ -28,10 +28,15 @@ use Rattle.reader.specs.declared.Reading.{Reading}
 use Rattle.reader.specs.declared.Reading.the-variants as reader
 use Rattle.writer.specs.declared.Writing.{Writing}
 use Rattle.writer.specs.declared.Writing.the-variants as writer
+use Rattle.salvage.specs.declared.Salvaging.{Salvaging}
+use Rattle.salvage.specs.declared.Salvaging.the-variants as salvage
+use Rattle.salvage.specs.Salvage as salvaging
+use Rattle.salvage.proofs.Statements.{refused-bounds}
 use Rattle.calls.specs.declared.Call.{Call}
 use Rattle.line.specs.declared.Received.{Received}
-use Rattle.exports.specs.Answers.{checkCells, extendCells, frameCells, writtenCells, readNumber, readCells, writeCells, receiving, callCells, receivedCells}
-use Rattle.exports.specs.Told.{checkTold, extendTold, frameTold, writtenTold, readTold, writeTold, receivedTold}
+use Rattle.exports.specs.Answers.{checkCells, extendCells, frameCells, writtenCells, readNumber, readCells, writeCells, salvageCells}
+use Rattle.exports.specs.Answers.{receiving, callCells, receivedCells}
+use Rattle.exports.specs.Told.{checkTold, extendTold, frameTold, writtenTold, readTold, writeTold, salvageTold, receivedTold}
 use Rattle.exports.proofs.Held.{after-held}
 
 pub check-told : (a : Checked) → ((n q : ℕ) → a ≡ check.Refused n q → 1 ≤ n) → checkTold (checkNumber a) (checkCells a) ≡ a
@@ -66,6 +71,11 @@ pub write-told : (a : Writing) → ((n q : ℕ) → a ≡ writer.Refused n q →
 write-told (writer.Written n) h = refl
 write-told (writer.Refused zero q) h = absurd (omega (arith, h 0 q refl))
 write-told (writer.Refused (suc n) q) h = refl
+
+pub salvage-told : (a : Salvaging) → ((n : ℕ) → a ≡ salvage.Refused n → 1 ≤ n) → salvageTold (salvaging.salvageNumber a) (salvageCells a) ≡ a
+salvage-told (salvage.Salvaged entries bytes spans) h = refl
+salvage-told (salvage.Refused zero) h = absurd (omega (arith, h 0 refl))
+salvage-told (salvage.Refused (suc n)) h = refl
 
 -- ---- the answers of the entries
 
@@ -106,6 +116,9 @@ written-number h p room = go (read.knownKind (h .kind)) (leb (length p) 16384) (
 pub write-frame-entry : (h : Header) (p : List ℕ) (room : ℕ) → let a = wrote.writtenOf h p room in writtenTold (wrote.writeNumber a) (writtenCells a) ≡ a
 unfolding Numbered
 write-frame-entry h p room = written-told (wrote.writtenOf h p room) (λ n e. subst Numbered e (written-number h p room))
+
+pub salvage-entry : (torn copy spans : List ℕ) → let a = salvaging.salvageOf torn copy spans .answer in salvageTold (salvaging.salvageNumber a) (salvageCells a) ≡ a
+salvage-entry torn copy spans = salvage-told (salvaging.salvageOf torn copy spans .answer) (λ n e. omega (arith, refused-bounds torn copy spans e))
 
 -- the answer with these records
 abbrev told-over : Received → List Call → Received

@@ -24,6 +24,8 @@ use Rattle.writer.specs.declared.Writing.the-variants.{Written, Refused as Unwr
 use Rattle.writer.specs.Entry as writer
 use Rattle.valueframe.specs.Entry.{frameOutcome}
 use Rattle.forward.specs.Entry.{forwardOutcome}
+use Rattle.salvage.specs.declared.Salvaging.{Salvaging}
+use Rattle.salvage.specs.Salvage.{salvageEntries, salvageBytes, salvageSpans}
 use Rattle.calls.specs.declared.Call.{Call}
 use Rattle.line.specs.declared.Received.{Received}
 use Rattle.line.specs.Answer.{Line, line, stopped}
@@ -140,6 +142,12 @@ valueCells (Span place n) = 6 ∷ place ∷ n ∷ []
 abbrev pub scalarCells : Answer → List ℕ
 scalarCells (Is x) = 0 ∷ valueCells x
 scalarCells (Refused number place) = place ∷ 0 ∷ 0 ∷ 0 ∷ []
+
+-- ---- records
+
+-- A record salvaged: entries kept, bytes copied, spans listed.
+abbrev pub salvageCells : Salvaging → List ℕ
+salvageCells a = salvageEntries a ∷ salvageBytes a ∷ salvageSpans a ∷ []
 
 -- ---- calls
 

@@ -19,6 +19,8 @@ use Rattle.reader.specs.declared.Reading.{Reading}
 use Rattle.reader.specs.declared.Reading.the-variants as reader
 use Rattle.writer.specs.declared.Writing.{Writing}
 use Rattle.writer.specs.declared.Writing.the-variants as writer
+use Rattle.salvage.specs.declared.Salvaging.{Salvaging}
+use Rattle.salvage.specs.declared.Salvaging.the-variants as salvage
 use Rattle.line.specs.declared.Received.{Received}
 use Rattle.scalar.specs.declared.Scalar.{Scalar}
 use Rattle.scalar.specs.declared.Scalar.the-variants.{Truth, Signed, Unsigned, Float32, Float64, Span}
@@ -56,6 +58,10 @@ readTold (suc n) cells = reader.Refused (suc n) (cell cells 0)
 abbrev pub writeTold : (number : ℕ) → List ℕ → Writing
 writeTold zero cells = writer.Written (cell cells 1)
 writeTold (suc n) cells = writer.Refused (suc n) (cell cells 0)
+
+abbrev pub salvageTold : (number : ℕ) → List ℕ → Salvaging
+salvageTold zero cells = salvage.Salvaged (cell cells 0) (cell cells 1) (cell cells 2)
+salvageTold (suc n) cells = salvage.Refused (suc n)
 
 -- The answer to a frame, from the cells of the call table too.
 abbrev pub receivedTold : (number : ℕ) → (answer table : List ℕ) → Received

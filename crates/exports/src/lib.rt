@@ -5,5 +5,6 @@ pub mod frames;
 pub mod payloads;
 pub mod receive;
 pub mod records;
+pub mod salvages;
 pub mod scalars;
 pub mod table;

@@ -162,7 +162,7 @@ pub fn read_frame(bytes: &[u8]) -> FrameRead
 }
 
 // The bytes of src into d from at on.
-fn copy(d: &mut [u8], at: usize, src: &[u8])
+pub fn copy(d: &mut [u8], at: usize, src: &[u8])
     requires { ⌜ at + length (now src) ≤ length (now d) ⌝ }
     ensures { λ _. ⌜ now (d .exit) ≡ written (now (d .entry)) at (now (src .entry)) ⌝ }
 {

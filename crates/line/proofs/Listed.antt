@@ -1,9 +1,9 @@
 -- Every answer has one of 01's numbers for a frame, with its place. The payload of a frame is read as a struct type of the good table, and it is not too
 -- long, so that neither 46 nor 7 comes from it. Assumes nothing.
-use mathlib.Core.Path.{_≡_, sym, subst}
+use mathlib.Core.Path.{_≡_, refl, sym, ap, subst}
 use mathlib.Core.Bool.{Bool, true, false, cond}
 use mathlib.Core.List.{List}
-use mathlib.Core.Logic.{⊎-elim}
+use mathlib.Core.Logic.{_⊎_, inl, inr, ⊎-elim}
 use Prim.Native.Nat.{ℕ, _+_, _≤_}
 use native.Mathlib.Omega.{arith}
 use lib.Dec.{eqb, leb, ltb, lit≤}
@@ -18,6 +18,9 @@ use Rattle.schema.specs.Check.{methodRow, named, findMethod, IsGood}
 use Rattle.schema.proofs.Bools.{cases}
 use Rattle.schema.proofs.Goods.{good-table}
 use Rattle.schema.proofs.Shapes.{shape-struct}
+use Rattle.frame.specs.declared.Header.{Header}
+use Rattle.frame.specs.declared.FrameRead.the-variants.{Frame as Whole}
+use Rattle.frame.specs.Frame.{frameOf}
 use Rattle.frame.proofs.Answers.{read-bounds}
 use Rattle.calls.specs.declared.Call.{Call}
 use Rattle.calls.specs.declared.Frame.{Frame}
@@ -25,12 +28,14 @@ use Rattle.calls.specs.declared.Payload.{Payload}
 use Rattle.calls.specs.declared.Judged.{Judged}
 use Rattle.calls.specs.declared.Judged.the-variants.{Stop, Opens, Goes}
 use Rattle.calls.specs.Forms.{rowOf}
+use Rattle.calls.specs.Numbers.{UsesFrame, accepted as zero-used, call as call-used, refused as value-used, refused-pairs}
 use Rattle.calls.specs.Record.{allowed, afterFrame}
 use Rattle.calls.specs.Slots.{goodTable}
 use Rattle.calls.specs.Judge.{rightSide, payloadOf, judgeOf}
 use Rattle.calls.specs.Step.{stepOf, dueOf}
 use Rattle.calls.specs.Apart.{Own, none, one, ownOf, full, Verdict, stop, opens, goes, verdict, invokeVerdict, otherVerdict, verdictOf}
 use Rattle.calls.proofs.Goodness.{good-clauses}
+use Rattle.calls.proofs.Used.{uses-iff}
 use Rattle.calls.proofs.Apart.{judged-by}
 use Rattle.calls.proofs.Payloads.{Sound, struct, empty, unread, due-sound}
 use Rattle.value.specs.Answer.{Answer, refused, seen, cursorAt}
@@ -44,22 +49,27 @@ use Rattle.reader.specs.Entry.{Outcome, outcome, readingIn, outcomeOf, room, pa
 use Rattle.line.specs.Answer.{Line, stopped, payloadRead, numberIn, answered}
 use Rattle.line.specs.Receive.{frameFrom, frameLine, received}
 use Rattle.line.specs.Claims.{Listed, accepted, frame, call, value as fault, pairs, payload, shape as formed, row}
-use Rattle.line.proofs.Ways.{Early, schema, calls, frame as framed, early, Way, stops, judges, ways}
+use Rattle.line.proofs.Ways.{Early, schema, calls, frame as framed, early, Way, stops, judges, ways, judged}
 
 -- ---- the payload
 
+-- a judged frame's number: one that uses the frame, or 30
+abbrev Judging : (number place : ℕ) → Type 0
+Judging n p = Listed n p × (UsesFrame n ⊎ (n ≡ 30))
+
 -- the number and place of a payload's reading
 abbrev Told : Outcome → Type 0
-Told o = Listed (numberIn o) (numbers (readingIn o) .place)
+Told o = Judging (numberIn o) (numbers (readingIn o) .place)
 
-value-told : {n : ℕ} → ValueFault n → (p : ℕ) → Listed n p
-value-told (within-list low high) p = fault p low high
-value-told many-pairs p = pairs p
+value-told : {n : ℕ} → ValueFault n → (p : ℕ) → Judging n p
+value-told {n = n} (within-list low high) p = (fault p low high, inl (value-used {n = n} low (omega (arith, high))))
+value-told many-pairs p = (pairs p, inl refused-pairs)
 
 told-of : (S : ℕ → Shape) (t space : ℕ) (a : Answer Tree) → Numbered a → (sheet : List ℕ) → Told (outcomeOf sheet (value.reading S t space a))
 told-of S t space (refused k p) (refuses f) sheet = value-told f p
 told-of S t space (seen tree c) goes-on sheet =
-    cond-case (λ (r : value.Reading). Told (outcomeOf sheet r)) (leb (length (rows tree)) space) _ (value.refusal 30 0) (λ _. accepted) (λ _. payload (lit≤ tt) (lit≤ tt))
+    cond-case (λ (r : value.Reading). Told (outcomeOf sheet r)) (leb (length (rows tree)) space) _ (value.refusal 30 0) (λ _. (accepted, inl zero-used))
+    (λ _. (payload (lit≤ tt) (lit≤ tt), inr refl))
 
 payload-told : (s p sheet : List ℕ) → IsGood s → length p ≤ 16384 → {d : Payload} → Sound (tableOf s) d → Told (payloadRead s d p sheet)
 unfolding payloadRead payloadOutcome value.read
@@ -69,8 +79,9 @@ payload-told s p sheet g small (struct t h k) =
     rw (e, le-leb (length p) 16384 small)
     (told-of (shape T) t (room sheet) _ (root-numbered T (good-table s g) t (fieldsOf T (rowAt T t)) e (cursorAt p 0)) sheet)
 payload-told s p sheet g small empty =
-    cond-case (λ (r : Reading). Told (outcome r sheet)) (eqb (length p) 0) (Shown 0 0 0 0) (Refused _ 0) (λ _. accepted) (λ _. payload (lit≤ tt) (lit≤ tt))
-payload-told s p sheet g small unread = accepted
+    cond-case (λ (r : Reading). Told (outcome r sheet)) (eqb (length p) 0) (Shown 0 0 0 0) (Refused _ 0) (λ _. (accepted, inl zero-used))
+    (λ _. (payload (lit≤ tt) (lit≤ tt), inl (value-used (lit≤ tt) (lit≤ tt))))
+payload-told s p sheet g small unread = (accepted, inl zero-used)
 
 -- ---- the side and the call
 
@@ -108,14 +119,14 @@ module _ (T : Table) (f : Frame) where
 -- ---- the whole answer
 
 answered-listed : (s p sheet : List ℕ) (size : ℕ) (l : List Call) (J : Judged) → Stops (verdict J) → Told (payloadRead s (dueOf J) p sheet)
-    → let a = answered size l J (payloadRead s (dueOf J) p sheet) in Listed (a .answer .number) (a .answer .place)
+    → let a = answered size l J (payloadRead s (dueOf J) p sheet) in Judging (a .answer .number) (a .answer .place)
 unfolding answered stepOf Stops payloadRead
-answered-listed s p sheet size l (Stop n) w t = call (w .0) (omega arith)
+answered-listed s p sheet size l (Stop n) w t = (call (w .0) (omega arith), inl (call-used (w .0) (w .1)))
 answered-listed s p sheet size l (Opens j c d) w t = t
 answered-listed s p sheet size l (Goes i c d) w t = t
 
 frame-listed : (s : List ℕ) (f : Frame) (p : List ℕ) (size : ℕ) (sheet : List ℕ) (l : List Call) → IsGood s → goodTable (tableOf s) l ≡ true → length p ≤ 16384
-    → let a = frameLine s f p size sheet l in Listed (a .answer .number) (a .answer .place)
+    → let a = frameLine s f p size sheet l in Judging (a .answer .number) (a .answer .place)
 unfolding frameLine
 frame-listed s f p size sheet l g t small =
     let J = judgeOf (tableOf s) f l in
@@ -141,4 +152,20 @@ listed s side bytes sheet l = go (ways s side bytes sheet l)
     go (stops w) = stop-listed l (early s bytes l w)
     go (judges h place n g t e) =
         let small : length (take n (drop place bytes)) ≤ 16384 = simp length-take (omega (arith, read-bounds bytes e .small)) in
-        frame-listed s (frameFrom side h) (take n (drop place bytes)) (place + n) sheet l g t small
+        frame-listed s (frameFrom side h) (take n (drop place bytes)) (place + n) sheet l g t small .0
+
+by-number : (s : List ℕ) (f : Frame) (p : List ℕ) (size : ℕ) (sheet : List ℕ) (l : List Call) → let a = frameLine s f p size sheet l in
+    UsesFrame (a .answer .number) ⊎ (a .answer .number ≡ 30) → (a .answer .used ≡ size) ⊎ (a .answer .number ≡ 30)
+unfolding frameLine answered
+by-number s f p size sheet l (inl u) = inl (ap (λ (b : Bool). cond b size 0) (uses-iff _ .1 u))
+by-number s f p size sheet l (inr z) = inr z
+
+-- A whole frame under good tables: its answer uses the frame, or has the number 30.
+pub used-or-rows : (s : List ℕ) (side : ℕ) (bytes sheet : List ℕ) (l : List Call) {h : Header} {place n : ℕ}
+    → IsGood s → goodTable (tableOf s) l ≡ true → frameOf bytes ≡ Whole h place n
+    → let a = received s side bytes sheet l in (a .answer .used ≡ place + n) ⊎ (a .answer .number ≡ 30)
+used-or-rows s side bytes sheet l {h} {place} {n} g t e =
+    let small : length (take n (drop place bytes)) ≤ 16384 = simp length-take (omega (arith, read-bounds bytes e .small)) in
+    subst (λ (x : Line). (x .answer .used ≡ place + n) ⊎ (x .answer .number ≡ 30)) (sym (judged s side bytes sheet l h place n g t e))
+    (by-number s (frameFrom side h) (take n (drop place bytes)) (place + n) sheet l
+    (frame-listed s (frameFrom side h) (take n (drop place bytes)) (place + n) sheet l g t small .1))

@@ -1,6 +1,4 @@
 // Prints the listing of a record by a schema file: list SCHEMA RECORD. Where that fails it says why on standard error, and prints nothing.
-mod files;
-
 use libc::STDERR_FILENO;
 use libc::STDOUT_FILENO;
 
@@ -32,8 +30,8 @@ fn main() {
     let mut schema = [0u8; LONGEST];
     let mut entries = [0u8; LONGEST];
     let mut whole = true;
-    let n = files::read(1, &mut schema, &mut whole);
-    let m = files::read(2, &mut entries, &mut whole);
+    let n = files::read(b"list", 1, &mut schema, &mut whole);
+    let m = files::read(b"list", 2, &mut entries, &mut whole);
     if whole {
         print(&schema[..n], &entries[..m]);
     } else {

@@ -3,3 +3,4 @@ pub mod Decimals
 pub mod Turns
 pub mod Wholes
 pub mod Examples
+pub mod Kept

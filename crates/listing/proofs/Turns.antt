@@ -8,9 +8,8 @@ use Prim.Native.Nat.{ℕ, zero, suc, _+_, _*_, _-_, _/_, _≤_, _<_}
 use native.Mathlib.Omega.{arith}
 use borrow.Author.Tests.{eq-eqb}
 use lib.Dec.{eqb}
-use lib.ListN.{length, take, drop, getD, replicate, length-replicate, length-append, length-drop, drop-of-length-le}
+use lib.ListN.{length, take, drop, getD, replicate, length-replicate, length-drop, drop-of-length-le}
 use lib.Seq.{drop-cons, drop-drop, take-all}
-use Rattle.wire.proofs.Varuints.{spelled-pos}
 use Rattle.schema.specs.declared.Checked.{Checked}
 use Rattle.schema.specs.declared.Checked.the-variants.{Good, Refused as Faulty}
 use Rattle.schema.specs.File.{tableOf}
@@ -20,9 +19,9 @@ use Rattle.frame.specs.declared.Header.{Header}
 use Rattle.frame.specs.declared.FrameRead.{FrameRead}
 use Rattle.frame.specs.declared.FrameRead.the-variants.{More, Frame, Refused}
 use Rattle.frame.specs.Frame.{frameOf, readUsed}
-use Rattle.frame.specs.IsFrame.{Holds, IsFrame, frame}
 use Rattle.frame.proofs.Frames.{read-is-frame}
 use Rattle.frame.proofs.Answers.{used-inside}
+use Rattle.record.proofs.Entries.{frame-least}
 use Rattle.calls.specs.declared.Call.{Call}
 use Rattle.calls.specs.declared.Frame as calls
 use Rattle.calls.specs.declared.CallTable.{CallTable}
@@ -101,12 +100,6 @@ by-sheet s side bytes cells l e r after h =
 
 -- ---- bytes used
 
--- A frame takes 26 bytes at least: 25 and its length.
-frame-least : {h : Header} {payload f : List ℕ} → IsFrame h payload f → 26 ≤ length f
-frame-least (frame size low high p s m c spells small) =
-    rw (length-append, length-append, length-append, length-append, length-append)
-    (omega (arith, p .width, s .width, m .width, c .width, spelled-pos _ size spells))
-
 used-least : (bytes : List ℕ) → (readUsed (frameOf bytes) ≡ 0 → ⊥) → 26 ≤ readUsed (frameOf bytes)
 used-least bytes = go (frameOf bytes) refl
   where
@@ -116,7 +109,7 @@ used-least bytes = go (frameOf bytes) refl
     go (Frame h place n) e z = let w = read-is-frame bytes e in omega (arith, w .end, frame-least (w .is))
 
 module _ (s : List ℕ) (side : ℕ) (bytes : List ℕ) (l : List Call) (z : answerTo s side bytes l .used ≡ 0 → ⊥) where
-  used-frame : answerTo s side bytes l .used ≡ readUsed (frameOf bytes)
+  pub used-frame : answerTo s side bytes l .used ≡ readUsed (frameOf bytes)
   unfolding answerTo
   used-frame = go (usesFrame (received s side bytes sheet l .answer .number)) (used-by-number s side bytes sheet l)
     where
@@ -144,18 +137,18 @@ used-some : (used : ℕ) (b : Bool) → (eqb used 0 || b) ≡ false → used ≡
 used-some used b e z = clash (eqb used 0 || b) (or-left (eqb used 0) b (eq-eqb used 0 z)) e
 
 module _ (s : List ℕ) (k entry side : ℕ) (bytes : List ℕ) (l : List Call) where
-  stop-turn : stops side (answerTo s side bytes l .number) (answerTo s side bytes l .used) ≡ true
+  pub stop-turn : stops side (answerTo s side bytes l .number) (answerTo s side bytes l .used) ≡ true
       → entriesText s (suc k) entry (side ∷ bytes) l ≡ stoppedText (answerTo s side bytes l .number) (length (side ∷ bytes))
   unfolding entriesText
   stop-turn e = rw e
 
-  line-turn : let a = answerTo s side bytes l in stops side (a .number) (a .used) ≡ false
+  pub line-turn : let a = answerTo s side bytes l in stops side (a .number) (a .used) ≡ false
       → entriesText s (suc k) entry (side ∷ bytes) l
       ≡ lineText entry side (headerIn (frameOf bytes)) a ++ entriesText s k (entry + 1) (drop (a .used) bytes) (a .table .slots)
   unfolding entriesText
   line-turn e = rw e
 
-end-turn : (s : List ℕ) (k entry : ℕ) (l : List Call) → entriesText s k entry [] l ≡ stoppedText 0 0
+pub end-turn : (s : List ℕ) (k entry : ℕ) (l : List Call) → entriesText s k entry [] l ≡ stoppedText 0 0
 unfolding entriesText
 end-turn s zero entry l = refl
 end-turn s (suc k) entry l = refl

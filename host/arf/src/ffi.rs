@@ -129,6 +129,17 @@ extern "C" {
         answer: *mut u64,
         answer_n: usize,
     ) -> u32;
+
+    fn arf_salvage(
+        record: *const u8,
+        record_n: usize,
+        copy: *mut u8,
+        copy_n: usize,
+        spans: *mut u32,
+        spans_n: usize,
+        answer: *mut u64,
+        answer_n: usize,
+    ) -> u32;
 }
 
 /// Stores the place.
@@ -368,6 +379,24 @@ pub fn receive(
     }
 }
 
+/// Stores the entries kept, the bytes copied and the spans listed.
+pub fn salvage(record: &[u8], copy: &mut [u8], spans: &mut [u32], answer: &mut [u64]) -> u32 {
+    // SAFETY: each pointer and length are those of a Rust slice; the three that
+    // are written do not overlap, since all are `&mut`.
+    unsafe {
+        arf_salvage(
+            record.as_ptr(),
+            record.len(),
+            copy.as_mut_ptr(),
+            copy.len(),
+            spans.as_mut_ptr(),
+            spans.len(),
+            answer.as_mut_ptr(),
+            answer.len(),
+        )
+    }
+}
+
 #[cfg(test)]
 mod tests {
     use super::*;
@@ -405,6 +434,7 @@ mod tests {
         with_any_room(2, |cells| {
             write_value_frame([0; 4], 0, &[], (0, &[], &[]), &mut [], cells)
         });
+        with_any_room(3, |cells| salvage(&[], &mut [], &mut [], cells));
     }
 
     #[test]
@@ -486,6 +516,24 @@ mod tests {
             let answer = |out: &mut [u8]| forward(&schema, 1, &sheet, &bytes, tail, out, &mut []);
             assert_eq!(answer(&mut out), number);
             assert_eq!(answer(&mut []), if number == 0 { 52 } else { 7 });
+        }
+    }
+
+    #[test]
+    fn a_salvage_fills_both_buffers_and_refuses_either() {
+        let mut entry = [b'S'; 27];
+        assert_eq!(write_frame(3, [0; 3], 0, &[], &mut entry[1..], &mut []), 0);
+        let record = [&[0][..], &entry, &[0, 0]].concat();
+        let (mut copy, mut spans, mut cells) = ([7; 28], [7; 5], [FILL; 3]);
+        let number = salvage(&record, &mut copy, &mut spans, &mut cells);
+        assert_eq!((number, cells), (0, [1, 27, 2]));
+        assert_eq!((&copy[..27], copy[27]), (&entry[..], 7));
+        assert_eq!(spans, [0, 1, 28, 2, 7]);
+        for (room, list, number) in [(26, 3, 52), (27, 3, 53)] {
+            let (mut copy, mut spans) = (vec![7; room], vec![7; list]);
+            assert_eq!(salvage(&record, &mut copy, &mut spans, &mut cells), number);
+            assert_eq!((copy, spans), (vec![7; room], vec![7; list]));
+            assert_eq!(cells, [0; 3]);
         }
     }
 

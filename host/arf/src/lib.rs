@@ -29,7 +29,8 @@ mod limits;
 mod refusal;
 
 pub use limits::{
-    MAX_COMPARISONS, MAX_DEPTH, MAX_FRAME, MAX_PAIRS, MAX_PAYLOAD, NO_VALUE, SLOTS, STACK,
+    MAX_COMPARISONS, MAX_DEPTH, MAX_FRAME, MAX_PAIRS, MAX_PAYLOAD, MAX_RECORD, NO_VALUE, SLOTS,
+    SPAN_CELLS, STACK,
 };
 pub use refusal::Refusal;
 
@@ -478,6 +479,56 @@ pub fn write_value_frame(
         &mut cells,
     );
     answer(number, cells[0], cells[1] as usize)
+}
+
+/// What a salvage made of a record.
+#[derive(Clone, Copy, Debug, Default, PartialEq, Eq)]
+pub struct Salvaged {
+    /// How many entries were kept.
+    pub entries: usize,
+    /// How many bytes were copied, those of the entries.
+    pub bytes: usize,
+    /// How many spans were left out, each listed by two cells.
+    pub spans: usize,
+}
+
+/// Copies every entry of a torn record that can be kept to the front of `copy`,
+/// and lists the spans left out at the front of `spans`, the place and the
+/// length of each. An entry is a side byte, C or S, and a whole frame. Kept
+/// entries and spans are the record, in order. A refusal leaves both buffers as
+/// they were.
+///
+/// A copy as long as the record and [`SPAN_CELLS`] cells are enough for any
+/// record of at most [`MAX_RECORD`] bytes.
+///
+/// ```
+/// let header = arf::Header { kind: 3, ..Default::default() };
+/// let mut record = vec![b'C'; 27];
+/// arf::write_frame(&header, &[], &mut record[1..]).unwrap();
+/// let entry = record.clone();
+/// // The next entry was torn off.
+/// record.extend(&entry[..9]);
+///
+/// let mut copy = vec![0; record.len()];
+/// let mut spans = vec![0; arf::SPAN_CELLS];
+/// let salvaged = arf::salvage(&record, &mut copy, &mut spans).unwrap();
+/// assert_eq!((salvaged.entries, salvaged.spans), (1, 1));
+/// assert_eq!(copy[..salvaged.bytes], entry);
+/// assert_eq!(spans[..2], [27, 9]);
+///
+/// let refused = arf::salvage(&record, &mut copy, &mut []).unwrap_err();
+/// assert_eq!(refused.to_string(), "53 at 0: the list of spans is too small");
+/// ```
+pub fn salvage(record: &[u8], copy: &mut [u8], spans: &mut [u32]) -> Result<Salvaged, Refusal> {
+    let mut cells = [0; 3];
+    let number = ffi::salvage(record, copy, spans, &mut cells);
+    let [entries, bytes, spans] = cells.map(|cell| cell as usize);
+    let salvaged = Salvaged {
+        entries,
+        bytes,
+        spans,
+    };
+    answer(number, 0, salvaged)
 }
 
 /// The record of one slot. A free slot is zero in every member.

@@ -43,6 +43,18 @@ pub const MAX_PAIRS: usize = 64;
 /// ```
 pub const MAX_COMPARISONS: usize = 258_048;
 
+/// The most bytes of a record; the salvage of a longer one is refused with 45.
+pub const MAX_RECORD: usize = 65_536;
+
+/// The cells that are enough to list the spans of any record: between two spans
+/// lies an entry, which has 27 bytes at least.
+///
+/// ```
+/// let spans = (arf::MAX_RECORD + 27) / 28;
+/// assert_eq!(arf::SPAN_CELLS, 2 * spans);
+/// ```
+pub const SPAN_CELLS: usize = 4_682;
+
 /// The number of slots of a call table; an INVOKE that finds none free is
 /// refused with 13.
 pub const SLOTS: usize = 128;

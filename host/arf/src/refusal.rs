@@ -52,10 +52,12 @@ const MEANINGS: &[(u32, &str)] = &[
     (42, "a type row is at fault"),
     (43, "a field is at fault"),
     (44, "a method is at fault"),
+    (45, "the record is above 65,536 bytes"),
     (46, "the type asked for is no struct"),
     (50, "the sheet or its tail does not fit"),
     (51, "a span or the tail lies outside the bytes"),
     (52, "the output is too small"),
+    (53, "the list of spans is too small"),
 ];
 
 impl Refusal {

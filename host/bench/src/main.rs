@@ -6,7 +6,7 @@
 use std::hint::black_box;
 
 use bench::measure::{side_by_side, Times};
-use bench::samples::{self, Sample};
+use bench::samples::{self, Record, Sample};
 use bench::CELLS;
 use reference::MAX_PAYLOAD;
 
@@ -26,6 +26,7 @@ fn main() {
         ..receipt
     };
     receive("CANCEL, no payload", 8, 50, &cancel);
+    samples::records().iter().for_each(salvage);
     println!();
     println!("| input | one write | two in turn | one / two |");
     println!("|---|---|---|---|");
@@ -259,4 +260,36 @@ fn receive(input: &str, kind: u32, correlation: u64, sample: &Sample) {
         },
     );
     figure("receive, 100 calls open", input, times);
+}
+
+fn salvage(record: &Record) {
+    let bytes = &record.bytes[..];
+    let (mut ours, mut theirs) = (vec![0; bytes.len()], vec![0; bytes.len()]);
+    let (mut list, mut other) = (vec![0; arf::SPAN_CELLS], vec![0; arf::SPAN_CELLS]);
+    let salvaged = arf::salvage(bytes, &mut ours, &mut list);
+    let salvaged = salvaged.expect("both buffers have room");
+    let expected = reference::salvage(bytes, &mut theirs, &mut other);
+    let expected = expected.expect("both buffers have room");
+    assert_eq!(
+        (salvaged.entries, salvaged.spans),
+        (expected.kept, expected.spans)
+    );
+    assert_eq!((&ours, &list), (&theirs, &other));
+    let times = side_by_side(
+        |clear| {
+            if clear {
+                ours.fill(0);
+            }
+            arf::salvage(black_box(bytes), &mut ours, &mut list)
+        },
+        |clear| {
+            if clear {
+                theirs.fill(0);
+            }
+            reference::salvage(black_box(bytes), &mut theirs, &mut other)
+        },
+    );
+    let (entries, spans) = (salvaged.entries, salvaged.spans);
+    let input = format!("{}, {entries} entries, {spans} spans", record.name);
+    figure("salvage", &input, times);
 }

@@ -277,3 +277,32 @@ pub fn payloads() -> Vec<Sample> {
     all.push(receipt());
     all
 }
+
+/// A record of the most bytes that one may have.
+pub struct Record {
+    pub name: &'static str,
+    pub bytes: Vec<u8>,
+}
+
+/// The bytes again and again, up to the longest record.
+fn filled(name: &'static str, item: &[u8]) -> Record {
+    let bytes = item.iter().copied().cycle().take(arf::MAX_RECORD);
+    Record {
+        name,
+        bytes: bytes.collect(),
+    }
+}
+
+/// Entries; entries by turns with torn ones; zeros; and the worst: every ten
+/// bytes a start that is right up to the length, which is too great.
+pub fn records() -> Vec<Record> {
+    let entry = [b"S", &frame(4, 9, &receipt().payload)[..]].concat();
+    let torn = [&entry[..], &entry[..20], &[0xA5; 64]].concat();
+    let start = [b'C', 0xAF, 1, 1, 1, 0, 0xFF, 0xFF, 0xFF, 0xFF];
+    vec![
+        filled("record of receipts", &entry),
+        filled("record of receipts, every other one torn", &torn),
+        filled("record of zeros", &[0]),
+        filled("record of starts that fail at the length", &start),
+    ]
+}

@@ -2,12 +2,12 @@
 
 use reference::cases::{
     call_table_sum, line, sheet_sum, sum, Case, ExtendsCase, ForwardCase, FrameCase,
-    FrameWriteCase, ReadCase, ReceiveCase, RunCase, ScalarCase, TableCase, ValueFrameCase,
-    WriteCase, BYTE_FILL, CELL_FILL,
+    FrameWriteCase, ReadCase, ReceiveCase, RunCase, SalvageCase, ScalarCase, TableCase,
+    ValueFrameCase, WriteCase, BYTE_FILL, CELL_FILL,
 };
 
 /// The codes of the entries that the library has.
-pub const CODES: &[u8] = &[1, 2, 3, 4, 5, 6, 7, 8, 9, 15, 18];
+pub const CODES: &[u8] = &[1, 2, 3, 4, 5, 6, 7, 8, 9, 15, 17, 18];
 
 /// How many cells or bytes before and after a lent buffer are watched.
 const MARGIN: usize = 16;
@@ -26,6 +26,7 @@ pub fn answer(case: &Case, text: &mut String) {
         Case::Receive(case) => receive_one(case, text),
         Case::ValueFrame(case) => value_frame(case, text),
         Case::Forward(case) => forward(case, text),
+        Case::Salvage(case) => salvage(case, text),
     }
 }
 
@@ -260,4 +261,18 @@ fn table_sum(table: &arf::CallTable) -> u64 {
         output_closed: call.output_closed,
     });
     call_table_sum(&reference::CallTable { slots })
+}
+
+fn salvage(case: &SalvageCase, text: &mut String) {
+    let ((result, spans), copy) = lend(BYTE_FILL, case.room, |copy| {
+        lend(CELL_FILL, case.cells, |spans| {
+            arf::salvage(&case.record, copy, spans)
+        })
+    });
+    let (number, place, salvaged) = outcome(result, arf::Salvaged::default());
+    assert_eq!(place, 0, "a salvage's refusal has no place");
+    let counts = [salvaged.entries, salvaged.bytes, salvaged.spans];
+    let [entries, bytes, listed] = counts.map(|count| count as u64);
+    let sums = [sum(copy), sheet_sum(&spans)];
+    line(text, &[number, entries, bytes, listed, sums[0], sums[1]]);
 }

@@ -1,5 +1,6 @@
 //! A plain implementation of the arf rules: the schema table, the reader and
-//! writer of values, frames, the call table and the listing.
+//! writer of values, frames, the call table, the listing, and the salvage of
+//! records with holes.
 //!
 //! Every entry answers with a value or a [`Refusal`]: a numbered reason and a
 //! place. A refusal leaves the lent sheet and the lent output untouched.
@@ -21,6 +22,7 @@ pub mod listing;
 pub mod reader;
 pub mod receive;
 pub mod refusal;
+pub mod salvage;
 pub mod scalar;
 pub mod schema;
 pub mod utf8;
@@ -36,6 +38,7 @@ pub use listing::list;
 pub use reader::{read, Reading};
 pub use receive::{Outcome, Received};
 pub use refusal::{Reason, Refusal};
+pub use salvage::{salvage, Salvaged};
 pub use scalar::{scalar, Scalar};
 pub use schema::{check_table, Schema};
 pub use value_frame::write_value_frame;

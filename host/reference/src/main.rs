@@ -28,7 +28,7 @@ use std::process::ExitCode;
 use reference::cases::{answer_file, list_file, put_listings};
 use reference::generate::carrier::files as example_files;
 use reference::generate::listings::cases as listing_cases;
-use reference::generate::{is_code, Generator};
+use reference::generate::{codes as all_codes, Generator};
 
 const USAGE: &str = "usage: reference list SCHEMA RECORD
        reference listings SEED N
@@ -107,12 +107,13 @@ fn generator(seed: &str, number: &str, codes: &str) -> Result<(Generator, usize)
     if codes == "across" {
         return Ok((Generator::across(seed), number));
     }
-    let known = |code: &str| code.parse().ok().filter(|&code| is_code(code));
+    let all = all_codes();
+    let known = |code: &str| code.parse().ok().filter(|code| all.contains(code));
     let codes: Option<Vec<u8>> = match codes {
         "" => Some(Vec::new()),
         list => list.split(',').map(known).collect(),
     };
-    let codes = codes.ok_or("codes are numbers of entries with commas between")?;
+    let codes = codes.ok_or("codes are those of the case file with commas between")?;
     Ok((Generator::new(seed, &codes), number))
 }
 

@@ -76,6 +76,8 @@ pub enum Reason {
     SpanOutside = 51,
     /// The output is too small.
     OutputTooSmall = 52,
+    /// The list of the spans left out is too small.
+    ListTooSmall = 53,
 }
 
 impl Reason {

@@ -64,7 +64,7 @@ fn wrong_arguments() {
         &["list"],
         &["cases", "1"],
         &["cases", "x", "1"],
-        &["cases", "1", "1", "10"],
+        &["cases", "1", "1", "99"],
         &["count", "1", "1", "1,,2"],
     ];
     for arguments in wrong {

@@ -9,13 +9,18 @@ use common::{comparisons, table_t, BYTE, CELL};
 use reference::cases::{answer_file, read_file, Case, FrameWriteCase, ReadCase, WriteCase};
 use reference::generate::rng::Rng;
 use reference::generate::table::Table;
-use reference::generate::Generator;
+use reference::generate::{codes, Generator};
 use reference::varuint::{decode, Decoded};
 use reference::*;
 
-/// Cases of all codes from a seed.
+/// Cases of values, frames and calls from a seed.
 fn cases(seed: u64, number: usize) -> Vec<Case> {
-    let mut generator = Generator::new(seed, &[]);
+    cases_of(seed, number, &[1, 2, 3, 4, 5, 6, 7, 8, 9])
+}
+
+/// Cases of some codes from a seed.
+fn cases_of(seed: u64, number: usize, codes: &[u8]) -> Vec<Case> {
+    let mut generator = Generator::new(seed, codes);
     (0..number).filter_map(|_| generator.case()).collect()
 }
 
@@ -39,25 +44,37 @@ fn numbers(code: u8) -> Vec<u32> {
         15 => numbers(5).into_iter().chain([4]).collect(),
         18 => numbers(5),
         8 => (0..=14).chain(20..=31).chain(table).collect(),
-        _ => (0..=15).chain(20..=31).chain(table).collect(),
+        9 => (0..=15).chain(20..=31).chain(table).collect(),
+        17 => vec![0, 45, 52, 53],
+        _ => panic!("code {code} has no numbers here"),
+    }
+}
+
+/// How many cases of a code give every number often enough.
+fn enough(code: u8) -> usize {
+    match code {
+        3 | 5 => 4_200,
+        _ => 2_000,
     }
 }
 
 #[test]
 fn every_number_comes_up() {
-    let mut counts = BTreeMap::new();
-    for case in cases(1, 27_000) {
-        for number in case.numbers() {
-            *counts.entry((case.code(), number)).or_insert(0) += 1;
+    for code in codes() {
+        let mut counts = BTreeMap::new();
+        for case in cases_of(1, enough(code), &[code]) {
+            assert_eq!(case.code(), code);
+            for number in case.numbers() {
+                *counts.entry(number).or_insert(0) += 1;
+            }
         }
-    }
-    for code in (1..=9).chain([15, 18]) {
         for number in numbers(code) {
-            let count = counts.remove(&(code, number)).unwrap_or(0);
-            assert!(count >= 20, "code {code} number {number}: {count}");
+            let count = counts.remove(&number).unwrap_or(0);
+            let least = if number == 45 { 5 } else { 20 };
+            assert!(count >= least, "code {code} number {number}: {count}");
         }
+        assert!(counts.is_empty(), "code {code}: {counts:?}");
     }
-    assert!(counts.is_empty(), "{counts:?}");
 }
 
 /// A code that is added later changes none of the cases of the others.
@@ -67,7 +84,7 @@ fn codes_do_not_disturb_each_other() {
     all.retain(|case| case.code() <= 9);
     let mut first = Generator::new(16, &[1, 2, 3, 4, 5, 6, 7, 8, 9]);
     assert!(all.iter().all(|case| first.case().as_ref() == Some(case)));
-    for code in [15, 18] {
+    for code in [15, 17, 18] {
         let mut alone = Generator::new(16, &[code]);
         for case in cases(16, 3_000) {
             if case.code() == code {
@@ -79,7 +96,7 @@ fn codes_do_not_disturb_each_other() {
 
 #[test]
 fn case_files_read_back_and_keep_the_limits() {
-    let cases = cases(2, 3_000);
+    let cases = cases_of(2, 3_500, &[]);
     let mut file = Vec::new();
     cases.iter().for_each(|case| case.put(&mut file));
     assert_eq!(read_file(&file), Some(cases.clone()));
@@ -117,6 +134,7 @@ fn case_files_stay_small() {
         (&[3, 4], 2_000_000),
         (&[15], 3_750_000),
         (&[18], 4_000_000),
+        (&[17], 5_500_000),
     ] {
         let mut generator = Generator::new(3, codes);
         let mut file = Vec::new();

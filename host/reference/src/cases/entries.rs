@@ -1,5 +1,5 @@
-//! The sorts of case of codes 1 to 9: how each is taken from a file, put into
-//! one, and answered.
+//! The cases of values, frames and calls: how each is taken from a file, put
+//! into one, and answered.
 
 use super::format::{
     call_table_sum, line, put_bytes, put_call_table, put_header, put_sheet, put_words, sheet_sum,

@@ -7,6 +7,7 @@ mod entries;
 mod format;
 mod forward;
 mod listings;
+mod records;
 mod value_frame;
 
 pub use entries::{
@@ -19,6 +20,7 @@ pub use format::{
 
 pub use forward::ForwardCase;
 pub use listings::{list_file, put_listings, ListingCase};
+pub use records::SalvageCase;
 pub use value_frame::ValueFrameCase;
 
 use entries::Entry;
@@ -38,6 +40,7 @@ pub enum Case {
     Receive(ReceiveCase),
     ValueFrame(ValueFrameCase),
     Forward(ForwardCase),
+    Salvage(SalvageCase),
 }
 
 impl Case {
@@ -55,6 +58,7 @@ impl Case {
             Case::Receive(_) => 9,
             Case::ValueFrame(_) => 15,
             Case::Forward(_) => 18,
+            Case::Salvage(_) => 17,
         }
     }
 
@@ -71,6 +75,7 @@ impl Case {
             Case::Receive(case) => case,
             Case::ValueFrame(case) => case,
             Case::Forward(case) => case,
+            Case::Salvage(case) => case,
         }
     }
 
@@ -88,6 +93,7 @@ impl Case {
             9 => Case::Receive(ReceiveCase::take(input)?),
             15 => Case::ValueFrame(ValueFrameCase::take(input)?),
             18 => Case::Forward(ForwardCase::take(input)?),
+            17 => Case::Salvage(SalvageCase::take(input)?),
             _ => return None,
         })
     }

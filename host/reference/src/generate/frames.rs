@@ -34,7 +34,7 @@ pub fn random_kind_fault(rng: &mut Rng) -> Header {
     header
 }
 
-fn random_frame(rng: &mut Rng) -> Vec<u8> {
+pub fn random_frame(rng: &mut Rng) -> Vec<u8> {
     let length = rng.pick(&[0, 0, 1, 5, 20, 130]);
     let payload = rng.bytes(length);
     frame_bytes(&random_header(rng), &payload)

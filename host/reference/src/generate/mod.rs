@@ -9,6 +9,7 @@ mod deep;
 mod fault;
 mod forwards;
 mod frames;
+mod holes;
 mod line;
 pub mod listings;
 mod maps;
@@ -82,10 +83,10 @@ pub struct Generator {
     choice: Rng,
 }
 
-/// Whether there are cases of a code.
-pub fn is_code(code: u8) -> bool {
+/// The codes that there are cases for.
+pub fn codes() -> Vec<u8> {
     let codes = CODES.iter().chain(LATER_CODES);
-    codes.into_iter().any(|&(known, ..)| known == code)
+    codes.map(|&(code, ..)| code).collect()
 }
 
 impl Generator {

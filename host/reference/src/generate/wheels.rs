@@ -2,8 +2,8 @@
 
 use super::rng::Rng;
 use super::{
-    aim, any, damage, draw, fault, forwards, frames, line, maps, pair, reading, runs, scalars,
-    sheet, table, value_frames, Code, Wheel,
+    aim, any, damage, draw, fault, forwards, frames, holes, line, maps, pair, reading, runs,
+    scalars, sheet, table, value_frames, Code, Wheel,
 };
 use crate::cases::{Case, TableCase, WriteCase};
 
@@ -21,7 +21,7 @@ pub const CODES: &[Code] = &[
 ];
 
 /// The codes with a random stream each.
-pub const LATER_CODES: &[Code] = &[(15, 12, VALUE_FRAME), (18, 12, FORWARD)];
+pub const LATER_CODES: &[Code] = &[(15, 12, VALUE_FRAME), (17, 12, SALVAGE), (18, 12, FORWARD)];
 
 const TABLE: Wheel = &[
     aim(60, 0, |rng| table_case(table::good_table(rng).bytes())),
@@ -487,6 +487,33 @@ pub fn writer_sheet(rng: &mut Rng, number: Option<u32>) -> WriteCase {
         }
     }
 }
+
+const SALVAGE: Wheel = &[
+    aim(20, 0, |rng| holes::enough(rng, holes::whole)),
+    aim(22, 0, |rng| holes::enough(rng, holes::torn)),
+    aim(22, 0, |rng| holes::enough(rng, holes::blotted)),
+    aim(16, 0, |rng| holes::enough(rng, holes::inserted)),
+    aim(16, 0, |rng| holes::enough(rng, holes::crumbs)),
+    aim(22, 0, |rng| holes::enough(rng, holes::cut)),
+    aim(6, 0, |rng| holes::enough(rng, holes::cut_length)),
+    aim(10, 0, |rng| holes::enough(rng, holes::nested)),
+    aim(18, 0, |rng| holes::enough(rng, holes::nested_spoilt)),
+    aim(14, 0, |rng| holes::enough(rng, holes::nested_cut)),
+    aim(20, 0, |rng| holes::enough(rng, holes::swallowing)),
+    aim(22, 0, |rng| holes::enough(rng, holes::spoilt)),
+    aim(12, 0, |rng| holes::enough(rng, holes::wrong_side)),
+    aim(14, 0, |rng| holes::enough(rng, holes::letters_alone)),
+    aim(14, 0, |rng| holes::enough(rng, holes::noise)),
+    aim(6, 52, |rng| holes::short_copy(rng, holes::whole)),
+    aim(14, 52, |rng| holes::short_copy(rng, holes::crumbs)),
+    aim(6, 52, |rng| holes::short_copy(rng, holes::blotted)),
+    aim(12, 53, |rng| holes::short_list(rng, holes::crumbs)),
+    aim(8, 53, |rng| holes::short_list(rng, holes::spoilt)),
+    aim(6, 53, |rng| holes::short_list(rng, holes::letters_alone)),
+    any(1, |rng| holes::enough(rng, holes::longest)),
+    any(1, |rng| holes::short_list(rng, holes::longest)),
+    aim(2, 45, holes::too_long),
+];
 
 fn table_case(schema: Vec<u8>) -> Case {
     Case::Table(TableCase { schema })

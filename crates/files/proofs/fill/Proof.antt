@@ -1,4 +1,4 @@
--- `list::files::fill` answers no more than its buffer holds: each turn fills some of what is left.
+-- `files::fill` answers no more than its buffer holds: each turn fills some of what is left.
 -- Assumes nothing.
 use mathlib.Core.Path.{_≡_, refl, sym, _∙_}
 use Prim.Native.Nat.{_+_, _-_, _≤_}
@@ -7,29 +7,29 @@ use borrow.Author.Needs.{needs}
 use borrow.Rule.Slice.PartMut.{putMid, same-len-mid, mid-len}
 use lib.ListN.{length}
 use lib.Seq.{length-take-le}
-use Rattle.list.proofs.files.fill.Statement.{statement}
-use Rattle.list.proofs.files.fill.Tie as tie
+use Rattle.files.proofs.fill.Statement.{statement}
+use Rattle.files.proofs.fill.Tie as tie
 
 abbrev Inv-loop : tie.InvT-loop
-Inv-loop fd path buf₀ whole₀ n₀ buf whole n = (length buf ≡ length buf₀) × (n ≤ length buf)
+Inv-loop program fd path buf₀ whole₀ n₀ buf whole n = (length buf ≡ length buf₀) × (n ≤ length buf)
 
 abbrev μ-loop : tie.MeasureT-loop
-μ-loop fd path buf₀ whole₀ n₀ buf whole n = length buf - n
+μ-loop program fd path buf₀ whole₀ n₀ buf whole n = length buf - n
 
 loop-holds : tie.Need-loop-holds Inv-loop μ-loop
 loop-holds c = (refl, omega arith)
 
 -- what a turn leaves of the buffer is as long as it was, and holds what was read
 kept : (c : tie.After-slice-known2 Inv-loop μ-loop) → let here = c .before .before .before .before .before .before .loop in
-    length (putMid (here .n) (length (here .buf) - here .n) (here .buf) (c .before .before .some .last .1 .1 .0)) ≡ length (here .buf)
+    length (putMid (here .n) (length (here .buf) - here .n) (here .buf) (c .before .before .some .last .1 .1 .1 .0)) ≡ length (here .buf)
 kept c =
     let here = c .before .before .before .before .before .before .loop in
-    same-len-mid (here .n) (length (here .buf) - here .n) (here .buf) (c .before .before .some .last .1 .1 .0) (c .before .before .some .kept .1 .1 .0)
+    same-len-mid (here .n) (length (here .buf) - here .n) (here .buf) (c .before .before .some .last .1 .1 .1 .0) (c .before .before .some .kept .1 .1 .1 .0)
 
 inside : (c : tie.After-slice-known2 Inv-loop μ-loop) → let here = c .before .before .before .before .before .before .loop in here .n + c .before .before .some .result ≤ length (here .buf)
 inside c =
     let here = c .before .before .before .before .before .before .loop in
-    omega (arith, here .inv .1, c .before .before .some .ensures .0, c .before .before .some .kept .1 .1 .0, mid-len (here .n) (length (here .buf)) (here .buf) (omega arith))
+    omega (arith, here .inv .1, c .before .before .some .ensures .0, c .before .before .some .kept .1 .1 .1 .0, mid-len (here .n) (length (here .buf)) (here .buf) (omega arith))
 
 same-length : tie.Need-same-length Inv-loop μ-loop
 same-length c = kept (c .before) ∙ c .before .before .before .before .before .before .before .loop .inv .0

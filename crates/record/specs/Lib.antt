@@ -1,0 +1,3 @@
+-- The entries of a record: the test and the relation.
+pub mod Entry
+pub mod IsEntry

@@ -1,0 +1,7 @@
+pub mod Splits
+pub mod Covers
+pub mod Turns
+pub mod Outcomes
+pub mod Statements
+pub mod Examples
+pub mod Cells

@@ -1,0 +1,115 @@
+// Salvage: a copy of every entry of a torn record, and a list of the spans left out.
+mod pieces;
+
+use crate::pieces::first_piece;
+ghost use mathlib.Core.Path.{_≡_};
+ghost use mathlib.Core.List.{[], _∷_};
+ghost use Prim.Native.Nat.{_+_, _≤_};
+ghost use lib.ListN.{length};
+ghost use lib.Seq.{sets};
+ghost use Rattle.salvage.specs.Pieces.{piecesOf, copyOf, spansOf};
+ghost use Rattle.salvage.specs.Salvage.{measureOf, filled, outcome, salvageOf};
+
+// The longest record, in bytes.
+pub const LONGEST: usize = 65536;
+
+pub enum Salvaging {
+    // Entries kept, bytes copied, and spans listed.
+    Salvaged {
+        entries: usize,
+        bytes: usize,
+        spans: usize,
+    },
+    // A refusal's number: 45, 52 or 53.
+    Refused {
+        number: u32,
+    },
+}
+
+// What a salvage takes: entries, their bytes, and spans.
+struct Measure {
+    entries: usize,
+    bytes: usize,
+    spans: usize,
+}
+
+// The pieces of a record, counted.
+fn count(torn: &[u8]) -> Measure
+    requires { ⌜ length (now torn) ≤ 65536 ⌝ }
+    ensures { λ r. ⌜ r ≡ measureOf (piecesOf (now (torn .entry))) ⌝ }
+{
+    let mut entries: usize = 0;
+    let mut bytes = 0;
+    let mut spans: usize = 0;
+    let mut at = 0;
+    while at < torn.len() {
+        let piece = first_piece(&torn[at..]);
+        if piece.kept {
+            entries += 1;
+            bytes += piece.length;
+        } else {
+            spans += 1;
+        }
+        at += piece.length;
+    }
+    Measure {
+        entries,
+        bytes,
+        spans,
+    }
+}
+
+// Stores a span into the list, its place and its length.
+fn put_span(spans: &mut [u32], row: usize, place: usize, size: usize)
+    requires { ⌜ (row + 2 ≤ length (now spans)) × (place ≤ 65536) × (size ≤ 65536) ⌝ }
+    ensures { λ _. ⌜ now (spans .exit) ≡ sets (now (spans .entry)) row (place ∷ size ∷ []) ⌝ }
+{
+    spans[row] = place as u32;
+    spans[row + 1] = size as u32;
+}
+
+// The pieces of a record, copied and listed.
+fn put_pieces(torn: &[u8], copy: &mut [u8], spans: &mut [u32])
+    requires { ⌜ (length (now torn) ≤ 65536) × (length (copyOf (piecesOf (now torn))) ≤ length (now copy)) × (length (spansOf 0 (piecesOf (now torn))) ≤ length (now spans)) ⌝ }
+    ensures { λ _. ⌜ now (copy .exit) ≡ filled (now (copy .entry)) (copyOf (piecesOf (now (torn .entry)))) ⌝ }
+    ensures { λ _. ⌜ now (spans .exit) ≡ filled (now (spans .entry)) (spansOf 0 (piecesOf (now (torn .entry)))) ⌝ }
+{
+    let mut pos = 0;
+    let mut row = 0;
+    let mut at = 0;
+    while at < torn.len() {
+        let piece = first_piece(&torn[at..]);
+        let next = at + piece.length;
+        if piece.kept {
+            frame::copy(copy, pos, &torn[at..next]);
+            pos += piece.length;
+        } else {
+            put_span(spans, row, at, piece.length);
+            row += 2;
+        }
+        at = next;
+    }
+}
+
+// Copies every entry of a record that can be kept, and lists the spans left out, place and length of each. A refusal (45, 52 for the copy, 53 for the
+// list, in this order) leaves both as they were. Past what is written they are as they were, too.
+pub fn salvage(torn: &[u8], copy: &mut [u8], spans: &mut [u32]) -> Salvaging
+    ensures { λ r. ⌜ outcome r (now (copy .exit)) (now (spans .exit)) ≡ salvageOf (now (torn .entry)) (now (copy .entry)) (now (spans .entry)) ⌝ }
+{
+    if LONGEST < torn.len() {
+        return Salvaging::Refused { number: 45 };
+    }
+    let m = count(torn);
+    if copy.len() < m.bytes {
+        return Salvaging::Refused { number: 52 };
+    }
+    if spans.len() < 2 * m.spans {
+        return Salvaging::Refused { number: 53 };
+    }
+    put_pieces(torn, copy, spans);
+    Salvaging::Salvaged {
+        entries: m.entries,
+        bytes: m.bytes,
+        spans: m.spans,
+    }
+}
