@@ -5,6 +5,7 @@ use frame::FrameRead;
 use frame::FrameWritten;
 use frame::Header;
 use line::Received;
+use line::Released;
 use reader::Reading;
 use salvage::Salvaging;
 use scalar::Answer;
@@ -20,6 +21,7 @@ ghost use Rattle.frame.specs.Frame.{frameOf};
 ghost use Rattle.frame.specs.Written.{writtenOf, outputOf};
 ghost use Rattle.line.specs.Answer.{line};
 ghost use Rattle.line.specs.Receive.{received};
+ghost use Rattle.line.specs.Release.{released};
 ghost use Rattle.reader.specs.Entry.{Outcome, readOutcome};
 ghost use Rattle.salvage.specs.Salvage.{outcome, salvageOf};
 ghost use Rattle.scalar.specs.Scalar.{scalarBy};
@@ -128,6 +130,13 @@ pub fn receive(
     ensures { λ r. ⌜ line r (now (sheet .exit)) ≡ received (now (schema .entry)) side (now (bytes .entry)) (now (sheet .entry)) (table .slots) ⌝ }
 {
     line::receive::receive(table, schema, side, bytes, sheet)
+}
+
+// Ends the cancelled call with this correlation: the answer with the next call table. A refusal changes nothing.
+pub fn release(table: CallTable, schema: &[u8], correlation: u64) -> Released
+    ensures { λ r. ⌜ r ≡ released (now (schema .entry)) (table .slots) correlation ⌝ }
+{
+    line::release::release(table, schema, correlation)
 }
 
 // Copies every entry of a record that can be kept, and lists the spans left out, place and length of each: the entries kept, the bytes copied and the

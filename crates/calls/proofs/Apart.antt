@@ -1,80 +1,58 @@
--- Calls kept apart: the judgement of a frame depends on its own call's record and, for INVOKE, on whether a slot is free; its own record afterwards
--- follows from that; other records are unchanged; and what frees a slot. Assumes nothing.
+-- Calls kept apart: the judgement of a frame depends on its own call's record and, for INVOKE, on whether a slot is free, that of a release on the
+-- record alone; the own record afterwards follows from that; other records are unchanged; and what frees a slot. Assumes nothing.
 use mathlib.Core.Path.{_≡_, refl, sym, _∙_, ap, subst}
 use mathlib.Core.Logic.{_⊎_, inl, inr, ⊎-elim}
-use mathlib.Core.Bool.{Bool, true, false, not, cond}
+use mathlib.Core.Bool.{Bool, true, false, not, cond, _&&_, _||_}
 use mathlib.Core.List.{List, [], _∷_}
 use Prim.Native.Nat.{ℕ, zero, suc, _<_, _≤_}
 use native.Mathlib.Omega.{arith}
 use lib.ListN.{length, set, length-set}
-use lib.Dec.{eqb, eqb·suc-suc}
+use lib.Dec.{eqb, leb, lit≤, eqb·suc-suc}
 use borrow.Author.Tests.{eqb-true, eqb-false, ne-eqb, not-true, not-false}
+use Rattle.schema.specs.declared.Method.{Method}
 use Rattle.schema.specs.declared.Found.{Found}
 use Rattle.schema.specs.declared.Found.the-variants.{At, Missing}
 use Rattle.schema.specs.Table.{Table}
 use Rattle.schema.specs.Check.{methodRow, named, findMethod, isMissing}
 use Rattle.calls.specs.declared.Call.{Call}
+use Rattle.calls.specs.declared.FormRow.{FormRow}
 use Rattle.calls.specs.declared.Frame.{Frame}
 use Rattle.calls.specs.declared.Payload.{Payload}
+use Rattle.calls.specs.declared.Payload.the-variants.{Unread}
 use Rattle.calls.specs.declared.Judged.{Judged}
 use Rattle.calls.specs.declared.Judged.the-variants.{Stop, Opens, Goes}
 use Rattle.calls.specs.Forms.{rowOf}
-use Rattle.calls.specs.Numbers.{endsCall}
-use Rattle.calls.specs.Record.{emptyCall, openedCall, isCall, isFree, allowed, ends, afterFrame}
-use Rattle.calls.specs.Slots.{slot, firstSlot, countOpen, formRow}
-use Rattle.calls.specs.Judge.{rightSide, payloadOf, opensAt, judgeInvoke, judgeOther, judgeOf}
-use Rattle.calls.specs.Step.{numberOf, slotsAfter, stepOf, dueOf, receive}
+use Rattle.calls.specs.Numbers.{endsCall, EndsCall, payload, many-pairs}
+use Rattle.calls.specs.Record.{emptyCall, openedCall, isCall, isFree, complete, allowed, notAllowed, marked, withMark, ends, afterFrame}
+use Rattle.calls.specs.Slots.{slot, firstSlot, countOpen, formRow, Own, none, one, recordAt, ownOf, full}
+use Rattle.calls.specs.Judge.{rightSide, payloadOf, Verdict, stop, opens, goes, openVerdict, invokeVerdict, otherVerdict, verdictOf, releaseVerdict, placed, judgeOf, judgeRelease}
+use Rattle.calls.specs.Step.{numberOf, slotsAfter, stepOf, dueOf, receive, release}
 use Rattle.calls.specs.Good.{GoodTable}
-use Rattle.calls.specs.Apart.{Own, none, one, recordAt, ownOf, full, Verdict, stop, goes, verdict, invokeVerdict, otherVerdict, verdictOf, verdictDue, verdictNumber, kept, verdictOwn, touched, Freed}
-use Rattle.schema.proofs.Bools.{cases, clash, is-false}
+use Rattle.calls.specs.Event.{Event, frame}
+use Rattle.calls.specs.Event as event
+use Rattle.calls.specs.Apart.{verdict, verdictDue, verdictNumber, kept, verdictOwn, touched, Cause, refusal, completion, error, released, Freed}
+use Rattle.schema.proofs.Bools.{cases, clash, is-false, or-cases, or-none}
+use Rattle.wire.proofs.Cases.{cond-case}
 use Rattle.calls.proofs.Searches.{found-in, found-passes, found-lowest, none-passes, only-found, none-found, slot-same, slot-other, past-end, missing-at, at-at}
-use Rattle.calls.proofs.Judgement.{Opening, Going, judged-opens, judged-goes}
-use Rattle.calls.proofs.Kept.{after-cases, id-after, call-open, call-id, is-call}
+use Rattle.calls.proofs.Used.{ends-iff}
+use Rattle.calls.proofs.Cancelled.{cancel-marks}
+use Rattle.calls.proofs.Judgement.{Going, judged-opens, judged-goes, released-goes, released-never}
+use Rattle.calls.proofs.Kept.{after-cases, call-open, call-id, is-call, Starts, Moves, Fits, stops, opens as opensAt, goes as goesTo, frame-fits, release-fits}
 
 -- ---- the judgement
-module _ (T : Table) (f : Frame) (l : List Call) where
-  abbrev id : ℕ
-  id = f .correlation
+-- a judgement is the one without a slot
+placed-by : (i : ℕ) (v : Verdict) → verdict (placed i v) ≡ v
+placed-by i (stop n) = refl
+placed-by i (opens c d) = refl
+placed-by i (goes c d) = refl
 
-  opening-verdict : (m : ℕ) (g h : Found) →
-      verdict (opensAt (openedCall m id) (payloadOf (methodRow T m) 1) g h) ≡ invokeVerdict T id (At m) (recordAt l g) (isMissing h)
-  opening-verdict m (At i) h = refl
-  opening-verdict m Missing Missing = refl
-  opening-verdict m Missing (At j) = refl
+pub judged-by : (T : Table) (f : Frame) (l : List Call) → verdict (judgeOf T f l) ≡ verdictOf T f (ownOf (f .correlation) l) (full l)
+unfolding judgeOf
+judged-by T f l = placed-by _ (verdictOf T f (ownOf (f .correlation) l) (full l))
 
-  invoke-verdict : (g : Found) → verdict (judgeInvoke T id g l) ≡ invokeVerdict T id g (recordAt l (firstSlot (isCall id) 0 l)) (isMissing (firstSlot isFree 0 l))
-  invoke-verdict Missing = refl
-  invoke-verdict (At m) = opening-verdict m (firstSlot (isCall id) 0 l) (firstSlot isFree 0 l)
-
-  other-verdict : (g : Found) → verdict (judgeOther T f g l) ≡ otherVerdict T f (recordAt l g)
-  other-verdict Missing = refl
-  other-verdict (At i) =
-      let c = slot l i in
-      let m = methodRow T (c .method) in
-      go (named (f .«package») (f .service) (f .method) m) (allowed (rowOf (m .form)) (f .kind) c)
-      (afterFrame (rowOf (m .form)) (f .kind) c) (payloadOf m (f .kind))
-    where
-      go : (a b : Bool) (x : Call) (d : Payload) → verdict (cond a (cond b (Goes i x d) (Stop 14)) (Stop 12)) ≡ cond a (cond b (goes x d) (stop 14)) (stop 12)
-      go true true x d = refl
-      go true false x d = refl
-      go false b x d = refl
-
-  pub judged-by : verdict (judgeOf T f l) ≡ verdictOf T f (ownOf id l) (full l)
-  unfolding judgeOf verdictOf ownOf full
-  judged-by = go (rightSide (f .side) (f .kind)) (eqb (f .kind) 1)
-    where
-      g : Found
-      g = findMethod T (f .«package») (f .service) (f .method)
-
-      own : Found
-      own = firstSlot (isCall id) 0 l
-
-      go : (a b : Bool) →
-          verdict (cond a (cond b (judgeInvoke T id g l) (judgeOther T f own l)) (Stop 8)) ≡
-          cond a (cond b (invokeVerdict T id g (recordAt l own) (isMissing (firstSlot isFree 0 l))) (otherVerdict T f (recordAt l own))) (stop 8)
-      go true true = invoke-verdict g
-      go true false = other-verdict own
-      go false b = refl
+pub released-by : (id : ℕ) (l : List Call) → verdict (judgeRelease id l) ≡ releaseVerdict (ownOf id l)
+unfolding judgeRelease
+released-by id l = placed-by _ (releaseVerdict (ownOf id l))
 
 number-by : (J : Judged) (p : ℕ) → numberOf J p ≡ verdictNumber (verdict J) p
 number-by (Stop n) p = refl
@@ -113,6 +91,11 @@ module _ (T : Table) (f : Frame) (reading : Payload → ℕ) where
   answered l =
       let J = judgeOf T f l in
       number-by J (reading (dueOf J)) ∙ ap (λ (d : Payload). verdictNumber (verdict J) (reading d)) (due-by J) ∙ ap answer (judged-by T f l)
+
+-- A release's number, by the own record.
+pub release-answered : (id : ℕ) (l : List Call) → release id l .number ≡ verdictNumber (releaseVerdict (ownOf id l)) 0
+unfolding release stepOf
+release-answered id l = number-by (judgeRelease id l) 0 ∙ ap (λ (v : Verdict). verdictNumber v 0) (released-by id l)
 
 -- Two tables with the same own record and, for INVOKE, as much room get the same judgement but for the slot.
 module _ (T : Table) (f : Frame) (l₁ l₂ : List Call) (same : ownOf (f .correlation) l₁ ≡ ownOf (f .correlation) l₂) (room : f .kind ≡ 1 → full l₁ ≡ full l₂) where
@@ -153,64 +136,57 @@ own-set id l i x h e alone = go (x .«open») refl
         ap (recordAt (set l i x)) r ∙ ap one at
     go false o = ap (recordAt (set l i x)) (none-found (isCall id) (set l i x) (not-there o))
 
--- a frame that goes to an open call: the record is the frame's own call, before and after
-module _ (T : Table) (f : Frame) (l : List Call) (i : ℕ) (c : Call) (w : Going T f l i c) where
-  is-own : isCall (f .correlation) (slot l i) ≡ true
-  is-own = found-passes (isCall (f .correlation)) l i (w .isOwn)
+module _ (T : Table) (id : ℕ) (l : List Call) where
+  -- the record is the own call's
+  is-own : (i : ℕ) (c : Call) → Moves T id l i c → isCall id (slot l i) ≡ true
+  is-own i c w = found-passes (isCall id) l i (w .isOwn)
 
-  going-id : c .«open» ≡ true → c .correlation ≡ f .correlation
-  going-id o =
-      ap (λ (x : Call). x .correlation) (w .isNext)
-      ∙ id-after T (f .kind) (slot l i) (subst (λ (x : Call). x .«open» ≡ true) (w .isNext) o)
-      ∙ call-id (f .correlation) (slot l i) is-own
+  module _ (g : GoodTable T l) where
+    opening-own : (j : ℕ) (c : Call) → Starts T id l j c → ownOf id (set l j c) ≡ kept c
+    opening-own j c w =
+        own-set id l j c (found-in isFree l j (w .lowest)) (λ o. w .fresh)
+        (λ k n. is-false (isCall id (slot l k)) (λ t. clash (isCall id (slot l k)) t (none-passes (isCall id) l 0 (w .notOpen) k (past-end l k (call-open id (slot l k) t)))))
 
-module _ (T : Table) (f : Frame) (l : List Call) (g : GoodTable T l) where
-  abbrev mine : ℕ
-  mine = f .correlation
+    module _ (i : ℕ) (c : Call) (w : Moves T id l i c) where
+      going-alone : (k : ℕ) → (k ≡ i → ⊥) → isCall id (slot l k) ≡ false
+      going-alone k n =
+          let o = is-own i c w in
+          is-false (isCall id (slot l k))
+          (λ t. n (g .differ k i (call-open id (slot l k) t) (call-open id (slot l i) o) (call-id id (slot l k) t ∙ sym (call-id id (slot l i) o))))
 
-  opening-own : (j : ℕ) (c : Call) → Opening T f l j c → ownOf mine (set l j c) ≡ kept c
-  opening-own j c w =
-      own-set mine l j c (found-in isFree l j (w .lowest)) (λ o. ap (λ (x : Call). x .correlation) (w .isNew))
-      (λ k n. is-false (isCall mine (slot l k)) (λ t. clash (isCall mine (slot l k)) t (none-passes (isCall mine) l 0 (w .notOpen) k (past-end l k (call-open mine (slot l k) t)))))
+      going-own : (x : Call) → (x .«open» ≡ true → x .correlation ≡ id) → ownOf id (set l i x) ≡ kept x
+      going-own x e = own-set id l i x (found-in (isCall id) l i (w .isOwn)) e going-alone
 
-  module _ (i : ℕ) (c : Call) (w : Going T f l i c) where
-    going-alone : (k : ℕ) → (k ≡ i → ⊥) → isCall mine (slot l k) ≡ false
-    going-alone k n =
-        is-false (isCall mine (slot l k))
-        (λ t.
-        let o = is-own T f l i c w in
-        n (g .differ k i (call-open mine (slot l k) t) (call-open mine (slot l i) o) (call-id mine (slot l k) t ∙ sym (call-id mine (slot l i) o))))
+    stepped-own : (p : ℕ) {J : Judged} → Fits T id l J → ownOf id (slotsAfter J p l) ≡ verdictOwn (verdict J) p (ownOf id l)
+    stepped-own p (stops n) = refl
+    stepped-own p (opensAt j c d w) = go (eqb p 0)
+      where
+        go : (b : Bool) → ownOf id (cond b (set l j c) l) ≡ cond b (kept c) (ownOf id l)
+        go true = opening-own j c w
+        go false = refl
+    stepped-own p (goesTo i c d w) = go (eqb p 0) (endsCall p)
+      where
+        go : (a b : Bool) → ownOf id (cond a (set l i c) (cond b (set l i emptyCall) l)) ≡ cond a (kept c) (cond b none (ownOf id l))
+        go true b = going-own i c w c (w .same)
+        go false true = going-own i c w emptyCall (λ o. clash false o refl)
+        go false false = refl
 
-    going-own : (x : Call) → (x .«open» ≡ true → x .correlation ≡ mine) → ownOf mine (set l i x) ≡ kept x
-    going-own x e = own-set mine l i x (found-in (isCall mine) l i (w .isOwn)) e going-alone
+-- The own record afterwards, by the judgement without a slot.
+pub own-after : (T : Table) (f : Frame) (l : List Call) → GoodTable T l → (reading : Payload → ℕ) →
+    let v = verdictOf T f (ownOf (f .correlation) l) (full l) in
+    ownOf (f .correlation) (receive T f reading l .table .slots) ≡ verdictOwn v (reading (verdictDue v)) (ownOf (f .correlation) l)
+unfolding receive stepOf
+own-after T f l g reading =
+    let J = judgeOf T f l in
+    let own = ownOf (f .correlation) l in
+    stepped-own T (f .correlation) l g (reading (dueOf J)) (frame-fits T f l)
+    ∙ ap (λ (d : Payload). verdictOwn (verdict J) (reading d) own) (due-by J)
+    ∙ ap (λ (v : Verdict). verdictOwn v (reading (verdictDue v)) own) (judged-by T f l)
 
-  stepped-own : (p : ℕ) (J : Judged) → judgeOf T f l ≡ J → ownOf mine (slotsAfter J p l) ≡ verdictOwn (verdict J) p (ownOf mine l)
-  stepped-own p (Stop n) e = refl
-  stepped-own p (Opens j c d) e = go (eqb p 0)
-    where
-      go : (b : Bool) → ownOf mine (cond b (set l j c) l) ≡ cond b (kept c) (ownOf mine l)
-      go true = opening-own j c (judged-opens T f l j c d e)
-      go false = refl
-  stepped-own p (Goes i c d) e = go (eqb p 0) (endsCall p)
-    where
-      w : Going T f l i c
-      w = judged-goes T f l i c d e
-
-      go : (a b : Bool) → ownOf mine (cond a (set l i c) (cond b (set l i emptyCall) l)) ≡ cond a (kept c) (cond b none (ownOf mine l))
-      go true b = going-own i c w c (going-id T f l i c w)
-      go false true = going-own i c w emptyCall (λ o. clash false o refl)
-      go false false = refl
-
-  -- The own record afterwards, by the judgement without a slot.
-  pub own-after : (reading : Payload → ℕ) →
-      let v = verdictOf T f (ownOf mine l) (full l) in
-      ownOf mine (receive T f reading l .table .slots) ≡ verdictOwn v (reading (verdictDue v)) (ownOf mine l)
-  unfolding receive stepOf
-  own-after reading =
-      let J = judgeOf T f l in
-      stepped-own (reading (dueOf J)) J refl
-      ∙ ap (λ (d : Payload). verdictOwn (verdict J) (reading d) (ownOf mine l)) (due-by J)
-      ∙ ap (λ (v : Verdict). verdictOwn v (reading (verdictDue v)) (ownOf mine l)) (judged-by T f l)
+pub release-own : (T : Table) (id : ℕ) (l : List Call) → GoodTable T l → ownOf id (release id l .table .slots) ≡ verdictOwn (releaseVerdict (ownOf id l)) 0 (ownOf id l)
+unfolding release stepOf
+release-own T id l g =
+    stepped-own T id l g 0 (release-fits T id l) ∙ ap (λ (v : Verdict). verdictOwn v 0 (ownOf id l)) (released-by id l)
 
 -- ---- the other records
 -- a record that is free, or open under id, is open under no other correlation
@@ -231,40 +207,39 @@ other-set k l i x new old = ap (recordAt (set l i x)) (first-set (isCall k) l i 
     go (At j) e =
         ap one (slot-other l i x j (λ q. clash (isCall k (slot l j)) (found-passes (isCall k) l j e) (subst (λ (n : ℕ). isCall k (slot l n) ≡ false) (sym q) old)))
 
-module _ (T : Table) (f : Frame) (l : List Call) where
-  module _ (k : ℕ) (n : k ≡ f .correlation → ⊥) where
-    other-opening : (j : ℕ) (c : Call) → Opening T f l j c → ownOf k (set l j c) ≡ ownOf k l
-    other-opening j c w =
-        let free = not-true (slot l j .«open») (found-passes isFree l j (w .lowest)) in
-        other-set k l j c (not-other k (f .correlation) c n (λ o. ap (λ (x : Call). x .correlation) (w .isNew)))
-        (not-other k (f .correlation) (slot l j) n (λ o. clash (slot l j .«open») o free))
+module _ (T : Table) (id : ℕ) (l : List Call) (k : ℕ) (n : k ≡ id → ⊥) where
+  other-opening : (j : ℕ) (c : Call) → Starts T id l j c → ownOf k (set l j c) ≡ ownOf k l
+  other-opening j c w =
+      let free = not-true (slot l j .«open») (found-passes isFree l j (w .lowest)) in
+      other-set k l j c (not-other k id c n (λ o. w .fresh)) (not-other k id (slot l j) n (λ o. clash (slot l j .«open») o free))
 
-    other-going : (i : ℕ) (c x : Call) → Going T f l i c → (x .«open» ≡ true → x .correlation ≡ f .correlation) → ownOf k (set l i x) ≡ ownOf k l
-    other-going i c x w e =
-        other-set k l i x (not-other k (f .correlation) x n e)
-        (not-other k (f .correlation) (slot l i) n (λ o. call-id (f .correlation) (slot l i) (is-own T f l i c w)))
+  other-going : (i : ℕ) (c x : Call) → Moves T id l i c → (x .«open» ≡ true → x .correlation ≡ id) → ownOf k (set l i x) ≡ ownOf k l
+  other-going i c x w e =
+      other-set k l i x (not-other k id x n e) (not-other k id (slot l i) n (λ o. call-id id (slot l i) (is-own T id l i c w)))
 
-    stepped-other : (p : ℕ) (J : Judged) → judgeOf T f l ≡ J → ownOf k (slotsAfter J p l) ≡ ownOf k l
-    stepped-other p (Stop m) e = refl
-    stepped-other p (Opens j c d) e = go (eqb p 0)
-      where
-        go : (b : Bool) → ownOf k (cond b (set l j c) l) ≡ ownOf k l
-        go true = other-opening j c (judged-opens T f l j c d e)
-        go false = refl
-    stepped-other p (Goes i c d) e = go (eqb p 0) (endsCall p)
-      where
-        w : Going T f l i c
-        w = judged-goes T f l i c d e
+  stepped-other : (p : ℕ) {J : Judged} → Fits T id l J → ownOf k (slotsAfter J p l) ≡ ownOf k l
+  stepped-other p (stops m) = refl
+  stepped-other p (opensAt j c d w) = go (eqb p 0)
+    where
+      go : (b : Bool) → ownOf k (cond b (set l j c) l) ≡ ownOf k l
+      go true = other-opening j c w
+      go false = refl
+  stepped-other p (goesTo i c d w) = go (eqb p 0) (endsCall p)
+    where
+      go : (a b : Bool) → ownOf k (cond a (set l i c) (cond b (set l i emptyCall) l)) ≡ ownOf k l
+      go true b = other-going i c c w (w .same)
+      go false true = other-going i c emptyCall w (λ o. clash false o refl)
+      go false false = refl
 
-        go : (a b : Bool) → ownOf k (cond a (set l i c) (cond b (set l i emptyCall) l)) ≡ ownOf k l
-        go true b = other-going i c c w (going-id T f l i c w)
-        go false true = other-going i c emptyCall w (λ o. clash false o refl)
-        go false false = refl
+-- The record of every other identifier is unchanged.
+pub others-kept : (T : Table) (f : Frame) (l : List Call) (reading : Payload → ℕ) (k : ℕ) → (k ≡ f .correlation → ⊥)
+    → ownOf k (receive T f reading l .table .slots) ≡ ownOf k l
+unfolding receive stepOf
+others-kept T f l reading k n = stepped-other T (f .correlation) l k n (reading (dueOf (judgeOf T f l))) (frame-fits T f l)
 
-  -- The record of every other identifier is unchanged.
-  pub others-kept : (reading : Payload → ℕ) (k : ℕ) → (k ≡ f .correlation → ⊥) → ownOf k (receive T f reading l .table .slots) ≡ ownOf k l
-  unfolding receive stepOf
-  others-kept reading k n = stepped-other k n (reading (dueOf (judgeOf T f l))) (judgeOf T f l) refl
+pub release-others : (T : Table) (id : ℕ) (l : List Call) (k : ℕ) → (k ≡ id → ⊥) → ownOf k (release id l .table .slots) ≡ ownOf k l
+unfolding release stepOf
+release-others T id l k n = stepped-other T id l k n 0 (release-fits T id l)
 
 -- an accepted frame is no refusal
 none-ended : endsCall 0 ≡ false
@@ -292,63 +267,106 @@ module _ (T : Table) (f : Frame) (l : List Call) where
   unfolding receive stepOf
   other-slots reading j h = untouched l (reading (dueOf (judgeOf T f l))) (judgeOf T f l) j h
 
-  -- the slot that a frame touches is free, or open under the frame's correlation
-  touched-own : (J : Judged) → judgeOf T f l ≡ J → (i : ℕ) → touched J ≡ At i → slot l i .«open» ≡ true → slot l i .correlation ≡ f .correlation
-  touched-own (Stop n) e i t o = missing-at i t
-  touched-own (Opens j c d) e i t o =
-      clash (slot l i .«open») o (subst (λ (n : ℕ). slot l n .«open» ≡ false) (at-at j i t) (not-true (slot l j .«open») (found-passes isFree l j (judged-opens T f l j c d e .lowest))))
-  touched-own (Goes j c d) e i t o =
-      subst (λ (n : ℕ). slot l n .correlation ≡ f .correlation) (at-at j i t) (call-id (f .correlation) (slot l j) (is-own T f l j c (judged-goes T f l j c d e)))
+-- the slot that is touched is free, or open under the event's identifier
+touched-own : (T : Table) (id : ℕ) (l : List Call) {J : Judged} → Fits T id l J → (i : ℕ) → touched J ≡ At i → slot l i .«open» ≡ true → slot l i .correlation ≡ id
+touched-own T id l (stops n) i t o = missing-at i t
+touched-own T id l (opensAt j c d w) i t o =
+    clash (slot l i .«open») o (subst (λ (n : ℕ). slot l n .«open» ≡ false) (at-at j i t) (not-true (slot l j .«open») (found-passes isFree l j (w .lowest))))
+touched-own T id l (goesTo j c d w) i t o =
+    subst (λ (n : ℕ). slot l n .correlation ≡ id) (at-at j i t) (call-id id (slot l j) (is-own T id l j c w))
 
-  -- An open slot under another correlation is unchanged.
-  pub open-kept : (reading : Payload → ℕ) (i : ℕ) → slot l i .«open» ≡ true → (slot l i .correlation ≡ f .correlation → ⊥)
-      → slot (receive T f reading l .table .slots) i ≡ slot l i
-  open-kept reading i o n = other-slots reading i (λ t. n (touched-own (judgeOf T f l) refl i t o))
+-- An open slot under another correlation is unchanged.
+pub open-kept : (T : Table) (f : Frame) (l : List Call) (reading : Payload → ℕ) (i : ℕ) → slot l i .«open» ≡ true → (slot l i .correlation ≡ f .correlation → ⊥)
+    → slot (receive T f reading l .table .slots) i ≡ slot l i
+open-kept T f l reading i o n = other-slots T f l reading i (λ t. n (touched-own T (f .correlation) l (frame-fits T f l) i t o))
 
-  -- A new call takes the lowest free slot.
-  pub lowest-free : (j : ℕ) (c : Call) (d : Payload) → judgeOf T f l ≡ Opens j c d →
-      (slot l j .«open» ≡ false) × ((k : ℕ) → k < j → slot l k .«open» ≡ true)
-  lowest-free j c d e =
-      let w = judged-opens T f l j c d e in (
-        not-true (slot l j .«open») (found-passes isFree l j (w .lowest)),
-        λ k h. not-false (slot l k .«open») (found-lowest isFree l j (w .lowest) k h),
-      )
+-- A release changes no slot but its own call's.
+pub release-kept : (id : ℕ) (l : List Call) (i : ℕ) → isCall id (slot l i) ≡ false → slot (release id l .table .slots) i ≡ slot l i
+unfolding release stepOf
+release-kept id l i n = untouched l 0 (judgeRelease id l) i (λ t. clash (isCall id (slot l i)) (go (judgeRelease id l) refl t) n)
+  where
+    go : (J : Judged) → judgeRelease id l ≡ J → touched J ≡ At i → isCall id (slot l i) ≡ true
+    go (Stop m) e t = missing-at i t
+    go (Opens j c d) e t = absurd (released-never id l j c d e)
+    go (Goes j c d) e t =
+        subst (λ (k : ℕ). isCall id (slot l k) ≡ true) (at-at j i t) (found-passes (isCall id) l j (released-goes id l j c d e .isOwn))
 
-  untouched-open : {A : Type 0} (p : ℕ) (J : Judged) (i : ℕ) → (touched J ≡ At i → ⊥) → slot l i .«open» ≡ true → slot (slotsAfter J p l) i .«open» ≡ false → A
-  untouched-open p J i h o q = clash (slot l i .«open») o (subst (λ (x : Call). x .«open» ≡ false) (untouched l p J i h) q)
+-- A new call takes the lowest free slot.
+pub lowest-free : (T : Table) (f : Frame) (l : List Call) (j : ℕ) (c : Call) (d : Payload) → judgeOf T f l ≡ Opens j c d →
+    (slot l j .«open» ≡ false) × ((k : ℕ) → k < j → slot l k .«open» ≡ true)
+lowest-free T f l j c d e =
+    let w = judged-opens T f l j c d e in (
+      not-true (slot l j .«open») (found-passes isFree l j (w .lowest)),
+      λ k h. not-false (slot l k .«open») (found-lowest isFree l j (w .lowest) k h),
+    )
 
-  own-freed : (p i : ℕ) (c : Call) (d : Payload) → Going T f l i c → slot l i .«open» ≡ true → slot (slotsAfter (Goes i c d) p l) i .«open» ≡ false → Freed T f p (slot l i)
-  own-freed p i c d w o q = record { isOwn = is-own T f l i c w; cause = go (eqb p 0) (endsCall p) refl refl q }
+-- ---- what frees a slot
+-- it goes to the call there, and its payload's refusal ends the call or the next record is free
+record Emptied (id : ℕ) (l : List Call) (p : ℕ) (J : Judged) (i : ℕ) : Type 0 where
+  next : Call
+  due : Payload
+  isGoing : J ≡ Goes i next due
+  isOwn : isCall id (slot l i) ≡ true
+  why : (endsCall p ≡ true) ⊎ ((p ≡ 0) × (next .«open» ≡ false))
+
+module _ (T : Table) (id : ℕ) (l : List Call) (i : ℕ) (o : slot l i .«open» ≡ true) where
+  untouched-open : {A : Type 0} (p : ℕ) (J : Judged) → (touched J ≡ At i → ⊥) → slot (slotsAfter J p l) i .«open» ≡ false → A
+  untouched-open p J h q = clash (slot l i .«open») o (subst (λ (x : Call). x .«open» ≡ false) (untouched l p J i h) q)
+
+  own-emptied : (p : ℕ) (c : Call) (d : Payload) → Moves T id l i c → slot (slotsAfter (Goes i c d) p l) i .«open» ≡ false → Emptied id l p (Goes i c d) i
+  own-emptied p c d w q = record { next = c; due = d; isGoing = refl; isOwn = is-own T id l i c w; why = go (eqb p 0) (endsCall p) refl refl q }
     where
-      ended : c .«open» ≡ false → ends (formRow T (slot l i)) (f .kind) (slot l i) ≡ true
-      ended z =
-          ⊎-elim (λ v. v .0) (λ v. clash true refl (subst (λ (x : Call). x .«open» ≡ false) (w .isNext ∙ v .1) z)) (after-cases T (f .kind) (slot l i))
-
       go : (a b : Bool) → eqb p 0 ≡ a → endsCall p ≡ b → slot (cond a (set l i c) (cond b (set l i emptyCall) l)) i .«open» ≡ false →
-          (endsCall p ≡ true) ⊎ ((p ≡ 0) × (ends (formRow T (slot l i)) (f .kind) (slot l i) ≡ true))
-      go true b z y r = inr (eqb-true p 0 z, ended (subst (λ (x : Call). x .«open» ≡ false) (slot-same l i c (past-end l i o)) r))
+          (endsCall p ≡ true) ⊎ ((p ≡ 0) × (c .«open» ≡ false))
+      go true b z y r = inr (eqb-true p 0 z, subst (λ (x : Call). x .«open» ≡ false) (slot-same l i c (past-end l i o)) r)
       go false true z y r = inl y
       go false false z y r = clash (slot l i .«open») o r
 
-  freed-by : (p : ℕ) (J : Judged) → judgeOf T f l ≡ J → (i : ℕ) → slot l i .«open» ≡ true → slot (slotsAfter J p l) i .«open» ≡ false → Freed T f p (slot l i)
-  freed-by p (Stop n) e i o q = clash (slot l i .«open») o q
-  freed-by p (Opens j c d) e i o q =
-      untouched-open p (Opens j c d) i
-      (λ s. clash (slot l i .«open») o (subst (λ (n : ℕ). slot l n .«open» ≡ false) (at-at j i s) (lowest-free j c d e .0))) o q
-  freed-by p (Goes k c d) e i o q =
+  emptied : (p : ℕ) {J : Judged} → Fits T id l J → slot (slotsAfter J p l) i .«open» ≡ false → Emptied id l p J i
+  emptied p (stops n) q = clash (slot l i .«open») o q
+  emptied p (opensAt j c d w) q =
+      untouched-open p (Opens j c d)
+      (λ s. clash (slot l i .«open») o (subst (λ (n : ℕ). slot l n .«open» ≡ false) (at-at j i s) (not-true (slot l j .«open») (found-passes isFree l j (w .lowest))))) q
+  emptied p (goesTo k c d w) q =
       ⊎-elim
       (λ s.
       let z : k ≡ i = sym (eqb-true i k s) in
-      own-freed p i c d (subst (λ (n : ℕ). Going T f l n c) z (judged-goes T f l k c d e)) o
-      (subst (λ (n : ℕ). slot (slotsAfter (Goes n c d) p l) i .«open» ≡ false) z q))
-      (λ s. untouched-open p (Goes k c d) i (λ t. eqb-false i k s (sym (at-at k i t))) o q)
+      subst (λ (n : ℕ). Emptied id l p (Goes n c d) i) (sym z)
+      (own-emptied p c d (subst (λ (n : ℕ). Moves T id l n c) z w) (subst (λ (n : ℕ). slot (slotsAfter (Goes n c d) p l) i .«open» ≡ false) z q)))
+      (λ s. untouched-open p (Goes k c d) (λ t. eqb-false i k s (sym (at-at k i t))) q)
       (cases (eqb i k))
 
-  -- Only a payload refusal, an end or a completion frees a slot, and its own.
-  pub freed : (reading : Payload → ℕ) (i : ℕ) → slot l i .«open» ≡ true → slot (receive T f reading l .table .slots) i .«open» ≡ false →
-      Freed T f (reading (dueOf (judgeOf T f l))) (slot l i)
+-- Only a payload refusal, the completion of the call or ERROR frees a slot, and its own.
+module _ (T : Table) (f : Frame) (l : List Call) (i : ℕ) (o : slot l i .«open» ≡ true) where
+  freed-by : (p : ℕ) → slot (slotsAfter (judgeOf T f l) p l) i .«open» ≡ false → Freed T (frame f) (numberOf (judgeOf T f l) p) (slot l i)
+  freed-by p q =
+      let w = emptied T (f .correlation) l i o p (frame-fits T f l) q in
+      let g = judged-goes T f l i (w .next) (w .due) (w .isGoing) in
+      rw (w .isGoing) (record { isOwn = w .isOwn; cause = ⊎-elim (λ r. refusal f r) (λ r. ended g (r .0) (r .1)) (w .why) })
+    where
+      own : Call
+      own = slot l i
+
+      ended : {c : Call} → Going T f l i c → p ≡ 0 → c .«open» ≡ false → Cause T own (frame f) p
+      ended g z free =
+          rw z
+          (⊎-elim
+          (λ v. ⊎-elim (λ k. error f (eqb-true (f .kind) 7 k)) (completion f) (or-cases (eqb (f .kind) 7) (complete (formRow T own) (marked (f .kind) own)) (v .0)))
+          (λ v. clash true refl (subst (λ (x : Call). x .«open» ≡ false) (g .isNext ∙ v .1) free))
+          (after-cases T (f .kind) own))
+
+  pub freed : (reading : Payload → ℕ) → let r = receive T f reading l in slot (r .table .slots) i .«open» ≡ false → Freed T (frame f) (r .number) (slot l i)
   unfolding receive stepOf
-  freed reading i o q = freed-by (reading (dueOf (judgeOf T f l))) (judgeOf T f l) refl i o q
+  freed reading q = freed-by (reading (dueOf (judgeOf T f l))) q
+
+-- A release frees the slot of its own call alone, and only where that is cancelled.
+pub release-freed : (T : Table) (id : ℕ) (l : List Call) (i : ℕ) → slot l i .«open» ≡ true →
+    let r = release id l in slot (r .table .slots) i .«open» ≡ false → Freed T (event.release id) (r .number) (slot l i)
+unfolding release stepOf
+release-freed T id l i o q =
+    let w = emptied T id l i o 0 (release-fits T id l) q in
+    let g = released-goes id l i (w .next) (w .due) (w .isGoing) in
+    rw (w .isGoing) (record { isOwn = w .isOwn; cause = released id (g .isCancelled) })
 
 -- ---- what changes no call
 same-slots : (T : Table) (f : Frame) (l : List Call) (p : ℕ) (J : Judged) → judgeOf T f l ≡ J → (numberOf J p ≡ 0 → ⊥) →
@@ -364,63 +382,92 @@ pub refused-same : (T : Table) (f : Frame) (reading : Payload → ℕ) (l : List
 unfolding receive stepOf
 refused-same T f reading l h w = same-slots T f l (reading (dueOf (judgeOf T f l))) (judgeOf T f l) refl h w
 
+-- A release that is refused changes none.
+pub release-same : (id : ℕ) (l : List Call) → let r = release id l in (r .number ≡ 0 → ⊥) → r .table .slots ≡ l
+unfolding release stepOf
+release-same id l = go (judgeRelease id l)
+  where
+    go : (J : Judged) → (numberOf J 0 ≡ 0 → ⊥) → slotsAfter J 0 l ≡ l
+    go (Stop n) h = refl
+    go (Opens j c d) h = absurd (h refl)
+    go (Goes i c d) h = absurd (h refl)
+
 -- ---- what ends a call
--- the numbers before the payload end none
-Spares : Judged → Type 0
-Spares (Stop n) = endsCall n ≡ false
-Spares (Opens j c d) = Unit {0}
-Spares (Goes i c d) = Unit {0}
+spared : {n : ℕ} → (8 ≤ n) × (n ≤ 16) → EndsCall n → ⊥
+spared w (payload low high) = omega (arith, w .1, low)
+spared w many-pairs = omega (arith, w .1)
+
+-- a release that is accepted
+gone : (own : Own) → verdictNumber (releaseVerdict own) 0 ≡ 0 → verdictOwn (releaseVerdict own) 0 own ≡ none
+gone none e = absurd (omega arith)
+gone (one c) e = go (c .cancelled) e
+  where
+    go : (b : Bool) → verdictNumber (cond b (goes emptyCall Unread) (stop 14)) 0 ≡ 0 → verdictOwn (cond b (goes emptyCall Unread) (stop 14)) 0 (one c) ≡ none
+    go true z = refl
+    go false z = absurd (omega arith)
+
+pub release-ends : (T : Table) (id : ℕ) (l : List Call) → GoodTable T l → release id l .number ≡ 0 → ownOf id (release id l .table .slots) ≡ none
+release-ends T id l g e = release-own T id l g ∙ gone (ownOf id l) (sym (release-answered id l) ∙ e)
+
+-- the numbers before the payload are 8 to 16
+Spares : Verdict → Type 0
+Spares (stop n) = (8 ≤ n) × (n ≤ 16)
+Spares (opens c d) = Unit {0}
+Spares (goes c d) = Unit {0}
 
 module _ (T : Table) (f : Frame) (l : List Call) where
-  spares-opening : (c : Call) (d : Payload) (i j : Found) → Spares (opensAt c d i j)
-  unfolding Spares endsCall
-  spares-opening c d (At i) j = refl
-  spares-opening c d Missing Missing = refl
-  spares-opening c d Missing (At j) = tt
+  spares-opening : (c : Call) (d : Payload) (own : Own) (b : Bool) → Spares (openVerdict c d own b)
+  unfolding Spares
+  spares-opening c d (one x) b = (lit≤ tt, lit≤ tt)
+  spares-opening c d none true = (lit≤ tt, lit≤ tt)
+  spares-opening c d none false = tt
 
-  spares-invoke : (n : Found) → Spares (judgeInvoke T (f .correlation) n l)
-  unfolding Spares endsCall
-  spares-invoke Missing = refl
-  spares-invoke (At m) =
-      spares-opening (openedCall m (f .correlation)) (payloadOf (methodRow T m) 1) (firstSlot (isCall (f .correlation)) 0 l) (firstSlot isFree 0 l)
+  spares-invoke : (n : Found) (own : Own) (b : Bool) → Spares (invokeVerdict T (f .correlation) n own b)
+  unfolding Spares
+  spares-invoke Missing own b = (lit≤ tt, lit≤ tt)
+  spares-invoke (At m) own b = spares-opening (openedCall m (f .correlation)) (payloadOf (methodRow T m) 1) own b
 
-  spares-other : (n : Found) → Spares (judgeOther T f n l)
-  unfolding Spares endsCall
-  spares-other Missing = refl
-  spares-other (At i) =
-      let c = slot l i in
+  spares-late : (b : Bool) → Spares (stop (cond b 16 14))
+  unfolding Spares
+  spares-late true = (lit≤ tt, lit≤ tt)
+  spares-late false = (lit≤ tt, lit≤ tt)
+
+  spares-other : (own : Own) → Spares (otherVerdict T f own)
+  unfolding Spares
+  spares-other none = (lit≤ tt, lit≤ tt)
+  spares-other (one c) =
       let m = methodRow T (c .method) in
-      go (named (f .«package») (f .service) (f .method) m) (allowed (rowOf (m .form)) (f .kind) c) (afterFrame (rowOf (m .form)) (f .kind) c)
-      (payloadOf m (f .kind))
-    where
-      go : (a b : Bool) (x : Call) (d : Payload) → Spares (cond a (cond b (Goes i x d) (Stop 14)) (Stop 12))
-      go true true x d = tt
-      go true false x d = refl
-      go false b x d = refl
+      let next = goes (afterFrame (rowOf (m .form)) (f .kind) c) (payloadOf m (f .kind)) in
+      let late = stop (notAllowed (f .kind) c) in
+      let may = allowed (rowOf (m .form)) (f .kind) c in
+      cond-case Spares (named (f .«package») (f .service) (f .method) m) (cond may next late) (stop 12)
+      (λ _. cond-case Spares may next late (λ _. tt) (λ _. spares-late (c .cancelled && (leb 4 (f .kind) && leb (f .kind) 7))))
+      (λ _. (lit≤ tt, lit≤ tt))
 
-  spares : Spares (judgeOf T f l)
-  unfolding Spares judgeOf endsCall
-  spares = go (rightSide (f .side) (f .kind)) (eqb (f .kind) 1)
-    where
-      n : Found
-      n = findMethod T (f .«package») (f .service) (f .method)
+  spares-verdict : (own : Own) (b : Bool) → Spares (verdictOf T f own b)
+  unfolding verdictOf Spares
+  spares-verdict own b =
+      let invoke = invokeVerdict T (f .correlation) (findMethod T (f .«package») (f .service) (f .method)) own b in
+      let other = otherVerdict T f own in
+      cond-case Spares (rightSide (f .side) (f .kind)) (cond (eqb (f .kind) 1) invoke other) (stop 8)
+      (λ _. cond-case Spares (eqb (f .kind) 1) invoke other (λ _. spares-invoke (findMethod T (f .«package») (f .service) (f .method)) own b) (λ _. spares-other own))
+      (λ _. (lit≤ tt, lit≤ tt))
 
-      o : Found
-      o = firstSlot (isCall (f .correlation)) 0 l
+  spares : Spares (verdict (judgeOf T f l))
+  spares = rw (judged-by T f l) (spares-verdict (ownOf (f .correlation) l) (full l))
 
-      go : (a b : Bool) → Spares (cond a (cond b (judgeInvoke T (f .correlation) n l) (judgeOther T f o l)) (Stop 8))
-      go true true = spares-invoke n
-      go true false = spares-other o
-      go false b = refl
+  -- A refusal before the payload has a number from 8 to 16.
+  pub stop-number : (n : ℕ) → judgeOf T f l ≡ Stop n → (8 ≤ n) × (n ≤ 16)
+  unfolding Spares
+  stop-number n e = subst (λ (J : Judged). Spares (verdict J)) e spares
 
   module _ (g : GoodTable T l) (other : f .kind ≡ 1 → ⊥) where
     ended-own : (p : ℕ) (J : Judged) → judgeOf T f l ≡ J → endsCall (numberOf J p) ≡ true → ownOf (f .correlation) (slotsAfter J p l) ≡ none
-    unfolding Spares
-    ended-own p (Stop n) e t = let h : endsCall n ≡ false = subst Spares e spares in clash (endsCall n) t h
+    ended-own p (Stop n) e t = absurd (spared (stop-number n e) (ends-iff n .0 t))
     ended-own p (Opens j c d) e t = absurd (other (judged-opens T f l j c d e .isInvoke))
     ended-own p (Goes i c d) e t =
         let z : eqb p 0 ≡ false = ne-eqb p 0 (λ q. clash (endsCall p) t (rw q none-ended)) in
-        stepped-own T f l g p (Goes i c d) e ∙ rw (z, t)
+        stepped-own T (f .correlation) l g p (subst (Fits T (f .correlation) l) e (frame-fits T f l)) ∙ rw (z, t)
 
     -- A payload refusal ends the open call.
     pub refused-ends : (reading : Payload → ℕ) →
@@ -428,6 +475,111 @@ module _ (T : Table) (f : Frame) (l : List Call) where
         endsCall (r .number) ≡ true → ownOf (f .correlation) (r .table .slots) ≡ none
     unfolding receive stepOf
     refused-ends reading t = ended-own (reading (dueOf (judgeOf T f l))) (judgeOf T f l) refl t
+
+-- ---- a cancelled call
+
+-- An accepted CANCEL sets the mark of its call in its slot, and changes nothing else.
+pub cancel-marked : (T : Table) (f : Frame) (l : List Call) → GoodTable T l → f .kind ≡ 8 → (reading : Payload → ℕ) →
+    let r = receive T f reading l in
+    r .number ≡ 0 → (i : ℕ) → isCall (f .correlation) (slot l i) ≡ true → r .table .slots ≡ set l i (withMark true (slot l i))
+unfolding receive stepOf
+cancel-marked T f l g k reading z i t = go (judgeOf T f l) refl z
+  where
+    id : ℕ
+    id = f .correlation
+
+    own : Call
+    own = slot l i
+
+    row : FormRow
+    row = formRow T own
+
+    uncancelled : allowed row 8 own ≡ true → own .cancelled ≡ false
+    uncancelled a = is-false (own .cancelled) (λ q. clash false (rw q at a) refl)
+
+    next : own .cancelled ≡ false → afterFrame row 8 own ≡ withMark true own
+    next q =
+        let e = cancel-marks own q in
+        ⊎-elim
+        (λ w. clash (complete row own) (subst (λ (c : Call). complete row c ≡ true) e (w .0)) (g .calls i (call-open id own t) .notComplete))
+        (λ w. w .1 ∙ e)
+        (after-cases T 8 own)
+
+    marks : (c : Call) (d : Payload) → Going T f l i c → reading d ≡ 0 → slotsAfter (Goes i c d) (reading d) l ≡ set l i (withMark true own)
+    marks c d w e =
+        let now : c ≡ afterFrame row 8 own = rw k at (w .isNext) in
+        rw e (ap (set l i) (now ∙ next (uncancelled (rw k at (w .isAllowed)))))
+
+    go : (J : Judged) → judgeOf T f l ≡ J → numberOf J (reading (dueOf J)) ≡ 0 → slotsAfter J (reading (dueOf J)) l ≡ set l i (withMark true own)
+    go (Stop n) e q = absurd (omega (arith, stop-number T f l n e .0, q))
+    go (Opens j c d) e q = absurd (omega (arith, k, judged-opens T f l j c d e .isInvoke))
+    go (Goes j c d) e q =
+        let w = judged-goes T f l j c d e in
+        let o = found-passes (isCall id) l j (w .isOwn) in
+        let same : j ≡ i = g .differ j i (call-open id (slot l j) o) (call-open id own t) (call-id id (slot l j) o ∙ sym (call-id id own t)) in
+        subst (λ (n : ℕ). slotsAfter (Goes n c d) (reading d) l ≡ set l i (withMark true own)) (sym same) (marks c d (subst (λ (n : ℕ). Going T f l n c) same w) q)
+
+-- It frees none.
+pub cancel-frees-none : (T : Table) (f : Frame) (l : List Call) → GoodTable T l → f .kind ≡ 8 → (reading : Payload → ℕ) →
+    let r = receive T f reading l in r .number ≡ 0 → (i : ℕ) → slot l i .«open» ≡ true → slot (r .table .slots) i .«open» ≡ true
+cancel-frees-none T f l g k reading z i o =
+    let own = slot l i in
+    ⊎-elim
+    (λ q.
+    let e = cancel-marked T f l g k reading z i (is-call (f .correlation) own o (eqb-true (own .correlation) (f .correlation) q)) in
+    subst (λ (c : Call). c .«open» ≡ true) (sym (ap (λ (x : List Call). slot x i) e ∙ slot-same l i (withMark true own) (past-end l i o))) refl)
+    (λ q. subst (λ (c : Call). c .«open» ≡ true) (sym (open-kept T f l reading i o (eqb-false (own .correlation) (f .correlation) q))) o)
+    (cases (eqb (own .correlation) (f .correlation)))
+
+-- the payload of ERROR is not read
+error-payload : (m : Method) (kind : ℕ) → kind ≡ 7 → payloadOf m kind ≡ Unread
+unfolding payloadOf
+error-payload m kind e = rw e
+
+error-due : (T : Table) (f : Frame) (own : Own) (b : Bool) → f .kind ≡ 7 → verdictDue (verdictOf T f own b) ≡ Unread
+unfolding verdictOf
+error-due T f own b e = go (rightSide (f .side) (f .kind)) (eqb (f .kind) 1) (ne-eqb (f .kind) 1 (λ z. omega arith)) own
+  where
+    call : (a b : Bool) (x : Call) (d : Payload) (n : ℕ) → d ≡ Unread → verdictDue (cond a (cond b (goes x d) (stop n)) (stop 12)) ≡ Unread
+    call true true x d n h = h
+    call true false x d n h = refl
+    call false b x d n h = refl
+
+    other : (own : Own) → verdictDue (otherVerdict T f own) ≡ Unread
+    other none = refl
+    other (one c) =
+        let m = methodRow T (c .method) in
+        call (named (f .«package») (f .service) (f .method) m) (allowed (rowOf (m .form)) (f .kind) c) (afterFrame (rowOf (m .form)) (f .kind) c)
+        (payloadOf m (f .kind)) (notAllowed (f .kind) c) (error-payload m (f .kind) e)
+
+    go : (a q : Bool) → q ≡ false → (own : Own) →
+        verdictDue (cond a (cond q (invokeVerdict T (f .correlation) (findMethod T (f .«package») (f .service) (f .method)) own b) (otherVerdict T f own)) (stop 8)) ≡ Unread
+    go true true z own = clash false (sym z) refl
+    go true false z own = other own
+    go false q z own = refl
+
+pub error-unread : (T : Table) (f : Frame) (l : List Call) → f .kind ≡ 7 → dueOf (judgeOf T f l) ≡ Unread
+error-unread T f l k =
+    let J = judgeOf T f l in due-by J ∙ ap verdictDue (judged-by T f l) ∙ error-due T f (ownOf (f .correlation) l) (full l) k
+
+-- Of frames only its ERROR, accepted, frees the slot of a cancelled call.
+module _ (T : Table) (f : Frame) (l : List Call) (i : ℕ) (o : slot l i .«open» ≡ true) (late : slot l i .cancelled ≡ true) where
+  is-error : allowed (formRow T (slot l i)) (f .kind) (slot l i) ≡ true → f .kind ≡ 7
+  is-error a = ⊎-elim (eqb-true (f .kind) 7) (λ q. clash false (rw late at q) refl) (or-cases (eqb (f .kind) 7) _ a)
+
+  freed-late : (reading : Payload → ℕ) → reading Unread ≡ 0 → (J : Judged) → judgeOf T f l ≡ J → Emptied (f .correlation) l (reading (dueOf J)) J i
+      → (isCall (f .correlation) (slot l i) ≡ true) × (f .kind ≡ 7) × (numberOf J (reading (dueOf J)) ≡ 0)
+  freed-late reading z J e w =
+      let going : judgeOf T f l ≡ Goes i (w .next) (w .due) = e ∙ w .isGoing in
+      let k = is-error (judged-goes T f l i (w .next) (w .due) going .isAllowed) in
+      let due : w .due ≡ Unread = sym (ap dueOf going) ∙ error-unread T f l k in
+      (w .isOwn, k, ap (λ (x : Judged). numberOf x (reading (dueOf x))) (w .isGoing) ∙ ap reading due ∙ z)
+
+  pub cancelled-freed : (reading : Payload → ℕ) → reading Unread ≡ 0 → let r = receive T f reading l in
+      slot (r .table .slots) i .«open» ≡ false → (isCall (f .correlation) (slot l i) ≡ true) × (f .kind ≡ 7) × (r .number ≡ 0)
+  unfolding receive stepOf
+  cancelled-freed reading z q =
+      let J = judgeOf T f l in freed-late reading z J refl (emptied T (f .correlation) l i o (reading (dueOf J)) (frame-fits T f l) q)
 
 -- ---- no slot is free exactly where every record is open
 few-open : (l : List Call) → countOpen l ≤ length l

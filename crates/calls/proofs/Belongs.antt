@@ -71,12 +71,12 @@ module _ (T : Table) (few : length (T .types) ≤ 256) (m : Method) (g : GoodMet
   -- a frame that may come
   pub payload-belongs : (h : List ℕ) {kind : ℕ} → MayCome (m .form) h kind → Belongs m kind (payloadOf m kind)
   unfolding payloadOf
-  payload-belongs h (order.inStream y q) = rw (typed-yes (m .form / 2 % 2) (m .«input_stream») (g .inputStream) (eqb-true _ 1 y)) (inStream y)
-  payload-belongs h (order.inClose y q) = inClose
-  payload-belongs h (order.outStream y q r) =
+  payload-belongs h (order.inStream n y q) = rw (typed-yes (m .form / 2 % 2) (m .«input_stream») (g .inputStream) (eqb-true _ 1 y)) (inStream y)
+  payload-belongs h (order.inClose n y q) = inClose
+  payload-belongs h (order.outStream n y q r) =
       let one : m .form % 2 ≡ 1 = omega (arith, eqb-true (m .form / 1 % 2) 1 y) in
       rw (typed-yes (m .form % 2) (m .«output_stream») (g .outputStream) one) (outStream y)
-  payload-belongs h (order.outClose y q r) = outClose
-  payload-belongs h (order.response q) = lettered (m .form / 4 % 2) (m .output) 6 (omega arith) (g .output) output noOutput
+  payload-belongs h (order.outClose n y q r) = outClose
+  payload-belongs h (order.response n q) = lettered (m .form / 4 % 2) (m .output) 6 (omega arith) (g .output) output noOutput
   payload-belongs h order.error = error
-  payload-belongs h order.cancel = cancel
+  payload-belongs h (order.cancel n) = cancel

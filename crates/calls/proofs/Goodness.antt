@@ -19,9 +19,9 @@ use Rattle.schema.proofs.Bools.{cases, clash, and-i, and-left, and-right, or-ri
 use Rattle.calls.proofs.Bools.{imp-i, imp-e}
 
 -- ---- one record
-members : (a b : ℕ) (o r i u : Bool) → a ≡ 0 → b ≡ 0 → o ≡ false → r ≡ false → i ≡ false → u ≡ false →
-    record { correlation = a; method = b; «open» = o; responded = r; «input_closed» = i; «output_closed» = u } ≡ emptyCall
-members a b o r i u p q s t v w = rw (p, q, s, t, v, w)
+members : (a b : ℕ) (o r i u x : Bool) → a ≡ 0 → b ≡ 0 → o ≡ false → r ≡ false → i ≡ false → u ≡ false → x ≡ false →
+    record { correlation = a; method = b; «open» = o; responded = r; «input_closed» = i; «output_closed» = u; cancelled = x } ≡ emptyCall
+members a b o r i u x p q s t v w y = rw (p, q, s, t, v, w, y)
 
 zero-is : (c : Call) → c .«open» ≡ false → zeroCall c ≡ true → c ≡ emptyCall
 zero-is c o z =
@@ -30,12 +30,15 @@ zero-is c o z =
     let r = not (c .responded) in
     let i = not (c .«input_closed») in
     let u = not (c .«output_closed») in
-    let z₁ = and-right id (m && (r && (i && u))) z in
-    let z₂ = and-right m (r && (i && u)) z₁ in
-    let z₃ = and-right r (i && u) z₂ in
-    members (c .correlation) (c .method) (c .«open») (c .responded) (c .«input_closed») (c .«output_closed»)
-    (eqb-true (c .correlation) 0 (and-left id (m && (r && (i && u))) z)) (eqb-true (c .method) 0 (and-left m (r && (i && u)) z₁)) o
-    (not-true (c .responded) (and-left r (i && u) z₂)) (not-true (c .«input_closed») (and-left i u z₃)) (not-true (c .«output_closed») (and-right i u z₃))
+    let x = not (c .cancelled) in
+    let z₁ = and-right id (m && (r && (i && (u && x)))) z in
+    let z₂ = and-right m (r && (i && (u && x))) z₁ in
+    let z₃ = and-right r (i && (u && x)) z₂ in
+    let z₄ = and-right i (u && x) z₃ in
+    members (c .correlation) (c .method) (c .«open») (c .responded) (c .«input_closed») (c .«output_closed») (c .cancelled)
+    (eqb-true (c .correlation) 0 (and-left id (m && (r && (i && (u && x)))) z)) (eqb-true (c .method) 0 (and-left m (r && (i && (u && x))) z₁)) o
+    (not-true (c .responded) (and-left r (i && (u && x)) z₂)) (not-true (c .«input_closed») (and-left i (u && x) z₃))
+    (not-true (c .«output_closed») (and-left u x z₄)) (not-true (c .cancelled) (and-right u x z₄))
 
 module _ (T : Table) (c : Call) where
   abbrev row : FormRow

@@ -1,4 +1,4 @@
--- A step keeps a good table good, and its number of slots.
+-- A step keeps a good table good, and its number of slots: of a frame and of a release, by what their judgements have in common.
 -- Assumes nothing.
 use mathlib.Core.Path.{_≡_, refl, sym, _∙_, ap, subst}
 use mathlib.Core.Logic.{_⊎_, inl, inr, ⊎-elim}
@@ -6,7 +6,7 @@ use mathlib.Core.Bool.{Bool, true, false, not, cond, _&&_, _||_}
 use mathlib.Core.List.{List}
 use Prim.Native.Nat.{ℕ, _<_}
 use lib.ListN.{length, set, length-set}
-use lib.Dec.{eqb, leb}
+use lib.Dec.{eqb}
 use borrow.Author.Tests.{eqb-true, eqb-false, eq-eqb}
 use Rattle.schema.specs.Table.{Table}
 use Rattle.calls.specs.declared.Call.{Call}
@@ -17,15 +17,16 @@ use Rattle.calls.specs.declared.Judged.{Judged}
 use Rattle.calls.specs.declared.Judged.the-variants.{Stop, Opens, Goes}
 use Rattle.calls.specs.Numbers.{endsCall}
 use Rattle.calls.specs.Record.{emptyCall, openedCall, isCall, isFree, complete, allowed, marked, ends, afterFrame}
-use Rattle.calls.specs.Slots.{slot, formRow, goodTable}
-use Rattle.calls.specs.Judge.{judgeOf}
-use Rattle.calls.specs.Step.{slotsAfter, stepOf, dueOf, receive}
+use Rattle.calls.specs.Slots.{slot, firstSlot, formRow, goodTable}
+use Rattle.calls.specs.Judge.{judgeOf, judgeRelease}
+use Rattle.calls.specs.Step.{slotsAfter, stepOf, dueOf, receive, release}
 use Rattle.calls.specs.Good.{GoodCall, GoodTable}
-use Rattle.schema.proofs.Bools.{cases, clash, and-i, and-left, and-right, or-left, or-cases, or-false}
+use Rattle.schema.specs.declared.Found.the-variants.{At, Missing}
+use Rattle.schema.proofs.Bools.{cases, clash, and-i, and-left, and-right, or-left, or-cases, or-none, or-false}
 use Rattle.schema.proofs.Methods.{found-named}
 use Rattle.calls.proofs.Searches.{found-in, found-passes, none-passes, slot-same, slot-other, past-end}
 use Rattle.calls.proofs.Goodness.{good-clauses, good-test}
-use Rattle.calls.proofs.Judgement.{Opening, Going, judged-opens, judged-goes}
+use Rattle.calls.proofs.Judgement.{judged-opens, judged-goes, released-goes, released-never}
 
 -- ---- one record changed
 -- the slot changed, or another
@@ -98,19 +99,21 @@ good-opened T m id h =
 -- what `allowed` asks of the two closes
 module _ (row : FormRow) (c : Call) where
   in-close : allowed row 3 c ≡ true → row .1 ≡ true
-  in-close a = go (row .1) a
+  in-close a = go (c .cancelled) (row .1) a
     where
-      go : (b : Bool) → ((b && not (c .«input_closed»)) || false) ≡ true → b ≡ true
-      go true h = refl
-      go false h = h
+      go : (x b : Bool) → (not x && ((b && not (c .«input_closed»)) || false)) ≡ true → b ≡ true
+      go true b h = clash false h refl
+      go false true h = refl
+      go false false h = h
 
   out-close : allowed row 5 c ≡ true → (row .3 && c .responded) ≡ true
-  out-close a = go (row .3) (c .responded) a
+  out-close a = go (c .cancelled) (row .3) (c .responded) a
     where
-      go : (b d : Bool) → ((b && (d && not (c .«output_closed»))) || false) ≡ true → (b && d) ≡ true
-      go true true h = refl
-      go true false h = h
-      go false d h = h
+      go : (x b d : Bool) → (not x && ((b && (d && not (c .«output_closed»))) || false)) ≡ true → (b && d) ≡ true
+      go true b d h = clash false h refl
+      go false true true h = refl
+      go false true false h = h
+      go false false d h = h
 
 module _ (T : Table) (kind : ℕ) (c : Call) where
   abbrev row : FormRow
@@ -143,7 +146,7 @@ module _ (T : Table) (kind : ℕ) (c : Call) where
       go : (b : Bool) → ends row kind c ≡ b →
           ((b ≡ true) × (cond b emptyCall (marked kind c) ≡ emptyCall)) ⊎ ((complete row (marked kind c) ≡ false) × (cond b emptyCall (marked kind c) ≡ marked kind c))
       go true e = inl (refl, refl)
-      go false e = inr (or-false (leb 7 kind) (complete row (marked kind c)) e .1, refl)
+      go false e = inr (or-false (eqb kind 7) (complete row (marked kind c)) e .1, refl)
 
   good-after : GoodCall T c → allowed row kind c ≡ true → next .«open» ≡ true → GoodCall T next
   good-after g a o =
@@ -172,46 +175,99 @@ call-id id c h = eqb-true (c .correlation) id (and-right (c .«open») (eqb (c .
 pub is-call : (id : ℕ) (c : Call) → c .«open» ≡ true → c .correlation ≡ id → isCall id c ≡ true
 is-call id c o e = and-i (c .«open») (eqb (c .correlation) id) o (eq-eqb (c .correlation) id e)
 
-module _ (T : Table) (f : Frame) (l : List Call) (g : GoodTable T l) where
-  good-opening : (j : ℕ) (c : Call) → Opening T f l j c → GoodTable T (set l j c)
+-- What a judgement about the call under the identifier id may be: it stops with a number that ends no call; it opens a call at the lowest free slot; or
+-- it goes to the open call, whose next record keeps the identifier and is good, or is the empty one.
+module _ (T : Table) (id : ℕ) (l : List Call) where
+  pub record Starts (j : ℕ) (c : Call) : Type 0 where
+    pub fresh : c .correlation ≡ id
+    pub good : c .«open» ≡ true → GoodCall T c
+    pub zero : c .«open» ≡ false → c ≡ emptyCall
+    pub notOpen : firstSlot (isCall id) 0 l ≡ Missing
+    pub lowest : firstSlot isFree 0 l ≡ At j
+
+  pub record Moves (i : ℕ) (c : Call) : Type 0 where
+    pub isOwn : firstSlot (isCall id) 0 l ≡ At i
+    pub same : c .«open» ≡ true → c .correlation ≡ id
+    pub good : GoodCall T (slot l i) → c .«open» ≡ true → GoodCall T c
+    pub zero : c .«open» ≡ false → c ≡ emptyCall
+
+  pub data Fits : Judged → Type 0 where
+    stops : (n : ℕ) → Fits (Stop n)
+    opens : (j : ℕ) (c : Call) (d : Payload) → Starts j c → Fits (Opens j c d)
+    goes : (i : ℕ) (c : Call) (d : Payload) → Moves i c → Fits (Goes i c d)
+
+pub frame-fits : (T : Table) (f : Frame) (l : List Call) → Fits T (f .correlation) l (judgeOf T f l)
+frame-fits T f l = go (judgeOf T f l) refl
+  where
+    id : ℕ
+    id = f .correlation
+
+    go : (J : Judged) → judgeOf T f l ≡ J → Fits T id l J
+    go (Stop n) e = stops n
+    go (Opens j c d) e =
+        let w = judged-opens T f l j c d e in
+        let known = found-named T (f .«package») (f .service) (f .method) (w .method) (w .isMethod) .0 in
+        opens j c d
+        (record {
+          fresh = ap (λ (x : Call). x .correlation) (w .isNew);
+          good = λ o. subst (λ (x : Call). GoodCall T x) (sym (w .isNew)) (good-opened T (w .method) id known);
+          zero = λ o. clash true refl (subst (λ (x : Call). x .«open» ≡ false) (w .isNew) o);
+          notOpen = w .notOpen;
+          lowest = w .lowest;
+        })
+    go (Goes i c d) e =
+        let w = judged-goes T f l i c d e in
+        let own = slot l i in
+        let here = found-passes (isCall id) l i (w .isOwn) in
+        let open-next : c .«open» ≡ true → afterFrame (formRow T own) (f .kind) own .«open» ≡ true = λ o. subst (λ (x : Call). x .«open» ≡ true) (w .isNext) o in
+        goes i c d
+        (record {
+          isOwn = w .isOwn;
+          same = λ o. ap (λ (x : Call). x .correlation) (w .isNext) ∙ id-after T (f .kind) own (open-next o) ∙ call-id id own here;
+          good = λ g o. subst (λ (x : Call). GoodCall T x) (sym (w .isNext)) (good-after T (f .kind) own g (w .isAllowed) (open-next o));
+          zero = λ o. w .isNext ∙ zero-after T (f .kind) own (subst (λ (x : Call). x .«open» ≡ false) (w .isNext) o);
+        })
+
+pub release-fits : (T : Table) (id : ℕ) (l : List Call) → Fits T id l (judgeRelease id l)
+release-fits T id l = go (judgeRelease id l) refl
+  where
+    go : (J : Judged) → judgeRelease id l ≡ J → Fits T id l J
+    go (Stop n) e = stops n
+    go (Opens j c d) e = absurd (released-never id l j c d e)
+    go (Goes i c d) e =
+        let w = released-goes id l i c d e in
+        let never : c .«open» ≡ true → ⊥ = λ o. clash false (subst (λ (x : Call). x .«open» ≡ true) (w .isNext) o) refl in
+        goes i c d (record { isOwn = w .isOwn; same = λ o. absurd (never o); good = λ g o. absurd (never o); zero = λ o. w .isNext })
+
+module _ (T : Table) (id : ℕ) (l : List Call) (g : GoodTable T l) where
+  good-opening : (j : ℕ) (c : Call) → Starts T id l j c → GoodTable T (set l j c)
   good-opening j c w =
-      let id = f .correlation in
-      let h = found-in isFree l j (w .lowest) in
-      subst (λ (x : Call). GoodTable T (set l j x)) (sym (w .isNew))
-      (good-set T l g j h (openedCall (w .method) id)
-      (λ o. good-opened T (w .method) id (found-named T (f .«package») (f .service) (f .method) (w .method) (w .isMethod) .0))
-      (λ o. clash true refl o)
-      (λ o k n p e. clash (isCall id (slot l k)) (is-call id (slot l k) p e) (none-passes (isCall id) l 0 (w .notOpen) k (past-end l k p))))
+      good-set T l g j (found-in isFree l j (w .lowest)) c (w .good) (w .zero)
+      (λ o k n p e. clash (isCall id (slot l k)) (is-call id (slot l k) p (e ∙ w .fresh)) (none-passes (isCall id) l 0 (w .notOpen) k (past-end l k p)))
 
   good-ended : (i : ℕ) → i < length l → GoodTable T (set l i emptyCall)
   good-ended i h = good-set T l g i h emptyCall (λ o. clash false o refl) (λ o. refl) (λ o. clash false o refl)
 
-  good-going : (i : ℕ) (c : Call) → Going T f l i c → GoodTable T (set l i c)
+  good-going : (i : ℕ) (c : Call) → Moves T id l i c → GoodTable T (set l i c)
   good-going i c w =
       let own = slot l i in
-      let h = found-in (isCall (f .correlation)) l i (w .isOwn) in
-      let o = call-open (f .correlation) own (found-passes (isCall (f .correlation)) l i (w .isOwn)) in
-      subst (λ (x : Call). GoodTable T (set l i x)) (sym (w .isNext))
-      (good-set T l g i h (afterFrame (formRow T own) (f .kind) own)
-      (good-after T (f .kind) own (g .calls i o) (w .isAllowed))
-      (zero-after T (f .kind) own)
-      (λ q k n p e. n (g .differ k i p o (e ∙ id-after T (f .kind) own q))))
+      let here = found-passes (isCall id) l i (w .isOwn) in
+      let o = call-open id own here in
+      good-set T l g i (found-in (isCall id) l i (w .isOwn)) c (w .good (g .calls i o)) (w .zero)
+      (λ q k n p e. n (g .differ k i p o (e ∙ w .same q ∙ sym (call-id id own here))))
 
-  good-step : (p : ℕ) (J : Judged) → judgeOf T f l ≡ J → GoodTable T (slotsAfter J p l)
-  good-step p (Stop n) e = g
-  good-step p (Opens j c d) e = go (eqb p 0)
+  good-step : (p : ℕ) {J : Judged} → Fits T id l J → GoodTable T (slotsAfter J p l)
+  good-step p (stops n) = g
+  good-step p (opens j c d w) = go (eqb p 0)
     where
       go : (b : Bool) → GoodTable T (cond b (set l j c) l)
-      go true = good-opening j c (judged-opens T f l j c d e)
+      go true = good-opening j c w
       go false = g
-  good-step p (Goes i c d) e = go (eqb p 0) (endsCall p)
+  good-step p (goes i c d w) = go (eqb p 0) (endsCall p)
     where
-      w : Going T f l i c
-      w = judged-goes T f l i c d e
-
       go : (b q : Bool) → GoodTable T (cond b (set l i c) (cond q (set l i emptyCall) l))
       go true q = good-going i c w
-      go false true = good-ended i (found-in (isCall (f .correlation)) l i (w .isOwn))
+      go false true = good-ended i (found-in (isCall id) l i (w .isOwn))
       go false false = g
 
 slots-length : (p : ℕ) (J : Judged) (l : List Call) → length (slotsAfter J p l) ≡ length l
@@ -232,7 +288,7 @@ slots-length p (Goes i c d) l = go (eqb p 0) (endsCall p)
 module _ (T : Table) (f : Frame) (reading : Payload → ℕ) (l : List Call) where
   pub stays-good : GoodTable T l → GoodTable T (receive T f reading l .table .slots)
   unfolding receive stepOf
-  stays-good g = good-step T f l g (reading (dueOf (judgeOf T f l))) (judgeOf T f l) refl
+  stays-good g = good-step T (f .correlation) l g (reading (dueOf (judgeOf T f l))) (frame-fits T f l)
 
   pub test-stays : goodTable T l ≡ true → goodTable T (receive T f reading l .table .slots) ≡ true
   test-stays g = good-test T (receive T f reading l .table .slots) (stays-good (good-clauses T l g))
@@ -240,3 +296,16 @@ module _ (T : Table) (f : Frame) (reading : Payload → ℕ) (l : List Call) whe
   pub stays-long : length (receive T f reading l .table .slots) ≡ length l
   unfolding receive stepOf
   stays-long = slots-length (reading (dueOf (judgeOf T f l))) (judgeOf T f l) l
+
+-- so does a release
+module _ (T : Table) (id : ℕ) (l : List Call) where
+  pub release-good : GoodTable T l → GoodTable T (release id l .table .slots)
+  unfolding release stepOf
+  release-good g = good-step T id l g 0 (release-fits T id l)
+
+  pub release-test : goodTable T l ≡ true → goodTable T (release id l .table .slots) ≡ true
+  release-test g = good-test T (release id l .table .slots) (release-good (good-clauses T l g))
+
+pub release-long : (id : ℕ) (l : List Call) → length (release id l .table .slots) ≡ length l
+unfolding release stepOf
+release-long id l = slots-length 0 (judgeRelease id l) l

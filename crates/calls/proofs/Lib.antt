@@ -7,6 +7,7 @@ pub mod Sides
 pub mod Used
 pub mod Searches
 pub mod Goodness
+pub mod Cancelled
 pub mod Judgement
 pub mod Kept
 pub mod Apart

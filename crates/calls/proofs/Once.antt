@@ -1,6 +1,6 @@
 -- The order rules say one thing of a frame: what each rule decides, it decides alone.
 -- Assumes nothing.
-use mathlib.Core.Path.{_≡_, refl, sym, _∙_, ap}
+use mathlib.Core.Path.{_≡_, refl, sym, _∙_, ap, subst}
 use mathlib.Core.Bool.{Bool, true, false}
 use mathlib.Core.List.{List}
 use Prim.Native.Nat.{ℕ}
@@ -13,9 +13,25 @@ use Rattle.calls.specs.declared.Frame.{Frame}
 use Rattle.calls.specs.declared.Payload.{Payload}
 use Rattle.calls.specs.Judge.{rightSide}
 use Rattle.calls.specs.Belongs.{Belongs}
-use Rattle.calls.specs.Order.{MayCome, Past, closed, since, Ruling, refused, comes, same, Ruled, wrongSide, unknown, already, noRoom, opens, notOpen, differ, notNow, goes}
+use Rattle.calls.specs.Order.{MayCome, inStream, inClose, outStream, outClose, response, error, cancel, Crosses, cancelled}
+use Rattle.calls.specs.Order.{Past, closed, since, Ruling, refused, comes, same, Ruled, wrongSide, unknown, already, noRoom, opens, notOpen, differ, notNow, dropped, goes}
+use Rattle.calls.specs.Order.{Releases, noCall, notCancelled, released}
 use Rattle.calls.proofs.Searches.{missing-at, at-missing}
 use Rattle.calls.proofs.Belongs.{belongs-once}
+
+-- of a cancelled call only ERROR may come
+pub may-not : {form kind : ℕ} {h : List ℕ} → cancelled h ≡ true → (kind ≡ 7 → ⊥) → MayCome form h kind → ⊥
+may-not {h = h} c e (inStream n p q) = clash (cancelled h) c n
+may-not {h = h} c e (inClose n p q) = clash (cancelled h) c n
+may-not {h = h} c e (outStream n p q r) = clash (cancelled h) c n
+may-not {h = h} c e (outClose n p q r) = clash (cancelled h) c n
+may-not {h = h} c e (response n q) = clash (cancelled h) c n
+may-not {h = h} c e error = e refl
+may-not {h = h} c e (cancel n) = clash (cancelled h) c n
+
+-- what crosses our cancel may not come
+apart : {form kind : ℕ} {h : List ℕ} → MayCome form h kind → Crosses h kind → ⊥
+apart m x = may-not (x .isCancelled) (x .noError) m
 
 module _ (T : Table) (f : Frame) (full : Bool) where
   abbrev right : Bool
@@ -36,9 +52,14 @@ module _ (T : Table) (f : Frame) (full : Bool) where
   abbrev Following : (past : Past) → Ruling → Type 0
   Following closed r = r ≡ refused 11
   Following (since m h) r =
-      (same T f full m ≡ false → r ≡ refused 12)
-      × (same T f full m ≡ true → (May m h → ⊥) → r ≡ refused 14)
-      × (same T f full m ≡ true → May m h → (d : Payload) → Belongs (methodRow T m) (f .kind) d → r ≡ comes d)
+      (same T f m ≡ false → r ≡ refused 12)
+      × (same T f m ≡ true → (May m h → ⊥) → (Crosses h (f .kind) → ⊥) → r ≡ refused 14)
+      × (same T f m ≡ true → May m h → (d : Payload) → Belongs (methodRow T m) (f .kind) d → r ≡ comes d)
+      × (same T f m ≡ true → Crosses h (f .kind) → r ≡ refused 16)
+
+  -- INVOKE is the client's
+  other-kind : {h : List ℕ} → Crosses h (f .kind) → f .kind ≡ 1 → ⊥
+  other-kind x k = clash false (subst (λ (n : ℕ). rightSide 83 n ≡ true) k (x .fromServer)) refl
 
   -- the ruling, rule by rule
   record Decided (past : Past) (r : Ruling) : Type 0 where
@@ -75,21 +96,28 @@ module _ (T : Table) (f : Frame) (full : Bool) where
         wrong = λ z. clash right s z;
         missing = λ _ k _. absurd (o k);
         opening = λ _ k _ _. absurd (o k);
-        following = λ _ _. (λ _. refl, λ t. clash (same T f full m) t d, λ t. clash (same T f full m) t d);
+        following = λ _ _. (λ _. refl, λ t. clash (same T f m) t d, λ t. clash (same T f m) t d, λ t. clash (same T f m) t d);
       }
-  decided (notNow m h s o t no-may) =
+  decided (notNow m h s o t no-may no-cross) =
       record {
         wrong = λ z. clash right s z;
         missing = λ _ k _. absurd (o k);
         opening = λ _ k _ _. absurd (o k);
-        following = λ _ _. (λ z. clash (same T f full m) t z, λ _ _. refl, λ _ y. absurd (no-may y));
+        following = λ _ _. (λ z. clash (same T f m) t z, λ _ _ _. refl, λ _ y. absurd (no-may y), λ _ x. absurd (no-cross x));
+      }
+  decided (dropped m h s t x) =
+      record {
+        wrong = λ z. clash right s z;
+        missing = λ _ k _. absurd (other-kind x k);
+        opening = λ _ k _ _. absurd (other-kind x k);
+        following = λ _ _. (λ z. clash (same T f m) t z, λ _ _ n. absurd (n x), λ _ y. absurd (apart y x), λ _ _. refl);
       }
   decided (goes m h d s o t may w) =
       record {
         wrong = λ z. clash right s z;
         missing = λ _ k _. absurd (o k);
         opening = λ _ k _ _. absurd (o k);
-        following = λ _ _. (λ z. clash (same T f full m) t z, λ _ n. absurd (n may), λ _ _ x v. ap comes (belongs-once (methodRow T m) w v));
+        following = λ _ _. (λ z. clash (same T f m) t z, λ _ n. absurd (n may), λ _ _ x v. ap comes (belongs-once (methodRow T m) w v), λ _ x. absurd (apart may x));
       }
 
   by-decision : {past : Past} {q r : Ruling} → Decided past q → Ruled T f full past r → q ≡ r
@@ -100,9 +128,18 @@ module _ (T : Table) (f : Frame) (full : Bool) where
   by-decision d (opens n x s k e t w) = d .opening s k n e .1 t x w
   by-decision d (notOpen s o) = d .following s o
   by-decision d (differ m h s o d′) = d .following s o .0 d′
-  by-decision d (notNow m h s o t no-may) = d .following s o .1 t no-may
+  by-decision d (notNow m h s o t no-may no-cross) = d .following s o .1 t no-may no-cross
+  by-decision d (dropped m h s t x) = d .following s (other-kind x) .3 t x
   by-decision d (goes m h x s o t may w) = d .following s o .2 t may x w
 
   -- A frame has one ruling by the past of its identifier.
   pub ruled-once : (past : Past) (q r : Ruling) → Ruled T f full past q → Ruled T f full past r → q ≡ r
   ruled-once past q r a b = by-decision (decided a) b
+
+-- So has a release.
+pub release-once : (past : Past) (m n : ℕ) → Releases past m → Releases past n → m ≡ n
+release-once closed _ _ noCall noCall = refl
+release-once (since k h) _ _ (notCancelled _ _ t) (notCancelled _ _ u) = refl
+release-once (since k h) _ _ (notCancelled _ _ t) (released _ _ u) = clash (cancelled h) u t
+release-once (since k h) _ _ (released _ _ t) (notCancelled _ _ u) = clash (cancelled h) t u
+release-once (since k h) _ _ (released _ _ t) (released _ _ u) = refl

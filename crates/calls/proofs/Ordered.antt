@@ -14,29 +14,34 @@ use Rattle.schema.specs.declared.Found.the-variants.{At, Missing}
 use Rattle.schema.specs.Table.{Table}
 use Rattle.schema.specs.Check.{methodRow, named, findMethod}
 use Rattle.schema.specs.Good.{GoodTable as GoodSchema}
-use Rattle.schema.proofs.Bools.{clash, and-left, and-right, or-cases, or-none, or-comm}
+use Rattle.schema.proofs.Bools.{clash, and-i, and-left, and-right, or-cases, or-none, or-comm}
 use Rattle.schema.proofs.Methods.{found-named}
 use Rattle.calls.specs.declared.Call.{Call}
 use Rattle.calls.specs.declared.FormRow.{FormRow}
 use Rattle.calls.specs.declared.Frame.{Frame}
 use Rattle.calls.specs.declared.Payload.{Payload}
+use Rattle.calls.specs.declared.Payload.the-variants.{Unread}
 use Rattle.calls.specs.Forms.{letter, lettersRow, rowOf}
 use Rattle.calls.specs.Numbers.{endsCall, EndsCall, payload, many-pairs}
-use Rattle.calls.specs.Record.{implies, emptyCall, openedCall, isCall, complete, allowed, marked, ends, afterFrame}
-use Rattle.calls.specs.Slots.{slot, firstSlot, holds}
-use Rattle.calls.specs.Judge.{rightSide, payloadOf}
-use Rattle.calls.specs.Step.{receive}
+use Rattle.calls.specs.Record.{implies, emptyCall, openedCall, isCall, complete, allowed, notAllowed, marked, ends, afterFrame}
+use Rattle.calls.specs.Slots.{slot, firstSlot, holds, Own, none, one, recordAt, ownOf, full}
+use Rattle.calls.specs.Judge.{rightSide, payloadOf, Verdict, stop, opens, goes, invokeVerdict, callVerdict, otherVerdict, verdictOf, releaseVerdict}
+use Rattle.calls.specs.Step.{receive, release}
 use Rattle.calls.specs.Good.{GoodTable}
-use Rattle.calls.specs.Apart.{Own, none, one, recordAt, ownOf, full, Verdict, stop, opens, goes, invokeVerdict, callVerdict, otherVerdict, verdictOf, verdictDue, verdictNumber, kept, verdictOwn}
+use Rattle.calls.specs.Event.{Event, frame}
+use Rattle.calls.specs.Event as event
+use Rattle.calls.specs.Apart.{verdictDue, verdictNumber, kept, verdictOwn}
 use Rattle.calls.specs.Belongs.{Belongs}
-use Rattle.calls.specs.Order.{MayCome, inStream, inClose, outStream, outClose, response, error, cancel, whole, over}
+use Rattle.calls.specs.Order.{cancelled, MayCome, inStream, inClose, outStream, outClose, response, error, cancel, Crosses, whole, over}
 use Rattle.calls.specs.Order.{Past, closed, since, Heard, continued, accepted, after, Marks, Reflects, nothing, call}
-use Rattle.calls.specs.Order.{Ruling, refused, comes, Ruled, wrongSide, unknown, already, noRoom, opens as opensCall, notOpen, differ, notNow, goes as goesOn}
+use Rattle.calls.specs.Order.{Ruling, refused, comes, Ruled, wrongSide, unknown, already, noRoom, opens as opensCall, notOpen, differ, notNow, dropped, goes as goesOn}
+use Rattle.calls.specs.Order.{Releases, noCall, notCancelled, released}
+use Rattle.wire.proofs.Cases.{cond-case}
 use Rattle.calls.proofs.Letters.{by-letters}
 use Rattle.calls.proofs.Used.{not-ending}
 use Rattle.calls.proofs.Searches.{found-passes}
 use Rattle.calls.proofs.Kept.{call-open}
-use Rattle.calls.proofs.Apart.{answered, own-after}
+use Rattle.calls.proofs.Apart.{answered, own-after, release-answered, release-own}
 use Rattle.calls.proofs.Belongs.{invoke-belongs, payload-belongs}
 
 -- ---- the kinds that are no INVOKE
@@ -53,16 +58,27 @@ kinds P a b c d e f g (suc (suc (suc (suc (suc (suc (suc (suc zero)))))))) m n =
 kinds P a b c d e f g (suc (suc (suc (suc (suc (suc (suc (suc (suc k))))))))) m n = absurd (omega arith)
 
 -- ---- allowed, by the kinds accepted
-tell-in : (a b : Bool) → ((a && not b) || false) ≡ true → (a ≡ true) × (b ≡ false)
-tell-in true false h = (refl, refl)
-tell-in true true h = clash false h refl
-tell-in false b h = clash false h refl
+tell-in : (x a b : Bool) → (not x && ((a && not b) || false)) ≡ true → (x ≡ false) × (a ≡ true) × (b ≡ false)
+tell-in true a b h = clash false h refl
+tell-in false true false h = (refl, refl, refl)
+tell-in false true true h = clash false h refl
+tell-in false false b h = clash false h refl
 
-tell-out : (a r b : Bool) → ((a && (r && not b)) || false) ≡ true → (a ≡ true) × (b ≡ false) × (r ≡ true)
-tell-out true true false h = (refl, refl, refl)
-tell-out true true true h = clash false h refl
-tell-out true false b h = clash false h refl
-tell-out false r b h = clash false h refl
+tell-out : (x a r b : Bool) → (not x && ((a && (r && not b)) || false)) ≡ true → (x ≡ false) × (a ≡ true) × (b ≡ false) × (r ≡ true)
+tell-out true a r b h = clash false h refl
+tell-out false true true false h = (refl, refl, refl, refl)
+tell-out false true true true h = clash false h refl
+tell-out false true false b h = clash false h refl
+tell-out false false r b h = clash false h refl
+
+tell-once : (x r : Bool) → (not x && (not r || false)) ≡ true → (x ≡ false) × (r ≡ false)
+tell-once true r h = clash false h refl
+tell-once false true h = clash false h refl
+tell-once false false h = (refl, refl)
+
+tell-first : (x : Bool) → (not x && true) ≡ true → x ≡ false
+tell-first true h = clash false h refl
+tell-first false h = refl
 
 module _ (form : ℕ) (h : List ℕ) (c : Call) (m : ℕ) (w : Marks m h c) where
   abbrev row : FormRow
@@ -71,42 +87,58 @@ module _ (form : ℕ) (h : List ℕ) (c : Call) (m : ℕ) (w : Marks m h c) wher
   may-come : (kind : ℕ) → 2 ≤ kind → kind ≤ 8 → allowed row kind c ≡ true → MayCome form h kind
   may-come =
       kinds (λ k. allowed row k c ≡ true → MayCome form h k)
-      (λ a. let r = tell-in (letter 2 form) (c .«input_closed») a in inStream (r .0) (sym (w .inputClosed) ∙ r .1))
-      (λ a. let r = tell-in (letter 2 form) (c .«input_closed») a in inClose (r .0) (sym (w .inputClosed) ∙ r .1))
+      (λ a. let r = tell-in (c .cancelled) (letter 2 form) (c .«input_closed») a in inStream (on (r .0)) (r .1) (sym (w .inputClosed) ∙ r .2))
+      (λ a. let r = tell-in (c .cancelled) (letter 2 form) (c .«input_closed») a in inClose (on (r .0)) (r .1) (sym (w .inputClosed) ∙ r .2))
       (λ a.
-      let r = tell-out (letter 1 form) (c .responded) (c .«output_closed») a in
-      outStream (r .0) (sym (w .outputClosed) ∙ r .1) (sym (w .responded) ∙ r .2))
+      let r = tell-out (c .cancelled) (letter 1 form) (c .responded) (c .«output_closed») a in
+      outStream (on (r .0)) (r .1) (sym (w .outputClosed) ∙ r .2) (sym (w .responded) ∙ r .3))
       (λ a.
-      let r = tell-out (letter 1 form) (c .responded) (c .«output_closed») a in
-      outClose (r .0) (sym (w .outputClosed) ∙ r .1) (sym (w .responded) ∙ r .2))
-      (λ a. response (sym (w .responded) ∙ tell-once (c .responded) a))
+      let r = tell-out (c .cancelled) (letter 1 form) (c .responded) (c .«output_closed») a in
+      outClose (on (r .0)) (r .1) (sym (w .outputClosed) ∙ r .2) (sym (w .responded) ∙ r .3))
+      (λ a. let r = tell-once (c .cancelled) (c .responded) a in response (on (r .0)) (sym (w .responded) ∙ r .1))
       (λ a. error)
-      (λ a. cancel)
+      (λ a. cancel (on (tell-first (c .cancelled) a)))
     where
-      tell-once : (r : Bool) → (not r || false) ≡ true → r ≡ false
-      tell-once true q = clash false q refl
-      tell-once false q = refl
+      on : c .cancelled ≡ false → cancelled h ≡ false
+      on e = sym (w .isCancelled) ∙ e
 
   comes-in : {kind : ℕ} → MayCome form h kind → allowed row kind c ≡ true
-  comes-in (inStream p q) = rw (p, w .inputClosed, q)
-  comes-in (inClose p q) = rw (p, w .inputClosed, q)
-  comes-in (outStream p q r) = rw (p, w .responded, r, w .outputClosed, q)
-  comes-in (outClose p q r) = rw (p, w .responded, r, w .outputClosed, q)
-  comes-in (response q) = rw (w .responded, q)
+  comes-in (inStream n p q) = rw (w .isCancelled, n, p, w .inputClosed, q)
+  comes-in (inClose n p q) = rw (w .isCancelled, n, p, w .inputClosed, q)
+  comes-in (outStream n p q r) = rw (w .isCancelled, n, p, w .responded, r, w .outputClosed, q)
+  comes-in (outClose n p q r) = rw (w .isCancelled, n, p, w .responded, r, w .outputClosed, q)
+  comes-in (response n q) = rw (w .isCancelled, n, w .responded, q)
   comes-in error = refl
-  comes-in cancel = refl
+  comes-in (cancel n) = rw (w .isCancelled, n)
+
+  -- what crosses our cancel is not allowed
+  crossing : {kind : ℕ} → Crosses h kind → allowed row kind c ≡ false
+  crossing {kind} x = rw (ne-eqb kind 7 (x .noError), w .isCancelled, x .isCancelled)
+
+  -- the number of a frame that is not allowed: 16 where it crosses our cancel, else 14
+  late : (P : ℕ → Type 0) (kind : ℕ) → allowed row kind c ≡ false → (Crosses h kind → P 16) → ((Crosses h kind → ⊥) → P 14) → P (notAllowed kind c)
+  late P kind bar drops refuses =
+      let server = leb 4 kind && leb kind 7 in
+      cond-case P (c .cancelled && server) 16 14
+      (λ t. drops
+      (record {
+        isCancelled = sym (w .isCancelled) ∙ and-left (c .cancelled) server t;
+        fromServer = and-right (c .cancelled) server t;
+        noError = λ e. clash (allowed row kind c) (rw e) bar;
+      }))
+      (λ t. refuses (λ x. clash (c .cancelled && server) (and-i (c .cancelled) server (w .isCancelled ∙ x .isCancelled) (x .fromServer)) t))
 
   -- the record after an accepted frame
   module _ (kind : ℕ) where
-    marks-next : eqb kind 7 ≡ false → eqb kind 8 ≡ false → Marks m (kind ∷ h) (marked kind c)
-    marks-next p q =
+    marks-next : eqb kind 7 ≡ false → Marks m (kind ∷ h) (marked kind c)
+    marks-next p =
         record {
           method = w .method;
           responded = or-comm (c .responded) (eqb kind 6) ∙ ap (λ (b : Bool). eqb kind 6 || b) (w .responded);
           inputClosed = or-comm (c .«input_closed») (eqb kind 3) ∙ ap (λ (b : Bool). eqb kind 3 || b) (w .inputClosed);
           outputClosed = or-comm (c .«output_closed») (eqb kind 5) ∙ ap (λ (b : Bool). eqb kind 5 || b) (w .outputClosed);
+          isCancelled = or-comm (c .cancelled) (eqb kind 8) ∙ ap (λ (b : Bool). eqb kind 8 || b) (w .isCancelled);
           noError = rw p (w .noError);
-          noCancel = rw q (w .noCancel);
         }
 
     whole-next : complete row (marked kind c) ≡ whole form (kind ∷ h)
@@ -116,11 +148,8 @@ module _ (form : ℕ) (h : List ℕ) (c : Call) (m : ℕ) (w : Marks m h c) wher
         let o : (c .«output_closed» || eqb kind 5) ≡ (eqb kind 5 || holds 5 h) = or-comm (c .«output_closed») (eqb kind 5) ∙ ap (λ (b : Bool). eqb kind 5 || b) (w .outputClosed) in
         λ k. (r k) && (implies (row .1) (i k) && implies (row .3) (o k))
 
-    last-two : 2 ≤ kind → kind ≤ 8 → leb 7 kind ≡ (eqb kind 7 || eqb kind 8)
-    last-two = kinds (λ k. leb 7 k ≡ (eqb k 7 || eqb k 8)) refl refl refl refl refl refl refl kind
-
-    ends-over : 2 ≤ kind → kind ≤ 8 → ends row kind c ≡ over form (kind ∷ h)
-    ends-over a b = rw (last-two a b, whole-next, w .noError, w .noCancel, or-none (eqb kind 7), or-none (eqb kind 8))
+    ends-over : ends row kind c ≡ over form (kind ∷ h)
+    ends-over = rw (whole-next, w .noError, or-none (eqb kind 7))
 
 -- ---- a kind that its side may send and that is no INVOKE
 other-kind : (side kind : ℕ) → rightSide side kind ≡ true → (kind ≡ 1 → ⊥) → (2 ≤ kind) × (kind ≤ 8)
@@ -157,7 +186,7 @@ Known T (one c) = c .method < length (T .methods)
 
 module _ (T : Table) (g : GoodSchema T) (f : Frame) (b : Bool) where
   abbrev heard : Verdict → ℕ → Heard
-  heard v p = record { frame = f; number = verdictNumber v p }
+  heard v p = record { event = frame f; number = verdictNumber v p }
 
   -- the ruling is the one by the past, and whatever number the payload has, the record afterwards reflects the past afterwards
   abbrev Fits : Past → Own → Verdict → Type 0
@@ -170,27 +199,27 @@ module _ (T : Table) (g : GoodSchema T) (f : Frame) (b : Bool) where
   found = findMethod T (f .«package») (f .service) (f .method)
 
   -- a refusal before the payload
-  stays : (n : ℕ) → 8 ≤ n → n ≤ 14 → {past : Past} {own : Own} → Reflects past own → Reflects (after T (record { frame = f; number = n }) past) own
+  stays : (n : ℕ) → 8 ≤ n → n ≤ 16 → {past : Past} {own : Own} → Reflects past own → Reflects (after T (record { event = frame f; number = n }) past) own
   stays n low high r = rw (ne-eqb n 0 (λ z. omega arith), not-ending n (early low high)) r
     where
-      early : {n : ℕ} → 8 ≤ n → n ≤ 14 → EndsCall n → ⊥
+      early : {n : ℕ} → 8 ≤ n → n ≤ 16 → EndsCall n → ⊥
       early low high (payload a b) = omega arith
       early low high many-pairs = omega arith
 
   -- INVOKE
   module _ (s : right ≡ true) (k : f .kind ≡ 1) where
     opening : (n p : ℕ) → found ≡ At n →
-        Reflects (after T (record { frame = f; number = p }) closed) (cond (eqb p 0) (one (openedCall n (f .correlation))) none)
+        Reflects (after T (record { event = frame f; number = p }) closed) (cond (eqb p 0) (one (openedCall n (f .correlation))) none)
     opening n p e = go (eqb p 0) (endsCall p)
       where
-        begins : accepted T f closed ≡ since n []
+        begins : accepted T (frame f) closed ≡ since n []
         begins = rw (k, e)
 
-        go : (x y : Bool) → Reflects (cond x (accepted T f closed) (cond y closed closed)) (cond x (one (openedCall n (f .correlation))) none)
+        go : (x y : Bool) → Reflects (cond x (accepted T (frame f) closed) (cond y closed closed)) (cond x (one (openedCall n (f .correlation))) none)
         go true y =
             rw begins
             (call n [] (openedCall n (f .correlation))
-            (record { method = refl; responded = refl; inputClosed = refl; outputClosed = refl; noError = refl; noCancel = refl }))
+            (record { method = refl; responded = refl; inputClosed = refl; outputClosed = refl; isCancelled = refl; noError = refl }))
         go false true = nothing
         go false false = nothing
 
@@ -220,9 +249,9 @@ module _ (T : Table) (g : GoodSchema T) (f : Frame) (b : Bool) where
       bounds = other-kind (f .side) (f .kind) s n
 
       over-is : ends (rowOf form) (f .kind) c ≡ over form (f .kind ∷ h)
-      over-is = ap (λ (r : FormRow). ends r (f .kind) c) letters ∙ ends-over form h c m w (f .kind) (bounds .0) (bounds .1)
+      over-is = ap (λ (r : FormRow). ends r (f .kind) c) letters ∙ ends-over form h c m w (f .kind)
 
-      -- a frame that does not end the call is no ERROR and no CANCEL
+      -- a frame that does not end the call is no ERROR
       not-last : (k : ℕ) → ends (rowOf form) k c ≡ true → ends (rowOf form) (f .kind) c ≡ false → eqb (f .kind) k ≡ false
       not-last k t z = ne-eqb (f .kind) k (λ e. clash (ends (rowOf form) (f .kind) c) (subst (λ (x : ℕ). ends (rowOf form) x c ≡ true) (sym e) t) z)
 
@@ -232,14 +261,14 @@ module _ (T : Table) (g : GoodSchema T) (f : Frame) (b : Bool) where
           go : (z : Bool) → ends (rowOf form) (f .kind) c ≡ z →
               Reflects (cond z closed (since m (f .kind ∷ h))) (kept (cond z emptyCall (marked (f .kind) c)))
           go true e = nothing
-          go false e = call m (f .kind ∷ h) (marked (f .kind) c) (marks-next form h c m w (f .kind) (not-last 7 refl e) (not-last 8 refl e))
+          go false e = call m (f .kind ∷ h) (marked (f .kind) c) (marks-next form h c m w (f .kind) (not-last 7 refl e))
 
       going : (p : ℕ) →
-          Reflects (after T (record { frame = f; number = p }) (since m h)) (cond (eqb p 0) (kept (afterFrame (rowOf form) (f .kind) c)) (cond (endsCall p) none (one c)))
+          Reflects (after T (record { event = frame f; number = p }) (since m h)) (cond (eqb p 0) (kept (afterFrame (rowOf form) (f .kind) c)) (cond (endsCall p) none (one c)))
       going p = go (eqb p 0) (endsCall p)
         where
           go : (x y : Bool) →
-              Reflects (cond x (accepted T f (since m h)) (cond y closed (since m h))) (cond x (kept (afterFrame (rowOf form) (f .kind) c)) (cond y none (one c)))
+              Reflects (cond x (accepted T (frame f) (since m h)) (cond y closed (since m h))) (cond x (kept (afterFrame (rowOf form) (f .kind) c)) (cond y none (one c)))
           go true y = rw (ne-eqb (f .kind) 1 n) continues
           go false true = nothing
           go false false = call m h c w
@@ -248,12 +277,15 @@ module _ (T : Table) (g : GoodSchema T) (f : Frame) (b : Bool) where
       called = go (named (f .«package») (f .service) (f .method) (methodRow T m)) (allowed (rowOf form) (f .kind) c) refl refl
         where
           go : (x y : Bool) → named (f .«package») (f .service) (f .method) (methodRow T m) ≡ x → allowed (rowOf form) (f .kind) c ≡ y →
-              Fits (since m h) (one c) (cond x (cond y (goes (afterFrame (rowOf form) (f .kind) c) (payloadOf (methodRow T m) (f .kind))) (stop 14)) (stop 12))
+              Fits (since m h) (one c) (cond x (cond y (goes (afterFrame (rowOf form) (f .kind) c) (payloadOf (methodRow T m) (f .kind))) (stop (notAllowed (f .kind) c))) (stop 12))
           go true true p q =
               let may = may-come form h c m w (f .kind) (bounds .0) (bounds .1) (rw letters at q) in
               (goesOn m h _ s n p may (payload-belongs T (g .fewTypes) (methodRow T m) (g .methods m known) h may), going)
           go true false p q =
-              (notNow m h s n p (λ z. clash (allowed (lettersRow form) (f .kind) c) (comes-in form h c m w z) (rw letters at q)), λ k. stays 14 (lit≤ tt) (lit≤ tt) (call m h c w))
+              let bar : allowed (lettersRow form) (f .kind) c ≡ false = rw letters at q in
+              late form h c m w (λ k. Fits (since m h) (one c) (stop k)) (f .kind) bar
+              (λ x. (dropped m h s p x, λ k. stays 16 (lit≤ tt) (lit≤ tt) (call m h c w)))
+              (λ x. (notNow m h s n p (λ z. clash (allowed (lettersRow form) (f .kind) c) (comes-in form h c m w z) bar) x, λ k. stays 14 (lit≤ tt) (lit≤ tt) (call m h c w)))
           go false y p q = (differ m h s n p, λ k. stays 12 (lit≤ tt) (lit≤ tt) (call m h c w))
 
     other : (past : Past) (own : Own) → Known T own → Reflects past own → Fits past own (otherVerdict T f own)
@@ -271,6 +303,20 @@ module _ (T : Table) (g : GoodSchema T) (f : Frame) (b : Bool) where
       go true s true k = invoked s (eqb-true (f .kind) 1 k) past own r found refl
       go true s false k = other s (eqb-false (f .kind) 1 k) past own known r
       go false s y k = (wrongSide past s, λ p. stays 8 (lit≤ tt) (lit≤ tt) r)
+
+-- ---- a release
+-- the number is the one by the past, and the record afterwards reflects the past afterwards
+abbrev Suits : Table → (correlation : ℕ) → Past → Own → Verdict → Type 0
+Suits T id past own v =
+    Releases past (verdictNumber v 0) × Reflects (after T (record { event = event.release id; number = verdictNumber v 0 }) past) (verdictOwn v 0 own)
+
+release-suits : (T : Table) (id : ℕ) (past : Past) (own : Own) → Reflects past own → Suits T id past own (releaseVerdict own)
+unfolding endsCall
+release-suits T id closed none nothing = (noCall, nothing)
+release-suits T id (since m h) (one c) (call _ _ _ w) =
+    cond-case (Suits T id (since m h) (one c)) (c .cancelled) (goes emptyCall Unread) (stop 14)
+    (λ t. (released m h (sym (w .isCancelled) ∙ t), nothing))
+    (λ t. (notCancelled m h (sym (w .isCancelled) ∙ t), call m h c w))
 
 -- ---- under good tables
 module _ (T : Table) (g : GoodSchema T) (l : List Call) (w : GoodTable T l) where
@@ -292,7 +338,18 @@ module _ (T : Table) (g : GoodSchema T) (l : List Call) (w : GoodTable T l) wher
 
     -- Its own record afterwards reflects the past afterwards.
     pub own-reflects : (reading : Payload → ℕ) → let r = receive T f reading l in
-        Reflects (after T (record { frame = f; number = r .number }) past) (ownOf (f .correlation) (r .table .slots))
+        Reflects (after T (record { event = frame f; number = r .number }) past) (ownOf (f .correlation) (r .table .slots))
     own-reflects reading =
         let p = reading (verdictDue (verdictOf T f own (full l))) in
         rw (answered T f reading l, own-after T f l w reading) (every T g f (full l) past own (own-known (f .correlation)) r .1 p)
+
+  -- A release is ruled by them too.
+  module _ (id : ℕ) (past : Past) (r : Reflects past (ownOf id l)) where
+    abbrev number : ℕ
+    number = release id l .number
+
+    pub release-ruled : Releases past number
+    release-ruled = rw (release-answered id l) (release-suits T id past (ownOf id l) r .0)
+
+    pub release-reflects : Reflects (after T (record { event = event.release id; number = number }) past) (ownOf id (release id l .table .slots))
+    release-reflects = rw (release-answered id l, release-own T id l w) (release-suits T id past (ownOf id l) r .1)

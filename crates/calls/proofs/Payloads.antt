@@ -19,11 +19,11 @@ use Rattle.calls.specs.declared.Call.{Call}
 use Rattle.calls.specs.declared.Frame.{Frame}
 use Rattle.calls.specs.declared.Payload.{Payload}
 use Rattle.calls.specs.declared.Payload.the-variants.{Struct, Empty, Unread}
-use Rattle.calls.specs.declared.Judged.the-variants.{Stop, Goes}
 use Rattle.calls.specs.Forms.{rowOf}
-use Rattle.calls.specs.Record.{isCall, isFree, openedCall, allowed, afterFrame}
-use Rattle.calls.specs.Slots.{slot, firstSlot}
-use Rattle.calls.specs.Judge.{rightSide, typed, payloadOf, opensAt, judgeInvoke, judgeOther, judgeOf}
+use Rattle.calls.specs.Record.{isCall, openedCall, allowed, notAllowed, afterFrame}
+use Rattle.calls.specs.Slots.{slot, firstSlot, Own, none, one, recordAt, ownOf, full}
+use Rattle.calls.specs.Judge.{rightSide, typed, payloadOf, Verdict, stop, goes, openVerdict, invokeVerdict, otherVerdict, verdictOf, judgeOf}
+use Rattle.calls.specs.Apart.{verdictDue}
 use Rattle.calls.specs.Step.{dueOf}
 use Rattle.calls.specs.Good.{GoodTable}
 use Rattle.schema.proofs.Bools.{cases}
@@ -32,6 +32,8 @@ use Rattle.schema.proofs.Goods.{good-table}
 use Rattle.schema.proofs.Methods.{found-named, letter-struct}
 use Rattle.calls.proofs.Searches.{found-passes}
 use Rattle.calls.proofs.Kept.{call-open}
+use Rattle.calls.proofs.Apart.{judged-by, due-by}
+use Rattle.wire.proofs.Cases.{cond-case}
 
 -- a payload whose type, if it has one, is a struct type of the table
 pub data Sound (T : Table) : Payload → Type 0 where
@@ -67,46 +69,53 @@ module _ (T : Table) where
       go false false false false false = empty
 
 -- ---- the payload of a judged frame, by a good schema table and a good call table
-module _ (s : List ℕ) (g : IsGood s) (f : Frame) (l : List Call) (w : GoodTable (tableOf s) l) where
+module _ (s : List ℕ) (g : IsGood s) (f : Frame) where
   abbrev T : Table
   T = tableOf s
 
-  opening-sound : (m : ℕ) (c : Call) (i j : Found) → m < length (T .methods) → Sound T (dueOf (opensAt c (payloadOf (methodRow T m) 1) i j))
-  opening-sound m c (At i) j h = unread
-  opening-sound m c Missing Missing h = unread
-  opening-sound m c Missing (At j) h = payload-sound T (methodRow T m) (good-table s g .methods m h) 1
+  method-sound : (m kind : ℕ) → m < length (T .methods) → Sound T (payloadOf (methodRow T m) kind)
+  method-sound m kind h = payload-sound T (methodRow T m) (good-table s g .methods m h) kind
 
-  invoke-sound : (n : Found) → findMethod T (f .«package») (f .service) (f .method) ≡ n → Sound T (dueOf (judgeInvoke T (f .correlation) n l))
-  invoke-sound Missing e = unread
-  invoke-sound (At m) e =
-      opening-sound m (openedCall m (f .correlation)) (firstSlot (isCall (f .correlation)) 0 l) (firstSlot isFree 0 l)
-      (found-named T (f .«package») (f .service) (f .method) m e .0)
+  opening-sound : (c : Call) (d : Payload) → Sound T d → (own : Own) (b : Bool) → Sound T (verdictDue (openVerdict c d own b))
+  opening-sound c d h (one x) b = unread
+  opening-sound c d h none true = unread
+  opening-sound c d h none false = h
 
-  other-sound : (n : Found) → firstSlot (isCall (f .correlation)) 0 l ≡ n → Sound T (dueOf (judgeOther T f n l))
-  other-sound Missing e = unread
-  other-sound (At i) e =
-      let c = slot l i in
-      let o = call-open (f .correlation) c (found-passes (isCall (f .correlation)) l i e) in
+  invoke-sound : (n : Found) → findMethod T (f .«package») (f .service) (f .method) ≡ n → (own : Own) (b : Bool)
+      → Sound T (verdictDue (invokeVerdict T (f .correlation) n own b))
+  invoke-sound Missing e own b = unread
+  invoke-sound (At m) e own b =
+      opening-sound (openedCall m (f .correlation)) (payloadOf (methodRow T m) 1) (method-sound m 1 (found-named T (f .«package») (f .service) (f .method) m e .0)) own b
+
+  call-sound : (c : Call) → c .method < length (T .methods) → Sound T (verdictDue (otherVerdict T f (one c)))
+  call-sound c known =
       let m = methodRow T (c .method) in
-      go (named (f .«package») (f .service) (f .method) m) (allowed (rowOf (m .form)) (f .kind) c) (afterFrame (rowOf (m .form)) (f .kind) c)
-      (payloadOf m (f .kind)) (payload-sound T m (good-table s g .methods (c .method) (w .calls i o .methodExists)) (f .kind))
-    where
-      go : (a b : Bool) (x : Call) (d : Payload) → Sound T d → Sound T (dueOf (cond a (cond b (Goes i x d) (Stop 14)) (Stop 12)))
-      go true true x d h = h
-      go true false x d h = unread
-      go false b x d h = unread
+      let next = goes (afterFrame (rowOf (m .form)) (f .kind) c) (payloadOf m (f .kind)) in
+      let late = stop (notAllowed (f .kind) c) in
+      let may = allowed (rowOf (m .form)) (f .kind) c in
+      cond-case (λ (v : Verdict). Sound T (verdictDue v)) (named (f .«package») (f .service) (f .method) m) (cond may next late) (stop 12)
+      (λ _. cond-case (λ (v : Verdict). Sound T (verdictDue v)) may next late (λ _. method-sound (c .method) (f .kind) known) (λ _. unread))
+      (λ _. unread)
 
-  pub due-sound : Sound T (dueOf (judgeOf T f l))
-  unfolding judgeOf
-  due-sound = go (rightSide (f .side) (f .kind)) (eqb (f .kind) 1)
-    where
-      n : Found
-      n = findMethod T (f .«package») (f .service) (f .method)
+  module _ (l : List Call) (w : GoodTable T l) where
+    other-sound : Sound T (verdictDue (otherVerdict T f (ownOf (f .correlation) l)))
+    unfolding ownOf
+    other-sound = go (firstSlot (isCall (f .correlation)) 0 l) refl
+      where
+        go : (n : Found) → firstSlot (isCall (f .correlation)) 0 l ≡ n → Sound T (verdictDue (otherVerdict T f (recordAt l n)))
+        go Missing e = unread
+        go (At i) e =
+            let o = call-open (f .correlation) (slot l i) (found-passes (isCall (f .correlation)) l i e) in
+            call-sound (slot l i) (w .calls i o .methodExists)
 
-      o : Found
-      o = firstSlot (isCall (f .correlation)) 0 l
-
-      go : (a b : Bool) → Sound T (dueOf (cond a (cond b (judgeInvoke T (f .correlation) n l) (judgeOther T f o l)) (Stop 8)))
-      go true true = invoke-sound n refl
-      go true false = other-sound o refl
-      go false b = unread
+    pub due-sound : Sound T (dueOf (judgeOf T f l))
+    unfolding verdictOf
+    due-sound =
+        let own = ownOf (f .correlation) l in
+        let n = findMethod T (f .«package») (f .service) (f .method) in
+        let invoke = invokeVerdict T (f .correlation) n own (full l) in
+        let other = otherVerdict T f own in
+        rw (due-by (judgeOf T f l), judged-by T f l)
+        (cond-case (λ (v : Verdict). Sound T (verdictDue v)) (rightSide (f .side) (f .kind)) (cond (eqb (f .kind) 1) invoke other) (stop 8)
+        (λ _. cond-case (λ (v : Verdict). Sound T (verdictDue v)) (eqb (f .kind) 1) invoke other (λ _. invoke-sound n refl own (full l)) (λ _. other-sound))
+        (λ _. unread))

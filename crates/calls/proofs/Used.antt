@@ -8,7 +8,7 @@ use native.Mathlib.Omega.{arith}
 use lib.Dec.{eqb, leb}
 use borrow.Author.Tests.{eqb-true, leb-true, le-leb}
 use Rattle.schema.proofs.Bools.{and-i, and-left, and-right, or-left, or-right, or-cases, is-false}
-use Rattle.calls.specs.Numbers.{endsCall, usesFrame, EndsCall, payload, many-pairs, UsesFrame, accepted, call, refused, refused-pairs}
+use Rattle.calls.specs.Numbers.{endsCall, usesFrame, EndsCall, payload, many-pairs, UsesFrame, accepted, call, dropped, refused, refused-pairs}
 
 module _ (n : ℕ) where
   within : (a b : ℕ) → (leb a n && leb n b) ≡ true → (a ≤ n) × (n ≤ b)
@@ -47,18 +47,24 @@ unfolding usesFrame
 used-listed n t =
     ⊎-elim
     (λ z. rw (eqb-true n 0 z) accepted)
-    (λ o. ⊎-elim (λ c. let w = within n 8 14 c in call (w .0) (w .1)) (λ e. ending-used (ends-listed n e)) (or-cases (leb 8 n && leb n 14) (endsCall n) o))
-    (or-cases (eqb n 0) ((leb 8 n && leb n 14) || endsCall n) t)
+    (λ o.
+    ⊎-elim
+    (λ c. let w = within n 8 14 c in call (w .0) (w .1))
+    (λ e. ⊎-elim (λ z. rw (eqb-true n 16 z) dropped) (λ r. ending-used (ends-listed n r)) (or-cases (eqb n 16) (endsCall n) e))
+    (or-cases (leb 8 n && leb n 14) (eqb n 16 || endsCall n) o))
+    (or-cases (eqb n 0) ((leb 8 n && leb n 14) || (eqb n 16 || endsCall n)) t)
 
 listed-used : {n : ℕ} → UsesFrame n → usesFrame n ≡ true
 unfolding usesFrame endsCall
 listed-used accepted = refl
 listed-used (call {n} low high) =
-    or-right (eqb n 0) ((leb 8 n && leb n 14) || endsCall n) (or-left (leb 8 n && leb n 14) (endsCall n) (inside n 8 14 low high))
+    or-right (eqb n 0) ((leb 8 n && leb n 14) || (eqb n 16 || endsCall n)) (or-left (leb 8 n && leb n 14) (eqb n 16 || endsCall n) (inside n 8 14 low high))
+listed-used dropped = refl
 listed-used (refused {n} low high) =
-    or-right (eqb n 0) ((leb 8 n && leb n 14) || endsCall n) (or-right (leb 8 n && leb n 14) (endsCall n) (listed-ends (payload low high)))
+    or-right (eqb n 0) ((leb 8 n && leb n 14) || (eqb n 16 || endsCall n))
+    (or-right (leb 8 n && leb n 14) (eqb n 16 || endsCall n) (or-right (eqb n 16) (endsCall n) (listed-ends (payload low high))))
 listed-used refused-pairs = refl
 
--- Bytes used: the frame's length for 0, 8 to 14, 20 to 29 and 31, and for no other number.
+-- Bytes used: the frame's length for 0, 8 to 14, 16, 20 to 29 and 31, and for no other number.
 pub uses-iff : (n : ℕ) → (usesFrame n ≡ true) ↔ UsesFrame n
 uses-iff n = (used-listed n, listed-used)

@@ -1,80 +1,29 @@
--- Calls kept apart: the judgement of a frame, without a slot, as a function of its own call's record and, for INVOKE, of whether 128 calls are open.
+-- Calls kept apart: the answer and the own record afterwards by the judgement without a slot; and what frees a slot.
 -- Assumes nothing.
 use mathlib.Core.Path.{_≡_}
-use mathlib.Core.Logic.{_⊎_}
 use Prim.Native.Nat.{ℕ}
-use mathlib.Core.Bool.{Bool, true, false, cond}
-use mathlib.Core.List.{List}
+use mathlib.Core.Bool.{true, cond}
 use lib.Dec.{eqb}
-use Rattle.schema.specs.declared.Method.{Method}
 use Rattle.schema.specs.declared.Found.{Found}
 use Rattle.schema.specs.declared.Found.the-variants.{At, Missing}
 use Rattle.schema.specs.Table.{Table}
-use Rattle.schema.specs.Check.{methodRow, named, findMethod, isMissing}
 use Rattle.calls.specs.declared.Call.{Call}
 use Rattle.calls.specs.declared.Frame.{Frame}
 use Rattle.calls.specs.declared.Payload.{Payload}
 use Rattle.calls.specs.declared.Payload.the-variants.{Unread}
 use Rattle.calls.specs.declared.Judged.{Judged}
 use Rattle.calls.specs.declared.Judged.the-variants.{Stop, Opens, Goes}
-use Rattle.calls.specs.Forms.{rowOf}
 use Rattle.calls.specs.Numbers.{endsCall}
-use Rattle.calls.specs.Record.{isCall, isFree, openedCall, allowed, ends, afterFrame}
-use Rattle.calls.specs.Slots.{slot, firstSlot, formRow}
-use Rattle.calls.specs.Judge.{rightSide, payloadOf}
+use Rattle.calls.specs.Record.{isCall, complete, marked}
+use Rattle.calls.specs.Slots.{Own, none, one, formRow}
+use Rattle.calls.specs.Judge.{Verdict, stop, opens, goes}
+use Rattle.calls.specs.Event.{Event, frame, release, identifier}
 
--- The record of a frame's own call, or none.
-pub data Own : Type 0 where
-  none : Own
-  one : Call → Own
-
-abbrev pub recordAt : List Call → Found → Own
-recordAt l Missing = none
-recordAt l (At i) = one (slot l i)
-
-unfoldable pub ownOf : (correlation : ℕ) → List Call → Own
-ownOf id l = recordAt l (firstSlot (isCall id) 0 l)
-
--- No slot is free: as many calls are open as there are slots, 128.
-unfoldable pub full : List Call → Bool
-full l = isMissing (firstSlot isFree 0 l)
-
--- ---- the judgement without a slot
-pub data Verdict : Type 0 where
-  stop : ℕ → Verdict
-  opens : Call → Payload → Verdict
-  goes : Call → Payload → Verdict
-
+-- A judgement without its slot.
 abbrev pub verdict : Judged → Verdict
 verdict (Stop n) = stop n
 verdict (Opens j c due) = opens c due
 verdict (Goes i c due) = goes c due
-
-abbrev pub invokeVerdict : Table → (correlation : ℕ) → Found → Own → Bool → Verdict
-invokeVerdict T id Missing own f = stop 9
-invokeVerdict T id (At m) (one c) f = stop 10
-invokeVerdict T id (At m) none true = stop 13
-invokeVerdict T id (At m) none false = opens (openedCall m id) (payloadOf (methodRow T m) 1)
-
-abbrev pub callVerdict : Method → Frame → Call → Verdict
-callVerdict m f c =
-    cond (named (f .«package») (f .service) (f .method) m)
-    (cond (allowed (rowOf (m .form)) (f .kind) c)
-    (goes (afterFrame (rowOf (m .form)) (f .kind) c) (payloadOf m (f .kind)))
-    (stop 14))
-    (stop 12)
-
-abbrev pub otherVerdict : Table → Frame → Own → Verdict
-otherVerdict T f none = stop 11
-otherVerdict T f (one c) = callVerdict (methodRow T (c .method)) f c
-
-unfoldable pub verdictOf : Table → Frame → Own → Bool → Verdict
-verdictOf T f own full =
-    cond (rightSide (f .side) (f .kind))
-    (cond (eqb (f .kind) 1)
-    (invokeVerdict T (f .correlation) (findMethod T (f .«package») (f .service) (f .method)) own full)
-    (otherVerdict T f own))
-    (stop 8)
 
 -- ---- the answer and the own record afterwards, by the verdict
 abbrev pub verdictDue : Verdict → Payload
@@ -98,14 +47,26 @@ verdictOwn (goes c due) p own = cond (eqb p 0) (kept c) (cond (endsCall p) none 
 
 -- ---- the slots
 
--- The slot that a frame's acceptance changes.
+-- The slot that acceptance changes.
 abbrev pub touched : Judged → Found
 touched (Stop n) = Missing
 touched (Opens j c due) = At j
 touched (Goes i c due) = At i
 
--- Why a step frees the slot of an open call c: it is the frame's own call, and the payload's refusal ends it, or the accepted frame does, as ERROR,
--- CANCEL or the last that makes it complete.
-pub record Freed (T : Table) (f : Frame) (payload : ℕ) (c : Call) : Type 0 where
-  pub isOwn : isCall (f .correlation) c ≡ true
-  pub cause : (endsCall payload ≡ true) ⊎ ((payload ≡ 0) × (ends (formRow T c) (f .kind) c ≡ true))
+-- Why an event that is answered with this number frees the slot of an open call c of its identifier: a payload refusal; the accepted frame that makes it
+-- complete; an accepted ERROR; the release of a cancelled call.
+pub data Cause (T : Table) (c : Call) : Event → (number : ℕ) → Type 0 where
+  refusal : (f : Frame) {n : ℕ} → endsCall n ≡ true → Cause T c (frame f) n
+  completion : (f : Frame) → complete (formRow T c) (marked (f .kind) c) ≡ true → Cause T c (frame f) 0
+  error : (f : Frame) → f .kind ≡ 7 → Cause T c (frame f) 0
+  released : (id : ℕ) → c .cancelled ≡ true → Cause T c (release id) 0
+
+-- It is the event's own call, and there is a cause.
+pub record Freed (T : Table) (e : Event) (number : ℕ) (c : Call) : Type 0 where
+  pub isOwn : isCall (identifier e) c ≡ true
+  pub cause : Cause T c e number
+
+-- What ends a cancelled call: its ERROR, accepted, or its release.
+pub data EndsCancelled : Event → (number : ℕ) → Type 0 where
+  itsError : (f : Frame) → f .kind ≡ 7 → EndsCancelled (frame f) 0
+  itsRelease : (id : ℕ) → EndsCancelled (release id) 0

@@ -1,7 +1,8 @@
--- A frame judged before its payload is read: 8; INVOKE 9, 10, 13; the others 11, 12, 14. And what its payload holds.
+-- A frame judged before its payload is read: 8; INVOKE 9, 10, 13; the others 11, 12, 14 or 16. And what its payload holds.
+-- The judgement is a function of the frame, of its own call's record and, for INVOKE, of whether 128 calls are open; the slot is added last.
 -- Assumes nothing.
 use Prim.Native.Nat.{ℕ}
-use mathlib.Core.Bool.{Bool, cond, _&&_, _||_}
+use mathlib.Core.Bool.{Bool, true, false, cond, _&&_, _||_}
 use mathlib.Core.List.{List}
 use lib.Dec.{eqb, leb}
 use Rattle.schema.specs.declared.Method.{Method}
@@ -16,8 +17,8 @@ use Rattle.calls.specs.declared.Payload.the-variants.{Struct, Empty, Unr
 use Rattle.calls.specs.declared.Judged.{Judged}
 use Rattle.calls.specs.declared.Judged.the-variants.{Stop, Opens, Goes}
 use Rattle.calls.specs.Forms.{rowOf}
-use Rattle.calls.specs.Record.{isCall, isFree, openedCall, allowed, afterFrame}
-use Rattle.calls.specs.Slots.{slot, firstSlot}
+use Rattle.calls.specs.Record.{isCall, isFree, emptyCall, openedCall, allowed, notAllowed, afterFrame}
+use Rattle.calls.specs.Slots.{firstSlot, slotOf, Own, none, one, ownOf, full}
 
 -- Client kinds: 1 INVOKE, 2 IN_STREAM, 3 IN_CLOSE, 8 CANCEL. Server kinds: 4 OUT_STREAM, 5 OUT_CLOSE, 6 RESPONSE, 7 ERROR. The sides are the bytes C and S.
 abbrev pub rightSide : (side kind : ℕ) → Bool
@@ -39,40 +40,70 @@ payloadOf m kind =
     (cond (eqb kind 4) (typed (m .«output_stream»))
     (cond (eqb kind 6) (typed (m .output)) (cond (eqb kind 7) Unread Empty))))
 
--- ---- INVOKE: 9, 10, 13
+-- ---- the judgement, by the own call's record
 
--- By the own call's slot and the lowest free one.
-abbrev pub opensAt : Call → Payload → Found → Found → Judged
-opensAt new p (At i) free = Stop 10
-opensAt new p Missing Missing = Stop 13
-opensAt new p Missing (At j) = Opens j new p
+-- The frame is refused with this number; it opens a call with this record; or it goes to the open call, whose record is this one once it is accepted.
+pub data Verdict : Type 0 where
+  stop : ℕ → Verdict
+  opens : Call → Payload → Verdict
+  goes : Call → Payload → Verdict
 
-abbrev pub judgeInvoke : Table → (correlation : ℕ) → Found → List Call → Judged
-judgeInvoke T id Missing l = Stop 9
-judgeInvoke T id (At m) l =
-    opensAt (openedCall m id) (payloadOf (methodRow T m) 1) (firstSlot (isCall id) 0 l) (firstSlot isFree 0 l)
+-- INVOKE of a known method: 10, 13.
+abbrev pub openVerdict : Call → Payload → Own → (full : Bool) → Verdict
+openVerdict new p (one c) f = stop 10
+openVerdict new p none true = stop 13
+openVerdict new p none false = opens new p
 
--- ---- the others: 11, 12, 14
+-- INVOKE: 9 first.
+abbrev pub invokeVerdict : Table → (correlation : ℕ) → Found → Own → (full : Bool) → Verdict
+invokeVerdict T id Missing own f = stop 9
+invokeVerdict T id (At m) own f = openVerdict (openedCall m id) (payloadOf (methodRow T m) 1) own f
 
--- A frame to the open call c at slot i, of method entry m.
-abbrev pub judgeCall : Method → Frame → ℕ → Call → Judged
-judgeCall m f i c =
+-- A frame to the open call c, of method entry m: 12, then 14 or 16.
+abbrev pub callVerdict : Method → Frame → Call → Verdict
+callVerdict m f c =
     cond (named (f .«package») (f .service) (f .method) m)
     (cond (allowed (rowOf (m .form)) (f .kind) c)
-    (Goes i (afterFrame (rowOf (m .form)) (f .kind) c) (payloadOf m (f .kind)))
-    (Stop 14))
-    (Stop 12)
+    (goes (afterFrame (rowOf (m .form)) (f .kind) c) (payloadOf m (f .kind)))
+    (stop (notAllowed (f .kind) c)))
+    (stop 12)
 
-abbrev pub judgeOther : Table → Frame → Found → List Call → Judged
-judgeOther T f Missing l = Stop 11
-judgeOther T f (At i) l = judgeCall (methodRow T (slot l i .method)) f i (slot l i)
+-- The others: 11 first.
+abbrev pub otherVerdict : Table → Frame → Own → Verdict
+otherVerdict T f none = stop 11
+otherVerdict T f (one c) = callVerdict (methodRow T (c .method)) f c
 
--- ---- every frame
+-- The method entry that a frame's identifiers name.
+abbrev pub methodOf : Table → Frame → Found
+methodOf T f = findMethod T (f .«package») (f .service) (f .method)
 
-unfoldable pub judgeOf : Table → Frame → List Call → Judged
-judgeOf T f l =
+-- Every frame; `full` says that 128 calls are open.
+unfoldable pub verdictOf : Table → Frame → Own → (full : Bool) → Verdict
+verdictOf T f own full =
     cond (rightSide (f .side) (f .kind))
     (cond (eqb (f .kind) 1)
-    (judgeInvoke T (f .correlation) (findMethod T (f .«package») (f .service) (f .method)) l)
-    (judgeOther T f (firstSlot (isCall (f .correlation)) 0 l) l))
-    (Stop 8)
+    (invokeVerdict T (f .correlation) (methodOf T f) own full)
+    (otherVerdict T f own))
+    (stop 8)
+
+-- A release: 11 for a call that is not open, 14 for one that is not cancelled. A released call's slot is zeroed, and nothing is read.
+abbrev pub releaseVerdict : Own → Verdict
+releaseVerdict none = stop 11
+releaseVerdict (one c) = cond (c .cancelled) (goes emptyCall Unread) (stop 14)
+
+-- ---- the slot
+
+abbrev pub placed : ℕ → Verdict → Judged
+placed i (stop n) = Stop n
+placed i (opens c due) = Opens i c due
+placed i (goes c due) = Goes i c due
+
+-- A new call takes the lowest free slot; any other frame goes to its own call's.
+abbrev pub slotFor : Frame → List Call → ℕ
+slotFor f l = cond (eqb (f .kind) 1) (slotOf (firstSlot isFree 0 l)) (slotOf (firstSlot (isCall (f .correlation)) 0 l))
+
+unfoldable pub judgeOf : Table → Frame → List Call → Judged
+judgeOf T f l = placed (slotFor f l) (verdictOf T f (ownOf (f .correlation) l) (full l))
+
+unfoldable pub judgeRelease : (correlation : ℕ) → List Call → Judged
+judgeRelease id l = placed (slotOf (firstSlot (isCall id) 0 l)) (releaseVerdict (ownOf id l))

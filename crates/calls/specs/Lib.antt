@@ -1,4 +1,4 @@
--- The sixteen forms, the record of a call, the call table and when it is good, its step on a frame, and the order of a call's frames.
+-- The sixteen forms, the record of a call, the call table and when it is good, its step on a frame and on a release, and the order of a call's events.
 pub mod Forms
 pub mod Numbers
 pub mod Record
@@ -6,6 +6,7 @@ pub mod Slots
 pub mod Judge
 pub mod Step
 pub mod Good
+pub mod Event
 pub mod Apart
 pub mod Belongs
 pub mod Order

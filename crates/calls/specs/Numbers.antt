@@ -8,9 +8,9 @@ use lib.Dec.{eqb, leb}
 unfoldable pub endsCall : ℕ → Bool
 endsCall n = (leb 20 n && leb n 29) || eqb n 31
 
--- Bytes used: the frame's length for 0, 8 to 14, 20 to 29 and 31; otherwise 0.
+-- Bytes used: the frame's length for 0, 8 to 14, 16, 20 to 29 and 31; otherwise 0.
 unfoldable pub usesFrame : ℕ → Bool
-usesFrame n = eqb n 0 || ((leb 8 n && leb n 14) || endsCall n)
+usesFrame n = eqb n 0 || ((leb 8 n && leb n 14) || (eqb n 16 || endsCall n))
 
 -- The numbers of the two sentences, without a test.
 pub data EndsCall : ℕ → Type 0 where
@@ -20,5 +20,6 @@ pub data EndsCall : ℕ → Type 0 where
 pub data UsesFrame : ℕ → Type 0 where
   accepted : UsesFrame 0
   call : {n : ℕ} → 8 ≤ n → n ≤ 14 → UsesFrame n
+  dropped : UsesFrame 16
   refused : {n : ℕ} → 20 ≤ n → n ≤ 29 → UsesFrame n
   refused-pairs : UsesFrame 31

@@ -1,4 +1,5 @@
--- The order of a call's frames as a relation on the kinds accepted for it since its INVOKE, without its record; and what it says of a frame.
+-- The order of a call's frames as a relation on the kinds accepted for it since its INVOKE, without its record; and what it says of a frame and of a
+-- release.
 -- Assumes nothing.
 use mathlib.Core.Path.{_≡_}
 use mathlib.Core.Bool.{Bool, true, false, cond, _&&_, _||_}
@@ -16,33 +17,44 @@ use Rattle.calls.specs.declared.Payload.{Payload}
 use Rattle.calls.specs.Forms.{letter}
 use Rattle.calls.specs.Numbers.{endsCall}
 use Rattle.calls.specs.Record.{implies}
-use Rattle.calls.specs.Slots.{holds}
+use Rattle.calls.specs.Slots.{holds, Own, none, one, ownOf}
 use Rattle.calls.specs.Judge.{rightSide}
+use Rattle.calls.specs.Event.{Event, frame, release, identifier}
 use Rattle.calls.specs.Belongs.{Belongs}
-use Rattle.calls.specs.Apart.{Own, none, one, ownOf}
 
 -- The kinds accepted since INVOKE, the last first. `holds k h` says that kind k came.
+
+-- The call is cancelled: CANCEL was accepted.
+abbrev pub cancelled : List ℕ → Bool
+cancelled h = holds 8 h
 
 -- What may come next in an open call of this form.
 pub data MayCome (form : ℕ) (h : List ℕ) : ℕ → Type 0 where
   -- Stream frames need their stream in the form and not closed.
-  inStream : letter 2 form ≡ true → holds 3 h ≡ false → MayCome form h 2
-  inClose : letter 2 form ≡ true → holds 3 h ≡ false → MayCome form h 3
+  inStream : cancelled h ≡ false → letter 2 form ≡ true → holds 3 h ≡ false → MayCome form h 2
+  inClose : cancelled h ≡ false → letter 2 form ≡ true → holds 3 h ≡ false → MayCome form h 3
   -- Output frames follow RESPONSE.
-  outStream : letter 1 form ≡ true → holds 5 h ≡ false → holds 6 h ≡ true → MayCome form h 4
-  outClose : letter 1 form ≡ true → holds 5 h ≡ false → holds 6 h ≡ true → MayCome form h 5
+  outStream : cancelled h ≡ false → letter 1 form ≡ true → holds 5 h ≡ false → holds 6 h ≡ true → MayCome form h 4
+  outClose : cancelled h ≡ false → letter 1 form ≡ true → holds 5 h ≡ false → holds 6 h ≡ true → MayCome form h 5
   -- RESPONSE comes once, for every form.
-  response : holds 6 h ≡ false → MayCome form h 6
+  response : cancelled h ≡ false → holds 6 h ≡ false → MayCome form h 6
+  -- ERROR is accepted after CANCEL too.
   error : MayCome form h 7
-  cancel : MayCome form h 8
+  cancel : cancelled h ≡ false → MayCome form h 8
+
+-- A frame that crosses our cancel: one of the server's kinds, of a cancelled call, and no ERROR.
+pub record Crosses (h : List ℕ) (kind : ℕ) : Type 0 where
+  pub isCancelled : cancelled h ≡ true
+  pub fromServer : rightSide 83 kind ≡ true
+  pub noError : kind ≡ 7 → ⊥
 
 -- A call is complete after RESPONSE and the close of each stream it has.
 abbrev pub whole : (form : ℕ) → List ℕ → Bool
 whole form h = holds 6 h && (implies (letter 2 form) (holds 3 h) && implies (letter 1 form) (holds 5 h))
 
--- ERROR and CANCEL end it at once.
+-- ERROR ends it at once.
 abbrev pub over : (form : ℕ) → List ℕ → Bool
-over form h = (holds 7 h || holds 8 h) || whole form h
+over form h = holds 7 h || whole form h
 
 -- Kinds in an order that the rules allow, of a call that is not over: each might come when it came, and none ended the call.
 pub data Came (form : ℕ) : List ℕ → Type 0 where
@@ -61,9 +73,9 @@ pub data Lawful (T : Table) : Past → Type 0 where
   idle : Lawful T closed
   calling : (m : ℕ) (h : List ℕ) → m < length (T .methods) → Came (methodRow T m .form) h → Lawful T (since m h)
 
--- A frame and the number that was answered.
+-- An event and the number that was answered.
 pub record Heard : Type 0 where
-  pub frame : Frame
+  pub event : Event
   pub number : ℕ
 
 abbrev pub opened : Found → Past
@@ -74,18 +86,20 @@ abbrev pub continued : Table → (kind : ℕ) → Past → Past
 continued T kind closed = closed
 continued T kind (since m h) = cond (over (methodRow T m .form) (kind ∷ h)) closed (since m (kind ∷ h))
 
-abbrev pub accepted : Table → Frame → Past → Past
-accepted T f past =
+-- A released call has ended.
+abbrev pub accepted : Table → Event → Past → Past
+accepted T (frame f) past =
     cond (eqb (f .kind) 1) (opened (findMethod T (f .«package») (f .service) (f .method))) (continued T (f .kind) past)
+accepted T (release id) past = closed
 
 -- An accepted frame is kept, or ends the call; payload refusals end the open call, and an INVOKE so refused opens none.
 abbrev pub after : Table → Heard → Past → Past
-after T e past = cond (eqb (e .number) 0) (accepted T (e .frame) past) (cond (endsCall (e .number)) closed past)
+after T e past = cond (eqb (e .number) 0) (accepted T (e .event) past) (cond (endsCall (e .number)) closed past)
 
 -- The past of an identifier after what was heard, the last first, from the past that it had before.
 unfoldable pub pastOf : Table → (correlation : ℕ) → Past → List Heard → Past
 pastOf T id start [] = start
-pastOf T id start (e ∷ es) = cond (eqb (e .frame .correlation) id) (after T e (pastOf T id start es)) (pastOf T id start es)
+pastOf T id start (e ∷ es) = cond (eqb (identifier (e .event)) id) (after T e (pastOf T id start es)) (pastOf T id start es)
 
 -- ---- what the rules say of a frame, by the past of its identifier
 
@@ -94,8 +108,7 @@ pub data Ruling : Type 0 where
   refused : ℕ → Ruling
   comes : Payload → Ruling
 
--- `full` says that 128 calls are open.
-module _ (T : Table) (f : Frame) (full : Bool) where
+module _ (T : Table) (f : Frame) where
   abbrev pub methodNamed : Found
   methodNamed = findMethod T (f .«package») (f .service) (f .method)
 
@@ -106,20 +119,30 @@ module _ (T : Table) (f : Frame) (full : Bool) where
   abbrev pub same : ℕ → Bool
   same m = named (f .«package») (f .service) (f .method) (methodRow T m)
 
+-- `full` says that 128 calls are open.
+module _ (T : Table) (f : Frame) (full : Bool) where
   pub data Ruled : Past → Ruling → Type 0 where
     wrongSide : (past : Past) → rightSide (f .side) (f .kind) ≡ false → Ruled past (refused 8)
     -- INVOKE: 9, 10, 13, payload
-    unknown : (past : Past) → sent → f .kind ≡ 1 → methodNamed ≡ Missing → Ruled past (refused 9)
-    already : (m n : ℕ) (h : List ℕ) → sent → f .kind ≡ 1 → methodNamed ≡ At n → Ruled (since m h) (refused 10)
-    noRoom : (n : ℕ) → sent → f .kind ≡ 1 → methodNamed ≡ At n → full ≡ true → Ruled closed (refused 13)
-    opens : (n : ℕ) (d : Payload) → sent → f .kind ≡ 1 → methodNamed ≡ At n → full ≡ false → Belongs (methodRow T n) 1 d → Ruled closed (comes d)
-    -- the others: 11, 12, 14, payload
-    notOpen : sent → (f .kind ≡ 1 → ⊥) → Ruled closed (refused 11)
-    differ : (m : ℕ) (h : List ℕ) → sent → (f .kind ≡ 1 → ⊥) → same m ≡ false → Ruled (since m h) (refused 12)
-    notNow : (m : ℕ) (h : List ℕ) → sent → (f .kind ≡ 1 → ⊥) → same m ≡ true → (MayCome (methodRow T m .form) h (f .kind) → ⊥)
-        → Ruled (since m h) (refused 14)
-    goes : (m : ℕ) (h : List ℕ) (d : Payload) → sent → (f .kind ≡ 1 → ⊥) → same m ≡ true → MayCome (methodRow T m .form) h (f .kind)
+    unknown : (past : Past) → sent T f → f .kind ≡ 1 → methodNamed T f ≡ Missing → Ruled past (refused 9)
+    already : (m n : ℕ) (h : List ℕ) → sent T f → f .kind ≡ 1 → methodNamed T f ≡ At n → Ruled (since m h) (refused 10)
+    noRoom : (n : ℕ) → sent T f → f .kind ≡ 1 → methodNamed T f ≡ At n → full ≡ true → Ruled closed (refused 13)
+    opens : (n : ℕ) (d : Payload) → sent T f → f .kind ≡ 1 → methodNamed T f ≡ At n → full ≡ false → Belongs (methodRow T n) 1 d → Ruled closed (comes d)
+    -- the others: 11, 12, 14 or 16, payload
+    notOpen : sent T f → (f .kind ≡ 1 → ⊥) → Ruled closed (refused 11)
+    differ : (m : ℕ) (h : List ℕ) → sent T f → (f .kind ≡ 1 → ⊥) → same T f m ≡ false → Ruled (since m h) (refused 12)
+    notNow : (m : ℕ) (h : List ℕ) → sent T f → (f .kind ≡ 1 → ⊥) → same T f m ≡ true → (MayCome (methodRow T m .form) h (f .kind) → ⊥)
+        → (Crosses h (f .kind) → ⊥) → Ruled (since m h) (refused 14)
+    -- 16 stands where 14 would.
+    dropped : (m : ℕ) (h : List ℕ) → sent T f → same T f m ≡ true → Crosses h (f .kind) → Ruled (since m h) (refused 16)
+    goes : (m : ℕ) (h : List ℕ) (d : Payload) → sent T f → (f .kind ≡ 1 → ⊥) → same T f m ≡ true → MayCome (methodRow T m .form) h (f .kind)
         → Belongs (methodRow T m) (f .kind) d → Ruled (since m h) (comes d)
+
+-- What the rules say of a release: 11 for a call not open, 14 for one not cancelled.
+pub data Releases : Past → (number : ℕ) → Type 0 where
+  noCall : Releases closed 11
+  notCancelled : (m : ℕ) (h : List ℕ) → cancelled h ≡ false → Releases (since m h) 14
+  released : (m : ℕ) (h : List ℕ) → cancelled h ≡ true → Releases (since m h) 0
 
 -- ---- the record reflects the past
 
@@ -129,8 +152,8 @@ pub record Marks (m : ℕ) (h : List ℕ) (c : Call) : Type 0 where
   pub responded : c .responded ≡ holds 6 h
   pub inputClosed : c .«input_closed» ≡ holds 3 h
   pub outputClosed : c .«output_closed» ≡ holds 5 h
+  pub isCancelled : c .cancelled ≡ cancelled h
   pub noError : holds 7 h ≡ false
-  pub noCancel : holds 8 h ≡ false
 
 pub data Reflects : Past → Own → Type 0 where
   nothing : Reflects closed none

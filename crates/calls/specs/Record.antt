@@ -9,12 +9,12 @@ use Rattle.calls.specs.declared.FormRow.{FormRow}
 -- The record of a free slot is zero in every member.
 abbrev pub emptyCall : Call
 emptyCall =
-    record { correlation = 0; method = 0; «open» = false; responded = false; «input_closed» = false; «output_closed» = false }
+    record { correlation = 0; method = 0; «open» = false; responded = false; «input_closed» = false; «output_closed» = false; cancelled = false }
 
 -- The record that INVOKE makes.
 abbrev pub openedCall : (method correlation : ℕ) → Call
 openedCall m id =
-    record { correlation = id; method = m; «open» = true; responded = false; «input_closed» = false; «output_closed» = false }
+    record { correlation = id; method = m; «open» = true; responded = false; «input_closed» = false; «output_closed» = false; cancelled = false }
 
 -- The call is open under this correlation.
 abbrev pub isCall : ℕ → Call → Bool
@@ -30,15 +30,21 @@ implies a b = not a || b
 abbrev pub complete : FormRow → Call → Bool
 complete row c = c .responded && (implies (row .1) (c .«input_closed») && implies (row .3) (c .«output_closed»))
 
--- Whether a frame that is no INVOKE is allowed now: 2 IN_STREAM and 3 IN_CLOSE need the input stream, not closed; 4 OUT_STREAM and 5 OUT_CLOSE the
--- output stream, not closed, and RESPONSE; 6 RESPONSE comes once; 7 ERROR and 8 CANCEL are always allowed.
+-- Whether a frame that is no INVOKE is allowed now: 7 ERROR always; a cancelled call allows nothing else. 2 IN_STREAM and 3 IN_CLOSE need the input
+-- stream, not closed; 4 OUT_STREAM and 5 OUT_CLOSE the output stream, not closed, and RESPONSE; 6 RESPONSE comes once; 8 CANCEL may come at any time.
 abbrev pub allowed : FormRow → ℕ → Call → Bool
 allowed row kind c =
-    (eqb kind 2 && (row .0 && not (c .«input_closed»))) ||
+    eqb kind 7 ||
+    (not (c .cancelled) &&
+    ((eqb kind 2 && (row .0 && not (c .«input_closed»))) ||
     ((eqb kind 3 && (row .1 && not (c .«input_closed»))) ||
     ((eqb kind 4 && (row .2 && (c .responded && not (c .«output_closed»)))) ||
     ((eqb kind 5 && (row .3 && (c .responded && not (c .«output_closed»)))) ||
-    ((eqb kind 6 && not (c .responded)) || leb 7 kind))))
+    ((eqb kind 6 && not (c .responded)) || eqb kind 8))))))
+
+-- The number of a frame that is not allowed now: 14; for a server frame of a cancelled call, which is dropped, 16 stands there.
+abbrev pub notAllowed : ℕ → Call → ℕ
+notAllowed kind c = cond (c .cancelled && (leb 4 kind && leb kind 7)) 16 14
 
 -- The record with the mark of an accepted frame.
 abbrev pub marked : ℕ → Call → Call
@@ -50,11 +56,25 @@ marked kind c =
       responded = c .responded || eqb kind 6;
       «input_closed» = c .«input_closed» || eqb kind 3;
       «output_closed» = c .«output_closed» || eqb kind 5;
+      cancelled = c .cancelled || eqb kind 8;
     }
 
--- ERROR and CANCEL end a call at once, and so does the frame that makes it complete.
+-- An open call's record with this cancelled mark, and every other member as it was.
+abbrev pub withMark : Bool → Call → Call
+withMark b c =
+    record {
+      correlation = c .correlation;
+      method = c .method;
+      «open» = true;
+      responded = c .responded;
+      «input_closed» = c .«input_closed»;
+      «output_closed» = c .«output_closed»;
+      cancelled = b;
+    }
+
+-- ERROR ends a call at once, and so does the frame that makes it complete. CANCEL marks it.
 abbrev pub ends : FormRow → ℕ → Call → Bool
-ends row kind c = leb 7 kind || complete row (marked kind c)
+ends row kind c = eqb kind 7 || complete row (marked kind c)
 
 -- The record after an accepted frame; an ended one is zeroed.
 abbrev pub afterFrame : FormRow → ℕ → Call → Call
@@ -65,10 +85,11 @@ afterFrame row kind c = cond (ends row kind c) emptyCall (marked kind c)
 abbrev pub zeroCall : Call → Bool
 zeroCall c =
     eqb (c .correlation) 0 &&
-    (eqb (c .method) 0 && (not (c .responded) && (not (c .«input_closed») && not (c .«output_closed»))))
+    (eqb (c .method) 0 &&
+    (not (c .responded) && (not (c .«input_closed») && (not (c .«output_closed») && not (c .cancelled)))))
 
 -- An open record: its method is one of the table's, a closed mark stands only where the form has that stream, output isn't ended before
--- RESPONSE, and the call is not complete.
+-- RESPONSE, and the call is not complete. The cancelled mark may stand in any.
 abbrev pub goodOpen : (methods : ℕ) → FormRow → Call → Bool
 goodOpen methods row c =
     ltb (c .method) methods &&

@@ -8,12 +8,12 @@ use lib.Dec.{eqb}
 use Rattle.schema.specs.declared.Found.{Found}
 use Rattle.schema.specs.declared.Found.the-variants.{At, Missing}
 use Rattle.schema.specs.Table.{Table}
-use Rattle.schema.specs.Check.{methodRow}
+use Rattle.schema.specs.Check.{methodRow, isMissing}
 use Rattle.calls.specs.declared.Call.{Call}
 use Rattle.calls.specs.declared.CallTable.{CallTable}
 use Rattle.calls.specs.declared.FormRow.{FormRow}
 use Rattle.calls.specs.Forms.{rowOf}
-use Rattle.calls.specs.Record.{emptyCall, goodOpen, zeroCall}
+use Rattle.calls.specs.Record.{emptyCall, isCall, isFree, goodOpen, zeroCall}
 
 -- The table at the start: 128 equal empty records.
 abbrev pub freshTable : CallTable
@@ -27,6 +27,28 @@ slot l i = getD l i emptyCall
 abbrev pub firstSlot : (Call → Bool) → ℕ → List Call → Found
 firstSlot p i [] = Missing
 firstSlot p i (x ∷ xs) = cond (p x) (At i) (firstSlot p (suc i) xs)
+
+-- The place found; 128, past the last slot, where there is none.
+abbrev pub slotOf : Found → ℕ
+slotOf Missing = 128
+slotOf (At i) = i
+
+-- The record of a call, or none.
+pub data Own : Type 0 where
+  none : Own
+  one : Call → Own
+
+abbrev pub recordAt : List Call → Found → Own
+recordAt l Missing = none
+recordAt l (At i) = one (slot l i)
+
+-- The record of the call that is open under this correlation.
+unfoldable pub ownOf : (correlation : ℕ) → List Call → Own
+ownOf id l = recordAt l (firstSlot (isCall id) 0 l)
+
+-- No slot is free: as many calls are open as there are slots, 128.
+unfoldable pub full : List Call → Bool
+full l = isMissing (firstSlot isFree 0 l)
 
 -- How many calls are open.
 abbrev pub countOpen : List Call → ℕ

@@ -15,7 +15,7 @@ use Rattle.calls.specs.declared.Judged.the-variants.{Stop, Opens, Goes}
 use Rattle.calls.specs.declared.Stepped.{Stepped}
 use Rattle.calls.specs.Numbers.{endsCall}
 use Rattle.calls.specs.Record.{emptyCall}
-use Rattle.calls.specs.Judge.{judgeOf}
+use Rattle.calls.specs.Judge.{judgeOf, judgeRelease}
 
 -- The answer's number: the judgement's, or else the payload's.
 abbrev pub numberOf : Judged → (payload : ℕ) → ℕ
@@ -43,3 +43,7 @@ dueOf (Goes i c due) = due
 -- `reading` gives the number of the payload by what it holds.
 unfoldable pub receive : Table → Frame → (reading : Payload → ℕ) → List Call → Stepped
 receive T f reading l = stepOf (judgeOf T f l) (reading (dueOf (judgeOf T f l))) l
+
+-- The release of a call reads nothing.
+unfoldable pub release : (correlation : ℕ) → List Call → Stepped
+release id l = stepOf (judgeRelease id l) 0 l

@@ -5,6 +5,7 @@ use crate::Frame;
 use crate::Judged;
 use crate::Payload;
 use crate::forms::row_of;
+use crate::record::EMPTY;
 use schema::Found;
 use schema::Method;
 use schema::access::find_method;
@@ -12,10 +13,10 @@ use schema::access::method;
 use schema::rows::is_named;
 ghost use mathlib.Core.Path.{_≡_};
 ghost use Rattle.schema.specs.File.{tableOf};
-ghost use Rattle.schema.specs.Check.{IsGood, findMethod};
+ghost use Rattle.schema.specs.Check.{IsGood};
 ghost use Rattle.calls.specs.Record.{isCall, isFree};
-ghost use Rattle.calls.specs.Slots.{firstSlot};
-ghost use Rattle.calls.specs.Judge.{rightSide, typed, payloadOf, opensAt, judgeInvoke, judgeCall, judgeOther, judgeOf};
+ghost use Rattle.calls.specs.Slots.{firstSlot, slotOf, ownOf, full};
+ghost use Rattle.calls.specs.Judge.{rightSide, typed, payloadOf, callVerdict, openVerdict, invokeVerdict, otherVerdict, methodOf, placed, judgeOf, judgeRelease};
 
 // The kind comes from this side, the byte C or S.
 pub fn right_side(side: u8, kind: u8) -> bool
@@ -53,7 +54,7 @@ pub fn payload_of(m: Method, kind: u8) -> Payload
 impl Call {
     // A frame that is no INVOKE, to this open call of method m at slot i.
     pub fn judge(self, m: Method, f: Frame, i: usize) -> Judged
-        ensures { λ r. ⌜ r ≡ judgeCall m f i self ⌝ }
+        ensures { λ r. ⌜ r ≡ placed i (callVerdict m f self) ⌝ }
     {
         if !is_named(m, f.package, f.service, f.method) {
             return Judged::Stop(12);
@@ -62,7 +63,7 @@ impl Call {
         if self.allows(row, f.kind) {
             Judged::Goes(i, self.after(row, f.kind), payload_of(m, f.kind))
         } else {
-            Judged::Stop(14)
+            Judged::Stop(self.not_allowed(f.kind))
         }
     }
 }
@@ -70,7 +71,7 @@ impl Call {
 impl CallTable {
     // An INVOKE that would make this record.
     fn judge_opening(self, new: Call, payload: Payload) -> Judged
-        ensures { λ r. ⌜ r ≡ opensAt new payload (firstSlot (isCall (new .correlation)) 0 (self .slots)) (firstSlot isFree 0 (self .slots)) ⌝ }
+        ensures { λ r. ⌜ r ≡ placed (slotOf (firstSlot isFree 0 (self .slots))) (openVerdict new payload (ownOf (new .correlation) (self .slots)) (full (self .slots))) ⌝ }
     {
         match self.find(new.correlation) {
             Found::At(_) => Judged::Stop(10),
@@ -83,7 +84,7 @@ impl CallTable {
 
     fn judge_invoke(self, s: &[u8], f: Frame) -> Judged
         requires { ⌜ IsGood (now s) ⌝ }
-        ensures { λ r. ⌜ r ≡ judgeInvoke (tableOf (now (s .entry))) (f .correlation) (findMethod (tableOf (now (s .entry))) (f .«package») (f .service) (f .method)) (self .slots) ⌝ }
+        ensures { λ r. ⌜ r ≡ placed (slotOf (firstSlot isFree 0 (self .slots))) (invokeVerdict (tableOf (now (s .entry))) (f .correlation) (methodOf (tableOf (now (s .entry))) f) (ownOf (f .correlation) (self .slots)) (full (self .slots))) ⌝ }
     {
         match find_method(s, f.package, f.service, f.method) {
             Found::Missing => Judged::Stop(9),
@@ -96,7 +97,7 @@ impl CallTable {
 
     fn judge_other(self, s: &[u8], f: Frame) -> Judged
         requires { ⌜ IsGood (now s) ⌝ }
-        ensures { λ r. ⌜ r ≡ judgeOther (tableOf (now (s .entry))) f (firstSlot (isCall (f .correlation)) 0 (self .slots)) (self .slots) ⌝ }
+        ensures { λ r. ⌜ r ≡ placed (slotOf (firstSlot (isCall (f .correlation)) 0 (self .slots))) (otherVerdict (tableOf (now (s .entry))) f (ownOf (f .correlation) (self .slots))) ⌝ }
     {
         match self.find(f.correlation) {
             Found::Missing => Judged::Stop(11),
@@ -119,6 +120,23 @@ impl CallTable {
             self.judge_invoke(s, f)
         } else {
             self.judge_other(s, f)
+        }
+    }
+
+    // A release, before the call is ended.
+    pub fn judge_release(self, id: u64) -> Judged
+        ensures { λ r. ⌜ r ≡ judgeRelease id (self .slots) ⌝ }
+    {
+        match self.find(id) {
+            Found::Missing => Judged::Stop(11),
+            Found::At(i) => {
+                let call = self.at(i);
+                if call.cancelled {
+                    Judged::Goes(i, EMPTY, Payload::Unread)
+                } else {
+                    Judged::Stop(14)
+                }
+            }
         }
     }
 }

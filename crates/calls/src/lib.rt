@@ -1,4 +1,4 @@
-// The calls of a connection: the call table by value, when it is good, and its step on a judged frame.
+// The calls of a connection: the call table by value, when it is good, and its step on a judged frame and on a release.
 pub mod forms;
 pub mod good;
 pub mod judge;
@@ -15,6 +15,8 @@ pub struct Call {
     pub responded: bool,
     pub input_closed: bool,
     pub output_closed: bool,
+    // CANCEL was accepted: only ERROR and a release end the call.
+    pub cancelled: bool,
 }
 
 pub struct CallTable {
@@ -41,7 +43,7 @@ pub enum Payload {
     Unread,
 }
 
-// A frame judged before its payload is read.
+// A frame judged before its payload is read; or a release, which reads nothing.
 pub enum Judged {
     // It is refused with this number.
     Stop(u32),

@@ -13,5 +13,5 @@ pub fn ends_call(number: u32) -> bool
 pub fn uses_frame(number: u32) -> bool
     ensures { λ r. ⌜ r ≡ usesFrame number ⌝ }
 {
-    (number == 0) | (((8 <= number) & (number <= 14)) | ends_call(number))
+    (number == 0) | (((8 <= number) & (number <= 14)) | ((number == 16) | ends_call(number)))
 }

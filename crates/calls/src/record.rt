@@ -2,7 +2,7 @@
 use crate::Call;
 use crate::FormRow;
 ghost use mathlib.Core.Path.{_≡_};
-ghost use Rattle.calls.specs.Record.{isCall, isFree, openedCall, complete, allowed, marked, afterFrame, zeroCall, goodOpen};
+ghost use Rattle.calls.specs.Record.{isCall, isFree, openedCall, complete, allowed, notAllowed, marked, afterFrame, zeroCall, goodOpen};
 
 pub const EMPTY: Call = Call {
     correlation: 0,
@@ -11,6 +11,7 @@ pub const EMPTY: Call = Call {
     responded: false,
     input_closed: false,
     output_closed: false,
+    cancelled: false,
 };
 
 impl Call {
@@ -25,6 +26,7 @@ impl Call {
             responded: false,
             input_closed: false,
             output_closed: false,
+            cancelled: false,
         }
     }
 
@@ -52,11 +54,24 @@ impl Call {
     pub fn allows(self, row: FormRow, kind: u8) -> bool
         ensures { λ r. ⌜ r ≡ allowed row kind self ⌝ }
     {
-        ((kind == 2) & (row.0 & !self.input_closed))
-            | (((kind == 3) & (row.1 & !self.input_closed))
-                | (((kind == 4) & (row.2 & (self.responded & !self.output_closed)))
-                    | (((kind == 5) & (row.3 & (self.responded & !self.output_closed)))
-                        | (((kind == 6) & !self.responded) | (7 <= kind)))))
+        (kind == 7)
+            | (!self.cancelled
+                & (((kind == 2) & (row.0 & !self.input_closed))
+                    | (((kind == 3) & (row.1 & !self.input_closed))
+                        | (((kind == 4) & (row.2 & (self.responded & !self.output_closed)))
+                            | (((kind == 5) & (row.3 & (self.responded & !self.output_closed)))
+                                | (((kind == 6) & !self.responded) | (kind == 8)))))))
+    }
+
+    // The number of a frame that is not allowed now: a server frame of a cancelled call is dropped.
+    pub fn not_allowed(self, kind: u8) -> u32
+        ensures { λ r. ⌜ r ≡ notAllowed kind self ⌝ }
+    {
+        if self.cancelled & ((4 <= kind) & (kind <= 7)) {
+            16
+        } else {
+            14
+        }
     }
 
     // With the mark of an accepted frame.
@@ -70,6 +85,7 @@ impl Call {
             responded: self.responded | (kind == 6),
             input_closed: self.input_closed | (kind == 3),
             output_closed: self.output_closed | (kind == 5),
+            cancelled: self.cancelled | (kind == 8),
         }
     }
 
@@ -78,7 +94,7 @@ impl Call {
         ensures { λ r. ⌜ r ≡ afterFrame row kind self ⌝ }
     {
         let next = self.mark(kind);
-        if (7 <= kind) | next.is_complete(row) {
+        if (kind == 7) | next.is_complete(row) {
             EMPTY
         } else {
             next
@@ -89,7 +105,9 @@ impl Call {
         ensures { λ r. ⌜ r ≡ zeroCall self ⌝ }
     {
         (self.correlation == 0)
-            & ((self.method == 0) & (!self.responded & (!self.input_closed & !self.output_closed)))
+            & ((self.method == 0)
+                & (!self.responded
+                    & (!self.input_closed & (!self.output_closed & !self.cancelled))))
     }
 
     // An open record is good by itself, where the schema has so many methods and its own has this form.

@@ -1,4 +1,4 @@
-// Cases of the frames of a line: a run from the fresh call table, and one frame on any call table.
+// Cases of the events of a line, frames and releases: from the fresh call table, and one on any call table.
 use crate::input;
 use crate::output;
 use crate::sums;
@@ -7,8 +7,8 @@ use crate::values::CELL;
 use calls::Call;
 use calls::CallTable;
 
-// The most frames of a run.
-const FRAMES: u32 = 1000;
+// The most events of a run or a history.
+const EVENTS: u32 = 1000;
 
 // The next call table, and the sheet's sum.
 struct Next {
@@ -19,30 +19,70 @@ struct Next {
 // Code 8: a table, the number of the sheet's cells, and frames with their sides. A line for each has number, place, bytes used, rows, the tail's place
 // and length, calls open, key comparisons, and the sheet's sum.
 pub fn run() -> bool {
+    run_case(false)
+}
+
+// Code 11: the same with releases. A byte before each event says which it is: 0 a frame, 1 a release. A release's line has number, place and calls open.
+pub fn history() -> bool {
+    run_case(true)
+}
+
+fn run_case(marked: bool) -> bool {
     let mut schema = [0u8; MOST];
     let mut whole = true;
     let n = input::bytes(&mut schema, &mut whole);
     let cells = input::word(&mut whole) as usize;
-    let frames = input::word(&mut whole);
-    if (MOST < cells) | (FRAMES < frames) {
+    let events = input::word(&mut whole);
+    if (MOST < cells) | (EVENTS < events) {
         whole = false;
     }
     if whole {
-        run_frames(&schema[..n], cells, frames, &mut whole);
+        run_events(&schema[..n], cells, events, marked, &mut whole);
     }
     whole
 }
 
-fn run_frames(schema: &[u8], cells: usize, frames: u32, whole: &mut bool) {
+fn run_events(schema: &[u8], cells: usize, events: u32, marked: bool, whole: &mut bool) {
     let mut table = arf::fresh();
-    let mut left = frames;
+    let mut left = events;
     while left > 0 {
-        table = run_frame(table, schema, cells, whole);
+        table = run_event(table, schema, cells, marked, whole);
         left -= 1;
     }
 }
 
-// The next frame of the file; a frame that is cut leaves the table as it was.
+// The next event of the file; one that is cut leaves the table as it was.
+fn run_event(
+    table: CallTable,
+    schema: &[u8],
+    cells: usize,
+    marked: bool,
+    whole: &mut bool,
+) -> CallTable {
+    let sort = if marked { input::byte(whole) } else { 0 };
+    match sort {
+        0 => run_frame(table, schema, cells, whole),
+        1 => run_release(table, schema, whole),
+        _ => {
+            *whole = false;
+            table
+        }
+    }
+}
+
+fn run_release(table: CallTable, schema: &[u8], whole: &mut bool) -> CallTable {
+    let correlation = input::long(whole);
+    if !*whole {
+        return table;
+    }
+    let r = arf::release(table, schema, correlation);
+    output::number(r.number as u64);
+    output::number(r.place as u64);
+    output::last(r.open as u64);
+    let next = r.table;
+    next
+}
+
 fn run_frame(table: CallTable, schema: &[u8], cells: usize, whole: &mut bool) -> CallTable {
     let mut data = [0u8; MOST];
     let mut sheet = [CELL; MOST];
@@ -94,6 +134,24 @@ pub fn receive() -> bool {
     whole
 }
 
+// Code 10: a table, a call table and a correlation. The line has number, place, calls open and the next call table's sum.
+pub fn release() -> bool {
+    let mut schema = [0u8; MOST];
+    let mut whole = true;
+    let n = input::bytes(&mut schema, &mut whole);
+    let table = read_table(&mut whole);
+    let correlation = input::long(&mut whole);
+    if whole {
+        let r = arf::release(table, &schema[..n], correlation);
+        output::number(r.number as u64);
+        output::number(r.place as u64);
+        output::number(r.open as u64);
+        let next = r.table;
+        output::last(sums::of_calls(next));
+    }
+    whole
+}
+
 fn read_table(whole: &mut bool) -> CallTable {
     let mut table = arf::fresh();
     let mut i = 0;
@@ -111,6 +169,7 @@ fn read_call(whole: &mut bool) -> Call {
     let responded = read_mark(whole);
     let input_closed = read_mark(whole);
     let output_closed = read_mark(whole);
+    let cancelled = read_mark(whole);
     Call {
         correlation,
         method,
@@ -118,6 +177,7 @@ fn read_call(whole: &mut bool) -> Call {
         responded,
         input_closed,
         output_closed,
+        cancelled,
     }
 }
 

@@ -25,6 +25,8 @@ fn run_case() -> bool {
         7 => frames::write(),
         8 => lines::run(),
         9 => lines::receive(),
+        10 => lines::release(),
+        11 => lines::history(),
         15 => values::write_frame(),
         17 => records::salvage(),
         18 => values::forward(),

@@ -35,7 +35,8 @@ fn add_call(start: u64, call: calls::Call) -> u64 {
     h = add_word(h, call.method as u64);
     h = add_mark(h, call.responded);
     h = add_mark(h, call.input_closed);
-    add_mark(h, call.output_closed)
+    h = add_mark(h, call.output_closed);
+    add_mark(h, call.cancelled)
 }
 
 pub fn of_calls(table: calls::CallTable) -> u64 {

@@ -1,4 +1,4 @@
--- A call table survives being stored and read back, so that a run over lent cells is the run of the call table itself.
+-- A call table survives being stored and read back, so that a history over lent cells is the history of the call table itself.
 -- Assumes nothing.
 use mathlib.Core.Path.{_≡_, refl, sym, ap, subst, _∙_}
 use mathlib.Core.Logic.{_↔_, ⊎-elim}
@@ -23,17 +23,20 @@ use Rattle.calls.specs.Record.{emptyCall}
 use Rattle.calls.specs.Slots.{slot, freshTable}
 use Rattle.calls.specs.Good.{GoodTable}
 use Rattle.calls.proofs.Goodness.{good-clauses}
-use Rattle.calls.proofs.Kept.{test-stays}
+use Rattle.calls.proofs.Kept.{test-stays, release-test}
 use Rattle.line.specs.Answer.{Line, line, stopped}
 use Rattle.line.specs.Receive.{received}
-use Rattle.line.specs.Run.{Input, runFrom}
-use Rattle.line.proofs.Kept.{holds, same-length}
+use Rattle.line.specs.declared.Released.{Released}
+use Rattle.line.specs.Release.{releaseAnswer, released}
+use Rattle.line.specs.Run.{Event, input, release, slotsAfter, runFrom}
+use Rattle.line.proofs.Kept.{holds, same-length, release-holds, release-length}
 use Rattle.line.proofs.Answers.{refused-untouched as sheet-kept}
 use Rattle.line.proofs.Records.{refused-kept}
+use Rattle.line.proofs.Releases.{refused-kept as release-kept}
 use Rattle.exports.specs.Cells.{stored}
 use Rattle.exports.specs.Records.{callOf, callAt, callsFrom, callsOf, marksOf, recordCells, cellsOf, plain, plainFrom, areCalls, AreCalls}
-use Rattle.exports.specs.Answers.{notCalls, judgement, receiving, callCells}
-use Rattle.exports.specs.Run.{Fits, runCells}
+use Rattle.exports.specs.Answers.{notCalls, judgement, receiving, notReleased, releaseJudgement, releasing, callCells}
+use Rattle.exports.specs.Run.{Fits, cellsAfter, runCells}
 use Rattle.exports.proofs.Stores.{sets-stored}
 use Rattle.exports.proofs.Tables.{calls-long}
 
@@ -52,25 +55,29 @@ bit-is zero h = refl
 bit-is (suc zero) h = refl
 bit-is (suc (suc n)) h = absurd (omega arith)
 
--- four bits, each read from the number that they count
-module _ (a b c d : ℕ) (p : a ≤ 1) (q : b ≤ 1) (r : c ≤ 1) (s : d ≤ 1) where
-  bit-1 : (a + 2 * b + 4 * c + 8 * d) % 2 ≡ a
+-- five bits, each read from the number that they count
+module _ (a b c d e : ℕ) (p : a ≤ 1) (q : b ≤ 1) (r : c ≤ 1) (s : d ≤ 1) (t : e ≤ 1) where
+  bit-1 : (a + 2 * b + 4 * c + 8 * d + 16 * e) % 2 ≡ a
   bit-1 = omega arith
 
-  bit-2 : (a + 2 * b + 4 * c + 8 * d) / 2 % 2 ≡ b
+  bit-2 : (a + 2 * b + 4 * c + 8 * d + 16 * e) / 2 % 2 ≡ b
   bit-2 = omega arith
 
-  bit-4 : (a + 2 * b + 4 * c + 8 * d) / 4 % 2 ≡ c
+  bit-4 : (a + 2 * b + 4 * c + 8 * d + 16 * e) / 4 % 2 ≡ c
   bit-4 = omega arith
 
-  bit-8 : (a + 2 * b + 4 * c + 8 * d) / 8 % 2 ≡ d
+  bit-8 : (a + 2 * b + 4 * c + 8 * d + 16 * e) / 8 % 2 ≡ d
   bit-8 = omega arith
 
-sixteen : (n : ℕ) → n % 2 + 2 * (n / 2 % 2) + 4 * (n / 4 % 2) + 8 * (n / 8 % 2) ≡ n % 16
-sixteen n =
+  bit-16 : (a + 2 * b + 4 * c + 8 * d + 16 * e) / 16 % 2 ≡ e
+  bit-16 = omega arith
+
+five-bits : (n : ℕ) → n % 2 + 2 * (n / 2 % 2) + 4 * (n / 4 % 2) + 8 * (n / 8 % 2) + 16 * (n / 16 % 2) ≡ n % 32
+five-bits n =
     let a : n / 2 ≡ 2 * (n / 4) + n / 2 % 2 = omega arith in
     let b : n / 4 ≡ 2 * (n / 8) + n / 4 % 2 = omega arith in
     let c : n / 8 ≡ 2 * (n / 16) + n / 8 % 2 = omega arith in
+    let d : n / 16 ≡ 2 * (n / 32) + n / 16 % 2 = omega arith in
     omega arith
 
 below-two : (n : ℕ) → n % 2 < 2
@@ -84,25 +91,38 @@ record-back c h =
     let r : ℕ = cond (c .responded) 1 0 in
     let i : ℕ = cond (c .«input_closed») 1 0 in
     let u : ℕ = cond (c .«output_closed») 1 0 in
+    let x : ℕ = cond (c .cancelled) 1 0 in
     let a = bit-small (c .«open») in
     let b = bit-small (c .responded) in
     let d = bit-small (c .«input_closed») in
     let e = bit-small (c .«output_closed») in
+    let f = bit-small (c .cancelled) in
+    let one : ℕ → Bool = λ n. eqb n 1 in
     let method : c .method % 4294967296 ≡ c .method = omega arith in
-    let first : eqb (marksOf c % 2) 1 ≡ c .«open» = ap (λ (n : ℕ). eqb n 1) (bit-1 o r i u a b d e) ∙ bit-told (c .«open») in
-    let second : eqb (marksOf c / 2 % 2) 1 ≡ c .responded = ap (λ (n : ℕ). eqb n 1) (bit-2 o r i u a b d e) ∙ bit-told (c .responded) in
-    let third : eqb (marksOf c / 4 % 2) 1 ≡ c .«input_closed» = ap (λ (n : ℕ). eqb n 1) (bit-4 o r i u a b d e) ∙ bit-told (c .«input_closed») in
-    let fourth : eqb (marksOf c / 8 % 2) 1 ≡ c .«output_closed» = ap (λ (n : ℕ). eqb n 1) (bit-8 o r i u a b d e) ∙ bit-told (c .«output_closed») in
-    λ k. record { correlation = c .correlation; method = method k; «open» = first k; responded = second k; «input_closed» = third k; «output_closed» = fourth k }
+    let first : eqb (marksOf c % 2) 1 ≡ c .«open» = ap one (bit-1 o r i u x a b d e f) ∙ bit-told (c .«open») in
+    let second : eqb (marksOf c / 2 % 2) 1 ≡ c .responded = ap one (bit-2 o r i u x a b d e f) ∙ bit-told (c .responded) in
+    let third : eqb (marksOf c / 4 % 2) 1 ≡ c .«input_closed» = ap one (bit-4 o r i u x a b d e f) ∙ bit-told (c .«input_closed») in
+    let fourth : eqb (marksOf c / 8 % 2) 1 ≡ c .«output_closed» = ap one (bit-8 o r i u x a b d e f) ∙ bit-told (c .«output_closed») in
+    let fifth : eqb (marksOf c / 16 % 2) 1 ≡ c .cancelled = ap one (bit-16 o r i u x a b d e f) ∙ bit-told (c .cancelled) in
+    λ k.
+    record {
+      correlation = c .correlation;
+      method = method k;
+      «open» = first k;
+      responded = second k;
+      «input_closed» = third k;
+      «output_closed» = fourth k;
+      cancelled = fifth k;
+    }
 
 -- The cells of a record that was read are those that it was read from.
-pub record-plain : (id method marks : ℕ) → method < 4294967296 → marks < 16 → recordCells (callOf id method marks) ≡ id ∷ method ∷ marks ∷ []
+pub record-plain : (id method marks : ℕ) → method < 4294967296 → marks < 32 → recordCells (callOf id method marks) ≡ id ∷ method ∷ marks ∷ []
 unfolding callOf
 record-plain id method marks few small =
     let bit : (n : ℕ) → cond (eqb (n % 2) 1) 1 0 ≡ n % 2 = λ n. bit-is (n % 2) (below-two n) in
     let number : method % 4294967296 ≡ method = omega arith in
-    let four : marks % 16 ≡ marks = omega arith in
-    rw (number, bit marks, bit (marks / 2), bit (marks / 4), bit (marks / 8), sixteen marks, four)
+    let five : marks % 32 ≡ marks = omega arith in
+    rw (number, bit marks, bit (marks / 2), bit (marks / 4), bit (marks / 8), bit (marks / 16), five-bits marks, five)
 
 -- ---- the whole table
 
@@ -195,8 +215,8 @@ are-calls-iff cells = (told, test)
         plain-at cells 0 128 (and-right (leb 384 (length cells)) (plainFrom cells 0 128) t) i (omega arith) h in
         record {
           enough = leb-true 384 (length cells) (and-left (leb 384 (length cells)) (plainFrom cells 0 128) t);
-          methods = λ i h. ltb-true (getD cells (3 * i + 1) 0) 4294967296 (and-left (ltb (getD cells (3 * i + 1) 0) 4294967296) (ltb (getD cells (3 * i + 2) 0) 16) (each i h));
-          marks = λ i h. ltb-true (getD cells (3 * i + 2) 0) 16 (and-right (ltb (getD cells (3 * i + 1) 0) 4294967296) (ltb (getD cells (3 * i + 2) 0) 16) (each i h));
+          methods = λ i h. ltb-true (getD cells (3 * i + 1) 0) 4294967296 (and-left (ltb (getD cells (3 * i + 1) 0) 4294967296) (ltb (getD cells (3 * i + 2) 0) 32) (each i h));
+          marks = λ i h. ltb-true (getD cells (3 * i + 2) 0) 32 (and-right (ltb (getD cells (3 * i + 1) 0) 4294967296) (ltb (getD cells (3 * i + 2) 0) 32) (each i h));
         }
 
     test : AreCalls cells → areCalls cells ≡ true
@@ -204,8 +224,8 @@ are-calls-iff cells = (told, test)
         and-i (leb 384 (length cells)) (plainFrom cells 0 128) (le-leb 384 (length cells) (w .enough))
         (all-plain cells 0 128
         (λ j low high.
-        and-i (ltb (getD cells (3 * j + 1) 0) 4294967296) (ltb (getD cells (3 * j + 2) 0) 16)
-        (lt-ltb (getD cells (3 * j + 1) 0) 4294967296 (w .methods j high)) (lt-ltb (getD cells (3 * j + 2) 0) 16 (w .marks j high))))
+        and-i (ltb (getD cells (3 * j + 1) 0) 4294967296) (ltb (getD cells (3 * j + 2) 0) 32)
+        (lt-ltb (getD cells (3 * j + 1) 0) 4294967296 (w .methods j high)) (lt-ltb (getD cells (3 * j + 2) 0) 32 (w .marks j high))))
 
 -- three cells more at the front, and one record later
 plain-later : (a b m : ℕ) (cells : List ℕ) (i n : ℕ) → plainFrom (a ∷ b ∷ m ∷ cells) (suc i) n ≡ plainFrom cells i n
@@ -216,12 +236,13 @@ plain-later a b m cells i (suc n) =
     let one : 3 * suc i + 1 ≡ suc (suc (suc (3 * i + 1))) = omega arith in
     rw (two, one) (ap (λ (t : Bool). plainAt cells i && t) (plain-later a b m cells (suc i) n))
 
-marks-small : (c : Call) → marksOf c < 16
+marks-small : (c : Call) → marksOf c < 32
 marks-small c =
     let a = bit-small (c .«open») in
     let b = bit-small (c .responded) in
     let d = bit-small (c .«input_closed») in
     let e = bit-small (c .«output_closed») in
+    let f = bit-small (c .cancelled) in
     omega arith
 
 front-plain : (l : List Call) (rest : List ℕ) → Fits l → plainFrom (cellsOf l ++ rest) 0 (length l) ≡ true
@@ -229,7 +250,7 @@ unfolding plainFrom cellsOf
 front-plain [] rest h = refl
 front-plain (c ∷ cs) rest h =
     and-i (plain (c .method) (marksOf c)) (plainFrom (cellsOf (c ∷ cs) ++ rest) 1 (length cs))
-    (and-i (ltb (c .method) 4294967296) (ltb (marksOf c) 16) (lt-ltb (c .method) 4294967296 (h 0)) (lt-ltb (marksOf c) 16 (marks-small c)))
+    (and-i (ltb (c .method) 4294967296) (ltb (marksOf c) 32) (lt-ltb (c .method) 4294967296 (h 0)) (lt-ltb (marksOf c) 32 (marks-small c)))
     (plain-later (c .correlation) (c .method) (marksOf c) (cellsOf cs ++ rest) 0 (length cs) ∙ front-plain cs rest (λ i. h (suc i)))
 
 -- The cells of a table are a call table.
@@ -379,25 +400,100 @@ zeros-calls n h =
       marks = λ i k. rw (zero-cell n (3 * i + 2)) (lit≤ tt);
     }
 
--- ---- a run
+-- ---- one release
+
+refused-release : (v : Checked) (l : List Call) → notReleased v l .table .slots ≡ l
+unfolding releaseAnswer
+refused-release Good l = refl
+refused-release (Faulty n q) l = refl
+
+module _ (cells schema : List ℕ) (id : ℕ) where
+  abbrev reply : Released
+  reply = releasing cells schema id
+
+  abbrev left : List ℕ
+  left = callCells cells (reply .table .slots)
+
+  -- Cells that are no call table are refused with 15, after the schema's faults.
+  pub release-refused : areCalls cells ≡ false → reply ≡ notReleased (checked schema) (callsOf cells)
+  unfolding releaseJudgement
+  release-refused bad = rw bad
+
+  module _ (good : areCalls cells ≡ true) where
+    abbrev remaining : List Call
+    remaining = released schema (callsOf cells) id .table .slots
+
+    -- The answer is the one over the table that they hold.
+    pub release-judged : reply ≡ released schema (callsOf cells) id
+    unfolding releaseJudgement
+    release-judged = rw good
+
+    remaining-long : length remaining ≡ 128
+    remaining-long = release-length schema (callsOf cells) id ∙ loaded-long cells
+
+    remaining-fits : Fits remaining
+    remaining-fits =
+        release-holds schema (callsOf cells) id (λ _ l. Fits l)
+        (λ n q e. loaded-fits cells)
+        (λ g t. let T = tableOf schema in good-fits T _ (good-table schema g .fewMethods) (good-clauses T _ (release-test T id (callsOf cells) t)))
+
+    left-is : left ≡ stored cells (cellsOf remaining)
+    unfolding releaseJudgement
+    left-is = rw good
+
+    -- They are a call table afterwards, the next one.
+    pub left-calls : areCalls left ≡ true
+    left-calls = rw left-is (stored-calls cells remaining remaining-long remaining-fits (are-calls-iff cells .0 good .enough))
+
+    pub left-held : callsOf left ≡ remaining
+    left-held = rw left-is (table-back cells remaining remaining-long remaining-fits (are-calls-iff cells .0 good .enough))
+
+  -- Whatever the cells, afterwards they hold the table of the answer.
+  pub release-held : callsOf left ≡ reply .table .slots
+  release-held = ⊎-elim (λ t. left-held t ∙ ap (λ (a : Released). a .table .slots) (sym (release-judged t))) (λ f. kept f) (cases (areCalls cells))
+    where
+      kept : areCalls cells ≡ false → callsOf left ≡ reply .table .slots
+      kept f = rw (release-refused f, f) (sym (refused-release (checked schema) (callsOf cells)))
+
+  -- At a refusal the cells stay as they were.
+  pub release-untouched : (reply .number ≡ 0 → ⊥) → left ≡ cells
+  release-untouched z =
+      ⊎-elim
+      (λ t.
+      let other : released schema (callsOf cells) id .number ≡ 0 → ⊥ = rw (release-judged t) at z in
+      left-is t ∙ ap (λ (l : List Call). stored cells (cellsOf l)) (release-kept schema (callsOf cells) id other) ∙ cells-kept cells (are-calls-iff cells .0 t))
+      (λ f. rw f)
+      (cases (areCalls cells))
+
+-- ---- a history
 
 module _ (s start : List ℕ) (w : AreCalls start) where
-  -- After any run the cells are a call table.
-  pub run-calls : (is : List Input) → areCalls (runCells s start is) ≡ true
+  -- After any history the cells are a call table.
+  event-calls : (e : Event) (cells : List ℕ) → areCalls cells ≡ true → areCalls (cellsAfter s e cells) ≡ true
+  event-calls (input i) cells t = after-calls cells s (i .side) (i .bytes) (i .sheet) t
+  event-calls (release id) cells t = left-calls cells s id t
+
+  pub run-calls : (es : List Event) → areCalls (runCells s start es) ≡ true
   unfolding runCells
   run-calls [] = are-calls-iff start .1 w
-  run-calls (i ∷ is) = after-calls (runCells s start is) s (i .side) (i .bytes) (i .sheet) (run-calls is)
+  run-calls (e ∷ es) = event-calls e (runCells s start es) (run-calls es)
 
-  -- It is the one of the run.
-  pub run-held : (is : List Input) → callsOf (runCells s start is) ≡ runFrom s (callsOf start) is
+  -- It is the one of the history.
+  event-held : (e : Event) (cells : List ℕ) → areCalls cells ≡ true → callsOf (cellsAfter s e cells) ≡ slotsAfter s e (callsOf cells)
+  event-held (input i) cells t = next-held cells s (i .side) (i .bytes) (i .sheet) t
+  event-held (release id) cells t = left-held cells s id t
+
+  pub run-held : (es : List Event) → callsOf (runCells s start es) ≡ runFrom s (callsOf start) es
   unfolding runCells runFrom
   run-held [] = refl
-  run-held (i ∷ is) =
-      next-held (runCells s start is) s (i .side) (i .bytes) (i .sheet) (run-calls is)
-      ∙ ap (λ (l : List Call). received s (i .side) (i .bytes) (i .sheet) l .answer .table .slots) (run-held is)
+  run-held (e ∷ es) = event-held e (runCells s start es) (run-calls es) ∙ ap (slotsAfter s e) (run-held es)
 
-  -- So each answer is the one that `arf::receive` gives over the table itself.
-  pub answer-held : (is : List Input) (side : ℕ) (bytes sheet : List ℕ)
-      → receiving (runCells s start is) s side bytes sheet ≡ received s side bytes sheet (runFrom s (callsOf start) is)
-  answer-held is side bytes sheet =
-      table-judged (runCells s start is) s side bytes sheet (run-calls is) ∙ ap (λ (l : List Call). received s side bytes sheet l) (run-held is)
+  -- So each answer is the one that `arf::receive` gives over the table itself,
+  pub answer-held : (es : List Event) (side : ℕ) (bytes sheet : List ℕ)
+      → receiving (runCells s start es) s side bytes sheet ≡ received s side bytes sheet (runFrom s (callsOf start) es)
+  answer-held es side bytes sheet =
+      table-judged (runCells s start es) s side bytes sheet (run-calls es) ∙ ap (λ (l : List Call). received s side bytes sheet l) (run-held es)
+
+  -- or `arf::release`.
+  pub reply-held : (es : List Event) (id : ℕ) → releasing (runCells s start es) s id ≡ released s (runFrom s (callsOf start) es) id
+  reply-held es id = release-judged (runCells s start es) s id (run-calls es) ∙ ap (λ (l : List Call). released s l id) (run-held es)

@@ -5,3 +5,4 @@ pub mod Tables
 pub mod Held
 pub mod Told
 pub mod ScalarTold
+pub mod Examples

@@ -35,9 +35,9 @@ use Rattle.salvage.proofs.Statements.{refused-bounds}
 use Rattle.calls.specs.declared.Call.{Call}
 use Rattle.line.specs.declared.Received.{Received}
 use Rattle.exports.specs.Answers.{checkCells, extendCells, frameCells, writtenCells, readNumber, readCells, writeCells, salvageCells}
-use Rattle.exports.specs.Answers.{receiving, callCells, receivedCells}
-use Rattle.exports.specs.Told.{checkTold, extendTold, frameTold, writtenTold, readTold, writeTold, salvageTold, receivedTold}
-use Rattle.exports.proofs.Held.{after-held}
+use Rattle.exports.specs.Answers.{receiving, callCells, receivedCells, releasing, releasedCells}
+use Rattle.exports.specs.Told.{checkTold, extendTold, frameTold, writtenTold, readTold, writeTold, salvageTold, receivedTold, releasedTold}
+use Rattle.exports.proofs.Held.{after-held, release-held}
 
 pub check-told : (a : Checked) → ((n q : ℕ) → a ≡ check.Refused n q → 1 ≤ n) → checkTold (checkNumber a) (checkCells a) ≡ a
 check-told check.Good h = refl
@@ -140,3 +140,10 @@ pub receive-entry : (table schema : List ℕ) (side : ℕ) (bytes sheet : List �
     receivedTold (a .number) (receivedCells a) (callCells table (a .table .slots)) ≡ a
 receive-entry table schema side bytes sheet =
     ap (told-over (receiving table schema side bytes sheet .answer)) (after-held table schema side bytes sheet)
+
+-- So do they determine the answer to a release.
+pub release-entry : (table schema : List ℕ) (id : ℕ) → let a = releasing table schema id in
+    releasedTold (a .number) (releasedCells a) (callCells table (a .table .slots)) ≡ a
+release-entry table schema id =
+    let a = releasing table schema id in
+    ap (λ (l : List Call). record { number = a .number; place = a .place; «open» = a .«open»; table = record { slots = l } }) (release-held table schema id)

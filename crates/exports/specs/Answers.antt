@@ -30,6 +30,8 @@ use Rattle.calls.specs.declared.Call.{Call}
 use Rattle.line.specs.declared.Received.{Received}
 use Rattle.line.specs.Answer.{Line, line, stopped}
 use Rattle.line.specs.Receive.{received}
+use Rattle.line.specs.declared.Released.{Released}
+use Rattle.line.specs.Release.{releaseAnswer, released}
 use Rattle.scalar.specs.declared.Scalar.{Scalar}
 use Rattle.scalar.specs.declared.Scalar.the-variants.{Truth, Signed, Unsigned, Float32, Float64, Span}
 use Rattle.scalar.specs.declared.Answer.{Answer}
@@ -172,3 +174,18 @@ callCells table l = cond (areCalls table) (stored table (cellsOf l)) table
 -- The answer to a frame: place, bytes used, rows, the tail's place and length, calls open, the key comparisons due.
 abbrev pub receivedCells : Received → List ℕ
 receivedCells r = r .place ∷ r .used ∷ r .rows ∷ r .«tail_place» ∷ r .«tail_length» ∷ r .«open» ∷ r .comparisons ∷ []
+
+-- The same of a release.
+abbrev pub notReleased : Checked → List Call → Released
+notReleased check.Good l = releaseAnswer 15 0 l
+notReleased (check.Refused number row) l = releaseAnswer number row l
+
+unfoldable pub releaseJudgement : Bool → (schema : List ℕ) → List Call → (correlation : ℕ) → Released
+releaseJudgement known schema l id = cond known (released schema l id) (notReleased (checked schema) l)
+
+abbrev pub releasing : (table schema : List ℕ) (correlation : ℕ) → Released
+releasing table schema id = releaseJudgement (areCalls table) schema (callsOf table) id
+
+-- The answer to a release: place, calls open.
+abbrev pub releasedCells : Released → List ℕ
+releasedCells r = r .place ∷ r .«open» ∷ []

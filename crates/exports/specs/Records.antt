@@ -7,7 +7,7 @@ use lib.Dec.{eqb, leb, ltb}
 use lib.ListN.{length, getD}
 use Rattle.calls.specs.declared.Call.{Call}
 
--- The marks count 1 open, 2 RESPONSE, 4 input closed, 8 output closed. A method number has 32 bits.
+-- The marks count 1 open, 2 RESPONSE, 4 input closed, 8 output closed, 16 cancelled. A method number has 32 bits.
 unfoldable pub callOf : (correlation method marks : ℕ) → Call
 callOf id method marks =
     record {
@@ -17,6 +17,7 @@ callOf id method marks =
       responded = eqb (marks / 2 % 2) 1;
       «input_closed» = eqb (marks / 4 % 2) 1;
       «output_closed» = eqb (marks / 8 % 2) 1;
+      cancelled = eqb (marks / 16 % 2) 1;
     }
 
 -- The i-th record; a cell past the last is 0.
@@ -33,7 +34,9 @@ abbrev pub callsOf : List ℕ → List Call
 callsOf cells = callsFrom cells 0 128
 
 abbrev pub marksOf : Call → ℕ
-marksOf c = cond (c .«open») 1 0 + 2 * cond (c .responded) 1 0 + 4 * cond (c .«input_closed») 1 0 + 8 * cond (c .«output_closed») 1 0
+marksOf c =
+    cond (c .«open») 1 0 + 2 * cond (c .responded) 1 0 + 4 * cond (c .«input_closed») 1 0 + 8 * cond (c .«output_closed») 1 0
+    + 16 * cond (c .cancelled) 1 0
 
 abbrev pub recordCells : Call → List ℕ
 recordCells c = c .correlation ∷ c .method ∷ marksOf c ∷ []
@@ -45,9 +48,9 @@ cellsOf (c ∷ cs) = c .correlation ∷ c .method ∷ marksOf c ∷ cellsOf cs
 
 -- ---- cells that are a call table
 
--- A method number has 32 bits, and none but the four marks is set.
+-- A method number has 32 bits, and none but the five marks is set.
 abbrev pub plain : (method marks : ℕ) → Bool
-plain method marks = ltb method 4294967296 && ltb marks 16
+plain method marks = ltb method 4294967296 && ltb marks 32
 
 -- The same of n records, from the i-th on.
 unfoldable pub plainFrom : List ℕ → (i n : ℕ) → Bool
@@ -62,4 +65,4 @@ areCalls cells = leb 384 (length cells) && plainFrom cells 0 128
 pub record AreCalls (cells : List ℕ) : Type 0 where
   pub enough : 384 ≤ length cells
   pub methods : (i : ℕ) → i < 128 → getD cells (3 * i + 1) 0 < 4294967296
-  pub marks : (i : ℕ) → i < 128 → getD cells (3 * i + 2) 0 < 16
+  pub marks : (i : ℕ) → i < 128 → getD cells (3 * i + 2) 0 < 32

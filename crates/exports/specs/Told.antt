@@ -22,6 +22,7 @@ use Rattle.writer.specs.declared.Writing.the-variants as writer
 use Rattle.salvage.specs.declared.Salvaging.{Salvaging}
 use Rattle.salvage.specs.declared.Salvaging.the-variants as salvage
 use Rattle.line.specs.declared.Received.{Received}
+use Rattle.line.specs.declared.Released.{Released}
 use Rattle.scalar.specs.declared.Scalar.{Scalar}
 use Rattle.scalar.specs.declared.Scalar.the-variants.{Truth, Signed, Unsigned, Float32, Float64, Span}
 use Rattle.scalar.specs.declared.Answer.{Answer}
@@ -77,6 +78,11 @@ receivedTold number cells table =
       comparisons = cell cells 6;
       table = record { slots = callsOf table };
     }
+
+-- The answer to a release.
+abbrev pub releasedTold : (number : ℕ) → (answer table : List ℕ) → Released
+releasedTold number cells table =
+    record { number = number; place = cell cells 0; «open» = cell cells 1; table = record { slots = callsOf table } }
 
 -- A scalar, from its case and its two numbers. A whole number is told by the 64 bits of its two's complement, a float by the bits beside it.
 abbrev pub valueTold : (kind first second : ℕ) → Scalar

@@ -5,6 +5,7 @@ pub mod frames;
 pub mod payloads;
 pub mod receive;
 pub mod records;
+pub mod release;
 pub mod salvages;
 pub mod scalars;
 pub mod table;

@@ -28,6 +28,7 @@ fn call_of(correlation: u64, method: u64, marks: u64) -> Call
         responded: marks / 2 % 2 == 1,
         input_closed: marks / 4 % 2 == 1,
         output_closed: marks / 8 % 2 == 1,
+        cancelled: marks / 16 % 2 == 1,
     }
 }
 
@@ -45,7 +46,7 @@ fn call_at(cells: &[u64], i: usize) -> Call
 fn is_plain(method: u64, marks: u64) -> bool
     ensures { λ r. ⌜ r ≡ plain method marks ⌝ }
 {
-    (method < 4294967296) & (marks < 16)
+    (method < 4294967296) & (marks < 32)
 }
 
 // The cells are a call table: there are enough of them, and each number is one of a record.
@@ -91,6 +92,7 @@ fn marks_of(call: Call) -> u64
         + 2 * mark(call.responded)
         + 4 * mark(call.input_closed)
         + 8 * mark(call.output_closed)
+        + 16 * mark(call.cancelled)
 }
 
 // The cells of one record, as many as there are.

@@ -10,29 +10,21 @@ use lib.Dec.{eqb}
 use lib.ListN.{length, take, drop, length-drop}
 use lib.Seq.{take-append-le, drop-append-le}
 use borrow.Author.Tests.{ne-eqb}
-use Rattle.schema.specs.Table.{Table}
 use Rattle.schema.specs.File.{tableOf}
-use Rattle.schema.specs.declared.Method.{Method}
-use Rattle.schema.specs.Check.{methodRow, named, findMethod}
-use Rattle.schema.proofs.Bools.{clash, is-false}
+use Rattle.schema.proofs.Bools.{is-false}
 use Rattle.frame.specs.Frame.{frameOf, readUsed}
 use Rattle.frame.proofs.Answers.{read-bounds}
 use Rattle.frame.proofs.Theorems.{followed}
 use Rattle.calls.specs.declared.Call.{Call}
 use Rattle.calls.specs.declared.Frame.{Frame}
-use Rattle.calls.specs.declared.Payload.{Payload}
-use Rattle.calls.specs.declared.Payload.the-variants.{Unread}
 use Rattle.calls.specs.declared.Judged.{Judged}
 use Rattle.calls.specs.declared.Judged.the-variants.{Stop, Opens, Goes}
-use Rattle.calls.specs.Forms.{rowOf}
-use Rattle.calls.specs.Numbers.{usesFrame, UsesFrame, accepted, call, refused, refused-pairs}
-use Rattle.calls.specs.Record.{allowed, afterFrame}
+use Rattle.calls.specs.Numbers.{usesFrame, UsesFrame, accepted, call, dropped, refused, refused-pairs}
 use Rattle.calls.specs.Slots.{countOpen}
-use Rattle.calls.specs.Judge.{rightSide, payloadOf, judgeOf}
+use Rattle.calls.specs.Judge.{judgeOf}
 use Rattle.calls.specs.Step.{stepOf, dueOf}
-use Rattle.calls.specs.Apart.{Own, none, one, ownOf, full, stop, goes, invokeVerdict, otherVerdict, verdictOf, verdictDue}
 use Rattle.calls.proofs.Used.{uses-iff}
-use Rattle.calls.proofs.Apart.{judged-by, due-by}
+use Rattle.calls.proofs.Apart.{error-unread}
 use Rattle.value.specs.declared.Row.{Row}
 use Rattle.reader.specs.Entry.{Outcome}
 use Rattle.line.specs.Answer.{Line, line, stopped, payloadRead, usedOf, answered}
@@ -58,6 +50,7 @@ unused : {n : ℕ} → UsesFrame n → Away n → ⊥
 unfolding Away
 unused accepted w = omega (arith, w .0)
 unused (call low high) w = ⊎-elim (λ a. omega arith) (λ b. ⊎-elim (λ c. omega arith) (λ d. omega arith) b) (w .1)
+unused dropped w = ⊎-elim (λ a. omega arith) (λ b. ⊎-elim (λ c. omega arith) (λ d. omega arith) b) (w .1)
 unused (refused low high) w = ⊎-elim (λ a. omega arith) (λ b. ⊎-elim (λ c. omega arith) (λ d. omega arith) b) (w .1)
 unused refused-pairs w = ⊎-elim (λ a. omega arith) (λ b. ⊎-elim (λ c. omega arith) (λ d. omega arith) b) (w .1)
 
@@ -110,41 +103,14 @@ module _ (s payload sheet : List ℕ) (size : ℕ) (l : List Call) where
 
 -- ---- ERROR
 
-error-payload : (m : Method) (kind : ℕ) → kind ≡ 7 → payloadOf m kind ≡ Unread
-unfolding payloadOf
-error-payload m kind e = rw e
-
-error-due : (T : Table) (f : Frame) (own : Own) (b : Bool) → f .kind ≡ 7 → verdictDue (verdictOf T f own b) ≡ Unread
-unfolding verdictOf
-error-due T f own b e = go (rightSide (f .side) (f .kind)) (eqb (f .kind) 1) (ne-eqb (f .kind) 1 (λ z. omega arith)) own
-  where
-    call : (a b : Bool) (x : Call) (d : Payload) → d ≡ Unread → verdictDue (cond a (cond b (goes x d) (stop 14)) (stop 12)) ≡ Unread
-    call true true x d h = h
-    call true false x d h = refl
-    call false b x d h = refl
-
-    other : (own : Own) → verdictDue (otherVerdict T f own) ≡ Unread
-    other none = refl
-    other (one c) =
-        let m = methodRow T (c .method) in
-        call (named (f .«package») (f .service) (f .method) m) (allowed (rowOf (m .form)) (f .kind) c) (afterFrame (rowOf (m .form)) (f .kind) c)
-        (payloadOf m (f .kind)) (error-payload m (f .kind) e)
-
-    go : (a q : Bool) → q ≡ false → (own : Own) →
-        verdictDue (cond a (cond q (invokeVerdict T (f .correlation) (findMethod T (f .«package») (f .service) (f .method)) own b) (otherVerdict T f own)) (stop 8)) ≡ Unread
-    go true true z own = clash false (sym z) refl
-    go true false z own = other own
-    go false q z own = refl
-
 error-bare : (s payload sheet : List ℕ) (size : ℕ) (l : List Call) (f : Frame) → f .kind ≡ 7 → Nothing sheet (frameLine s f payload size sheet l)
 unfolding frameLine
 error-bare s payload sheet size l f k =
     let J = judgeOf (tableOf s) f l in
-    let due = due-by J ∙ ap verdictDue (judged-by (tableOf s) f l) ∙ error-due (tableOf s) f (ownOf (f .correlation) l) (full l) k in
-    untouched-bare size l J (payloadRead s (dueOf J) payload sheet) sheet (rw due (unread s payload sheet))
+    untouched-bare size l J (payloadRead s (dueOf J) payload sheet) sheet (rw (error-unread (tableOf s) f l k) (unread s payload sheet))
 
 module _ (s : List ℕ) (side : ℕ) (bytes sheet : List ℕ) (l : List Call) where
-  -- Bytes used: the frame's length for 0, 8 to 14, 20 to 29 and 31; otherwise 0.
+  -- Bytes used: the frame's length for 0, 8 to 14, 16, 20 to 29 and 31; otherwise 0.
   pub used-by-number : received s side bytes sheet l .answer .used ≡ usedOf (received s side bytes sheet l .answer .number) (readUsed (frameOf bytes))
   used-by-number = go (ways s side bytes sheet l)
     where

@@ -16,10 +16,10 @@ use Rattle.calls.specs.declared.Call.{Call}
 use Rattle.calls.specs.declared.Frame.{Frame}
 use Rattle.calls.specs.declared.Judged.{Judged}
 use Rattle.calls.specs.declared.Judged.the-variants.{Stop, Opens, Goes}
-use Rattle.calls.specs.Slots.{goodTable}
-use Rattle.calls.specs.Judge.{judgeOf}
+use Rattle.calls.specs.Slots.{goodTable, ownOf, full}
+use Rattle.calls.specs.Judge.{judgeOf, Verdict}
 use Rattle.calls.specs.Step.{stepOf, dueOf}
-use Rattle.calls.specs.Apart.{ownOf, full, Verdict, verdict, verdictDue, verdictNumber}
+use Rattle.calls.specs.Apart.{verdict, verdictDue, verdictNumber}
 use Rattle.calls.proofs.Apart as calls
 use Rattle.reader.specs.declared.Reading.{Reading}
 use Rattle.reader.specs.Entry.{Outcome, readingIn, room, numbers}

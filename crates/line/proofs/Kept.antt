@@ -1,4 +1,5 @@
 -- A whole frame is a step of the call table, and any other answer changes no call: what holds of both holds of every answer. So a good table stays good.
+-- The same of a release.
 -- Assumes nothing.
 use mathlib.Core.Path.{_≡_, refl}
 use mathlib.Core.Bool.{true}
@@ -11,12 +12,14 @@ use Rattle.calls.specs.declared.Call.{Call}
 use Rattle.calls.specs.declared.Frame.{Frame}
 use Rattle.calls.specs.declared.Payload.{Payload}
 use Rattle.calls.specs.Slots.{goodTable}
-use Rattle.calls.specs.Step.{stepOf, receive}
-use Rattle.calls.proofs.Kept.{test-stays, stays-long}
+use Rattle.calls.specs.Step.{stepOf, receive, release}
+use Rattle.calls.proofs.Kept.{test-stays, stays-long, release-test, release-long}
+use Rattle.line.specs.declared.Released.{Released}
 use Rattle.line.specs.Answer.{Line, stopped, payloadRead, numberIn, answered}
 use Rattle.line.specs.Receive.{frameFrom, frameLine, received}
-use Rattle.line.specs.Claims.{Front, Stops}
-use Rattle.line.proofs.Ways.{front-of, Way, stops, judges, ways}
+use Rattle.line.specs.Release.{releaseAnswer, released}
+use Rattle.line.specs.Claims.{Front, Unready, Stops}
+use Rattle.line.proofs.Ways.{front-of, Way, stops, judges, ways, ReleaseWay, unready, releases, release-ways}
 
 -- the number of a payload by what it holds
 abbrev pub readingOf : (s payload sheet : List ℕ) → Payload → ℕ
@@ -55,3 +58,27 @@ module _ (s : List ℕ) (side : ℕ) (bytes sheet : List ℕ) (l : List Call) wh
 
   pub same-length : length (received s side bytes sheet l .answer .table .slots) ≡ length l
   same-length = holds (λ _ l′. length l′ ≡ length l) (λ n q e. refl) (λ f w g t r. stays-long (tableOf s) f r l)
+
+-- ---- a release
+
+-- its number and records
+told-holds : (P : ℕ → List Call → Type 0) (n q : ℕ) (l : List Call) → P n l → P (releaseAnswer n q l .number) (releaseAnswer n q l .table .slots)
+unfolding releaseAnswer
+told-holds P n q l h = h
+
+module _ (s : List ℕ) (l : List Call) (id : ℕ) where
+  -- What holds of the number and the records where it stops at a fault of the tables, and of every release that is judged.
+  pub release-holds : (P : ℕ → List Call → Type 0) → ((n q : ℕ) → Unready s l n q → P n l)
+      → (IsGood s → goodTable (tableOf s) l ≡ true → P (release id l .number) (release id l .table .slots))
+      → let a = released s l id in P (a .number) (a .table .slots)
+  release-holds P stop step = go (release-ways s l id)
+    where
+      go : {x : Released} → ReleaseWay s l id x → P (x .number) (x .table .slots)
+      go (unready {n} {q} w) = told-holds P n q l (stop n q w)
+      go (releases g t) = told-holds P (release id l .number) 0 (release id l .table .slots) (step g t)
+
+  pub release-good : goodTable (tableOf s) l ≡ true → goodTable (tableOf s) (released s l id .table .slots) ≡ true
+  release-good good = release-holds (λ _ l′. goodTable (tableOf s) l′ ≡ true) (λ n q e. good) (λ g t. release-test (tableOf s) id l t)
+
+  pub release-length : length (released s l id .table .slots) ≡ length l
+  release-length = release-holds (λ _ l′. length l′ ≡ length l) (λ n q e. refl) (λ g t. release-long id l)

@@ -4,6 +4,7 @@ pub mod Payloads
 pub mod Kept
 pub mod Apart
 pub mod Records
+pub mod Releases
 pub mod Answers
 pub mod Due
 pub mod Listed

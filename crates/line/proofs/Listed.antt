@@ -1,7 +1,7 @@
 -- Every answer has one of 01's numbers for a frame, with its place. The payload of a frame is read as a struct type of the good table, and it is not too
 -- long, so that neither 46 nor 7 comes from it. Assumes nothing.
 use mathlib.Core.Path.{_≡_, refl, sym, ap, subst}
-use mathlib.Core.Bool.{Bool, true, false, cond}
+use mathlib.Core.Bool.{Bool, true, false, cond, _&&_}
 use mathlib.Core.List.{List}
 use mathlib.Core.Logic.{_⊎_, inl, inr, ⊎-elim}
 use Prim.Native.Nat.{ℕ, _+_, _≤_}
@@ -17,6 +17,7 @@ use Rattle.schema.specs.File.{tableOf}
 use Rattle.schema.specs.Check.{methodRow, named, findMethod, IsGood}
 use Rattle.schema.proofs.Bools.{cases}
 use Rattle.schema.proofs.Goods.{good-table}
+use Rattle.schema.proofs.Listed.{listed as schema-listed, listed-bounds}
 use Rattle.schema.proofs.Shapes.{shape-struct}
 use Rattle.frame.specs.declared.Header.{Header}
 use Rattle.frame.specs.declared.FrameRead.the-variants.{Frame as Whole}
@@ -25,18 +26,19 @@ use Rattle.frame.proofs.Answers.{read-bounds}
 use Rattle.calls.specs.declared.Call.{Call}
 use Rattle.calls.specs.declared.Frame.{Frame}
 use Rattle.calls.specs.declared.Payload.{Payload}
+use Rattle.calls.specs.declared.Payload.the-variants.{Unread}
 use Rattle.calls.specs.declared.Judged.{Judged}
 use Rattle.calls.specs.declared.Judged.the-variants.{Stop, Opens, Goes}
 use Rattle.calls.specs.Forms.{rowOf}
-use Rattle.calls.specs.Numbers.{UsesFrame, accepted as zero-used, call as call-used, refused as value-used, refused-pairs}
-use Rattle.calls.specs.Record.{allowed, afterFrame}
-use Rattle.calls.specs.Slots.{goodTable}
-use Rattle.calls.specs.Judge.{rightSide, payloadOf, judgeOf}
-use Rattle.calls.specs.Step.{stepOf, dueOf}
-use Rattle.calls.specs.Apart.{Own, none, one, ownOf, full, Verdict, stop, opens, goes, verdict, invokeVerdict, otherVerdict, verdictOf}
+use Rattle.calls.specs.Numbers.{UsesFrame, accepted as zero-used, call as call-used, dropped, refused as value-used, refused-pairs}
+use Rattle.calls.specs.Record.{emptyCall, allowed, notAllowed, afterFrame}
+use Rattle.calls.specs.Slots.{goodTable, Own, none, one, ownOf, full}
+use Rattle.calls.specs.Judge.{rightSide, payloadOf, releaseVerdict, judgeOf, Verdict, stop, opens, goes, invokeVerdict, otherVerdict, verdictOf}
+use Rattle.calls.specs.Step.{stepOf, dueOf, release}
+use Rattle.calls.specs.Apart.{verdict, verdictNumber}
 use Rattle.calls.proofs.Goodness.{good-clauses}
 use Rattle.calls.proofs.Used.{uses-iff}
-use Rattle.calls.proofs.Apart.{judged-by}
+use Rattle.calls.proofs.Apart.{judged-by, release-answered}
 use Rattle.calls.proofs.Payloads.{Sound, struct, empty, unread, due-sound}
 use Rattle.value.specs.Answer.{Answer, refused, seen, cursorAt}
 use Rattle.value.specs.Value.{Tree, rows}
@@ -46,10 +48,12 @@ use Rattle.value.proofs.Numbers.{Numbered, refuses, goes-on, root-numbered}
 use Rattle.reader.specs.declared.Reading.{Reading}
 use Rattle.reader.specs.declared.Reading.the-variants.{Shown, Refused}
 use Rattle.reader.specs.Entry.{Outcome, outcome, readingIn, outcomeOf, room, payloadOutcome, numbers}
+use Rattle.line.specs.declared.Released.{Released}
 use Rattle.line.specs.Answer.{Line, stopped, payloadRead, numberIn, answered}
 use Rattle.line.specs.Receive.{frameFrom, frameLine, received}
-use Rattle.line.specs.Claims.{Listed, accepted, frame, call, value as fault, pairs, payload, shape as formed, row}
-use Rattle.line.proofs.Ways.{Early, schema, calls, frame as framed, early, Way, stops, judges, ways, judged}
+use Rattle.line.specs.Release.{releaseAnswer, released}
+use Rattle.line.specs.Claims.{Listed, accepted, frame, call, value as fault, pairs, payload, shape as formed, row, Unready, schemaFault, callsBad, ReleaseListed, released as released-call, notOpen, notCancelled, unready}
+use Rattle.line.proofs.Ways.{Early, schema, calls, frame as framed, unready-early, early, Way, stops, judges, ways, judged, ReleaseWay, unready as faulty, releases, release-ways}
 
 -- ---- the payload
 
@@ -85,28 +89,41 @@ payload-told s p sheet g small unread = (accepted, inl zero-used)
 
 -- ---- the side and the call
 
+abbrev Refusing : ℕ → Type 0
+Refusing n = (8 ≤ n) × ((n ≤ 16) × UsesFrame n)
+
+refusing : (n : ℕ) → 8 ≤ n → n ≤ 14 → Refusing n
+refusing n low high = (low, (omega (arith, high), call-used low high))
+
 Stops : Verdict → Type 0
-Stops (stop n) = (8 ≤ n) × (n ≤ 14)
+Stops (stop n) = Refusing n
 Stops (opens c d) = Unit {0}
 Stops (goes c d) = Unit {0}
 
 module _ (T : Table) (f : Frame) where
   invoke-stops : (m : Found) (own : Own) (b : Bool) → Stops (invokeVerdict T (f .correlation) m own b)
   unfolding Stops
-  invoke-stops Missing own b = (lit≤ tt, lit≤ tt)
-  invoke-stops (At m) (one c) b = (lit≤ tt, lit≤ tt)
-  invoke-stops (At m) none true = (lit≤ tt, lit≤ tt)
+  invoke-stops Missing own b = refusing _ (lit≤ tt) (lit≤ tt)
+  invoke-stops (At m) (one c) b = refusing _ (lit≤ tt) (lit≤ tt)
+  invoke-stops (At m) none true = refusing _ (lit≤ tt) (lit≤ tt)
   invoke-stops (At m) none false = tt
+
+  late-stops : (c : Call) → Stops (stop (notAllowed (f .kind) c))
+  unfolding Stops
+  late-stops c =
+      cond-case Refusing (c .cancelled && (leb 4 (f .kind) && leb (f .kind) 7)) 16 14 (λ _. (lit≤ tt, (lit≤ tt, dropped)))
+      (λ _. refusing 14 (lit≤ tt) (lit≤ tt))
 
   other-stops : (own : Own) → Stops (otherVerdict T f own)
   unfolding Stops
-  other-stops none = (lit≤ tt, lit≤ tt)
+  other-stops none = refusing _ (lit≤ tt) (lit≤ tt)
   other-stops (one c) =
       let m = methodRow T (c .method) in
       let next = goes (afterFrame (rowOf (m .form)) (f .kind) c) (payloadOf m (f .kind)) in
-      cond-case Stops (named (f .«package») (f .service) (f .method) m) (cond (allowed (rowOf (m .form)) (f .kind) c) next (stop 14)) (stop 12)
-      (λ _. cond-case Stops (allowed (rowOf (m .form)) (f .kind) c) next (stop 14) (λ _. tt) (λ _. (lit≤ tt, lit≤ tt)))
-      (λ _. (lit≤ tt, lit≤ tt))
+      let late = stop (notAllowed (f .kind) c) in
+      cond-case Stops (named (f .«package») (f .service) (f .method) m) (cond (allowed (rowOf (m .form)) (f .kind) c) next late) (stop 12)
+      (λ _. cond-case Stops (allowed (rowOf (m .form)) (f .kind) c) next late (λ _. tt) (λ _. late-stops c))
+      (λ _. refusing _ (lit≤ tt) (lit≤ tt))
 
   verdict-stops : (own : Own) (b : Bool) → Stops (verdictOf T f own b)
   unfolding verdictOf Stops
@@ -114,14 +131,14 @@ module _ (T : Table) (f : Frame) where
       let invoke = invokeVerdict T (f .correlation) (findMethod T (f .«package») (f .service) (f .method)) own b in
       cond-case Stops (rightSide (f .side) (f .kind)) (cond (eqb (f .kind) 1) invoke (otherVerdict T f own)) (stop 8)
       (λ _. cond-case Stops (eqb (f .kind) 1) invoke (otherVerdict T f own) (λ _. invoke-stops (findMethod T (f .«package») (f .service) (f .method)) own b) (λ _. other-stops own))
-      (λ _. (lit≤ tt, lit≤ tt))
+      (λ _. refusing _ (lit≤ tt) (lit≤ tt))
 
 -- ---- the whole answer
 
 answered-listed : (s p sheet : List ℕ) (size : ℕ) (l : List Call) (J : Judged) → Stops (verdict J) → Told (payloadRead s (dueOf J) p sheet)
     → let a = answered size l J (payloadRead s (dueOf J) p sheet) in Judging (a .answer .number) (a .answer .place)
 unfolding answered stepOf Stops payloadRead
-answered-listed s p sheet size l (Stop n) w t = (call (w .0) (omega arith), inl (call-used (w .0) (w .1)))
+answered-listed s p sheet size l (Stop n) w t = (call (w .0) (w .1 .0), inl (w .1 .1))
 answered-listed s p sheet size l (Opens j c d) w t = t
 answered-listed s p sheet size l (Goes i c d) w t = t
 
@@ -169,3 +186,29 @@ used-or-rows s side bytes sheet l {h} {place} {n} g t e =
     subst (λ (x : Line). (x .answer .used ≡ place + n) ⊎ (x .answer .number ≡ 30)) (sym (judged s side bytes sheet l h place n g t e))
     (by-number s (frameFrom side h) (take n (drop place bytes)) (place + n) sheet l
     (frame-listed s (frameFrom side h) (take n (drop place bytes)) (place + n) sheet l g t small .1))
+
+-- ---- a release
+
+answer-listed : (l : List Call) {n q : ℕ} → Early n q → (n ≡ 15) ⊎ (40 ≤ n) → ReleaseListed (releaseAnswer n q l .number) (releaseAnswer n q l .place)
+unfolding releaseAnswer stopped
+answer-listed l w side = unready side (stop-listed l w)
+
+unready-number : (s : List ℕ) (l : List Call) {n q : ℕ} → Unready s l n q → (n ≡ 15) ⊎ (40 ≤ n)
+unready-number s l (callsBad g b) = inl refl
+unready-number s l (schemaFault n q e) = inr (listed-bounds (tableOf s) (schema-listed s n q e) .0)
+
+judged-listed : (own : Own) → ReleaseListed (verdictNumber (releaseVerdict own) 0) 0
+judged-listed none = notOpen
+judged-listed (one c) = cond-case (λ (v : Verdict). ReleaseListed (verdictNumber v 0) 0) (c .cancelled) (goes emptyCall Unread) (stop 14) (λ _. released-call) (λ _. notCancelled)
+
+released-told : (l l′ : List Call) (n : ℕ) → ReleaseListed n 0 → ReleaseListed (releaseAnswer n 0 l′ .number) (releaseAnswer n 0 l′ .place)
+unfolding releaseAnswer
+released-told l l′ n w = w
+
+-- Every answer to a release has one of the request's numbers for it, with its place.
+pub release-listed : (s : List ℕ) (l : List Call) (id : ℕ) → let a = released s l id in ReleaseListed (a .number) (a .place)
+release-listed s l id = go (release-ways s l id)
+  where
+    go : {x : Released} → ReleaseWay s l id x → ReleaseListed (x .number) (x .place)
+    go (faulty w) = answer-listed l (unready-early s l w) (unready-number s l w)
+    go (releases g t) = released-told l (release id l .table .slots) (release id l .number) (rw (release-answered id l) (judged-listed (ownOf id l)))

@@ -7,6 +7,7 @@ use mathlib.Core.List.{List}
 use Prim.Native.Nat.{ℕ, _≤_, _<_}
 use native.Mathlib.Omega.{arith}
 use lib.Dec.{eqb}
+use lib.ListN.{length, set}
 use borrow.Author.Tests.{eqb-true, eqb-false, ne-eqb}
 use Rattle.schema.specs.declared.Found.the-variants.{At, Missing}
 use Rattle.schema.specs.Table.{Table}
@@ -18,17 +19,18 @@ use Rattle.calls.specs.declared.Payload.{Payload}
 use Rattle.calls.specs.declared.Judged.{Judged}
 use Rattle.calls.specs.declared.Judged.the-variants.{Stop, Opens, Goes}
 use Rattle.calls.specs.Numbers.{endsCall, EndsCall, payload, many-pairs}
-use Rattle.calls.specs.Record.{isCall}
-use Rattle.calls.specs.Slots.{slot}
-use Rattle.calls.specs.Judge.{judgeOf}
-use Rattle.calls.specs.Step.{numberOf, slotsAfter, stepOf, dueOf, receive}
-use Rattle.calls.specs.Apart.{Own, none, ownOf, full, Verdict, stop, opens, goes, verdictOf, verdictDue, verdictNumber, verdictOwn, touched, Freed}
+use Rattle.calls.specs.Record.{isCall, withMark}
+use Rattle.calls.specs.Slots.{slot, Own, none, ownOf, full}
+use Rattle.calls.specs.Judge.{judgeOf, Verdict, stop, opens, goes, verdictOf}
+use Rattle.calls.specs.Step.{receive}
+use Rattle.calls.specs.Apart.{verdictDue, verdictNumber, verdictOwn, touched, Freed}
 use Rattle.calls.proofs.Used.{not-ending}
 use Rattle.calls.proofs.Goodness.{good-clauses}
-use Rattle.calls.proofs.Searches.{found-passes}
+use Rattle.calls.proofs.Searches.{found-passes, slot-same, slot-other, past-end}
 use Rattle.calls.proofs.Judgement.{judged-goes}
 use Rattle.calls.proofs.Kept.{call-open}
 use Rattle.calls.proofs.Apart as calls
+use Rattle.calls.specs.Event as calls-event
 use Rattle.reader.specs.Entry.{room}
 use Rattle.line.specs.Receive.{frameFrom, received}
 use Rattle.line.specs.Claims.{Front, Reply, Alike}
@@ -64,17 +66,6 @@ own-kept : (v : Verdict) (own : Own) {n q : ℕ} → Early n q → verdictOwn v 
 own-kept (stop m) own e = refl
 own-kept (opens c d) own {n} e = rw (ne-eqb n 0 (early-zero e))
 own-kept (goes c d) own {n} e = rw (ne-eqb n 0 (early-zero e), early-spares e)
-
--- a slot is freed only by a frame whose payload is read
-module _ (T : Table) (f : Frame) (l : List Call) (i : ℕ) (o : slot l i .«open» ≡ true) where
-  freed-by : (p : ℕ) (J : Judged) → slot (slotsAfter J p l) i .«open» ≡ false → Freed T f p (slot l i) → Freed T f (numberOf J p) (slot l i)
-  freed-by p (Stop n) q w = clash (slot l i .«open») o q
-  freed-by p (Opens j c d) q w = w
-  freed-by p (Goes j c d) q w = w
-
-  freed-number : (reading : Payload → ℕ) → slot (receive T f reading l .table .slots) i .«open» ≡ false → Freed T f (receive T f reading l .number) (slot l i)
-  unfolding receive stepOf
-  freed-number reading q = freed-by (reading (dueOf (judgeOf T f l))) (judgeOf T f l) q (calls.freed T f l reading i o q)
 
 -- a slot that a step opens is the lowest free one
 opened-by : (T : Table) (f : Frame) (l : List Call) (reading : Payload → ℕ) (i : ℕ) → slot l i .«open» ≡ false
@@ -135,11 +126,11 @@ module _ (s : List ℕ) (side : ℕ) (bytes sheet : List ℕ) (l : List Call) wh
       → slot slots i ≡ slot l i
   open-kept i o other = holds s side bytes sheet l (λ _ l′. slot l′ i ≡ slot l i) (λ n q e. refl) (λ f w g t r. calls.open-kept T f l r i o (other f w))
 
-  -- Only a payload refusal, an end or a completion frees a slot, and its own.
-  pub freed : (i : ℕ) → slot l i .«open» ≡ true → slot slots i .«open» ≡ false → (f : Frame) × Front side bytes f × Freed T f number (slot l i)
+  -- Only a payload refusal, the completion of the call or ERROR frees a slot, and its own.
+  pub freed : (i : ℕ) → slot l i .«open» ≡ true → slot slots i .«open» ≡ false → (f : Frame) × Front side bytes f × Freed T (calls-event.frame f) number (slot l i)
   freed i o =
-      holds s side bytes sheet l (λ n l′. slot l′ i .«open» ≡ false → (f : Frame) × Front side bytes f × Freed T f n (slot l i))
-      (λ n q e z. clash (slot l i .«open») o z) (λ f w g t r z. (f, w, freed-number T f l i o r z))
+      holds s side bytes sheet l (λ n l′. slot l′ i .«open» ≡ false → (f : Frame) × Front side bytes f × Freed T (calls-event.frame f) n (slot l i))
+      (λ n q e z. clash (slot l i .«open») o z) (λ f w g t r z. (f, w, calls.freed T f l i o r z))
 
   -- A refusal that is no payload refusal changes no call, 30 among them.
   pub refused-kept : (number ≡ 0 → ⊥) → endsCall number ≡ false → slots ≡ l
@@ -154,6 +145,29 @@ module _ (s : List ℕ) (side : ℕ) (bytes sheet : List ℕ) (l : List Call) wh
     opens-none k =
         holds s side bytes sheet l (λ n l′. (n ≡ 0 → ⊥) → l′ ≡ l)
         (λ n q e z. refl) (λ f′ w′ g t r z. calls.refused-same T f′ r l z (inr (rw (front-once w′ w) k)))
+
+    -- An accepted CANCEL sets the mark of its call: the record stays in its slot, with its identifier and its other marks, and every other slot as it was.
+    pub cancel-marked : f .kind ≡ 8 → number ≡ 0 → (i : ℕ) → isCall (f .correlation) (slot l i) ≡ true →
+        (slot slots i ≡ withMark true (slot l i)) × ((j : ℕ) → (j ≡ i → ⊥) → slot slots j ≡ slot l j)
+    cancel-marked k z i own = (ap (λ (x : List Call). slot x i) marked ∙ slot-same l i new there, λ j n. ap (λ (x : List Call). slot x j) marked ∙ slot-other l i new j n)
+      where
+        new : Call
+        new = withMark true (slot l i)
+
+        there : i < length l
+        there = past-end l i (call-open (f .correlation) (slot l i) own)
+
+        marked : slots ≡ set l i new
+        marked =
+            holds s side bytes sheet l (λ n l′. n ≡ 0 → l′ ≡ set l i new) (λ n q e y. absurd (early-zero (early s bytes l e) y))
+            (λ f′ w′ g t r y. let same = front-once w′ w in
+            calls.cancel-marked T f′ l (good-clauses T l t) (rw same k) r y i (rw same own)) z
+
+    -- It frees no slot.
+    pub cancel-frees-none : f .kind ≡ 8 → number ≡ 0 → (i : ℕ) → slot l i .«open» ≡ true → slot slots i .«open» ≡ true
+    cancel-frees-none k z i o =
+        holds s side bytes sheet l (λ n l′. n ≡ 0 → slot l′ i .«open» ≡ true) (λ n q e z. o)
+        (λ f′ w′ g t r z. calls.cancel-frees-none T f′ l (good-clauses T l t) (rw (front-once w′ w) k) r z i o) z
 
     -- The own record afterwards, by the judgement without a slot and the answer's number.
     pub own-after : let own = ownOf (f .correlation) l in ownOf (f .correlation) slots ≡ verdictOwn (verdictOf T f own (full l)) number own

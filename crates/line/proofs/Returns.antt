@@ -19,14 +19,17 @@ use Rattle.calls.specs.declared.Call.{Call}
 use Rattle.calls.specs.declared.Frame.{Frame}
 use Rattle.calls.specs.declared.Payload.{Payload}
 use Rattle.calls.specs.declared.Judged.{Judged}
+use Rattle.calls.specs.declared.Stepped.{Stepped}
 use Rattle.calls.specs.Slots.{goodTable}
 use Rattle.calls.specs.Judge.{judgeOf}
-use Rattle.calls.specs.Step.{stepOf, dueOf}
+use Rattle.calls.specs.Step.{stepOf, dueOf, release}
 use Rattle.reader.specs.declared.Reading.{Reading}
 use Rattle.reader.specs.Entry.{outcome, numbers}
 use Rattle.line.specs.declared.Received.{Received}
+use Rattle.line.specs.declared.Released.{Released}
 use Rattle.line.specs.Answer.{Line, line, stopped, payloadRead, answerOf, answered}
 use Rattle.line.specs.Receive.{frameFrom, frameLine, bytesLine, received}
+use Rattle.line.specs.Release.{releaseAnswer, released}
 
 -- ---- a whole frame
 
@@ -75,3 +78,19 @@ module _ (schema : List ℕ) (side : ℕ) (bytes sheet : List ℕ) (l : List Cal
       pub tables-good : (r : Line) → not b ≡ false → r ≡ bytesLine schema side bytes sheet l → r ≡ received schema side bytes sheet l
       unfolding received
       tables-good r t x = rw (← is, g, ← test, not-false b t, x)
+
+-- ---- a release
+
+module _ (schema : List ℕ) (l : List Call) (id : ℕ) (v : Checked) (is : v ≡ checked schema) where
+  pub release-faulty : (r : Released) (n q : ℕ) → v ≡ Faulty n q → r ≡ releaseAnswer n q l → r ≡ released schema l id
+  unfolding released
+  release-faulty r n q e x = rw (← is, e, x)
+
+  module _ (g : v ≡ Good) (b : Bool) (test : b ≡ goodTable (tableOf schema) l) where
+    pub release-bad : (r : Released) → not b ≡ true → r ≡ releaseAnswer 15 0 l → r ≡ released schema l id
+    unfolding released
+    release-bad r t x = rw (← is, g, ← test, not-true b t, x)
+
+    pub release-told : (r : Released) (x : Stepped) → not b ≡ false → x ≡ release id l → r ≡ releaseAnswer (x .number) 0 (x .table .slots) → r ≡ released schema l id
+    unfolding released
+    release-told r x t e y = rw (← is, g, ← test, not-false b t, y, e)

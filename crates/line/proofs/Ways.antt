@@ -1,4 +1,5 @@
 -- The ways of an answer: it stops before a frame is judged, or it judges the whole frame at the front under a good schema table and a good call table.
+-- The same of a release.
 -- Assumes nothing.
 use mathlib.Core.Path.{_≡_, refl}
 use mathlib.Core.Bool.{true, false, cond}
@@ -22,11 +23,14 @@ use Rattle.frame.proofs.Answers.{refused-numbers}
 use Rattle.calls.specs.declared.Call.{Call}
 use Rattle.calls.specs.declared.Frame.{Frame}
 use Rattle.calls.specs.Slots.{goodTable}
+use Rattle.calls.specs.Step.{release}
 use Rattle.calls.specs.Good.{GoodTable}
 use Rattle.calls.proofs.Goodness.{good-clauses, good-test}
+use Rattle.line.specs.declared.Released.{Released}
 use Rattle.line.specs.Answer.{Line, line, stopped}
-use Rattle.line.specs.Claims.{SeenAs, Front, Stops, schemaFault, callsBad, frameFault, needsMore}
+use Rattle.line.specs.Claims.{SeenAs, Front, Unready, schemaFault, callsBad, Stops, tables, frameFault, needsMore}
 use Rattle.line.specs.Receive.{onGood, onFrame, frameFrom, frameLine, bytesLine, received}
+use Rattle.line.specs.Release.{releaseAnswer, released}
 
 -- ---- the frame at the front
 
@@ -51,15 +55,21 @@ front-is {f = f} w =
 
 -- ---- the ways
 
+not-good : (s : List ℕ) (l : List Call) → goodTable (tableOf s) l ≡ false → GoodTable (tableOf s) l → ⊥
+not-good s l e w = clash (goodTable (tableOf s) l) (good-test (tableOf s) l w) e
+
 -- The numbers and places of an answer that stops.
 pub data Early : (number place : ℕ) → Type 0 where
   schema : {n q : ℕ} → 40 ≤ n → n ≤ 44 → (n < 42 → q ≡ 0) → Early n q
   calls : Early 15 0
   frame : {n : ℕ} → 1 ≤ n → n ≤ 7 → Early n 0
 
+pub unready-early : (s : List ℕ) (l : List Call) {n q : ℕ} → Unready s l n q → Early n q
+unready-early s l (schemaFault n q e) = let w = listed-bounds (tableOf s) (listed s n q e) in schema (w .0) (w .1) (w .2)
+unready-early s l (callsBad g b) = calls
+
 pub early : (s bytes : List ℕ) (l : List Call) {n q : ℕ} → Stops s bytes l n q → Early n q
-early s bytes l (schemaFault n q e) = let w = listed-bounds (tableOf s) (listed s n q e) in schema (w .0) (w .1) (w .2)
-early s bytes l (callsBad g b) = calls
+early s bytes l (tables e) = unready-early s l e
 early s bytes l (frameFault n g w e) = let r = refused-numbers bytes e in frame {n = n} (omega arith) (r .1)
 early s bytes l (needsMore g w e) = frame (lit≤ tt) (lit≤ tt)
 
@@ -86,22 +96,19 @@ module _ (s : List ℕ) (side : ℕ) (bytes sheet : List ℕ) (l : List Call) wh
   unfolding received
   ways = go (checked s) refl
     where
-      bad : goodTable (tableOf s) l ≡ false → GoodTable (tableOf s) l → ⊥
-      bad e w = clash (goodTable (tableOf s) l) (good-test (tableOf s) l w) e
-
       go : (v : Checked) → checked s ≡ v →
           Way (onGood v (λ number row. line (stopped l number row) sheet)
           (cond (goodTable (tableOf s) l) (bytesLine s side bytes sheet l) (line (stopped l 15 0) sheet)))
       go Good e =
           cond-case Way (goodTable (tableOf s) l) (bytesLine s side bytes sheet l) (line (stopped l 15 0) sheet) (front-way e)
-          (λ b. stops (callsBad e (bad b)))
-      go (Faulty n q) e = stops (schemaFault n q e)
+          (λ b. stops (tables (callsBad e (not-good s l b))))
+      go (Faulty n q) e = stops (tables (schemaFault n q e))
 
   -- Such an answer has this number and place, and nothing else: no bytes used, no rows, no tail, and the calls and the sheet as they were.
   pub stops-early : {n q : ℕ} → Stops s bytes l n q → received s side bytes sheet l ≡ line (stopped l n q) sheet
   unfolding received bytesLine
-  stops-early (schemaFault n q e) = rw e
-  stops-early (callsBad g b) = rw (g, is-false (goodTable (tableOf s) l) (λ t. b (good-clauses (tableOf s) l t)))
+  stops-early (tables (schemaFault n q e)) = rw e
+  stops-early (tables (callsBad g b)) = rw (g, is-false (goodTable (tableOf s) l) (λ t. b (good-clauses (tableOf s) l t)))
   stops-early (frameFault n g w e) = rw (g, good-test (tableOf s) l w, e)
   stops-early (needsMore g w e) = rw (g, good-test (tableOf s) l w, e)
 
@@ -111,3 +118,34 @@ pub judged : (s : List ℕ) (side : ℕ) (bytes sheet : List ℕ) (l : List Call
     → received s side bytes sheet l ≡ frameLine s (frameFrom side h) (take n (drop place bytes)) (place + n) sheet l
 unfolding received bytesLine
 judged s side bytes sheet l h place n g k e = rw (g, k, e)
+
+-- ---- a release
+
+module _ (s : List ℕ) (l : List Call) (id : ℕ) where
+  -- It stops at a fault of the tables, or the call is judged.
+  pub data ReleaseWay : Released → Type 0 where
+    unready : {n q : ℕ} → Unready s l n q → ReleaseWay (releaseAnswer n q l)
+    releases : IsGood s → goodTable (tableOf s) l ≡ true → ReleaseWay (releaseAnswer (release id l .number) 0 (release id l .table .slots))
+
+  pub release-ways : ReleaseWay (released s l id)
+  unfolding released
+  release-ways = go (checked s) refl
+    where
+      judged-as : Released
+      judged-as = releaseAnswer (release id l .number) 0 (release id l .table .slots)
+
+      go : (v : Checked) → checked s ≡ v →
+          ReleaseWay (onGood v (λ number row. releaseAnswer number row l) (cond (goodTable (tableOf s) l) judged-as (releaseAnswer 15 0 l)))
+      go Good e = cond-case ReleaseWay (goodTable (tableOf s) l) judged-as (releaseAnswer 15 0 l) (releases e) (λ b. unready (callsBad e (not-good s l b)))
+      go (Faulty n q) e = unready (schemaFault n q e)
+
+  -- Such an answer has this number and place, and the calls as they were.
+  pub release-stops : {n q : ℕ} → Unready s l n q → released s l id ≡ releaseAnswer n q l
+  unfolding released
+  release-stops (schemaFault n q e) = rw e
+  release-stops (callsBad g b) = rw (g, is-false (goodTable (tableOf s) l) (λ t. b (good-clauses (tableOf s) l t)))
+
+  -- Under good tables the call is judged.
+  pub release-judged : IsGood s → goodTable (tableOf s) l ≡ true → released s l id ≡ releaseAnswer (release id l .number) 0 (release id l .table .slots)
+  unfolding released
+  release-judged g k = rw (g, k)

@@ -2,6 +2,7 @@
 -- Assumes nothing.
 use mathlib.Core.Path.{_≡_}
 use mathlib.Core.List.{List}
+use mathlib.Core.Logic.{_⊎_}
 use Prim.Native.Nat.{ℕ, _≤_}
 use lib.ListN.{length, take, drop}
 use Rattle.schema.specs.declared.Checked.the-variants.{Refused as Faulty}
@@ -13,13 +14,13 @@ use Rattle.frame.specs.declared.FrameRead.the-variants.{More, Frame as Whole, R
 use Rattle.frame.specs.Frame.{frameOf}
 use Rattle.calls.specs.declared.Call.{Call}
 use Rattle.calls.specs.declared.Frame.{Frame}
-use Rattle.calls.specs.Slots.{goodTable}
+use Rattle.calls.specs.Slots.{goodTable, ownOf, full}
 use Rattle.calls.specs.Good.{GoodTable}
-use Rattle.calls.specs.Apart.{ownOf, full}
 use Rattle.value.specs.declared.Row.{Row}
 use Rattle.reader.specs.Sheet.{shownIn}
 use Rattle.reader.specs.Entry.{Numbers}
 use Rattle.line.specs.declared.Received.{Received}
+use Rattle.line.specs.declared.Released.{Released}
 use Rattle.line.specs.Answer.{Line, numbersOf}
 
 -- What a step sees of a frame with this header: the side that it comes from, and each number of the header.
@@ -42,11 +43,14 @@ pub record Front (side : ℕ) (bytes : List ℕ) (f : Frame) : Type 0 where
 abbrev pub payloadIn : {side : ℕ} {bytes : List ℕ} {f : Frame} → Front side bytes f → List ℕ
 payloadIn {bytes = bytes} w = take (w .size) (drop (w .place) bytes)
 
--- Why an answer comes before a frame is judged, with its number and place, in 01's order: a fault of the schema table; a call table that is not good; a
--- fault of the frame itself; more bytes needed.
+-- A fault of the two tables, with its number and place, in 01's order: of the schema table; a call table that is not good.
+pub data Unready (schema : List ℕ) (l : List Call) : (number place : ℕ) → Type 0 where
+  schemaFault : (n row : ℕ) → checked schema ≡ Faulty n row → Unready schema l n row
+  callsBad : IsGood schema → (GoodTable (tableOf schema) l → ⊥) → Unready schema l 15 0
+
+-- Why an answer comes before a frame is judged, in 01's order: a fault of the tables; a fault of the frame itself; more bytes needed.
 pub data Stops (schema bytes : List ℕ) (l : List Call) : (number place : ℕ) → Type 0 where
-  schemaFault : (n row : ℕ) → checked schema ≡ Faulty n row → Stops schema bytes l n row
-  callsBad : IsGood schema → (GoodTable (tableOf schema) l → ⊥) → Stops schema bytes l 15 0
+  tables : {n row : ℕ} → Unready schema l n row → Stops schema bytes l n row
   frameFault : (n : ℕ) → IsGood schema → GoodTable (tableOf schema) l → frameOf bytes ≡ Refused n → Stops schema bytes l n 0
   needsMore : IsGood schema → GoodTable (tableOf schema) l → frameOf bytes ≡ More → Stops schema bytes l 1 0
 
@@ -76,8 +80,8 @@ pub data Listed : (number place : ℕ) → Type 0 where
   accepted : Listed 0 0
   -- more bytes needed; the frame's own faults
   frame : {n : ℕ} → 1 ≤ n → n ≤ 7 → Listed n 0
-  -- the side and the call; the call table
-  call : {n : ℕ} → 8 ≤ n → n ≤ 15 → Listed n 0
+  -- the side and the call; the call table; a frame that crosses our cancel
+  call : {n : ℕ} → 8 ≤ n → n ≤ 16 → Listed n 0
   value : {n : ℕ} (place : ℕ) → 20 ≤ n → n ≤ 28 → Listed n place
   pairs : (place : ℕ) → Listed 31 place
   -- a payload where none belongs; too few rows
@@ -98,3 +102,20 @@ pub record Alike (T : Table) (side : ℕ) (bytes : List ℕ) (l₁ l₂ : List C
   pub good : goodTable T l₁ ≡ goodTable T l₂
   pub own : (f : Frame) → Front side bytes f → ownOf (f .correlation) l₁ ≡ ownOf (f .correlation) l₂
   pub room : (f : Frame) → Front side bytes f → f .kind ≡ 1 → full l₁ ≡ full l₂
+
+-- ---- a release
+
+-- The numbers of a release, with their places.
+pub data ReleaseListed : (number place : ℕ) → Type 0 where
+  released : ReleaseListed 0 0
+  notOpen : ReleaseListed 11 0
+  notCancelled : ReleaseListed 14 0
+  unready : {n place : ℕ} → (n ≡ 15) ⊎ (40 ≤ n) → Listed n place → ReleaseListed n place
+
+-- What the answer to a release says beside the calls.
+pub record ReleaseReply : Type 0 where
+  pub number : ℕ
+  pub place : ℕ
+
+abbrev pub releaseReply : Released → ReleaseReply
+releaseReply r = record { number = r .number; place = r .place }

@@ -1,6 +1,7 @@
--- One frame's bytes with their side, judged whole; and what the theorems about it speak of.
+-- One frame's bytes with their side, judged whole; the release of a call; and what the theorems about it speak of.
 pub mod Answer
 pub mod Receive
+pub mod Release
 pub mod Claims
 pub mod Order
 pub mod Run

@@ -10,8 +10,8 @@ use Rattle.schema.specs.File.{tableOf}
 use Rattle.calls.specs.declared.Call.{Call}
 use Rattle.calls.specs.declared.Frame.{Frame}
 use Rattle.calls.specs.declared.Payload.the-variants.{Struct, Empty, Unread}
+use Rattle.calls.specs.Slots.{ownOf}
 use Rattle.calls.specs.Good.{GoodTable}
-use Rattle.calls.specs.Apart.{ownOf}
 use Rattle.calls.specs.Order.{Past, Ruling, refused, comes, Ruled, Reflects}
 use Rattle.reader.specs.declared.Reading.the-variants.{Shown, Refused}
 use Rattle.reader.specs.Entry.{Outcome, outcome, readingIn, sheetIn, readOutcome, Numbers, numbers}

@@ -1,5 +1,5 @@
 -- The whole judgement of a frame in 01's order: the schema table (40 to 44), the call table (15), the frame (2 to 7 by wire order, then 1), its side and
--- its call (8 to 14), its payload (20 to 31). Assumes nothing.
+-- its call (8 to 14, 16), its payload (20 to 31). Assumes nothing.
 use Prim.Native.Nat.{ℕ, _+_}
 use mathlib.Core.Bool.{cond}
 use mathlib.Core.List.{List}
@@ -20,7 +20,7 @@ use Rattle.calls.specs.Step.{dueOf}
 use Rattle.line.specs.Answer.{Line, line, stopped, payloadRead, answered}
 
 -- Goes on where the table is good, and else stops with its number and row.
-abbrev pub onGood : Checked → (stop : ℕ → ℕ → Line) → Line → Line
+abbrev pub onGood : {A : Type 0} → Checked → (stop : ℕ → ℕ → A) → A → A
 onGood Good stop next = next
 onGood (Faulty number row) stop next = stop number row
 

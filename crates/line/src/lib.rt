@@ -1,7 +1,8 @@
-// One frame's bytes with their side, judged against the schema table, the call table and the sheet.
+// One frame's bytes with their side, judged against the schema table, the call table and the sheet; and the release of a cancelled call.
 pub mod answer;
 pub mod payload;
 pub mod receive;
+pub mod release;
 
 use calls::CallTable;
 
@@ -22,5 +23,16 @@ pub struct Received {
     pub open: usize,
     // Key comparisons that were due in the value read.
     pub comparisons: usize,
+    pub table: CallTable,
+}
+
+// The answer to a release, with the next call table.
+pub struct Released {
+    // 0 for a call that was released, or a refusal's number.
+    pub number: u32,
+    // At which row of the schema table the refusal is.
+    pub place: usize,
+    // Calls open afterwards.
+    pub open: usize,
     pub table: CallTable,
 }

@@ -1,7 +1,7 @@
--- 01's worked example: the record by the file of table T, and its whole output.
+-- 01's worked example: the record by the file of table T, and its whole output; and a record in which a RESPONSE crosses a CANCEL.
 -- Assumes nothing.
 use mathlib.Core.Path.{_≡_, refl}
-use mathlib.Core.List.{List, [], _∷_}
+use mathlib.Core.List.{List, [], _∷_, _++_}
 use Prim.Native.Nat.{ℕ}
 use lib.Count.{onesIn}
 use Rattle.wire.specs.Little as little
@@ -46,6 +46,46 @@ output =
     53 ∷ 32 ∷ 83 ∷ 32 ∷ 54 ∷ 32 ∷ 49 ∷ 48 ∷ 32 ∷ 50 ∷ 54 ∷ 32 ∷ 50 ∷ 32 ∷ 48 ∷ 32 ∷ 48 ∷ 10 ∷
     115 ∷ 116 ∷ 111 ∷ 112 ∷ 112 ∷ 101 ∷ 100 ∷ 32 ∷ 48 ∷ 32 ∷ 108 ∷ 101 ∷ 102 ∷ 116 ∷ 32 ∷ 48 ∷ 10 ∷ []
 
+-- what the file of table T makes of a record
+listed : List ℕ → List ℕ
+unfolding little.little varuint.front varuint.groups utf8.run utf8.next utf8.leadOf utf8.rows onesIn table.shape file.cell file.shaped file.layoutOf
+    file.tabulate file.tableOf check.lowest check.goodRow check.goodField check.findAmong check.goodMethod check.small check.badRow check.badField
+    check.badMethod check.checkedTable check.checked frame.whole frame.payloadOf frame.frameOf forms.rowOf numbers.endsCall numbers.usesFrame
+    slots.goodCall slots.goodTable slots.ownOf slots.full judge.payloadOf judge.verdictOf judge.judgeOf step.stepOf answer.andThen answer.check
+    answer.block answer.varUInt value.rows value.value read.present read.count read.complete read.bitmap read.walk read.parse read.ending
+    read.rootStruct read.read entry.payloadOutcome line.stopped line.payloadRead line.answered receive.frameLine receive.bytesLine receive.received
+    decimal.digits decimal.decimal text.field text.lineStart text.lineText text.stoppedText listing.freshCalls listing.answerTo listing.headerIn
+    listing.entriesText listing.listing
+listed r = listing.listing example.file r
+
 pub worked : listing.listing example.file entries ≡ output
-unfolding little.little varuint.front varuint.groups utf8.run utf8.next utf8.leadOf utf8.rows onesIn table.shape file.cell file.shaped file.layoutOf file.tabulate file.tableOf check.lowest check.goodRow check.goodField check.findAmong check.goodMethod check.small check.badRow check.badField check.badMethod check.checkedTable check.checked frame.whole frame.payloadOf frame.frameOf forms.rowOf numbers.endsCall numbers.usesFrame slots.goodCall slots.goodTable judge.payloadOf judge.judgeOf step.stepOf answer.andThen answer.check answer.block answer.varUInt value.rows value.value read.present read.count read.complete read.bitmap read.walk read.parse read.ending read.rootStruct read.read entry.payloadOutcome line.stopped line.payloadRead line.answered receive.frameLine receive.bytesLine receive.received decimal.digits decimal.decimal text.field text.lineStart text.lineText text.stoppedText listing.freshCalls listing.answerTo listing.headerIn listing.entriesText listing.listing
+unfolding listed
 worked = refl
+
+-- INVOKE 9 `01 07`; CANCEL 9; RESPONSE 9 `01 01 01 00`, which crosses it; CANCEL 9 again; ERROR 9 `07`; INVOKE 9 `01 07`; CANCEL 9 `07`, which has
+-- a payload.
+abbrev pub crossed : List ℕ
+crossed =
+    67 ∷ 175 ∷ 1 ∷ 1 ∷ 1 ∷ 0 ∷ 1 ∷ 0 ∷ 0 ∷ 0 ∷ 2 ∷ 0 ∷ 0 ∷ 0 ∷ 3 ∷ 0 ∷ 0 ∷ 0 ∷ 9 ∷ 0 ∷ 0 ∷ 0 ∷ 0 ∷ 0 ∷ 0 ∷ 0 ∷ 2 ∷ 1 ∷ 7 ∷
+    67 ∷ 175 ∷ 1 ∷ 1 ∷ 8 ∷ 0 ∷ 1 ∷ 0 ∷ 0 ∷ 0 ∷ 2 ∷ 0 ∷ 0 ∷ 0 ∷ 3 ∷ 0 ∷ 0 ∷ 0 ∷ 9 ∷ 0 ∷ 0 ∷ 0 ∷ 0 ∷ 0 ∷ 0 ∷ 0 ∷ 0 ∷
+    83 ∷ 175 ∷ 1 ∷ 1 ∷ 6 ∷ 0 ∷ 1 ∷ 0 ∷ 0 ∷ 0 ∷ 2 ∷ 0 ∷ 0 ∷ 0 ∷ 3 ∷ 0 ∷ 0 ∷ 0 ∷ 9 ∷ 0 ∷ 0 ∷ 0 ∷ 0 ∷ 0 ∷ 0 ∷ 0 ∷ 4 ∷ 1 ∷ 1 ∷ 1 ∷ 0 ∷
+    67 ∷ 175 ∷ 1 ∷ 1 ∷ 8 ∷ 0 ∷ 1 ∷ 0 ∷ 0 ∷ 0 ∷ 2 ∷ 0 ∷ 0 ∷ 0 ∷ 3 ∷ 0 ∷ 0 ∷ 0 ∷ 9 ∷ 0 ∷ 0 ∷ 0 ∷ 0 ∷ 0 ∷ 0 ∷ 0 ∷ 0 ∷
+    83 ∷ 175 ∷ 1 ∷ 1 ∷ 7 ∷ 0 ∷ 1 ∷ 0 ∷ 0 ∷ 0 ∷ 2 ∷ 0 ∷ 0 ∷ 0 ∷ 3 ∷ 0 ∷ 0 ∷ 0 ∷ 9 ∷ 0 ∷ 0 ∷ 0 ∷ 0 ∷ 0 ∷ 0 ∷ 0 ∷ 1 ∷ 7 ∷
+    67 ∷ 175 ∷ 1 ∷ 1 ∷ 1 ∷ 0 ∷ 1 ∷ 0 ∷ 0 ∷ 0 ∷ 2 ∷ 0 ∷ 0 ∷ 0 ∷ 3 ∷ 0 ∷ 0 ∷ 0 ∷ 9 ∷ 0 ∷ 0 ∷ 0 ∷ 0 ∷ 0 ∷ 0 ∷ 0 ∷ 2 ∷ 1 ∷ 7 ∷
+    67 ∷ 175 ∷ 1 ∷ 1 ∷ 8 ∷ 0 ∷ 1 ∷ 0 ∷ 0 ∷ 0 ∷ 2 ∷ 0 ∷ 0 ∷ 0 ∷ 3 ∷ 0 ∷ 0 ∷ 0 ∷ 9 ∷ 0 ∷ 0 ∷ 0 ∷ 0 ∷ 0 ∷ 0 ∷ 0 ∷ 1 ∷ 7 ∷ []
+
+abbrev pub crossedOutput : List ℕ
+crossedOutput =
+    text.heading ++
+    (49 ∷ 32 ∷ 67 ∷ 32 ∷ 49 ∷ 32 ∷ 57 ∷ 32 ∷ 48 ∷ 32 ∷ 48 ∷ 32 ∷ 50 ∷ 32 ∷ 49 ∷ 10 ∷
+    50 ∷ 32 ∷ 67 ∷ 32 ∷ 56 ∷ 32 ∷ 57 ∷ 32 ∷ 48 ∷ 32 ∷ 48 ∷ 32 ∷ 48 ∷ 32 ∷ 49 ∷ 10 ∷
+    51 ∷ 32 ∷ 83 ∷ 32 ∷ 54 ∷ 32 ∷ 57 ∷ 32 ∷ 49 ∷ 54 ∷ 32 ∷ 48 ∷ 32 ∷ 48 ∷ 32 ∷ 49 ∷ 10 ∷
+    52 ∷ 32 ∷ 67 ∷ 32 ∷ 56 ∷ 32 ∷ 57 ∷ 32 ∷ 49 ∷ 52 ∷ 32 ∷ 48 ∷ 32 ∷ 48 ∷ 32 ∷ 49 ∷ 10 ∷
+    53 ∷ 32 ∷ 83 ∷ 32 ∷ 55 ∷ 32 ∷ 57 ∷ 32 ∷ 48 ∷ 32 ∷ 48 ∷ 32 ∷ 48 ∷ 32 ∷ 48 ∷ 10 ∷
+    54 ∷ 32 ∷ 67 ∷ 32 ∷ 49 ∷ 32 ∷ 57 ∷ 32 ∷ 48 ∷ 32 ∷ 48 ∷ 32 ∷ 50 ∷ 32 ∷ 49 ∷ 10 ∷
+    55 ∷ 32 ∷ 67 ∷ 32 ∷ 56 ∷ 32 ∷ 57 ∷ 32 ∷ 50 ∷ 57 ∷ 32 ∷ 48 ∷ 32 ∷ 48 ∷ 32 ∷ 48 ∷ 10 ∷
+    115 ∷ 116 ∷ 111 ∷ 112 ∷ 112 ∷ 101 ∷ 100 ∷ 32 ∷ 48 ∷ 32 ∷ 108 ∷ 101 ∷ 102 ∷ 116 ∷ 32 ∷ 48 ∷ 10 ∷ [])
+
+pub crossing : listing.listing example.file crossed ≡ crossedOutput
+unfolding listed
+crossing = refl

@@ -27,7 +27,7 @@ use Rattle.line.specs.Order.{Said, said, Answered, Stands}
 use Rattle.line.specs.Order as order
 use Rattle.line.specs.Claims.{Front}
 use Rattle.line.specs.Receive.{frameFrom, received}
-use Rattle.line.specs.Run.{Input, runFrom}
+use Rattle.line.specs.Run.{Event, Input, runFrom}
 use Rattle.line.proofs.Answers.{used-by-number}
 use Rattle.line.proofs.Runs.{by-order}
 use Rattle.promises.specs.ValueFrames.{Carries, value, none, RuledNext, ReceivedBack}
@@ -75,8 +75,8 @@ module _ (h : Header) (fits : Fits h) (s : List ℕ) (ty : ℕ) (sheet B out : L
       let size = frame.written-iff h (in-turn .payload) (length out) m .0 (in-turn .then) .size in
       omega (arith, size, length-frame h (in-turn .payload))
 
-  -- The same by `receive`, in any run from a good call table of 128 slots, for a frame that may come next.
-  pub received-back : (l : List Call) (past : ℕ → Past) → Stands (tableOf s) l past → (is : List Input) (side : ℕ)
+  -- The same by `receive`, in any history from a good call table of 128 slots, for a frame that may come next.
+  pub received-back : (l : List Call) (past : ℕ → Past) → Stands (tableOf s) l past → (is : List Event) (side : ℕ)
       → (after : List ℕ) → length sheet / 4 ≤ room after → (rest : List ℕ)
       → (p : List ℕ) × Carries s ty sheet B after p × ReceivedBack s ty p after l past is side h m (take m out′ ++ rest)
   received-back l past stands is side after rows rest =

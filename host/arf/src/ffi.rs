@@ -95,6 +95,16 @@ extern "C" {
         answer_n: usize,
     ) -> u32;
 
+    fn arf_release(
+        table: *mut u64,
+        table_n: usize,
+        schema: *const u8,
+        schema_n: usize,
+        correlation: u64,
+        answer: *mut u64,
+        answer_n: usize,
+    ) -> u32;
+
     fn arf_read_frame(bytes: *const u8, bytes_n: usize, answer: *mut u64, answer_n: usize) -> u32;
 
     fn arf_write_frame(
@@ -397,6 +407,23 @@ pub fn salvage(record: &[u8], copy: &mut [u8], spans: &mut [u32], answer: &mut [
     }
 }
 
+/// Stores the place and the calls open.
+pub fn release(table: &mut [u64], schema: &[u8], correlation: u64, answer: &mut [u64]) -> u32 {
+    // SAFETY: each pointer and length are those of a Rust slice; the two that
+    // are written do not overlap, since both are `&mut`.
+    unsafe {
+        arf_release(
+            table.as_mut_ptr(),
+            table.len(),
+            schema.as_ptr(),
+            schema.len(),
+            correlation,
+            answer.as_mut_ptr(),
+            answer.len(),
+        )
+    }
+}
+
 #[cfg(test)]
 mod tests {
     use super::*;
@@ -430,6 +457,7 @@ mod tests {
         with_any_room(4, |cells| scalar(&[], [0; 4], &[], cells));
         with_any_room(7, |cells| read_frame(&[], cells));
         with_any_room(7, |cells| receive(&mut [], &[], b'C', &[], &mut [], cells));
+        with_any_room(2, |cells| release(&mut [], &[], 0, cells));
         with_any_room(1, |cells| write_frame(9, [0; 3], 0, &[], &mut [], cells));
         with_any_room(2, |cells| {
             write_value_frame([0; 4], 0, &[], (0, &[], &[]), &mut [], cells)
@@ -565,5 +593,39 @@ mod tests {
         };
         assert_eq!(receive(1, &right), [0, 34, 8, 8, 0, 1, 3]);
         assert_eq!(receive(2, &surplus), [8, 35, 0, 0, 0, 1, 0]);
+    }
+
+    #[test]
+    fn the_cancelled_mark_stands_in_the_lent_cells() {
+        let schema = map_schema();
+        let (mut table, mut frame, mut cells) = ([0; 3 * 128], [0; 34], [FILL; 2]);
+        let correlation = 0x0807_0605_0403_0201;
+        let mut send = |table: &mut [u64], kind, payload: &[u8]| {
+            let mut length = [0];
+            write_frame(
+                kind,
+                [1, 2, 3],
+                correlation,
+                payload,
+                &mut frame,
+                &mut length,
+            );
+            let bytes = &frame[..length[0] as usize];
+            receive(table, &schema, b'C', bytes, &mut [0; 32], &mut [])
+        };
+        assert_eq!(send(&mut table, 1, &[1, 0]), 0);
+        assert_eq!(table[..3], [correlation, 0, 1]);
+        assert_eq!(send(&mut table, 8, &[]), 0);
+        assert_eq!(table[..3], [correlation, 0, 17]);
+
+        // A mark beside the five is 15, and changes nothing.
+        table[2] = 49;
+        assert_eq!(release(&mut table, &schema, correlation, &mut cells), 15);
+        assert_eq!((table[2], cells), (49, [0, 1]));
+
+        table[2] = 17;
+        assert_eq!(release(&mut table, &schema, correlation, &mut cells), 0);
+        assert_eq!((table, cells), ([0; 3 * 128], [0, 0]));
+        assert_eq!(release(&mut table, &schema, correlation, &mut cells), 11);
     }
 }

@@ -541,6 +541,9 @@ pub struct Call {
     pub response: bool,
     pub input_closed: bool,
     pub output_closed: bool,
+    /// CANCEL was accepted: the call stays open until the server's ERROR or a
+    /// [release](CallTable::release).
+    pub cancelled: bool,
 }
 
 impl Call {
@@ -548,7 +551,8 @@ impl Call {
         let marks = u64::from(self.open)
             | u64::from(self.response) << 1
             | u64::from(self.input_closed) << 2
-            | u64::from(self.output_closed) << 3;
+            | u64::from(self.output_closed) << 3
+            | u64::from(self.cancelled) << 4;
         [self.correlation, self.method.into(), marks]
     }
 
@@ -560,6 +564,7 @@ impl Call {
             response: marks & 2 != 0,
             input_closed: marks & 4 != 0,
             output_closed: marks & 8 != 0,
+            cancelled: marks & 16 != 0,
         }
     }
 }
@@ -592,6 +597,14 @@ pub struct Received {
     pub outcome: Outcome,
     /// How many bytes were used: the frame's length, or 0.
     pub used: usize,
+    /// How many calls are open afterwards.
+    pub open: usize,
+}
+
+/// The answer to a release.
+#[derive(Clone, Copy, Debug, PartialEq, Eq)]
+pub struct Released {
+    pub outcome: Result<(), Refusal>,
     /// How many calls are open afterwards.
     pub open: usize,
 }
@@ -645,7 +658,7 @@ impl CallTable {
     ///
     /// # Bytes used
     ///
-    /// A frame that is accepted, or refused with 8 to 14, 20 to 29 or 31, is
+    /// A frame that is accepted, or refused with 8 to 14, 16, 20 to 29 or 31, is
     /// used whole, and the next one starts behind it. For 1 to 7, 15, 30 and 40
     /// to 44 `used` is 0, and the same call would give the same answer, so a
     /// loop over a buffer has to do something else:
@@ -713,6 +726,59 @@ impl CallTable {
         Received {
             outcome,
             used: used as usize,
+            open: open as usize,
+        }
+    }
+
+    /// Ends a cancelled call, so that its slot and its correlation are free
+    /// again. The schema table's refusals come first, then 15 for a call table
+    /// that is not good, 11 for a call that is not open and 14 for one that is
+    /// not cancelled; a refusal changes nothing.
+    ///
+    /// A call that we cancel stays open, since answers may be on their way: the
+    /// server's frames to it are dropped with 16, and its ERROR ends it. Where
+    /// none comes, the host releases the call, after a time of its own choice
+    /// or when the connection has answered something newer. A frame that still
+    /// comes afterwards is 11, or belongs to the next call of that number.
+    ///
+    /// ```
+    /// use arf::{CallTable, Header, Outcome};
+    ///
+    /// // uint8, a struct with one such field, and a method that takes and gives it.
+    /// let words = [
+    ///     6u32, 0, 0, 16, 0, 1, 0, 0, 1, 2, 3, 12, 1, 1, u32::MAX, u32::MAX, 24, 32, 64, 1,
+    /// ];
+    /// let schema: Vec<u8> = words.iter().flat_map(|word| word.to_le_bytes()).collect();
+    /// let mut table = CallTable::fresh();
+    /// let mut send = |table: &mut CallTable, side, kind, payload: &[u8]| {
+    ///     let header = Header { kind, package: 1, service: 2, method: 3, correlation: 9 };
+    ///     let mut frame = [0; 28];
+    ///     let length = arf::write_frame(&header, payload, &mut frame).unwrap();
+    ///     table.receive(&schema, side, &frame[..length], &mut [0; 8])
+    /// };
+    ///
+    /// send(&mut table, b'C', 1, &[0x01, 0x07]);
+    /// assert_eq!(table.release(&schema, 9).outcome.unwrap_err().number, 14);
+    /// assert_eq!(send(&mut table, b'C', 8, &[]).open, 1);
+    /// assert!(table.calls()[0].cancelled);
+    ///
+    /// // The response crosses our cancel.
+    /// let crossing = send(&mut table, b'S', 6, &[0x01, 0x07]);
+    /// assert!(matches!(crossing.outcome, Outcome::Refused(refusal) if refusal.number == 16));
+    /// assert_eq!((crossing.used, crossing.open), (28, 1));
+    ///
+    /// let released = table.release(&schema, 9);
+    /// assert_eq!((released.outcome, released.open), (Ok(()), 0));
+    /// assert_eq!(table, CallTable::fresh());
+    /// assert_eq!(table.release(&schema, 9).outcome.unwrap_err().number, 11);
+    /// ```
+    pub fn release(&mut self, schema: &[u8], correlation: u64) -> Released {
+        let table = self.cells.as_flattened_mut();
+        let mut cells = [0; 2];
+        let number = ffi::release(table, schema, correlation, &mut cells);
+        let [place, open] = cells;
+        Released {
+            outcome: answer(number, place, ()),
             open: open as usize,
         }
     }

@@ -60,7 +60,7 @@ pub const SPAN_CELLS: usize = 4_682;
 pub const SLOTS: usize = 128;
 
 /// The stack in bytes that a thread needs for any call: 64 KiB, which leaves the
-/// caller some of it, since `tools/stack` measures 50 KiB at most. With less
+/// caller some of it, since `tools/stack` measures 52 KiB at most. With less
 /// stack than a call needs, the system ends the process.
 ///
 /// The main thread and those of `std::thread` have more unless they are given

@@ -33,8 +33,12 @@ const MEANINGS: &[(u32, &str)] = &[
     (11, "the call is not open"),
     (12, "the identifiers differ from the call's"),
     (13, "128 calls are open"),
-    (14, "the frame is not allowed now"),
+    (14, "the frame or the release is not allowed now"),
     (15, "the call table is not good"),
+    (
+        16,
+        "a frame of the server to a cancelled call, which is dropped",
+    ),
     (20, "an item, count or tail exceeds what remains"),
     (21, "a VarUInt is malformed"),
     (22, "a bool is neither 0 nor 1"),

@@ -1,13 +1,13 @@
 //! The answers of the static library to cases, in the words of the case file.
 
 use reference::cases::{
-    call_table_sum, line, sheet_sum, sum, Case, ExtendsCase, ForwardCase, FrameCase,
-    FrameWriteCase, ReadCase, ReceiveCase, RunCase, SalvageCase, ScalarCase, TableCase,
-    ValueFrameCase, WriteCase, BYTE_FILL, CELL_FILL,
+    call_table_sum, line, sheet_sum, sum, Case, Event, ExtendsCase, ForwardCase, FrameCase,
+    FrameWriteCase, HistoryCase, ReadCase, ReceiveCase, ReleaseCase, RunCase, SalvageCase,
+    ScalarCase, TableCase, ValueFrameCase, WriteCase, BYTE_FILL, CELL_FILL,
 };
 
 /// The codes of the entries that the library has.
-pub const CODES: &[u8] = &[1, 2, 3, 4, 5, 6, 7, 8, 9, 15, 17, 18];
+pub const CODES: &[u8] = &[1, 2, 3, 4, 5, 6, 7, 8, 9, 10, 11, 15, 17, 18];
 
 /// How many cells or bytes before and after a lent buffer are watched.
 const MARGIN: usize = 16;
@@ -24,6 +24,8 @@ pub fn answer(case: &Case, text: &mut String) {
         Case::FrameWrite(case) => frame_write(case, text),
         Case::Run(case) => run(case, text),
         Case::Receive(case) => receive_one(case, text),
+        Case::Release(case) => release_one(case, text),
+        Case::History(case) => history(case, text),
         Case::ValueFrame(case) => value_frame(case, text),
         Case::Forward(case) => forward(case, text),
         Case::Salvage(case) => salvage(case, text),
@@ -248,6 +250,7 @@ fn table_of(table: &reference::CallTable) -> arf::CallTable {
         response: call.response,
         input_closed: call.input_closed,
         output_closed: call.output_closed,
+        cancelled: call.cancelled,
     }))
 }
 
@@ -259,8 +262,38 @@ fn table_sum(table: &arf::CallTable) -> u64 {
         response: call.response,
         input_closed: call.input_closed,
         output_closed: call.output_closed,
+        cancelled: call.cancelled,
     });
     call_table_sum(&reference::CallTable { slots })
+}
+
+/// One release: number, place, calls open.
+fn release(table: &mut arf::CallTable, schema: &[u8], correlation: u64) -> [u64; 3] {
+    let released = table.release(schema, correlation);
+    let (number, place, ()) = outcome(released.outcome, ());
+    [number, place, released.open as u64]
+}
+
+fn release_one(case: &ReleaseCase, text: &mut String) {
+    let mut table = table_of(&case.table);
+    let [number, place, open] = release(&mut table, &case.schema, case.correlation);
+    line(text, &[number, place, open, table_sum(&table)]);
+}
+
+fn history(case: &HistoryCase, text: &mut String) {
+    let mut table = arf::CallTable::fresh();
+    for event in &case.events {
+        match event {
+            Event::Frame((side, data)) => {
+                let numbers = receive(&mut table, &case.schema, case.cells, (*side, data));
+                line(text, &numbers);
+            }
+            Event::Release(correlation) => {
+                let numbers = release(&mut table, &case.schema, *correlation);
+                line(text, &numbers);
+            }
+        }
+    }
 }
 
 fn salvage(case: &SalvageCase, text: &mut String) {

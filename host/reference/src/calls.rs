@@ -1,5 +1,6 @@
 //! The call table: 128 slots, and what a good table is.
 
+use crate::refusal::{Reason, Refusal};
 use crate::schema::{Method, Schema};
 
 /// The number of slots.
@@ -56,6 +57,8 @@ pub struct Call {
     pub response: bool,
     pub input_closed: bool,
     pub output_closed: bool,
+    /// Whether the client has cancelled the call, which stays open.
+    pub cancelled: bool,
 }
 
 impl Call {
@@ -121,6 +124,15 @@ impl CallTable {
     /// Whether the table keeps its rules under a schema table.
     pub fn is_good(&self, schema: &Schema) -> bool {
         self.slots.iter().all(|call| call.is_good(schema)) && self.identifiers_differ()
+    }
+
+    /// The schema table, where it and this call table are good under it.
+    pub(crate) fn check<'a>(&self, schema: &'a [u8]) -> Result<Schema<'a>, Refusal> {
+        let schema = Schema::check(schema)?;
+        match self.is_good(&schema) {
+            true => Ok(schema),
+            false => Err(Reason::CallTableNotGood.at(0)),
+        }
     }
 
     fn identifiers_differ(&self) -> bool {

@@ -98,10 +98,7 @@ impl CallTable {
         bytes: &[u8],
         sheet: &mut [u32],
     ) -> Result<(Outcome, usize), Refusal> {
-        let schema = Schema::check(schema)?;
-        if !self.is_good(&schema) {
-            return Err(Reason::CallTableNotGood.at(0));
-        }
+        let schema = self.check(schema)?;
         let frame = match read_frame(bytes) {
             FrameAnswer::Whole(frame) => frame,
             FrameAnswer::MoreNeeded => return Ok((Outcome::MoreNeeded, 0)),
@@ -110,8 +107,8 @@ impl CallTable {
         let payload = &bytes[frame.payload_place..frame.length()];
         let outcome = match self.advance(&schema, side, &frame, payload, sheet) {
             Ok(reading) => Outcome::Accepted(reading),
-            Err(refusal) if refusal.reason == Reason::SheetTooSmall => return Err(refusal),
-            Err(refusal) => Outcome::Refused(refusal),
+            Err(refusal) if refusal.reason.uses_frame() => Outcome::Refused(refusal),
+            Err(refusal) => return Err(refusal),
         };
         Ok((outcome, frame.length()))
     }
@@ -178,11 +175,10 @@ impl CallTable {
         if method.identifiers != frame.header.identifiers {
             return Err(Reason::IdentifiersDiffer);
         }
-        let (mut next, payload) = order(call, &method, frame.kind).ok_or(Reason::NotAllowedNow)?;
-        let terminal = matches!(frame.kind, Kind::Error | Kind::Cancel);
-        if terminal || next.is_complete(FORMS[method.form]) {
-            next = Call::default();
-        }
+        let (next, payload) = match call.cancelled {
+            true => order_cancelled(frame.kind)?,
+            false => order(call, &method, frame.kind).ok_or(Reason::NotAllowedNow)?,
+        };
         Ok(Step {
             slot,
             next,
@@ -191,8 +187,19 @@ impl CallTable {
     }
 }
 
-/// The order of frames within an open call: the record after the frame and the
-/// payload it must have, or none where the frame is not allowed now.
+/// The order of frames within a cancelled call: ERROR ends it, the server's
+/// other frames are dropped, and the client may send nothing more.
+fn order_cancelled(kind: Kind) -> Result<(Call, Expected), Reason> {
+    match kind {
+        Kind::Error => Ok((Call::default(), Expected::Anything)),
+        Kind::OutStream | Kind::OutClose | Kind::Response => Err(Reason::Dropped),
+        Kind::Invoke | Kind::InStream | Kind::InClose | Kind::Cancel => Err(Reason::NotAllowedNow),
+    }
+}
+
+/// The order of frames within an open call that is not cancelled: the record
+/// after the frame and the payload it must have, or none where the frame is not
+/// allowed now.
 fn order(call: Call, method: &Method, kind: Kind) -> Option<(Call, Expected)> {
     let form = FORMS[method.form];
     let [_, output, input_stream, output_stream] = method.types;
@@ -217,7 +224,12 @@ fn order(call: Call, method: &Method, kind: Kind) -> Option<(Call, Expected)> {
         response: call.response || kind == Kind::Response,
         input_closed: call.input_closed || kind == Kind::InClose,
         output_closed: call.output_closed || kind == Kind::OutClose,
+        cancelled: kind == Kind::Cancel,
         ..call
+    };
+    let next = match kind == Kind::Error || next.is_complete(form) {
+        true => Call::default(),
+        false => next,
     };
     allowed.then_some((next, payload))
 }

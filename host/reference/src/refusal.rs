@@ -32,6 +32,8 @@ pub enum Reason {
     NotAllowedNow = 14,
     /// The call table breaks one of its own rules.
     CallTableNotGood = 15,
+    /// A frame of the server for a cancelled call is dropped, its payload unread.
+    Dropped = 16,
     /// An item, count or tail exceeds the bytes that remain.
     ExceedsRemaining = 20,
     /// A VarUInt has a tenth byte above 1, or two or more bytes and the last 0.
@@ -90,6 +92,12 @@ impl Reason {
     /// a call.
     pub const fn ends_call(self) -> bool {
         matches!(self.number(), 20..=29 | 31)
+    }
+
+    /// Whether a frame refused for this reason is used up: 8 to 14, 16, and the
+    /// payload refusals.
+    pub const fn uses_frame(self) -> bool {
+        matches!(self.number(), 8..=14 | 16) || self.ends_call()
     }
 
     /// This reason at a place.

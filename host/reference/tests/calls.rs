@@ -68,7 +68,7 @@ impl Line {
         assert!(sheet[4 * rows..].iter().all(|&cell| cell == CELL));
         assert_eq!(received.open, self.table.open_count());
         let number = received.number();
-        let uses = matches!(number, 0 | 8..=14 | 20..=29 | 31);
+        let uses = matches!(number, 0 | 8..=14 | 16 | 20..=29 | 31);
         assert_eq!(received.used > 0, uses, "{number}");
         if !matches!(number, 0 | 20..=29 | 31) {
             assert_eq!(self.table, before);
@@ -179,20 +179,16 @@ fn every_order_of_every_form() {
 }
 
 #[test]
-fn error_and_cancel_end_at_once() {
+fn error_ends_at_once() {
     for form in 0..16 {
-        for (kind, payload) in [
-            (Kind::Error, &b"why"[..]),
-            (Kind::Error, b""),
-            (Kind::Cancel, b""),
-        ] {
+        for payload in [&b"why"[..], b""] {
             let mut line = Line::new();
             line.open(form);
-            let bytes = frame(kind, [0, 0, form], 9, payload);
-            let received = line.send(kind.side(), &bytes, 0);
+            let bytes = frame(Kind::Error, [0, 0, form], 9, payload);
+            let received = line.send(b'S', &bytes, 0);
             assert_eq!(received.outcome, Outcome::Accepted(Reading::default()));
             assert_eq!(line.table, CallTable::fresh());
-            assert_eq!(line.kind(form, kind, payload), 11);
+            assert_eq!(line.kind(form, Kind::Error, payload), 11);
             line.open(form);
         }
     }
@@ -408,6 +404,12 @@ fn calls_128_and_129() {
         let cancel = frame(Kind::Cancel, [0, 0, 0], correlation, &[]);
         assert_eq!(line.send(b'C', &cancel, 0).number(), 0);
     }
+    // A cancelled call still counts.
+    assert_eq!(line.send(b'C', &invoke(1_000), 0).number(), 13);
+    for correlation in [70, 30] {
+        let error = frame(Kind::Error, [0, 0, 0], correlation, &[]);
+        assert_eq!(line.send(b'S', &error, 0).number(), 0);
+    }
     assert_eq!(line.send(b'C', &invoke(1_000), 0).open, 127);
     assert_eq!(line.table.slots[30].correlation, 1_000);
     assert_eq!(line.send(b'C', &invoke(70), 0).open, 128);
@@ -474,8 +476,13 @@ fn call_tables_that_are_not_good() {
         marks(1, true, false, false),
         marks(15, false, false, false),
     ];
+    let cancelled = |call: Call| Call {
+        cancelled: true,
+        ..call
+    };
     for call in good {
         assert_eq!(judge(&[(0, call)]), 2, "{call:?}");
+        assert_eq!(judge(&[(0, cancelled(call))]), 2, "{call:?}");
     }
     let bad = [
         Call {
@@ -495,6 +502,10 @@ fn call_tables_that_are_not_good() {
             output_closed: true,
             ..free
         },
+        Call {
+            cancelled: true,
+            ..free
+        },
         marks(16, false, false, false),
         marks(u32::MAX, false, false, false),
         marks(1, false, true, false),
@@ -507,8 +518,10 @@ fn call_tables_that_are_not_good() {
     ];
     for call in bad {
         assert_eq!(judge(&[(127, call)]), 15, "{call:?}");
+        assert_eq!(judge(&[(127, cancelled(call))]), 15, "{call:?}");
     }
     assert_eq!(judge(&[(0, call), (127, call)]), 15);
+    assert_eq!(judge(&[(0, call), (127, cancelled(call))]), 15);
     let other = Call {
         correlation: 6,
         ..call

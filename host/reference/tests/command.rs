@@ -129,6 +129,26 @@ stopped 0 left 0
 stopped 0 left 0
 ";
     assert!(text.contains(maps));
+    let crossing = "2 C 8 1 0 0 0 1
+3 S 6 1 16 0 0 1
+4 S 6 1 16 0 0 1
+5 S 4 1 16 0 0 1
+6 S 5 1 16 0 0 1
+7 C 8 1 14 0 0 1
+8 C 8 1 14 0 0 1
+9 C 3 1 14 0 0 1
+10 C 1 1 10 0 0 1
+11 C 1 2 0 0 2 2
+12 S 7 1 12 0 0 2
+13 S 7 1 0 0 0 1
+14 S 6 1 11 0 0 1
+15 C 1 1 0 0 2 2
+16 S 6 1 0 0 4 1
+17 C 8 2 29 0 0 0
+18 S 6 2 11 0 0 0
+stopped 0 left 0
+";
+    assert!(text.contains(crossing));
     for end in [
         "0 left 0",
         "1 left 7",

@@ -41,11 +41,12 @@ fn numbers(code: u8) -> Vec<u32> {
         }
         6 => (0..=7).collect(),
         7 => vec![0, 4, 7, 52],
+        8 | 11 => (0..=14).chain([16]).chain(20..=31).chain(table).collect(),
+        9 => (0..=16).chain(20..=31).chain(table).collect(),
+        10 => [0, 11, 14, 15].into_iter().chain(table).collect(),
         15 => numbers(5).into_iter().chain([4]).collect(),
-        18 => numbers(5),
-        8 => (0..=14).chain(20..=31).chain(table).collect(),
-        9 => (0..=15).chain(20..=31).chain(table).collect(),
         17 => vec![0, 45, 52, 53],
+        18 => numbers(5),
         _ => panic!("code {code} has no numbers here"),
     }
 }
@@ -84,7 +85,7 @@ fn codes_do_not_disturb_each_other() {
     all.retain(|case| case.code() <= 9);
     let mut first = Generator::new(16, &[1, 2, 3, 4, 5, 6, 7, 8, 9]);
     assert!(all.iter().all(|case| first.case().as_ref() == Some(case)));
-    for code in [15, 17, 18] {
+    for code in [10, 11, 15, 17, 18] {
         let mut alone = Generator::new(16, &[code]);
         for case in cases(16, 3_000) {
             if case.code() == code {
@@ -671,10 +672,24 @@ fn random_call_tables() {
                 response: rng.one_in(4),
                 input_closed: rng.one_in(4),
                 output_closed: rng.one_in(4),
+                cancelled: rng.one_in(4),
             };
         }
         let good = Schema::check(&schema).is_ok_and(|schema| table.is_good(&schema));
         let answer = table.receive(&schema, b'C', &[], &mut []);
         assert_eq!(answer.number(), if good { 1 } else { 15 });
+        let before = table;
+        let answer = table.release(&schema, 1);
+        let mut open = before.slots.iter().filter(|call| call.open);
+        let call = open.find(|call| call.correlation == 1);
+        let expected = match (good, call.map(|call| call.cancelled)) {
+            (false, _) => 15,
+            (true, None) => 11,
+            (true, Some(false)) => 14,
+            (true, Some(true)) => 0,
+        };
+        assert_eq!(answer.number(), expected);
+        assert_eq!(answer.open, table.open_count());
+        assert_eq!(expected == 0, table != before);
     }
 }

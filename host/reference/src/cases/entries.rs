@@ -293,7 +293,7 @@ impl Entry for FrameWriteCase {
 }
 
 /// One frame against a call table, with a newly filled sheet.
-fn receive(table: &mut CallTable, schema: &[u8], cells: usize, sent: (u8, &[u8])) -> [u64; 9] {
+pub fn receive(table: &mut CallTable, schema: &[u8], cells: usize, sent: (u8, &[u8])) -> [u64; 9] {
     let mut sheet = vec![CELL_FILL; cells];
     let received = table.receive(schema, sent.0, sent.1, &mut sheet);
     let [rows, tail_place, tail_length, comparisons] = reading_numbers(received.reading());

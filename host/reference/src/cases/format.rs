@@ -15,6 +15,13 @@ pub const MAX_FRAMES: usize = 1_000;
 /// A frame and the side byte it comes with.
 pub type Sent = (u8, Vec<u8>);
 
+/// What happens to a connection: a frame comes, or a call is released.
+#[derive(Clone, Debug, PartialEq, Eq)]
+pub enum Event {
+    Frame(Sent),
+    Release(u64),
+}
+
 /// Takes parts off the front of a case file; none where it is cut.
 pub struct Input<'a> {
     bytes: &'a [u8],
@@ -79,6 +86,16 @@ impl<'a> Input<'a> {
         (0..frames).map(frame).collect()
     }
 
+    pub fn events(&mut self) -> Option<Vec<Event>> {
+        let events = self.limited(MAX_FRAMES)?;
+        let event = |_| match self.u8()? {
+            0 => Some(Event::Frame((self.u8()?, self.bytes()?))),
+            1 => Some(Event::Release(self.u64()?)),
+            _ => None,
+        };
+        (0..events).map(event).collect()
+    }
+
     pub fn header(&mut self) -> Option<Header> {
         Some(Header {
             kind: self.u32()?,
@@ -101,6 +118,7 @@ impl<'a> Input<'a> {
                 response: self.mark()?,
                 input_closed: self.mark()?,
                 output_closed: self.mark()?,
+                cancelled: self.mark()?,
             };
         }
         Some(table)
@@ -135,6 +153,7 @@ pub fn put_call_table(out: &mut Vec<u8>, table: &CallTable) {
         out.push(call.response.into());
         out.push(call.input_closed.into());
         out.push(call.output_closed.into());
+        out.push(call.cancelled.into());
     }
 }
 
@@ -149,7 +168,7 @@ pub fn sheet_sum(sheet: &[u32]) -> u64 {
 }
 
 pub fn call_table_sum(table: &CallTable) -> u64 {
-    let mut bytes = Vec::with_capacity(16 * SLOTS);
+    let mut bytes = Vec::with_capacity(17 * SLOTS);
     put_call_table(&mut bytes, table);
     sum(bytes)
 }

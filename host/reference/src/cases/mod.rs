@@ -1,11 +1,12 @@
 //! Case files: a plain binary format of inputs, and one line of answers each.
 //!
 //! A case is a code byte and the inputs of one entry. Its answer is a line of
-//! decimal numbers; a run of frames has a line a frame.
+//! decimal numbers; a run has a line a frame, a history a line an event.
 
 mod entries;
 mod format;
 mod forward;
+mod histories;
 mod listings;
 mod records;
 mod value_frame;
@@ -15,10 +16,11 @@ pub use entries::{
     WriteCase, BYTE_FILL, CELL_FILL,
 };
 pub use format::{
-    call_table_sum, line, sheet_sum, sum, MAX_BYTES, MAX_CELLS, MAX_FRAMES, MAX_OUTPUT,
+    call_table_sum, line, sheet_sum, sum, Event, Sent, MAX_BYTES, MAX_CELLS, MAX_FRAMES, MAX_OUTPUT,
 };
 
 pub use forward::ForwardCase;
+pub use histories::{HistoryCase, ReleaseCase};
 pub use listings::{list_file, put_listings, ListingCase};
 pub use records::SalvageCase;
 pub use value_frame::ValueFrameCase;
@@ -38,6 +40,8 @@ pub enum Case {
     FrameWrite(FrameWriteCase),
     Run(RunCase),
     Receive(ReceiveCase),
+    Release(ReleaseCase),
+    History(HistoryCase),
     ValueFrame(ValueFrameCase),
     Forward(ForwardCase),
     Salvage(SalvageCase),
@@ -56,6 +60,8 @@ impl Case {
             Case::FrameWrite(_) => 7,
             Case::Run(_) => 8,
             Case::Receive(_) => 9,
+            Case::Release(_) => 10,
+            Case::History(_) => 11,
             Case::ValueFrame(_) => 15,
             Case::Forward(_) => 18,
             Case::Salvage(_) => 17,
@@ -73,6 +79,8 @@ impl Case {
             Case::FrameWrite(case) => case,
             Case::Run(case) => case,
             Case::Receive(case) => case,
+            Case::Release(case) => case,
+            Case::History(case) => case,
             Case::ValueFrame(case) => case,
             Case::Forward(case) => case,
             Case::Salvage(case) => case,
@@ -91,6 +99,8 @@ impl Case {
             7 => Case::FrameWrite(FrameWriteCase::take(input)?),
             8 => Case::Run(RunCase::take(input)?),
             9 => Case::Receive(ReceiveCase::take(input)?),
+            10 => Case::Release(ReleaseCase::take(input)?),
+            11 => Case::History(HistoryCase::take(input)?),
             15 => Case::ValueFrame(ValueFrameCase::take(input)?),
             18 => Case::Forward(ForwardCase::take(input)?),
             17 => Case::Salvage(SalvageCase::take(input)?),
@@ -109,7 +119,7 @@ impl Case {
         self.entry().answer(text);
     }
 
-    /// The number of each answer: one, or one a frame for a run.
+    /// The number of each answer: one, or one a frame or event.
     pub fn numbers(&self) -> Vec<u32> {
         let mut text = String::new();
         self.answer(&mut text);

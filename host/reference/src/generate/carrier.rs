@@ -180,7 +180,8 @@ fn day() -> Record {
         .add(Kind::OutClose, RECEIPTS, 3, &[])
 }
 
-/// A client that has seen enough receipts; one more batch is on its way.
+/// A client that has seen enough receipts; one more batch is on its way. The
+/// carrier's ERROR ends the call, and its number is used again.
 fn cancelled() -> Record {
     let some = [receipt(501, READ_OUT, 1_700_000_120)];
     Record::default()
@@ -194,6 +195,13 @@ fn cancelled() -> Record {
         .add(Kind::OutStream, RECEIPTS, 4, &batch(&some, true))
         .add(Kind::Cancel, RECEIPTS, 4, &[])
         .add(Kind::OutStream, RECEIPTS, 4, &batch(&some, true))
+        .add(
+            Kind::Invoke,
+            RECEIPTS,
+            4,
+            &span(1_700_086_400, 1_700_172_800),
+        )
+        .add(Kind::Error, RECEIPTS, 4, b"cancelled")
         .add(
             Kind::Invoke,
             RECEIPTS,

@@ -121,7 +121,14 @@ impl Line {
         (!open.is_empty()).then(|| rng.pick(&open))
     }
 
-    fn unused_correlation(&self, rng: &mut Rng) -> u64 {
+    /// An open call that is cancelled, or one that is not.
+    pub fn pick_by_mark(&self, rng: &mut Rng, cancelled: bool) -> Option<Call> {
+        let mut open = self.open_calls();
+        open.retain(|call| call.cancelled == cancelled);
+        (!open.is_empty()).then(|| rng.pick(&open))
+    }
+
+    pub fn unused_correlation(&self, rng: &mut Rng) -> u64 {
         loop {
             let correlation = match rng.below(4) {
                 0 => rng.bits(),
@@ -191,8 +198,12 @@ fn with_pairs(rng: &mut Rng, types: &Types, number: u32, pairs: Pairs) -> Option
     Some(value.bytes())
 }
 
-/// The kinds an open call may see next.
+/// The kinds an open call may see next, other than ERROR and CANCEL where it is
+/// not cancelled.
 fn legal_kinds(table: &Table, call: &Call) -> Vec<Kind> {
+    if call.cancelled {
+        return vec![Kind::Error];
+    }
     let form = FORMS[table.methods[call.method as usize][3] as usize];
     let mut kinds = Vec::new();
     if form.in_stream && !call.input_closed {
@@ -217,6 +228,7 @@ fn open_call(rng: &mut Rng, schema: &Schema, correlation: u64) -> Call {
             response: rng.one_in(2),
             input_closed: rng.one_in(2),
             output_closed: rng.one_in(2),
+            cancelled: rng.one_in(4),
         };
         if call.is_good(schema) {
             return call;
@@ -238,10 +250,59 @@ pub fn step(rng: &mut Rng, line: &Line) -> Option<Sent> {
     let call = line.pick_call(rng)?;
     let kind = match rng.below(12) {
         0 => Kind::Error,
-        1 => Kind::Cancel,
+        1 if !call.cancelled => Kind::Cancel,
         _ => rng.pick(&legal_kinds(&line.table, &call)),
     };
     follow_up(rng, line, &call, kind)
+}
+
+/// A CANCEL for an open call that is not cancelled.
+pub fn cancel(rng: &mut Rng, line: &Line) -> Option<Sent> {
+    let call = line.pick_by_mark(rng, false)?;
+    follow_up(rng, line, &call, Kind::Cancel)
+}
+
+/// A frame of the server, other than ERROR, for a cancelled call (16): right by
+/// its payload, or with bytes that nobody reads.
+pub fn crossing(rng: &mut Rng, line: &Line) -> Option<Sent> {
+    let call = line.pick_by_mark(rng, true)?;
+    let kind = rng.pick(&[Kind::OutStream, Kind::OutClose, Kind::Response]);
+    if rng.one_in(2) {
+        return follow_up(rng, line, &call, kind);
+    }
+    let header = line.header(call.method as usize, kind, call.correlation);
+    let length = rng.pick(&[0, 1, 3, 9]);
+    let payload = rng.bytes(length);
+    Some(sent(&header, kind, &payload))
+}
+
+/// An ERROR for a cancelled call, which ends it.
+pub fn late_error(rng: &mut Rng, line: &Line) -> Option<Sent> {
+    let call = line.pick_by_mark(rng, true)?;
+    follow_up(rng, line, &call, Kind::Error)
+}
+
+/// A frame of the client for a cancelled call: 14, or 10 for an INVOKE; a
+/// CANCEL with bytes too.
+pub fn after_cancel(rng: &mut Rng, line: &Line) -> Option<Sent> {
+    let call = line.pick_by_mark(rng, true)?;
+    let kinds = [Kind::Invoke, Kind::InStream, Kind::InClose, Kind::Cancel];
+    let kind = rng.pick(&kinds);
+    let header = line.header(call.method as usize, kind, call.correlation);
+    let payload = match rng.one_in(3) {
+        true => rng.bytes(2),
+        false => line.payload(rng, call.method as usize, kind),
+    };
+    Some(sent(&header, kind, &payload))
+}
+
+/// A CANCEL that carries bytes, for a call that is not cancelled (29).
+pub fn cancel_with_bytes(rng: &mut Rng, line: &Line) -> Option<Sent> {
+    let call = line.pick_by_mark(rng, false)?;
+    let header = line.header(call.method as usize, Kind::Cancel, call.correlation);
+    let length = rng.range(1, 3);
+    let payload = rng.bytes(length);
+    Some(sent(&header, Kind::Cancel, &payload))
 }
 
 /// A frame of a kind for an open call, with a payload that suits.
@@ -291,6 +352,23 @@ pub fn already_open(rng: &mut Rng, line: &Line) -> Option<Sent> {
     Some(sent(&header, Kind::Invoke, &payload))
 }
 
+/// An INVOKE of a method that is not there, for a cancelled call (9).
+pub fn unknown_cancelled(rng: &mut Rng, line: &Line) -> Option<Sent> {
+    let call = line.pick_by_mark(rng, true)?;
+    let mut header = line.header(call.method as usize, Kind::Invoke, call.correlation);
+    header.identifiers[rng.below(3)] ^= 1 << rng.range(5, 31);
+    Some(sent(&header, Kind::Invoke, &[]))
+}
+
+/// A frame with other identifiers than its cancelled call (12), ERROR too.
+pub fn other_cancelled(rng: &mut Rng, line: &Line) -> Option<Sent> {
+    let call = line.pick_by_mark(rng, true)?;
+    let kind = Kind::from_number(rng.range(2, 8) as u32)?;
+    let mut header = line.header(call.method as usize, kind, call.correlation);
+    header.identifiers[rng.below(3)] ^= 1 << rng.below(32);
+    Some(sent(&header, kind, &[]))
+}
+
 /// A frame for a call that is not open (11).
 pub fn not_open(rng: &mut Rng, line: &Line) -> Option<Sent> {
     let method = rng.below(line.table.methods.len());
@@ -324,7 +402,8 @@ pub fn out_of_order(rng: &mut Rng, line: &Line) -> Option<Sent> {
 
 /// A header and payload type of a frame that carries a value.
 fn carrying(rng: &mut Rng, line: &Line) -> Option<(Header, Kind, u32)> {
-    if let Some(call) = line.pick_call(rng).filter(|_| rng.one_in(2)) {
+    let live = line.pick_by_mark(rng, false);
+    if let Some(call) = live.filter(|_| rng.one_in(2)) {
         let kind = rng.pick(&legal_kinds(&line.table, &call));
         let method = call.method as usize;
         let number = line.payload_type(method, kind)?;
@@ -402,7 +481,8 @@ fn nested(rng: &mut Rng, types: &Types, number: u32, levels: usize) -> Option<Va
 
 /// A payload where none belongs (29), also on CANCEL and closes.
 pub fn unexpected_payload(rng: &mut Rng, line: &Line) -> Option<Sent> {
-    let (method, kind, correlation) = match line.pick_call(rng).filter(|_| !rng.one_in(3)) {
+    let live = line.pick_by_mark(rng, false);
+    let (method, kind, correlation) = match live.filter(|_| !rng.one_in(3)) {
         Some(call) => {
             let mut kinds = legal_kinds(&line.table, &call);
             kinds.push(Kind::Cancel);

@@ -99,6 +99,34 @@ fn wrong_fields() -> Vec<Vec<u8>> {
     fields.into_iter().map(damaged).collect()
 }
 
+/// Calls that are cancelled while answers are on their way: the answers are
+/// dropped, ERROR ends a call, and its identifier is used again.
+fn crossing_answers() -> Vec<u8> {
+    let mut elsewhere = entry(Kind::Error, 1, b"late");
+    elsewhere[6] = 9;
+    [
+        invoke(1),
+        entry(Kind::Cancel, 1, &[]),
+        entry(Kind::Response, 1, OUTPUT),
+        entry(Kind::Response, 1, P5),
+        entry(Kind::OutStream, 1, OUTPUT),
+        entry(Kind::OutClose, 1, &[]),
+        entry(Kind::Cancel, 1, &[]),
+        entry(Kind::Cancel, 1, &[7]),
+        entry(Kind::InClose, 1, &[]),
+        invoke(1),
+        invoke(2),
+        elsewhere,
+        entry(Kind::Error, 1, b"late"),
+        entry(Kind::Response, 1, OUTPUT),
+        invoke(1),
+        entry(Kind::Response, 1, OUTPUT),
+        entry(Kind::Cancel, 2, &[7]),
+        entry(Kind::Response, 2, OUTPUT),
+    ]
+    .concat()
+}
+
 /// Records by table T, in the order of 01's rules.
 fn records() -> Vec<Vec<u8>> {
     let mut records = vec![Vec::new(), worked()];
@@ -143,10 +171,14 @@ fn records() -> Vec<Vec<u8>> {
     // Identifiers that differ from the call's.
     elsewhere[4] = 8;
     records.push([invoke(5), elsewhere].concat());
-    // 128 calls and one more, which finds no slot until one has ended.
+    // 128 calls and one more, which finds no slot until one has ended: not at
+    // its CANCEL, but at the ERROR after it.
     let calls: Vec<u8> = (0..129).flat_map(invoke).collect();
-    let end = entry(Kind::Cancel, 77, &[]);
-    records.push([calls, end, invoke(u64::MAX), invoke(0)].concat());
+    let cancel = entry(Kind::Cancel, 77, &[]);
+    let end = entry(Kind::Error, 77, &[]);
+    let opened = [invoke(u64::MAX), invoke(0)].concat();
+    records.push([calls, cancel, opened.clone(), end, opened].concat());
+    records.push(crossing_answers());
     // 4,096 rows, and 4,098, for which the sheet has too few.
     let most = entry(Kind::Response, 1, &elements(2_047));
     let more = entry(Kind::Response, 2, &elements(2_048));

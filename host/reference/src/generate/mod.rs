@@ -9,6 +9,7 @@ mod deep;
 mod fault;
 mod forwards;
 mod frames;
+mod histories;
 mod holes;
 mod line;
 pub mod listings;

@@ -15,7 +15,7 @@ use crate::frame::{Header, Kind};
 const MAP_CELLS: usize = 2_000;
 
 /// The sheet's cells of a line: enough, with odd ones, or very few.
-fn cells(rng: &mut Rng) -> usize {
+pub fn cells(rng: &mut Rng) -> usize {
     match rng.below(10) {
         0 => rng.below(9),
         1 => rng.range(9, 40),
@@ -125,7 +125,8 @@ pub fn run_small_sheet(rng: &mut Rng) -> Case {
     run(rng, line, frames, cells, either)
 }
 
-/// A run that opens 128 calls, goes on opening (13), ends some and opens again.
+/// A run that opens 128 calls, goes on opening (13), cancels some, which stay
+/// open, ends some and opens again.
 pub fn run_full(rng: &mut Rng) -> Case {
     let line = Line::fresh(rng);
     let frames = rng.range(134, 140);
@@ -158,7 +159,7 @@ fn receive_case(line: Line, cells: usize, sent: Sent) -> Case {
     })
 }
 
-fn open_count(rng: &mut Rng) -> usize {
+pub fn open_count(rng: &mut Rng) -> usize {
     rng.pick(&[0, 1, 1, 2, 3, 5, 9, 40, 127, 128])
 }
 
@@ -237,7 +238,7 @@ pub fn receive_bad_calls(rng: &mut Rng) -> Case {
 }
 
 /// Breaks one rule of the call table; none where it has no record for it.
-fn spoil_calls(rng: &mut Rng, line: &mut Line) -> Option<()> {
+pub fn spoil_calls(rng: &mut Rng, line: &mut Line) -> Option<()> {
     if rng.one_in(3) {
         return spoil_free(rng, line);
     }
@@ -276,12 +277,13 @@ fn spoil_free(rng: &mut Rng, line: &mut Line) -> Option<()> {
         return None;
     }
     let call = &mut slots[rng.pick(&free)];
-    match rng.below(5) {
+    match rng.below(6) {
         0 => call.correlation = rng.pick(&[1, 1 << 32, 1 << 63]),
         1 => call.method = rng.pick(&[1, u32::MAX]),
         2 => call.response = true,
         3 => call.input_closed = true,
-        _ => call.output_closed = true,
+        4 => call.output_closed = true,
+        _ => call.cancelled = true,
     }
     Some(())
 }

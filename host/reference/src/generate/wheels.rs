@@ -2,8 +2,8 @@
 
 use super::rng::Rng;
 use super::{
-    aim, any, damage, draw, fault, forwards, frames, holes, line, maps, pair, reading, runs,
-    scalars, sheet, table, value_frames, Code, Wheel,
+    aim, any, damage, draw, fault, forwards, frames, histories, holes, line, maps, pair, reading,
+    runs, scalars, sheet, table, value_frames, Code, Wheel,
 };
 use crate::cases::{Case, TableCase, WriteCase};
 
@@ -21,7 +21,13 @@ pub const CODES: &[Code] = &[
 ];
 
 /// The codes with a random stream each.
-pub const LATER_CODES: &[Code] = &[(15, 12, VALUE_FRAME), (17, 12, SALVAGE), (18, 12, FORWARD)];
+pub const LATER_CODES: &[Code] = &[
+    (10, 8, RELEASE),
+    (11, 12, HISTORY),
+    (15, 12, VALUE_FRAME),
+    (17, 12, SALVAGE),
+    (18, 12, FORWARD),
+];
 
 const TABLE: Wheel = &[
     aim(60, 0, |rng| table_case(table::good_table(rng).bytes())),
@@ -262,6 +268,9 @@ const RUN: Wheel = &[
     any(6, |rng| runs::run_with(rng, line::not_open)),
     any(6, |rng| runs::run_with(rng, line::other_identifiers)),
     any(20, |rng| runs::run_with(rng, line::out_of_order)),
+    any(4, |rng| runs::run_with(rng, line::cancel)),
+    aim(8, 16, |rng| runs::run_with(rng, line::crossing)),
+    any(4, |rng| runs::run_with(rng, line::after_cancel)),
     any(10, |rng| runs::run_with(rng, line::unexpected_payload)),
     any(5, |rng| runs::run_with(rng, line::cut_frame)),
     aim(3, 2, |rng| runs::run_spoilt(rng, 2)),
@@ -329,6 +338,15 @@ const RECEIVE: Wheel = &[
     aim(4, 13, runs::receive_full),
     aim(12, 14, |rng| runs::receive_with(rng, line::out_of_order)),
     aim(16, 15, runs::receive_bad_calls),
+    aim(4, 0, |rng| runs::receive_with(rng, line::cancel)),
+    aim(4, 0, |rng| runs::receive_with(rng, line::late_error)),
+    aim(8, 16, |rng| runs::receive_with(rng, line::crossing)),
+    any(6, |rng| runs::receive_with(rng, line::after_cancel)),
+    aim(2, 9, |rng| runs::receive_with(rng, line::unknown_cancelled)),
+    aim(3, 12, |rng| runs::receive_with(rng, line::other_cancelled)),
+    aim(2, 29, |rng| {
+        runs::receive_with(rng, line::cancel_with_bytes)
+    }),
     aim(4, 20, |rng| runs::receive_damaged(rng, damage::cut)),
     aim(2, 21, |rng| runs::receive_damaged(rng, damage::malformed)),
     aim(8, 21, |rng| runs::receive_damaged(rng, damage::padded_size)),
@@ -370,6 +388,84 @@ const RECEIVE: Wheel = &[
     aim(3, 42, |rng| runs::receive_bad_table(rng, fault::bad_type)),
     aim(3, 43, |rng| runs::receive_bad_table(rng, fault::bad_field)),
     aim(3, 44, |rng| runs::receive_bad_table(rng, fault::bad_method)),
+];
+
+const RELEASE: Wheel = &[
+    aim(16, 0, histories::release_cancelled),
+    aim(10, 11, histories::release_not_open),
+    aim(10, 14, histories::release_live),
+    aim(16, 15, histories::release_bad_calls),
+    aim(3, 40, |rng| {
+        histories::release_bad_table(rng, fault::bad_shape)
+    }),
+    aim(2, 41, |rng| {
+        histories::release_bad_table(rng, fault::too_many_rows)
+    }),
+    aim(3, 42, |rng| {
+        histories::release_bad_table(rng, fault::bad_type)
+    }),
+    aim(3, 43, |rng| {
+        histories::release_bad_table(rng, fault::bad_field)
+    }),
+    aim(3, 44, |rng| {
+        histories::release_bad_table(rng, fault::bad_method)
+    }),
+];
+
+const HISTORY: Wheel = &[
+    any(60, histories::cancels),
+    aim(20, 16, histories::cancels),
+    aim(16, 16, |rng| histories::mixed(rng, line::crossing)),
+    any(10, |rng| histories::mixed(rng, line::late_error)),
+    any(10, |rng| histories::mixed(rng, line::after_cancel)),
+    any(5, |rng| histories::mixed(rng, line::other_cancelled)),
+    any(3, |rng| histories::mixed(rng, line::unknown_cancelled)),
+    any(5, |rng| histories::mixed(rng, line::cancel_with_bytes)),
+    any(4, |rng| histories::mixed(rng, line::wrong_side)),
+    any(4, |rng| histories::mixed(rng, line::unknown_method)),
+    any(4, |rng| histories::mixed(rng, line::already_open)),
+    any(4, |rng| histories::mixed(rng, line::not_open)),
+    any(4, |rng| histories::mixed(rng, line::other_identifiers)),
+    any(6, |rng| histories::mixed(rng, line::out_of_order)),
+    any(5, |rng| histories::mixed(rng, line::unexpected_payload)),
+    any(4, |rng| histories::mixed(rng, line::cut_frame)),
+    aim(2, 2, |rng| histories::spoilt_frame(rng, 2)),
+    aim(2, 3, |rng| histories::spoilt_frame(rng, 3)),
+    aim(2, 4, |rng| histories::spoilt_frame(rng, 4)),
+    aim(2, 5, |rng| histories::spoilt_frame(rng, 5)),
+    aim(2, 6, |rng| histories::spoilt_frame(rng, 6)),
+    aim(2, 7, |rng| histories::spoilt_frame(rng, 7)),
+    aim(3, 20, |rng| histories::damaged_payload(rng, damage::cut)),
+    aim(3, 21, |rng| {
+        histories::damaged_payload(rng, damage::padded_size)
+    }),
+    aim(3, 22, |rng| {
+        histories::damaged_payload(rng, damage::not_bool)
+    }),
+    aim(3, 23, |rng| {
+        histories::damaged_payload(rng, damage::not_utf8)
+    }),
+    aim(3, 24, |rng| {
+        histories::damaged_payload(rng, damage::repeated_key)
+    }),
+    aim(3, 25, |rng| histories::damaged_payload(rng, damage::absent)),
+    aim(3, 26, |rng| {
+        histories::damaged_payload(rng, damage::inner_bit)
+    }),
+    aim(3, 27, |rng| {
+        histories::damaged_payload(rng, damage::surplus)
+    }),
+    aim(3, 28, |rng| histories::mixed(rng, line::deep)),
+    aim(3, 31, |rng| {
+        histories::damaged_payload(rng, damage::many_pairs)
+    }),
+    aim(5, 30, histories::small_sheet),
+    aim(2, 13, histories::full),
+    aim(3, 40, |rng| histories::bad_table(rng, fault::bad_shape)),
+    aim(2, 41, |rng| histories::bad_table(rng, fault::too_many_rows)),
+    aim(3, 42, |rng| histories::bad_table(rng, fault::bad_type)),
+    aim(3, 43, |rng| histories::bad_table(rng, fault::bad_field)),
+    aim(3, 44, |rng| histories::bad_table(rng, fault::bad_method)),
 ];
 
 const VALUE_FRAME: Wheel = &[

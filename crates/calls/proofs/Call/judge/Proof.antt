@@ -1,4 +1,4 @@
--- `Call::judge` meets its contract: 12, then 14, then the next record and the payload.
+-- `Call::judge` meets its contract: 12, then 14 or 16, then the next record and the payload.
 -- Assumes nothing.
 use mathlib.Core.Path.{_≡_, sym, _∙_, ap}
 use mathlib.Core.Bool.{false}
@@ -12,12 +12,12 @@ use Rattle.calls.specs.declared.Frame.{Frame}
 use Rattle.calls.specs.declared.FormRow.{FormRow}
 use Rattle.calls.specs.declared.Judged.the-variants.{Stop}
 use Rattle.calls.specs.Record.{allowed}
-use Rattle.calls.specs.Judge.{judgeCall}
+use Rattle.calls.specs.Judge.{callVerdict, placed}
 use Rattle.calls.proofs.Call.judge.Statement.{statement}
 use Rattle.calls.proofs.Call.judge.Tie as tie
 
 -- one of the three identifiers is not the call's
-differ : (m : Method) (f : Frame) (i : ℕ) (x : Call) → named (f .«package») (f .service) (f .method) m ≡ false → Stop 12 ≡ judgeCall m f i x
+differ : (m : Method) (f : Frame) (i : ℕ) (x : Call) → named (f .«package») (f .service) (f .method) m ≡ false → Stop 12 ≡ placed i (callVerdict m f x)
 differ m f i x e = rw e
 
 returns : tie.Need-returns
@@ -38,10 +38,12 @@ returns-2 c =
 
 returns-3 : tie.Need-returns-3
 returns-3 c =
-    let a = c .before .before .before .before .before .args in
+    let a = c .before .before .before .before .before .before .args in
+    let test = c .before .before in
     rw (
-      sym (c .before .before .before .before .is-named .ensures) ∙ not-false _ (c .before .before .before .if1 .left),
-      sym (c .before .allows .ensures ∙ ap (λ (r : FormRow). allowed r (a .f .kind) (a .self)) (c .before .before .row-of .ensures)) ∙ c .if2 .left,
+      sym (test .before .before .before .is-named .ensures) ∙ not-false _ (test .before .before .if1 .left),
+      sym (test .allows .ensures ∙ ap (λ (r : FormRow). allowed r (a .f .kind) (a .self)) (test .before .row-of .ensures)) ∙ c .before .if2 .left,
+      c .not-allowed .ensures,
     )
 
 pub judge-spec : {M : Type 1} → statement M
@@ -50,6 +52,7 @@ judge-spec =
     (tie.spec
     (λ c κs. search needs)
     returns
+    (λ c κs. search needs)
     (λ c κs. search needs)
     (λ c κs. search needs)
     (λ c κs. search needs)

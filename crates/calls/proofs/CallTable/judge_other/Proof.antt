@@ -2,13 +2,16 @@
 -- Assumes nothing.
 use mathlib.Core.Path.{sym, _∙_}
 use borrow.Author.Needs.{needs}
+use Rattle.calls.specs.Slots.{ownOf}
 use Rattle.calls.proofs.CallTable.judge_other.Statement.{statement}
 use Rattle.calls.proofs.CallTable.judge_other.Tie as tie
 
 returns : tie.Need-returns
+unfolding ownOf
 returns c = rw (sym (c .before .before .find .ensures) ∙ c .enum-told .given .1)
 
 returns-2 : tie.Need-returns-2
+unfolding ownOf
 returns-2 c = rw (sym (c .before .before .before .before .before .before .before .find .ensures) ∙ c .before .before .before .before .before .i .given .1, c .judge .ensures, c .before .method .ensures, c .before .before .before .at .ensures)
 
 pub judge-other-spec : {M : Type 1} → statement M

@@ -6,17 +6,21 @@ use Rattle.exports.proofs.records.marks_of.Tie as tie
 
 returns : tie.Need-returns
 returns c =
-    let o = c .before .before .before .mark .ensures .0 in
-    let r = c .before .before .mark2 .ensures .0 in
-    let i = c .before .mark3 .ensures .0 in
-    let u = c .mark4 .ensures .0 in
-    λ k. (o k) + 2 * (r k) + 4 * (i k) + 8 * (u k)
+    let o = c .before .before .before .before .mark .ensures .0 in
+    let r = c .before .before .before .mark2 .ensures .0 in
+    let i = c .before .before .mark3 .ensures .0 in
+    let u = c .before .mark4 .ensures .0 in
+    let x = c .mark5 .ensures .0 in
+    λ k. (o k) + 2 * (r k) + 4 * (i k) + 8 * (u k) + 16 * (x k)
 
 pub marks-of-spec : {M : Type 1} → statement M
 marks-of-spec =
     tie.close
     (tie.spec
     (λ c κs. search needs)
+    (λ c κs. search needs)
+    (λ c. search needs)
+    (λ c. search needs)
     (λ c κs. search needs)
     (λ c. search needs)
     (λ c. search needs)
