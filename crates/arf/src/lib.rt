@@ -22,6 +22,7 @@ ghost use Rattle.frame.specs.Written.{writtenOf, outputOf};
 ghost use Rattle.line.specs.Answer.{line};
 ghost use Rattle.line.specs.Receive.{received};
 ghost use Rattle.line.specs.Release.{released};
+ghost use Rattle.reader.specs.Beside.{besideOutcome};
 ghost use Rattle.reader.specs.Entry.{Outcome, readOutcome};
 ghost use Rattle.salvage.specs.Salvage.{outcome, salvageOf};
 ghost use Rattle.scalar.specs.Scalar.{scalarBy};
@@ -50,6 +51,20 @@ pub fn read(schema: &[u8], ty: u32, payload: &[u8], sheet: &mut [u32]) -> Readin
     ensures { λ r. ⌜ Outcome.outcome r (now (sheet .exit)) ≡ readOutcome (now (schema .entry)) ty (now (payload .entry)) (now (sheet .entry)) ⌝ }
 {
     reader::read(schema, ty, payload, sheet)
+}
+
+// Reads a payload by the writer's table, and shows it by ours: the fields that theirs has added are left out at every depth. Theirs has to extend ours, but
+// its bitmaps may have grown. The answer is that of `read`; 40 to 44 are for ours, then for theirs, and 47 is for a table of theirs that is no such extension.
+pub fn read_beside(
+    ours: &[u8],
+    theirs: &[u8],
+    ty: u32,
+    payload: &[u8],
+    sheet: &mut [u32],
+) -> Reading
+    ensures { λ r. ⌜ Outcome.outcome r (now (sheet .exit)) ≡ besideOutcome (now (ours .entry)) (now (theirs .entry)) ty (now (payload .entry)) (now (sheet .entry)) ⌝ }
+{
+    reader::beside::read_beside(ours, theirs, ty, payload, sheet)
 }
 
 // One row of a scalar, a string or bytes over its bytes, as a value.

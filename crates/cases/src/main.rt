@@ -28,6 +28,7 @@ fn run_case() -> bool {
         10 => lines::release(),
         11 => lines::history(),
         15 => values::write_frame(),
+        16 => values::read_beside(),
         17 => records::salvage(),
         18 => values::forward(),
         _ => false,

@@ -32,6 +32,35 @@ fn show(schema: &[u8], ty: u32, payload: &[u8], sheet: &mut [u32]) {
     output::last(sums::of_cells(sheet));
 }
 
+// Code 16: our table and theirs, a type, a payload and the number of the sheet's cells. The line is that of code 3.
+pub fn read_beside() -> bool {
+    let mut ours = [0u8; MOST];
+    let mut theirs = [0u8; MOST];
+    let mut payload = [0u8; MOST];
+    let mut sheet = [CELL; MOST];
+    let mut whole = true;
+    let n = input::bytes(&mut ours, &mut whole);
+    let m = input::bytes(&mut theirs, &mut whole);
+    let ty = input::word(&mut whole);
+    let k = input::bytes(&mut payload, &mut whole);
+    let cells = input::cells(&sheet, &mut whole);
+    if whole {
+        show_beside(
+            &ours[..n],
+            &theirs[..m],
+            ty,
+            &payload[..k],
+            &mut sheet[..cells],
+        );
+    }
+    whole
+}
+
+fn show_beside(ours: &[u8], theirs: &[u8], ty: u32, payload: &[u8], sheet: &mut [u32]) {
+    print_reading(arf::read_beside(ours, theirs, ty, payload, sheet));
+    output::last(sums::of_cells(sheet));
+}
+
 fn print_reading(answer: reader::Reading) {
     match answer {
         reader::Reading::Shown {

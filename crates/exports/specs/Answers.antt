@@ -18,6 +18,7 @@ use Rattle.frame.specs.declared.FrameWritten.{FrameWritten}
 use Rattle.frame.specs.Written.{writtenOf, writeLength}
 use Rattle.value.specs.declared.Row.{Row}
 use Rattle.reader.specs.declared.Reading.{Reading}
+use Rattle.reader.specs.Beside.{besideOutcome}
 use Rattle.reader.specs.Entry.{readingIn, sheetIn, readOutcome, numbers}
 use Rattle.writer.specs.declared.Writing.{Writing}
 use Rattle.writer.specs.declared.Writing.the-variants.{Written, Refused as Unwritten}
@@ -77,6 +78,13 @@ reading schema ty payload sheet = readingIn (readOutcome schema ty payload sheet
 
 abbrev pub sheetAfter : (schema : List ℕ) (ty : ℕ) (payload sheet : List ℕ) → List ℕ
 sheetAfter schema ty payload sheet = sheetIn (readOutcome schema ty payload sheet)
+
+-- The same with their table beside ours.
+abbrev pub readingBeside : (ours theirs : List ℕ) (ty : ℕ) (payload sheet : List ℕ) → Reading
+readingBeside ours theirs ty payload sheet = readingIn (besideOutcome ours theirs ty payload sheet)
+
+abbrev pub sheetBeside : (ours theirs : List ℕ) (ty : ℕ) (payload sheet : List ℕ) → List ℕ
+sheetBeside ours theirs ty payload sheet = sheetIn (besideOutcome ours theirs ty payload sheet)
 
 abbrev pub readNumber : Reading → ℕ
 readNumber a = numbers a .number

@@ -6,7 +6,7 @@ use writer::Writing;
 ghost use mathlib.Core.Path.{_≡_};
 ghost use Rattle.exports.specs.Cells.{stored};
 ghost use Rattle.arf.specs.Numbers.{writeNumber};
-ghost use Rattle.exports.specs.Answers.{headerOf, readNumber, readCells, reading, sheetAfter};
+ghost use Rattle.exports.specs.Answers.{headerOf, readNumber, readCells, reading, sheetAfter, readingBeside, sheetBeside};
 ghost use Rattle.exports.specs.Answers.{writeCells, writing, outputAfter, framing, framedAfter, forwarding, forwardedAfter};
 
 fn read_number(a: Reading) -> u32
@@ -57,6 +57,26 @@ pub extern "C" fn arf_read(
     ensures { λ _. ⌜ now (answer .exit) ≡ stored (now (answer .entry)) (readCells (reading (now (schema .entry)) ty (now (payload .entry)) (now (sheet .entry)))) ⌝ }
 {
     let a = arf::read(schema, ty, payload, sheet);
+    let cells = read_cells(a);
+    store(answer, &cells);
+    read_number(a)
+}
+
+// Reads a payload by the writer's table and shows it by ours. answer: place, rows, the tail's place and length, the key comparisons due.
+#[no_mangle]
+pub extern "C" fn arf_read_beside(
+    ours: &[u8],
+    theirs: &[u8],
+    ty: u32,
+    payload: &[u8],
+    sheet: &mut [u32],
+    answer: &mut [u64],
+) -> u32
+    ensures { λ r. ⌜ r ≡ readNumber (readingBeside (now (ours .entry)) (now (theirs .entry)) ty (now (payload .entry)) (now (sheet .entry))) ⌝ }
+    ensures { λ _. ⌜ now (sheet .exit) ≡ sheetBeside (now (ours .entry)) (now (theirs .entry)) ty (now (payload .entry)) (now (sheet .entry)) ⌝ }
+    ensures { λ _. ⌜ now (answer .exit) ≡ stored (now (answer .entry)) (readCells (readingBeside (now (ours .entry)) (now (theirs .entry)) ty (now (payload .entry)) (now (sheet .entry)))) ⌝ }
+{
+    let a = arf::read_beside(ours, theirs, ty, payload, sheet);
     let cells = read_cells(a);
     store(answer, &cells);
     read_number(a)

@@ -291,7 +291,7 @@ read-root S B fs (branch r h ts) end d = (d .0, d .1)
 pub same-bytes : (T : Table) → GoodTable T → (t : ℕ) (payload : List ℕ) (room : ℕ) (rs : List Row) (place n c : ℕ) → Bytes payload
     → read T t payload room ≡ accepted rs place n c → (room′ : ℕ) → length payload ≤ room′ → forward T t rs payload place n room′ ≡ written payload
 same-bytes T good t payload room rs place n c b e room′ h =
-    let (fs, tree, st, r, f, d, p, _, short, _) = value.rows-delimit T good t payload room rs place n c .0 e in
+    let (tree, (fs, st, f, d, p, short), r, _, _) = value.rows-delimit T good t payload room rs place n c .0 e in
     let (q, zero) = read-root (shape T) payload fs tree place d in
     let tail : span payload place n ≡ drop place payload = take-all n (drop place payload) (rw length-drop (omega (arith, p))) in
     let (root, below, first) = root-first (shape T) payload t fs st rs (value tree) (tree, r, f, refl) in

@@ -1,6 +1,6 @@
 -- Laws of a good table: what the walkers need of its rows, and the shape of each kind.
 -- Assumes nothing.
-use mathlib.Core.Path.{_≡_, refl, sym, ap}
+use mathlib.Core.Path.{_≡_, refl, sym, ap, _∙_}
 use mathlib.Core.Logic.{⊎-elim}
 use mathlib.Core.List.{List}
 use Prim.Native.Nat.{ℕ, suc, _+_, _≤_, _<_}
@@ -61,6 +61,20 @@ module _ (s : List ℕ) (good : IsGood s) where
     map-row k =
         let h : KeyKind (rowAt (tableOf s) (r .a) .kind) = rw is (good-table s good .rows t (there (omega arith)) .map (rw is at k) .1) in
         ⊎-elim (λ a. omega arith) (λ b. ⊎-elim (λ x. omega arith) (λ y. omega arith) b) h
+
+    pub map-value : r .kind ≡ 15 → 0 < rowAt (tableOf s) (r .b) .kind
+    map-value k =
+        let g = good-table s good in
+        let b : r .b < length (tableOf s .types) = rw is (g .rows t (there (omega arith)) .map (rw is at k) .2) in
+        g .rows (r .b) b .kind .0
+
+  -- a type with a struct's shape is one of the table's, of at most 256
+  pub struct-type : (t : ℕ) (fs : List Field) → shape (tableOf s) t ≡ struct fs → (t < length (tableOf s .types)) × (t < 256)
+  struct-type t fs e =
+      let k : rowAt (tableOf s) t .kind ≡ 16 = sym (shapes.kind-of (tableOf s) (good-table s good) t) ∙ ap shapes.kindOf e in
+      let l = row-there t (omega arith) in
+      let few = good-table s good .fewTypes in
+      (l, omega arith)
 
 -- ---- shapes
 

@@ -16,7 +16,7 @@ use Rattle.schema.specs.Table as table
 use Rattle.schema.specs.Table.{Table}
 use Rattle.schema.specs.File.{cell, shaped, layoutOf, tabulate, tableOf}
 use Rattle.schema.specs.Check.{lowest, goodRow, goodField, findAmong, goodMethod, small, badRow, badField, badMethod, checkedTable, checked}
-use Rattle.schema.specs.Extend.{every, fieldKept, rowKept, methodKept, extended, extension}
+use Rattle.schema.specs.Extend.{every, fieldKept, rowKept, methodKept, widened, bitmapKept, extended, extension}
 use Rattle.schema.proofs.Examples.{T, file, longer, T-good, T-rows}
 use Rattle.value.specs.declared.Row.{Row}
 use Rattle.value.specs.Answer as answer
@@ -36,12 +36,9 @@ use Rattle.writer.specs.declared.Writing.the-variants.{Written}
 use Rattle.writer.specs.Entry as writer
 use Rattle.writer.proofs.Outcomes.{write-by}
 use Rattle.forward.specs.Forward.{forward}
-use Rattle.promises.specs.Cases.{Case, caseOf, Hold, P5, P6, lent, worked, newCells, oldCells, blank, RelaysP6}
+use Rattle.promises.specs.Cases.{Case, caseOf, Hold, P5, P6, lent, row, worked, newCells, oldCells, blank, RelaysP6}
 use Rattle.promises.proofs.Entries.{read-by}
 use Rattle.promises.proofs.Forwarding.{forward-by}
-
-abbrev row : ℕ → ℕ → ℕ → ℕ → Row
-row t p l n = record { ty = t; place = p; length = l; count = n }
 
 -- The rows of P5 by the new table; those of P6 by the new one, and by T.
 abbrev pub innerRows : List Row
@@ -76,7 +73,7 @@ unfolding little.little cell shaped layoutOf tabulate tableOf lowest goodRow goo
 new-good = (refl, refl)
 
 pub wider-extends : extension file wider ≡ Yes
-unfolding little.little cell shaped layoutOf tabulate tableOf lowest goodRow goodField findAmong goodMethod small badRow badField badMethod checkedTable checked every fieldKept rowKept methodKept extended extension
+unfolding little.little cell shaped layoutOf tabulate tableOf lowest goodRow goodField findAmong goodMethod small badRow badField badMethod checkedTable checked every fieldKept rowKept methodKept widened bitmapKept extended extension
 wider-extends = refl
 
 -- What they hold.
@@ -109,31 +106,33 @@ roomier T t payload n rs p l c e m h =
     (record { fs = a .fs; tree = a .tree; end = a .end; is-struct = a .is-struct; reads = a .reads; has-rows = a .has-rows; has-place = a .has-place; has-length = a .has-length; has-due = a .has-due; short = a .short; fits = h })
 
 module _ (sheet : List ℕ) where
-  by-rows : (s : List ℕ) (T : Table) (payload : List ℕ) (a : Reading) → checked s ≡ Good → tableOf s ≡ T → read.read T 4 payload (room sheet) ≡ a
-      → readOutcome s 4 payload sheet ≡ outcomeOf sheet a
-  by-rows s T payload a good is e =
-      read-by s 4 payload sheet good ∙ ap (λ (U : Table). outcomeOf sheet (read.read U 4 payload (room sheet))) is ∙ ap (outcomeOf sheet) e
+  by-rows : (s : List ℕ) (T : Table) (t : ℕ) (payload : List ℕ) (a : Reading) → checked s ≡ Good → tableOf s ≡ T → read.read T t payload (room sheet) ≡ a
+      → readOutcome s t payload sheet ≡ outcomeOf sheet a
+  by-rows s T t payload a good is e =
+      read-by s t payload sheet good ∙ ap (λ (U : Table). outcomeOf sheet (read.read U t payload (room sheet))) is ∙ ap (outcomeOf sheet) e
 
   -- The added field is in an inner struct: the new reader shows P5, and the old one answers 26 at the bitmap of the first struct that carries the field.
   pub inner-by-new : 7 ≤ room sheet → readOutcome longer 4 P5 sheet ≡ outcome (Shown 7 7 0 0) (shownIn sheet innerRows)
-  inner-by-new h = by-rows longer innerTable P5 _ (new-good .0) (new-rows .0) (roomier innerTable 4 P5 7 innerRows 7 0 0 (computed .0) (room sheet) h)
+  inner-by-new h = by-rows longer innerTable 4 P5 _ (new-good .0) (new-rows .0) (roomier innerTable 4 P5 7 innerRows 7 0 0 (computed .0) (room sheet) h)
 
   pub inner-by-old : readOutcome file 4 P5 sheet ≡ outcome (Refused 26 2) sheet
-  inner-by-old = by-rows file T P5 _ T-good T-rows (computed .1 (room sheet))
+  inner-by-old = by-rows file T 4 P5 _ T-good T-rows (computed .1 (room sheet))
 
   -- The added field is in the root: the new reader shows it in P6, and for the old one it is the tail.
   pub root-by-new : 5 ≤ room sheet → readOutcome wider 4 P6 sheet ≡ outcome (Shown 5 5 0 0) (shownIn sheet rootRows)
-  root-by-new h = by-rows wider rootTable P6 _ (new-good .1) (new-rows .1) (roomier rootTable 4 P6 5 rootRows 5 0 0 (computed .2) (room sheet) h)
+  root-by-new h = by-rows wider rootTable 4 P6 _ (new-good .1) (new-rows .1) (roomier rootTable 4 P6 5 rootRows 5 0 0 (computed .2) (room sheet) h)
 
   pub root-by-old : 4 ≤ room sheet → readOutcome file 4 P6 sheet ≡ outcome (Shown 4 4 1 0) (shownIn sheet knownRows)
-  root-by-old h = by-rows file T P6 _ T-good T-rows (roomier T 4 P6 4 knownRows 4 1 0 (computed .3) (room sheet) h)
+  root-by-old h = by-rows file T 4 P6 _ T-good T-rows (roomier T 4 P6 4 knownRows 4 1 0 (computed .3) (room sheet) h)
 
 -- ---- P1 to P10, over the bytes of T's file
 
-by-T : (sheet : List ℕ) (cases : List Case) → map (λ (c : Case). caseOf (c .payload) (readOutcome file 4 (c .payload) sheet)) cases
-    ≡ map (λ (c : Case). caseOf (c .payload) (outcomeOf sheet (read.read T 4 (c .payload) (room sheet)))) cases
-by-T sheet [] = refl
-by-T sheet (c ∷ cases) = ap₂ _∷_ (ap (caseOf (c .payload)) (by-rows sheet file T (c .payload) _ T-good T-rows refl)) (by-T sheet cases)
+module _ (s : List ℕ) (T : Table) (good : checked s ≡ Good) (is : tableOf s ≡ T) (t : ℕ) (sheet : List ℕ) where
+  -- A file's cases are those of its table.
+  pub cases-by : (cases : List Case) → map (λ (c : Case). caseOf (c .payload) (readOutcome s t (c .payload) sheet)) cases
+      ≡ map (λ (c : Case). caseOf (c .payload) (outcomeOf sheet (read.read T t (c .payload) (room sheet)))) cases
+  cases-by [] = refl
+  cases-by (c ∷ cases) = ap₂ _∷_ (ap (caseOf (c .payload)) (by-rows sheet s T t (c .payload) _ good is refl)) (cases-by cases)
 
 worked-by-T : map (λ (c : Case). caseOf (c .payload) (outcomeOf lent (read.read T 4 (c .payload) (room lent)))) worked ≡ worked
 unfolding cellsOf read.read read.rootStruct read.ending onesIn read.parse read.walk read.bitmap read.count read.present read.complete
@@ -141,7 +140,7 @@ unfolding cellsOf read.read read.rootStruct read.ending onesIn read.parse read.w
 worked-by-T = refl
 
 pub p1-to-p10 : Hold file 4 lent worked
-p1-to-p10 = by-T lent worked ∙ worked-by-T
+p1-to-p10 = cases-by file T T-good T-rows 4 lent worked ∙ worked-by-T
 
 -- ---- a relay by T's file, between a writer and a reader by the file with a third field in type 4
 

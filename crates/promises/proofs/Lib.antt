@@ -3,6 +3,8 @@ pub mod Refusals
 pub mod Reading
 pub mod ReadBack
 pub mod Extension
+pub mod Beside
 pub mod ValueFrames
 pub mod Forwarding
 pub mod Examples
+pub mod BesideExamples

@@ -1,33 +1,39 @@
 -- Laws of the walkers of arrays, maps and structs: their heads, and the turns of their loops.
 -- Assumes nothing.
 use mathlib.Core.Path.{_≡_, refl, sym, ap, _∙_}
-use mathlib.Core.Bool.{true, false}
+use mathlib.Core.Bool.{Bool, true, false, false≢true}
 use mathlib.Core.List.{List, [], _∷_}
-use Prim.Native.Nat.{ℕ, suc, _+_, _-_, _/_, _%_, _^_, _≤_, _<_}
+use Prim.Native.Nat.{ℕ, suc, _+_, _-_, _*_, _/_, _%_, _^_, _≤_, _<_}
 use native.Mathlib.Nat.{mod-eq-of-lt}
 use native.Mathlib.Omega.{arith}
 use borrow.Author.Tests.{ltb-true, eq-eqb, ne-eqb, le-leb, lt-leb}
 use lib.Dec.{ltb}
-use lib.ListN.{length, replicate}
+use lib.ListN.{length, replicate, getD, drop}
+use lib.Seq.{take-take}
 use Rattle.schema.specs.declared.Field.{Field}
 use Rattle.schema.specs.Table.{Table, Shape, array, map, struct}
 use Rattle.schema.specs.Check.{field}
+use Rattle.value.specs.Narrow.{firstOf}
+use Rattle.value.specs.Comparisons.{due}
 use Rattle.value.specs.Answer.{Cursor, refused, seen, Reader, andThen, check, cursorAt, Accepted}
-use Rattle.value.specs.Value.{Tree, tip, rows, rowsAll}
+use Rattle.value.specs.Value.{Tree, tip}
 use Rattle.value.specs.Read.{Item, plainItem, pairs, present, parts, count, bitmap, among, walk, whole, parse}
 use Rattle.value.proofs.Answers.{accepted-first}
+use Rattle.value.proofs.Narrowed.{first-all}
+use Rattle.value.proofs.Comparisons.{due-half, due-few}
 use Rattle.parts.specs.Shape.{fieldsFrom}
-use Rattle.parts.proofs.Presence.{present-set, present-clear}
+use Rattle.parts.proofs.Presence.{length-fields, present-set, present-clear}
 use Rattle.parts.proofs.Items.{keyItem, item-accepted, key-accepted, key-known, elements-some, pairs-some}
 use Rattle.reader.specs.declared.leaf.Count.{Count}
 use Rattle.reader.specs.declared.leaf.Count.the-variants.{Is, Not}
 use Rattle.reader.specs.declared.leaf.Head.{Head}
 use Rattle.reader.specs.declared.leaf.Head.the-variants.{Bits, Fault}
+use Rattle.reader.specs.declared.walk.Walk.{Walk}
 use Rattle.reader.specs.declared.walk.Walk.the-variants.{Past}
 use Rattle.reader.specs.Sheet.{putRow}
 use Rattle.reader.specs.Leaf.{part, countOf, CountIn, Counted, headOf, HeadIn, Headed}
-use Rattle.reader.specs.Walk.{Final, done, stopped, walkOf, Walked}
-use Rattle.reader.proofs.Steps.{spanRow, walk-length, item-past, item-stop, key-stop, key-again, key-new, accepted-along, parse-refused, parse-whole, own-accepted}
+use Rattle.reader.specs.Walk.{firstFields, told, toldAll, toldHeld, Final, done, stopped, walkOf, Walked}
+use Rattle.reader.proofs.Steps.{ahead, renamed, further, as-told, spanRow, walk-length, item-past, item-stop, key-stop, key-again, key-new, accepted-along, parse-refused, parse-whole, own-accepted}
 
 -- ---- heads
 
@@ -53,6 +59,15 @@ module _ (S : ℕ → Shape) (d t : ℕ) (p : List ℕ) (at : ℕ) where
     array-whole n start q =
         parse-whole S d t (cursorAt p at) (array e) is (parts start n) (cursorAt p start) (rw (read-as 1 r read n start q))
 
+    -- an array as it is told from its head on
+    module _ (R : ℕ → Shape) (shown : R t ≡ array e) (n start : ℕ) (q : r ≡ Is n start) where
+      pub array-valued : {row : ℕ} {l : List ℕ} (w : Walk) {m : List ℕ}
+          → Walked p start (toldHeld R S 0 (replicate n (plainItem e))) (whole (parse S d) t (array e) (parts start n) (cursorAt p start)) row l w m
+          → Walked p (at + 1) (told R S t) (parse S (suc d) t (cursorAt p at)) row l w m
+      array-valued w h =
+          let i = count-in 1 r read n start q in
+          renamed (array-whole n start q) (further start (at + 1) w (omega (arith, i .0)) (as-told R S (parse S d) (array e) t start n (cursorAt p start) _ _ shown is h))
+
   module _ (k v : ℕ) (is : S t ≡ map k v) (r : Count) (read : Counted p at 2 (count 2 (cursorAt p at)) r) where
     pub map-refused : (number : ℕ) → r ≡ Not number → parse S (suc d) t (cursorAt p at) ≡ refused number at
     unfolding andThen
@@ -68,6 +83,14 @@ module _ (S : ℕ → Shape) (d t : ℕ) (p : List ℕ) (at : ℕ) where
       map-whole h =
           parse-whole S d t (cursorAt p at) (map k v) is (parts start n) (cursorAt p start)
           (rw (read-as 2 r read n start q, le-leb n 64 h))
+
+      -- a map as it is told from its head on
+      pub map-valued : (R : ℕ → Shape) → R t ≡ map k v → n ≤ 64 → {row : ℕ} {l : List ℕ} (w : Walk) {m : List ℕ}
+          → Walked p start (toldHeld R S (due n) (pairs n k v)) (whole (parse S d) t (map k v) (parts start n) (cursorAt p start)) row l w m
+          → Walked p (at + 1) (told R S t) (parse S (suc d) t (cursorAt p at)) row l w m
+      map-valued R shown few w h =
+          let i = count-in 2 r read n start q in
+          renamed (map-whole few) (further start (at + 1) w (omega (arith, i .0)) (as-told R S (parse S d) (map k v) t start n (cursorAt p start) _ _ shown is h))
 
   module _ (fs : List Field) (is : S t ≡ struct fs) where
     -- where an inner struct is accepted, its bitmap is
@@ -102,134 +125,200 @@ module _ (S : ℕ → Shape) (d t : ℕ) (p : List ℕ) (at : ℕ) where
             let k : word ≡ known = sym (head-in .0 ∙ mod-eq-of-lt (ltb-true word (2 ^ length fs) f)) in
             rw (← k) (parse-whole S d t (cursorAt p at) (struct fs) is (parts at word) (cursorAt p start) (rw (bits-read, f)))
 
+        -- a struct as it is told from its bits on
+        pub struct-valued : (R : ℕ → Shape) → unknown ≡ 0 → {row : ℕ} {l : List ℕ} (w : Walk) {m : List ℕ}
+            → Walked p start (told R S t) (whole (parse S d) t (struct fs) (parts at known) (cursorAt p start)) row l w m
+            → Walked p (at + 1) (told R S t) (parse S (suc d) t (cursorAt p at)) row l w m
+        struct-valued R h w x = renamed (struct-whole h) (further start (at + 1) w (omega (arith, head-in .4)) x)
+
+-- ---- what is known of a type
+
+pub first-of : (known : List ℕ) (S : ℕ → Shape) (t : ℕ) {sh : Shape} → S t ≡ sh → firstFields known S t ≡ firstOf (getD known t 0) sh
+unfolding firstFields
+first-of known S t e = rw e
+
+-- a struct with no more fields than are known is shown whole, one with more by its first ones
+module _ (known : List ℕ) (S : ℕ → Shape) (T : Table) (t first n : ℕ) (is : S t ≡ struct (fieldsFrom T first n)) (room : first + n ≤ length (T .fields)) where
+  pub first-whole : n ≤ getD known t 0 → firstFields known S t ≡ struct (fieldsFrom T first n)
+  first-whole le = first-of known S t is ∙ first-all (getD known t 0) _ (omega (arith, length-fields T first n room))
+
+  pub first-part : (m : ℕ) → m ≡ getD known t 0 → m ≤ n → firstFields known S t ≡ struct (fieldsFrom T first m)
+  unfolding fieldsFrom
+  first-part m e le = first-of known S t is ∙ ap struct (rw (← e) (take-take m n (drop first (T .fields)) le))
+
 -- ---- elements of an array
 
-module _ (P : ℕ → Reader Tree) (e left : ℕ) (some : 0 < left) (c : Cursor) (row : ℕ) (l : List ℕ) where
-  pub element-past : (c′ : Cursor) (row′ : ℕ) (m : List ℕ) → done c′ row′ m ≡ walkOf rows (P e c) row l
-      → walkOf rowsAll (walk P [] (replicate left (plainItem e)) c) row l ≡ walkOf rowsAll (walk P [] (replicate (left - 1) (plainItem e)) c′) row′ m
-  element-past c′ row′ m h =
-      rw (elements-some e left some) (item-past P [] (replicate (left - 1) (plainItem e)) e c row l c′ row′ m h)
+module _ (R S : ℕ → Shape) (P : ℕ → Reader Tree) (e left : ℕ) (some : 0 < left) (c : Cursor) (sum row : ℕ) (l : List ℕ) where
+  pub element-past : (c′ : Cursor) (due row′ : ℕ) (m : List ℕ) → done c′ due row′ m ≡ walkOf (told R S e) (P e c) 0 row l
+      → ahead R S P [] (replicate left (plainItem e)) c sum row l ≡ ahead R S P [] (replicate (left - 1) (plainItem e)) c′ (sum + due) row′ m
+  element-past c′ due row′ m h =
+      rw (elements-some e left some) (item-past R S P [] (replicate (left - 1) (plainItem e)) e c sum row l c′ due row′ m h)
 
-  pub element-stop : (n q : ℕ) → stopped n q ≡ walkOf rows (P e c) row l
-      → stopped n q ≡ walkOf rowsAll (walk P [] (replicate left (plainItem e)) c) row l
-  element-stop n q h = rw (elements-some e left some) (item-stop P [] (replicate (left - 1) (plainItem e)) e c row l n q h)
+  pub element-stop : (n q : ℕ) → stopped n q ≡ walkOf (told R S e) (P e c) 0 row l
+      → stopped n q ≡ ahead R S P [] (replicate left (plainItem e)) c sum row l
+  element-stop n q h = rw (elements-some e left some) (item-stop R S P [] (replicate (left - 1) (plainItem e)) e c sum row l n q h)
 
   pub element-accepted : Accepted (walk P [] (replicate left (plainItem e)) c) → Accepted (P e c)
   element-accepted h = item-accepted P [] (replicate (left - 1) (plainItem e)) e c (rw (elements-some e left some) at h)
 
 -- ---- fields of a struct
 
--- A turn of the loop over fields: from one place, row and sheet to the next, with the same end.
-pub record Turned (P : ℕ → Reader Tree) (p : List ℕ) (T : Table) (i left bits here below : ℕ) (l : List ℕ) (here′ below′ : ℕ) (m : List ℕ) : Type 0 where
-  pub same : walkOf rowsAll (walk P [] (present (fieldsFrom T i left) bits) (cursorAt p here)) below l
-      ≡ walkOf rowsAll (walk P [] (present (fieldsFrom T (i + 1) (left - 1)) (bits / 2)) (cursorAt p here′)) below′ m
+-- The items of the fields left, by the bits left.
+abbrev pub leftOver : Table → (i left bits : ℕ) → List Item
+leftOver T i left bits = present (fieldsFrom T i left) bits
+
+-- A turn of the loop over fields: from one place, sum, row and sheet to the next, with the same end.
+pub record Turned (R S : ℕ → Shape) (P : ℕ → Reader Tree) (p : List ℕ) (T : Table) (i left bits here sum below : ℕ) (l : List ℕ)
+    (here′ sum′ below′ : ℕ) (m : List ℕ) : Type 0 where
+  pub same : ahead R S P [] (leftOver T i left bits) (cursorAt p here) sum below l
+      ≡ ahead R S P [] (leftOver T (i + 1) (left - 1) (bits / 2)) (cursorAt p here′) sum′ below′ m
   pub inside : here′ ≤ length p
   pub behind : below′ ≤ here′
-  pub forth : here ≤ here′
+  pub forth : sum′ + 16 * here ≤ sum + 16 * here′
   pub long : length m ≡ length l
 
-module _ (P : ℕ → Reader Tree) (p : List ℕ) (T : Table) (i left bits here below : ℕ) (l : List ℕ)
+module _ (R S : ℕ → Shape) (P : ℕ → Reader Tree) (p : List ℕ) (T : Table) (i left bits here sum below : ℕ) (l : List ℕ)
     (some : 0 < left) (room : i + left ≤ length (T .fields)) where
   module _ (f : Field) (is : f ≡ field T i) (b : bits % 2 ≡ 1) where
-    pub field-stop : (n q : ℕ) → stopped n q ≡ walkOf rows (P (f .ty) (cursorAt p here)) below l
-        → stopped n q ≡ walkOf rowsAll (walk P [] (present (fieldsFrom T i left) bits) (cursorAt p here)) below l
+    pub field-stop : (n q : ℕ) → stopped n q ≡ walkOf (told R S (f .ty)) (P (f .ty) (cursorAt p here)) 0 below l
+        → stopped n q ≡ ahead R S P [] (leftOver T i left bits) (cursorAt p here) sum below l
     field-stop n q h =
         rw (present-set T i left some room bits f is b)
-        (item-stop P [] (present (fieldsFrom T (i + 1) (left - 1)) (bits / 2)) (f .ty) (cursorAt p here) below l n q h)
+        (item-stop R S P [] (leftOver T (i + 1) (left - 1) (bits / 2)) (f .ty) (cursorAt p here) sum below l n q h)
 
-    pub field-accepted : Accepted (walk P [] (present (fieldsFrom T i left) bits) (cursorAt p here)) → Accepted (P (f .ty) (cursorAt p here))
+    pub field-accepted : Accepted (walk P [] (leftOver T i left bits) (cursorAt p here)) → Accepted (P (f .ty) (cursorAt p here))
     field-accepted h =
-        item-accepted P [] (present (fieldsFrom T (i + 1) (left - 1)) (bits / 2)) (f .ty) (cursorAt p here)
+        item-accepted P [] (leftOver T (i + 1) (left - 1) (bits / 2)) (f .ty) (cursorAt p here)
         (rw (present-set T i left some room bits f is b) at h)
 
-    pub field-read : (next row′ : ℕ) (k : List ℕ) → Walked p (here + 1) rows (P (f .ty) (cursorAt p here)) below l (Past next row′) k
-        → (here′ below′ : ℕ) (m : List ℕ) → here′ ≡ next → below′ ≡ row′ → m ≡ k → Turned P p T i left bits here below l here′ below′ m
-    field-read next row′ k h here′ below′ m e₁ e₂ e₃ =
+    pub field-read : (due next row′ : ℕ) (k : List ℕ)
+        → Walked p (here + 1) (told R S (f .ty)) (P (f .ty) (cursorAt p here)) below l (Past due next row′) k
+        → (here′ sum′ below′ : ℕ) (m : List ℕ) → here′ ≡ next → sum′ ≡ sum + due → below′ ≡ row′ → m ≡ k
+        → Turned R S P p T i left bits here sum below l here′ sum′ below′ m
+    field-read due next row′ k h here′ sum′ below′ m e₁ e₂ e₃ e₄ =
         let w = h .within in
-        rw (e₁, e₂, e₃)
+        rw (e₁, e₂, e₃, e₄)
         (record {
           same =
               rw (present-set T i left some room bits f is b)
-              (item-past P [] (present (fieldsFrom T (i + 1) (left - 1)) (bits / 2)) (f .ty) (cursorAt p here) below l (cursorAt p next) row′ k (h .same));
+              (item-past R S P [] (leftOver T (i + 1) (left - 1) (bits / 2)) (f .ty) (cursorAt p here) sum below l (cursorAt p next) due row′ k (h .same));
           inside = w .0;
           behind = w .1;
           forth = omega arith;
-          long = walk-length rows (P (f .ty) (cursorAt p here)) below l (cursorAt p next) row′ k (h .same);
+          long = walk-length (told R S (f .ty)) (P (f .ty) (cursorAt p here)) 0 below l (cursorAt p next) due row′ k (h .same);
         })
 
   -- a present field that stops, whatever its type is
-  pub field-deep : bits % 2 ≡ 1 → (n q : ℕ) → ((ty : ℕ) → stopped n q ≡ walkOf rows (P ty (cursorAt p here)) below l)
-      → stopped n q ≡ walkOf rowsAll (walk P [] (present (fieldsFrom T i left) bits) (cursorAt p here)) below l
+  pub field-deep : bits % 2 ≡ 1 → (n q : ℕ) → ((ty : ℕ) → stopped n q ≡ walkOf (told R S ty) (P ty (cursorAt p here)) 0 below l)
+      → stopped n q ≡ ahead R S P [] (leftOver T i left bits) (cursorAt p here) sum below l
   field-deep b n q h = field-stop (field T i) refl b n q (h (field T i .ty))
 
   pub field-absent : (bits % 2 ≡ 1 → ⊥) → here ≤ length p → below ≤ here
-      → (here′ below′ : ℕ) (m : List ℕ) → here′ ≡ here → below′ ≡ below → m ≡ l → Turned P p T i left bits here below l here′ below′ m
-  field-absent b inside behind here′ below′ m e₁ e₂ e₃ =
-      rw (e₁, e₂, e₃)
+      → (here′ sum′ below′ : ℕ) (m : List ℕ) → here′ ≡ here → sum′ ≡ sum → below′ ≡ below → m ≡ l
+      → Turned R S P p T i left bits here sum below l here′ sum′ below′ m
+  field-absent b inside behind here′ sum′ below′ m e₁ e₂ e₃ e₄ =
+      rw (e₁, e₂, e₃, e₄)
       (record { same = rw (present-clear T i left some room bits b); inside = inside; behind = behind; forth = omega arith; long = refl })
 
 -- ---- pairs of a map
 
-module _ (P : ℕ → Reader Tree) (p : List ℕ) (k v n i : ℕ) (keys : List (List ℕ)) (here : ℕ) (some : i < n) where
+module _ (R S : ℕ → Shape) (P : ℕ → Reader Tree) (p : List ℕ) (k v n i : ℕ) (keys : List (List ℕ)) (here : ℕ) (some : i < n) where
   split : pairs (n - i) k v ≡ keyItem k ∷ (plainItem v ∷ pairs (n - i - 1) k v)
   split = pairs-some k v (n - i) (omega arith)
 
   pub pair-key-accepted : Accepted (walk P keys (pairs (n - i) k v) (cursorAt p here)) → Accepted (P k (cursorAt p here))
   pair-key-accepted h = key-accepted P keys (plainItem v ∷ pairs (n - i - 1) k v) k (cursorAt p here) (rw split at h)
 
-  pub pair-key-stop : (below : ℕ) (l : List ℕ) (a q : ℕ) → P k (cursorAt p here) ≡ refused a q
-      → stopped a q ≡ walkOf rowsAll (walk P keys (pairs (n - i) k v) (cursorAt p here)) below l
-  pair-key-stop below l a q e = rw split (key-stop P keys (plainItem v ∷ pairs (n - i - 1) k v) k (cursorAt p here) below l a q e)
+  pub pair-key-stop : (sum below : ℕ) (l : List ℕ) (a q : ℕ) → P k (cursorAt p here) ≡ refused a q
+      → stopped a q ≡ ahead R S P keys (pairs (n - i) k v) (cursorAt p here) sum below l
+  pair-key-stop sum below l a q e = rw split (key-stop R S P keys (plainItem v ∷ pairs (n - i - 1) k v) k (cursorAt p here) sum below l a q e)
 
   module _ (from to : ℕ) (read : P k (cursorAt p here) ≡ seen (tip (spanRow k from to) (part p from to)) (cursorAt p to)) where
     pub pair-known : Accepted (walk P keys (pairs (n - i) k v) (cursorAt p here)) → among (part p from to) keys ≡ false
     pair-known h =
         key-known P keys (plainItem v ∷ pairs (n - i - 1) k v) k (cursorAt p here) (spanRow k from to) (part p from to) (cursorAt p to) read (rw split at h) .0
 
-    pub pair-again : (below : ℕ) (l : List ℕ) → among (part p from to) keys ≡ true
-        → stopped 24 here ≡ walkOf rowsAll (walk P keys (pairs (n - i) k v) (cursorAt p here)) below l
-    pair-again below l e =
+    pub pair-again : (sum below : ℕ) (l : List ℕ) → among (part p from to) keys ≡ true
+        → stopped 24 here ≡ ahead R S P keys (pairs (n - i) k v) (cursorAt p here) sum below l
+    pair-again sum below l e =
         rw split
-        (key-again P keys (plainItem v ∷ pairs (n - i - 1) k v) k (cursorAt p here) (spanRow k from to) (part p from to) (cursorAt p to) read below l e)
+        (key-again R S P keys (plainItem v ∷ pairs (n - i - 1) k v) k (cursorAt p here) (spanRow k from to) (part p from to) (cursorAt p to) read sum below l e)
 
-    module _ (new : among (part p from to) keys ≡ false) (below : ℕ) (l m : List ℕ) (put : m ≡ putRow l below (spanRow k from to)) where
-      value-next : walkOf rowsAll (walk P keys (pairs (n - i) k v) (cursorAt p here)) below l
-          ≡ walkOf rowsAll (walk P (part p from to ∷ keys) (plainItem v ∷ pairs (n - i - 1) k v) (cursorAt p to)) (below + 1) m
+    -- a key is new where the walk that judges says so, and where the other walk is known to accept
+    module _ (judge r : Bool) where
+      pub pair-new : (judge ≡ false → Accepted (walk P keys (pairs (n - i) k v) (cursorAt p here))) → (judge ≡ true → r ≡ among (part p from to) keys)
+          → r ≡ false → among (part p from to) keys ≡ false
+      pair-new a q e = go judge a q
+        where
+          go : (j : Bool) → (j ≡ false → Accepted (walk P keys (pairs (n - i) k v) (cursorAt p here))) → (j ≡ true → r ≡ among (part p from to) keys)
+              → among (part p from to) keys ≡ false
+          go false a q = pair-known (a refl)
+          go true a q = sym (q refl) ∙ e
+
+      pub pair-old : (judge ≡ false → r ≡ false) → (judge ≡ true → r ≡ among (part p from to) keys) → r ≡ true → among (part p from to) keys ≡ true
+      pair-old a q e = go judge a q
+        where
+          go : (j : Bool) → (j ≡ false → r ≡ false) → (j ≡ true → r ≡ among (part p from to) keys) → among (part p from to) keys ≡ true
+          go false a q = absurd (false≢true (sym (a refl) ∙ e))
+          go true a q = sym (q refl) ∙ e
+
+    module _ (new : among (part p from to) keys ≡ false) (sum below : ℕ) (l m : List ℕ) (put : m ≡ putRow l below (spanRow k from to)) where
+      value-next : ahead R S P keys (pairs (n - i) k v) (cursorAt p here) sum below l
+          ≡ ahead R S P (part p from to ∷ keys) (plainItem v ∷ pairs (n - i - 1) k v) (cursorAt p to) sum (below + 1) m
       value-next =
           rw (split, put)
-          (key-new P keys (plainItem v ∷ pairs (n - i - 1) k v) k (cursorAt p here) (spanRow k from to) (part p from to) (cursorAt p to) read below l new)
+          (key-new R S P keys (plainItem v ∷ pairs (n - i - 1) k v) k (cursorAt p here) (spanRow k from to) (part p from to) (cursorAt p to) read sum below l new)
 
       pub pair-value-accepted : Accepted (walk P keys (pairs (n - i) k v) (cursorAt p here)) → Accepted (P v (cursorAt p to))
       pair-value-accepted h =
           item-accepted P (part p from to ∷ keys) (pairs (n - i - 1) k v) v (cursorAt p to)
-          (accepted-along rowsAll rowsAll (walk P (part p from to ∷ keys) (plainItem v ∷ pairs (n - i - 1) k v) (cursorAt p to))
-          (walk P keys (pairs (n - i) k v) (cursorAt p here)) (below + 1) below m l (sym value-next) h)
+          (accepted-along (toldAll R S (plainItem v ∷ pairs (n - i - 1) k v)) (toldAll R S (pairs (n - i) k v))
+          (walk P (part p from to ∷ keys) (plainItem v ∷ pairs (n - i - 1) k v) (cursorAt p to))
+          (walk P keys (pairs (n - i) k v) (cursorAt p here)) sum sum (below + 1) below m l (sym value-next) h)
 
-      pub pair-value-stop : (a q : ℕ) → stopped a q ≡ walkOf rows (P v (cursorAt p to)) (below + 1) m
-          → stopped a q ≡ walkOf rowsAll (walk P keys (pairs (n - i) k v) (cursorAt p here)) below l
+      pub pair-value-stop : (a q : ℕ) → stopped a q ≡ walkOf (told R S v) (P v (cursorAt p to)) 0 (below + 1) m
+          → stopped a q ≡ ahead R S P keys (pairs (n - i) k v) (cursorAt p here) sum below l
       pair-value-stop a q e =
-          item-stop P (part p from to ∷ keys) (pairs (n - i - 1) k v) v (cursorAt p to) (below + 1) m a q e ∙ sym value-next
+          item-stop R S P (part p from to ∷ keys) (pairs (n - i - 1) k v) v (cursorAt p to) sum (below + 1) m a q e ∙ sym value-next
 
-      pub pair-value-past : (next row′ : ℕ) (m′ : List ℕ) → done (cursorAt p next) row′ m′ ≡ walkOf rows (P v (cursorAt p to)) (below + 1) m
-          → walkOf rowsAll (walk P keys (pairs (n - i) k v) (cursorAt p here)) below l
-          ≡ walkOf rowsAll (walk P (part p from to ∷ keys) (pairs (n - i - 1) k v) (cursorAt p next)) row′ m′
-      pair-value-past next row′ m′ e =
-          value-next ∙ item-past P (part p from to ∷ keys) (pairs (n - i - 1) k v) v (cursorAt p to) (below + 1) m (cursorAt p next) row′ m′ e
+      pub pair-value-past : (due next row′ : ℕ) (m′ : List ℕ) → done (cursorAt p next) due row′ m′ ≡ walkOf (told R S v) (P v (cursorAt p to)) 0 (below + 1) m
+          → ahead R S P keys (pairs (n - i) k v) (cursorAt p here) sum below l
+          ≡ ahead R S P (part p from to ∷ keys) (pairs (n - (i + 1)) k v) (cursorAt p next) (sum + due) row′ m′
+      pair-value-past due next row′ m′ e =
+          let q : n - (i + 1) ≡ n - i - 1 = omega arith in
+          value-next ∙ rw q (item-past R S P (part p from to ∷ keys) (pairs (n - i - 1) k v) v (cursorAt p to) sum (below + 1) m (cursorAt p next) due row′ m′ e)
 
--- the loop over pairs starts with no key kept, and a turn keeps one more
-pub pairs-first : (P : ℕ → Reader Tree) (k v n : ℕ) (keys : List (List ℕ)) (c : Cursor) (row : ℕ) (l : List ℕ)
-    → keys ≡ [] → walkOf rowsAll (walk P keys (pairs (n - 0) k v) c) row l ≡ walkOf rowsAll (walk P [] (pairs n k v) c) row l
-pairs-first P k v n keys c row l none = let e : n - 0 ≡ n = omega arith in rw (e, none)
+      -- A turn of the loop over pairs, with the key's row already written.
+      pub record Paired (here′ sum′ below′ : ℕ) (m′ : List ℕ) : Type 0 where
+        pub same : ahead R S P keys (pairs (n - i) k v) (cursorAt p here) sum below l
+            ≡ ahead R S P (part p from to ∷ keys) (pairs (n - (i + 1)) k v) (cursorAt p here′) sum′ below′ m′
+        pub inside : here′ ≤ length p
+        pub behind : below′ ≤ here′
+        pub forth : sum′ + 16 * (to + 1) ≤ sum + 16 * here′
+        pub long : length m′ ≡ length m
 
-pub pairs-again : (P : ℕ → Reader Tree) (k v n i : ℕ) (x : List ℕ) (keys more : List (List ℕ)) (c : Cursor) (row : ℕ) (l : List ℕ) (o : Final)
-    → more ≡ x ∷ keys
-    → walkOf rowsAll (walk P (x ∷ keys) (pairs (n - i - 1) k v) c) row l ≡ o
-    → walkOf rowsAll (walk P more (pairs (n - (i + 1)) k v) c) row l ≡ o
-pairs-again P k v n i x keys more c row l o e h =
-    let q : n - (i + 1) ≡ n - i - 1 = omega arith in
-    rw (q, e) h
+      pub pair-turn : (due next row′ : ℕ) (k′ : List ℕ)
+          → Walked p (to + 1) (told R S v) (P v (cursorAt p to)) (below + 1) m (Past due next row′) k′
+          → (here′ sum′ below′ : ℕ) (m′ : List ℕ) → here′ ≡ next → sum′ ≡ sum + due → below′ ≡ row′ → m′ ≡ k′ → Paired here′ sum′ below′ m′
+      pair-turn due next row′ k′ h here′ sum′ below′ m′ e₁ e₂ e₃ e₄ =
+          let w = h .within in
+          rw (e₁, e₂, e₃, e₄)
+          (record {
+            same = pair-value-past due next row′ k′ (h .same);
+            inside = w .0;
+            behind = w .1;
+            forth = omega arith;
+            long = walk-length (told R S v) (P v (cursorAt p to)) 0 (below + 1) m (cursorAt p next) due row′ k′ (h .same);
+          })
 
--- where no item is left
-pub emptied : (P : ℕ → Reader Tree) (keys : List (List ℕ)) (is : List Item) (c : Cursor) (row : ℕ) (l : List ℕ) (o : Final)
-    → is ≡ [] → walkOf rowsAll (walk P keys is c) row l ≡ o → walkOf rowsAll (walk P keys [] c) row l ≡ o
-emptied P keys is c row l o e h = rw e at h
+-- the comparisons of a map's own keys, at most 32 a pair
+pub own-due : (n : ℕ) → n * (n - 1) / 2 ≡ due n
+own-due n = rw (← due-half n) (omega arith)
+
+pub few-pairs : (n : ℕ) → n ≤ 64 → n * (n - 1) ≤ 63 * n
+few-pairs n h = rw (← due-half n) (due-few n h)
+
+-- the loop over pairs starts with all of them
+pub pairs-first : (R S : ℕ → Shape) (P : ℕ → Reader Tree) (k v n : ℕ) (c : Cursor) (row : ℕ) (l : List ℕ)
+    → ahead R S P [] (pairs (n - 0) k v) c 0 row l ≡ ahead R S P [] (pairs n k v) c 0 row l
+pairs-first R S P k v n c row l = let e : n - 0 ≡ n = omega arith in rw e

@@ -1,11 +1,12 @@
 -- Laws of the entries: what each of their returns shows.
 -- Assumes nothing.
 use mathlib.Core.Path.{_≡_, refl, sym, ap, _∙_}
+use mathlib.Core.Bool.{Bool, true, false}
 use mathlib.Core.List.{List, [], _++_}
 use Prim.Native.Nat.{ℕ, _+_, _-_, _/_, _≤_, _<_}
 use native.Mathlib.Omega.{arith}
 use borrow.Author.Tests.{le-leb, lt-leb}
-use lib.ListN.{length, take, length-drop}
+use lib.ListN.{length, length-drop}
 use Rattle.wire.proofs.Cases.{differ}
 use Rattle.schema.specs.declared.TypeRow.{TypeRow}
 use Rattle.schema.specs.declared.Checked.{Checked}
@@ -13,14 +14,13 @@ use Rattle.schema.specs.declared.Checked.the-variants.{Good, Refused as Faulty}
 use Rattle.schema.specs.Table.{rowAt}
 use Rattle.schema.specs.File.{tableOf}
 use Rattle.schema.specs.Check.{checked, IsGood}
-use Rattle.value.specs.Answer.{Answer, refused, seen, cursorAt, Accepted}
+use Rattle.schema.specs.Extend.{widened}
 use Rattle.schema.proofs.Goods.{good-table}
-use Rattle.value.specs.declared.Row.{Row}
-use Rattle.value.specs.Value.{Tree, rows, value as valueOf}
-use Rattle.value.specs.Sheet.{rowsOf}
-use Rattle.value.specs.Comparisons.{comparisons, rowsDue}
+use Rattle.value.specs.Answer.{Answer, refused, seen, cursorAt, Accepted}
+use Rattle.value.specs.Value.{Tree}
 use Rattle.value.specs.Read as value
-use Rattle.value.proofs.Statements.{comparisons-within, comparisons-counted}
+use Rattle.value.specs.Beside.{shownRows}
+use Rattle.value.proofs.Statements.{comparisons-within}
 use Rattle.parts.specs.Shape.{shapeIn, fieldsFrom}
 use Rattle.parts.proofs.Tables.{shape-struct, no-struct}
 use Rattle.parts.proofs.Walks.{nothing-before}
@@ -28,114 +28,89 @@ use Rattle.reader.specs.declared.Reading.the-variants.{Shown, Refused}
 use Rattle.reader.specs.declared.walk.Walk.{Walk}
 use Rattle.reader.specs.declared.walk.Walk.the-variants.{Past, Refused as Stop}
 use Rattle.reader.specs.Sheet.{putRows, shownIn}
-use Rattle.reader.specs.Walk.{done, stopped, walkOf, endOf, rootIn, Walked}
+use Rattle.reader.specs.Walk.{Told, told, firstFields, done, stopped, walkOf, endOf, rootIn, Walked}
 use Rattle.reader.specs.Entry.{Outcome, outcome, readingIn, outcomeOf, room, payloadOutcome, byTable, readOutcome, numbers}
+use Rattle.reader.specs.Beside.{shownOutcome, besidePayload, besideOutcome}
 use Rattle.reader.proofs.Sheets.{rows-shown}
-use Rattle.reader.proofs.Due.{due-shown}
 
--- ---- a payload
+-- ---- a payload, of which each struct is shown as far as its fields are known
 
--- Where the reader accepts with these numbers, and the sheet shows its rows.
-pub record Written (answer : value.Reading) (p sheet : List ℕ) (next row : ℕ) (after : List ℕ) : Type 0 where
-  pub rs : List Row
-  pub due : ℕ
-  pub read : answer ≡ value.accepted rs next (length p - next) due
-  pub long : row ≡ length rs
-  pub cells : after ≡ shownIn sheet rs
+module _ (known s : List ℕ) (ty : ℕ) (p sheet : List ℕ) (r : TypeRow) (is : r ≡ rowAt (tableOf s) ty) where
+  -- What is told of the root.
+  abbrev tell : Tree → Told
+  tell = told (firstFields known (shapeIn s)) (shapeIn s) ty
 
-module _ (s : List ℕ) (good : IsGood s) (ty : ℕ) (p sheet : List ℕ) (next row : ℕ) (after : List ℕ)
-    (w : Written (value.read (tableOf s) ty p (room sheet)) p sheet next row after) where
-  -- the rows written make due what the reader says
-  due-is : rowsDue (shapeIn s) (take row (rowsOf after)) ≡ w .due
-  due-is =
-      rw (w .cells, w .long) (due-shown (shapeIn s) sheet (w .rs))
-      ∙ sym (comparisons-counted (tableOf s) (good-table s good) ty p (room sheet) (w .rs) next (length p - next) (w .due) (w .read))
+  abbrev root : Answer Tree
+  root = rootIn s p ty (fieldsFrom (tableOf s) (r .a) (r .b))
 
-  pub written-due : rowsDue (shapeIn s) (take row (rowsOf after)) ≤ 258048
-  written-due =
-      rw due-is (comparisons-within (tableOf s) (good-table s good) ty p (room sheet) (w .rs) next (length p - next) (w .due) (w .read))
+  abbrev answer : Answer Tree → Outcome
+  answer o = outcomeOf sheet (value.readingAs (shownRows (firstFields known (shapeIn s)) ty) (shapeIn s) ty (room sheet) o)
 
-  pub written-shown : (d : ℕ) → d ≡ rowsDue (shapeIn s) (take row (rowsOf after))
-      → outcome (Shown row next (length p - next) d) after ≡ payloadOutcome s ty p sheet
-  unfolding payloadOutcome
-  written-shown d e = rw (w .read, e, due-is, w .long, w .cells)
-
-module _ (s : List ℕ) (ty : ℕ) (p sheet : List ℕ) (r : TypeRow) (is : r ≡ rowAt (tableOf s) ty) where
-  pub entry-type : IsGood s → (r .kind ≡ 16 → ⊥) → outcome (Refused 46 0) sheet ≡ payloadOutcome s ty p sheet
-  unfolding payloadOutcome value.read
+  pub entry-type : IsGood s → (r .kind ≡ 16 → ⊥) → outcome (Refused 46 0) sheet ≡ shownOutcome known s ty p sheet
+  unfolding shownOutcome
   entry-type good k = rw (no-struct s good ty r is k)
 
   module _ (k : r .kind ≡ 16) where
-    pub entry-long : 16384 < length p → outcome (Refused 7 0) sheet ≡ payloadOutcome s ty p sheet
-    unfolding payloadOutcome value.read
+    pub entry-long : 16384 < length p → outcome (Refused 7 0) sheet ≡ shownOutcome known s ty p sheet
+    unfolding shownOutcome
     entry-long h = rw (shape-struct (tableOf s) ty r is k, lt-leb (length p) 16384 h)
 
     module _ (small : length p ≤ 16384) where
-      root-read : value.reading (shapeIn s) ty (room sheet) (rootIn s p ty (fieldsFrom (tableOf s) (r .a) (r .b)))
-          ≡ value.read (tableOf s) ty p (room sheet)
-      unfolding value.read
-      root-read = rw (shape-struct (tableOf s) ty r is k, le-leb (length p) 16384 small)
-
-      entry-root : outcomeOf sheet (value.reading (shapeIn s) ty (room sheet) (rootIn s p ty (fieldsFrom (tableOf s) (r .a) (r .b))))
-          ≡ payloadOutcome s ty p sheet
-      unfolding payloadOutcome
-      entry-root = ap (outcomeOf sheet) root-read
+      entry-root : answer root ≡ shownOutcome known s ty p sheet
+      unfolding shownOutcome
+      entry-root = rw (shape-struct (tableOf s) ty r is k, le-leb (length p) 16384 small)
 
       -- the first walk, over no cells, leaves m, and m joined to the sheet is the sheet
       module _ (m : List ℕ) (none : length m ≡ 0) where
-        stop : (o : Answer Tree) (n q : ℕ) → stopped n q ≡ walkOf rows o 0 [] → outcome (Refused n q) sheet ≡ outcomeOf sheet (value.reading (shapeIn s) ty (room sheet) o)
+        stop : (o : Answer Tree) (n q : ℕ) → stopped n q ≡ walkOf tell o 0 0 [] → outcome (Refused n q) sheet ≡ answer o
         stop (seen tree c) n q e = differ cc
         stop (refused n′ q′) n q e = cc
 
-        full : (o : Answer Tree) (next row : ℕ) → done (cursorAt p next) row m ≡ walkOf rows o 0 [] → room sheet < row
-            → outcome (Refused 30 0) sheet ≡ outcomeOf sheet (value.reading (shapeIn s) ty (room sheet) o)
-        full (seen tree c) next row e h =
-            let f : row ≡ 0 + length (rows tree) = cc in
-            rw (lt-leb (length (rows tree)) (room sheet) (omega arith))
-        full (refused n q) next row e h = differ cc
+        full : (o : Answer Tree) (due next row : ℕ) → done (cursorAt p next) due row m ≡ walkOf tell o 0 0 [] → room sheet < row
+            → outcome (Refused 30 0) sheet ≡ answer o
+        unfolding told
+        full (seen tree c) due next row e h =
+            let f : row ≡ 0 + length (tell tree .rows) = cc in
+            rw (lt-leb (length (tell tree .rows)) (room sheet) (omega arith))
+        full (refused n q) due next row e h = differ cc
 
-        shown : (o : Answer Tree) (next row : ℕ) (w : Walk) (after : List ℕ) → done (cursorAt p next) row m ≡ walkOf rows o 0 [] → row ≤ room sheet
-            → endOf p w after ≡ walkOf rows o 0 sheet → Written (value.reading (shapeIn s) ty (room sheet) o) p sheet next row after
-        shown (seen tree c) next row (Past a b) after e h g =
-            let f : row ≡ 0 + length (rows tree) = cc in
-            let row-is : row ≡ length (rows tree) = omega arith in
+        shown : (o : Answer Tree) (due next row : ℕ) (w : Walk) (after : List ℕ) → done (cursorAt p next) due row m ≡ walkOf tell o 0 0 [] → row ≤ room sheet
+            → endOf p w after ≡ walkOf tell o 0 0 sheet → outcome (Shown row next (length p - next) due) after ≡ answer o
+        unfolding told
+        shown (seen tree c) due next row (Past d a b) after e h g =
+            let f : row ≡ 0 + length (tell tree .rows) = cc in
+            let row-is : row ≡ length (tell tree .rows) = omega arith in
+            let d-is : due ≡ 0 + tell tree .due = cc in
+            let due-is : due ≡ tell tree .due = omega arith in
             let c-is : cursorAt p next ≡ c = cc in
-            let after-is : after ≡ putRows sheet 0 (rows tree) = cc in
-            record {
-              rs = rows tree;
-              due = comparisons (shapeIn s) (valueOf tree) ty;
-              read = rw (le-leb (length (rows tree)) (room sheet) (omega arith), ← c-is, length-drop);
-              long = row-is;
-              cells = after-is ∙ rows-shown sheet (rows tree) (omega arith);
-            }
-        shown (seen tree c) next row (Stop a b) after e h g = differ cc
-        shown (refused n q) next row w after e h g = differ cc
+            let put : after ≡ putRows sheet 0 (tell tree .rows) = cc in
+            let after-is : after ≡ shownIn sheet (tell tree .rows) = put ∙ rows-shown sheet (tell tree .rows) (omega arith) in
+            rw (le-leb (length (tell tree .rows)) (room sheet) (omega arith), ← c-is, length-drop, row-is, due-is, after-is)
+        shown (seen tree c) due next row (Stop a b) after e h g = differ cc
+        shown (refused n q) due next row w after e h g = differ cc
 
-        pub entry-refused : (n q : ℕ)
-            → Walked p 1 rows (rootIn s p ty (fieldsFrom (tableOf s) (r .a) (r .b))) 0 [] (Stop n q) m
-            → outcome (Refused n q) (m ++ sheet) ≡ payloadOutcome s ty p sheet
-        entry-refused n q w = rw (nothing-before m sheet none, ← entry-root) (stop (rootIn s p ty (fieldsFrom (tableOf s) (r .a) (r .b))) n q (w .same))
+        pub entry-refused : (n q : ℕ) → Walked p 1 tell root 0 [] (Stop n q) m → outcome (Refused n q) (m ++ sheet) ≡ shownOutcome known s ty p sheet
+        entry-refused n q w = rw (nothing-before m sheet none, ← entry-root) (stop root n q (w .same))
 
-        module _ (next row : ℕ)
-            (w : Walked p 1 rows (rootIn s p ty (fieldsFrom (tableOf s) (r .a) (r .b))) 0 [] (Past next row) m) where
+        module _ (due next row : ℕ) (w : Walked p 1 tell root 0 [] (Past due next row) m) where
           -- the second walk is known to accept
-          pub entry-judged : Accepted (rootIn s p ty (fieldsFrom (tableOf s) (r .a) (r .b)))
-          entry-judged = go (rootIn s p ty (fieldsFrom (tableOf s) (r .a) (r .b))) (w .same)
+          pub entry-judged : Accepted root
+          entry-judged = go root (w .same)
             where
-              go : (o : Answer Tree) → done (cursorAt p next) row m ≡ walkOf rows o 0 [] → Accepted o
+              go : (o : Answer Tree) → done (cursorAt p next) due row m ≡ walkOf tell o 0 0 [] → Accepted o
               go (seen tree c) e = tt
               go (refused n q) e = differ cc
 
-          pub entry-full : length (m ++ sheet) / 4 < row → outcome (Refused 30 0) (m ++ sheet) ≡ payloadOutcome s ty p sheet
-          entry-full h = rw (nothing-before m sheet none, ← entry-root) (full (rootIn s p ty (fieldsFrom (tableOf s) (r .a) (r .b))) next row (w .same) (rw (nothing-before m sheet none) at h))
+          pub entry-full : length (m ++ sheet) / 4 < row → outcome (Refused 30 0) (m ++ sheet) ≡ shownOutcome known s ty p sheet
+          entry-full h =
+              rw (nothing-before m sheet none, ← entry-root) (full root due next row (w .same) (rw (nothing-before m sheet none) at h))
 
           -- what the second walk has written
-          pub entry-written : (v : Walk) (after : List ℕ) → row ≤ length (m ++ sheet) / 4
-              → Walked p 1 rows (rootIn s p ty (fieldsFrom (tableOf s) (r .a) (r .b))) 0 (m ++ sheet) v after
-              → Written (value.read (tableOf s) ty p (room sheet)) p sheet next row after
-          entry-written v after h again =
-              rw (← root-read)
-              (shown (rootIn s p ty (fieldsFrom (tableOf s) (r .a) (r .b))) next row v after (w .same) (rw (nothing-before m sheet none) at h) (rw (nothing-before m sheet none) at (again .same)))
+          pub entry-shown : (v : Walk) (after : List ℕ) → row ≤ length (m ++ sheet) / 4 → Walked p 1 tell root 0 (m ++ sheet) v after
+              → outcome (Shown row next (length p - next) due) after ≡ shownOutcome known s ty p sheet
+          entry-shown v after h again =
+              let wide = nothing-before m sheet none in
+              rw (← entry-root) (shown root due next row v after (w .same) (rw wide at h) (rw wide at (again .same)))
 
 -- ---- any table
 
@@ -147,6 +122,27 @@ module _ (s : List ℕ) (ty : ℕ) (p sheet : List ℕ) (v : Checked) (is : v �
   pub entry-good : v ≡ Good → payloadOutcome s ty p sheet ≡ readOutcome s ty p sheet
   unfolding readOutcome
   entry-good e = rw (← is, e)
+
+-- ---- any two tables
+
+module _ (ours theirs : List ℕ) (ty : ℕ) (p sheet : List ℕ) (v : Checked) (is : v ≡ checked ours) where
+  pub beside-ours : (n q : ℕ) → v ≡ Faulty n q → outcome (Refused n q) sheet ≡ besideOutcome ours theirs ty p sheet
+  unfolding besideOutcome
+  beside-ours n q e = rw (← is, e)
+
+  module _ (good : v ≡ Good) (v′ : Checked) (is′ : v′ ≡ checked theirs) where
+    pub beside-theirs : (n q : ℕ) → v′ ≡ Faulty n q → outcome (Refused n q) sheet ≡ besideOutcome ours theirs ty p sheet
+    unfolding besideOutcome
+    beside-theirs n q e = rw (← is, good, ← is′, e)
+
+    module _ (good′ : v′ ≡ Good) where
+      pub beside-other : widened (tableOf ours) (tableOf theirs) ≡ false → outcome (Refused 47 0) sheet ≡ besideOutcome ours theirs ty p sheet
+      unfolding besideOutcome
+      beside-other e = rw (← is, good, ← is′, good′, e)
+
+      pub beside-good : widened (tableOf ours) (tableOf theirs) ≡ true → besidePayload ours theirs ty p sheet ≡ besideOutcome ours theirs ty p sheet
+      unfolding besideOutcome
+      beside-good e = rw (← is, good, ← is′, good′, e)
 
 -- ---- the key comparisons due are never above 258,048
 

@@ -3,6 +3,7 @@ pub mod Leaves
 pub mod Heads
 pub mod Steps
 pub mod Composites
+pub mod Partials
 pub mod Roots
-pub mod Due
+pub mod Besides
 pub mod Entries

@@ -10,14 +10,14 @@ use Rattle.wire.proofs.Cases.{differ}
 use Rattle.schema.specs.declared.Field.{Field}
 use Rattle.schema.specs.Table.{Shape, struct}
 use Rattle.value.specs.Answer.{Answer, refused, seen, Reader, andThen, check, cursorAt, Accepted}
-use Rattle.value.specs.Value.{Tree, branch, Forest, rows}
+use Rattle.value.specs.Value.{Tree, branch, Forest}
 use Rattle.value.specs.Read.{counted, plan, bitmap, parts, walk, nodeRow, whole, parse, ending, rootStruct}
 use Rattle.value.proofs.Answers.{accepted-first}
 use Rattle.reader.specs.declared.leaf.Head.{Head}
 use Rattle.reader.specs.declared.leaf.Head.the-variants.{Bits, Fault}
 use Rattle.reader.specs.declared.walk.Walk.the-variants.{Past, Refused}
 use Rattle.reader.specs.Leaf.{headOf, HeadIn, Headed}
-use Rattle.reader.specs.Walk.{done, stopped, walkOf, Walked}
+use Rattle.reader.specs.Walk.{Told, done, stopped, walkOf, Walked}
 
 -- ---- what follows the known fields
 
@@ -59,23 +59,24 @@ module _ (t place n h u : ℕ) where
   regrouped (seen ts c) = refl
   regrouped (refused m q) = refl
 
-module _ (p : List ℕ) (next row′ : ℕ) (l m : List ℕ) (u : ℕ) where
-  end-past : (o : Answer Tree) → done (cursorAt p next) row′ m ≡ walkOf rows o 0 l → ending u (cursorAt p next) ≡ seen tt (cursorAt p next)
-      → done (cursorAt p next) row′ m ≡ walkOf rows (andThen o (afterFields u)) 0 l
+module _ (tell : Tree → Told) (p : List ℕ) (due next row′ : ℕ) (l m : List ℕ) (u : ℕ) where
+  end-past : (o : Answer Tree) → done (cursorAt p next) due row′ m ≡ walkOf tell o 0 0 l → ending u (cursorAt p next) ≡ seen tt (cursorAt p next)
+      → done (cursorAt p next) due row′ m ≡ walkOf tell (andThen o (afterFields u)) 0 0 l
   unfolding andThen afterFields
   end-past (seen tree c) e f = let k : cursorAt p next ≡ c = cc in rw (← k, f) (rw (← k) at e)
   end-past (refused a q) e f = differ cc
 
-  end-stop : (o : Answer Tree) → done (cursorAt p next) row′ m ≡ walkOf rows o 0 l → (a q : ℕ) → ending u (cursorAt p next) ≡ refused a q
-      → stopped a q ≡ walkOf rows (andThen o (afterFields u)) 0 l
+  end-stop : (o : Answer Tree) → done (cursorAt p next) due row′ m ≡ walkOf tell o 0 0 l → (a q : ℕ) → ending u (cursorAt p next) ≡ refused a q
+      → stopped a q ≡ walkOf tell (andThen o (afterFields u)) 0 0 l
   unfolding andThen afterFields
   end-stop (seen tree c) e a q f = let k : cursorAt p next ≡ c = cc in rw (← k, f)
   end-stop (refused b r) e a q f = differ cc
 
-fields-stop : (l : List ℕ) (u a q : ℕ) (o : Answer Tree) → stopped a q ≡ walkOf rows o 0 l → stopped a q ≡ walkOf rows (andThen o (afterFields u)) 0 l
+fields-stop : (tell : Tree → Told) (l : List ℕ) (u a q : ℕ) (o : Answer Tree) → stopped a q ≡ walkOf tell o 0 0 l
+    → stopped a q ≡ walkOf tell (andThen o (afterFields u)) 0 0 l
 unfolding andThen
-fields-stop l u a q (seen tree c) e = differ cc
-fields-stop l u a q (refused b r) e = e
+fields-stop tell l u a q (seen tree c) e = differ cc
+fields-stop tell l u a q (refused b r) e = e
 
 module _ (S : ℕ → Shape) (t : ℕ) (fs : List Field) (p : List ℕ) where
   -- where the root is accepted, its bitmap is
@@ -106,25 +107,27 @@ module _ (S : ℕ → Shape) (t : ℕ) (fs : List Field) (p : List ℕ) where
       unfolding inner
       root-fields h = accepted-first inner (afterFields unknown) (rw root-step at h)
 
-      pub root-stop : (a q : ℕ) (l m : List ℕ)
-          → Walked p start rows (whole (parse S 15) t (struct fs) (parts 0 known) (cursorAt p start)) 0 l (Refused a q) m
-          → Walked p 1 rows (rootStruct S t fs (cursorAt p 0)) 0 l (Refused a q) m
-      unfolding inner
-      root-stop a q l m w = record { same = rw root-step (fields-stop l unknown a q inner (w .same)); within = tt }
-
-      module _ (next row′ : ℕ) (l m : List ℕ)
-          (w : Walked p start rows (whole (parse S 15) t (struct fs) (parts 0 known) (cursorAt p start)) 0 l (Past next row′) m) where
-        pub root-end : (a q : ℕ) → ending unknown (cursorAt p next) ≡ refused a q
-            → Walked p 1 rows (rootStruct S t fs (cursorAt p 0)) 0 l (Refused a q) m
+      -- what is told of the fields is told of the root
+      module _ (tell : Tree → Told) where
+        pub root-stop : (a q : ℕ) (l m : List ℕ)
+            → Walked p start tell (whole (parse S 15) t (struct fs) (parts 0 known) (cursorAt p start)) 0 l (Refused a q) m
+            → Walked p 1 tell (rootStruct S t fs (cursorAt p 0)) 0 l (Refused a q) m
         unfolding inner
-        root-end a q e = record { same = rw root-step (end-stop p next row′ l m unknown inner (w .same) a q e); within = tt }
+        root-stop a q l m w = record { same = rw root-step (fields-stop tell l unknown a q inner (w .same)); within = tt }
 
-        pub root-past : unknown ≤ length p - next → (unknown ≡ 0 → length p - next ≡ 0)
-            → Walked p 1 rows (rootStruct S t fs (cursorAt p 0)) 0 l (Past next row′) m
-        unfolding inner
-        root-past fit none =
-            let v = w .within in
-            record {
-              same = rw root-step (end-past p next row′ l m unknown inner (w .same) (ending-fits p next unknown fit none));
-              within = (v .0, v .1, omega (arith, root-in .4));
-            }
+        module _ (due next row′ : ℕ) (l m : List ℕ)
+            (w : Walked p start tell (whole (parse S 15) t (struct fs) (parts 0 known) (cursorAt p start)) 0 l (Past due next row′) m) where
+          pub root-end : (a q : ℕ) → ending unknown (cursorAt p next) ≡ refused a q
+              → Walked p 1 tell (rootStruct S t fs (cursorAt p 0)) 0 l (Refused a q) m
+          unfolding inner
+          root-end a q e = record { same = rw root-step (end-stop tell p due next row′ l m unknown inner (w .same) a q e); within = tt }
+
+          pub root-past : unknown ≤ length p - next → (unknown ≡ 0 → length p - next ≡ 0)
+              → Walked p 1 tell (rootStruct S t fs (cursorAt p 0)) 0 l (Past due next row′) m
+          unfolding inner
+          root-past fit none =
+              let v = w .within in
+              record {
+                same = rw root-step (end-past tell p due next row′ l m unknown inner (w .same) (ending-fits p next unknown fit none));
+                within = (v .0, v .1, omega (arith, root-in .4));
+              }

@@ -9,7 +9,7 @@ use native.Mathlib.Decide.{decLe}
 use borrow.Author.Tests.{le-leb, lt-leb}
 use native.Mathlib.Numerals.{add-one, add-two, add-three}
 use lib.ListN.{length, set, take, drop, length-set, take-append-drop}
-use lib.Seq.{set-comm, sets-eq, length-take-le, take-append-le, take-take, drop-at}
+use lib.Seq.{set-set, set-comm, sets-eq, length-take-le, take-append-le, take-take, drop-at}
 use Rattle.value.specs.declared.Row.{Row}
 use Rattle.value.specs.Sheet.{cellsOf}
 use Rattle.reader.specs.Sheet.{put4, putRow, putRows, shownIn}
@@ -66,6 +66,31 @@ row-comm l i j r q h = elim (decLe (4 * j + 4) (length l)) [
   | no g ↦
       let len = length-put l i r in
       rw (put-none l j q (omega arith), put-none (putRow l i r) j q (omega arith))
+]
+
+-- a row written twice
+put4-twice : (l : List ℕ) (b : ℕ) (r q : Row) → put4 (put4 l b r) b q ≡ put4 l b q
+unfolding put4
+put4-twice l b r q =
+    rw (
+      set-comm _ (b + 3) b _ _ (omega arith),
+      set-comm _ (b + 2) b _ _ (omega arith),
+      set-comm _ (b + 1) b _ _ (omega arith),
+      set-set l b,
+      set-comm _ (b + 3) (b + 1) _ _ (omega arith),
+      set-comm _ (b + 2) (b + 1) _ _ (omega arith),
+      set-set _ (b + 1),
+      set-comm _ (b + 3) (b + 2) _ _ (omega arith),
+      set-set _ (b + 2),
+      set-set _ (b + 3),
+    )
+
+pub put-twice : (l : List ℕ) (i : ℕ) (r q : Row) → putRow (putRow l i r) i q ≡ putRow l i q
+put-twice l i r q = elim (decLe (4 * i + 4) (length l)) [
+  | yes h ↦
+      let one = length-put4 l (4 * i) r in
+      rw (put-fits l i r h, put-fits l i q h, put-fits (put4 l (4 * i) r) i q (omega arith)) (put4-twice l (4 * i) r q)
+  | no g ↦ let h : length l < 4 * i + 4 = omega arith in rw (put-none l i r h)
 ]
 
 rows-comm : (l : List ℕ) (i j : ℕ) (r : Row) (qs : List Row) → i < j → putRow (putRows l j qs) i r ≡ putRows (putRow l i r) j qs

@@ -35,10 +35,14 @@ room sheet = length sheet / 4
 unfoldable pub payloadOutcome : (schema : List ℕ) (ty : ℕ) (payload sheet : List ℕ) → Outcome
 payloadOutcome schema ty payload sheet = outcomeOf sheet (value.read (tableOf schema) ty payload (room sheet))
 
--- By a table with this verdict: its fault comes first.
+-- After a table with this verdict: its fault comes first, and leaves the sheet as it was.
+abbrev pub afterTable : Checked → (sheet : List ℕ) → Outcome → Outcome
+afterTable Good sheet next = next
+afterTable (Faulty n q) sheet next = outcome (Refused n q) sheet
+
+-- By a table with this verdict.
 abbrev pub byTable : Checked → (schema : List ℕ) (ty : ℕ) (payload sheet : List ℕ) → Outcome
-byTable Good schema ty payload sheet = payloadOutcome schema ty payload sheet
-byTable (Faulty n q) schema ty payload sheet = outcome (Refused n q) sheet
+byTable verdict schema ty payload sheet = afterTable verdict sheet (payloadOutcome schema ty payload sheet)
 
 -- A payload read by any table.
 unfoldable pub readOutcome : (schema : List ℕ) (ty : ℕ) (payload sheet : List ℕ) → Outcome

@@ -3,3 +3,4 @@ pub mod Sheet
 pub mod Leaf
 pub mod Walk
 pub mod Entry
+pub mod Beside

@@ -8,7 +8,8 @@ use wire::varuint::VarUInt;
 ghost use mathlib.Core.Path.{_≡_};
 ghost use mathlib.Core.Bool.{true, false};
 ghost use Prim.Native.Nat.{_+_, _≤_, _<_};
-ghost use lib.ListN.{length};
+ghost use lib.Count.{ones};
+ghost use lib.ListN.{length, getD};
 ghost use Rattle.wire.specs.Utf8.{utf8};
 ghost use Rattle.schema.specs.Table.{scalar, text};
 ghost use Rattle.schema.specs.File.{tableOf};
@@ -140,6 +141,29 @@ pub fn content(p: &[u8], kind: usize, at: usize, judge: bool) -> Span
     } else {
         text(p, kind, at, judge)
     }
+}
+
+// How many bits are set.
+pub fn ones_in(x: u64) -> usize
+    ensures { λ r. ⌜ (r ≡ ones x) × (r ≤ 64) ⌝ }
+{
+    u64::count_ones(x) as usize
+}
+
+// The byte at a place.
+fn byte_at(s: &[u8], i: usize) -> usize
+    requires { ⌜ i < length (now s) ⌝ }
+    ensures { λ r. ⌜ r ≡ getD (now (s .entry)) i 0 ⌝ }
+{
+    s[i] as usize
+}
+
+// How many fields of a type are shown.
+pub fn shown_of(shown: &[u8; 256], ty: u32) -> usize
+    requires { ⌜ ty < 256 ⌝ }
+    ensures { λ r. ⌜ r ≡ getD (now (shown .entry)) ty 0 ⌝ }
+{
+    byte_at(shown, ty as usize)
 }
 
 // The bitmap of a struct that has n fields from the first on.

@@ -1,10 +1,10 @@
 // The payload reader: values of a schema table's types, shown as rows of a sheet.
-pub mod comparisons;
+pub mod beside;
+pub mod keys;
 pub mod leaf;
 pub mod sheet;
 pub mod walk;
 
-use crate::comparisons::rows_due;
 use crate::walk::Walk;
 use crate::walk::root;
 use schema::Checked;
@@ -13,6 +13,7 @@ use schema::check::check;
 ghost use mathlib.Core.Path.{_≡_};
 ghost use Rattle.schema.specs.Check.{IsGood};
 ghost use Rattle.reader.specs.Entry.{Outcome, payloadOutcome, readOutcome};
+ghost use Rattle.reader.specs.Beside.{shownOutcome};
 
 // The answer: the number of rows with the tail's place and length and the key comparisons due, or the refusal's number and place.
 pub enum Reading {
@@ -28,10 +29,17 @@ pub enum Reading {
     },
 }
 
-// Reads a payload as a struct of type ty by a good table: first a walk that judges and writes nothing, then, where all rows have room, one that writes.
-pub fn read_payload(schema: &[u8], ty: u32, payload: &[u8], sheet: &mut [u32]) -> Reading
+// Reads a payload as a struct of type ty by a good table, and shows the first fields of each struct, as many as `shown` has for its type:
+// first a walk that judges and writes nothing, then, where all rows have room, one that writes.
+fn read_shown(
+    shown: &[u8; 256],
+    schema: &[u8],
+    ty: u32,
+    payload: &[u8],
+    sheet: &mut [u32],
+) -> Reading
     requires { ⌜ IsGood (now schema) ⌝ }
-    ensures { λ r. ⌜ Outcome.outcome r (now (sheet .exit)) ≡ payloadOutcome (now (schema .entry)) ty (now (payload .entry)) (now (sheet .entry)) ⌝ }
+    ensures { λ r. ⌜ Outcome.outcome r (now (sheet .exit)) ≡ shownOutcome (now (shown .entry)) (now (schema .entry)) ty (now (payload .entry)) (now (sheet .entry)) ⌝ }
 {
     let t = type_row(schema, ty as usize);
     if t.kind != 16 {
@@ -48,24 +56,33 @@ pub fn read_payload(schema: &[u8], ty: u32, payload: &[u8], sheet: &mut [u32]) -
     }
     let first = t.a as usize;
     let n = t.b as usize;
-    match root(schema, payload, &mut sheet[..0], ty, first, n, true) {
+    match root(shown, schema, payload, &mut sheet[..0], ty, first, n, true) {
         Walk::Refused { number, place } => Reading::Refused { number, place },
-        Walk::Past { next, row } => {
+        Walk::Past { due, next, row } => {
             if sheet.len() / 4 < row {
                 return Reading::Refused {
                     number: 30,
                     place: 0,
                 };
             }
-            root(schema, payload, sheet, ty, first, n, false);
+            root(shown, schema, payload, sheet, ty, first, n, false);
             Reading::Shown {
                 rows: row,
                 tail_place: next,
                 tail_length: payload.len() - next,
-                comparisons: rows_due(schema, sheet, row),
+                comparisons: due as usize,
             }
         }
     }
+}
+
+// Reads a payload as a struct of type ty by a good table. A struct has at most 64 fields, so all are shown.
+pub fn read_payload(schema: &[u8], ty: u32, payload: &[u8], sheet: &mut [u32]) -> Reading
+    requires { ⌜ IsGood (now schema) ⌝ }
+    ensures { λ r. ⌜ Outcome.outcome r (now (sheet .exit)) ≡ payloadOutcome (now (schema .entry)) ty (now (payload .entry)) (now (sheet .entry)) ⌝ }
+{
+    let all = [64u8; 256];
+    read_shown(&all, schema, ty, payload, sheet)
 }
 
 // Reads a payload by any table: the table's own refusal comes first.

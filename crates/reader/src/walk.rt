@@ -1,79 +1,41 @@
-// The walkers: a value, and the arrays, maps and structs that hold values, call each other in a cycle; the depth still allowed falls.
+// The walkers: arrays, maps and structs, and what they hold, call each other in a cycle; the depth still allowed falls.
 // They read the payload p by the schema table s and write a row for each value, from `row` on, where the sheet has it.
+// Of a struct of type ty the first shown[ty] fields are shown: the others are read, and have no rows.
 // A walk that does not judge trusts that the same walk has been judged: it skips the tests that would read contents again.
+use crate::keys::is_again;
 use crate::leaf::Count;
 use crate::leaf::Head;
 use crate::leaf::Span;
 use crate::leaf::content;
+use crate::leaf::ones_in;
 use crate::leaf::presence;
 use crate::leaf::read_count;
+use crate::leaf::shown_of;
 use crate::sheet::put_row;
-use parts::key::is_repeated;
 use schema::TypeRow;
 use schema::access::field;
 use schema::access::type_row;
+use wire::bitmap::low_bits;
 ghost use mathlib.Core.Path.{_≡_};
-ghost use mathlib.Core.Bool.{false};
+ghost use mathlib.Core.Bool.{true};
 ghost use Prim.Native.Nat.{suc, _+_, _/_, _≤_, _<_};
-ghost use lib.ListN.{length};
+ghost use lib.ListN.{length, getD};
 ghost use Rattle.schema.specs.Table.{rowAt, array, map, struct};
 ghost use Rattle.schema.specs.File.{tableOf};
-ghost use Rattle.value.specs.Value.{rows};
 ghost use Rattle.value.specs.Read.{present};
 ghost use Rattle.parts.specs.Shape.{fieldsFrom, shapeIn};
-ghost use Rattle.reader.specs.Walk.{valueIn, wholeIn, rootIn, Walked, Ready};
+ghost use Rattle.reader.specs.Walk.{valueIn, wholeIn, rootIn, Valued, Held, HeldLeaves, Shown, Rooted, Ready};
 
-// The place and the row after what was read, or a refusal.
+// The place and the row after what was read, and the key comparisons due in it; or a refusal.
+// The narrow number comes first: two wide ones side by side would be moved as one, and wait for both.
 pub enum Walk {
-    Past { next: usize, row: usize },
+    Past { due: u32, next: usize, row: usize },
     Refused { number: u32, place: usize },
-}
-
-// A value of type ty at a place, with so many levels of depth still allowed.
-fn value(
-    s: &[u8],
-    p: &[u8],
-    sheet: &mut [u32],
-    ty: u32,
-    at: usize,
-    depth: usize,
-    row: usize,
-    judge: bool,
-) -> Walk
-    requires { ⌜ Ready (now s) (now p) at row judge (valueIn (now s) (now p) depth ty at) ⌝ }
-    ensures { λ r. ⌜ Walked (now (p .entry)) (at + 1) rows (valueIn (now (s .entry)) (now (p .entry)) depth ty at) row (now (sheet .entry)) r (now (sheet .exit)) ⌝ }
-{
-    if depth == 0 {
-        return Walk::Refused {
-            number: 28,
-            place: at,
-        };
-    }
-    let t = type_row(s, ty as usize);
-    let kind = t.kind as usize;
-    if kind == 0 {
-        return Walk::Refused {
-            number: 42,
-            place: 0,
-        };
-    }
-    if 13 < kind {
-        return composite(s, p, sheet, ty, t, at, depth - 1, row, judge);
-    }
-    match content(p, kind, at, judge) {
-        Span::Bad { number, place } => Walk::Refused { number, place },
-        Span::At { from, to } => {
-            put_row(sheet, row, ty, from, to - from, 0);
-            Walk::Past {
-                next: to,
-                row: row + 1,
-            }
-        }
-    }
 }
 
 // An array, a map or a struct of type ty, whose row is t; what it holds has so many levels of depth.
 fn composite(
+    shown: &[u8; 256],
     s: &[u8],
     p: &[u8],
     sheet: &mut [u32],
@@ -85,17 +47,18 @@ fn composite(
     judge: bool,
 ) -> Walk
     requires { ⌜ Ready (now s) (now p) at row judge (valueIn (now s) (now p) (suc depth) ty at) × (t ≡ rowAt (tableOf (now s)) ty) × (13 < t .kind) ⌝ }
-    ensures { λ r. ⌜ Walked (now (p .entry)) (at + 1) rows (valueIn (now (s .entry)) (now (p .entry)) (suc depth) ty at) row (now (sheet .entry)) r (now (sheet .exit)) ⌝ }
+    ensures { λ r. ⌜ Valued (now (shown .entry)) (now (s .entry)) (now (p .entry)) (suc depth) ty at row (now (sheet .entry)) r (now (sheet .exit)) ⌝ }
 {
     let kind = t.kind;
     if kind == 14 {
-        return array(s, p, sheet, ty, t.a, at, depth, row, judge);
+        return array(shown, s, p, sheet, ty, t.a, at, depth, row, judge);
     }
     if kind == 15 {
-        return mapping(s, p, sheet, ty, t.a, t.b, at, depth, row, judge);
+        return mapping(shown, s, p, sheet, ty, t.a, t.b, at, depth, row, judge);
     }
     if kind == 16 {
         return structure(
+            shown,
             s,
             p,
             sheet,
@@ -116,6 +79,7 @@ fn composite(
 
 // An array of type ty, whose elements have the type elem.
 fn array(
+    shown: &[u8; 256],
     s: &[u8],
     p: &[u8],
     sheet: &mut [u32],
@@ -127,7 +91,7 @@ fn array(
     judge: bool,
 ) -> Walk
     requires { ⌜ Ready (now s) (now p) at row judge (valueIn (now s) (now p) (suc depth) ty at) × (shapeIn (now s) ty ≡ array elem) × (0 < rowAt (tableOf (now s)) elem .kind) ⌝ }
-    ensures { λ r. ⌜ Walked (now (p .entry)) (at + 1) rows (valueIn (now (s .entry)) (now (p .entry)) (suc depth) ty at) row (now (sheet .entry)) r (now (sheet .exit)) ⌝ }
+    ensures { λ r. ⌜ Valued (now (shown .entry)) (now (s .entry)) (now (p .entry)) (suc depth) ty at row (now (sheet .entry)) r (now (sheet .exit)) ⌝ }
 {
     match read_count(p, at, 1) {
         Count::Not { number } => Walk::Refused { number, place: at },
@@ -140,6 +104,7 @@ fn array(
             let mut left = n;
             let mut here = start;
             let mut below = row + 1;
+            let mut sum: u32 = 0;
             while 0 < left {
                 if depth == 0 {
                     return Walk::Refused {
@@ -147,19 +112,21 @@ fn array(
                         place: here,
                     };
                 }
-                match composite(s, p, sheet, elem, t, here, depth - 1, below, judge) {
+                match composite(shown, s, p, sheet, elem, t, here, depth - 1, below, judge) {
                     Walk::Refused { number, place } => {
                         return Walk::Refused { number, place };
                     }
-                    Walk::Past { next, row } => {
+                    Walk::Past { due, next, row } => {
                         here = next;
                         below = row;
+                        sum = sum + due;
                     }
                 }
                 left = left - 1;
             }
             put_row(sheet, row, ty, start, here - start, n);
             Walk::Past {
+                due: sum,
                 next: here,
                 row: below,
             }
@@ -182,7 +149,7 @@ fn leaves(
 ) -> Walk
     requires { ⌜ Ready (now s) (now p) start (row + 1) judge (wholeIn (now s) (now p) depth ty (array elem) start n start) ⌝ }
     requires { ⌜ (0 < rowAt (tableOf (now s)) elem .kind) × (rowAt (tableOf (now s)) elem .kind < 14) × (n ≤ 16384) ⌝ }
-    ensures { λ r. ⌜ Walked (now (p .entry)) start rows (wholeIn (now (s .entry)) (now (p .entry)) depth ty (array elem) start n start) row (now (sheet .entry)) r (now (sheet .exit)) ⌝ }
+    ensures { λ r. ⌜ HeldLeaves (now (s .entry)) (now (p .entry)) depth ty (array elem) start n start row (now (sheet .entry)) r (now (sheet .exit)) ⌝ }
 {
     let t = type_row(s, elem as usize);
     let kind = t.kind as usize;
@@ -210,13 +177,15 @@ fn leaves(
     }
     put_row(sheet, row, ty, start, here - start, n);
     Walk::Past {
+        due: 0,
         next: here,
         row: below,
     }
 }
 
-// A map of type ty, of at most 64 pairs. Its keys are kept in an array, a short one where there are few.
+// A map of type ty, of at most 64 pairs. Its keys are kept in an array where they are judged, a short one where there are few.
 fn mapping(
+    shown: &[u8; 256],
     s: &[u8],
     p: &[u8],
     sheet: &mut [u32],
@@ -229,8 +198,8 @@ fn mapping(
     judge: bool,
 ) -> Walk
     requires { ⌜ Ready (now s) (now p) at row judge (valueIn (now s) (now p) (suc depth) ty at) × (shapeIn (now s) ty ≡ map key val) ⌝ }
-    requires { ⌜ (0 < rowAt (tableOf (now s)) key .kind) × (rowAt (tableOf (now s)) key .kind < 14) ⌝ }
-    ensures { λ r. ⌜ Walked (now (p .entry)) (at + 1) rows (valueIn (now (s .entry)) (now (p .entry)) (suc depth) ty at) row (now (sheet .entry)) r (now (sheet .exit)) ⌝ }
+    requires { ⌜ (0 < rowAt (tableOf (now s)) key .kind) × (rowAt (tableOf (now s)) key .kind < 14) × (0 < rowAt (tableOf (now s)) val .kind) ⌝ }
+    ensures { λ r. ⌜ Valued (now (shown .entry)) (now (s .entry)) (now (p .entry)) (suc depth) ty at row (now (sheet .entry)) r (now (sheet .exit)) ⌝ }
 {
     match read_count(p, at, 2) {
         Count::Not { number } => Walk::Refused { number, place: at },
@@ -241,9 +210,18 @@ fn mapping(
                     place: at,
                 };
             }
-            if n <= 8 {
-                let mut keys = [0usize; 16];
+            if n == 0 {
+                put_row(sheet, row, ty, start, 0, 0);
+                return Walk::Past {
+                    due: 0,
+                    next: start,
+                    row: row + 1,
+                };
+            }
+            if !judge {
+                let mut keys = [0usize; 0];
                 return pairs(
+                    shown,
                     s,
                     p,
                     sheet,
@@ -258,12 +236,29 @@ fn mapping(
                     judge,
                 );
             }
-            let mut keys = [0usize; 128];
-            pairs(
+            if n <= 8 {
+                let mut keys = [0usize; 16];
+                return pairs(
+                    shown,
+                    s,
+                    p,
+                    sheet,
+                    &mut keys,
+                    ty,
+                    key,
+                    val,
+                    n,
+                    start,
+                    depth,
+                    row,
+                    judge,
+                );
+            }
+            many(
+                shown,
                 s,
                 p,
                 sheet,
-                &mut keys,
                 ty,
                 key,
                 val,
@@ -277,8 +272,46 @@ fn mapping(
     }
 }
 
+// The n pairs of a map, of more than a few. The long array stands here, so that no other map has to clear it.
+fn many(
+    shown: &[u8; 256],
+    s: &[u8],
+    p: &[u8],
+    sheet: &mut [u32],
+    ty: u32,
+    key: u32,
+    val: u32,
+    n: usize,
+    start: usize,
+    depth: usize,
+    row: usize,
+    judge: bool,
+) -> Walk
+    requires { ⌜ Ready (now s) (now p) start (row + 1) judge (wholeIn (now s) (now p) depth ty (map key val) start n start) ⌝ }
+    requires { ⌜ (0 < rowAt (tableOf (now s)) key .kind) × (rowAt (tableOf (now s)) key .kind < 14) × (0 < rowAt (tableOf (now s)) val .kind) × (0 < n) × (n ≤ 64) ⌝ }
+    ensures { λ r. ⌜ Held (now (shown .entry)) (now (s .entry)) (now (p .entry)) depth ty (map key val) start n start row (now (sheet .entry)) r (now (sheet .exit)) ⌝ }
+{
+    let mut keys = [0usize; 128];
+    pairs(
+        shown,
+        s,
+        p,
+        sheet,
+        &mut keys,
+        ty,
+        key,
+        val,
+        n,
+        start,
+        depth,
+        row,
+        judge,
+    )
+}
+
 // The n pairs of a map from a place on. What `keys` holds afterwards means nothing.
 fn pairs(
+    shown: &[u8; 256],
     s: &[u8],
     p: &[u8],
     sheet: &mut [u32],
@@ -293,14 +326,16 @@ fn pairs(
     judge: bool,
 ) -> Walk
     requires { ⌜ Ready (now s) (now p) start (row + 1) judge (wholeIn (now s) (now p) depth ty (map key val) start n start) ⌝ }
-    requires { ⌜ (0 < rowAt (tableOf (now s)) key .kind) × (rowAt (tableOf (now s)) key .kind < 14) × (n ≤ length (now keys) / 2) × (n ≤ 64) ⌝ }
-    ensures { λ r. ⌜ Walked (now (p .entry)) start rows (wholeIn (now (s .entry)) (now (p .entry)) depth ty (map key val) start n start) row (now (sheet .entry)) r (now (sheet .exit)) ⌝ }
+    requires { ⌜ (0 < rowAt (tableOf (now s)) key .kind) × (rowAt (tableOf (now s)) key .kind < 14) × (0 < rowAt (tableOf (now s)) val .kind) × (0 < n) × (n ≤ 64) ⌝ }
+    requires { ⌜ (judge ≡ true → n ≤ length (now keys) / 2) ⌝ }
+    ensures { λ r. ⌜ Held (now (shown .entry)) (now (s .entry)) (now (p .entry)) depth ty (map key val) start n start row (now (sheet .entry)) r (now (sheet .exit)) ⌝ }
 {
-    let t = type_row(s, key as usize);
-    let kind = t.kind as usize;
+    let k = type_row(s, key as usize);
+    let v = type_row(s, val as usize);
     let mut i = 0;
     let mut here = start;
     let mut below = row + 1;
+    let mut sum: u32 = 0;
     while i < n {
         if depth == 0 {
             return Walk::Refused {
@@ -308,25 +343,39 @@ fn pairs(
                 place: here,
             };
         }
-        match content(p, kind, here, judge) {
+        match content(p, k.kind as usize, here, judge) {
             Span::Bad { number, place } => {
                 return Walk::Refused { number, place };
             }
             Span::At { from, to } => {
-                if is_repeated(p, keys, i, from, to - from, judge) {
+                if is_again(p, keys, i, from, to - from, judge) {
                     return Walk::Refused {
                         number: 24,
                         place: here,
                     };
                 }
                 put_row(sheet, below, key, from, to - from, 0);
-                match value(s, p, sheet, val, to, depth, below + 1, judge) {
-                    Walk::Refused { number, place } => {
-                        return Walk::Refused { number, place };
+                if 13 < v.kind {
+                    match composite(shown, s, p, sheet, val, v, to, depth - 1, below + 1, judge) {
+                        Walk::Refused { number, place } => {
+                            return Walk::Refused { number, place };
+                        }
+                        Walk::Past { due, next, row } => {
+                            here = next;
+                            below = row;
+                            sum = sum + due;
+                        }
                     }
-                    Walk::Past { next, row } => {
-                        here = next;
-                        below = row;
+                } else {
+                    match content(p, v.kind as usize, to, judge) {
+                        Span::Bad { number, place } => {
+                            return Walk::Refused { number, place };
+                        }
+                        Span::At { from, to } => {
+                            put_row(sheet, below + 1, val, from, to - from, 0);
+                            here = to;
+                            below = below + 2;
+                        }
                     }
                 }
             }
@@ -335,6 +384,7 @@ fn pairs(
     }
     put_row(sheet, row, ty, start, here - start, n);
     Walk::Past {
+        due: sum + (n * (n - 1) / 2) as u32,
         next: here,
         row: below,
     }
@@ -342,6 +392,7 @@ fn pairs(
 
 // An inner struct of type ty, which has n fields from the first on. An unknown bit is refused.
 fn structure(
+    shown: &[u8; 256],
     s: &[u8],
     p: &[u8],
     sheet: &mut [u32],
@@ -355,7 +406,7 @@ fn structure(
 ) -> Walk
     requires { ⌜ Ready (now s) (now p) at row judge (valueIn (now s) (now p) (suc depth) ty at) × (shapeIn (now s) ty ≡ struct (fieldsFrom (tableOf (now s)) first n)) ⌝ }
     requires { ⌜ (0 < n) × (n ≤ 64) × (first + n ≤ length (tableOf (now s) .fields)) ⌝ }
-    ensures { λ r. ⌜ Walked (now (p .entry)) (at + 1) rows (valueIn (now (s .entry)) (now (p .entry)) (suc depth) ty at) row (now (sheet .entry)) r (now (sheet .exit)) ⌝ }
+    ensures { λ r. ⌜ Valued (now (shown .entry)) (now (s .entry)) (now (p .entry)) (suc depth) ty at row (now (sheet .entry)) r (now (sheet .exit)) ⌝ }
 {
     match presence(s, p, first, n, at, judge) {
         Head::Fault { number } => Walk::Refused { number, place: at },
@@ -372,7 +423,27 @@ fn structure(
                     place: at,
                 };
             }
+            let m = shown_of(shown, ty);
+            if m < n {
+                return partial(
+                    shown,
+                    s,
+                    p,
+                    sheet,
+                    ty,
+                    first,
+                    n,
+                    m,
+                    known,
+                    at,
+                    start,
+                    depth,
+                    row,
+                    judge,
+                );
+            }
             fields(
+                shown,
                 s,
                 p,
                 sheet,
@@ -394,6 +465,7 @@ fn structure(
 // The fields of a struct whose bits are set in `known`, from `start` on, and the struct's own row: its bitmap stands at `place`.
 // Most fields are scalars, strings or bytes: these are read in the loop itself, without a call of their own.
 fn fields(
+    shown: &[u8; 256],
     s: &[u8],
     p: &[u8],
     sheet: &mut [u32],
@@ -410,13 +482,14 @@ fn fields(
 ) -> Walk
     requires { ⌜ Ready (now s) (now p) start (row + 1) judge (wholeIn (now s) (now p) depth ty (struct (fieldsFrom (tableOf (now s)) first n)) place known start) ⌝ }
     requires { ⌜ (first + n ≤ length (tableOf (now s) .fields)) × (place ≤ start) × (count ≤ 64) × (count ≡ length (present (fieldsFrom (tableOf (now s)) first n) known)) ⌝ }
-    ensures { λ r. ⌜ Walked (now (p .entry)) start rows (wholeIn (now (s .entry)) (now (p .entry)) depth ty (struct (fieldsFrom (tableOf (now (s .entry))) first n)) place known start) row (now (sheet .entry)) r (now (sheet .exit)) ⌝ }
+    ensures { λ r. ⌜ Held (now (shown .entry)) (now (s .entry)) (now (p .entry)) depth ty (struct (fieldsFrom (tableOf (now (s .entry))) first n)) place known start row (now (sheet .entry)) r (now (sheet .exit)) ⌝ }
 {
     let mut i = first;
     let mut left = n;
     let mut bits = known;
     let mut here = start;
     let mut below = row + 1;
+    let mut sum: u32 = 0;
     while 0 < left {
         if bits % 2 == 1 {
             if depth == 0 {
@@ -428,13 +501,14 @@ fn fields(
             let f = field(s, i);
             let t = type_row(s, f.ty as usize);
             if 13 < t.kind {
-                match composite(s, p, sheet, f.ty, t, here, depth - 1, below, judge) {
+                match composite(shown, s, p, sheet, f.ty, t, here, depth - 1, below, judge) {
                     Walk::Refused { number, place } => {
                         return Walk::Refused { number, place };
                     }
-                    Walk::Past { next, row } => {
+                    Walk::Past { due, next, row } => {
                         here = next;
                         below = row;
+                        sum = sum + due;
                     }
                 }
             } else {
@@ -456,13 +530,148 @@ fn fields(
     }
     put_row(sheet, row, ty, place, here - place, count);
     Walk::Past {
+        due: sum,
         next: here,
         row: below,
     }
 }
 
+// The fields of a struct of which m are shown, fewer than it has: the others are read without a row. The struct's own row is written again, with its whole length.
+fn partial(
+    shown: &[u8; 256],
+    s: &[u8],
+    p: &[u8],
+    sheet: &mut [u32],
+    ty: u32,
+    first: usize,
+    n: usize,
+    m: usize,
+    known: u64,
+    place: usize,
+    start: usize,
+    depth: usize,
+    row: usize,
+    judge: bool,
+) -> Walk
+    requires { ⌜ Ready (now s) (now p) start (row + 1) judge (wholeIn (now s) (now p) depth ty (struct (fieldsFrom (tableOf (now s)) first n)) place known start) ⌝ }
+    requires { ⌜ (shapeIn (now s) ty ≡ struct (fieldsFrom (tableOf (now s)) first n)) × (n ≤ 64) × (first + n ≤ length (tableOf (now s) .fields)) × (place ≤ start) ⌝ }
+    requires { ⌜ (m ≡ getD (now shown) ty 0) × (m < n) ⌝ }
+    ensures { λ r. ⌜ Shown (now (shown .entry)) (now (s .entry)) (now (p .entry)) depth ty (fieldsFrom (tableOf (now (s .entry))) first n) place known start row (now (sheet .entry)) r (now (sheet .exit)) ⌝ }
+{
+    let mine = low_bits(known, m);
+    let count = ones_in(mine);
+    match fields(
+        shown,
+        s,
+        p,
+        sheet,
+        ty,
+        first,
+        m,
+        mine,
+        count,
+        place,
+        start,
+        depth,
+        row,
+        judge,
+    ) {
+        Walk::Refused { number, place } => Walk::Refused { number, place },
+        Walk::Past {
+            due: sum,
+            next: here,
+            row: below,
+        } => {
+            let rest = low_bits(known >> m, n - m);
+            match fields(
+                shown,
+                s,
+                p,
+                &mut sheet[..0],
+                ty,
+                first + m,
+                n - m,
+                rest,
+                ones_in(rest),
+                here,
+                here,
+                depth,
+                row,
+                judge,
+            ) {
+                Walk::Refused { number, place } => Walk::Refused { number, place },
+                Walk::Past { due, next, row: _ } => {
+                    put_row(sheet, row, ty, place, next - place, count);
+                    Walk::Past {
+                        due: sum + due,
+                        next: next,
+                        row: below,
+                    }
+                }
+            }
+        }
+    }
+}
+
+// The fields of the root, all of them or those that are shown.
+fn chosen(
+    shown: &[u8; 256],
+    s: &[u8],
+    p: &[u8],
+    sheet: &mut [u32],
+    ty: u32,
+    first: usize,
+    n: usize,
+    known: u64,
+    count: usize,
+    start: usize,
+    judge: bool,
+) -> Walk
+    requires { ⌜ Ready (now s) (now p) start 1 judge (wholeIn (now s) (now p) 15 ty (struct (fieldsFrom (tableOf (now s)) first n)) 0 known start) ⌝ }
+    requires { ⌜ (shapeIn (now s) ty ≡ struct (fieldsFrom (tableOf (now s)) first n)) × (n ≤ 64) × (first + n ≤ length (tableOf (now s) .fields)) ⌝ }
+    requires { ⌜ (count ≤ 64) × (count ≡ length (present (fieldsFrom (tableOf (now s)) first n) known)) ⌝ }
+    ensures { λ r. ⌜ Shown (now (shown .entry)) (now (s .entry)) (now (p .entry)) 15 ty (fieldsFrom (tableOf (now (s .entry))) first n) 0 known start 0 (now (sheet .entry)) r (now (sheet .exit)) ⌝ }
+{
+    let m = shown_of(shown, ty);
+    if m < n {
+        return partial(
+            shown,
+            s,
+            p,
+            sheet,
+            ty,
+            first,
+            n,
+            m,
+            known,
+            0,
+            start,
+            15,
+            0,
+            judge,
+        );
+    }
+    fields(
+        shown,
+        s,
+        p,
+        sheet,
+        ty,
+        first,
+        n,
+        known,
+        count,
+        0,
+        start,
+        15,
+        0,
+        judge,
+    )
+}
+
 // The root, a struct of type ty that has n fields from the first on. What follows its known fields is the tail, which is not read.
 pub fn root(
+    shown: &[u8; 256],
     s: &[u8],
     p: &[u8],
     sheet: &mut [u32],
@@ -472,8 +681,8 @@ pub fn root(
     judge: bool,
 ) -> Walk
     requires { ⌜ Ready (now s) (now p) 0 0 judge (rootIn (now s) (now p) ty (fieldsFrom (tableOf (now s)) first n)) ⌝ }
-    requires { ⌜ (0 < n) × (n ≤ 64) × (first + n ≤ length (tableOf (now s) .fields)) ⌝ }
-    ensures { λ r. ⌜ Walked (now (p .entry)) 1 rows (rootIn (now (s .entry)) (now (p .entry)) ty (fieldsFrom (tableOf (now (s .entry))) first n)) 0 (now (sheet .entry)) r (now (sheet .exit)) ⌝ }
+    requires { ⌜ (shapeIn (now s) ty ≡ struct (fieldsFrom (tableOf (now s)) first n)) × (0 < n) × (n ≤ 64) × (first + n ≤ length (tableOf (now s) .fields)) ⌝ }
+    ensures { λ r. ⌜ Rooted (now (shown .entry)) (now (s .entry)) (now (p .entry)) ty (fieldsFrom (tableOf (now (s .entry))) first n) (now (sheet .entry)) r (now (sheet .exit)) ⌝ }
 {
     match presence(s, p, first, n, 0, judge) {
         Head::Fault { number } => Walk::Refused { number, place: 0 },
@@ -483,23 +692,9 @@ pub fn root(
             count,
             unknown,
             start,
-        } => match fields(
-            s,
-            p,
-            sheet,
-            ty,
-            first,
-            n,
-            known,
-            count,
-            0,
-            start,
-            15,
-            0,
-            judge,
-        ) {
+        } => match chosen(shown, s, p, sheet, ty, first, n, known, count, start, judge) {
             Walk::Refused { number, place } => Walk::Refused { number, place },
-            Walk::Past { next, row } => {
+            Walk::Past { due, next, row } => {
                 let rest = p.len() - next;
                 if unknown == 0 {
                     if rest != 0 {
@@ -515,7 +710,7 @@ pub fn root(
                         place: next,
                     };
                 }
-                Walk::Past { next, row }
+                Walk::Past { due, next, row }
             }
         },
     }

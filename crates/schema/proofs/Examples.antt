@@ -10,7 +10,7 @@ use Rattle.schema.specs.declared.Extended.the-variants.{Yes, No}
 use Rattle.schema.specs.Table.{Table}
 use Rattle.schema.specs.File.{cell, shaped, layoutOf, tabulate, emptyTable, tableOf}
 use Rattle.schema.specs.Check.{lowest, goodRow, goodField, findAmong, goodMethod, small, badRow, badField, badMethod, checkedTable, checked}
-use Rattle.schema.specs.Extend.{every, fieldKept, rowKept, methodKept, extended, extension}
+use Rattle.schema.specs.Extend.{every, fieldKept, rowKept, methodKept, widened, bitmapKept, extended, extension}
 
 -- Type 0 uint8, 1 string, 2 struct (0, optional 1), 3 array of 2, 4 struct (3, optional 0). Method 1, 2, 3 is YYNN, input 2, output 4.
 abbrev pub T : Table
@@ -142,11 +142,11 @@ longer =
 
 -- It extends T, and T does not extend it.
 pub T-extended : extension file longer ≡ Yes
-unfolding little cell shaped layoutOf tabulate tableOf lowest goodRow goodField findAmong goodMethod small badRow badField badMethod checkedTable checked every fieldKept rowKept methodKept extended extension
+unfolding little cell shaped layoutOf tabulate tableOf lowest goodRow goodField findAmong goodMethod small badRow badField badMethod checkedTable checked every fieldKept rowKept methodKept widened bitmapKept extended extension
 T-extended = refl
 
 pub T-shortened : extension longer file ≡ No
-unfolding little cell shaped layoutOf tabulate tableOf lowest goodRow goodField findAmong goodMethod small badRow badField badMethod checkedTable checked every fieldKept rowKept methodKept extended extension
+unfolding little cell shaped layoutOf tabulate tableOf lowest goodRow goodField findAmong goodMethod small badRow badField badMethod checkedTable checked every fieldKept rowKept methodKept widened bitmapKept extended extension
 T-shortened = refl
 
 -- n optional fields of type 0; and the file whose type 0 is uint8 and whose type 1 is a struct of them.
@@ -163,5 +163,5 @@ structOf n =
 
 -- Seven fields may become eight, eight not nine.
 pub eight-fields : (extension (structOf 7) (structOf 8) ≡ Yes) × (extension (structOf 8) (structOf 9) ≡ No)
-unfolding little cell shaped layoutOf tabulate tableOf lowest goodRow goodField findAmong goodMethod small badRow badField badMethod checkedTable checked every fieldKept rowKept methodKept extended extension
+unfolding little cell shaped layoutOf tabulate tableOf lowest goodRow goodField findAmong goodMethod small badRow badField badMethod checkedTable checked every fieldKept rowKept methodKept widened bitmapKept extended extension
 eight-fields = (refl, refl)

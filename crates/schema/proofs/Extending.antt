@@ -3,7 +3,7 @@
 use mathlib.Core.Path.{_≡_, refl, sym, ap, _∙_}
 use mathlib.Core.Logic.{⊎-elim, _↔_}
 use mathlib.Core.Bool.{Bool, true, false, cond, _&&_}
-use mathlib.Core.List.{List, _++_}
+use mathlib.Core.List.{List, [], _++_, append-nil}
 use Prim.Native.Nat.{ℕ, _+_, _-_, _≤_, _<_}
 use native.Mathlib.Omega.{arith}
 use lib.ListN.{length, getD, take, drop, length-append, length-drop, take-append-drop, List·getD-append}
@@ -17,15 +17,16 @@ use Rattle.schema.specs.declared.Method.{Method}
 use Rattle.schema.specs.declared.Found.{Found}
 use Rattle.schema.specs.declared.Found.the-variants.{At, Missing}
 use Rattle.schema.specs.declared.Extended.the-variants.{Yes, No}
-use Rattle.schema.specs.Table.{Table, scalar, text, array, map, rowAt, fieldsOf, shape, bitmapBytes}
+use Rattle.schema.specs.Table.{Table, scalar, text, array, map, struct, rowAt, fieldsOf, shape, bitmapBytes}
 use Rattle.schema.specs.File.{tableOf}
 use Rattle.schema.specs.Check.{noField, methodRow, findMethod, IsGood}
 use Rattle.schema.specs.Good.{GoodRow, GoodTable}
-use Rattle.schema.specs.Extend.{KeepsFields, KeepsRow, Extends, Grows, same, gains, every, sameField, fieldKept, structKept, rowKept, rowsKept, sameMethod, sameAt, methodKept, methodsKept, extended, extension}
+use Rattle.schema.specs.Extend.{KeepsFields, KeepsRow, Widens, Extends, Grows, SameBytes, same, gains, every}
+use Rattle.schema.specs.Extend.{sameField, fieldKept, structKept, rowKept, rowsKept, sameMethod, sameAt, methodKept, methodsKept, widened, bitmapKept, bitmapsKept, extended, extension}
 use Rattle.schema.proofs.Bools.{cases, clash, and-left, and-right, and-i}
 use Rattle.schema.proofs.Lowest.{every-all, all-every}
 use Rattle.schema.proofs.Goods.{Kinds, scalars, texts, arrays, maps, structs, kinds, good-table}
-use Rattle.schema.proofs.Shapes.{shape-scalar, shape-text, shape-array, shape-map, shape-struct, fields-length, fields-at}
+use Rattle.schema.proofs.Shapes.{shape-scalar, shape-text, shape-array, shape-map, shape-struct, fields-length, fields-at, kindOf, kind-of}
 use Rattle.schema.proofs.Methods.{found-named, finds-own}
 use Rattle.schema.proofs.Extensions.{kept-old, kept-new}
 
@@ -80,7 +81,6 @@ module _ (old new : Table) (r q : TypeRow) (room : r .a + r .b ≤ length (old .
       let n = fields-length old r room in
       let n′ = fields-length new q room′ in
       let le : r .b ≤ q .b = search tests in
-      let bits : bitmapBytes (q .b) ≡ bitmapBytes (r .b) = search tests in
       let all : every (fieldKept old new r q) (q .b) ≡ true = search tests in
       let each = every-all (fieldKept old new r q) (q .b) all in
       record {
@@ -100,7 +100,6 @@ module _ (old new : Table) (r q : TypeRow) (room : r .a + r .b ≤ length (old .
             let k′ : r .b ≤ length (fieldsOf old r) + i = omega arith in
             ap (λ (f : Field). f .optional) (getD-drop (length (fieldsOf old r)) (fieldsOf new q) i noField ∙ fields-at new q room′ _ k)
             ∙ eqb-true _ 1 (kept-new old new r q (length (fieldsOf old r) + i) _ refl k′ ∙ each _ k);
-        bitmap = rw (n, n′) bits;
       }
 
   fields-kept : KeepsFields (fieldsOf old r) (fieldsOf new q) → structKept old new r q ≡ true
@@ -108,9 +107,7 @@ module _ (old new : Table) (r q : TypeRow) (room : r .a + r .b ≤ length (old .
       let n = fields-length old r room in
       let n′ = fields-length new q room′ in
       let l : length (fieldsOf new q) ≡ length (fieldsOf old r) + length (h .gained) = ap length (h .kept) ∙ length-append (fieldsOf old r) (h .gained) in
-      let bits : bitmapBytes (q .b) ≡ bitmapBytes (r .b) = rw (n, n′) at (h .bitmap) in
       and-i _ _ (le-leb (r .b) (q .b) (omega arith))
-      (and-i _ _ (eq-eqb (bitmapBytes (q .b)) _ bits)
       (all-every _ (q .b)
       (λ i k.
       ⊎-elim
@@ -135,7 +132,7 @@ module _ (old new : Table) (r q : TypeRow) (room : r .a + r .b ≤ length (old .
       ∙ ap (λ (j : ℕ). getD (fieldsOf old r ++ h .gained) j noField) at-i
       ∙ getD-append-add (fieldsOf old r) (h .gained) (i - length (fieldsOf old r)) noField)
       ∙ h .optional _ m′))
-      (cases (ltb i (r .b))))))
+      (cases (ltb i (r .b)))))
 
 -- ---- a row, a method, a table
 
@@ -218,10 +215,10 @@ module _ (old new : Table) (g : GoodTable old) (g′ : GoodTable new) where
       sym (ap (λ (x : Method). findMethod new (x .«package») (x .service) (x .method)) e) ∙ finds-own new g′ j h in
       ap (sameAt new m) found ∙ ap (λ (x : Method). sameMethod x m) e ∙ method-same m
 
-  -- The test says yes exactly where the new table extends the old one.
-  pub extends-iff : extended old new ≡ true ↔ Extends old new
-  unfolding extended
-  extends-iff = (
+  -- The test says yes exactly where the new table extends the old one, but for the bitmaps.
+  pub widens-iff : widened old new ≡ true ↔ Widens old new
+  unfolding widened
+  widens-iff = (
     λ e.
         let le : length (old .types) ≤ length (new .types) = search tests in
         let rows : rowsKept old new ≡ true = search tests in
@@ -237,6 +234,38 @@ module _ (old new : Table) (g : GoodTable old) (g′ : GoodTable new) where
         (and-i _ _ (all-every _ (length (old .types)) (λ t h. row-kept t h (omega arith) (x .rows t h)))
         (all-every _ (length (old .methods)) (λ i h. let w = x .methods i h in method-kept (methodRow old i) (w .0) (w .1) (w .2)))),
   )
+
+  bitmap-iff : (r q : TypeRow) → bitmapKept r q ≡ true ↔ (r .kind ≡ 16 → bitmapBytes (q .b) ≡ bitmapBytes (r .b))
+  unfolding bitmapKept
+  bitmap-iff r q = (
+    λ e k. eqb-true _ _ (rw (eq-eqb (r .kind) 16 k) at e),
+    λ f. ⊎-elim (λ e. rw e (eq-eqb _ _ (f (eqb-true (r .kind) 16 e)))) (λ e. rw e) (cases (eqb (r .kind) 16)),
+  )
+
+  -- And here with the bitmaps.
+  pub extends-iff : extended old new ≡ true ↔ Extends old new
+  unfolding extended
+  extends-iff = (
+    λ e. record {
+      widens = widens-iff .0 (and-left _ (bitmapsKept old new) e);
+      bitmaps = λ t h. bitmap-iff (rowAt old t) (rowAt new t) .0 (every-all _ _ (and-right (widened old new) _ e) t h);
+    },
+    λ x. and-i _ _ (widens-iff .1 (x .widens)) (all-every _ (length (old .types)) (λ t h. bitmap-iff (rowAt old t) (rowAt new t) .1 (x .bitmaps t h))),
+  )
+
+-- Every table extends itself.
+pub widens-same : (T : Table) → Widens T T
+widens-same T = record {
+  types = omega arith;
+  rows = λ t h. record {
+    kind = refl;
+    element = λ e. refl;
+    key = λ e. refl;
+    value = λ e. refl;
+    fields = λ e. record { gained = []; kept = sym (append-nil (fieldsOf T (rowAt T t))); optional = λ i l. absurd (omega arith) };
+  };
+  methods = λ i h. (i, h, refl);
+}
 
 -- ---- the entry
 
@@ -268,7 +297,7 @@ module _ (old new : List ℕ) (g : IsGood old) (g′ : IsGood new) where
 
 -- ---- what an extended table keeps
 
-module _ (old new : Table) (g : GoodTable old) (g′ : GoodTable new) (x : Extends old new) where
+module _ (old new : Table) (g : GoodTable old) (g′ : GoodTable new) (x : Widens old new) where
   -- each type number keeps its shape, or its struct gains optional fields
   pub grows : (t : ℕ) → t < length (old .types) → Grows (shape old t) (shape new t)
   grows t h = go (kinds (rowAt old t .kind) (g .rows t h .kind .0) (g .rows t h .kind .1))
@@ -288,7 +317,7 @@ module _ (old new : Table) (g : GoodTable old) (g′ : GoodTable new) (x : Exten
       go (structs e) =
           let f = x .rows t h .fields e in
           rw (shape-struct old t e, shape-struct new t (k ∙ e), f .kept)
-          (gains (fieldsOf old (rowAt old t)) (f .gained) (f .optional) (rw (f .kept) at (f .bitmap)))
+          (gains (fieldsOf old (rowAt old t)) (f .gained) (f .optional))
 
   -- a method found in the old table is found in the new one, the same
   pub still-found : (p q r i : ℕ) → findMethod old p q r ≡ At i → (j : ℕ) × (findMethod new p q r ≡ At j) × (methodRow new j ≡ methodRow old i)
@@ -303,3 +332,17 @@ module _ (old new : Table) (g : GoodTable old) (g′ : GoodTable new) (x : Exten
       let ids : findMethod new (methodRow new (w .0) .«package») (methodRow new (w .0) .service) (methodRow new (w .0) .method) ≡ findMethod new p q r =
       ap (λ (m : Method). findMethod new (m .«package») (m .service) (m .method)) (w .2) ∙ (λ i. findMethod new (a i) (b i) (c i)) in
       (w .0, sym ids ∙ own, w .2)
+
+-- a struct has as many fields as its row says
+fields-counted : (T : Table) → GoodTable T → (t : ℕ) → t < length (T .types) → (fs : List Field) → shape T t ≡ struct fs → (rowAt T t .kind ≡ 16) × (length fs ≡ rowAt T t .b)
+fields-counted T g t h fs e =
+    let k : rowAt T t .kind ≡ 16 = sym (kind-of T g t) ∙ ap kindOf e in
+    let f : fs ≡ fieldsOf T (rowAt T t) = cc (shape-struct T t k) in
+    (k, ap length f ∙ fields-length T (rowAt T t) (g .rows t h .struct k .2))
+
+-- and its bitmap keeps its bytes, where the table extends the other
+pub same-bytes : (old new : Table) → GoodTable old → GoodTable new → Extends old new → (t : ℕ) → t < length (old .types) → SameBytes (shape old t) (shape new t)
+same-bytes old new g g′ x t h fs fs′ e e′ =
+    let a = fields-counted old g t h fs e in
+    let b = fields-counted new g′ t (omega (arith, x .widens .types)) fs′ e′ in
+    rw (a .1, b .1) (x .bitmaps t h (a .0))

@@ -1,7 +1,7 @@
 -- When a table extends another: the relation as its sentence is written, the test that decides it for good tables, and the entry's answer.
 -- Assumes nothing.
 use mathlib.Core.Path.{_≡_}
-use mathlib.Core.Bool.{Bool, false, cond, not, _&&_}
+use mathlib.Core.Bool.{Bool, false, cond, not, _&&_, _||_}
 use mathlib.Core.List.{List, _++_}
 use Prim.Native.Nat.{ℕ, _+_, _≤_, _<_}
 use lib.ListN.{length, getD}
@@ -21,12 +21,11 @@ use Rattle.schema.specs.Check.{noField, field, methodRow, lowest, isMiss
 
 -- ---- the relation
 
--- A struct keeps its fields in order with type and optionality and may gain optional fields at the end, the number of whole bytes of its bitmap staying the same.
+-- A struct keeps its fields in order with type and optionality and may gain optional fields at the end.
 pub record KeepsFields (old new : List Field) : Type 0 where
   pub gained : List Field
   pub kept : new ≡ old ++ gained
   pub optional : (i : ℕ) → i < length gained → getD gained i noField .optional ≡ 1
-  pub bitmap : bitmapBytes (length new) ≡ bitmapBytes (length old)
 
 -- A row keeps kind, element, key and value numbers; a struct keeps its fields.
 pub record KeepsRow (old new : Table) (t : ℕ) : Type 0 where
@@ -36,17 +35,25 @@ pub record KeepsRow (old new : Table) (t : ℕ) : Type 0 where
   pub value : rowAt old t .kind ≡ 15 → rowAt new t .b ≡ rowAt old t .b
   pub fields : rowAt old t .kind ≡ 16 → KeepsFields (fieldsOf old (rowAt old t)) (fieldsOf new (rowAt new t))
 
--- The new table has at least the old type rows, keeps each of them, and each old method entry is found in it unchanged.
-pub record Extends (old new : Table) : Type 0 where
+-- The new table has at least the old type rows, keeps each of them, and each old method entry is found in it unchanged. Bitmaps may grow.
+pub record Widens (old new : Table) : Type 0 where
   pub types : length (old .types) ≤ length (new .types)
   pub rows : (t : ℕ) → t < length (old .types) → KeepsRow old new t
   pub methods : (i : ℕ) → i < length (old .methods) → (j : ℕ) × (j < length (new .methods)) × (methodRow new j ≡ methodRow old i)
 
+-- The same, and the number of whole bytes of each old struct's bitmap stays the same: 01's extension.
+pub record Extends (old new : Table) : Type 0 where
+  pub widens : Widens old new
+  pub bitmaps : (t : ℕ) → t < length (old .types) → rowAt old t .kind ≡ 16 → bitmapBytes (rowAt new t .b) ≡ bitmapBytes (rowAt old t .b)
+
 -- What becomes of a shape: it stays, or a struct gains optional fields at its end.
 pub data Grows : Shape → Shape → Type 0 where
   same : (s : Shape) → Grows s s
-  gains : (fs gs : List Field) → ((i : ℕ) → i < length gs → getD gs i noField .optional ≡ 1)
-      → bitmapBytes (length (fs ++ gs)) ≡ bitmapBytes (length fs) → Grows (struct fs) (struct (fs ++ gs))
+  gains : (fs gs : List Field) → ((i : ℕ) → i < length gs → getD gs i noField .optional ≡ 1) → Grows (struct fs) (struct (fs ++ gs))
+
+-- A struct's bitmap keeps its number of whole bytes.
+abbrev pub SameBytes : Shape → Shape → Type 0
+SameBytes s s′ = (fs fs′ : List Field) → s ≡ struct fs → s′ ≡ struct fs′ → bitmapBytes (length fs′) ≡ bitmapBytes (length fs)
 
 -- ---- the test
 
@@ -63,8 +70,7 @@ fieldKept old new r q i =
     cond (ltb i (r .b)) (sameField (field new (q .a + i)) (field old (r .a + i))) (eqb (field new (q .a + i) .optional) 1)
 
 abbrev pub structKept : Table → Table → TypeRow → TypeRow → Bool
-structKept old new r q =
-    leb (r .b) (q .b) && (eqb (bitmapBytes (q .b)) (bitmapBytes (r .b)) && every (fieldKept old new r q) (q .b))
+structKept old new r q = leb (r .b) (q .b) && every (fieldKept old new r q) (q .b)
 
 unfoldable pub rowKept : Table → Table → TypeRow → TypeRow → Bool
 rowKept old new r q =
@@ -90,9 +96,19 @@ methodKept new m = sameAt new m (findMethod new (m .«package») (m .service) (m
 abbrev pub methodsKept : Table → Table → Bool
 methodsKept old new = every (λ i. methodKept new (methodRow old i)) (length (old .methods))
 
-unfoldable pub extended : Table → Table → Bool
-extended old new =
+unfoldable pub widened : Table → Table → Bool
+widened old new =
     leb (length (old .types)) (length (new .types)) && (rowsKept old new && methodsKept old new)
+
+-- The bitmap of a struct that had row r and has row q.
+unfoldable pub bitmapKept : TypeRow → TypeRow → Bool
+bitmapKept r q = not (eqb (r .kind) 16) || eqb (bitmapBytes (q .b)) (bitmapBytes (r .b))
+
+abbrev pub bitmapsKept : Table → Table → Bool
+bitmapsKept old new = every (λ t. bitmapKept (rowAt old t) (rowAt new t)) (length (old .types))
+
+unfoldable pub extended : Table → Table → Bool
+extended old new = widened old new && bitmapsKept old new
 
 -- ---- the entry
 

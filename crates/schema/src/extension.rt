@@ -17,7 +17,7 @@ ghost use Prim.Native.Nat.{_<_, _^_};
 ghost use Rattle.schema.specs.Table.{bitmapBytes};
 ghost use Rattle.schema.specs.File.{tableOf};
 ghost use Rattle.schema.specs.Check.{IsGood};
-ghost use Rattle.schema.specs.Extend.{every, sameField, fieldKept, structKept, rowKept, rowsKept, sameMethod, methodKept, methodsKept, extended, extension};
+ghost use Rattle.schema.specs.Extend.{every, sameField, fieldKept, structKept, rowKept, rowsKept, sameMethod, methodKept, methodsKept, widened, bitmapKept, bitmapsKept, extended, extension};
 
 fn same_field(f: Field, g: Field) -> bool
     ensures { λ x. ⌜ x ≡ sameField f g ⌝ }
@@ -53,18 +53,11 @@ fn keeps_fields(old: &[u8], new: &[u8], r: TypeRow, q: TypeRow) -> bool
     true
 }
 
-// The whole bytes of a bitmap with a bit for each of n fields.
-fn bitmap_bytes(n: u32) -> u64
-    ensures { λ x. ⌜ x ≡ bitmapBytes n ⌝ }
-{
-    ((n as u64) + 7) / 8
-}
-
 fn keeps_struct(old: &[u8], new: &[u8], r: TypeRow, q: TypeRow) -> bool
     requires { ⌜ IsGood (now old) × IsGood (now new) ⌝ }
     ensures { λ x. ⌜ x ≡ structKept (tableOf (now (old .entry))) (tableOf (now (new .entry))) r q ⌝ }
 {
-    (r.b <= q.b) & ((bitmap_bytes(q.b) == bitmap_bytes(r.b)) & keeps_fields(old, new, r, q))
+    (r.b <= q.b) & keeps_fields(old, new, r, q)
 }
 
 fn keeps_row(old: &[u8], new: &[u8], r: TypeRow, q: TypeRow) -> bool
@@ -133,11 +126,49 @@ fn keeps_methods(old: &[u8], new: &[u8]) -> bool
     true
 }
 
+// Whether a good table extends another, but for the bitmaps, which may grow.
+pub fn is_widened(old: &[u8], new: &[u8]) -> bool
+    requires { ⌜ IsGood (now old) × IsGood (now new) ⌝ }
+    ensures { λ x. ⌜ x ≡ widened (tableOf (now (old .entry))) (tableOf (now (new .entry))) ⌝ }
+{
+    (type_count(old) <= type_count(new)) & (keeps_rows(old, new) & keeps_methods(old, new))
+}
+
+// The whole bytes of a bitmap with a bit for each of n fields.
+fn bitmap_bytes(n: u32) -> u64
+    ensures { λ x. ⌜ x ≡ bitmapBytes n ⌝ }
+{
+    ((n as u64) + 7) / 8
+}
+
+fn keeps_bitmap(r: TypeRow, q: TypeRow) -> bool
+    ensures { λ x. ⌜ x ≡ bitmapKept r q ⌝ }
+{
+    !(r.kind == 16) | (bitmap_bytes(q.b) == bitmap_bytes(r.b))
+}
+
+fn keeps_bitmaps(old: &[u8], new: &[u8]) -> bool
+    requires { ⌜ IsGood (now old) × IsGood (now new) ⌝ }
+    ensures { λ x. ⌜ x ≡ bitmapsKept (tableOf (now (old .entry))) (tableOf (now (new .entry))) ⌝ }
+{
+    let n = type_count(old);
+    let mut i = 0;
+    while i < n {
+        let r = type_row(old, i);
+        let q = type_row(new, i);
+        if !keeps_bitmap(r, q) {
+            return false;
+        }
+        i += 1;
+    }
+    true
+}
+
 fn is_extended(old: &[u8], new: &[u8]) -> bool
     requires { ⌜ IsGood (now old) × IsGood (now new) ⌝ }
     ensures { λ x. ⌜ x ≡ extended (tableOf (now (old .entry))) (tableOf (now (new .entry))) ⌝ }
 {
-    (type_count(old) <= type_count(new)) & (keeps_rows(old, new) & keeps_methods(old, new))
+    is_widened(old, new) & keeps_bitmaps(old, new)
 }
 
 // The answer for any two files.

@@ -21,7 +21,7 @@ use Rattle.value.specs.Comparisons.{due, mapDue, comparisons, comparison
 use Rattle.value.specs.Spell.{HeadSpells, AllSpell, keysOf, Spells, RootSpells}
 use Rattle.value.specs.Fits.{LeafFits, HeadFits, AllFit, Fits, RootFits, Shows}
 use Rattle.schema.specs.Extend.{Grows, same, gains}
-use Rattle.value.proofs.Shapes.{Solid, Extension}
+use Rattle.value.proofs.Shapes.{Solid, Widening}
 use Rattle.value.proofs.Answers.{seen-end}
 use Rattle.value.proofs.Bits.{present-gain}
 use Rattle.value.proofs.Complete.{head-takes, takes, length-pairs}
@@ -197,9 +197,9 @@ module _ (S : ℕ → Shape) (solid : (t : ℕ) → Solid (S t)) where
 
 grown-same : {s s′ : Shape} → Grows s s′ → (h : ℕ) (u : List ℕ) → HeadSpells s h u → (plan s′ h ≡ plan s h) × (mapDue s′ h ≡ mapDue s h)
 grown-same (same _) h u q = (refl, refl)
-grown-same (gains fs gs o b) h u q = (present-gain fs gs h (q .1), refl)
+grown-same (gains fs gs o) h u q = (present-gain fs gs h (q .1), refl)
 
-module _ (S S′ : ℕ → Shape) (n : ℕ) (x : Extension S S′ n) where
+module _ (S S′ : ℕ → Shape) (n : ℕ) (x : Widening S S′ n) where
   all-same : (d : ℕ) → ((t : ℕ) (v : Value) (u : List ℕ) → t < n → Spells S d t v u → comparisons S′ v t ≡ comparisons S v t)
       → (is : List Item) (vs : Values) (u : List ℕ) → Below n is → AllSpell (Spells S d) is vs u → comparisonsAll S′ vs is ≡ comparisonsAll S vs is
   unfolding comparisonsAll

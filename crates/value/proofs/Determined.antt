@@ -13,15 +13,14 @@ use Rattle.wire.proofs.Cases.{differ}
 use Rattle.schema.specs.declared.Field.{Field}
 use Rattle.schema.specs.Table.{Shape, unknown, scalar, text, array, map, struct}
 use Rattle.value.specs.declared.Row.{Row}
-use Rattle.value.specs.Answer.{cursorAt}
+use Rattle.value.specs.Answer.{Cursor, seen, cursorAt}
 use Rattle.value.specs.Value.{Tree, tip, branch, Forest, stop, plus, rows, Value, leaf, node, Values, some, value, values}
-use Rattle.value.specs.Comparisons.{comparisons}
 use Rattle.value.specs.Read.{Item, plan, rootOf, accepted, reading}
 use Rattle.value.specs.Spell.{keysOf, Apart, WholeSpells, Spells, RootSpells}
 use Rattle.value.specs.Write.{span}
 use Rattle.value.specs.Fits.{LeafFits, HeadFits, AllFit, Fits, RootFits}
 use Rattle.value.specs.Delimits.{AllStand, NodeSpan, firstAt, Delimits, RootDelimits}
-use Rattle.value.specs.Claims.{Delimited}
+use Rattle.value.specs.Claims.{DelimitedTree, Delimited}
 use Rattle.value.proofs.Shapes.{Solid}
 use Rattle.value.proofs.Answers.{yields-end, seen-end}
 use Rattle.value.proofs.Spans.{length-span}
@@ -29,7 +28,7 @@ use Rattle.value.proofs.Complete.{takes, parse-complete}
 use Rattle.value.proofs.Root.{root-complete}
 use Rattle.value.proofs.Placed.{root-placed}
 use Rattle.value.proofs.Delimited.{joined, root-delimits}
-use Rattle.value.proofs.Reading.{accepts, accepted-of, root-in}
+use Rattle.value.proofs.Reading.{accepted-gives, gives-accepted, root-of, root-inv, root-in}
 
 -- ---- values that are the same
 
@@ -215,46 +214,35 @@ module _ (S : ℕ → Shape) (solid : (t : ℕ) → Solid (S t)) (B : List ℕ) 
 
 -- ---- the answer
 
-module _ (S : ℕ → Shape) (t : ℕ) (payload : List ℕ) (room : ℕ) (rs : List Row) (place n due : ℕ) where
-  -- What is accepted delimits the payload.
-  pub read-delimited : reading S t room (rootOf S t payload) ≡ accepted rs place n due → Delimited S t payload room rs place n due
-  read-delimited e =
-      let a = accepts S t payload room rs place n due e in
-      let f = seen-end (root-placed payload S t (a .fs) (cursorAt payload 0) (refl, zero-le)) (a .reads) in
-      let l = root-in S t (a .fs) payload (a .tree) (a .end) (a .reads) .1 in (
-        a .fs,
-        a .tree,
-        a .is-struct,
-        a .has-rows,
-        f .1,
-        rw (a .has-place) at (root-delimits payload S t (a .fs) (a .tree) (a .end) (a .reads)),
-        omega (arith, l, a .has-place, a .has-length),
-        a .has-due,
-        a .short,
-        a .fits,
-      )
+module _ (S : ℕ → Shape) (t : ℕ) (payload : List ℕ) where
+  -- What is read delimits the payload.
+  pub read-tree : (tree : Tree) (end : Cursor) → rootOf S t payload ≡ seen tree end → DelimitedTree S t payload tree (end .at) (length (end .left))
+  read-tree tree end e =
+      let (fs, st, k, short) = root-inv S t payload tree end e in
+      let f = seen-end (root-placed payload S t fs (cursorAt payload 0) (refl, zero-le)) k in
+      (fs, st, f .1, root-delimits payload S t fs tree end k, root-in S t fs payload tree end k .1, short)
 
-  root-spelled : (fs : List Field) (tree : Tree) → RootDelimits S payload fs tree place → RootSpells S fs (value tree) payload (drop place payload)
+  root-spelled : (fs : List Field) (tree : Tree) (place : ℕ) → RootDelimits S payload fs tree place → RootSpells S fs (value tree) payload (drop place payload)
   unfolding value
-  root-spelled fs (tip r x) d = absurd d
-  root-spelled fs (branch r h ts) d = d .0
+  root-spelled fs (tip r x) place d = absurd d
+  root-spelled fs (branch r h ts) place d = d .0
 
-  -- And what delimits the payload is accepted: no other rows do.
-  pub delimited-read : ((t : ℕ) → Solid (S t)) → Delimited S t payload room rs place n due → reading S t room (rootOf S t payload) ≡ accepted rs place n due
-  delimited-read solid (fs, tree, st, h, f, d, l, c, short, fits) =
-      let (read, end, e, _) = yields-end (root-complete S t fs solid (value tree) (drop place payload) (cursorAt payload 0) (root-spelled fs tree d)) in
+  -- And what delimits the payload is read: no other tree does.
+  pub tree-read : ((t : ℕ) → Solid (S t)) → (tree : Tree) (place n : ℕ) → DelimitedTree S t payload tree place n
+      → (end : Cursor) × (rootOf S t payload ≡ seen tree end) × (end .at ≡ place) × (length (end .left) ≡ n)
+  tree-read solid tree place n (fs, st, f, d, l, short) =
+      let (read, end, e, _) = yields-end (root-complete S t fs solid (value tree) (drop place payload) (cursorAt payload 0) (root-spelled fs tree place d)) in
       let g = seen-end (root-placed payload S t fs (cursorAt payload 0) (refl, zero-le)) e .1 in
       let w = determined S solid payload t fs read tree (end .at) place g f (root-delimits payload S t fs read end e) d in
-      accepted-of S t payload room rs place n due (record {
-        fs = fs;
-        tree = read;
-        end = end;
-        is-struct = st;
-        reads = e;
-        has-rows = ap rows (w .0) ∙ h;
-        has-place = w .1;
-        has-length = omega (arith, root-in S t fs payload read end e .1, w .1);
-        has-due = ap (λ (x : Tree). comparisons S (value x) t) (w .0) ∙ c;
-        short = short;
-        fits = fits;
-      })
+      (end, root-of S t payload fs st short ∙ e ∙ ap (λ (x : Tree). seen x end) (w .0), w .1, omega (arith, root-in S t fs payload read end e .1, w .1))
+
+module _ (S : ℕ → Shape) (t : ℕ) (payload : List ℕ) (room : ℕ) (rs : List Row) (place n due : ℕ) where
+  pub read-delimited : reading S t room (rootOf S t payload) ≡ accepted rs place n due → Delimited S t payload room rs place n due
+  read-delimited e =
+      let (tree, (end, k, r, p, l, c, f)) = accepted-gives rows S t room _ rs place n due e in
+      (tree, rw (p, l) at (read-tree S t payload tree end k), r, c, f)
+
+  pub delimited-read : ((t : ℕ) → Solid (S t)) → Delimited S t payload room rs place n due → reading S t room (rootOf S t payload) ≡ accepted rs place n due
+  delimited-read solid (tree, d, r, c, f) =
+      let (end, k, p, l) = tree-read S t payload solid tree place n d in
+      gives-accepted rows S t room _ rs place n due tree (end, k, r, p, l, c, f)

@@ -18,6 +18,7 @@ use Rattle.value.specs.Value as value
 use Rattle.value.specs.Comparisons as comparisons
 use Rattle.value.specs.Read as read
 use Rattle.value.specs.Read.{Reading, refusal, accepted}
+use Rattle.value.specs.Beside as beside
 use Rattle.value.specs.Spell as spell
 use Rattle.value.specs.Write as write
 use Rattle.value.specs.Write.{Writing, refusal as unwritten, written}
@@ -107,6 +108,66 @@ pub root-added : Hold rootAdded
     (accepted (row 4 0 5 2 ∷ row 3 2 2 1 ∷ row 2 2 2 1 ∷ row 0 3 1 0 ∷ row 0 4 1 0 ∷ []) 5 0 0) ∷ [])
 unfolding rootAdded answers
 root-added = refl
+
+-- ---- T beside another's table: the payload is read by theirs and shown by T
+
+-- T with seven fields more in the struct inside the array, so that its bitmap has two bytes, and with a struct of its own.
+unfoldable pub widened : Table
+widened = record {
+  types = type 6 0 0 ∷ type 12 0 0 ∷ type 16 0 9 ∷ type 14 2 0 ∷ type 16 9 2 ∷ type 16 0 1 ∷ [];
+  fields = field 0 0 ∷ field 1 1 ∷ (replicate 7 (field 0 1) ++ (field 3 0 ∷ field 0 1 ∷ []));
+  methods = [];
+}
+
+-- T with a map of uint8 to uint8 added to both structs.
+unfoldable pub mapAdded : Table
+mapAdded = record {
+  types = type 6 0 0 ∷ type 12 0 0 ∷ type 16 0 3 ∷ type 14 2 0 ∷ type 16 3 3 ∷ type 15 0 0 ∷ [];
+  fields = field 0 0 ∷ field 1 1 ∷ field 5 1 ∷ field 3 0 ∷ field 0 1 ∷ field 5 1 ∷ [];
+  methods = [];
+}
+
+abbrev innerCases : List Case
+innerCases =
+    -- P5 with room for the rows shown, and for one less.
+    case 4 (0x01 ∷ 0x02 ∷ 0x05 ∷ 0x00 ∷ 0x05 ∷ 0x01 ∷ 0x07 ∷ []) 6
+    (accepted (row 4 0 7 1 ∷ row 3 2 5 2 ∷ row 2 2 3 1 ∷ row 0 3 1 0 ∷ row 2 5 2 1 ∷ row 0 6 1 0 ∷ []) 7 0 0)
+    ∷ case 4 (0x01 ∷ 0x02 ∷ 0x05 ∷ 0x00 ∷ 0x05 ∷ 0x01 ∷ 0x07 ∷ []) 5 (refusal 30 0)
+    ∷ []
+
+abbrev rootCases : List Case
+rootCases =
+    -- P6 has no tail here; a bit that theirs does not know gives one, and is 26 in an inner struct; P8 lacks the added field; type 0 is no struct.
+    case 4 (0x05 ∷ 0x01 ∷ 0x01 ∷ 0x07 ∷ 0x09 ∷ []) 4 (accepted (row 4 0 5 1 ∷ row 3 2 2 1 ∷ row 2 2 2 1 ∷ row 0 3 1 0 ∷ []) 5 0 0)
+    ∷ case 4 (0x0D ∷ 0x01 ∷ 0x01 ∷ 0x07 ∷ 0x09 ∷ 0xAA ∷ []) 4 (accepted (row 4 0 5 1 ∷ row 3 2 2 1 ∷ row 2 2 2 1 ∷ row 0 3 1 0 ∷ []) 5 1 0)
+    ∷ case 4 (0x01 ∷ 0x01 ∷ 0x05 ∷ 0x07 ∷ 0x09 ∷ []) 4 (refusal 26 2)
+    ∷ case 4 (0x05 ∷ 0x01 ∷ 0x01 ∷ 0x07 ∷ []) 4 (refusal 20 4)
+    ∷ case 0 [] 4 (refusal 46 0)
+    ∷ []
+
+abbrev wideCases : List Case
+wideCases =
+    -- The known bits are those of the first byte, with an added field's bit in it and without; the struct that only theirs has is 46.
+    case 4 (0x01 ∷ 0x01 ∷ 0x05 ∷ 0x01 ∷ 0x07 ∷ 0xAA ∷ 0xBB ∷ []) 4 (accepted (row 4 0 7 1 ∷ row 3 2 5 1 ∷ row 2 2 5 1 ∷ row 0 4 1 0 ∷ []) 7 0 0)
+    ∷ case 4 (0x01 ∷ 0x01 ∷ 0x01 ∷ 0x01 ∷ 0x07 ∷ 0xBB ∷ []) 4 (accepted (row 4 0 6 1 ∷ row 3 2 4 1 ∷ row 2 2 4 1 ∷ row 0 4 1 0 ∷ []) 6 0 0)
+    ∷ case 5 (0x01 ∷ 0x07 ∷ []) 4 (refusal 46 0)
+    ∷ []
+
+abbrev mapCases : List Case
+mapCases =
+    -- An added map of three keys in the inner struct and one of two keys in the root: their comparisons are counted, 3 and 1. A key that comes
+    -- again in an added map is refused at its place, though the map is not shown.
+    case 4 (0x05 ∷ 0x01 ∷ 0x05 ∷ 0x07 ∷ 0x03 ∷ 0x01 ∷ 0x09 ∷ 0x02 ∷ 0x09 ∷ 0x03 ∷ 0x09 ∷ 0x02 ∷ 0x01 ∷ 0x09 ∷ 0x02 ∷ 0x09 ∷ []) 4
+    (accepted (row 4 0 16 1 ∷ row 3 2 9 1 ∷ row 2 2 9 1 ∷ row 0 3 1 0 ∷ []) 16 0 4)
+    ∷ case 4 (0x05 ∷ 0x00 ∷ 0x02 ∷ 0x01 ∷ 0x09 ∷ 0x01 ∷ 0x09 ∷ []) 4 (refusal 24 5)
+    ∷ []
+
+abbrev HoldBeside : Table → List Case → Type 0
+HoldBeside theirs cases = map (λ (c : Case). beside.readBeside T theirs (c .type) (c .payload) (c .room)) cases ≡ map (λ (c : Case). c .answer) cases
+
+pub beside-cases : HoldBeside innerAdded innerCases × HoldBeside rootAdded rootCases × HoldBeside widened wideCases × HoldBeside mapAdded mapCases
+unfolding T innerAdded rootAdded widened mapAdded beside.readBeside beside.pruned answers
+beside-cases = (refl, refl, refl, refl)
 
 -- 0 bool, 1 uint8, 2 string, 3 map of string to uint8, 4 array of itself, 5 struct (optional 5, 3, 2, 0, 4, 6), 6 struct of nine fields, the first
 -- a uint8, the others optional bools.
@@ -323,3 +384,16 @@ sheets =
 pub write-cases : map (λ (c : Sheet). write.write W (c .type) (c .rows) (c .over) (c .room)) sheets ≡ map (λ (c : Sheet). c .answer) sheets
 unfolding W write.write write.showRoot write.show write.rowOf write.nextRow write.bitsAt spell.encode little.little little.bytes varuint.shortest varuint.varuintBytes read.walk read.present read.complete table.shape answer.andThen answer.check utf8.run utf8.next utf8.leadOf utf8.rows value.value
 write-cases = refl
+
+-- The rows shown of T beside `widened`, written by T: the added field is left out, and the bitmap has T's one byte. Where an added field's bit stands in
+-- that byte, the inner struct's row is refused.
+abbrev shownSheets : List Sheet
+shownSheets =
+    sheet 4 (row 4 0 6 1 ∷ row 3 2 4 1 ∷ row 2 2 4 1 ∷ row 0 4 1 0 ∷ []) (0x01 ∷ 0x01 ∷ 0x01 ∷ 0x01 ∷ 0x07 ∷ 0xBB ∷ []) 4 (written (0x01 ∷ 0x01 ∷ 0x01 ∷ 0x07 ∷ []))
+    ∷ sheet 4 (row 4 0 7 1 ∷ row 3 2 5 1 ∷ row 2 2 5 1 ∷ row 0 4 1 0 ∷ []) (0x01 ∷ 0x01 ∷ 0x05 ∷ 0x01 ∷ 0x07 ∷ 0xAA ∷ 0xBB ∷ []) 4 (unwritten 50 2)
+    ∷ []
+
+pub beside-written : map (λ (c : Sheet). write.write T (c .type) (c .rows) (c .over) (c .room)) shownSheets ≡ map (λ (c : Sheet). c .answer) shownSheets
+unfolding T write.write write.showRoot write.show write.rowOf write.nextRow write.bitsAt spell.encode little.little little.bytes varuint.shortest varuint.varuintBytes
+    read.walk read.present read.complete table.shape answer.andThen answer.check utf8.run utf8.next utf8.leadOf utf8.rows value.value
+beside-written = refl

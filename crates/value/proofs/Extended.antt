@@ -1,37 +1,44 @@
 -- A payload that a new table's rules allow, read by an old table that the new one extends; and the other way round.
 -- Assumes nothing.
-use mathlib.Core.Path.{_≡_, sym, ap, ap₂, _∙_}
+use mathlib.Core.Path.{_≡_, refl, sym, ap, ap₂, _∙_}
 use mathlib.Core.Logic.{_↔_}
 use mathlib.Core.List.{List, [], _∷_, _++_, append-nil, append-assoc}
 use mathlib.Core.Option.{Option, none, some}
 use mathlib.Core.Bool.{Bool, true, false, cond}
-use Prim.Native.Nat.{ℕ, _+_, _/_, _^_, _≤_, _<_}
+use Prim.Native.Nat.{ℕ, _+_, _/_, _^_, _≤_, _<_, zero-le}
 use native.Mathlib.Omega.{arith}
 use native.Mathlib.Nat.{div-eq-of-lt}
 use lib.Dec.{leb}
-use lib.ListN.{length, length-append}
+use lib.ListN.{length, take, length-append}
 use borrow.Author.Tests.{leb-false}
+use Rattle.wire.specs.Little.{little}
 use Rattle.wire.proofs.Cases.{differ}
 use Rattle.schema.specs.declared.Field.{Field}
 use Rattle.schema.specs.Table.{Shape, struct, bitmapBytes}
 use Rattle.value.specs.declared.Row.{Row}
 use Rattle.value.specs.Answer.{Cursor, seen, cursorAt}
-use Rattle.value.specs.Value.{Value, node, Values, none as empty, some as and, Tree, tip, branch, Forest, rows, value, values}
+use Rattle.value.specs.Beside.{pruned, prunedAll, rootLength}
+use Rattle.value.specs.Value.{Value, node, Values, none as empty, some as and, Tree, tip, branch, Forest, rows, rowsAll, value, values}
 use Rattle.value.specs.Comparisons.{comparisons}
-use Rattle.value.specs.Read.{Item, present, rootOf, rootStruct, refusal, accepted, reading}
+use Rattle.value.specs.Read.{Item, present, rootBits, rootOf, rootStruct, refusal, accepted, reading}
 use Rattle.value.specs.Spell.{AllSpell, Spells, RootSpells}
-use Rattle.value.proofs.Shapes.{FieldsBelow, Optional, Extension}
+use Rattle.value.proofs.Shapes.{FieldsBelow, Optional, Widening, Extension}
 use Rattle.schema.specs.Extend.{Grows, same, gains}
-use Rattle.value.specs.Fits.{Shows}
-use Rattle.value.specs.Added.{carries, inner, reachedAll, firstAdded, without, addedValues, NoneAdded}
+use Rattle.value.specs.Fits.{RootFits, Shows}
+use Rattle.value.specs.Delimits.{RootDelimits}
+use Rattle.value.specs.Added.{carries, reached, inner, reachedAll, firstAdded, without, addedValues, NoneAdded}
 use Rattle.value.specs.Claims.{ByOld}
 use Rattle.value.proofs.Answers.{seen-end, yields-end}
-use Rattle.value.proofs.Bits.{present-mod, present-none}
-use Rattle.value.proofs.Root.{root-sound, root-complete}
-use Rattle.value.proofs.TwoTables.{outcome}
+use Rattle.value.proofs.Bits.{present-mod, present-none, present-added}
+use Rattle.value.proofs.Root.{bits-in-front, root-sound, root-complete}
+use Rattle.value.proofs.TwoTables.{outcome, Agrees, agrees-accepts}
 use Rattle.value.proofs.Comparisons.{root-same}
 use Rattle.value.proofs.Without.{_⧺_, trees, spelled-kept, without-first, after-first}
-use Rattle.value.proofs.RootTables.{rootTree, OldSays, new-then-old-root, old-then-new-root, tailless}
+use Rattle.value.proofs.Placed.{root-placed}
+use Rattle.value.proofs.Delimited.{root-delimits}
+use Rattle.value.proofs.Telling.{root-known}
+use Rattle.value.proofs.Pruned.{pruned-same, pruned-first}
+use Rattle.value.proofs.RootTables.{rootTree, OldSays, new-then-old-root, root-agrees, tailless}
 use Rattle.value.proofs.Reading.{as-root, accepts, accepted-of, root-in}
 
 -- ---- what a struct gains
@@ -40,25 +47,24 @@ cancel : (fs gs hs : List Field) → fs ++ gs ≡ fs ++ hs → gs ≡ hs
 cancel [] gs hs e = e
 cancel (f ∷ fs) gs hs e = cancel fs gs hs (cc)
 
-grown : (fs : List Field) {s s′ : Shape} → Grows s s′ → s ≡ struct fs
-    → (gs : List Field) × (s′ ≡ struct (fs ++ gs)) × (bitmapBytes (length (fs ++ gs)) ≡ bitmapBytes (length fs)) × Optional gs
-grown fs (same s) e = ([], rw append-nil e, rw append-nil, λ i l. absurd (omega arith))
-grown fs (gains fs′ gs o b) e = let f : fs′ ≡ fs = cc in (gs, rw f, rw f at b, o)
+pub grown : (fs : List Field) {s s′ : Shape} → Grows s s′ → s ≡ struct fs → (gs : List Field) × (s′ ≡ struct (fs ++ gs)) × Optional gs
+grown fs (same s) e = ([], rw append-nil e, λ i l. absurd (omega arith))
+grown fs (gains fs′ gs o) e = let f : fs′ ≡ fs = cc in (gs, rw f, o)
 
 -- A struct of the old table has its fields in the new one too, and perhaps more.
-pub gained-fields : (S S′ : ℕ → Shape) (n : ℕ) → Extension S S′ n → (t : ℕ) → t < n → (fs : List Field) → S t ≡ struct fs → (gs : List Field) × (S′ t ≡ struct (fs ++ gs))
+pub gained-fields : (S S′ : ℕ → Shape) (n : ℕ) → Widening S S′ n → (t : ℕ) → t < n → (fs : List Field) → S t ≡ struct fs → (gs : List Field) × (S′ t ≡ struct (fs ++ gs))
 gained-fields S S′ n x t l fs st = let w = grown fs (x .grows t l) st in (w .0, w .1)
 
 module _ (S S′ : ℕ → Shape) (n : ℕ) (x : Extension S S′ n) (t : ℕ) (l : t < n) (fs gs : List Field) (st : S t ≡ struct fs) (st′ : S′ t ≡ struct (fs ++ gs)) where
   gained : (bitmapBytes (length (fs ++ gs)) ≡ bitmapBytes (length fs)) × Optional gs
   gained =
-      let w = grown fs (x .grows t l) st in
+      let w = grown fs (x .wide .grows t l) st in
       let e : fs ++ w .0 ≡ fs ++ gs = cc (w .1, st′) in
       let k : w .0 ≡ gs = cancel fs (w .0) gs e in
-      (rw k at (w .2), rw k at (w .3))
+      (x .bytes t l fs (fs ++ gs) st st′, rw k at (w .2))
 
   below : FieldsBelow n fs
-  below = rw st at (x .closed t l)
+  below = rw st at (x .wide .closed t l)
 
   -- A root that carries no added field has no bytes of any.
   no-added : (P : ℕ → Value → List ℕ → Type 0) (h : ℕ) (vs : Values) (w : List ℕ) → carries (struct fs) h ≡ false → AllSpell P (present gs (h / 2 ^ length fs)) vs w → w ≡ []
@@ -128,7 +134,7 @@ module _ (S S′ : ℕ → Shape) (n : ℕ) (x : Extension S S′ n) (t : ℕ) (
         → (tree : Tree) × (end : Cursor) × (rootStruct S′ t (fs ++ gs) (cursorAt payload 0) ≡ seen tree end) × (value tree ≡ v)
         × Answered v (firstAdded (inner S tree t))
     new-by-old v q short =
-        let (tree, end, e, (u, z)) = yields-end (root-complete S′ t (fs ++ gs) (x .solid) v [] (cursorAt payload 0) q) in
+        let (tree, end, e, (u, z)) = yields-end (root-complete S′ t (fs ++ gs) (x .wide .solid) v [] (cursorAt payload 0) q) in
         (tree, end, e, u, rw u at (go tree end z (seen-end (new-then-old-root S S′ n x t fs gs below (gained .0) (gained .1) (cursorAt payload 0)) e)))
       where
         go : (tree : Tree) (end : Cursor) → end .left ≡ [] → OldSays S S′ n x t fs gs below (gained .0) (gained .1) (cursorAt payload 0) tree end
@@ -147,6 +153,15 @@ module _ (S S′ : ℕ → Shape) (n : ℕ) (x : Extension S S′ n) (t : ℕ) (
 
     -- ---- from the old table to the new one
 
+    -- Where no added field's bit is set, the old root reader answers as the new one does, or 26.
+    pub roots-agree : NoneAdded fs gs payload → Agrees (rootStruct S t fs (cursorAt payload 0)) (rootStruct S′ t (fs ++ gs) (cursorAt payload 0))
+    roots-agree = root-agrees S S′ n x t fs gs below (gained .0) (gained .1) (cursorAt payload 0)
+
+    -- And both count the same comparisons due in what the old one reads.
+    pub same-due : (tree : Tree) (end : Cursor) → rootStruct S t fs (cursorAt payload 0) ≡ seen tree end → comparisons S′ (value tree) t ≡ comparisons S (value tree) t
+    same-due tree end k =
+        root-same S S′ n (x .wide) t l fs gs st st′ (value tree) payload (end .left) (seen-end (root-sound S t fs (cursorAt payload 0)) k)
+
     -- What the old reader accepts, with no added field's bit set, the new one accepts with the same rows, tail and comparisons; the rows show the same
     -- value.
     pub old-by-new : (rs : List Row) (place k due : ℕ) → reading S t room (rootOf S t payload) ≡ accepted rs place k due → NoneAdded fs gs payload
@@ -156,8 +171,8 @@ module _ (S S′ : ℕ → Shape) (n : ℕ) (x : Extension S S′ n) (t : ℕ) (
         let a = accepts S t payload room rs place k₀ due e in
         let f : a .fs ≡ fs = cc (a .is-struct) in
         let k : rootStruct S t fs (cursorAt payload 0) ≡ seen (a .tree) (a .end) = rw f at (a .reads) in
-        let k′ = seen-end (old-then-new-root S S′ n x t fs gs below (gained .0) (gained .1) (cursorAt payload 0)) k bare in
-        let d = root-same S S′ n x t l fs gs st st′ (value (a .tree)) payload (a .end .left) (seen-end (root-sound S t fs (cursorAt payload 0)) k) in (
+        let k′ = agrees-accepts (roots-agree bare) k in
+        let d = same-due (a .tree) (a .end) k in (
           accepted-of S′ t payload room rs place k₀ due
               (record { fs = fs ++ gs; tree = a .tree; end = a .end; is-struct = st′; reads = k′; has-rows = a .has-rows; has-place = a .has-place; has-length = a .has-length; has-due = d ∙ a .has-due; short = a .short; fits = a .fits }),
           (value (a .tree), rw (a .has-rows) at (root-in S t fs payload (a .tree) (a .end) k .0), rw (a .has-rows) at (root-in S′ t (fs ++ gs) payload (a .tree) (a .end) k′ .0)),
@@ -170,3 +185,56 @@ module _ (S S′ : ℕ → Shape) (n : ℕ) (x : Extension S S′ n) (t : ℕ) (
         let f : a .fs ≡ fs = cc (a .is-struct) in
         let k : rootStruct S t fs (cursorAt payload 0) ≡ seen (a .tree) (a .end) = rw f at (a .reads) in
         seen-end (tailless S S′ n x t fs gs below (gained .0) (gained .1) (cursorAt payload 0)) k (a .has-length)
+
+    -- Where no struct of what the new one reads carries an added field, the root's bitmap sets no added field's bit, and the old one accepts.
+    pub none-carried : (tree : Tree) (end : Cursor) → rootStruct S′ t (fs ++ gs) (cursorAt payload 0) ≡ seen tree end → firstAdded (reached S tree t) ≡ none
+        → NoneAdded fs gs payload × ((old : Tree) × (end′ : Cursor) × (rootStruct S t fs (cursorAt payload 0) ≡ seen old end′))
+    unfolding reached value
+    none-carried tree end e = go tree (seen-end (new-then-old-root S S′ n x t fs gs below (gained .0) (gained .1) (cursorAt payload 0)) e)
+        (seen-end (root-sound S′ t (fs ++ gs) (cursorAt payload 0)) e)
+      where
+        clear : (h : ℕ) (vs : Values) → RootSpells S′ (fs ++ gs) (node h vs) payload (end .left) → leb (2 ^ length fs) h ≡ false → NoneAdded fs gs payload
+        clear h vs (m, y, z, k, spells, known, _, _) f =
+            let front : rootBits fs payload ≡ m = ap (λ (j : ℕ). little (take j payload)) (sym (gained .0)) ∙ bits-in-front (fs ++ gs) m y (z ++ end .left) payload k spells in
+            let low : h / 2 ^ length fs ≡ 0 = div-eq-of-lt (leb-false (2 ^ length fs) h f) in
+            rw (front, ← present-added fs gs m, ← known, low) (present-none gs)
+
+        go : (tree : Tree) → OldSays S S′ n x t fs gs below (gained .0) (gained .1) (cursorAt payload 0) tree end → RootSpells S′ (fs ++ gs) (value tree) payload (end .left)
+            → firstAdded (reached S tree t) ≡ none → NoneAdded fs gs payload × ((old : Tree) × (end′ : Cursor) × (rootStruct S t fs (cursorAt payload 0) ≡ seen old end′))
+        go (tip r y) o q f = absurd o
+        go (branch r h ts) (us, vs, w, c′, a, _, _, _, _) q f = by (leb (2 ^ length fs) h) refl (rw st at f)
+          where
+            by : (b : Bool) → leb (2 ^ length fs) h ≡ b → cond b (some (r .place)) (firstAdded (reachedAll S ts (present fs h))) ≡ none
+                → NoneAdded fs gs payload × ((old : Tree) × (end′ : Cursor) × (rootStruct S t fs (cursorAt payload 0) ≡ seen old end′))
+            by true k f = differ cc
+            by false k f = (clear h (values ts) q k, (rootTree t fs 0 h us c′, c′, rw f at a))
+
+    -- ---- with both tables
+
+    -- Where both root readers accept, the new one's rows without the added fields are the old one's but for the root's length, and so is the value.
+    pub both-read : (old tree : Tree) (end end′ : Cursor) → rootStruct S t fs (cursorAt payload 0) ≡ seen old end → rootStruct S′ t (fs ++ gs) (cursorAt payload 0) ≡ seen tree end′
+        → (rows (pruned S tree t) ≡ rootLength (end′ .at) (rows old)) × (value (pruned S tree t) ≡ value old)
+    unfolding pruned rows value
+    both-read old tree end end′ e e′ =
+        go tree (seen-end (new-then-old-root S S′ n x t fs gs below (gained .0) (gained .1) (cursorAt payload 0)) e′)
+        (seen-end (root-placed payload S′ t (fs ++ gs) (cursorAt payload 0) (refl, zero-le)) e′ .1) (root-delimits payload S′ t (fs ++ gs) tree end′ e′)
+      where
+        -- The old reader's tree has no added fields.
+        same-fields : (h : ℕ) (us : Forest) (c′ : Cursor) → rootTree t fs 0 h us c′ ≡ old → prunedAll S us (present fs h) ≡ us
+        same-fields h us c′ k =
+            let f = seen-end (root-placed payload S t fs (cursorAt payload 0) (refl, zero-le)) e .1 in
+            let z = rw (← k) at (pruned-same S payload old t (root-known S payload t fs st old f)) in
+            cc (rw (st, present-mod fs h) at z)
+
+        go : (tree : Tree) → OldSays S S′ n x t fs gs below (gained .0) (gained .1) (cursorAt payload 0) tree end′ → RootFits S′ payload t (fs ++ gs) tree
+            → RootDelimits S′ payload (fs ++ gs) tree (end′ .at) → (rows (pruned S tree t) ≡ rootLength (end′ .at) (rows old)) × (value (pruned S tree t) ≡ value old)
+        go (tip r y) o f d = absurd o
+        go (branch r h ts) (us, vs, w, c′, a, s, z, k, q) f d = by (firstAdded (reachedAll S ts (present fs h))) a
+          where
+            by : (first : Option ℕ) → rootStruct S t fs (cursorAt payload 0) ≡ outcome first (rootTree t fs 0 h us c′) c′
+                → (rows (pruned S (branch r h ts) t) ≡ rootLength (end′ .at) (rows old)) × (value (pruned S (branch r h ts) t) ≡ value old)
+            by (some p) a = differ cc
+            by none a =
+                let k : rootTree t fs 0 h us c′ ≡ old = cc in
+                let u : prunedAll S ts (present fs h) ≡ us = rw s (pruned-first S us vs (present fs h) z) ∙ same-fields h us c′ k in
+                rw (st, u, ← k) (λ i. record { ty = f .1 i; place = d .1 i; length = d .2 i; count = length (present fs h) } ∷ rowsAll us, refl)

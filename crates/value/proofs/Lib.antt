@@ -24,6 +24,8 @@ pub mod TwoTables
 pub mod Stops
 pub mod Reasons
 pub mod Refused
+pub mod Pruned
+pub mod Narrowed
 pub mod Reading
 pub mod Refusals
 pub mod Numbers
@@ -36,6 +38,8 @@ pub mod RowFaults
 pub mod RowsRefused
 pub mod SheetRefusals
 pub mod Extended
+pub mod Beside
 pub mod Sheets
 pub mod Statements
+pub mod BesideStatements
 pub mod Examples

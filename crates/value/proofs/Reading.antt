@@ -15,7 +15,7 @@ use Rattle.value.specs.declared.Row.{Row}
 use Rattle.value.specs.Answer.{Cursor, Answer, refused, seen, cursorAt}
 use Rattle.value.specs.Value.{Tree, tip, branch, Forest, stop, plus, rows, rowsAll, Value, value, values, size, sizeAll}
 use Rattle.value.specs.Comparisons.{comparisons}
-use Rattle.value.specs.Read.{onStruct, rootOf, rootStruct, refusal, accepted, reading}
+use Rattle.value.specs.Read.{onStruct, rootOf, rootStruct, refusal, accepted, readingAs, reading}
 use Rattle.value.proofs.Shapes.{Solid}
 use Rattle.value.specs.Fits.{Shows}
 use Rattle.value.specs.Claims.{Rightful, ReadAs}
@@ -39,10 +39,58 @@ mutual
 never : {A : Type 0} {n p tp tl c : ℕ} {rs : List Row} → refusal n p ≡ accepted rs tp tl c → A
 never e = differ cc
 
-module _ (S : ℕ → Shape) (t : ℕ) (payload : List ℕ) (room : ℕ) where
+-- The rows, with the tail's place and length and the key comparisons due, are what is shown of the tree that was read, and there is room for them.
+abbrev pub Gives : (Tree → List Row) → (ℕ → Shape) → (t room : ℕ) → Answer Tree → List Row → (place n due : ℕ) → Tree → Type 0
+Gives shown S t room m rs place n due tree =
+    (end : Cursor) × (m ≡ seen tree end) × (shown tree ≡ rs) × (end .at ≡ place) × (length (end .left) ≡ n) × (comparisons S (value tree) t ≡ due)
+    × (length rs ≤ room)
+
+module _ (shown : Tree → List Row) (S : ℕ → Shape) (t room : ℕ) where
+  pub accepted-gives : (m : Answer Tree) (rs : List Row) (place n due : ℕ) → readingAs shown S t room m ≡ accepted rs place n due
+      → (tree : Tree) × Gives shown S t room m rs place n due tree
+  accepted-gives (refused _ _) rs place n due e = never e
+  accepted-gives (seen tree end) rs place n due e = go (leb (length (shown tree)) room) refl e
+    where
+      go : (b : Bool) → leb (length (shown tree)) room ≡ b
+          → cond b (accepted (shown tree) (end .at) (length (end .left)) (comparisons S (value tree) t)) (refusal 30 0) ≡ accepted rs place n due
+          → (tree′ : Tree) × Gives shown S t room (seen tree end) rs place n due tree′
+      go true q e = let k : shown tree ≡ rs = cc in (tree, (end, refl, k, cc, cc, cc, rw (← k) (leb-true _ _ q)))
+      go false q e = never e
+
+  pub gives-accepted : (m : Answer Tree) (rs : List Row) (place n due : ℕ) (tree : Tree) → Gives shown S t room m rs place n due tree
+      → readingAs shown S t room m ≡ accepted rs place n due
+  gives-accepted m rs place n due tree (end, e, r, p, l, d, f) = let b : leb (length rs) room ≡ true = le-leb _ _ f in rw (e, r, b, p, l, d)
+
+module _ (S : ℕ → Shape) (t : ℕ) (payload : List ℕ) where
   -- A payload that is not too long is judged by the root reader.
+  pub root-of : (fs : List Field) → S t ≡ struct fs → length payload ≤ 16384 → rootOf S t payload ≡ rootStruct S t fs (cursorAt payload 0)
+  root-of fs st l = let a : leb (length payload) 16384 ≡ true = le-leb _ _ l in rw (st, a)
+
+  -- And what was read, it has read.
+  abbrev RootRead : Tree → Cursor → Type 0
+  RootRead tree end = (fs : List Field) × (S t ≡ struct fs) × (rootStruct S t fs (cursorAt payload 0) ≡ seen tree end) × (length payload ≤ 16384)
+
+  pub root-inv : (tree : Tree) (end : Cursor) → rootOf S t payload ≡ seen tree end → RootRead tree end
+  root-inv tree end e = go (S t) refl e
+    where
+      inside : (fs : List Field) → S t ≡ struct fs → (a : Bool) → leb (length payload) 16384 ≡ a
+          → cond a (rootStruct S t fs (cursorAt payload 0)) (refused 7 0) ≡ seen tree end → RootRead tree end
+      inside fs st true p e = (fs, st, e, leb-true _ _ p)
+      inside fs st false p e = differ cc
+
+      go : (s : Shape) → S t ≡ s
+          → onStruct s (refused 46 0) (λ fs. cond (leb (length payload) 16384) (rootStruct S t fs (cursorAt payload 0)) (refused 7 0)) ≡ seen tree end
+          → RootRead tree end
+      go (struct fs) st e = inside fs st _ refl e
+      go unknown st e = differ cc
+      go (scalar _) st e = differ cc
+      go (text _) st e = differ cc
+      go (array _) st e = differ cc
+      go (map _ _) st e = differ cc
+
+module _ (S : ℕ → Shape) (t : ℕ) (payload : List ℕ) (room : ℕ) where
   pub as-root : (fs : List Field) → S t ≡ struct fs → length payload ≤ 16384 → reading S t room (rootOf S t payload) ≡ reading S t room (rootStruct S t fs (cursorAt payload 0))
-  as-root fs st l = let a : leb (length payload) 16384 ≡ true = le-leb _ _ l in rw (st, a)
+  as-root fs st l = ap (reading S t room) (root-of S t payload fs st l)
 
   -- What is accepted, with its tree and the cursor at its tail.
   pub record Accepts (rs : List Row) (place n due : ℕ) : Type 0 where
@@ -58,40 +106,16 @@ module _ (S : ℕ → Shape) (t : ℕ) (payload : List ℕ) (room : ℕ) where
     pub short : length payload ≤ 16384
     pub fits : length rs ≤ room
 
-  roomy : (rs rs′ : List Row) (p l d place n due : ℕ) → cond (leb (length rs′) room) (accepted rs′ p l d) (refusal 30 0) ≡ accepted rs place n due
-      → (rs′ ≡ rs) × (p ≡ place) × (l ≡ n) × (d ≡ due) × (length rs ≤ room)
-  roomy rs rs′ p l d place n due e = go (leb (length rs′) room) refl e
-    where
-      go : (b : Bool) → leb (length rs′) room ≡ b → cond b (accepted rs′ p l d) (refusal 30 0) ≡ accepted rs place n due
-          → (rs′ ≡ rs) × (p ≡ place) × (l ≡ n) × (d ≡ due) × (length rs ≤ room)
-      go true q e = let k : rs′ ≡ rs = cc in (k, cc, cc, cc, rw (← k) (leb-true _ _ q))
-      go false q e = never e
-
   pub accepts : (rs : List Row) (place n due : ℕ) → reading S t room (rootOf S t payload) ≡ accepted rs place n due → Accepts rs place n due
-  accepts rs place n due e = go (S t) refl e
-    where
-      inside : (fs : List Field) → S t ≡ struct fs → (a : Bool) (m : Answer Tree) → leb (length payload) 16384 ≡ a → rootStruct S t fs (cursorAt payload 0) ≡ m
-          → reading S t room (cond a m (refused 7 0)) ≡ accepted rs place n due → Accepts rs place n due
-      inside fs st false m p k e = never e
-      inside fs st true (refused _ _) p k e = never e
-      inside fs st true (seen tree end) p k e =
-          let w = roomy rs (rows tree) _ _ _ place n due e in
-          record { fs = fs; tree = tree; end = end; is-struct = st; reads = k; has-rows = w .0; has-place = w .1; has-length = w .2; has-due = w .3; short = leb-true _ _ p; fits = w .4 }
-
-      go : (s : Shape) → S t ≡ s
-          → reading S t room (onStruct s (refused 46 0) (λ fs. cond (leb (length payload) 16384) (rootStruct S t fs (cursorAt payload 0)) (refused 7 0))) ≡ accepted rs place n due
-          → Accepts rs place n due
-      go (struct fs) st e = inside fs st _ _ refl refl e
-      go unknown st e = never e
-      go (scalar _) st e = never e
-      go (text _) st e = never e
-      go (array _) st e = never e
-      go (map _ _) st e = never e
+  accepts rs place n due e =
+      let (tree, (end, k, r, p, l, d, f)) = accepted-gives rows S t room (rootOf S t payload) rs place n due e in
+      let (fs, st, m, short) = root-inv S t payload tree end k in
+      record { fs = fs; tree = tree; end = end; is-struct = st; reads = m; has-rows = r; has-place = p; has-length = l; has-due = d; short = short; fits = f }
 
   pub accepted-of : (rs : List Row) (place n due : ℕ) → Accepts rs place n due → reading S t room (rootOf S t payload) ≡ accepted rs place n due
   accepted-of rs place n due a =
-      let b : leb (length rs) room ≡ true = le-leb _ _ (a .fits) in
-      as-root (a .fs) (a .is-struct) (a .short) ∙ rw (a .reads, a .has-rows, b, a .has-place, a .has-length, a .has-due)
+      gives-accepted rows S t room _ rs place n due (a .tree)
+      (a .end, root-of S t payload (a .fs) (a .is-struct) (a .short) ∙ a .reads, a .has-rows, a .has-place, a .has-length, a .has-due, a .fits)
 
 -- ---- values
 

@@ -22,7 +22,7 @@ use Rattle.value.proofs.Bits.{present-mod, known-again, present-known, 
 use Rattle.value.proofs.Sound.{bitmap-reads, walk-reads, parse-reads}
 use Rattle.value.proofs.Complete.{takes, all-take}
 use Rattle.value.proofs.Root.{Unkeyed, present-unkeyed, bits-in-front, ending-sound, ending-complete}
-use Rattle.value.proofs.TwoTables.{Follows, firstOf, outcome, follows-outcome, follows-accepts, walk-follows, two-tables, present-below, bitmap-gain}
+use Rattle.value.proofs.TwoTables.{Follows, firstOf, outcome, follows-outcome, Agrees, alike, follows-agrees, agrees-then, walk-follows, two-tables, present-below, bitmap-gain}
 use Rattle.value.proofs.Without.{_⧺_, trees, reached-first}
 
 -- ---- walks over two plans
@@ -71,7 +71,7 @@ walk-split p keys (i ∷ is) js u c ts c″ e =
       cc (w .7, r .5),
     )
 
-walk-size : (p : ℕ → Reader Tree) (keys : List (List ℕ)) (is : List Item) (c : Cursor) (ts : Forest) (c″ : Cursor) → walk p keys is c ≡ seen ts c″ → trees ts ≡ length is
+pub walk-size : (p : ℕ → Reader Tree) (keys : List (List ℕ)) (is : List Item) (c : Cursor) (ts : Forest) (c″ : Cursor) → walk p keys is c ≡ seen ts c″ → trees ts ≡ length is
 unfolding walk Step
 walk-size p keys [] c ts c″ e = let f : ts ≡ stop = cc in rw f
 walk-size p keys (i ∷ is) c ts c″ e =
@@ -102,7 +102,7 @@ module _ (S S′ : ℕ → Shape) (n : ℕ) (x : Extension S S′ n) (t : ℕ) (
   where
     follows : (m : ℕ) (c₁ : Cursor) → Follows (firstOf S (present fs m)) (walk (parse S 15) [] (present fs m) c₁) (walk (parse S′ 15) [] (present fs m) c₁)
     follows m c₁ =
-        walk-follows S n (parse S 15) (parse S′ 15) (two-tables S S′ n (x .closed) (x .grows) 15) [] (present fs m) (present-below n fs m below) c₁
+        walk-follows S n (parse S 15) (parse S′ 15) (two-tables S S′ n x 15) [] (present fs m) (present-below n fs m below) c₁
 
     old-root : (m : ℕ) (c₁ : Cursor) (us : Forest) (c′ : Cursor) → bitmap fs c ≡ seen m c₁ → (f : Option ℕ)
         → walk (parse S 15) [] (present fs m) c₁ ≡ outcome f us c′ → TailFits (unknownBits fs m) (c′ .left)
@@ -129,7 +129,7 @@ module _ (S S′ : ℕ → Shape) (n : ℕ) (x : Extension S S′ n) (t : ℕ) (
     tail-fits m w z vs q f =
         let is = present gs (m / 2 ^ length fs) in
         rw (unknown-split fs gs m b)
-        (tail-longer _ _ w z (all-take (Spells S′ 15) (takes S′ (x .solid) 15) is (values vs) w q) (all-empty (Spells S′ 15) is (values vs) w q) f)
+        (tail-longer _ _ w z (all-take (Spells S′ 15) (takes S′ (x .wide .solid) 15) is (values vs) w q) (all-empty (Spells S′ 15) is (values vs) w q) f)
 
     joined : (m : ℕ) (c₁ : Cursor) (ts : Forest) (c₂ : Cursor) (us : Forest) (c′ : Cursor) (vs : Forest) (r : Row) → bitmap fs c ≡ seen m c₁
         → walk (parse S′ 15) [] (present fs m) c₁ ≡ seen us c′ → walk (parse S′ 15) [] (present gs (m / 2 ^ length fs)) c′ ≡ seen vs c₂
@@ -158,25 +158,17 @@ module _ (S S′ : ℕ → Shape) (n : ℕ) (x : Extension S S′ n) (t : ℕ) (
         go [] e = append-nil (present fs m)
         go (i ∷ is) e = absurd (omega arith)
 
-    new-root : (m : ℕ) (c₁ : Cursor) (ts : Forest) (c₂ : Cursor) → bitmap fs c ≡ seen m c₁ → walk (parse S 15) [] (present fs m) c₁ ≡ seen ts c₂
-        → length (present gs (m / 2 ^ length fs)) ≡ 0 → TailFits (unknownBits fs m) (c₂ .left) → rootStruct S′ t (fs ++ gs) c ≡ seen (rootTree t fs (c .at) m ts c₂) c₂
-    unfolding rootStruct andThen
-    new-root m c₁ ts c₂ e₁ e₂ z f =
-        let k : unknownBits fs m ≡ unknownBits (fs ++ gs) m = omega (arith, unknown-split fs gs m b) in
-        let w : walk (parse S′ 15) [] (present fs m) c₁ ≡ seen ts c₂ = follows-accepts (follows m c₁) e₂ in
-        let h : ending (unknownBits (fs ++ gs) m) c₂ ≡ seen tt c₂ = ending-complete (unknownBits (fs ++ gs) m) c₂ (rw k at f) in
-        rw (bitmap-gain fs gs b o c, e₁, plan-same m z, w, h, no-added fs gs m z)
-
     -- The bits that were read are those at the front.
     front-bits : (m : ℕ) (c₁ : Cursor) → bitmap fs c ≡ seen m c₁ → rootBits fs (c .left) ≡ m
     front-bits m c₁ e = let r = reads-end (bitmap-reads fs c) e in bits-in-front fs m (r .0) (c₁ .left) (c .left) (r .1) (r .2)
 
-    -- What the old root reader accepts, the new one accepts with the same tree and the same tail, where no added field's bit is set.
-    pub old-then-new-root : Seen (λ tree end. NoneAdded fs gs (c .left) → rootStruct S′ t (fs ++ gs) c ≡ seen tree end) (rootStruct S t fs c)
+    -- Where no added field's bit is set, the old root reader answers as the new one does, or 26.
+    pub root-agrees : NoneAdded fs gs (c .left) → Agrees (rootStruct S t fs c) (rootStruct S′ t (fs ++ gs) c)
     unfolding rootStruct
-    old-then-new-root = seen-then _ (λ m c₁ e₁. seen-then _ (λ ts c₂ e₂. seen-then _ (λ _ c₃ e₃.
-        let z = ending-sound _ c₂ c₃ _ e₃ in
-        rw (← z .0, present-mod fs m) (holds (λ l. new-root m c₁ ts c₂ e₁ (rw (present-mod fs m) at e₂) (rw (front-bits m c₁ e₁) at (ap length l)) (z .1))))))
+    root-agrees bare = rw (bitmap-gain fs gs b o c) (agrees-then (alike (bitmap fs c)) (λ m c₁ e₁.
+        let z : length (present gs (m / 2 ^ length fs)) ≡ 0 = rw (front-bits m c₁ e₁) at (ap length bare) in
+        let k : unknownBits (fs ++ gs) m ≡ unknownBits fs m = omega (arith, unknown-split fs gs m b) in
+        rw (plan-same m z, present-mod fs m, k, no-added fs gs m z) (agrees-then (follows-agrees (follows m c₁)) (λ ts c₂ _. alike _))))
 
     -- None is set where the old reader has no tail.
     pub tailless : Seen (λ tree end. length (end .left) ≡ 0 → NoneAdded fs gs (c .left)) (rootStruct S t fs c)

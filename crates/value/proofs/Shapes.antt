@@ -9,9 +9,9 @@ use Rattle.schema.specs.declared.Field.{Field}
 use Rattle.schema.specs.Table.{Table, Shape, unknown, scalar, text, array, map, struct, shape, width}
 use Rattle.schema.specs.Check.{noField}
 use Rattle.schema.specs.Good.{GoodTable}
-use Rattle.schema.specs.Extend.{Extends, Grows}
+use Rattle.schema.specs.Extend.{Widens, Extends, Grows, SameBytes}
 use Rattle.schema.proofs.Shapes.{Within, within}
-use Rattle.schema.proofs.Extending.{grows}
+use Rattle.schema.proofs.Extending.{grows, same-bytes}
 
 -- A scalar has a width and a struct a field, so each value takes a byte.
 abbrev pub Solid : Shape → Type 0
@@ -39,11 +39,16 @@ Closed n (text _) = Unit {0}
 abbrev pub Optional : List Field → Type 0
 Optional gs = (i : ℕ) → i < length gs → getD gs i noField .optional ≡ 1
 
--- The shapes S′ of a new table extend the shapes S of an old one, which has n types.
-pub record Extension (S S′ : ℕ → Shape) (n : ℕ) : Type 0 where
+-- The shapes S′ of a new table extend the shapes S of an old one, which has n types; bitmaps may grow.
+pub record Widening (S S′ : ℕ → Shape) (n : ℕ) : Type 0 where
   pub closed : (t : ℕ) → t < n → Closed n (S t)
   pub grows : (t : ℕ) → t < n → Grows (S t) (S′ t)
   pub solid : (t : ℕ) → Solid (S′ t)
+
+-- And here they keep their bytes.
+pub record Extension (S S′ : ℕ → Shape) (n : ℕ) : Type 0 where
+  pub wide : Widening S S′ n
+  pub bytes : (t : ℕ) → t < n → SameBytes (S t) (S′ t)
 
 -- ---- of good tables
 
@@ -86,9 +91,12 @@ good-solid T g t = within-solid _ (shape T) (shape T t) (within T g t)
 pub good-closed : (T : Table) → GoodTable T → (t : ℕ) → Closed (length (T .types)) (shape T t)
 good-closed T g t = within-closed _ (shape T) (shape T t) (within T g t)
 
-pub good-extension : (old new : Table) → GoodTable old → GoodTable new → Extends old new → Extension (shape old) (shape new) (length (old .types))
-good-extension old new g g′ x = record {
+pub good-widening : (old new : Table) → GoodTable old → GoodTable new → Widens old new → Widening (shape old) (shape new) (length (old .types))
+good-widening old new g g′ x = record {
   closed = λ t l. good-closed old g t;
   grows = grows old new g g′ x;
   solid = good-solid new g′;
 }
+
+pub good-extension : (old new : Table) → GoodTable old → GoodTable new → Extends old new → Extension (shape old) (shape new) (length (old .types))
+good-extension old new g g′ x = record { wide = good-widening old new g g′ (x .widens); bytes = same-bytes old new g g′ x }

@@ -326,7 +326,7 @@ module _ (old new : Table) (good : GoodTable old) (good′ : GoodTable new) (ext
 
   -- A struct of the old table has its fields in the new one too, and perhaps more.
   pub gains : (gs : List Field) × (shape new t ≡ struct (fs ++ gs))
-  gains = extended.gained-fields (shape old) (shape new) (length (old .types)) x t l fs st
+  gains = extended.gained-fields (shape old) (shape new) (length (old .types)) (x .wide) t l fs st
 
   module _ (gs : List Field) (st′ : shape new t ≡ struct (fs ++ gs)) (payload : List ℕ) (room : ℕ) where
     -- A payload without unknown bits that the new rules allow as v: what the old reader answers. It refuses with 26 exactly where an inner struct,

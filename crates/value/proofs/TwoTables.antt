@@ -15,8 +15,8 @@ use Rattle.schema.specs.Table.{Shape, unknown, scalar, text, array, map, struct
 use Rattle.value.specs.Answer.{Cursor, Answer, refused, seen, Reader, andThen, check}
 use Rattle.value.specs.Value.{Tree, Forest}
 use Rattle.value.specs.Read.{Item, Own, plain, parts, plainItem, pairs, present, plan, bitmap, own, walk, whole, parse}
-use Rattle.schema.specs.Extend.{Grows, same, gains}
-use Rattle.value.proofs.Shapes.{FieldsBelow, Closed, Optional}
+use Rattle.schema.specs.Extend.{Grows, same, gains, SameBytes}
+use Rattle.value.proofs.Shapes.{FieldsBelow, Closed, Optional, Extension}
 use Rattle.value.specs.Added.{carries, Reached, reached, reachedAll, firstAdded}
 use Rattle.value.proofs.Answers.{Seen, nothing, value, seen-then, check-true}
 use Rattle.value.proofs.Bits.{complete-gain, present-gain}
@@ -57,11 +57,27 @@ follows-outcome {first} {a} (both f) e = let f′ : first a ≡ none = cc in rw 
 follows-outcome (early gone) e = cc
 follows-outcome {first} {a} (early {x} (kept f)) e = let f′ : first a ≡ some x = cc in rw f′
 
+-- The old answer is the new one, or it is 26.
+pub data Agrees {A : Type 0} : Answer A → Answer A → Type 0 where
+  alike : (m : Answer A) → Agrees m m
+  unknown-bit : {x : ℕ} {m : Answer A} → Agrees (refused 26 x) m
+
+pub follows-agrees : {A : Type 0} {first : A → Option ℕ} {o n : Answer A} → Follows first o n → Agrees o n
+follows-agrees agree = alike _
+follows-agrees (both f) = alike _
+follows-agrees (early f) = unknown-bit
+
+pub agrees-then : {A B : Type 0} {m m′ : Answer A} {f g : A → Reader B} → Agrees m m′ → ((a : A) (c : Cursor) → m ≡ seen a c → Agrees (f a c) (g a c))
+    → Agrees (andThen m f) (andThen m′ g)
+unfolding andThen
+agrees-then (alike (refused n p)) h = alike _
+agrees-then (alike (seen a c)) h = h a c refl
+agrees-then unknown-bit h = unknown-bit
+
 -- What the old reader accepts, the new one accepts.
-pub follows-accepts : {A : Type 0} {first : A → Option ℕ} {o n : Answer A} {a : A} {c : Cursor} → Follows first o n → o ≡ seen a c → n ≡ seen a c
-follows-accepts agree e = e
-follows-accepts (both f) e = e
-follows-accepts (early f) e = cc
+pub agrees-accepts : {A : Type 0} {o n : Answer A} {a : A} {c : Cursor} → Agrees o n → o ≡ seen a c → n ≡ seen a c
+agrees-accepts (alike m) e = e
+agrees-accepts unknown-bit e = cc
 
 module _ {A B : Type 0} {first : B → Option ℕ} where
   from-then : {x : ℕ} (m : Answer A) {g : A → Reader B} → ((a : A) (c : Cursor) → From first x (g a c)) → From first x (andThen m g)
@@ -194,17 +210,16 @@ module _ (S : ℕ → Shape) (n : ℕ) (p q : ℕ → Reader Tree) (pq : (t : �
         early (carried (struct (fs ++ gs)) start m (rw e (le-leb _ m (omega (arith, ltb-false m (2 ^ length fs) h)))) c)
     gained fs gs e w start m c false false h h′ = agree
 
-    step : (s s′ : Shape) → S t ≡ s → Closed n s → Grows s s′ → (c : Cursor)
+    step : (s s′ : Shape) → S t ≡ s → Closed n s → Grows s s′ → SameBytes s s′ → (c : Cursor)
         → Follows (first S t) (andThen (own s c) (whole p t s)) (andThen (own s′ c) (whole q t s′))
     unfolding structOwn
-    step s s′ e w (same _) c = rw (← e) (then-seen (own-bare (S t) c) (λ o c′ f. whole-follows o (rw e w) f c′))
-    step s s′ e w (gains fs gs o b) c =
-        rw (bitmap-gain fs gs b o c) (then-same₂ (bitmap fs c) _ _ _ _ (λ m c′. gained fs gs e w (c .at) m c′ _ _ refl refl))
+    step s s′ e w (same _) b c = rw (← e) (then-seen (own-bare (S t) c) (λ o c′ f. whole-follows o (rw e w) f c′))
+    step s s′ e w (gains fs gs o) b c =
+        rw (bitmap-gain fs gs (b fs (fs ++ gs) refl refl) o c) (then-same₂ (bitmap fs c) _ _ _ _ (λ m c′. gained fs gs e w (c .at) m c′ _ _ refl refl))
 
 -- A reader by the old shapes follows a reader by the new ones, for each type of the old table.
-pub two-tables : (S S′ : ℕ → Shape) (n : ℕ) → ((t : ℕ) → t < n → Closed n (S t)) → ((t : ℕ) → t < n → Grows (S t) (S′ t))
-    → (d t : ℕ) → t < n → (c : Cursor) → Follows (first S t) (parse S d t c) (parse S′ d t c)
+pub two-tables : (S S′ : ℕ → Shape) (n : ℕ) → Extension S S′ n → (d t : ℕ) → t < n → (c : Cursor) → Follows (first S t) (parse S d t c) (parse S′ d t c)
 unfolding parse
-two-tables S S′ n closed grows zero t h c = agree
-two-tables S S′ n closed grows (suc d) t h c =
-    step S n (parse S d) (parse S′ d) (two-tables S S′ n closed grows d) t (S t) (S′ t) refl (closed t h) (grows t h) c
+two-tables S S′ n x zero t h c = agree
+two-tables S S′ n x (suc d) t h c =
+    step S n (parse S d) (parse S′ d) (two-tables S S′ n x d) t (S t) (S′ t) refl (x .wide .closed t h) (x .wide .grows t h) (x .bytes t h) c

@@ -38,19 +38,23 @@ module _ (S : ℕ → Shape) (t : ℕ) (fs : List Field) where
   abbrev pub ReadAs : (payload : List ℕ) → Reading → Value → (place n : ℕ) → Type 0
   ReadAs payload answer v place n = (rs : List Row) × (answer ≡ accepted rs place n (comparisons S v t)) × Shows S payload t fs rs v
 
--- The rows are those of a tree that fits the payload, so that each shows its type, its count and its content or bits; and the place and length of each
--- delimit the bytes of its value, the root's up to a tail of n bytes at a place. The key comparisons due are its value's. Payload and rows are within
--- the limits.
-abbrev pub Delimited : (ℕ → Shape) → (t : ℕ) → (payload : List ℕ) (room : ℕ) → List Row → (place n due : ℕ) → Type 0
-Delimited S t payload room rs place n due =
-    (fs : List Field) × (tree : Tree)
+-- The tree, of type t, fits the payload, so that each row shows its type, its count and its content or bits; and the place and length of each row
+-- delimit the bytes of its value, the root's up to a tail of n bytes at a place. The payload is within the limit.
+abbrev pub DelimitedTree : (ℕ → Shape) → (t : ℕ) → (payload : List ℕ) → Tree → (place n : ℕ) → Type 0
+DelimitedTree S t payload tree place n =
+    (fs : List Field)
     × (S t ≡ struct fs)
-    × (rows tree ≡ rs)
     × RootFits S payload t fs tree
     × RootDelimits S payload fs tree place
     × (place + n ≡ length payload)
-    × (comparisons S (value tree) t ≡ due)
     × (length payload ≤ 16384)
+
+-- The rows are those of such a tree, the key comparisons due are its value's, and there is room for the rows.
+abbrev pub Delimited : (ℕ → Shape) → (t : ℕ) → (payload : List ℕ) (room : ℕ) → List Row → (place n due : ℕ) → Type 0
+Delimited S t payload room rs place n due =
+    (tree : Tree) × DelimitedTree S t payload tree place n
+    × (rows tree ≡ rs)
+    × (comparisons S (value tree) t ≡ due)
     × (length rs ≤ room)
 
 -- The sheet shows a value; what is written is its encoding, and that is a payload and fits into the room.

@@ -75,6 +75,34 @@ RootFits S B t fs (branch r h ts) =
 abbrev pub Shows : (ℕ → Shape) → List ℕ → ℕ → List Field → List Row → Value → Type 0
 Shows S B t fs rs v = (tree : Tree) × (rows tree ≡ rs) × RootFits S B t fs tree × (value tree ≡ v)
 
+-- ---- what rows show where any struct may have bits beyond its known fields: row by row, so depth, 64 pairs and keys apart are not asked here
+
+-- A composite's row shows the head h: of a struct's bits only the known ones matter, as at the root.
+abbrev pub HeadKnown : List ℕ → Shape → (place count h : ℕ) → Type 0
+HeadKnown B (array _) p c n = c ≡ n
+HeadKnown B (map _ _) p c n = c ≡ n
+HeadKnown B (struct fs) p c h = (m : ℕ) × BitsFit B fs p m × (h ≡ knownBits fs m) × (c ≡ counted (struct fs) h)
+HeadKnown B unknown p c h = ⊥
+HeadKnown B (scalar _) p c h = ⊥
+HeadKnown B (text _) p c h = ⊥
+
+module _ (S : ℕ → Shape) (B : List ℕ) where
+  -- Each row of the tree, of type t, shows by the shapes S its content, its count, and the known fields that are present.
+  unfoldable mutual
+    pub FitsKnown : Tree → (t : ℕ) → Type 0
+    FitsKnown (tip r x) t = (r .ty ≡ t) × LeafFits B (S t) (r .place) (r .length) (r .count) x
+    FitsKnown (branch r h ts) t = (r .ty ≡ t) × HeadKnown B (S t) (r .place) (r .count) h × AllKnown ts (plan (S t) h)
+
+    pub AllKnown : Forest → List Item → Type 0
+    AllKnown stop [] = Unit {0}
+    AllKnown stop (i ∷ is) = ⊥
+    AllKnown (plus x ts) [] = ⊥
+    AllKnown (plus x ts) (i ∷ is) = FitsKnown x (i .type) × AllKnown ts is
+
+  -- The rows over the bytes show the value v, of type t, whatever bits its structs have beyond their known fields.
+  abbrev pub ShowsKnown : (t : ℕ) → List Row → Value → Type 0
+  ShowsKnown t rs v = (tree : Tree) × (rows tree ≡ rs) × FitsKnown tree t × (value tree ≡ v)
+
 -- ---- what one row tells
 
 -- By the shapes: its type, its count, and a content or the known presence bits. Places and composite lengths are not in it.

@@ -12,5 +12,7 @@ pub mod Delimits
 pub mod Added
 pub mod Reasons
 pub mod SheetReasons
+pub mod Beside
 pub mod Listed
 pub mod Claims
+pub mod Narrow

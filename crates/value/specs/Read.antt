@@ -166,11 +166,15 @@ pub data Reading : Type 0 where
   refusal : (number place : ℕ) → Reading
   accepted : List Row → (tailPlace tailLength comparisons : ℕ) → Reading
 
--- The answer for a root of type t. Its rows have to fit into a sheet with room for so many.
+-- The answer for a root of type t that was read by the shapes S. The rows that are shown of it have to fit into a sheet with room for so many.
+abbrev pub readingAs : (shown : Tree → List Row) → (ℕ → Shape) → ℕ → (room : ℕ) → Answer Tree → Reading
+readingAs shown S t room (refused n p) = refusal n p
+readingAs shown S t room (seen tree end) =
+    cond (leb (length (shown tree)) room) (accepted (shown tree) (end .at) (length (end .left)) (comparisons S (value tree) t)) (refusal 30 0)
+
+-- All its rows are shown.
 abbrev pub reading : (ℕ → Shape) → ℕ → (room : ℕ) → Answer Tree → Reading
-reading S t room (refused n p) = refusal n p
-reading S t room (seen tree end) =
-    cond (leb (length (rows tree)) room) (accepted (rows tree) (end .at) (length (end .left)) (comparisons S (value tree) t)) (refusal 30 0)
+reading S t room answer = readingAs rows S t room answer
 
 -- A payload read as a struct of type t by a good table.
 unfoldable pub read : Table → ℕ → List ℕ → (room : ℕ) → Reading

@@ -38,6 +38,20 @@ extern "C" {
         answer_n: usize,
     ) -> u32;
 
+    fn arf_read_beside(
+        ours: *const u8,
+        ours_n: usize,
+        theirs: *const u8,
+        theirs_n: usize,
+        ty: u32,
+        payload: *const u8,
+        payload_n: usize,
+        sheet: *mut u32,
+        sheet_n: usize,
+        answer: *mut u64,
+        answer_n: usize,
+    ) -> u32;
+
     fn arf_write(
         schema: *const u8,
         schema_n: usize,
@@ -188,6 +202,34 @@ pub fn read(schema: &[u8], ty: u32, payload: &[u8], sheet: &mut [u32], answer: &
         arf_read(
             schema.as_ptr(),
             schema.len(),
+            ty,
+            payload.as_ptr(),
+            payload.len(),
+            sheet.as_mut_ptr(),
+            sheet.len(),
+            answer.as_mut_ptr(),
+            answer.len(),
+        )
+    }
+}
+
+/// Stores what `read` stores.
+pub fn read_beside(
+    ours: &[u8],
+    theirs: &[u8],
+    ty: u32,
+    payload: &[u8],
+    sheet: &mut [u32],
+    answer: &mut [u64],
+) -> u32 {
+    // SAFETY: each pointer and length are those of a Rust slice; the two that
+    // are written do not overlap, since both are `&mut`.
+    unsafe {
+        arf_read_beside(
+            ours.as_ptr(),
+            ours.len(),
+            theirs.as_ptr(),
+            theirs.len(),
             ty,
             payload.as_ptr(),
             payload.len(),
@@ -452,6 +494,7 @@ mod tests {
         with_any_room(1, |cells| check_table(&[], cells));
         with_any_room(2, |cells| extends(&[], &[], cells));
         with_any_room(5, |cells| read(&[], 0, &[], &mut [], cells));
+        with_any_room(5, |cells| read_beside(&[], &[], 0, &[], &mut [], cells));
         with_any_room(2, |cells| write(&[], 0, &[], &[], &mut [], cells));
         with_any_room(2, |cells| forward(&[], 0, &[], &[], [0; 2], &mut [], cells));
         with_any_room(4, |cells| scalar(&[], [0; 4], &[], cells));
@@ -627,5 +670,28 @@ mod tests {
         assert_eq!(release(&mut table, &schema, correlation, &mut cells), 0);
         assert_eq!((table, cells), ([0; 3 * 128], [0, 0]));
         assert_eq!(release(&mut table, &schema, correlation, &mut cells), 11);
+    }
+
+    /// uint8, a map from it to itself, and a struct with a field of the first
+    /// type and, where there is a second field, an optional one of the other.
+    fn grown_schema(fields: u32) -> Vec<u8> {
+        let types = [6, 0, 0, 15, 0, 0, 16, 0, fields];
+        let rows = [0, 0, 1, 1];
+        let end = 36 + 8 * fields;
+        let words = [&types[..], &rows[..2 * fields as usize], &[36, end, end, 1]].concat();
+        words.iter().flat_map(|word| word.to_le_bytes()).collect()
+    }
+
+    #[test]
+    fn ours_and_theirs_cross_in_their_places() {
+        let (ours, theirs) = (grown_schema(1), grown_schema(2));
+        let (mut sheet, mut cells) = ([0; 12], [FILL; 5]);
+        // The added map has two pairs, and a byte that no table knows follows.
+        let payload = [0x07, 9, 2, 1, 0, 2, 0, 5];
+        let number = read_beside(&ours, &theirs, 2, &payload, &mut sheet, &mut cells);
+        assert_eq!((number, cells), (0, [0, 2, 7, 1, 1]));
+        assert_eq!(sheet, [2, 0, 7, 1, 0, 1, 1, 0, 0, 0, 0, 0]);
+        let number = read_beside(&theirs, &ours, 2, &payload, &mut sheet, &mut cells);
+        assert_eq!((number, cells), (47, [0; 5]));
     }
 }

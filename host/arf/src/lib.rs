@@ -29,8 +29,8 @@ mod limits;
 mod refusal;
 
 pub use limits::{
-    MAX_COMPARISONS, MAX_DEPTH, MAX_FRAME, MAX_PAIRS, MAX_PAYLOAD, MAX_RECORD, NO_VALUE, SLOTS,
-    SPAN_CELLS, STACK,
+    MAX_COMPARISONS, MAX_DEPTH, MAX_FIELDS, MAX_FRAME, MAX_METHODS, MAX_PAIRS, MAX_PAYLOAD,
+    MAX_RECORD, MAX_TYPES, NO_VALUE, SLOTS, SPAN_CELLS, STACK,
 };
 pub use refusal::Refusal;
 
@@ -140,6 +140,52 @@ pub fn read(
     answer(number, place, Reading::from_cells(reading))
 }
 
+/// Reads a payload by the writer's table, and shows it by ours: the fields that
+/// theirs has added are left out at every depth. Places and lengths are as
+/// written, and a struct's count is that of the fields that ours has. A refusal
+/// leaves the sheet as it was.
+///
+/// Theirs has to extend ours as [`extends`] asks, but its bitmaps may have
+/// grown. The tables' own refusals come first, 40 to 44 for ours and then for
+/// theirs ([`check_table`] tells which it is), then 47, 46 for a type that is no
+/// struct of ours, 7, the payload's refusals by theirs, and at last 30 by the
+/// rows that are shown. Cells after those rows stay as they were.
+///
+/// The tail is what theirs does not know either. It is no tail for [`forward`],
+/// which takes only what [`read`] by the same table tells.
+///
+/// ```
+/// // uint8, and a struct with one such field; theirs adds an optional one.
+/// let ours = [6u32, 0, 0, 16, 0, 1, 0, 0, 24, 32, 32, 1];
+/// let theirs = [6u32, 0, 0, 16, 0, 2, 0, 0, 0, 1, 24, 40, 40, 1];
+/// let bytes = |words: &[u32]| words.iter().flat_map(|word| word.to_le_bytes()).collect();
+/// let (ours, theirs): (Vec<u8>, Vec<u8>) = (bytes(&ours), bytes(&theirs));
+///
+/// let (payload, mut sheet) = ([0x03, 0x07, 0x08], [0; 8]);
+/// let reading = arf::read_beside(&ours, &theirs, 1, &payload, &mut sheet).unwrap();
+/// assert_eq!((reading.rows, reading.tail_length), (2, 0));
+/// assert_eq!(sheet, [1, 0, 3, 1, 0, 1, 1, 0]);
+///
+/// // By our table alone the added field is a tail.
+/// let reading = arf::read(&ours, 1, &payload, &mut sheet).unwrap();
+/// assert_eq!((reading.tail_place, reading.tail_length), (2, 1));
+///
+/// let refused = arf::read_beside(&theirs, &ours, 1, &payload, &mut sheet).unwrap_err();
+/// assert_eq!((refused.number, refused.place), (47, 0));
+/// ```
+pub fn read_beside(
+    ours: &[u8],
+    theirs: &[u8],
+    type_number: u32,
+    payload: &[u8],
+    sheet: &mut [u32],
+) -> Result<Reading, Refusal> {
+    let mut cells = [0; 5];
+    let number = ffi::read_beside(ours, theirs, type_number, payload, sheet, &mut cells);
+    let [place, reading @ ..] = cells;
+    answer(number, place, Reading::from_cells(reading))
+}
+
 /// Writes the value that a sheet shows over its bytes, and gives its length. A
 /// refusal leaves the output as it was.
 ///
@@ -173,7 +219,9 @@ pub fn write(
 ///
 /// The refusals of [`write`] come first, up to a row that is left over. Then, at
 /// place 0: 51 for a tail outside the bytes, 50 for one that is shorter than the
-/// unknown bits or present without any, 7 and 52 for the whole.
+/// unknown bits or present without any, 7 and 52 for the whole. Only the tail
+/// that [`read`] by the same table tells belongs here, not that of
+/// [`read_beside`].
 ///
 /// A relay reads a payload by its own table and forwards just the rows shown,
 /// with the tail that the reading tells. Whatever it can read comes out as the

@@ -7,6 +7,14 @@ pub const MAX_PAYLOAD: usize = 16_384;
 /// takes three bytes at most, and the payload.
 pub const MAX_FRAME: usize = 25 + 3 + MAX_PAYLOAD;
 
+/// The most types, fields and methods of a schema table; more are refused with
+/// 41.
+pub const MAX_TYPES: usize = 256;
+/// See [`MAX_TYPES`].
+pub const MAX_FIELDS: usize = 2_048;
+/// See [`MAX_TYPES`].
+pub const MAX_METHODS: usize = 256;
+
 /// The type number that stands for no value: [`write_value_frame`] writes an
 /// empty payload for it. No table has a type of this number.
 ///
@@ -60,7 +68,7 @@ pub const SPAN_CELLS: usize = 4_682;
 pub const SLOTS: usize = 128;
 
 /// The stack in bytes that a thread needs for any call: 64 KiB, which leaves the
-/// caller some of it, since `tools/stack` measures 52 KiB at most. With less
+/// caller some of it, since `tools/stack` measures 54 KiB at most. With less
 /// stack than a call needs, the system ends the process.
 ///
 /// The main thread and those of `std::thread` have more unless they are given

@@ -58,6 +58,7 @@ const MEANINGS: &[(u32, &str)] = &[
     (44, "a method is at fault"),
     (45, "the record is above 65,536 bytes"),
     (46, "the type asked for is no struct"),
+    (47, "the writer's table does not extend ours"),
     (50, "the sheet or its tail does not fit"),
     (51, "a span or the tail lies outside the bytes"),
     (52, "the output is too small"),

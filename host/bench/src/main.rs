@@ -16,6 +16,7 @@ fn main() {
     table_check();
     let payloads = samples::payloads();
     payloads.iter().for_each(read);
+    samples::besides().iter().for_each(read_beside);
     payloads.iter().for_each(write);
     let receipt = samples::receipt();
     frame_read(&receipt);
@@ -98,6 +99,38 @@ fn read(sample: &Sample) {
     );
     let input = format!("{}, {} rows", sample.name, reading.rows);
     figure("read", &input, times);
+}
+
+/// A payload by the writer's table, shown by ours.
+fn read_beside((ours, sample): &(Vec<u8>, Sample)) {
+    let (theirs, payload) = (&sample.schema[..], &sample.payload[..]);
+    let (mut sheet, mut other) = (vec![0; CELLS], vec![0; CELLS]);
+    let type_number = sample.type_number;
+    let reading = arf::read_beside(ours, theirs, type_number, payload, &mut sheet);
+    let reading = reading.expect("the payload is right");
+    let expected = reference::read_beside(ours, theirs, type_number, payload, &mut other);
+    let expected = expected.expect("the payload is right");
+    assert_eq!(reading.rows, expected.rows);
+    assert_eq!(reading.comparisons, expected.comparisons);
+    assert_eq!(sheet, other);
+    let times = side_by_side(
+        |clear| {
+            if clear {
+                sheet.fill(0);
+            }
+            let (theirs, payload) = black_box((theirs, payload));
+            arf::read_beside(ours, theirs, type_number, payload, &mut sheet)
+        },
+        |clear| {
+            if clear {
+                other.fill(0);
+            }
+            let (theirs, payload) = black_box((theirs, payload));
+            reference::read_beside(ours, theirs, type_number, payload, &mut other)
+        },
+    );
+    let input = format!("{}, {} rows", sample.name, reading.rows);
+    figure("read beside", &input, times);
 }
 
 /// The rows that the reader shows, for a writer.

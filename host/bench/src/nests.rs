@@ -8,11 +8,13 @@ use crate::samples::{size, text};
 use crate::CELLS;
 use Level::{Array, Map, String, Struct};
 
-/// A payload with its table and type, and the rows that show it. The last byte
-/// is that of the innermost value, the last row is its row.
+/// A payload with its table and type, a table that has a field more in each
+/// struct, and the rows that show it. The last byte is that of the innermost
+/// value, the last row is its row.
 pub struct Nest {
     pub name: &'static str,
     pub schema: Vec<u8>,
+    pub wider: Vec<u8>,
     pub type_number: u32,
     pub payload: Vec<u8>,
     pub sheet: Vec<u32>,
@@ -48,41 +50,55 @@ pub fn nests() -> Vec<Nest> {
 
 /// A root that holds levels by turns, and at the greatest depth the innermost.
 fn nest(name: &'static str, pairs: usize, turns: &[Level], innermost: Level) -> Nest {
-    let mut table = Table::default();
-    let key = table.add_type(STRING, 0, 0);
-    let mut type_number = innermost.over(&mut table, key, key);
+    let between = MAX_DEPTH as usize - 2;
+    let levels = turns.iter().copied().cycle().take(between);
+    let levels: Vec<Level> = levels.collect();
+    let levels = || levels.iter().rev().copied().chain([Struct]);
+    let (schema, type_number) = table(levels(), innermost, false);
+    let (wider, _) = table(levels(), innermost, true);
     let mut payload = match innermost {
         String => text("é".as_bytes()),
         _ => vec![0],
     };
-    let between = MAX_DEPTH as usize - 2;
-    let levels: Vec<Level> = turns.iter().copied().cycle().take(between).collect();
-    for level in levels.into_iter().rev().chain([Struct]) {
-        type_number = level.over(&mut table, key, type_number);
+    for level in levels() {
         payload = level.around(pairs, payload);
     }
-    let method = [1, 2, 3, 12, type_number, type_number, NO_TYPE, NO_TYPE];
-    table.methods.push(method);
-    let schema = table.bytes();
     let mut sheet = vec![0; CELLS];
     let reading = reference::read(&schema, type_number, &payload, &mut sheet);
     sheet.truncate(4 * reading.expect("the nest is right").rows);
     Nest {
         name,
         schema,
+        wider,
         type_number,
         payload,
         sheet,
     }
 }
 
+/// The table of a nest, with the type of its root; a wider one has an optional
+/// string more in each struct.
+fn table(levels: impl Iterator<Item = Level>, innermost: Level, wider: bool) -> (Vec<u8>, u32) {
+    let mut table = Table::default();
+    let key = table.add_type(STRING, 0, 0);
+    let added = &[[key, 1]][..usize::from(wider)];
+    let mut type_number = innermost.over(&mut table, key, key, added);
+    for level in levels {
+        type_number = level.over(&mut table, key, type_number, added);
+    }
+    let method = [1, 2, 3, 12, type_number, type_number, NO_TYPE, NO_TYPE];
+    table.methods.push(method);
+    (table.bytes(), type_number)
+}
+
 impl Level {
-    /// Adds the type of this level, which holds values of the type below.
-    fn over(self, table: &mut Table, key: u32, below: u32) -> u32 {
+    /// Adds the type of this level, which holds values of the type below; a
+    /// struct has the added fields too.
+    fn over(self, table: &mut Table, key: u32, below: u32, added: &[[u32; 2]]) -> u32 {
         match self {
             Array => table.add_type(ARRAY, below, 0),
             Map => table.add_type(MAP, key, below),
-            Struct => table.add_struct(&[[below, 1]]),
+            Struct => table.add_struct(&[&[[below, 1]], added].concat()),
             String => key,
         }
     }
@@ -115,6 +131,7 @@ impl Nest {
         Some(Nest {
             name: self.name,
             schema: self.schema.clone(),
+            wider: self.wider.clone(),
             type_number: self.type_number,
             payload: [before, &[1, 0, 0]].concat(),
             sheet,

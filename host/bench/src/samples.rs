@@ -107,6 +107,36 @@ fn small_structs() -> Sample {
     })
 }
 
+/// Samples with our table beside the writer's, which has added an optional
+/// field to each small struct, and one to the struct of the long string.
+pub fn besides() -> Vec<(Vec<u8>, Sample)> {
+    let small = |known: usize| {
+        let mut table = Table::default();
+        let byte = table.add_type(UINT8, 0, 0);
+        let word = table.add_type(UINT32, 0, 0);
+        let fields = [[byte, 0], [word, 1], [byte, 1]];
+        let small = table.add_struct(&fields[..known]);
+        let array = table.add_type(ARRAY, small, 0);
+        longest("small structs, a field added", table, array, |room| {
+            counted(room, |index| vec![7, index as u8, 1, 2, 3, 4, 9])
+        })
+    };
+    let long = |known: usize| {
+        let mut table = Table::default();
+        let string = table.add_type(STRING, 0, 0);
+        let inner = table.add_struct(&[[string, 0], [string, 1]][..known]);
+        longest("long string, ASCII, a field added", table, inner, |room| {
+            [
+                &[3],
+                &text("a".repeat(room - 9).as_bytes())[..],
+                &text(b"added"),
+            ]
+            .concat()
+        })
+    };
+    vec![(small(2).schema, small(3)), (long(1).schema, long(2))]
+}
+
 /// One string of a character over and over.
 fn string(name: &'static str, character: &str) -> Sample {
     let mut table = Table::default();

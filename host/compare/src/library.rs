@@ -1,13 +1,13 @@
 //! The answers of the static library to cases, in the words of the case file.
 
 use reference::cases::{
-    call_table_sum, line, sheet_sum, sum, Case, Event, ExtendsCase, ForwardCase, FrameCase,
-    FrameWriteCase, HistoryCase, ReadCase, ReceiveCase, ReleaseCase, RunCase, SalvageCase,
-    ScalarCase, TableCase, ValueFrameCase, WriteCase, BYTE_FILL, CELL_FILL,
+    call_table_sum, line, sheet_sum, sum, BesideCase, Case, Event, ExtendsCase, ForwardCase,
+    FrameCase, FrameWriteCase, HistoryCase, ReadCase, ReceiveCase, ReleaseCase, RunCase,
+    SalvageCase, ScalarCase, TableCase, ValueFrameCase, WriteCase, BYTE_FILL, CELL_FILL,
 };
 
 /// The codes of the entries that the library has.
-pub const CODES: &[u8] = &[1, 2, 3, 4, 5, 6, 7, 8, 9, 10, 11, 15, 17, 18];
+pub const CODES: &[u8] = &[1, 2, 3, 4, 5, 6, 7, 8, 9, 10, 11, 15, 16, 17, 18];
 
 /// How many cells or bytes before and after a lent buffer are watched.
 const MARGIN: usize = 16;
@@ -26,6 +26,7 @@ pub fn answer(case: &Case, text: &mut String) {
         Case::Receive(case) => receive_one(case, text),
         Case::Release(case) => release_one(case, text),
         Case::History(case) => history(case, text),
+        Case::Beside(case) => read_beside(case, text),
         Case::ValueFrame(case) => value_frame(case, text),
         Case::Forward(case) => forward(case, text),
         Case::Salvage(case) => salvage(case, text),
@@ -80,6 +81,19 @@ fn read(case: &ReadCase, text: &mut String) {
     let (result, sheet) = lend(CELL_FILL, case.cells, |sheet| {
         arf::read(&case.schema, case.type_number, &case.payload, sheet)
     });
+    reading(result, &sheet, text);
+}
+
+fn read_beside(case: &BesideCase, text: &mut String) {
+    let (ours, theirs) = (&case.ours, &case.theirs);
+    let (result, sheet) = lend(CELL_FILL, case.cells, |sheet| {
+        arf::read_beside(ours, theirs, case.type_number, &case.payload, sheet)
+    });
+    reading(result, &sheet, text);
+}
+
+/// The line of a payload reader's answer.
+fn reading(result: Result<arf::Reading, arf::Refusal>, sheet: &[u32], text: &mut String) {
     let (number, place, reading) = outcome(result, arf::Reading::default());
     let [rows, tail_place, tail_length, comparisons] = reading_numbers(reading);
     line(
@@ -91,7 +105,7 @@ fn read(case: &ReadCase, text: &mut String) {
             tail_place,
             tail_length,
             comparisons,
-            sheet_sum(&sheet),
+            sheet_sum(sheet),
         ],
     );
 }

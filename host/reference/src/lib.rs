@@ -10,6 +10,7 @@
 
 #![forbid(unsafe_code)]
 
+pub mod beside;
 pub mod bitmap;
 pub mod calls;
 pub mod cases;
@@ -31,6 +32,7 @@ pub mod value_frame;
 pub mod varuint;
 pub mod writer;
 
+pub use beside::read_beside;
 pub use calls::{Call, CallTable};
 pub use extension::extends;
 pub use forward::{forward, Tail};

@@ -42,16 +42,21 @@ pub fn read_checked(
     sheet: &mut [u32],
 ) -> Result<Reading, Refusal> {
     schema.check_struct(type_number)?;
-    if payload.len() > MAX_PAYLOAD {
-        return Err(Reason::PayloadTooLong.at(0));
-    }
-    let reading = Judge::new(schema, payload).payload(type_number)?;
+    let reading = judge(schema, type_number, payload)?;
     let (rows, _) = sheet.as_chunks_mut::<4>();
     if reading.rows > rows.len() {
         return Err(Reason::SheetTooSmall.at(0));
     }
     Filler::new(schema, payload, rows).value(type_number);
     Ok(reading)
+}
+
+/// Judges a payload of a struct type: its length and everything in it.
+pub(crate) fn judge(schema: &Schema, type_number: u32, payload: &[u8]) -> Result<Reading, Refusal> {
+    if payload.len() > MAX_PAYLOAD {
+        return Err(Reason::PayloadTooLong.at(0));
+    }
+    Judge::new(schema, payload).payload(type_number)
 }
 
 /// Walks a payload and finds its first fault, or counts its rows.

@@ -72,6 +72,8 @@ pub enum Reason {
     RecordTooLong = 45,
     /// The type asked for is no struct.
     NotAStruct = 46,
+    /// The writer's table does not extend ours, wider bitmaps aside.
+    NoExtension = 47,
     /// The sheet does not fit the type or itself.
     SheetMisfit = 50,
     /// A span lies outside the bytes.

@@ -19,8 +19,13 @@ read-spec =
     -- read-payload-requires
     (λ c κs. sym (c .before .before .before .check .ensures) ∙ c .before .enum-told .given .1)
     -- returns
-    (λ c. entry-table (c .before .before .before .before .before .before .before .args .schema .now) (c .before .before .before .before .before .before .before .args .ty) (c .before .before .before .before .before .before .before .args .payload .now) (c .before .before .before .before .before .before .before .args .sheet .now) _ (c .before .before .before .check .ensures) _ _ (c .before .number .given .1))
+    (λ c.
+    let args = c .before .before .before .before .before .before .before .args in
+    entry-table (args .schema .now) (args .ty) (args .payload .now) (args .sheet .now) _ (c .before .before .before .check .ensures) _ _ (c .before .number .given .1))
     -- same-length
     (λ c. search needs)
     -- returns-2
-    (λ c. c .before .before .read-payload .ensures ∙ entry-good (c .before .before .before .before .before .before .before .before .before .before .args .schema .now) (c .before .before .before .before .before .before .before .before .before .before .args .ty) (c .before .before .before .before .before .before .before .before .before .before .args .payload .now) (c .before .before .before .before .before .before .before .before .before .before .args .sheet .now) _ (c .before .before .before .before .before .before .check .ensures) (c .before .before .before .before .enum-told .given .1)))
+    (λ c.
+    let args = c .before .before .before .before .before .before .before .before .before .before .args in
+    c .before .before .read-payload .ensures ∙ entry-good (args .schema .now) (args .ty) (args .payload .now) (args .sheet .now) _ (c .before .before .before .before .before .before .check .ensures)
+    (c .before .before .before .before .enum-told .given .1)))

@@ -18,7 +18,7 @@ use bench::CELLS;
 use reference::MAX_PAYLOAD;
 
 /// What is measured, `frame` for `write_value_frame`; a trial runs one of them, or nothing.
-const ENTRIES: [&str; 5] = ["read", "write", "forward", "receive", "frame"];
+const ENTRIES: [&str; 6] = ["read", "beside", "write", "forward", "receive", "frame"];
 const NOTHING: &str = "nothing";
 
 /// More than any entry may take, in KiB.
@@ -123,6 +123,10 @@ fn run(entry: &str, nest: &Nest, kib: usize) -> u32 {
     let mut table = Box::new(open_calls());
     match entry {
         "read" => on_thread(kib, || number(arf::read(schema, ty, payload, &mut sheet))),
+        "beside" => on_thread(kib, || {
+            let (ours, theirs) = (schema, &nest.wider);
+            number(arf::read_beside(ours, theirs, ty, payload, &mut sheet))
+        }),
         "write" => on_thread(kib, || {
             number(arf::write(schema, ty, &nest.sheet, payload, &mut out))
         }),

@@ -93,7 +93,7 @@ pub struct ReadCase {
 }
 
 /// The numbers of a reading: rows, tail place, tail length, comparisons.
-fn reading_numbers(reading: Reading) -> [u64; 4] {
+pub(super) fn reading_numbers(reading: Reading) -> [u64; 4] {
     [
         reading.rows,
         reading.tail_place,

@@ -3,6 +3,7 @@
 //! A case is a code byte and the inputs of one entry. Its answer is a line of
 //! decimal numbers; a run has a line a frame, a history a line an event.
 
+mod beside;
 mod entries;
 mod format;
 mod forward;
@@ -11,6 +12,7 @@ mod listings;
 mod records;
 mod value_frame;
 
+pub use beside::BesideCase;
 pub use entries::{
     ExtendsCase, FrameCase, FrameWriteCase, ReadCase, ReceiveCase, RunCase, ScalarCase, TableCase,
     WriteCase, BYTE_FILL, CELL_FILL,
@@ -43,6 +45,7 @@ pub enum Case {
     Release(ReleaseCase),
     History(HistoryCase),
     ValueFrame(ValueFrameCase),
+    Beside(BesideCase),
     Forward(ForwardCase),
     Salvage(SalvageCase),
 }
@@ -63,6 +66,7 @@ impl Case {
             Case::Release(_) => 10,
             Case::History(_) => 11,
             Case::ValueFrame(_) => 15,
+            Case::Beside(_) => 16,
             Case::Forward(_) => 18,
             Case::Salvage(_) => 17,
         }
@@ -82,6 +86,7 @@ impl Case {
             Case::Release(case) => case,
             Case::History(case) => case,
             Case::ValueFrame(case) => case,
+            Case::Beside(case) => case,
             Case::Forward(case) => case,
             Case::Salvage(case) => case,
         }
@@ -102,6 +107,7 @@ impl Case {
             10 => Case::Release(ReleaseCase::take(input)?),
             11 => Case::History(HistoryCase::take(input)?),
             15 => Case::ValueFrame(ValueFrameCase::take(input)?),
+            16 => Case::Beside(BesideCase::take(input)?),
             18 => Case::Forward(ForwardCase::take(input)?),
             17 => Case::Salvage(SalvageCase::take(input)?),
             _ => return None,

@@ -3,6 +3,7 @@
 //! Each code has a wheel of makers. A maker aims at one answer or one sort of
 //! input; the wheel turns evenly, so every sort keeps its share.
 
+mod besides;
 pub mod carrier;
 mod damage;
 mod deep;

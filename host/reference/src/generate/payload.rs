@@ -66,7 +66,14 @@ pub fn sample(rng: &mut Rng) -> Sample {
 pub fn table_holding(rng: &mut Rng, wanted: u32) -> (Table, u32) {
     let types = rng.range(1, 3);
     let mut table = random_table(rng, types);
-    let mut held = add_wanted(rng, &mut table, wanted);
+    let held = add_held(rng, &mut table, wanted);
+    let root = add_holder(rng, &mut table, held);
+    (table, root)
+}
+
+/// A type row of the wanted kind, or one that holds it some levels below.
+pub fn add_held(rng: &mut Rng, table: &mut Table, wanted: u32) -> u32 {
+    let mut held = add_wanted(rng, table, wanted);
     for _ in 0..rng.pick(&[0, 0, 1, 1, 2]) {
         held = match rng.below(3) {
             0 => table.add_type(ARRAY, held, 0),
@@ -74,11 +81,10 @@ pub fn table_holding(rng: &mut Rng, wanted: u32) -> (Table, u32) {
                 let key = table.add_type(key_kind(rng), 0, 0);
                 table.add_type(MAP, key, held)
             }
-            _ => add_holder(rng, &mut table, held),
+            _ => add_holder(rng, table, held),
         };
     }
-    let root = add_holder(rng, &mut table, held);
-    (table, root)
+    held
 }
 
 /// A struct with a required field of a type, and maybe others around it.

@@ -2,8 +2,8 @@
 
 use super::rng::Rng;
 use super::{
-    aim, any, damage, draw, fault, forwards, frames, histories, holes, line, maps, pair, reading,
-    runs, scalars, sheet, table, value_frames, Code, Wheel,
+    aim, any, besides, damage, draw, fault, forwards, frames, histories, holes, line, maps, pair,
+    reading, runs, scalars, sheet, table, value_frames, Code, Wheel,
 };
 use crate::cases::{Case, TableCase, WriteCase};
 
@@ -25,6 +25,7 @@ pub const LATER_CODES: &[Code] = &[
     (10, 8, RELEASE),
     (11, 12, HISTORY),
     (15, 12, VALUE_FRAME),
+    (16, 14, BESIDE),
     (17, 12, SALVAGE),
     (18, 12, FORWARD),
 ];
@@ -504,6 +505,127 @@ const VALUE_FRAME: Wheel = &[
     any(8, |rng| {
         value_frames::empty_bad_table(rng, fault::any_fault)
     }),
+];
+
+const BESIDE: Wheel = &[
+    aim(80, 0, |rng| {
+        besides::beside(rng, besides::widened, damage::whole)
+    }),
+    aim(30, 0, |rng| {
+        besides::beside(rng, besides::extended, damage::whole)
+    }),
+    any(16, |rng| besides::beside(rng, besides::same, damage::whole)),
+    aim(24, 0, |rng| {
+        besides::beside_added(rng, table::MAP, damage::whole)
+    }),
+    aim(12, 0, |rng| {
+        besides::beside_added(rng, table::STRUCT, damage::whole)
+    }),
+    aim(24, 0, |rng| {
+        besides::beside(rng, besides::widened, damage::tail)
+    }),
+    aim(8, 0, |rng| {
+        besides::beside(rng, besides::extended, damage::tail)
+    }),
+    aim(8, 20, |rng| {
+        besides::beside(rng, besides::widened, damage::short_tail)
+    }),
+    aim(14, 20, |rng| {
+        besides::beside(rng, besides::widened, damage::cut)
+    }),
+    aim(8, 20, |rng| besides::beside_sized(rng, damage::oversized)),
+    aim(6, 20, |rng| besides::beside_sized(rng, damage::cut_size)),
+    aim(6, 21, |rng| besides::beside_sized(rng, damage::malformed)),
+    aim(12, 21, |rng| {
+        besides::beside_sized(rng, damage::padded_size)
+    }),
+    aim(6, 21, |rng| {
+        besides::beside(rng, besides::widened, damage::padded_size)
+    }),
+    aim(10, 22, |rng| {
+        besides::beside_added(rng, 1, damage::not_bool)
+    }),
+    aim(6, 22, |rng| {
+        besides::beside(rng, besides::widened, damage::not_bool)
+    }),
+    aim(10, 23, |rng| {
+        besides::beside_added(rng, table::STRING, damage::not_utf8)
+    }),
+    aim(6, 23, |rng| {
+        besides::beside(rng, besides::widened, damage::not_utf8)
+    }),
+    aim(12, 24, |rng| {
+        besides::beside_added(rng, table::MAP, damage::repeated_key)
+    }),
+    aim(6, 24, |rng| {
+        besides::beside(rng, besides::widened, damage::repeated_key)
+    }),
+    aim(12, 25, |rng| {
+        besides::beside(rng, besides::widened, damage::absent)
+    }),
+    aim(6, 25, |rng| {
+        besides::beside_added(rng, table::STRUCT, damage::absent)
+    }),
+    aim(14, 26, |rng| {
+        besides::beside(rng, besides::widened, damage::inner_bit)
+    }),
+    aim(12, 26, |rng| {
+        besides::beside_added(rng, table::STRUCT, damage::inner_bit)
+    }),
+    aim(14, 27, |rng| {
+        besides::beside(rng, besides::widened, damage::surplus)
+    }),
+    aim(8, 0, |rng| besides::beside_deep(rng, 16, damage::whole)),
+    aim(14, 28, |rng| besides::beside_deep(rng, 17, damage::whole)),
+    any(6, |rng| besides::beside_deep(rng, 17, damage::cut)),
+    aim(20, 30, besides::small_sheet),
+    aim(8, 0, |rng| {
+        besides::beside_map(rng, maps::allowed, damage::whole)
+    }),
+    aim(8, 31, |rng| {
+        besides::beside_map(rng, maps::excessive, damage::whole)
+    }),
+    aim(8, 31, |rng| {
+        besides::beside_added(rng, table::MAP, damage::many_pairs)
+    }),
+    aim(4, 24, |rng| {
+        besides::beside_map(rng, maps::most, damage::repeated_late_key)
+    }),
+    any(1, besides::hidden_maps_of_maps),
+    any(20, |rng| {
+        besides::beside(rng, besides::widened, damage::noise)
+    }),
+    any(8, |rng| besides::beside_sized(rng, damage::noise)),
+    any(12, |rng| {
+        besides::beside(rng, besides::widened, damage::twice)
+    }),
+    any(8, |rng| besides::beside_sized(rng, damage::twice)),
+    any(8, besides::random_payload),
+    aim(20, 46, besides::beside_no_struct),
+    aim(12, 47, |rng| besides::of_pair(rng, pair::changed_types)),
+    aim(16, 47, |rng| besides::of_pair(rng, pair::changed_fields)),
+    any(12, |rng| besides::of_pair(rng, pair::changed_fields)),
+    aim(12, 47, |rng| besides::of_pair(rng, pair::changed_methods)),
+    aim(6, 47, |rng| besides::of_pair(rng, pair::unrelated_pair)),
+    any(10, |rng| besides::of_pair(rng, pair::good_pair)),
+    any(10, |rng| besides::of_pair(rng, pair::bad_pair)),
+    aim(6, 40, |rng| {
+        besides::of_pair(rng, |rng| pair::pair_with_fault(rng, fault::bad_shape))
+    }),
+    aim(6, 41, |rng| {
+        besides::of_pair(rng, |rng| pair::pair_with_fault(rng, fault::too_many_rows))
+    }),
+    aim(6, 42, |rng| {
+        besides::of_pair(rng, |rng| pair::pair_with_fault(rng, fault::bad_type))
+    }),
+    aim(6, 43, |rng| {
+        besides::of_pair(rng, |rng| pair::pair_with_fault(rng, fault::bad_field))
+    }),
+    aim(6, 44, |rng| {
+        besides::of_pair(rng, |rng| pair::pair_with_fault(rng, fault::bad_method))
+    }),
+    aim(5, 7, besides::beside_too_long),
+    aim(1, 0, |rng| besides::beside_long(rng, crate::MAX_PAYLOAD)),
 ];
 
 const FORWARD: Wheel = &[

@@ -21,12 +21,20 @@ text-spec =
     -- add-to
     (λ c. let h = text-in _ (c .before .before .before .before .before .args .kind) _ _ (c .before .before .before .read-count .ensures) _ _ (c .before .n .given .1) in omega arith)
     -- is-utf8-requires
-    (λ c κs. let h = text-in _ (c .before .before .before .before .before .before .args .kind) _ _ (c .before .before .before .before .read-count .ensures) _ _ (c .before .before .n .given .1) in (h .1, λ j. text-known _ (c .before .before .before .before .before .before .args .kind) _ _ (c .before .before .before .before .read-count .ensures) _ _ (c .before .before .n .given .1) (c .if1 .taken) (c .before .before .before .before .before .before .pre .1 j)))
+    (λ c κs. let h = text-in _ (c .before .before .before .before .before .before .args .kind) _ _ (c .before .before .before .before .read-count .ensures) _ _ (c .before .before .n .given .1) in (
+      h .1,
+      λ j. text-known _ (c .before .before .before .before .before .before .args .kind) _ _ (c .before .before .before .before .read-count .ensures) _ _ (c .before .before .n .given .1) (c .if1 .taken)
+          (c .before .before .before .before .before .before .pre .1 j),
+    ))
     -- returns
-    (λ c. text-bad _ (c .before .before .before .before .before .before .before .before .args .kind) _ _ (c .before .before .before .before .before .before .read-count .ensures) _ _ (c .before .before .before .before .n .given .1) (c .before .before .if1 .taken) (sym (c .before .is-utf8 .ensures) ∙ not-true _ (c .if2 .taken)))
+    (λ c. text-bad _ (c .before .before .before .before .before .before .before .before .args .kind) _ _ (c .before .before .before .before .before .before .read-count .ensures) _ _
+    (c .before .before .before .before .n .given .1) (c .before .before .if1 .taken) (sym (c .before .is-utf8 .ensures) ∙ not-true _ (c .if2 .taken)))
     -- returns-2
     (λ c. text-refused _ (c .before .before .before .before .before .args .kind) _ _ (c .before .before .before .read-count .ensures) _ (c .before .number .given .1))
     -- returns-3
-    (λ c. text-at _ (c .before .before .before .before .before .before .before .before .args .kind) _ _ (c .before .before .before .before .before .before .read-count .ensures) _ _ (c .before .before .before .before .n .given .1) (text-valid _ (c .before .before .before .before .before .before .before .before .args .kind) _ _ (c .before .before .before .before .before .before .read-count .ensures) _ _ (c .before .before .before .before .n .given .1) (c .before .before .if1 .taken) (sym (c .before .is-utf8 .ensures) ∙ not-false _ (c .if2 .left))))
+    (λ c. text-at _ (c .before .before .before .before .before .before .before .before .args .kind) _ _ (c .before .before .before .before .before .before .read-count .ensures) _ _
+    (c .before .before .before .before .n .given .1) (text-valid _ (c .before .before .before .before .before .before .before .before .args .kind) _ _ (c .before .before .before .before .before .before .read-count .ensures) _
+    _ (c .before .before .before .before .n .given .1) (c .before .before .if1 .taken) (sym (c .before .is-utf8 .ensures) ∙ not-false _ (c .if2 .left))))
     -- returns-4
-    (λ c. text-at _ (c .before .before .before .before .before .before .args .kind) _ _ (c .before .before .before .before .read-count .ensures) _ _ (c .before .before .n .given .1) (text-plain _ (c .before .before .before .before .before .before .args .kind) _ _ (c .before .before .before .before .read-count .ensures) _ _ (c .before .before .n .given .1) (c .if1 .left))))
+    (λ c. text-at _ (c .before .before .before .before .before .before .args .kind) _ _ (c .before .before .before .before .read-count .ensures) _ _ (c .before .before .n .given .1)
+    (text-plain _ (c .before .before .before .before .before .before .args .kind) _ _ (c .before .before .before .before .read-count .ensures) _ _ (c .before .before .n .given .1) (c .if1 .left))))

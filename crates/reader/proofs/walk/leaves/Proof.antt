@@ -1,30 +1,29 @@
--- `reader::walk::leaves` meets its contract. The invariant: what is left of the elements gives the same end.
+-- `reader::walk::leaves` meets its contract. The invariant: what is left of the elements gives the same end, whatever is known.
 -- Assumes nothing.
 use borrow.Author.Needs.{needs}
 use mathlib.Core.Path.{_≡_, refl, sym, _∙_}
-use mathlib.Core.List.{[]}
-use Prim.Native.Nat.{_+_, _-_, _≤_}
+use mathlib.Core.List.{List, []}
+use Prim.Native.Nat.{ℕ, _+_, _-_, _≤_, _<_}
 use native.Mathlib.Omega.{arith}
 use lib.ListN.{length, replicate}
 use Rattle.schema.specs.Table.{array, shape}
 use Rattle.schema.specs.File.{tableOf}
 use Rattle.value.specs.Answer.{cursorAt, Accepted}
-use Rattle.value.specs.Value.{rows, rowsAll}
 use Rattle.value.specs.Read.{plainItem, walk, parse}
 use Rattle.parts.specs.Shape.{leafShape}
 use Rattle.parts.proofs.Tables.{shape-leaf}
 use Rattle.parts.proofs.Items.{elements-none}
 use Rattle.parts.proofs.Walks.{deeper}
-use Rattle.reader.specs.Walk.{walkOf}
-use Rattle.reader.proofs.Steps.{stop-at, composite-past, composite-stop, rest-accepted, own-accepted, parse-deep, leaf-failed, leaf-in, leaf-past}
-use Rattle.reader.proofs.Composites.{element-past, element-stop, element-accepted, emptied}
+use Rattle.reader.specs.Walk.{firstFields, told}
+use Rattle.reader.proofs.Steps.{aheadIn, stop-at, composite-past, composite-stop, rest-accepted, own-accepted, parse-deep, leaf-failed, leaf-in, leaf-past}
+use Rattle.reader.proofs.Composites.{element-past, element-stop, element-accepted}
 use Rattle.reader.proofs.walk.leaves.Statement.{statement}
 use Rattle.reader.proofs.walk.leaves.Tie as tie
 
 abbrev Inv-loop : tie.InvT-loop
 Inv-loop s p sheet₀ ty elem n start depth row judge kind left₀ here₀ below₀ sheet left here below =
-    (walkOf rowsAll (walk (parse (shape (tableOf s)) depth) [] (replicate left (plainItem elem)) (cursorAt p here)) below sheet
-    ≡ walkOf rowsAll (walk (parse (shape (tableOf s)) depth) [] (replicate n (plainItem elem)) (cursorAt p start)) (row + 1) sheet₀)
+    ((known : List ℕ)
+    → aheadIn known s p depth [] (replicate left (plainItem elem)) here 0 below sheet ≡ aheadIn known s p depth [] (replicate n (plainItem elem)) start 0 (row + 1) sheet₀)
     × (here ≤ length p) × (below ≤ here) × (start ≤ here) × (length sheet ≡ length sheet₀)
 
 abbrev μ-loop : tie.MeasureT-loop
@@ -43,38 +42,48 @@ leaves-spec =
     -- add-below
     (λ c. let pre = c .before .before .before .before .before .pre .0 in omega arith)
     -- loop-holds
-    (λ c. let pre = c .before .before .before .before .before .pre .0 in (refl, pre .inside, pre .behind, omega arith, refl))
+    (λ c. let pre = c .before .before .before .before .before .pre .0 in (λ known. refl, pre .inside, pre .behind, omega arith, refl))
     -- same-length
     (λ c. c .before .before .loop .inv .4)
     -- returns
     (λ c.
     let args = c .before .before .before .before .before .before .before .before .args in
     let loop = c .before .before .loop in
-    let P = parse (shape (tableOf (args .s .now))) (args .depth) in
-    let p = args .p .now in
-    let here = cursorAt p (loop .here) in
-    composite-stop P (array (args .elem)) (args .ty) (args .start) (args .n) (cursorAt p (args .start)) (args .row) (args .sheet .now) p (args .start) _ _ _ (element-stop P (args .elem) (loop .left) (c .before .loop-test .taken) here (loop .below) (loop .sheet) _ _ (stop-at rows _ (loop .below) (loop .sheet) _ _ (parse-deep (shape (tableOf (args .s .now))) (args .depth) (args .elem) here (c .if1 .taken))) ∙ loop .inv .0))
+    let S = shape (tableOf (args .s .now)) in
+    let P = parse S (args .depth) in
+    let here = cursorAt (args .p .now) (loop .here) in
+    λ known.
+    let R = firstFields known S in
+    composite-stop R S P (array (args .elem)) (args .ty) (args .start) (args .n) _ (args .row) (args .sheet .now) _ _ _ _ _
+    (element-stop R S P (args .elem) (loop .left) (c .before .loop-test .taken) here 0 (loop .below) (loop .sheet) _ _
+    (stop-at (told R S (args .elem)) _ (loop .below) (loop .sheet) _ _ (parse-deep S (args .depth) (args .elem) here (c .if1 .taken))) ∙ loop .inv .0 known))
     -- content-requires
     (λ c κs.
     let asked = c .before .before .before .before .before .before .before .before .pre in
     let loop = c .before .before .loop in
-    let type-row = c .before .before .before .before .type-row in
+    let t = c .before .before .before .before .type-row in
     let args = c .before .before .before .before .before .before .before .before .args in
-    let P = parse (shape (tableOf (args .s .now))) (args .depth) in
-    let S = shape (tableOf (args .s .now)) in
+    let T = tableOf (args .s .now) in
+    let S = shape T in
+    let R = firstFields [] S in
+    let P = parse S (args .depth) in
     let p = args .p .now in
     let here = cursorAt p (loop .here) in
-    let pre = asked .0 in
-    let inv = loop .inv in (
-      pre .small,
-      inv .1,
-      rw (type-row .ensures) (asked .1 .0),
-      rw (type-row .ensures) (asked .1 .1),
+    let some : 0 < t .result .kind = rw (t .ensures) (asked .1 .0) in
+    let leaf : t .result .kind < 14 = rw (t .ensures) (asked .1 .1) in (
+      asked .0 .small,
+      loop .inv .1,
+      some,
+      leaf,
       λ j.
-          own-accepted S (args .depth - 1) (args .elem) here (leafShape (type-row .result .kind)) (shape-leaf (tableOf (args .s .now)) (args .elem) (type-row .result) (type-row .ensures) (rw (type-row .ensures) (asked .1 .0)) (rw (type-row .ensures) (asked .1 .1)))
-          (deeper (λ k. Accepted (parse S k (args .elem) here)) (args .depth) (c .if1 .left) (element-accepted P (args .elem) (loop .left) (c .before .loop-test .taken) here (loop .below) (loop .sheet) (rest-accepted P (array (args .elem)) (args .ty) (args .start) (args .n) (cursorAt p (args .start)) (args .row) (args .sheet .now) (walk P [] (replicate (loop .left) (plainItem (args .elem))) here) (loop .below) (loop .sheet) (loop .inv .0) (asked .0 .judged j)))),
+          own-accepted S (args .depth - 1) (args .elem) here (leafShape (t .result .kind)) (shape-leaf T (args .elem) (t .result) (t .ensures) some leaf)
+          (deeper (λ k. Accepted (parse S k (args .elem) here)) (args .depth) (c .if1 .left)
+          (element-accepted R S P (args .elem) (loop .left) (c .before .loop-test .taken) here 0 (loop .below) (loop .sheet)
+          (rest-accepted R S P (array (args .elem)) (args .ty) (args .start) (args .n) (cursorAt p (args .start)) (args .row) (args .sheet .now)
+          (walk P [] (replicate (loop .left) (plainItem (args .elem))) here) (replicate (loop .left) (plainItem (args .elem))) 0 (loop .below) (loop .sheet)
+          (loop .inv .0 []) (asked .0 .judged j)))),
     ))
-    -- enum-known-number
+    -- enum-known-place
     (λ c. search needs)
     -- same-length-2
     (λ c. c .before .before .before .before .before .before .loop .inv .4)
@@ -82,53 +91,81 @@ leaves-spec =
     (λ c.
     let args = c .before .before .before .before .before .before .before .before .before .before .before .before .args in
     let loop = c .before .before .before .before .before .before .loop in
-    let type-row = c .before .before .before .before .before .before .before .before .type-row in
+    let t = c .before .before .before .before .before .before .before .before .type-row in
     let asked = c .before .before .before .before .before .before .before .before .before .before .before .before .pre in
-    let P = parse (shape (tableOf (args .s .now))) (args .depth) in
     let T = tableOf (args .s .now) in
+    let S = shape T in
+    let P = parse S (args .depth) in
     let p = args .p .now in
-    composite-stop P (array (args .elem)) (args .ty) (args .start) (args .n) (cursorAt p (args .start)) (args .row) (args .sheet .now) p (args .start) _ _ _ (element-stop P (args .elem) (loop .left) (c .before .before .before .before .before .loop-test .taken) (cursorAt p (loop .here)) (loop .below) (loop .sheet) _ _ (stop-at rows _ (loop .below) (loop .sheet) _ _ (leaf-failed (shape T) (args .depth) (args .elem) (leafShape (type-row .result .kind)) (shape-leaf T (args .elem) (type-row .result) (type-row .ensures) (rw (type-row .ensures) (asked .1 .0)) (rw (type-row .ensures) (asked .1 .1))) (c .before .before .before .before .if1 .left) p (loop .here) _ (c .before .before .before .content .ensures) _ _ (c .before .place .given .1))) ∙ loop .inv .0))
+    let is = shape-leaf T (args .elem) (t .result) (t .ensures) (rw (t .ensures) (asked .1 .0)) (rw (t .ensures) (asked .1 .1)) in
+    let failed = leaf-failed S (args .depth) (args .elem) (leafShape (t .result .kind)) is (c .before .before .before .before .if1 .left) p (loop .here) _ (c .before .before .before .content .ensures) _ _ (c .before .place .given .1) in
+    λ known.
+    let R = firstFields known S in
+    composite-stop R S P (array (args .elem)) (args .ty) (args .start) (args .n) _ (args .row) (args .sheet .now) _ _ _ _ _
+    (element-stop R S P (args .elem) (loop .left) (c .before .before .before .before .before .loop-test .taken) (cursorAt p (loop .here)) 0 (loop .below) (loop .sheet) _ _
+    (stop-at (told R S (args .elem)) _ (loop .below) (loop .sheet) _ _ failed) ∙ loop .inv .0 known))
     -- enum-known-from
     (λ c. search needs)
     -- sub-put-row
     (λ c.
-    let args = c .before .before .before .before .before .before .before .before .before .before .before .before .before .args in
-    let type-row = c .before .before .before .before .before .before .before .before .before .type-row in
-    let asked = c .before .before .before .before .before .before .before .before .before .before .before .before .before .pre in
+    let back = c .before .before .before .before .before .before .before .before .before in
+    let args = back .before .before .before .before .args in
+    let t = back .type-row in
+    let asked = back .before .before .before .before .pre in
     let span = c .before .before .from in
     let T = tableOf (args .s .now) in
-    let i = (leaf-in (shape T) (args .depth) (args .elem) (leafShape (type-row .result .kind)) (shape-leaf T (args .elem) (type-row .result) (type-row .ensures) (rw (type-row .ensures) (asked .1 .0)) (rw (type-row .ensures) (asked .1 .1))) (c .before .before .before .before .before .if1 .left) (args .p .now) (c .before .before .before .before .before .before .before .loop .here) _ (c .before .before .before .before .content .ensures) (span .given .0 .0) (span .given .0 .1 .0) (span .given .1)) in omega arith)
+    let is = shape-leaf T (args .elem) (t .result) (t .ensures) (rw (t .ensures) (asked .1 .0)) (rw (t .ensures) (asked .1 .1)) in
+    let i = leaf-in (shape T) (args .depth) (args .elem) (leafShape (t .result .kind)) is (c .before .before .before .before .before .if1 .left) (args .p .now) (c .before .before .before .before .before .before .before .loop .here) _
+    (c .before .before .before .before .content .ensures) (span .given .0 .0) (span .given .0 .1 .0) (span .given .1) in omega arith)
     -- put-row-requires
     (λ c κs.
-    let args = c .before .before .before .before .before .before .before .before .before .before .before .before .before .args in
-    let type-row = c .before .before .before .before .before .before .before .before .before .type-row in
-    let asked = c .before .before .before .before .before .before .before .before .before .before .before .before .before .pre in
-    let loop = c .before .before .before .before .before .before .before .loop in
+    let back = c .before .before .before .before .before .before .before .before .before in
+    let args = back .before .before .before .before .args in
+    let t = back .type-row in
+    let asked = back .before .before .before .before .pre in
     let span = c .before .before .from in
     let T = tableOf (args .s .now) in
-    let i = (leaf-in (shape T) (args .depth) (args .elem) (leafShape (type-row .result .kind)) (shape-leaf T (args .elem) (type-row .result) (type-row .ensures) (rw (type-row .ensures) (asked .1 .0)) (rw (type-row .ensures) (asked .1 .1))) (c .before .before .before .before .before .if1 .left) (args .p .now) (loop .here) _ (c .before .before .before .before .content .ensures) (span .given .0 .0) (span .given .0 .1 .0) (span .given .1)) in let pre = asked .0 in let inv = loop .inv in omega arith)
+    let is = shape-leaf T (args .elem) (t .result) (t .ensures) (rw (t .ensures) (asked .1 .0)) (rw (t .ensures) (asked .1 .1)) in
+    let i = leaf-in (shape T) (args .depth) (args .elem) (leafShape (t .result .kind)) is (c .before .before .before .before .before .if1 .left) (args .p .now) (c .before .before .before .before .before .before .before .loop .here) _
+    (c .before .before .before .before .content .ensures) (span .given .0 .0) (span .given .0 .1 .0) (span .given .1) in
+    let pre = asked .0 in
+    let inv = c .before .before .before .before .before .before .before .loop .inv in omega arith)
     -- add-below-2
-    (λ c. let pre = c .before .before .before .before .before .before .before .before .before .before .before .before .before .before .before .before .pre .0 in let inv = c .before .before .before .before .before .before .before .before .before .before .loop .inv in omega arith)
+    (λ c.
+    let back = c .before .before .before .before .before .before .before .before .before in
+    let pre = back .before .before .before .before .before .before .before .pre .0 in let inv = back .before .loop .inv in omega arith)
     -- sub-left
     (λ c. search needs)
     -- loop-less
     (λ c. omega arith)
     -- loop-again
     (λ c.
-    let loop = c .before .before .before .before .before .before .before .before .before .before .loop in
-    let args = c .before .before .before .before .before .before .before .before .before .before .before .before .before .before .before .before .args in
-    let type-row = c .before .before .before .before .before .before .before .before .before .before .before .before .type-row in
-    let asked = c .before .before .before .before .before .before .before .before .before .before .before .before .before .before .before .before .pre in
-    let if1 = c .before .before .before .before .before .before .before .before .if1 in
-    let content = c .before .before .before .before .before .before .before .content in
+    let back = c .before .before .before .before .before .before .before .before .before in
+    let loop = back .before .loop in
+    let args = back .before .before .before .before .before .before .before .args in
+    let t = back .before .before .before .type-row in
+    let asked = back .before .before .before .before .before .before .before .pre in
     let span = c .before .before .before .before .before .from in
-    let put-row = c .before .before .put-row in
-    let S = shape (tableOf (args .s .now)) in
+    let put = c .before .before .put-row in
     let T = tableOf (args .s .now) in
+    let S = shape T in
     let p = args .p .now in
     let inv = loop .inv in
-    let i = (leaf-in S (args .depth) (args .elem) (leafShape (type-row .result .kind)) (shape-leaf T (args .elem) (type-row .result) (type-row .ensures) (rw (type-row .ensures) (asked .1 .0)) (rw (type-row .ensures) (asked .1 .1))) (if1 .left) p (loop .here) _ (content .ensures) (span .given .0 .0) (span .given .0 .1 .0) (span .given .1)) in
-    (sym (element-past (parse S (args .depth)) (args .elem) (loop .left) (c .before .before .before .before .before .before .before .before .before .loop-test .taken) (cursorAt p (loop .here)) (loop .below) (loop .sheet) _ _ _ (leaf-past S (args .depth) (args .elem) (leafShape (type-row .result .kind)) (shape-leaf T (args .elem) (type-row .result) (type-row .ensures) (rw (type-row .ensures) (asked .1 .0)) (rw (type-row .ensures) (asked .1 .1))) (if1 .left) p (loop .here) _ (content .ensures) (span .given .0 .0) (span .given .0 .1 .0) (span .given .1) (loop .below) (loop .sheet) _ (inv .2) (put-row .ensures) .same)) ∙ inv .0, i .1, omega arith, omega arith, put-row .kept .0 ∙ inv .4))
+    let kind = leafShape (t .result .kind) in
+    let is = shape-leaf T (args .elem) (t .result) (t .ensures) (rw (t .ensures) (asked .1 .0)) (rw (t .ensures) (asked .1 .1)) in
+    let read = c .before .before .before .before .before .before .before .content .ensures in
+    let some = c .before .before .before .before .before .before .before .before .if1 .left in
+    let i = leaf-in S (args .depth) (args .elem) kind is some p (loop .here) _ read (span .given .0 .0) (span .given .0 .1 .0) (span .given .1) in (
+      λ known.
+          let R = firstFields known S in
+          let w =
+          leaf-past S (args .depth) (args .elem) kind is some p (loop .here) _ read (span .given .0 .0) (span .given .0 .1 .0) (span .given .1) R (loop .below) (loop .sheet) _ (inv .2) (put .ensures) in
+          sym (element-past R S (parse S (args .depth)) (args .elem) (loop .left) (back .loop-test .taken) (cursorAt p (loop .here)) 0 (loop .below) (loop .sheet) _ _ _ _ (w .same)) ∙ inv .0 known,
+      i .1,
+      omega arith,
+      omega arith,
+      put .kept .0 ∙ inv .4,
+    ))
     -- sub-put-row-2
     (λ c. omega arith)
     -- put-row-requires-2
@@ -139,9 +176,10 @@ leaves-spec =
     (λ c.
     let loop = c .before .before .before .before .before .loop in
     let args = c .before .before .before .before .before .before .before .before .before .before .before .args in
-    let P = parse (shape (tableOf (args .s .now))) (args .depth) in
+    let S = shape (tableOf (args .s .now)) in
     let p = args .p .now in
     let inv = loop .inv in
-    composite-past P (array (args .elem)) (args .ty) (args .start) (args .n) (cursorAt p (args .start)) (args .row) (args .sheet .now) p (args .start) _ _ (loop .sheet) _ []
-    (emptied P [] (replicate (loop .left) (plainItem (args .elem))) _ _ _ _ (elements-none (args .elem) (loop .left) (c .before .before .before .before .loop-test .left)) (inv .0))
-    (c .before .before .put-row2 .ensures) (inv .1) (inv .2) (inv .3)))
+    λ known.
+    composite-past (firstFields known S) S (parse S (args .depth)) (array (args .elem)) (args .ty) (args .start) (args .n) (cursorAt p (args .start)) (args .row) (args .sheet .now)
+    p (args .start) (loop .here) 0 0 (loop .below) (loop .sheet) _ [] (replicate (loop .left) (plainItem (args .elem)))
+    (elements-none (args .elem) (loop .left) (c .before .before .before .before .loop-test .left)) (inv .0 known) refl (c .before .before .put-row2 .ensures) (inv .1) (inv .2) (omega (arith, inv .3))))

@@ -1,6 +1,5 @@
 -- `schema::extension::is_extended` meets its contract. Assumes nothing.
 use mathlib.Core.Bool.{_&&_}
-use lib.Dec.{leb}
 use borrow.Author.Needs.{needs}
 use Rattle.schema.specs.Extend.{extended}
 use Rattle.schema.proofs.extension.is_extended.Statement.{statement}
@@ -8,15 +7,7 @@ use Rattle.schema.proofs.extension.is_extended.Tie as tie
 
 returns : tie.Need-returns
 unfolding extended
-returns c =
-    λ i. leb ((c .before .before .before .type-count .ensures) i) ((c .before .before .type-count2 .ensures) i) && ((c .before .keeps-rows .ensures) i && (c .keeps-methods .ensures) i)
+returns c = λ i. (c .before .is-widened .ensures) i && (c .keeps-bitmaps .ensures) i
 
 pub is-extended-spec : {M : Type 1} → statement M
-is-extended-spec =
-    tie.close
-    (tie.spec
-    (λ c κs. search needs)
-    (λ c κs. search needs)
-    (λ c κs. search needs)
-    (λ c κs. search needs)
-    returns)
+is-extended-spec = tie.close (tie.spec (λ c κs. search needs) (λ c κs. search needs) returns)

@@ -1,0 +1,50 @@
+-- What the theorems claim of the answers of the entry that reads with the writer's file beside ours, which its contract fixes by `besideOutcome`.
+-- Assumes nothing.
+use mathlib.Core.Path.{_≡_}
+use mathlib.Core.List.{List}
+use Prim.Native.Nat.{ℕ, _*_, _≤_, _<_}
+use lib.ListN.{length, drop}
+use Rattle.schema.specs.declared.Checked.the-variants.{Refused as Faulty}
+use Rattle.schema.specs.File.{tableOf}
+use Rattle.schema.specs.Check.{checked, IsGood}
+use Rattle.schema.specs.Extend.{Widens}
+use Rattle.value.specs.Value.{Value, size}
+use Rattle.value.specs.Comparisons.{comparisons}
+use Rattle.value.specs.Fits.{ShowsKnown}
+use Rattle.value.specs.Added.{without}
+use Rattle.value.specs.Beside.{ListedBeside}
+use Rattle.reader.specs.declared.Reading.the-variants.{Shown, Refused}
+use Rattle.reader.specs.Entry.{outcome, room}
+use Rattle.reader.specs.Beside.{besideOutcome}
+use Rattle.promises.specs.Claims.{shapes, firstRows}
+
+-- Both files are good, and theirs does not extend ours, bitmaps aside.
+abbrev pub Unextended : (ours theirs : List ℕ) → Type 0
+Unextended ours theirs = IsGood ours × IsGood theirs × (Widens (tableOf ours) (tableOf theirs) → ⊥)
+
+module _ (ours theirs : List ℕ) (ty : ℕ) (payload : List ℕ) where
+  -- The reader shows w, of type ty, one row a value: the first rows of the sheet afterwards show w by ours over the payload, whatever further bits its
+  -- structs have there, and the cells after them are as they were; the tail is at a place, of n bytes, and so many key comparisons are due.
+  abbrev pub ReadsBeside : (sheet : List ℕ) → Value → (place n due : ℕ) → Type 0
+  ReadsBeside sheet w place n due =
+      (after : List ℕ) × (besideOutcome ours theirs ty payload sheet ≡ outcome (Shown (size w) place n due) after)
+      × ShowsKnown (shapes ours) payload ty (firstRows (size w) after) w
+      × (length after ≡ length sheet)
+      × (drop (4 * size w) after ≡ drop (4 * size w) sheet)
+
+  -- What is answered to a payload that is v by theirs, and nothing more: v without the added fields is shown, and there is no tail, where the sheet has
+  -- rows enough for that; otherwise the answer is 30. The key comparisons due are those of the whole of v.
+  abbrev pub NewBeside : (sheet : List ℕ) → Value → Type 0
+  NewBeside sheet v =
+      (size (without (shapes ours) v ty) ≤ room sheet
+      → ReadsBeside sheet (without (shapes ours) v ty) (length payload) 0 (comparisons (shapes theirs) v ty))
+      × (room sheet < size (without (shapes ours) v ty) → besideOutcome ours theirs ty payload sheet ≡ outcome (Refused 30 0) sheet)
+
+  -- The list of the refusals, with so many rows lent: 40 to 44 for ours, then for theirs; 47 where theirs does not extend ours, bitmaps aside; then those
+  -- of the payload.
+  pub data RefusedBeside (rows : ℕ) : (number place : ℕ) → Type 0 where
+    by-ours : {n q : ℕ} → checked ours ≡ Faulty n q → RefusedBeside rows n q
+    by-theirs : {n q : ℕ} → IsGood ours → checked theirs ≡ Faulty n q → RefusedBeside rows n q
+    no-extension : IsGood ours → IsGood theirs → (Widens (tableOf ours) (tableOf theirs) → ⊥) → RefusedBeside rows 47 0
+    by-payload : {n q : ℕ} → IsGood ours → IsGood theirs → Widens (tableOf ours) (tableOf theirs)
+        → ListedBeside (shapes ours) (shapes theirs) ty payload rows n q → RefusedBeside rows n q

@@ -1,0 +1,1999 @@
+-- The proof of the cycle of walkers. A composite is given the depth of what it holds, so the measure is four times the depth, one more for the fields or pairs
+-- of a composite, two more for a struct's first fields and for many pairs, three more for an array, a map or a struct, and four more for the choice between them.
+-- Assumes nothing.
+use borrow.Author.Needs.{needs}
+use mathlib.Core.Path.{_≡_, refl, sym, ap, _∙_}
+use mathlib.Core.Logic.{⊎-elim}
+use mathlib.Core.Bool.{true, false, false≢true}
+use mathlib.Core.List.{List, [], _∷_}
+use Prim.Native.Nat.{ℕ, _+_, _-_, _*_, _≤_, _<_}
+use native.Mathlib.Omega.{arith}
+use borrow.Author.Tests.{not-true}
+use lib.ListN.{length, replicate}
+use Rattle.schema.specs.Table.{unknown, array, map, struct, shape}
+use Rattle.schema.specs.File.{tableOf}
+use Rattle.value.specs.Answer.{refused, cursorAt, Accepted}
+use Rattle.value.specs.Read.{plainItem, pairs, present, among, walk, parse}
+use Rattle.reader.specs.Leaf.{part}
+use Rattle.reader.specs.Walk.{firstFields, told}
+use Rattle.reader.proofs.Steps.{aheadIn, renamed, was, as-refused, stop-at, composite-past, composite-stop, rest-accepted, as-told}
+use Rattle.reader.proofs.Steps.{parse-refused, own-accepted, parse-deep, leaf-failed, leaf-in, leaf-parsed, leaf-past}
+use Rattle.reader.proofs.Composites.{count-in, array-refused, array-whole, array-valued, map-refused, map-many, map-whole, map-valued}
+use Rattle.reader.proofs.Composites.{bitmap-accepted, struct-refused, head-in, struct-unknown, struct-whole, struct-valued, first-of, first-whole, first-part}
+use Rattle.reader.proofs.Composites.{element-past, element-stop, element-accepted, leftOver, Turned, field-stop, field-deep, field-accepted, field-read, field-absent}
+use Rattle.reader.proofs.Composites.{pair-key-accepted, pair-key-stop, pair-new, pair-old, pair-again, pair-value-accepted, pair-value-stop, Paired, pair-turn}
+use Rattle.reader.proofs.Composites.{own-due, few-pairs, pairs-first}
+use Rattle.reader.proofs.Partials.{mine-count, fields-accepted, fields-stop, others-accepted, others-stop, others-past}
+use Rattle.parts.specs.Shape.{leafShape, fieldsFrom}
+use Rattle.parts.specs.Keys.{keysIn, Kept}
+use Rattle.parts.proofs.Keys.{keys-none}
+use Rattle.parts.proofs.Tables.{few-fields, field-row, array-row, struct-row, map-row, map-value, struct-type, shape-array, shape-map, shape-struct, shape-past, shape-leaf}
+use Rattle.parts.proofs.Presence.{present-end}
+use Rattle.parts.proofs.Items.{elements-none, pairs-none}
+use Rattle.parts.proofs.Walks.{deeper, deep, nothing-before}
+use Prim.Native.Nat.{ℕ, _<_}
+use borrow.Fn.Kinds.{In}
+use borrow.Fn.PlainCycle.{Measures, is, falls, and}
+use Rattle.reader.proofs.walk.array.Reads as array
+use Rattle.reader.proofs.walk.array.Kinds as array-kinds
+use Rattle.reader.proofs.walk.+array+composite+fields+many+mapping+pairs+partial+structure.Lts-array as array-lts
+use Rattle.reader.proofs.walk.composite.Reads as composite
+use Rattle.reader.proofs.walk.composite.Kinds as composite-kinds
+use Rattle.reader.proofs.walk.+array+composite+fields+many+mapping+pairs+partial+structure.Lts-composite as composite-lts
+use Rattle.reader.proofs.walk.fields.Reads as fields
+use Rattle.reader.proofs.walk.fields.Kinds as fields-kinds
+use Rattle.reader.proofs.walk.+array+composite+fields+many+mapping+pairs+partial+structure.Lts-fields as fields-lts
+use Rattle.reader.proofs.walk.many.Reads as many
+use Rattle.reader.proofs.walk.many.Kinds as many-kinds
+use Rattle.reader.proofs.walk.+array+composite+fields+many+mapping+pairs+partial+structure.Lts-many as many-lts
+use Rattle.reader.proofs.walk.mapping.Reads as mapping
+use Rattle.reader.proofs.walk.mapping.Kinds as mapping-kinds
+use Rattle.reader.proofs.walk.+array+composite+fields+many+mapping+pairs+partial+structure.Lts-mapping as mapping-lts
+use Rattle.reader.proofs.walk.pairs.Reads as pairs
+use Rattle.reader.proofs.walk.pairs.Kinds as pairs-kinds
+use Rattle.reader.proofs.walk.+array+composite+fields+many+mapping+pairs+partial+structure.Lts-pairs as pairs-lts
+use Rattle.reader.proofs.walk.partial.Reads as partial
+use Rattle.reader.proofs.walk.partial.Kinds as partial-kinds
+use Rattle.reader.proofs.walk.+array+composite+fields+many+mapping+pairs+partial+structure.Lts-partial as partial-lts
+use Rattle.reader.proofs.walk.structure.Reads as structure
+use Rattle.reader.proofs.walk.structure.Kinds as structure-kinds
+use Rattle.reader.proofs.walk.+array+composite+fields+many+mapping+pairs+partial+structure.Lts-structure as structure-lts
+use Rattle.reader.proofs.keys.is_again.Reads as is-again-reads
+use Rattle.reader.proofs.leaf.content.Reads as content-reads
+use Rattle.reader.proofs.leaf.ones_in.Reads as ones-in-reads
+use Rattle.reader.proofs.leaf.presence.Reads as presence-reads
+use Rattle.reader.proofs.leaf.read_count.Reads as read-count-reads
+use Rattle.reader.proofs.leaf.shown_of.Reads as shown-of-reads
+use Rattle.reader.proofs.sheet.put_row.Reads as put-row-reads
+use Rattle.reader.proofs.walk.leaves.Reads as leaves-reads
+use Rattle.schema.proofs.access.field.Reads as field-reads
+use Rattle.schema.proofs.access.type_row.Reads as type-row-reads
+use Rattle.wire.proofs.bitmap.low_bits.Reads as low-bits-reads
+use Rattle.reader.proofs.walk.+array+composite+fields+many+mapping+pairs+partial+structure.{statement}
+use Rattle.reader.proofs.walk.+array+composite+fields+many+mapping+pairs+partial+structure.Tie.{close}
+
+abbrev μ-array : Measures 4 array-kinds.ps ℕ
+μ-array κs a = 4 * a .1 .1 .1 .1 .1 .1 .1 .0 + 3
+
+abbrev μ-composite : Measures 4 composite-kinds.ps ℕ
+μ-composite κs a = 4 * a .1 .1 .1 .1 .1 .1 .1 .0 + 4
+
+abbrev μ-fields : Measures 4 fields-kinds.ps ℕ
+μ-fields κs a = 4 * a .1 .1 .1 .1 .1 .1 .1 .1 .1 .1 .1 .0 + 1
+
+abbrev μ-many : Measures 4 many-kinds.ps ℕ
+μ-many κs a = 4 * a .1 .1 .1 .1 .1 .1 .1 .1 .1 .0 + 2
+
+abbrev μ-mapping : Measures 4 mapping-kinds.ps ℕ
+μ-mapping κs a = 4 * a .1 .1 .1 .1 .1 .1 .1 .1 .0 + 3
+
+abbrev μ-pairs : Measures 5 pairs-kinds.ps ℕ
+μ-pairs κs a = 4 * a .1 .1 .1 .1 .1 .1 .1 .1 .1 .1 .0 + 1
+
+abbrev μ-partial : Measures 4 partial-kinds.ps ℕ
+μ-partial κs a = 4 * a .1 .1 .1 .1 .1 .1 .1 .1 .1 .1 .1 .0 + 2
+
+abbrev μ-structure : Measures 4 structure-kinds.ps ℕ
+μ-structure κs a = 4 * a .1 .1 .1 .1 .1 .1 .1 .1 .0 + 3
+
+abbrev array-at : ℕ → In 4 array-kinds.ps
+array-at t = and 4 array-kinds.ps (is 4 array-kinds.ps μ-array t) array.Pre
+
+abbrev array-below : ℕ → In 4 array-kinds.ps
+array-below t = and 4 array-kinds.ps (falls 4 array-kinds.ps _<_ μ-array t) array.Pre
+
+abbrev composite-at : ℕ → In 4 composite-kinds.ps
+composite-at t = and 4 composite-kinds.ps (is 4 composite-kinds.ps μ-composite t) composite.Pre
+
+abbrev composite-below : ℕ → In 4 composite-kinds.ps
+composite-below t =
+    and 4 composite-kinds.ps (falls 4 composite-kinds.ps _<_ μ-composite t) composite.Pre
+
+abbrev fields-at : ℕ → In 4 fields-kinds.ps
+fields-at t = and 4 fields-kinds.ps (is 4 fields-kinds.ps μ-fields t) fields.Pre
+
+abbrev fields-below : ℕ → In 4 fields-kinds.ps
+fields-below t = and 4 fields-kinds.ps (falls 4 fields-kinds.ps _<_ μ-fields t) fields.Pre
+
+abbrev many-at : ℕ → In 4 many-kinds.ps
+many-at t = and 4 many-kinds.ps (is 4 many-kinds.ps μ-many t) many.Pre
+
+abbrev many-below : ℕ → In 4 many-kinds.ps
+many-below t = and 4 many-kinds.ps (falls 4 many-kinds.ps _<_ μ-many t) many.Pre
+
+abbrev mapping-at : ℕ → In 4 mapping-kinds.ps
+mapping-at t = and 4 mapping-kinds.ps (is 4 mapping-kinds.ps μ-mapping t) mapping.Pre
+
+abbrev mapping-below : ℕ → In 4 mapping-kinds.ps
+mapping-below t = and 4 mapping-kinds.ps (falls 4 mapping-kinds.ps _<_ μ-mapping t) mapping.Pre
+
+abbrev pairs-at : ℕ → In 5 pairs-kinds.ps
+pairs-at t = and 5 pairs-kinds.ps (is 5 pairs-kinds.ps μ-pairs t) pairs.Pre
+
+abbrev pairs-below : ℕ → In 5 pairs-kinds.ps
+pairs-below t = and 5 pairs-kinds.ps (falls 5 pairs-kinds.ps _<_ μ-pairs t) pairs.Pre
+
+abbrev partial-at : ℕ → In 4 partial-kinds.ps
+partial-at t = and 4 partial-kinds.ps (is 4 partial-kinds.ps μ-partial t) partial.Pre
+
+abbrev partial-below : ℕ → In 4 partial-kinds.ps
+partial-below t = and 4 partial-kinds.ps (falls 4 partial-kinds.ps _<_ μ-partial t) partial.Pre
+
+abbrev structure-at : ℕ → In 4 structure-kinds.ps
+structure-at t = and 4 structure-kinds.ps (is 4 structure-kinds.ps μ-structure t) structure.Pre
+
+abbrev structure-below : ℕ → In 4 structure-kinds.ps
+structure-below t =
+    and 4 structure-kinds.ps (falls 4 structure-kinds.ps _<_ μ-structure t) structure.Pre
+
+abbrev array-Inv-loop : array-lts.InvT-loop
+array-Inv-loop shown s p sheet₀ ty elem at depth row judge n start t kind left₀ here₀ below₀ sum₀ sheet left here below sum =
+    (aheadIn shown s p depth [] (replicate left (plainItem elem)) here sum below sheet ≡ aheadIn shown s p depth [] (replicate n (plainItem elem)) start 0 (row + 1) sheet₀)
+    × (here ≤ length p) × (below ≤ here) × (sum + 16 * start ≤ 16 * here) × (length sheet ≡ length sheet₀)
+
+abbrev array-μ-loop : array-lts.MeasureT-loop
+array-μ-loop shown s p sheet₀ ty elem at depth row judge n start t kind left₀ here₀ below₀ sum₀ sheet left here below sum = left
+
+abbrev fields-Inv-loop : fields-lts.InvT-loop
+fields-Inv-loop shown s p sheet₀ ty first n known count place start depth row judge i₀ left₀ bits₀ here₀ below₀ sum₀ sheet i left bits here below sum =
+    (aheadIn shown s p depth [] (leftOver (tableOf s) i left bits) here sum below sheet ≡ aheadIn shown s p depth [] (leftOver (tableOf s) first n known) start 0 (row + 1) sheet₀)
+    × (here ≤ length p) × (below ≤ here) × (sum + 16 * start ≤ 16 * here) × (length sheet ≡ length sheet₀) × (i + left ≤ length (tableOf s .fields))
+
+abbrev fields-μ-loop : fields-lts.MeasureT-loop
+fields-μ-loop shown s p sheet₀ ty first n known count place start depth row judge i₀ left₀ bits₀ here₀ below₀ sum₀ sheet i left bits here below sum = left
+
+abbrev pairs-Inv-loop : pairs-lts.InvT-loop
+pairs-Inv-loop shown s p sheet₀ keys₀ ty key val n start depth row judge k v i₀ here₀ below₀ sum₀ sheet keys i here below sum =
+    (seen : List (List ℕ))
+    × (aheadIn shown s p depth seen (pairs (n - i) key val) here sum below sheet ≡ aheadIn shown s p depth [] (pairs n key val) start 0 (row + 1) sheet₀)
+    × (here ≤ length p) × (below ≤ here) × (sum + 32 * i + 16 * start ≤ 16 * here) × (length sheet ≡ length sheet₀) × (i ≤ n)
+    × (length keys ≡ length keys₀) × (judge ≡ true → (seen ≡ keysIn p keys i) × Kept p keys true i)
+
+abbrev pairs-μ-loop : pairs-lts.MeasureT-loop
+pairs-μ-loop shown s p sheet₀ keys₀ ty key val n start depth row judge k v i₀ here₀ below₀ sum₀ sheet keys i here below sum = n - i
+
+abbrev array-calls : ℕ → array-lts.Claims
+array-calls t = (
+  read-count-reads.Asked,
+  read-count-reads.Learnt,
+  type-row-reads.Asked,
+  type-row-reads.Learnt,
+  leaves-reads.Asked,
+  leaves-reads.Learnt,
+  composite-below t,
+  composite.Post,
+  put-row-reads.Asked,
+  put-row-reads.Learnt,
+)
+
+array-spec : {M : Type 1} (t : ℕ) → array-lts.Closed (array-calls t) (array-at t) array.Post M
+array-spec t =
+    array-lts.spec (array-calls t) (array-at t) array.Post
+    array-Inv-loop
+    array-μ-loop
+    -- read-count-requires
+    (λ c κs. search needs)
+    -- enum-known-number
+    (λ c. search needs)
+    -- enum-known-n
+    (λ c. search needs)
+    -- type-row-requires
+    (λ c κs. c .before .before .before .before .before .before .before .pre .1 .0 .good)
+    -- leaves-requires
+    (λ c κs.
+    let args = c .before .before .before .before .before .before .before .before .before .before .args in
+    let asked = c .before .before .before .before .before .before .before .before .before .before .pre in
+    let T = tableOf (args .s .now) in
+    let S = shape T in
+    let p = args .p .now in
+    let read = c .before .before .before .before .before .before .read-count .ensures in
+    let counted = c .before .before .before .before .n in
+    let n = counted .given .0 .0 in
+    let start = counted .given .0 .1 .0 in
+    let w = count-in S (args .depth) (args .ty) p (args .at) 1 _ read n start (counted .given .1) in
+    let pre = asked .1 .0 in
+    let whole = array-whole S (args .depth) (args .ty) p (args .at) (args .elem) (asked .1 .1) _ read n start (counted .given .1) in (
+      record { good = pre .good; small = pre .small; inside = omega arith; behind = omega arith; judged = λ j. rw whole at (pre .judged j) },
+      (asked .1 .2, rw (c .before .before .type-row .ensures) at (c .before .if1 .taken), omega arith),
+    ))
+    -- same-length
+    (λ c. c .before .before .leaves .kept .1 .1 .0)
+    -- returns
+    (λ c.
+    let back = c .before .before .before .before .before .before .before .before .before in
+    let args = back .before .before .before .before .args in
+    let asked = back .before .before .before .before .pre in
+    let T = tableOf (args .s .now) in
+    let S = shape T in
+    let R = firstFields (args .shown .now) S in
+    let P = parse S (args .depth) in
+    let p = args .p .now in
+    let read = back .read-count .ensures in
+    let counted = c .before .before .before .before .before .before .before .n in
+    let n = counted .given .0 .0 in
+    let start = counted .given .0 .1 .0 in
+    array-valued S (args .depth) (args .ty) p (args .at) (args .elem) (asked .1 .1) _ read R (first-of (args .shown .now) S (args .ty) (asked .1 .1)) n start (counted .given .1) _
+    (c .before .before .leaves .ensures (args .shown .now)))
+    -- add-below
+    (λ c. let pre = c .before .before .before .before .before .before .before .before .before .pre .1 .0 in omega arith)
+    -- loop-holds
+    (λ c.
+    let args = c .before .before .before .before .before .before .before .before .before .args in
+    let asked = c .before .before .before .before .before .before .before .before .before .pre in
+    let T = tableOf (args .s .now) in
+    let S = shape T in
+    let p = args .p .now in
+    let read = c .before .before .before .before .before .read-count .ensures in
+    let counted = c .before .before .before .n in
+    let n = counted .given .0 .0 in
+    let start = counted .given .0 .1 .0 in
+    let w = count-in S (args .depth) (args .ty) p (args .at) 1 _ read n start (counted .given .1) in
+    let pre = asked .1 .0 in (refl, omega arith, omega arith, omega arith, refl))
+    -- same-length-2
+    (λ c. c .before .before .loop .inv .4)
+    -- returns-2
+    (λ c.
+    let args = c .before .before .before .before .before .before .before .before .before .before .before .before .args in
+    let asked = c .before .before .before .before .before .before .before .before .before .before .before .before .pre in
+    let T = tableOf (args .s .now) in
+    let S = shape T in
+    let R = firstFields (args .shown .now) S in
+    let P = parse S (args .depth) in
+    let p = args .p .now in
+    let read = c .before .before .before .before .before .before .before .before .read-count .ensures in
+    let counted = c .before .before .before .before .before .before .n in
+    let n = counted .given .0 .0 in
+    let start = counted .given .0 .1 .0 in
+    let loop = c .before .before .loop in
+    let inv = loop .inv in
+    let here = cursorAt p (loop .here) in
+    array-valued S (args .depth) (args .ty) p (args .at) (args .elem) (asked .1 .1) _ read R (first-of (args .shown .now) S (args .ty) (asked .1 .1)) n start (counted .given .1) _
+    (composite-stop R S P (array (args .elem)) (args .ty) start n (cursorAt p start) (args .row) (args .sheet .now) p start _ _ _
+    (element-stop R S P (args .elem) (loop .left) (c .before .loop-test .taken) here (loop .sum) (loop .below) (loop .sheet) _ _
+    (stop-at (told R S (args .elem)) _ (loop .below) (loop .sheet) _ _ (parse-deep S (args .depth) (args .elem) here (c .if2 .taken))) ∙ inv .0)))
+    -- sub-composite
+    (λ c. search needs)
+    -- composite-requires
+    (λ c κs.
+    let back = c .before .before .before .before .before .before .before .before .before in
+    let args = back .before .before .before .before .args in
+    let asked = back .before .before .before .before .pre in
+    let T = tableOf (args .s .now) in
+    let S = shape T in
+    let R = firstFields (args .shown .now) S in
+    let P = parse S (args .depth) in
+    let p = args .p .now in
+    let read = back .read-count .ensures in
+    let counted = c .before .before .before .before .before .before .before .n in
+    let n = counted .given .0 .0 in
+    let start = counted .given .0 .1 .0 in
+    let loop = c .before .before .before .loop in
+    let inv = loop .inv in
+    let here = cursorAt p (loop .here) in
+    let pre = asked .1 .0 in
+    let whole = array-whole S (args .depth) (args .ty) p (args .at) (args .elem) (asked .1 .1) _ read n start (counted .given .1) in
+    let items = replicate (loop .left) (plainItem (args .elem)) in (
+      omega arith,
+      (
+        record {
+          good = pre .good;
+          small = pre .small;
+          inside = inv .1;
+          behind = inv .2;
+          judged = λ j.
+              deeper (λ k. Accepted (parse S k (args .elem) here)) (args .depth) (c .before .if2 .left)
+              (element-accepted R S P (args .elem) (loop .left) (c .before .before .loop-test .taken) here (loop .sum) (loop .below) (loop .sheet)
+              (rest-accepted R S P (array (args .elem)) (args .ty) start n (cursorAt p start) (args .row) (args .sheet .now)
+              (walk P [] items here) items (loop .sum) (loop .below) (loop .sheet) (inv .0) (rw whole at (pre .judged j))));
+        },
+        c .before .before .before .before .before .type-row .ensures,
+        c .before .before .before .before .if1 .left,
+      ),
+    ))
+    -- enum-known-number-2
+    (λ c. search needs)
+    -- same-length-3
+    (λ c. c .before .before .before .before .before .composite .kept .1 .1 .1 .0 ∙ c .before .before .before .before .before .before .before .before .before .loop .inv .4)
+    -- returns-3
+    (λ c.
+    let back = c .before .before .before .before .before .before .before .before .before in
+    let farther = back .before .before .before .before .before .before .before .before .before in
+    let args = farther .before .args in
+    let asked = farther .before .pre in
+    let T = tableOf (args .s .now) in
+    let S = shape T in
+    let R = firstFields (args .shown .now) S in
+    let P = parse S (args .depth) in
+    let p = args .p .now in
+    let read = back .before .before .before .before .before .before .read-count .ensures in
+    let counted = back .before .before .before .before .n in
+    let n = counted .given .0 .0 in
+    let start = counted .given .0 .1 .0 in
+    let loop = back .loop in
+    let inv = loop .inv in
+    let here = cursorAt p (loop .here) in
+    let w =
+    renamed (ap (λ (k : ℕ). parse S k (args .elem) here) (deep (args .depth) (c .before .before .before .before .before .before .before .if2 .left)))
+    (was (c .before .before .before .before .before .composite .ensures) (c .before .number2 .given .1)) in
+    array-valued S (args .depth) (args .ty) p (args .at) (args .elem) (asked .1 .1) _ read R (first-of (args .shown .now) S (args .ty) (asked .1 .1)) n start (counted .given .1) _
+    (composite-stop R S P (array (args .elem)) (args .ty) start n (cursorAt p start) (args .row) (args .sheet .now) p start _ _ _
+    (element-stop R S P (args .elem) (loop .left) (c .before .before .before .before .before .before .before .before .loop-test .taken) here (loop .sum) (loop .below) (loop .sheet) _ _ (w .same) ∙ inv .0)))
+    -- enum-known-due
+    (λ c. search needs)
+    -- add-sum
+    (λ c.
+    let back = c .before .before .before .before .before .before .before .before .before in
+    let farther = back .before .before .before .before .before .before .before .before .before in
+    let pre = farther .before .pre .1 .0 in
+    let inv = back .loop .inv in
+    let w = was (c .before .before .before .before .before .composite .ensures) (c .before .due .given .1) .within in omega (arith, inv .3, w .2, w .0, pre .small))
+    -- sub-left
+    (λ c. search needs)
+    -- loop-less
+    (λ c. omega arith)
+    -- loop-again
+    (λ c.
+    let back = c .before .before .before .before .before .before .before .before .before in
+    let farther = back .before .before .before .before .before .before .before .before .before in
+    let args = farther .before .args in
+    let asked = farther .before .pre in
+    let T = tableOf (args .s .now) in
+    let S = shape T in
+    let R = firstFields (args .shown .now) S in
+    let P = parse S (args .depth) in
+    let p = args .p .now in
+    let loop = back .loop in
+    let inv = loop .inv in
+    let here = cursorAt p (loop .here) in
+    let w =
+    renamed (ap (λ (k : ℕ). parse S k (args .elem) here) (deep (args .depth) (c .before .before .before .before .before .before .before .if2 .left)))
+    (was (c .before .before .before .before .before .composite .ensures) (c .before .due .given .1)) in (
+      sym (element-past R S P (args .elem) (loop .left) (c .before .before .before .before .before .before .before .before .loop-test .taken) here (loop .sum) (loop .below) (loop .sheet) _ _ _ _ (w .same)) ∙ inv .0,
+      w .within .0,
+      w .within .1,
+      omega (arith, inv .3, w .within .2),
+      c .before .before .before .before .before .composite .kept .1 .1 .1 .0 ∙ inv .4,
+    ))
+    -- sub-put-row
+    (λ c. omega arith)
+    -- put-row-requires
+    (λ c κs.
+    let args = c .before .before .before .before .before .before .before .before .before .before .before .before .args in
+    let asked = c .before .before .before .before .before .before .before .before .before .before .before .before .pre in
+    let T = tableOf (args .s .now) in
+    let S = shape T in
+    let p = args .p .now in
+    let read = c .before .before .before .before .before .before .before .before .read-count .ensures in
+    let counted = c .before .before .before .before .before .before .n in
+    let n = counted .given .0 .0 in
+    let start = counted .given .0 .1 .0 in
+    let w = count-in S (args .depth) (args .ty) p (args .at) 1 _ read n start (counted .given .1) in
+    let pre = asked .1 .0 in
+    let inv = c .before .before .loop .inv in omega arith)
+    -- returns-4
+    (λ c.
+    let args = c .before .before .before .before .before .before .before .args in
+    let asked = c .before .before .before .before .before .before .before .pre in
+    let T = tableOf (args .s .now) in
+    let S = shape T in
+    let p = args .p .now in
+    as-refused _ _ _
+    (array-refused S (args .depth) (args .ty) p (args .at) (args .elem) (asked .1 .1) _ (c .before .before .before .read-count .ensures) _ (c .before .number .given .1)))
+    -- same-length-4
+    (λ c. c .before .before .put-row .kept .0 ∙ c .before .before .before .before .before .loop .inv .4)
+    -- returns-5
+    (λ c.
+    let back = c .before .before .before .before .before .before .before .before .before in
+    let args = back .before .before .before .before .before .before .args in
+    let asked = back .before .before .before .before .before .before .pre in
+    let T = tableOf (args .s .now) in
+    let S = shape T in
+    let R = firstFields (args .shown .now) S in
+    let P = parse S (args .depth) in
+    let p = args .p .now in
+    let read = back .before .before .read-count .ensures in
+    let counted = back .n in
+    let n = counted .given .0 .0 in
+    let start = counted .given .0 .1 .0 in
+    let loop = c .before .before .before .before .before .loop in
+    let inv = loop .inv in
+    let here = cursorAt p (loop .here) in
+    array-valued S (args .depth) (args .ty) p (args .at) (args .elem) (asked .1 .1) _ read R (first-of (args .shown .now) S (args .ty) (asked .1 .1)) n start (counted .given .1) _
+    (composite-past R S P (array (args .elem)) (args .ty) start n (cursorAt p start) (args .row) (args .sheet .now) p start (loop .here) (loop .sum) (loop .sum) (loop .below)
+    (loop .sheet) _ [] (replicate (loop .left) (plainItem (args .elem))) (elements-none (args .elem) (loop .left) (c .before .before .before .before .loop-test .left)) (inv .0)
+    (omega arith) (c .before .before .put-row .ensures) (inv .1) (inv .2) (inv .3)))
+
+abbrev composite-calls : ℕ → composite-lts.Claims
+composite-calls t = (array-below t, array.Post, mapping-below t, mapping.Post, structure-below t, structure.Post)
+
+composite-spec : {M : Type 1} (t : ℕ) → composite-lts.Closed (composite-calls t) (composite-at t) composite.Post M
+composite-spec t =
+    composite-lts.spec (composite-calls t) (composite-at t) composite.Post
+    -- array-requires
+    (λ c κs.
+    let args = c .before .before .before .before .before .args in
+    let asked = c .before .before .before .before .before .pre in
+    let T = tableOf (args .s .now) in
+    let S = shape T in
+    let p = args .p .now in
+    let pre = asked .1 .0 in
+    let kind = c .before .if1 .taken in
+    (omega arith, (pre, shape-array T (args .ty) _ (asked .1 .1) kind, array-row (args .s .now) (pre .good) (args .ty) _ (asked .1 .1) kind)))
+    -- same-length
+    (λ c. c .before .before .array .kept .1 .1 .1 .0)
+    -- returns
+    (λ c. c .before .before .array .ensures)
+    -- mapping-requires
+    (λ c κs.
+    let args = c .before .before .before .before .before .before .args in
+    let asked = c .before .before .before .before .before .before .pre in
+    let T = tableOf (args .s .now) in
+    let S = shape T in
+    let p = args .p .now in
+    let pre = asked .1 .0 in
+    let kind = c .before .if2 .taken in
+    let row = map-row (args .s .now) (pre .good) (args .ty) _ (asked .1 .1) kind in
+    (omega arith, ((pre, shape-map T (args .ty) _ (asked .1 .1) kind), (row .0, row .1, map-value (args .s .now) (pre .good) (args .ty) _ (asked .1 .1) kind))))
+    -- same-length-2
+    (λ c. c .before .before .mapping .kept .1 .1 .1 .0)
+    -- returns-2
+    (λ c. c .before .before .mapping .ensures)
+    -- cast-structure
+    (λ c. search needs)
+    -- cast-structure-2
+    (λ c. search needs)
+    -- structure-requires
+    (λ c κs.
+    let args = c .before .before .before .before .before .before .before .before .before .args in
+    let asked = c .before .before .before .before .before .before .before .before .before .pre in
+    let T = tableOf (args .s .now) in
+    let S = shape T in
+    let p = args .p .now in
+    let pre = asked .1 .0 in
+    let kind = c .before .before .before .if3 .taken in
+    (omega arith, ((pre, shape-struct T (args .ty) _ (asked .1 .1) kind), struct-row (args .s .now) (pre .good) (args .ty) _ (asked .1 .1) kind)))
+    -- same-length-3
+    (λ c. c .before .before .structure .kept .1 .1 .1 .0)
+    -- returns-3
+    (λ c. c .before .before .structure .ensures)
+    -- returns-4
+    (λ c.
+    let args = c .before .before .before .before .before .before .args in
+    let asked = c .before .before .before .before .before .before .pre in
+    let T = tableOf (args .s .now) in
+    let S = shape T in
+    let p = args .p .now in
+    let past : 16 < args .t .kind = omega (arith, asked .1 .2, c .before .before .if1 .left, c .before .if2 .left, c .if3 .left) in
+    as-refused _ _ _ (parse-refused S (args .depth) (args .ty) (cursorAt p (args .at)) unknown (shape-past T (args .ty) _ (asked .1 .1) past) 42 0 refl))
+
+abbrev fields-calls : ℕ → fields-lts.Claims
+fields-calls t = (
+  field-reads.Asked,
+  field-reads.Learnt,
+  type-row-reads.Asked,
+  type-row-reads.Learnt,
+  composite-below t,
+  composite.Post,
+  content-reads.Asked,
+  content-reads.Learnt,
+  put-row-reads.Asked,
+  put-row-reads.Learnt,
+)
+
+fields-spec : {M : Type 1} (t : ℕ) → fields-lts.Closed (fields-calls t) (fields-at t) fields.Post M
+fields-spec t =
+    fields-lts.spec (fields-calls t) (fields-at t) fields.Post
+    fields-Inv-loop
+    fields-μ-loop
+    -- add-below
+    (λ c. search needs)
+    -- loop-holds
+    (λ c. let pre = c .before .before .before .pre .1 .0 in (refl, pre .inside, pre .behind, omega arith, refl, c .before .before .before .pre .1 .1 .0))
+    -- same-length
+    (λ c. c .before .before .before .loop .inv .4)
+    -- returns
+    (λ c.
+    let args = c .before .before .before .before .before .before .before .args in
+    let asked = c .before .before .before .before .before .before .before .pre in
+    let T = tableOf (args .s .now) in
+    let S = shape T in
+    let R = firstFields (args .shown .now) S in
+    let P = parse S (args .depth) in
+    let p = args .p .now in
+    let loop = c .before .before .before .loop in
+    let inv = loop .inv in
+    let here = cursorAt p (loop .here) in
+    composite-stop R S P (struct (fieldsFrom T (args .first) (args .n))) (args .ty) (args .place) (args .known) (cursorAt p (args .start)) (args .row) (args .sheet .now)
+    p (args .start) _ _ _
+    (field-deep R S P p T (loop .i) (loop .left) (loop .bits) (loop .here) (loop .sum) (loop .below) (loop .sheet) (c .before .before .loop-test .taken) (inv .5) (c .before .if1 .taken) _ _
+    (λ ty. stop-at (told R S ty) _ (loop .below) (loop .sheet) _ _ (parse-deep S (args .depth) ty here (c .if2 .taken))) ∙ inv .0))
+    -- field-requires
+    (λ c κs. c .before .before .before .before .before .before .before .pre .1 .0 .good)
+    -- cast-type-row
+    (λ c. search needs)
+    -- type-row-requires
+    (λ c κs. c .before .before .before .before .before .before .before .before .before .pre .1 .0 .good)
+    -- sub-composite
+    (λ c. search needs)
+    -- composite-requires
+    (λ c κs.
+    let back = c .before .before .before .before .before .before .before .before .before in
+    let args = back .before .before .before .before .args in
+    let asked = back .before .before .before .before .pre in
+    let T = tableOf (args .s .now) in
+    let S = shape T in
+    let R = firstFields (args .shown .now) S in
+    let P = parse S (args .depth) in
+    let p = args .p .now in
+    let loop = back .loop in
+    let inv = loop .inv in
+    let here = cursorAt p (loop .here) in
+    let some = c .before .before .before .before .before .before .before .before .loop-test .taken in
+    let set = c .before .before .before .before .before .before .before .if1 .taken in
+    let d0 = c .before .before .before .before .before .before .if2 .left in
+    let field = c .before .before .before .before .before .field in
+    let ty = field .result .ty in
+    let left : args .judge ≡ false → Accepted (walk P [] (leftOver T (loop .i) (loop .left) (loop .bits)) here) =
+    λ j.
+    rest-accepted R S P (struct (fieldsFrom T (args .first) (args .n))) (args .ty) (args .place) (args .known) (cursorAt p (args .start)) (args .row) (args .sheet .now)
+    (walk P [] (leftOver T (loop .i) (loop .left) (loop .bits)) here) (leftOver T (loop .i) (loop .left) (loop .bits)) (loop .sum) (loop .below) (loop .sheet)
+    (inv .0) (asked .1 .0 .judged j) in
+    let pre = asked .1 .0 in (
+      omega arith,
+      (
+        record {
+          good = pre .good;
+          small = pre .small;
+          inside = inv .1;
+          behind = inv .2;
+          judged = λ j.
+              deeper (λ k. Accepted (parse S k ty here)) (args .depth) d0 (field-accepted R S P p T (loop .i) (loop .left) (loop .bits) (loop .here) (loop .sum) (loop .below) (loop .sheet) some (inv .5) _ (field .ensures) set (left j));
+        },
+        c .before .before .before .type-row .ensures,
+        c .before .if3 .taken,
+      ),
+    ))
+    -- enum-known-number
+    (λ c. search needs)
+    -- same-length-2
+    (λ c.
+    let back = c .before .before .before .before .before .before .before .before .before in
+    c .before .before .before .before .before .composite .kept .1 .1 .1 .0 ∙ back .before .before .before .before .before .before .loop .inv .4)
+    -- returns-2
+    (λ c.
+    let back = c .before .before .before .before .before .before .before .before .before in
+    let farther = back .before .before .before .before .before .before .before .before .before in
+    let args = farther .before .args in
+    let asked = farther .before .pre in
+    let T = tableOf (args .s .now) in
+    let S = shape T in
+    let R = firstFields (args .shown .now) S in
+    let P = parse S (args .depth) in
+    let p = args .p .now in
+    let loop = back .before .before .before .before .before .before .loop in
+    let inv = loop .inv in
+    let here = cursorAt p (loop .here) in
+    let some = back .before .before .before .before .before .loop-test .taken in
+    let set = back .before .before .before .before .if1 .taken in
+    let d0 = back .before .before .before .if2 .left in
+    let field = back .before .before .field in
+    let ty = field .result .ty in
+    let w =
+    renamed (ap (λ (k : ℕ). parse S k ty here) (deep (args .depth) (back .before .before .before .if2 .left))) (was (c .before .before .before .before .before .composite .ensures) (c .before .number .given .1)) in
+    composite-stop R S P (struct (fieldsFrom T (args .first) (args .n))) (args .ty) (args .place) (args .known) (cursorAt p (args .start)) (args .row) (args .sheet .now)
+    p (args .start) _ _ _
+    (field-stop R S P p T (loop .i) (loop .left) (loop .bits) (loop .here) (loop .sum) (loop .below) (loop .sheet) some (inv .5) _ (field .ensures) set _ _ (w .same) ∙ inv .0))
+    -- enum-known-due
+    (λ c. search needs)
+    -- add-sum
+    (λ c.
+    let back = c .before .before .before .before .before .before .before .before .before in
+    let farther = back .before .before .before .before .before .before .before .before .before in
+    let pre = farther .before .pre .1 .0 in
+    let inv = back .before .before .before .before .before .before .loop .inv in
+    let w = was (c .before .before .before .before .before .composite .ensures) (c .before .due .given .1) .within in omega (arith, inv .3, w .2, w .0, pre .small))
+    -- cast-content
+    (λ c. search needs)
+    -- content-requires
+    (λ c κs.
+    let back = c .before .before .before .before .before .before .before .before .before in
+    let args = back .before .before .before .before .args in
+    let asked = back .before .before .before .before .pre in
+    let T = tableOf (args .s .now) in
+    let S = shape T in
+    let R = firstFields (args .shown .now) S in
+    let P = parse S (args .depth) in
+    let p = args .p .now in
+    let loop = back .loop in
+    let inv = loop .inv in
+    let here = cursorAt p (loop .here) in
+    let some = c .before .before .before .before .before .before .before .before .loop-test .taken in
+    let set = c .before .before .before .before .before .before .before .if1 .taken in
+    let d0 = c .before .before .before .before .before .before .if2 .left in
+    let field = c .before .before .before .before .before .field in
+    let ty = field .result .ty in
+    let left : args .judge ≡ false → Accepted (walk P [] (leftOver T (loop .i) (loop .left) (loop .bits)) here) =
+    λ j.
+    rest-accepted R S P (struct (fieldsFrom T (args .first) (args .n))) (args .ty) (args .place) (args .known) (cursorAt p (args .start)) (args .row) (args .sheet .now)
+    (walk P [] (leftOver T (loop .i) (loop .left) (loop .bits)) here) (leftOver T (loop .i) (loop .left) (loop .bits)) (loop .sum) (loop .below) (loop .sheet)
+    (inv .0) (asked .1 .0 .judged j) in
+    let t = c .before .before .before .type-row in
+    let kind = leafShape (t .result .kind) in
+    let other = field-row (args .s .now) (asked .1 .0 .good) (loop .i) (loop .left) some (inv .5) (field .result) (field .ensures) (t .result) (t .ensures) in
+    let is = shape-leaf T ty (t .result) (t .ensures) other (omega (arith, c .before .if3 .left)) in (
+      asked .1 .0 .small,
+      inv .1,
+      other,
+      omega (arith, c .before .if3 .left),
+      λ j.
+          own-accepted S (args .depth - 1) ty here kind is
+          (deeper (λ k. Accepted (parse S k ty here)) (args .depth) d0 (field-accepted R S P p T (loop .i) (loop .left) (loop .bits) (loop .here) (loop .sum) (loop .below) (loop .sheet) some (inv .5) _ (field .ensures) set (left j))),
+    ))
+    -- enum-known-place
+    (λ c. search needs)
+    -- same-length-3
+    (λ c.
+    let back = c .before .before .before .before .before .before .before .before .before in
+    back .before .before .before .before .loop .inv .4)
+    -- returns-3
+    (λ c.
+    let back = c .before .before .before .before .before .before .before .before .before in
+    let args = back .before .before .before .before .before .before .before .before .args in
+    let asked = back .before .before .before .before .before .before .before .before .pre in
+    let T = tableOf (args .s .now) in
+    let S = shape T in
+    let R = firstFields (args .shown .now) S in
+    let P = parse S (args .depth) in
+    let p = args .p .now in
+    let loop = back .before .before .before .before .loop in
+    let inv = loop .inv in
+    let here = cursorAt p (loop .here) in
+    let some = back .before .before .before .loop-test .taken in
+    let set = back .before .before .if1 .taken in
+    let d0 = back .before .if2 .left in
+    let field = back .field in
+    let ty = field .result .ty in
+    let t = c .before .before .before .before .before .before .before .type-row in
+    let kind = leafShape (t .result .kind) in
+    let other = field-row (args .s .now) (asked .1 .0 .good) (loop .i) (loop .left) some (inv .5) (field .result) (field .ensures) (t .result) (t .ensures) in
+    let is = shape-leaf T ty (t .result) (t .ensures) other (omega (arith, c .before .before .before .before .before .if3 .left)) in
+    let failed = leaf-failed S (args .depth) ty kind is d0 p (loop .here) _ (c .before .before .before .content .ensures) _ _ (c .before .place .given .1) in
+    composite-stop R S P (struct (fieldsFrom T (args .first) (args .n))) (args .ty) (args .place) (args .known) (cursorAt p (args .start)) (args .row) (args .sheet .now)
+    p (args .start) _ _ _
+    (field-stop R S P p T (loop .i) (loop .left) (loop .bits) (loop .here) (loop .sum) (loop .below) (loop .sheet) some (inv .5) _ (field .ensures) set _ _
+    (stop-at (told R S ty) _ (loop .below) (loop .sheet) _ _ failed) ∙ inv .0))
+    -- enum-known-from
+    (λ c. search needs)
+    -- sub-put-row
+    (λ c.
+    let back = c .before .before .before .before .before .before .before .before .before in
+    let farther = back .before .before .before .before .before .before .before .before .before in
+    let args = farther .args in
+    let asked = farther .pre in
+    let T = tableOf (args .s .now) in
+    let S = shape T in
+    let p = args .p .now in
+    let loop = back .before .before .before .before .before .loop in
+    let inv = loop .inv in
+    let some = back .before .before .before .before .loop-test .taken in
+    let d0 = back .before .before .if2 .left in
+    let field = back .before .field in
+    let ty = field .result .ty in
+    let t = c .before .before .before .before .before .before .before .before .type-row in
+    let kind = leafShape (t .result .kind) in
+    let other = field-row (args .s .now) (asked .1 .0 .good) (loop .i) (loop .left) some (inv .5) (field .result) (field .ensures) (t .result) (t .ensures) in
+    let is = shape-leaf T ty (t .result) (t .ensures) other (omega (arith, c .before .before .before .before .before .before .if3 .left)) in
+    let span = c .before .before .from in
+    let i = leaf-in S (args .depth) ty kind is d0 p (loop .here) _ (c .before .before .before .before .content .ensures) (span .given .0 .0) (span .given .0 .1 .0) (span .given .1) in omega (arith, i .0))
+    -- put-row-requires
+    (λ c κs.
+    let back = c .before .before .before .before .before .before .before .before .before in
+    let farther = back .before .before .before .before .before .before .before .before .before in
+    let args = farther .args in
+    let asked = farther .pre in
+    let T = tableOf (args .s .now) in
+    let S = shape T in
+    let p = args .p .now in
+    let loop = back .before .before .before .before .before .loop in
+    let inv = loop .inv in
+    let some = back .before .before .before .before .loop-test .taken in
+    let d0 = back .before .before .if2 .left in
+    let field = back .before .field in
+    let ty = field .result .ty in
+    let t = c .before .before .before .before .before .before .before .before .type-row in
+    let kind = leafShape (t .result .kind) in
+    let other = field-row (args .s .now) (asked .1 .0 .good) (loop .i) (loop .left) some (inv .5) (field .result) (field .ensures) (t .result) (t .ensures) in
+    let is = shape-leaf T ty (t .result) (t .ensures) other (omega (arith, c .before .before .before .before .before .before .if3 .left)) in
+    let span = c .before .before .from in
+    let i = leaf-in S (args .depth) ty kind is d0 p (loop .here) _ (c .before .before .before .before .content .ensures) (span .given .0 .0) (span .given .0 .1 .0) (span .given .1) in
+    let small = asked .1 .0 .small in omega (arith, i, inv .1, inv .2, small))
+    -- add-below-2
+    (λ c.
+    let back = c .before .before .before .before .before .before .before .before .before in
+    let farther = back .before .before .before .before .before .before .before .before .before in
+    let pre = farther .before .before .before .pre .1 .0 in let inv = back .before .before .before .before .before .before .before .before .loop .inv in omega arith)
+    -- add-i
+    (λ c. let h = few-fields _ (c .before .before .before .before .before .before .pre .1 .0 .good) in let inv = c .before .before .loop .inv in omega arith)
+    -- sub-left
+    (λ c. search needs)
+    -- loop-less
+    (λ c. omega arith)
+    -- loop-again
+    (λ c.
+    let args = c .before .before .before .before .before .before .args in
+    let asked = c .before .before .before .before .before .before .pre in
+    let T = tableOf (args .s .now) in
+    let S = shape T in
+    let R = firstFields (args .shown .now) S in
+    let P = parse S (args .depth) in
+    let p = args .p .now in
+    let loop = c .before .before .loop in
+    let inv = loop .inv in
+    let here = cursorAt p (loop .here) in
+    let joined = c .if1 in
+    let some = c .before .loop-test .taken in
+    let t : Turned R S P p T (loop .i) (loop .left) (loop .bits) (loop .here) (loop .sum) (loop .below) (loop .sheet) (joined .here) (joined .sum) (joined .below) (joined .sheet) =
+    ⊎-elim
+    (λ w.
+    field-read R S P p T (loop .i) (loop .left) (loop .bits) (loop .here) (loop .sum) (loop .below) (loop .sheet) some (inv .5) _ (w .2 .ensures) (w .0 .taken) _ _ _ _
+    (renamed (ap (λ (k : ℕ). parse S k (w .2 .result .ty) here) (deep (args .depth) (w .1 .left))) (was (w .8 .ensures) (w .12 .given .1)))
+    _ _ _ _ (w .15) (w .17) (w .16) (w .14))
+    (⊎-elim
+    (λ w.
+    let other = field-row (args .s .now) (asked .1 .0 .good) (loop .i) (loop .left) some (inv .5) (w .2 .result) (w .2 .ensures) (w .4 .result) (w .4 .ensures) in
+    let is = shape-leaf T (w .2 .result .ty) (w .4 .result) (w .4 .ensures) other (omega (arith, w .6 .left)) in
+    let span = w .10 .given in
+    field-read R S P p T (loop .i) (loop .left) (loop .bits) (loop .here) (loop .sum) (loop .below) (loop .sheet) some (inv .5) _ (w .2 .ensures) (w .0 .taken) _ _ _ _
+    (leaf-past S (args .depth) (w .2 .result .ty) (leafShape (w .4 .result .kind)) is (w .1 .left) p (loop .here) _ (w .8 .ensures) (span .0 .0) (span .0 .1 .0) (span .1)
+    R (loop .below) (loop .sheet) _ (inv .2) (w .13 .ensures))
+    _ _ _ _ (w .17) (omega (arith, w .19)) (w .18) (w .16))
+    (λ w. field-absent R S P p T (loop .i) (loop .left) (loop .bits) (loop .here) (loop .sum) (loop .below) (loop .sheet) some (inv .5) (w .0 .left) (inv .1) (inv .2) _ _ _ _ (w .2) (w .4) (w .3) (w .1)))
+    (joined .came) in
+    (sym (t .same) ∙ inv .0, t .inside, t .behind, omega (arith, inv .3, t .forth), t .long ∙ inv .4, omega arith))
+    -- sub-put-row-2
+    (λ c. omega arith)
+    -- put-row-requires-2
+    (λ c κs. let pre = c .before .before .before .before .before .before .pre .1 .0 in let inv = c .before .before .loop .inv in omega arith)
+    -- same-length-4
+    (λ c. c .before .before .put-row2 .kept .0 ∙ c .before .before .before .before .before .loop .inv .4)
+    -- returns-4
+    (λ c.
+    let args = c .before .before .before .before .before .before .before .before .before .args in
+    let asked = c .before .before .before .before .before .before .before .before .before .pre in
+    let T = tableOf (args .s .now) in
+    let S = shape T in
+    let R = firstFields (args .shown .now) S in
+    let P = parse S (args .depth) in
+    let p = args .p .now in
+    let loop = c .before .before .before .before .before .loop in
+    let inv = loop .inv in
+    let here = cursorAt p (loop .here) in
+    composite-past R S P (struct (fieldsFrom T (args .first) (args .n))) (args .ty) (args .place) (args .known) (cursorAt p (args .start)) (args .row) (args .sheet .now)
+    p (args .start) (loop .here) (loop .sum) (loop .sum) (loop .below) (loop .sheet) _ [] (leftOver T (loop .i) (loop .left) (loop .bits))
+    (present-end T (loop .i) (loop .left) (c .before .before .before .before .loop-test .left) (loop .bits)) (inv .0)
+    (omega arith) (rw (← asked .1 .1 .3) (c .before .before .put-row2 .ensures)) (inv .1) (inv .2) (inv .3))
+
+abbrev many-calls : ℕ → many-lts.Claims
+many-calls t = (pairs-below t, pairs.Post)
+
+many-spec : {M : Type 1} (t : ℕ) → many-lts.Closed (many-calls t) (many-at t) many.Post M
+many-spec t =
+    many-lts.spec (many-calls t) (many-at t) many.Post
+    -- slice-aggregate-pairs
+    (λ c. search needs)
+    -- pairs-requires
+    (λ c κs.
+    let asked = c .before .before .before .before .before .pre in
+    (omega arith, (asked .1 .0, (asked .1 .1, λ j. omega (arith, asked .1 .1 .4)))))
+    -- same-length
+    (λ c. c .before .before .before .pairs .kept .1 .1 .1 .0)
+    -- returns
+    (λ c. c .before .before .before .pairs .ensures)
+
+abbrev mapping-calls : ℕ → mapping-lts.Claims
+mapping-calls t = (read-count-reads.Asked, read-count-reads.Learnt, put-row-reads.Asked, put-row-reads.Learnt, pairs-below t, pairs.Post, many-below t, many.Post)
+
+mapping-spec : {M : Type 1} (t : ℕ) → mapping-lts.Closed (mapping-calls t) (mapping-at t) mapping.Post M
+mapping-spec t =
+    mapping-lts.spec (mapping-calls t) (mapping-at t) mapping.Post
+    -- read-count-requires
+    (λ c κs. search needs)
+    -- enum-known-number
+    (λ c. search needs)
+    -- enum-known-n
+    (λ c. search needs)
+    -- returns
+    (λ c.
+    let args = c .before .before .before .before .before .before .before .before .args in
+    let asked = c .before .before .before .before .before .before .before .before .pre in
+    let T = tableOf (args .s .now) in
+    let S = shape T in
+    let p = args .p .now in
+    let read = c .before .before .before .before .read-count .ensures in
+    let counted = c .before .before .n in
+    let n = counted .given .0 .0 in
+    let start = counted .given .0 .1 .0 in
+    as-refused _ _ _ (map-many S (args .depth) (args .ty) p (args .at) (args .key) (args .val) (asked .1 .0 .1) _ read n start (counted .given .1) (c .if1 .taken)))
+    -- put-row-requires
+    (λ c κs.
+    let args = c .before .before .before .before .before .before .before .before .before .before .args in
+    let asked = c .before .before .before .before .before .before .before .before .before .before .pre in
+    let T = tableOf (args .s .now) in
+    let S = shape T in
+    let p = args .p .now in
+    let read = c .before .before .before .before .before .before .read-count .ensures in
+    let counted = c .before .before .before .before .n in
+    let n = counted .given .0 .0 in
+    let start = counted .given .0 .1 .0 in
+    let w = count-in S (args .depth) (args .ty) p (args .at) 2 _ read n start (counted .given .1) in
+    let pre = asked .1 .0 .0 in omega arith)
+    -- add-t23
+    (λ c.
+    let back = c .before .before .before .before .before .before .before .before .before in
+    let pre = back .before .before .before .before .pre .1 .0 .0 in omega arith)
+    -- same-length
+    (λ c. c .before .before .put-row .kept .0)
+    -- returns-2
+    (λ c.
+    let back = c .before .before .before .before .before .before .before .before .before in
+    let args = back .before .before .before .before .args in
+    let asked = back .before .before .before .before .pre in
+    let T = tableOf (args .s .now) in
+    let S = shape T in
+    let R = firstFields (args .shown .now) S in
+    let P = parse S (args .depth) in
+    let p = args .p .now in
+    let read = back .read-count .ensures in
+    let counted = c .before .before .before .before .before .before .before .n in
+    let n = counted .given .0 .0 in
+    let start = counted .given .0 .1 .0 in
+    let few = c .before .before .before .before .before .if1 .left in
+    let w = count-in S (args .depth) (args .ty) p (args .at) 2 _ read n start (counted .given .1) in
+    let pre = asked .1 .0 .0 in
+    let none = c .before .before .before .before .if2 .taken in
+    let zero : start - start ≡ 0 = omega arith in
+    map-valued S (args .depth) (args .ty) p (args .at) (args .key) (args .val) (asked .1 .0 .1) _ read n start (counted .given .1) R
+    (first-of (args .shown .now) S (args .ty) (asked .1 .0 .1)) few _
+    (composite-past R S P (map (args .key) (args .val)) (args .ty) start n (cursorAt p start) (args .row) (args .sheet .now) p start start 0 0 (args .row + 1) (args .sheet .now)
+    _ [] (pairs n (args .key) (args .val)) (pairs-none (args .key) (args .val) n (omega (arith, none))) refl
+    (rw none (omega (arith, own-due 0))) (rw (zero, none) (c .before .before .put-row .ensures)) (omega arith) (omega arith) (omega arith)))
+    -- slice-aggregate-pairs
+    (λ c. search needs)
+    -- pairs-requires
+    (λ c κs.
+    let args = c .before .before .before .before .before .before .before .before .before .before .before .before .args in
+    let asked = c .before .before .before .before .before .before .before .before .before .before .before .before .pre in
+    let T = tableOf (args .s .now) in
+    let S = shape T in
+    let p = args .p .now in
+    let read = c .before .before .before .before .before .before .before .before .read-count .ensures in
+    let counted = c .before .before .before .before .before .before .n in
+    let n = counted .given .0 .0 in
+    let start = counted .given .0 .1 .0 in
+    let few = c .before .before .before .before .if1 .left in
+    let w = count-in S (args .depth) (args .ty) p (args .at) 2 _ read n start (counted .given .1) in
+    let pre = asked .1 .0 .0 in
+    let some = c .before .before .before .if2 .left in
+    let whole = map-whole S (args .depth) (args .ty) p (args .at) (args .key) (args .val) (asked .1 .0 .1) _ read n start (counted .given .1) few in (
+      omega arith,
+      (
+        record { good = pre .good; small = pre .small; inside = omega arith; behind = omega arith; judged = λ j. rw whole at (pre .judged j) },
+        ((asked .1 .1 .0, asked .1 .1 .1, asked .1 .1 .2, omega (arith, some), few), λ j. absurd (false≢true (sym (not-true _ (c .before .before .if3 .taken)) ∙ j))),
+      ),
+    ))
+    -- same-length-2
+    (λ c. c .before .before .before .pairs .kept .1 .1 .1 .0)
+    -- returns-3
+    (λ c.
+    let back = c .before .before .before .before .before .before .before .before .before in
+    let args = back .before .before .before .before .before .before .before .args in
+    let asked = back .before .before .before .before .before .before .before .pre in
+    let T = tableOf (args .s .now) in
+    let S = shape T in
+    let R = firstFields (args .shown .now) S in
+    let P = parse S (args .depth) in
+    let p = args .p .now in
+    let read = back .before .before .before .read-count .ensures in
+    let counted = back .before .n in
+    let n = counted .given .0 .0 in
+    let start = counted .given .0 .1 .0 in
+    let few = c .before .before .before .before .before .before .before .before .if1 .left in
+    map-valued S (args .depth) (args .ty) p (args .at) (args .key) (args .val) (asked .1 .0 .1) _ read n start (counted .given .1) R
+    (first-of (args .shown .now) S (args .ty) (asked .1 .0 .1)) few _ (c .before .before .before .pairs .ensures))
+    -- slice-aggregate-pairs-2
+    (λ c. search needs)
+    -- pairs-requires-2
+    (λ c κs.
+    let back = c .before .before .before .before .before .before .before .before .before in
+    let args = back .before .before .before .before .args in
+    let asked = back .before .before .before .before .pre in
+    let T = tableOf (args .s .now) in
+    let S = shape T in
+    let p = args .p .now in
+    let read = back .read-count .ensures in
+    let counted = c .before .before .before .before .before .before .before .n in
+    let n = counted .given .0 .0 in
+    let start = counted .given .0 .1 .0 in
+    let few = c .before .before .before .before .before .if1 .left in
+    let w = count-in S (args .depth) (args .ty) p (args .at) 2 _ read n start (counted .given .1) in
+    let pre = asked .1 .0 .0 in
+    let some = c .before .before .before .before .if2 .left in
+    let whole = map-whole S (args .depth) (args .ty) p (args .at) (args .key) (args .val) (asked .1 .0 .1) _ read n start (counted .given .1) few in (
+      omega arith,
+      (
+        record { good = pre .good; small = pre .small; inside = omega arith; behind = omega arith; judged = λ j. rw whole at (pre .judged j) },
+        ((asked .1 .1 .0, asked .1 .1 .1, asked .1 .1 .2, omega (arith, some), few), λ j. omega (arith, c .before .before .if4 .taken)),
+      ),
+    ))
+    -- same-length-3
+    (λ c. c .before .before .before .pairs2 .kept .1 .1 .1 .0)
+    -- returns-4
+    (λ c.
+    let back = c .before .before .before .before .before .before .before .before .before in
+    let args = back .before .before .before .before .before .before .before .before .args in
+    let asked = back .before .before .before .before .before .before .before .before .pre in
+    let T = tableOf (args .s .now) in
+    let S = shape T in
+    let R = firstFields (args .shown .now) S in
+    let P = parse S (args .depth) in
+    let p = args .p .now in
+    let read = back .before .before .before .before .read-count .ensures in
+    let counted = back .before .before .n in
+    let n = counted .given .0 .0 in
+    let start = counted .given .0 .1 .0 in
+    let few = back .if1 .left in
+    map-valued S (args .depth) (args .ty) p (args .at) (args .key) (args .val) (asked .1 .0 .1) _ read n start (counted .given .1) R
+    (first-of (args .shown .now) S (args .ty) (asked .1 .0 .1)) few _ (c .before .before .before .pairs2 .ensures))
+    -- many-requires
+    (λ c κs.
+    let args = c .before .before .before .before .before .before .before .before .before .before .before .before .args in
+    let asked = c .before .before .before .before .before .before .before .before .before .before .before .before .pre in
+    let T = tableOf (args .s .now) in
+    let S = shape T in
+    let p = args .p .now in
+    let read = c .before .before .before .before .before .before .before .before .read-count .ensures in
+    let counted = c .before .before .before .before .before .before .n in
+    let n = counted .given .0 .0 in
+    let start = counted .given .0 .1 .0 in
+    let few = c .before .before .before .before .if1 .left in
+    let w = count-in S (args .depth) (args .ty) p (args .at) 2 _ read n start (counted .given .1) in
+    let pre = asked .1 .0 .0 in
+    let some = c .before .before .before .if2 .left in
+    let whole = map-whole S (args .depth) (args .ty) p (args .at) (args .key) (args .val) (asked .1 .0 .1) _ read n start (counted .given .1) few in (
+      omega arith,
+      (
+        record { good = pre .good; small = pre .small; inside = omega arith; behind = omega arith; judged = λ j. rw whole at (pre .judged j) },
+        (asked .1 .1 .0, asked .1 .1 .1, asked .1 .1 .2, omega (arith, some), few),
+      ),
+    ))
+    -- returns-5
+    (λ c.
+    let args = c .before .before .before .before .before .before .before .args in
+    let asked = c .before .before .before .before .before .before .before .pre in
+    let T = tableOf (args .s .now) in
+    let S = shape T in
+    let p = args .p .now in
+    as-refused _ _ _
+    (map-refused S (args .depth) (args .ty) p (args .at) (args .key) (args .val) (asked .1 .0 .1) _ (c .before .before .before .read-count .ensures) _ (c .before .number .given .1)))
+    -- same-length-4
+    (λ c. c .before .before .many .kept .1 .1 .1 .0)
+    -- returns-6
+    (λ c.
+    let back = c .before .before .before .before .before .before .before .before .before in
+    let args = back .before .before .before .before .before .before .args in
+    let asked = back .before .before .before .before .before .before .pre in
+    let T = tableOf (args .s .now) in
+    let S = shape T in
+    let R = firstFields (args .shown .now) S in
+    let P = parse S (args .depth) in
+    let p = args .p .now in
+    let read = back .before .before .read-count .ensures in
+    let counted = back .n in
+    let n = counted .given .0 .0 in
+    let start = counted .given .0 .1 .0 in
+    let few = c .before .before .before .before .before .before .before .if1 .left in
+    map-valued S (args .depth) (args .ty) p (args .at) (args .key) (args .val) (asked .1 .0 .1) _ read n start (counted .given .1) R
+    (first-of (args .shown .now) S (args .ty) (asked .1 .0 .1)) few _ (c .before .before .many .ensures))
+
+abbrev pairs-calls : ℕ → pairs-lts.Claims
+pairs-calls t = (
+  type-row-reads.Asked,
+  type-row-reads.Learnt,
+  content-reads.Asked,
+  content-reads.Learnt,
+  is-again-reads.Asked,
+  is-again-reads.Learnt,
+  put-row-reads.Asked,
+  put-row-reads.Learnt,
+  composite-below t,
+  composite.Post,
+)
+
+pairs-spec : {M : Type 1} (t : ℕ) → pairs-lts.Closed (pairs-calls t) (pairs-at t) pairs.Post M
+pairs-spec t =
+    pairs-lts.spec (pairs-calls t) (pairs-at t) pairs.Post
+    pairs-Inv-loop
+    pairs-μ-loop
+    -- type-row-requires
+    (λ c κs. c .before .before .before .before .pre .1 .0 .good)
+    -- type-row-requires-2
+    (λ c κs. c .before .before .before .before .before .pre .1 .0 .good)
+    -- add-below
+    (λ c. let pre = c .before .before .before .before .before .before .pre .1 .0 in omega arith)
+    -- loop-holds
+    (λ c.
+    let args = c .before .before .before .before .before .before .args in
+    let asked = c .before .before .before .before .before .before .pre in
+    let T = tableOf (args .s .now) in
+    let S = shape T in
+    let R = firstFields (args .shown .now) S in
+    let P = parse S (args .depth) in
+    let p = args .p .now in
+    let pre = asked .1 .0 in (
+      [],
+      pairs-first R S P (args .key) (args .val) (args .n) (cursorAt p (args .start)) _ _,
+      pre .inside,
+      pre .behind,
+      omega arith,
+      refl,
+      omega arith,
+      refl,
+      λ j. (sym (keys-none p _), λ i lt. absurd (omega arith)),
+    ))
+    -- same-length
+    (λ c. c .before .before .loop .inv .5)
+    -- same-length-2
+    (λ c. c .before .before .loop .inv .7)
+    -- returns
+    (λ c.
+    let args = c .before .before .before .before .before .before .before .before .before .args in
+    let asked = c .before .before .before .before .before .before .before .before .before .pre in
+    let T = tableOf (args .s .now) in
+    let S = shape T in
+    let R = firstFields (args .shown .now) S in
+    let P = parse S (args .depth) in
+    let p = args .p .now in
+    let loop = c .before .before .loop in
+    let inv = loop .inv in
+    let here = cursorAt p (loop .here) in
+    let some = c .before .loop-test .taken in
+    composite-stop R S P (map (args .key) (args .val)) (args .ty) (args .start) (args .n) (cursorAt p (args .start)) (args .row) (args .sheet .now) p (args .start) _ _ _
+    (pair-key-stop R S P p (args .key) (args .val) (args .n) (loop .i) (inv .0) (loop .here) some (loop .sum) (loop .below) (loop .sheet) _ _ (parse-deep S (args .depth) (args .key) here (c .if1 .taken)) ∙ inv .1))
+    -- cast-content
+    (λ c. search needs)
+    -- content-requires
+    (λ c κs.
+    let args = c .before .before .before .before .before .before .before .before .before .before .args in
+    let asked = c .before .before .before .before .before .before .before .before .before .before .pre in
+    let T = tableOf (args .s .now) in
+    let S = shape T in
+    let R = firstFields (args .shown .now) S in
+    let P = parse S (args .depth) in
+    let p = args .p .now in
+    let loop = c .before .before .before .loop in
+    let inv = loop .inv in
+    let here = cursorAt p (loop .here) in
+    let some = c .before .before .loop-test .taken in
+    let d0 = c .before .if1 .left in
+    let k = c .before .before .before .before .before .type-row in
+    let kind = leafShape (k .result .kind) in
+    let is = shape-leaf T (args .key) (k .result) (k .ensures) (rw (k .ensures) (asked .1 .1 .0 .0)) (rw (k .ensures) (asked .1 .1 .0 .1)) in
+    let left : args .judge ≡ false → Accepted (walk P (inv .0) (pairs (args .n - loop .i) (args .key) (args .val)) here) =
+    λ j.
+    rest-accepted R S P (map (args .key) (args .val)) (args .ty) (args .start) (args .n) (cursorAt p (args .start)) (args .row) (args .sheet .now)
+    (walk P (inv .0) (pairs (args .n - loop .i) (args .key) (args .val)) here) (pairs (args .n - loop .i) (args .key) (args .val)) (loop .sum) (loop .below) (loop .sheet)
+    (inv .1) (asked .1 .0 .judged j) in (
+      asked .1 .0 .small,
+      inv .2,
+      rw (k .ensures) (asked .1 .1 .0 .0),
+      rw (k .ensures) (asked .1 .1 .0 .1),
+      λ j.
+          own-accepted S (args .depth - 1) (args .key) here kind is
+          (deeper (λ k. Accepted (parse S k (args .key) here)) (args .depth) d0 (pair-key-accepted R S P p (args .key) (args .val) (args .n) (loop .i) (inv .0) (loop .here) some (left j))),
+    ))
+    -- enum-known-place
+    (λ c. search needs)
+    -- same-length-3
+    (λ c. c .before .before .before .before .before .before .before .loop .inv .5)
+    -- same-length-4
+    (λ c. c .before .before .before .before .before .before .before .loop .inv .7)
+    -- returns-2
+    (λ c.
+    let back = c .before .before .before .before .before .before .before .before .before in
+    let args = back .before .before .before .before .before .args in
+    let asked = back .before .before .before .before .before .pre in
+    let T = tableOf (args .s .now) in
+    let S = shape T in
+    let R = firstFields (args .shown .now) S in
+    let P = parse S (args .depth) in
+    let p = args .p .now in
+    let loop = c .before .before .before .before .before .before .before .loop in
+    let inv = loop .inv in
+    let here = cursorAt p (loop .here) in
+    let some = c .before .before .before .before .before .before .loop-test .taken in
+    let d0 = c .before .before .before .before .before .if1 .left in
+    let k = back .type-row in
+    let kind = leafShape (k .result .kind) in
+    let is = shape-leaf T (args .key) (k .result) (k .ensures) (rw (k .ensures) (asked .1 .1 .0 .0)) (rw (k .ensures) (asked .1 .1 .0 .1)) in
+    let failed = leaf-failed S (args .depth) (args .key) kind is d0 p (loop .here) _ (c .before .before .before .content .ensures) _ _ (c .before .place .given .1) in
+    composite-stop R S P (map (args .key) (args .val)) (args .ty) (args .start) (args .n) (cursorAt p (args .start)) (args .row) (args .sheet .now) p (args .start) _ _ _
+    (pair-key-stop R S P p (args .key) (args .val) (args .n) (loop .i) (inv .0) (loop .here) some (loop .sum) (loop .below) (loop .sheet) _ _ failed ∙ inv .1))
+    -- enum-known-from
+    (λ c. search needs)
+    -- sub-is-again
+    (λ c.
+    let back = c .before .before .before .before .before .before .before .before .before in
+    let args = back .before .before .before .before .before .before .args in
+    let asked = back .before .before .before .before .before .before .pre in
+    let T = tableOf (args .s .now) in
+    let S = shape T in
+    let p = args .p .now in
+    let loop = c .before .before .before .before .before .before .before .before .loop in
+    let some = c .before .before .before .before .before .before .before .loop-test .taken in
+    let d0 = c .before .before .before .before .before .before .if1 .left in
+    let k = back .before .type-row in
+    let kind = leafShape (k .result .kind) in
+    let is = shape-leaf T (args .key) (k .result) (k .ensures) (rw (k .ensures) (asked .1 .1 .0 .0)) (rw (k .ensures) (asked .1 .1 .0 .1)) in
+    let span = c .before .before .from in
+    let from = span .given .0 .0 in
+    let to = span .given .0 .1 .0 in
+    let i = leaf-in S (args .depth) (args .key) kind is d0 p (loop .here) _ (c .before .before .before .before .content .ensures) from to (span .given .1) in omega (arith, i .0))
+    -- is-again-requires
+    (λ c κs.
+    let back = c .before .before .before .before .before .before .before .before .before in
+    let args = back .before .before .before .before .before .before .args in
+    let asked = back .before .before .before .before .before .before .pre in
+    let T = tableOf (args .s .now) in
+    let S = shape T in
+    let p = args .p .now in
+    let loop = c .before .before .before .before .before .before .before .before .loop in
+    let inv = loop .inv in
+    let some = c .before .before .before .before .before .before .before .loop-test .taken in
+    let d0 = c .before .before .before .before .before .before .if1 .left in
+    let k = back .before .type-row in
+    let kind = leafShape (k .result .kind) in
+    let is = shape-leaf T (args .key) (k .result) (k .ensures) (rw (k .ensures) (asked .1 .1 .0 .0)) (rw (k .ensures) (asked .1 .1 .0 .1)) in
+    let span = c .before .before .from in
+    let from = span .given .0 .0 in
+    let to = span .given .0 .1 .0 in
+    let i = leaf-in S (args .depth) (args .key) kind is d0 p (loop .here) _ (c .before .before .before .before .content .ensures) from to (span .given .1) in
+    let small = asked .1 .0 .small in (
+      omega (arith, i .0, i .1, small),
+      omega (arith, i .0, i .1, small),
+      omega (arith, i .0, i .1),
+      λ j. (omega (arith, some, inv .7, asked .1 .1 .1 j), inv .8 j .1),
+    ))
+    -- same-length-5
+    (λ c. c .before .before .before .before .before .before .before .before .before .before .before .before .loop .inv .5)
+    -- same-length-6
+    (λ c. c .before .before .before .is-again .kept .1 .0 ∙ c .before .before .before .before .before .before .before .before .before .before .before .before .loop .inv .7)
+    -- returns-3
+    (λ c.
+    let back = c .before .before .before .before .before .before .before .before .before in
+    let farther = back .before .before .before .before .before .before .before .before .before in
+    let args = farther .before .args in
+    let asked = farther .before .pre in
+    let T = tableOf (args .s .now) in
+    let S = shape T in
+    let R = firstFields (args .shown .now) S in
+    let P = parse S (args .depth) in
+    let p = args .p .now in
+    let loop = back .before .before .before .loop in
+    let inv = loop .inv in
+    let here = cursorAt p (loop .here) in
+    let some = back .before .before .loop-test .taken in
+    let d0 = back .before .if1 .left in
+    let k = back .before .before .before .before .before .type-row in
+    let kind = leafShape (k .result .kind) in
+    let is = shape-leaf T (args .key) (k .result) (k .ensures) (rw (k .ensures) (asked .1 .1 .0 .0)) (rw (k .ensures) (asked .1 .1 .0 .1)) in
+    let span = c .before .before .before .before .before .before .from in
+    let from = span .given .0 .0 in
+    let to = span .given .0 .1 .0 in
+    let i = leaf-in S (args .depth) (args .key) kind is d0 p (loop .here) _ (c .before .before .before .before .before .before .before .before .content .ensures) from to (span .given .1) in
+    let read = leaf-parsed S (args .depth) (args .key) kind is d0 p (loop .here) _ (c .before .before .before .before .before .before .before .before .content .ensures) from to (span .given .1) in
+    let again = c .before .before .before .is-again .ensures in
+    let old =
+    pair-old R S P p (args .key) (args .val) (args .n) (loop .i) (inv .0) (loop .here) some from to read (args .judge) _ (again .0)
+    (λ j. again .1 .0 j ∙ ap (among (part p from to)) (sym (inv .8 j .0))) (c .if2 .taken) in
+    composite-stop R S P (map (args .key) (args .val)) (args .ty) (args .start) (args .n) (cursorAt p (args .start)) (args .row) (args .sheet .now) p (args .start) _ _ _
+    (pair-again R S P p (args .key) (args .val) (args .n) (loop .i) (inv .0) (loop .here) some from to read (loop .sum) (loop .below) (loop .sheet) old ∙ inv .1))
+    -- sub-put-row
+    (λ c.
+    let back = c .before .before .before .before .before .before .before .before .before in
+    let farther = back .before .before .before .before .before .before .before .before .before in
+    let args = farther .before .before .args in
+    let asked = farther .before .before .pre in
+    let T = tableOf (args .s .now) in
+    let S = shape T in
+    let p = args .p .now in
+    let loop = back .before .before .before .before .loop in
+    let some = back .before .before .before .loop-test .taken in
+    let d0 = back .before .before .if1 .left in
+    let k = back .before .before .before .before .before .before .type-row in
+    let kind = leafShape (k .result .kind) in
+    let is = shape-leaf T (args .key) (k .result) (k .ensures) (rw (k .ensures) (asked .1 .1 .0 .0)) (rw (k .ensures) (asked .1 .1 .0 .1)) in
+    let span = c .before .before .before .before .before .before .before .from in
+    let from = span .given .0 .0 in
+    let to = span .given .0 .1 .0 in
+    let i = leaf-in S (args .depth) (args .key) kind is d0 p (loop .here) _ (back .content .ensures) from to (span .given .1) in omega (arith, i .0))
+    -- put-row-requires
+    (λ c κs.
+    let back = c .before .before .before .before .before .before .before .before .before in
+    let farther = back .before .before .before .before .before .before .before .before .before in
+    let args = farther .before .before .args in
+    let asked = farther .before .before .pre in
+    let T = tableOf (args .s .now) in
+    let S = shape T in
+    let p = args .p .now in
+    let loop = back .before .before .before .before .loop in
+    let some = back .before .before .before .loop-test .taken in
+    let d0 = back .before .before .if1 .left in
+    let k = back .before .before .before .before .before .before .type-row in
+    let kind = leafShape (k .result .kind) in
+    let is = shape-leaf T (args .key) (k .result) (k .ensures) (rw (k .ensures) (asked .1 .1 .0 .0)) (rw (k .ensures) (asked .1 .1 .0 .1)) in
+    let span = c .before .before .before .before .before .before .before .from in
+    let from = span .given .0 .0 in
+    let to = span .given .0 .1 .0 in
+    let i = leaf-in S (args .depth) (args .key) kind is d0 p (loop .here) _ (back .content .ensures) from to (span .given .1) in
+    let small = asked .1 .0 .small in
+    let inv = loop .inv in omega (arith, i, inv .2, inv .3, small))
+    -- sub-composite
+    (λ c. search needs)
+    -- add-composite
+    (λ c.
+    let back = c .before .before .before .before .before .before .before .before .before in
+    let farther = back .before .before .before .before .before .before .before .before .before in
+    let pre = farther .before .before .before .before .before .before .before .before .pre .1 .0 in let inv = farther .before .loop .inv in omega (arith, inv .2, inv .3, pre .small))
+    -- composite-requires
+    (λ c κs.
+    let back = c .before .before .before .before .before .before .before .before .before in
+    let farther = back .before .before .before .before .before .before .before .before .before in
+    let args = farther .before .before .before .before .before .before .before .before .args in
+    let asked = farther .before .before .before .before .before .before .before .before .pre in
+    let T = tableOf (args .s .now) in
+    let S = shape T in
+    let R = firstFields (args .shown .now) S in
+    let P = parse S (args .depth) in
+    let p = args .p .now in
+    let loop = farther .before .loop in
+    let inv = loop .inv in
+    let here = cursorAt p (loop .here) in
+    let some = farther .loop-test .taken in
+    let d0 = back .before .before .before .before .before .before .before .before .if1 .left in
+    let k = farther .before .before .before .type-row in
+    let kind = leafShape (k .result .kind) in
+    let is = shape-leaf T (args .key) (k .result) (k .ensures) (rw (k .ensures) (asked .1 .1 .0 .0)) (rw (k .ensures) (asked .1 .1 .0 .1)) in
+    let left : args .judge ≡ false → Accepted (walk P (inv .0) (pairs (args .n - loop .i) (args .key) (args .val)) here) =
+    λ j.
+    rest-accepted R S P (map (args .key) (args .val)) (args .ty) (args .start) (args .n) (cursorAt p (args .start)) (args .row) (args .sheet .now)
+    (walk P (inv .0) (pairs (args .n - loop .i) (args .key) (args .val)) here) (pairs (args .n - loop .i) (args .key) (args .val)) (loop .sum) (loop .below) (loop .sheet)
+    (inv .1) (asked .1 .0 .judged j) in
+    let span = back .before .before .before .before .from in
+    let from = span .given .0 .0 in
+    let to = span .given .0 .1 .0 in
+    let i = leaf-in S (args .depth) (args .key) kind is d0 p (loop .here) _ (back .before .before .before .before .before .before .content .ensures) from to (span .given .1) in
+    let read = leaf-parsed S (args .depth) (args .key) kind is d0 p (loop .here) _ (back .before .before .before .before .before .before .content .ensures) from to (span .given .1) in
+    let again = back .before .is-again .ensures in
+    let new =
+    pair-new R S P p (args .key) (args .val) (args .n) (loop .i) (inv .0) (loop .here) some from to read (args .judge) _ left
+    (λ j. again .1 .0 j ∙ ap (among (part p from to)) (sym (inv .8 j .0))) (c .before .before .before .before .before .before .before .if2 .left) in
+    let put = c .before .before .before .before .before .put-row in
+    let pre = asked .1 .0 in (
+      omega (arith, asked .0),
+      (
+        record {
+          good = pre .good;
+          small = pre .small;
+          inside = i .1;
+          behind = omega (arith, i, inv .3);
+          judged = λ j.
+              deeper (λ k. Accepted (parse S k (args .val) (cursorAt p to))) (args .depth) d0
+              (pair-value-accepted R S P p (args .key) (args .val) (args .n) (loop .i) (inv .0) (loop .here) some from to read new (loop .sum) (loop .below) (loop .sheet) _ (put .ensures) (left j));
+        },
+        farther .before .before .type-row2 .ensures,
+        c .before .if3 .taken,
+      ),
+    ))
+    -- enum-known-number
+    (λ c. search needs)
+    -- same-length-7
+    (λ c.
+    let back = c .before .before .before .before .before .before .before .before .before in
+    let farther = back .before .before .before .before .before .before .before .before .before in
+    c .before .before .before .before .before .composite .kept .1 .1 .1 .0 ∙ back .before .before .put-row .kept .0 ∙ farther .before .before .before .before .before .before .before .loop .inv .5)
+    -- same-length-8
+    (λ c.
+    let back = c .before .before .before .before .before .before .before .before .before in
+    let farther = back .before .before .before .before .before .before .before .before .before in
+    back .before .before .before .before .before .before .before .is-again .kept .1 .0 ∙ farther .before .before .before .before .before .before .before .loop .inv .7)
+    -- returns-4
+    (λ c.
+    let back = c .before .before .before .before .before .before .before .before .before in
+    let farther = back .before .before .before .before .before .before .before .before .before in
+    let farthest = farther .before .before .before .before .before .before .before .before .before in
+    let args = farthest .before .before .before .before .before .args in
+    let asked = farthest .before .before .before .before .before .pre in
+    let T = tableOf (args .s .now) in
+    let S = shape T in
+    let R = firstFields (args .shown .now) S in
+    let P = parse S (args .depth) in
+    let p = args .p .now in
+    let loop = farther .before .before .before .before .before .before .before .loop in
+    let inv = loop .inv in
+    let here = cursorAt p (loop .here) in
+    let some = farther .before .before .before .before .before .before .loop-test .taken in
+    let d0 = farther .before .before .before .before .before .if1 .left in
+    let k = farthest .type-row in
+    let kind = leafShape (k .result .kind) in
+    let is = shape-leaf T (args .key) (k .result) (k .ensures) (rw (k .ensures) (asked .1 .1 .0 .0)) (rw (k .ensures) (asked .1 .1 .0 .1)) in
+    let left : args .judge ≡ false → Accepted (walk P (inv .0) (pairs (args .n - loop .i) (args .key) (args .val)) here) =
+    λ j.
+    rest-accepted R S P (map (args .key) (args .val)) (args .ty) (args .start) (args .n) (cursorAt p (args .start)) (args .row) (args .sheet .now)
+    (walk P (inv .0) (pairs (args .n - loop .i) (args .key) (args .val)) here) (pairs (args .n - loop .i) (args .key) (args .val)) (loop .sum) (loop .below) (loop .sheet)
+    (inv .1) (asked .1 .0 .judged j) in
+    let span = farther .before .from in
+    let from = span .given .0 .0 in
+    let to = span .given .0 .1 .0 in
+    let i = leaf-in S (args .depth) (args .key) kind is d0 p (loop .here) _ (farther .before .before .before .content .ensures) from to (span .given .1) in
+    let read = leaf-parsed S (args .depth) (args .key) kind is d0 p (loop .here) _ (farther .before .before .before .content .ensures) from to (span .given .1) in
+    let again = back .before .before .before .before .before .before .before .is-again .ensures in
+    let new =
+    pair-new R S P p (args .key) (args .val) (args .n) (loop .i) (inv .0) (loop .here) some from to read (args .judge) _ left
+    (λ j. again .1 .0 j ∙ ap (among (part p from to)) (sym (inv .8 j .0))) (back .before .before .before .before .if2 .left) in
+    let put = back .before .before .put-row in
+    let w =
+    renamed (ap (λ (k : ℕ). parse S k (args .val) (cursorAt p to)) (deep (args .depth) (farther .before .before .before .before .before .if1 .left)))
+    (was (c .before .before .before .before .before .composite .ensures) (c .before .number .given .1)) in
+    composite-stop R S P (map (args .key) (args .val)) (args .ty) (args .start) (args .n) (cursorAt p (args .start)) (args .row) (args .sheet .now) p (args .start) _ _ _
+    (pair-value-stop R S P p (args .key) (args .val) (args .n) (loop .i) (inv .0) (loop .here) some from to read new (loop .sum) (loop .below) (loop .sheet) _ (put .ensures) _ _ (w .same) ∙ inv .1))
+    -- enum-known-due
+    (λ c. search needs)
+    -- add-sum
+    (λ c.
+    let back = c .before .before .before .before .before .before .before .before .before in
+    let farther = back .before .before .before .before .before .before .before .before .before in
+    let farthest = farther .before .before .before .before .before .before .before .before .before in
+    let args = farthest .before .before .before .before .before .args in
+    let asked = farthest .before .before .before .before .before .pre in
+    let T = tableOf (args .s .now) in
+    let S = shape T in
+    let p = args .p .now in
+    let loop = farther .before .before .before .before .before .before .before .loop in
+    let inv = loop .inv in
+    let some = farther .before .before .before .before .before .before .loop-test .taken in
+    let d0 = farther .before .before .before .before .before .if1 .left in
+    let k = farthest .type-row in
+    let kind = leafShape (k .result .kind) in
+    let is = shape-leaf T (args .key) (k .result) (k .ensures) (rw (k .ensures) (asked .1 .1 .0 .0)) (rw (k .ensures) (asked .1 .1 .0 .1)) in
+    let span = farther .before .from in
+    let from = span .given .0 .0 in
+    let to = span .given .0 .1 .0 in
+    let i = leaf-in S (args .depth) (args .key) kind is d0 p (loop .here) _ (farther .before .before .before .content .ensures) from to (span .given .1) in
+    let small = asked .1 .0 .small in
+    let w = was (c .before .before .before .before .before .composite .ensures) (c .before .due .given .1) .within in omega (arith, inv .4, i .2, w .2, w .0, small))
+    -- cast-content-2
+    (λ c. search needs)
+    -- content-requires-2
+    (λ c κs.
+    let back = c .before .before .before .before .before .before .before .before .before in
+    let farther = back .before .before .before .before .before .before .before .before .before in
+    let args = farther .before .before .before .before .before .before .before .before .args in
+    let asked = farther .before .before .before .before .before .before .before .before .pre in
+    let T = tableOf (args .s .now) in
+    let S = shape T in
+    let R = firstFields (args .shown .now) S in
+    let P = parse S (args .depth) in
+    let p = args .p .now in
+    let loop = farther .before .loop in
+    let inv = loop .inv in
+    let here = cursorAt p (loop .here) in
+    let some = farther .loop-test .taken in
+    let d0 = back .before .before .before .before .before .before .before .before .if1 .left in
+    let k = farther .before .before .before .type-row in
+    let kind = leafShape (k .result .kind) in
+    let is = shape-leaf T (args .key) (k .result) (k .ensures) (rw (k .ensures) (asked .1 .1 .0 .0)) (rw (k .ensures) (asked .1 .1 .0 .1)) in
+    let left : args .judge ≡ false → Accepted (walk P (inv .0) (pairs (args .n - loop .i) (args .key) (args .val)) here) =
+    λ j.
+    rest-accepted R S P (map (args .key) (args .val)) (args .ty) (args .start) (args .n) (cursorAt p (args .start)) (args .row) (args .sheet .now)
+    (walk P (inv .0) (pairs (args .n - loop .i) (args .key) (args .val)) here) (pairs (args .n - loop .i) (args .key) (args .val)) (loop .sum) (loop .below) (loop .sheet)
+    (inv .1) (asked .1 .0 .judged j) in
+    let span = back .before .before .before .before .from in
+    let from = span .given .0 .0 in
+    let to = span .given .0 .1 .0 in
+    let i = leaf-in S (args .depth) (args .key) kind is d0 p (loop .here) _ (back .before .before .before .before .before .before .content .ensures) from to (span .given .1) in
+    let read = leaf-parsed S (args .depth) (args .key) kind is d0 p (loop .here) _ (back .before .before .before .before .before .before .content .ensures) from to (span .given .1) in
+    let again = back .before .is-again .ensures in
+    let new =
+    pair-new R S P p (args .key) (args .val) (args .n) (loop .i) (inv .0) (loop .here) some from to read (args .judge) _ left
+    (λ j. again .1 .0 j ∙ ap (among (part p from to)) (sym (inv .8 j .0))) (c .before .before .before .before .before .before .before .if2 .left) in
+    let put = c .before .before .before .before .before .put-row in
+    let v = farther .before .before .type-row2 in
+    let vkind = leafShape (v .result .kind) in
+    let vis = shape-leaf T (args .val) (v .result) (v .ensures) (rw (v .ensures) (asked .1 .1 .0 .2)) (omega (arith, c .before .if3 .left)) in (
+      asked .1 .0 .small,
+      i .1,
+      rw (v .ensures) (asked .1 .1 .0 .2),
+      omega (arith, c .before .if3 .left),
+      λ j.
+          own-accepted S (args .depth - 1) (args .val) (cursorAt p to) vkind vis
+          (deeper (λ k. Accepted (parse S k (args .val) (cursorAt p to))) (args .depth) d0
+          (pair-value-accepted R S P p (args .key) (args .val) (args .n) (loop .i) (inv .0) (loop .here) some from to read new (loop .sum) (loop .below) (loop .sheet) _ (put .ensures) (left j))),
+    ))
+    -- enum-known-place-2
+    (λ c. search needs)
+    -- same-length-9
+    (λ c.
+    let back = c .before .before .before .before .before .before .before .before .before in
+    let farther = back .before .before .before .before .before .before .before .before .before in
+    back .put-row .kept .0 ∙ farther .before .before .before .before .before .loop .inv .5)
+    -- same-length-10
+    (λ c.
+    let back = c .before .before .before .before .before .before .before .before .before in
+    let farther = back .before .before .before .before .before .before .before .before .before in
+    back .before .before .before .before .before .is-again .kept .1 .0 ∙ farther .before .before .before .before .before .loop .inv .7)
+    -- returns-5
+    (λ c.
+    let back = c .before .before .before .before .before .before .before .before .before in
+    let farther = back .before .before .before .before .before .before .before .before .before in
+    let farthest = farther .before .before .before .before .before .before .before .before .before in
+    let args = farthest .before .before .before .args in
+    let asked = farthest .before .before .before .pre in
+    let T = tableOf (args .s .now) in
+    let S = shape T in
+    let R = firstFields (args .shown .now) S in
+    let P = parse S (args .depth) in
+    let p = args .p .now in
+    let loop = farther .before .before .before .before .before .loop in
+    let inv = loop .inv in
+    let here = cursorAt p (loop .here) in
+    let some = farther .before .before .before .before .loop-test .taken in
+    let d0 = farther .before .before .before .if1 .left in
+    let k = farther .before .before .before .before .before .before .before .type-row in
+    let kind = leafShape (k .result .kind) in
+    let is = shape-leaf T (args .key) (k .result) (k .ensures) (rw (k .ensures) (asked .1 .1 .0 .0)) (rw (k .ensures) (asked .1 .1 .0 .1)) in
+    let left : args .judge ≡ false → Accepted (walk P (inv .0) (pairs (args .n - loop .i) (args .key) (args .val)) here) =
+    λ j.
+    rest-accepted R S P (map (args .key) (args .val)) (args .ty) (args .start) (args .n) (cursorAt p (args .start)) (args .row) (args .sheet .now)
+    (walk P (inv .0) (pairs (args .n - loop .i) (args .key) (args .val)) here) (pairs (args .n - loop .i) (args .key) (args .val)) (loop .sum) (loop .below) (loop .sheet)
+    (inv .1) (asked .1 .0 .judged j) in
+    let span = back .before .before .before .before .before .before .before .before .from in
+    let from = span .given .0 .0 in
+    let to = span .given .0 .1 .0 in
+    let i = leaf-in S (args .depth) (args .key) kind is d0 p (loop .here) _ (farther .before .content .ensures) from to (span .given .1) in
+    let read = leaf-parsed S (args .depth) (args .key) kind is d0 p (loop .here) _ (farther .before .content .ensures) from to (span .given .1) in
+    let again = back .before .before .before .before .before .is-again .ensures in
+    let new =
+    pair-new R S P p (args .key) (args .val) (args .n) (loop .i) (inv .0) (loop .here) some from to read (args .judge) _ left
+    (λ j. again .1 .0 j ∙ ap (among (part p from to)) (sym (inv .8 j .0))) (back .before .before .if2 .left) in
+    let put = back .put-row in
+    let v = farther .before .before .before .before .before .before .type-row2 in
+    let vkind = leafShape (v .result .kind) in
+    let vis = shape-leaf T (args .val) (v .result) (v .ensures) (rw (v .ensures) (asked .1 .1 .0 .2)) (omega (arith, c .before .before .before .before .before .if3 .left)) in
+    let failed = leaf-failed S (args .depth) (args .val) vkind vis d0 p to _ (c .before .before .before .content2 .ensures) _ _ (c .before .place2 .given .1) in
+    composite-stop R S P (map (args .key) (args .val)) (args .ty) (args .start) (args .n) (cursorAt p (args .start)) (args .row) (args .sheet .now) p (args .start) _ _ _
+    (pair-value-stop R S P p (args .key) (args .val) (args .n) (loop .i) (inv .0) (loop .here) some from to read new (loop .sum) (loop .below) (loop .sheet) _ (put .ensures) _ _
+    (stop-at (told R S (args .val)) _ (loop .below + 1) _ _ _ failed) ∙ inv .1))
+    -- enum-known-from-2
+    (λ c. search needs)
+    -- add-put-row
+    (λ c.
+    let back = c .before .before .before .before .before .before .before .before .before in
+    let farther = back .before .before .before .before .before .before .before .before .before in
+    let farthest = farther .before .before .before .before .before .before .before .before .before in
+    let pre = farthest .before .before .before .before .pre .1 .0 in let inv = farther .before .before .before .before .before .before .loop .inv in omega (arith, inv .2, inv .3, pre .small))
+    -- sub-put-row-2
+    (λ c.
+    let back = c .before .before .before .before .before .before .before .before .before in
+    let farther = back .before .before .before .before .before .before .before .before .before in
+    let farthest = farther .before .before .before .before .before .before .before .before .before in
+    let args = farthest .before .before .before .before .args in
+    let asked = farthest .before .before .before .before .pre in
+    let T = tableOf (args .s .now) in
+    let S = shape T in
+    let p = args .p .now in
+    let loop = farther .before .before .before .before .before .before .loop in
+    let some = farther .before .before .before .before .before .loop-test .taken in
+    let d0 = farther .before .before .before .before .if1 .left in
+    let k = farther .before .before .before .before .before .before .before .before .type-row in
+    let kind = leafShape (k .result .kind) in
+    let is = shape-leaf T (args .key) (k .result) (k .ensures) (rw (k .ensures) (asked .1 .1 .0 .0)) (rw (k .ensures) (asked .1 .1 .0 .1)) in
+    let span = farther .from in
+    let from = span .given .0 .0 in
+    let to = span .given .0 .1 .0 in
+    let i = leaf-in S (args .depth) (args .key) kind is d0 p (loop .here) _ (farther .before .before .content .ensures) from to (span .given .1) in
+    let v = farther .before .before .before .before .before .before .before .type-row2 in
+    let vkind = leafShape (v .result .kind) in
+    let vis = shape-leaf T (args .val) (v .result) (v .ensures) (rw (v .ensures) (asked .1 .1 .0 .2)) (omega (arith, c .before .before .before .before .before .before .if3 .left)) in
+    let vspan = c .before .before .from2 in
+    let vi = leaf-in S (args .depth) (args .val) vkind vis d0 p to _ (c .before .before .before .before .content2 .ensures) (vspan .given .0 .0) (vspan .given .0 .1 .0) (vspan .given .1) in omega (arith, vi .0))
+    -- put-row-requires-2
+    (λ c κs.
+    let back = c .before .before .before .before .before .before .before .before .before in
+    let farther = back .before .before .before .before .before .before .before .before .before in
+    let farthest = farther .before .before .before .before .before .before .before .before .before in
+    let args = farthest .before .before .before .before .args in
+    let asked = farthest .before .before .before .before .pre in
+    let T = tableOf (args .s .now) in
+    let S = shape T in
+    let p = args .p .now in
+    let loop = farther .before .before .before .before .before .before .loop in
+    let some = farther .before .before .before .before .before .loop-test .taken in
+    let d0 = farther .before .before .before .before .if1 .left in
+    let k = farther .before .before .before .before .before .before .before .before .type-row in
+    let kind = leafShape (k .result .kind) in
+    let is = shape-leaf T (args .key) (k .result) (k .ensures) (rw (k .ensures) (asked .1 .1 .0 .0)) (rw (k .ensures) (asked .1 .1 .0 .1)) in
+    let span = farther .from in
+    let from = span .given .0 .0 in
+    let to = span .given .0 .1 .0 in
+    let i = leaf-in S (args .depth) (args .key) kind is d0 p (loop .here) _ (farther .before .before .content .ensures) from to (span .given .1) in
+    let v = farther .before .before .before .before .before .before .before .type-row2 in
+    let vkind = leafShape (v .result .kind) in
+    let vis = shape-leaf T (args .val) (v .result) (v .ensures) (rw (v .ensures) (asked .1 .1 .0 .2)) (omega (arith, c .before .before .before .before .before .before .if3 .left)) in
+    let vspan = c .before .before .from2 in
+    let vi = leaf-in S (args .depth) (args .val) vkind vis d0 p to _ (c .before .before .before .before .content2 .ensures) (vspan .given .0 .0) (vspan .given .0 .1 .0) (vspan .given .1) in
+    let small = asked .1 .0 .small in
+    let inv = loop .inv in omega (arith, i, vi, inv .2, inv .3, small))
+    -- add-below-2
+    (λ c.
+    let back = c .before .before .before .before .before .before .before .before .before in
+    let farther = back .before .before .before .before .before .before .before .before .before in
+    let farthest = farther .before .before .before .before .before .before .before .before .before in
+    let pre = farthest .before .before .before .before .before .before .before .pre .1 .0 in let inv = farthest .loop .inv in omega (arith, inv .2, inv .3, pre .small))
+    -- add-i
+    (λ c.
+    let back = c .before .before .before .before .before .before .before .before .before in
+    let farther = back .before .before .before .before .before .before .before .before .before in
+    omega (arith, back .before .before .before .before .before .before .before .before .loop-test .taken, farther .before .before .before .before .before .before .before .pre .1 .1 .0 .4))
+    -- loop-less
+    (λ c.
+    let back = c .before .before .before .before .before .before .before .before .before in
+    omega (arith, back .before .before .before .before .before .before .before .before .loop-test .taken))
+    -- loop-again
+    (λ c.
+    let back = c .before .before .before .before .before .before .before .before .before in
+    let farther = back .before .before .before .before .before .before .before .before .before in
+    let args = farther .before .before .before .before .before .before .before .args in
+    let asked = farther .before .before .before .before .before .before .before .pre in
+    let T = tableOf (args .s .now) in
+    let S = shape T in
+    let R = firstFields (args .shown .now) S in
+    let P = parse S (args .depth) in
+    let p = args .p .now in
+    let loop = farther .loop in
+    let inv = loop .inv in
+    let here = cursorAt p (loop .here) in
+    let some = back .before .before .before .before .before .before .before .before .loop-test .taken in
+    let d0 = back .before .before .before .before .before .before .before .if1 .left in
+    let k = farther .before .before .type-row in
+    let kind = leafShape (k .result .kind) in
+    let is = shape-leaf T (args .key) (k .result) (k .ensures) (rw (k .ensures) (asked .1 .1 .0 .0)) (rw (k .ensures) (asked .1 .1 .0 .1)) in
+    let left : args .judge ≡ false → Accepted (walk P (inv .0) (pairs (args .n - loop .i) (args .key) (args .val)) here) =
+    λ j.
+    rest-accepted R S P (map (args .key) (args .val)) (args .ty) (args .start) (args .n) (cursorAt p (args .start)) (args .row) (args .sheet .now)
+    (walk P (inv .0) (pairs (args .n - loop .i) (args .key) (args .val)) here) (pairs (args .n - loop .i) (args .key) (args .val)) (loop .sum) (loop .below) (loop .sheet)
+    (inv .1) (asked .1 .0 .judged j) in
+    let span = back .before .before .before .from in
+    let from = span .given .0 .0 in
+    let to = span .given .0 .1 .0 in
+    let i = leaf-in S (args .depth) (args .key) kind is d0 p (loop .here) _ (back .before .before .before .before .before .content .ensures) from to (span .given .1) in
+    let read = leaf-parsed S (args .depth) (args .key) kind is d0 p (loop .here) _ (back .before .before .before .before .before .content .ensures) from to (span .given .1) in
+    let again = back .is-again .ensures in
+    let new =
+    pair-new R S P p (args .key) (args .val) (args .n) (loop .i) (inv .0) (loop .here) some from to read (args .judge) _ left
+    (λ j. again .1 .0 j ∙ ap (among (part p from to)) (sym (inv .8 j .0))) (c .before .before .before .before .before .before .if2 .left) in
+    let put = c .before .before .before .before .put-row in
+    let joined = c .if3 in
+    let t : Paired R S P p (args .key) (args .val) (args .n) (loop .i) (inv .0) (loop .here) some from to read new (loop .sum) (loop .below) (loop .sheet) _ (put .ensures) (joined .here) (joined .sum) (joined .below) (joined .sheet) =
+    ⊎-elim
+    (λ w.
+    pair-turn R S P p (args .key) (args .val) (args .n) (loop .i) (inv .0) (loop .here) some from to read new (loop .sum) (loop .below) (loop .sheet) _ (put .ensures) _ _ _ _
+    (renamed (ap (λ (k : ℕ). parse S k (args .val) (cursorAt p to)) (deep (args .depth) d0)) (was (w .2 .ensures) (w .6 .given .1)))
+    _ _ _ _ (w .9) (w .11) (w .10) (w .8))
+    (λ w.
+    let v = farther .before .type-row2 in
+    let vis = shape-leaf T (args .val) (v .result) (v .ensures) (rw (v .ensures) (asked .1 .1 .0 .2)) (omega (arith, w .0 .left)) in
+    let vspan = w .4 .given in
+    pair-turn R S P p (args .key) (args .val) (args .n) (loop .i) (inv .0) (loop .here) some from to read new (loop .sum) (loop .below) (loop .sheet) _ (put .ensures) _ _ _ _
+    (leaf-past S (args .depth) (args .val) (leafShape (v .result .kind)) vis d0 p to _ (w .2 .ensures) (vspan .0 .0) (vspan .0 .1 .0) (vspan .1)
+    R (loop .below + 1) _ _ (omega (arith, i, inv .3)) (w .7 .ensures))
+    _ _ _ _ (w .11) (omega (arith, w .13)) (omega (arith, w .12)) (w .10))
+    (joined .came) in (
+      part p from to ∷ inv .0,
+      sym (t .same) ∙ inv .1,
+      t .inside,
+      t .behind,
+      omega (arith, inv .4, i .2, t .forth),
+      t .long ∙ put .kept .0 ∙ inv .5,
+      omega (arith, some),
+      back .is-again .kept .1 .0 ∙ inv .7,
+      λ j. (ap (λ (ks : List (List ℕ)). part p from to ∷ ks) (inv .8 j .0) ∙ sym (again .1 .1 .0 j), again .1 .1 .1 j),
+    ))
+    -- sub-put-row-3
+    (λ c. omega (arith, c .before .before .loop .inv .4))
+    -- put-row-requires-3
+    (λ c κs.
+    let asked = c .before .before .before .before .before .before .before .before .before .pre .1 in
+    let pre = asked .0 in
+    let inv = c .before .before .loop .inv in
+    omega (arith, inv .2, inv .3, inv .4, pre .small, pre .behind, asked .1 .0 .4))
+    -- sub-t33
+    (λ c. omega (arith, c .before .before .before .before .before .before .before .before .before .before .before .before .pre .1 .1 .0 .3))
+    -- mul-t60
+    (λ c. let h = few-pairs (c .before .before .before .before .before .before .before .before .before .before .before .before .args .n)
+    (c .before .before .before .before .before .before .before .before .before .before .before .before .pre .1 .1 .0 .4) in omega
+    (arith, h, c .before .before .before .before .before .before .before .before .before .before .before .before .pre .1 .1 .0 .4))
+    -- cast-t62
+    (λ c. let h = few-pairs (c .before .before .before .before .before .before .before .before .before .before .before .before .args .n)
+    (c .before .before .before .before .before .before .before .before .before .before .before .before .pre .1 .1 .0 .4) in omega
+    (arith, h, c .before .before .before .before .before .before .before .before .before .before .before .before .pre .1 .1 .0 .4))
+    -- add-t63
+    (λ c.
+    let args = c .before .before .before .before .before .before .before .before .before .before .before .before .args in
+    let asked = c .before .before .before .before .before .before .before .before .before .before .before .before .pre in
+    let inv = c .before .before .before .before .before .loop .inv in
+    let h = few-pairs (args .n) (asked .1 .1 .0 .4) in omega (arith, h, inv .2, inv .4, inv .6, c .before .before .before .before .loop-test .left, asked .1 .0 .small, asked .1 .1 .0 .4))
+    -- same-length-11
+    (λ c. c .before .before .put-row3 .kept .0 ∙ c .before .before .before .before .before .loop .inv .5)
+    -- same-length-12
+    (λ c. c .before .before .before .before .before .loop .inv .7)
+    -- returns-6
+    (λ c.
+    let args = c .before .before .before .before .before .before .before .before .before .before .before .before .args in
+    let asked = c .before .before .before .before .before .before .before .before .before .before .before .before .pre in
+    let T = tableOf (args .s .now) in
+    let S = shape T in
+    let R = firstFields (args .shown .now) S in
+    let P = parse S (args .depth) in
+    let p = args .p .now in
+    let loop = c .before .before .before .before .before .loop in
+    let inv = loop .inv in
+    let here = cursorAt p (loop .here) in
+    let n = args .n in
+    let end = c .before .before .before .before .loop-test .left in
+    let h = few-pairs n (asked .1 .1 .0 .4) in
+    let own = own-due n in
+    composite-past R S P (map (args .key) (args .val)) (args .ty) (args .start) n (cursorAt p (args .start)) (args .row) (args .sheet .now)
+    p (args .start) (loop .here) (loop .sum) _ (loop .below) (loop .sheet) _ (inv .0) (pairs (n - loop .i) (args .key) (args .val))
+    (pairs-none (args .key) (args .val) (n - loop .i) (omega (arith, end))) (inv .1)
+    (omega (arith, own)) (c .before .before .put-row3 .ensures) (inv .2) (inv .3) (omega (arith, h, inv .4, inv .6, end)))
+
+abbrev partial-calls : ℕ → partial-lts.Claims
+partial-calls t = (low-bits-reads.Asked, low-bits-reads.Learnt, ones-in-reads.Asked, ones-in-reads.Learnt, fields-below t, fields.Post, put-row-reads.Asked, put-row-reads.Learnt)
+
+partial-spec : {M : Type 1} (t : ℕ) → partial-lts.Closed (partial-calls t) (partial-at t) partial.Post M
+partial-spec t =
+    partial-lts.spec (partial-calls t) (partial-at t) partial.Post
+    -- low-bits-requires
+    (λ c κs. omega (arith, c .before .before .before .pre .1 .1 .0 .1, c .before .before .before .pre .1 .1 .1 .1))
+    -- ones-in-requires
+    (λ c κs. search needs)
+    -- fields-requires
+    (λ c κs.
+    let args = c .before .before .before .before .before .before .args in
+    let asked = c .before .before .before .before .before .before .pre in
+    let T = tableOf (args .s .now) in
+    let S = shape T in
+    let R = firstFields (args .shown .now) S in
+    let P = parse S (args .depth) in
+    let p = args .p .now in
+    let place = asked .1 .1 .0 in
+    let le : args .m ≤ args .n = omega (arith, asked .1 .1 .1 .1) in
+    let mine = c .before .before .low-bits in
+    let pre = asked .1 .0 in
+    let count = mine-count T (args .first) (args .n) (args .m) le (place .2) (args .known) (mine .result) (mine .ensures) in (
+      omega arith,
+      (
+        record {
+          good = pre .good;
+          small = pre .small;
+          inside = pre .inside;
+          behind = pre .behind;
+          judged = λ j. fields-accepted T (args .first) (args .n) (args .m) le (place .2) R S P (args .ty) (args .place) (args .known) p
+              (args .start) (args .row) (args .sheet .now) (mine .result) (mine .ensures) (pre .judged j);
+        },
+        (omega (arith, le, place .2), place .3, c .before .ones-in .ensures .1, c .before .ones-in .ensures .0 ∙ count),
+      ),
+    ))
+    -- enum-known-number
+    (λ c. search needs)
+    -- enum-known-sum
+    (λ c. search needs)
+    -- shr-low-bits
+    (λ c.
+    let asked = c .before .before .before .before .before .before .before .before .before .before .before .before .pre .1 .1 in
+    omega (arith, asked .0 .1, asked .1 .1))
+    -- sub-low-bits
+    (λ c. omega (arith, c .before .before .before .before .before .before .before .before .before .before .before .before .pre .1 .1 .1 .1))
+    -- low-bits-requires-2
+    (λ c κs. omega (arith, c .before .before .before .before .before .before .before .before .before .before .before .before .pre .1 .1 .0 .1))
+    -- slice-relend-prefix-fields
+    (λ c. search needs)
+    -- slice-aggregate-fields
+    (λ c. search needs)
+    -- add-fields
+    (λ c.
+    let back = c .before .before .before .before .before .before .before .before .before in
+    let asked = back .before .before .before .before .before .pre in
+    let h = few-fields _ (asked .1 .0 .good) in omega (arith, h, asked .1 .1 .0 .2, asked .1 .1 .1 .1))
+    -- sub-fields
+    (λ c.
+    let back = c .before .before .before .before .before .before .before .before .before in
+    omega (arith, back .before .before .before .before .before .pre .1 .1 .1 .1))
+    -- ones-in-requires-2
+    (λ c κs. search needs)
+    -- fields-requires-2
+    (λ c κs.
+    let back = c .before .before .before .before .before .before .before .before .before in
+    let args = back .before .before .before .before .before .before .args in
+    let asked = back .before .before .before .before .before .before .pre in
+    let T = tableOf (args .s .now) in
+    let S = shape T in
+    let R = firstFields (args .shown .now) S in
+    let P = parse S (args .depth) in
+    let p = args .p .now in
+    let place = asked .1 .1 .0 in
+    let le : args .m ≤ args .n = omega (arith, asked .1 .1 .1 .1) in
+    let mine = back .before .before .low-bits in
+    let past = c .before .before .before .before .sum in
+    let w1 = was (c .before .before .before .before .before .before .before .before .fields .ensures) (past .given .1) in
+    let sum = past .given .0 .0 in
+    let here = past .given .0 .1 .0 in
+    let below = past .given .0 .1 .1 .0 in
+    let pre = asked .1 .0 in
+    let rest = c .before .before .low-bits2 in
+    let room : args .first + args .m + (args .n - args .m) ≤ length (T .fields) = omega (arith, le, place .2) in
+    let count = mine-count T (args .first + args .m) (args .n - args .m) (args .n - args .m) (omega arith) room _ (rest .result) (rest .ensures) in (
+      omega arith,
+      (
+        record {
+          good = pre .good;
+          small = pre .small;
+          inside = w1 .within .0;
+          behind = omega (arith, pre .behind, w1 .within .2);
+          judged = λ j. others-accepted T (args .first) (args .n) (args .m) le (place .2) R S P (args .ty) (args .place) (args .known) p (args .start) (args .row) (args .sheet .now) (mine .result)
+              (mine .ensures) sum here below _ w1 (rest .result) (rest .ensures) (pre .judged j);
+        },
+        (room, omega arith, c .ones-in2 .ensures .1, c .ones-in2 .ensures .0 ∙ count),
+      ),
+    ))
+    -- enum-known-number-2
+    (λ c. search needs)
+    -- enum-known-due
+    (λ c. search needs)
+    -- sub-put-row
+    (λ c.
+    let back = c .before .before .before .before .before .before .before .before .before in
+    let farther = back .before .before .before .before .before .before .before .before .before in
+    let w1 = was (back .before .before .before .before .before .before .fields .ensures) (back .before .before .sum .given .1) .within in
+    let w2 = was (c .before .before .before .before .before .before .fields2 .ensures) (c .before .before .due .given .1) .within in omega (arith, w1 .2, w2 .2, farther .before .before .before .before .pre .1 .1 .0 .3))
+    -- put-row-requires
+    (λ c κs.
+    let back = c .before .before .before .before .before .before .before .before .before in
+    let farther = back .before .before .before .before .before .before .before .before .before in
+    let pre = farther .before .before .before .before .pre .1 .0 in
+    let count = back .before .before .before .before .before .before .before .before .ones-in .ensures .1 in
+    let w2 = was (c .before .before .before .before .before .before .fields2 .ensures) (c .before .before .due .given .1) .within in omega
+    (arith, w2 .0, pre .small, pre .inside, pre .behind, farther .before .before .before .before .pre .1 .1 .0 .3, count))
+    -- add-t44
+    (λ c.
+    let back = c .before .before .before .before .before .before .before .before .before in
+    let farther = back .before .before .before .before .before .before .before .before .before in
+    let small = farther .before .before .before .before .before .before .before .pre .1 .0 .small in
+    let w1 = was (farther .fields .ensures) (back .before .before .before .before .before .sum .given .1) .within in
+    let w2 = was (back .fields2 .ensures) (c .before .before .before .before .before .due .given .1) .within in omega (arith, small, w1 .2, w2 .2, w2 .0))
+    -- same-length
+    (λ c. c .before .before .before .before .before .fields .kept .1 .1 .1 .0)
+    -- returns
+    (λ c.
+    let args = c .before .before .before .before .before .before .before .before .before .before .before .before .args in
+    let asked = c .before .before .before .before .before .before .before .before .before .before .before .before .pre in
+    let T = tableOf (args .s .now) in
+    let S = shape T in
+    let R = firstFields (args .shown .now) S in
+    let P = parse S (args .depth) in
+    let p = args .p .now in
+    let place = asked .1 .1 .0 in
+    let le : args .m ≤ args .n = omega (arith, asked .1 .1 .1 .1) in
+    let mine = c .before .before .before .before .before .before .before .before .low-bits in
+    fields-stop T (args .first) (args .n) (args .m) le (place .2) R S P (args .ty) (args .place) (args .known) p (args .start) (args .row) (args .sheet .now) (mine .result) (mine .ensures) _ _ _
+    (was (c .before .before .before .before .before .fields .ensures) (c .before .number .given .1)))
+    -- same-length-2
+    (λ c. search needs)
+    -- returns-2
+    (λ c.
+    let back = c .before .before .before .before .before .before .before .before .before in
+    let farther = back .before .before .before .before .before .before .before .before .before in
+    let args = farther .before .before .before .args in
+    let asked = farther .before .before .before .pre in
+    let T = tableOf (args .s .now) in
+    let S = shape T in
+    let R = firstFields (args .shown .now) S in
+    let P = parse S (args .depth) in
+    let p = args .p .now in
+    let place = asked .1 .1 .0 in
+    let le : args .m ≤ args .n = omega (arith, asked .1 .1 .1 .1) in
+    let mine = back .before .before .before .before .before .before .before .before .low-bits in
+    let past = back .before .sum in
+    let w1 = was (back .before .before .before .before .before .fields .ensures) (past .given .1) in
+    let sum = past .given .0 .0 in
+    let here = past .given .0 .1 .0 in
+    let below = past .given .0 .1 .1 .0 in
+    let rest = c .before .before .before .before .before .before .before .before .low-bits2 in
+    others-stop T (args .first) (args .n) (args .m) le (place .2) R S P (args .ty) (args .place) (args .known) p (args .start) (args .row) (args .sheet .now) (mine .result) (mine .ensures) sum here below _ w1 (rest .result)
+    (rest .ensures) _ _ _ _ _ (was (c .before .before .before .before .before .fields2 .ensures) (c .before .number2 .given .1)))
+    -- same-length-3
+    (λ c. search needs)
+    -- returns-3
+    (λ c.
+    let back = c .before .before .before .before .before .before .before .before .before in
+    let farther = back .before .before .before .before .before .before .before .before .before in
+    let args = farther .before .before .before .before .before .before .before .args in
+    let asked = farther .before .before .before .before .before .before .before .pre in
+    let T = tableOf (args .s .now) in
+    let S = shape T in
+    let R = firstFields (args .shown .now) S in
+    let P = parse S (args .depth) in
+    let p = args .p .now in
+    let place = asked .1 .1 .0 in
+    let le : args .m ≤ args .n = omega (arith, asked .1 .1 .1 .1) in
+    let mine = farther .before .before .before .low-bits in
+    let past = back .before .before .before .before .before .sum in
+    let w1 = was (farther .fields .ensures) (past .given .1) in
+    let sum = past .given .0 .0 in
+    let here = past .given .0 .1 .0 in
+    let below = past .given .0 .1 .1 .0 in
+    let rest = back .before .before .before .low-bits2 in
+    let shown = first-part (args .shown .now) S T (args .ty) (args .first) (args .n) (place .0) (place .2) (args .m) (asked .1 .1 .1 .0) le in
+    others-past T (args .first) (args .n) (args .m) le (place .2) R S P (args .ty) (args .place) (args .known) p (args .start) (args .row) (args .sheet .now) (mine .result) (mine .ensures) sum here below _ w1 (rest .result)
+    (rest .ensures) shown (place .0) _ _ _ _ _ _
+    (was (back .fields2 .ensures) (c .before .before .before .before .before .due .given .1)) (rw (nothing-before _ _ (back .fields2 .kept .1 .1 .1 .0), farther .before .before .ones-in .ensures .0) at (c .before .before .put-row .ensures)))
+
+abbrev structure-calls : ℕ → structure-lts.Claims
+structure-calls t = (presence-reads.Asked, presence-reads.Learnt, shown-of-reads.Asked, shown-of-reads.Learnt, partial-below t, partial.Post, fields-below t, fields.Post)
+
+structure-spec : {M : Type 1} (t : ℕ) → structure-lts.Closed (structure-calls t) (structure-at t) structure.Post M
+structure-spec t =
+    structure-lts.spec (structure-calls t) (structure-at t) structure.Post
+    -- presence-requires
+    (λ c κs.
+    let args = c .before .before .before .args in
+    let asked = c .before .before .before .pre in
+    let T = tableOf (args .s .now) in
+    let S = shape T in
+    let p = args .p .now in
+    let pre = asked .1 .0 .0 in
+    let n = asked .1 .1 in (
+      pre .good,
+      n .0,
+      n .1,
+      n .2,
+      pre .inside,
+      λ j. bitmap-accepted S (args .depth) (args .ty) p (args .at) (fieldsFrom T (args .first) (args .n)) (asked .1 .0 .1) (pre .judged j),
+    ))
+    -- enum-known-number
+    (λ c. search needs)
+    -- enum-known-known
+    (λ c. search needs)
+    -- returns
+    (λ c.
+    let args = c .before .before .before .before .before .before .before .before .args in
+    let asked = c .before .before .before .before .before .before .before .before .pre in
+    let T = tableOf (args .s .now) in
+    let S = shape T in
+    let p = args .p .now in
+    as-refused _ _ _
+    (struct-unknown S (args .depth) (args .ty) p (args .at) (fieldsFrom T (args .first) (args .n)) (asked .1 .0 .1) _ (c .before .before .before .before .presence .ensures) _ _ _ _ _ (c .before .before .known .given .1) (c .if1 .taken)))
+    -- shown-of-requires
+    (λ c κs.
+    let args = c .before .before .before .before .before .before .before .before .args in
+    let asked = c .before .before .before .before .before .before .before .before .pre in
+    let T = tableOf (args .s .now) in
+    let S = shape T in
+    let p = args .p .now in
+    let few = struct-type (args .s .now) (asked .1 .0 .0 .good) (args .ty) _ (asked .1 .0 .1) in few .1)
+    -- partial-requires
+    (λ c κs.
+    let args = c .before .before .before .before .before .before .before .before .before .before .before .args in
+    let asked = c .before .before .before .before .before .before .before .before .before .before .before .pre in
+    let T = tableOf (args .s .now) in
+    let S = shape T in
+    let p = args .p .now in
+    let pre = asked .1 .0 .0 in
+    let n = asked .1 .1 in
+    let is = asked .1 .0 .1 in
+    let bits = c .before .before .before .before .before .known in
+    let fs = fieldsFrom T (args .first) (args .n) in
+    let h = head-in S (args .depth) (args .ty) p (args .at) fs is _ (c .before .before .before .before .before .before .before .presence .ensures) _ _ _ _ _ (bits .given .1) in
+    let whole = struct-whole S (args .depth) (args .ty) p (args .at) fs is _ (c .before .before .before .before .before .before .before .presence .ensures) _ _ _ _ _ (bits .given .1) (c .before .before .before .if1 .left) in (
+      omega arith,
+      (
+        record { good = pre .good; small = pre .small; inside = h .5; behind = omega (arith, pre .behind, h .4); judged = λ j. rw whole at (pre .judged j) },
+        ((is, n .1, n .2, omega (arith, h .4)), (c .before .before .shown-of .ensures, c .before .if2 .taken)),
+      ),
+    ))
+    -- same-length
+    (λ c. c .before .before .partial .kept .1 .1 .1 .0)
+    -- returns-2
+    (λ c.
+    let back = c .before .before .before .before .before .before .before .before .before in
+    let args = back .before .before .before .before .before .args in
+    let asked = back .before .before .before .before .before .pre in
+    let T = tableOf (args .s .now) in
+    let S = shape T in
+    let R = firstFields (args .shown .now) S in
+    let P = parse S (args .depth) in
+    let p = args .p .now in
+    let is = asked .1 .0 .1 in
+    let fs = fieldsFrom T (args .first) (args .n) in
+    struct-valued S (args .depth) (args .ty) p (args .at) fs is _ (back .before .presence .ensures) _ _ _ _ _ (c .before .before .before .before .before .before .before .before .known .given .1) R
+    (c .before .before .before .before .before .before .if1 .left) _ (c .before .before .partial .ensures))
+    -- fields-requires
+    (λ c κs.
+    let args = c .before .before .before .before .before .before .before .before .before .before .before .args in
+    let asked = c .before .before .before .before .before .before .before .before .before .before .before .pre in
+    let T = tableOf (args .s .now) in
+    let S = shape T in
+    let p = args .p .now in
+    let pre = asked .1 .0 .0 in
+    let n = asked .1 .1 in
+    let is = asked .1 .0 .1 in
+    let bits = c .before .before .before .before .before .known in
+    let fs = fieldsFrom T (args .first) (args .n) in
+    let h = head-in S (args .depth) (args .ty) p (args .at) fs is _ (c .before .before .before .before .before .before .before .presence .ensures) _ _ _ _ _ (bits .given .1) in
+    let whole = struct-whole S (args .depth) (args .ty) p (args .at) fs is _ (c .before .before .before .before .before .before .before .presence .ensures) _ _ _ _ _ (bits .given .1) (c .before .before .before .if1 .left) in (
+      omega arith,
+      (
+        record { good = pre .good; small = pre .small; inside = h .5; behind = omega (arith, pre .behind, h .4); judged = λ j. rw whole at (pre .judged j) },
+        (n .2, omega (arith, h .4), h .6, h .1),
+      ),
+    ))
+    -- returns-3
+    (λ c.
+    let args = c .before .before .before .before .before .before .before .args in
+    let asked = c .before .before .before .before .before .before .before .pre in
+    let T = tableOf (args .s .now) in
+    let S = shape T in
+    let p = args .p .now in
+    as-refused _ _ _
+    (struct-refused S (args .depth) (args .ty) p (args .at) (fieldsFrom T (args .first) (args .n)) (asked .1 .0 .1) _ (c .before .before .before .presence .ensures) _ (c .before .number .given .1)))
+    -- same-length-2
+    (λ c. c .before .before .fields .kept .1 .1 .1 .0)
+    -- returns-4
+    (λ c.
+    let back = c .before .before .before .before .before .before .before .before .before in
+    let args = back .before .before .before .before .before .args in
+    let asked = back .before .before .before .before .before .pre in
+    let T = tableOf (args .s .now) in
+    let S = shape T in
+    let R = firstFields (args .shown .now) S in
+    let P = parse S (args .depth) in
+    let p = args .p .now in
+    let is = asked .1 .0 .1 in
+    let bits = c .before .before .before .before .before .before .before .before .known in
+    let fs = fieldsFrom T (args .first) (args .n) in
+    let shown = first-whole (args .shown .now) S T (args .ty) (args .first) (args .n) is (asked .1 .1 .2) (omega (arith, c .before .before .before .before .before .shown-of .ensures, c .before .before .before .before .if2 .left)) in
+    struct-valued S (args .depth) (args .ty) p (args .at) fs is _ (back .before .presence .ensures) _ _ _ _ _ (bits .given .1) R (c .before .before .before .before .before .before .if1 .left) _
+    (as-told R S P (struct fs) (args .ty) (args .at) _ _ (args .row) (args .sheet .now) shown is (c .before .before .fields .ensures)))
+
+pub +array+composite+fields+many+mapping+pairs+partial+structure-spec : {M : Type 1} → statement M
++array+composite+fields+many+mapping+pairs+partial+structure-spec = close μ-array μ-composite μ-fields μ-many μ-mapping μ-pairs μ-partial μ-structure array-spec composite-spec fields-spec many-spec mapping-spec pairs-spec partial-spec structure-spec
