@@ -20,11 +20,15 @@ const TAIL: Range = Range(0x80, 0xBF);
 // No byte is in it.
 const EMPTY: Range = Range(0x01, 0x00);
 
+// UTF8-1 = %x00-7F
+const UTF8_1: Row = Row(1, Range(0x00, 0x7F), EMPTY, EMPTY, EMPTY);
+
+// UTF8-2 = %xC2-DF UTF8-tail
+const UTF8_2: Row = Row(2, Range(0xC2, 0xDF), TAIL, EMPTY, EMPTY);
+
 const ROWS: [Row; 9] = [
-    // UTF8-1 = %x00-7F
-    Row(1, Range(0x00, 0x7F), EMPTY, EMPTY, EMPTY),
-    // UTF8-2 = %xC2-DF UTF8-tail
-    Row(2, Range(0xC2, 0xDF), TAIL, EMPTY, EMPTY),
+    UTF8_1,
+    UTF8_2,
     // UTF8-3 = %xE0 %xA0-BF UTF8-tail /
     Row(3, Range(0xE0, 0xE0), Range(0xA0, 0xBF), TAIL, EMPTY),
     //          %xE1-EC 2( UTF8-tail ) /
@@ -40,11 +44,6 @@ const ROWS: [Row; 9] = [
     //          %xF4 %x80-8F 2( UTF8-tail )
     Row(4, Range(0xF4, 0xF4), Range(0x80, 0x8F), TAIL, TAIL),
 ];
-
-// Where the rows UTF8-1 and UTF8-2 stand.
-const UTF8_1: usize = 0;
-
-const UTF8_2: usize = 1;
 
 // Whether a byte is in a range.
 fn within(g: Range, b: u8) -> bool
@@ -157,7 +156,7 @@ fn skip_pairs(s: &[u8], from: usize, to: usize) -> usize
     requires { ⌜ (from ≤ to) × (to ≤ length (now s)) ⌝ }
     ensures { λ r. ⌜ ((from ≤ r) × (r ≤ to)) × (utf8 (slice r to (now (s .entry))) ≡ utf8 (slice from to (now (s .entry)))) ⌝ }
 {
-    let row = ROWS[UTF8_2];
+    let row = UTF8_2;
     let mut i = from;
     while 2 <= to - i {
         if !(within(row.1, s[i]) & within(row.2, s[i + 1])) {
@@ -187,8 +186,7 @@ pub fn valid(s: &[u8], from: usize, to: usize) -> bool
 {
     let mut i = from;
     while i < to {
-        let one = ROWS[UTF8_1];
-        if within(one.1, s[i]) {
+        if within(UTF8_1.1, s[i]) {
             i = skip_words(s, skip_blocks(s, i + 1, to), to);
         } else {
             let end = skip_run(s, i, to);

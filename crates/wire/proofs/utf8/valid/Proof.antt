@@ -21,7 +21,7 @@ loop-again : tie.Need-loop-again Inv-loop μ-loop
 unfolding rows
 loop-again c =
     let t = c .before .before in
-    let l = t .before .before .before .before .before in
+    let l = t .before .before .before .before in
     let a = l .before .before .args in (
       omega arith,
       c .skip-words .ensures .1 ∙ c .before .skip-blocks .ensures .1
@@ -29,11 +29,11 @@ loop-again c =
     )
 
 returns : tie.Need-returns Inv-loop μ-loop
-returns c = sym (c .before .skip-run .ensures .2 (c .if2 .taken)) ∙ c .before .before .before .before .before .before .before .loop .inv .1
+returns c = sym (c .before .skip-run .ensures .2 (c .if2 .taken)) ∙ c .before .before .before .before .before .before .loop .inv .1
 
 loop-again-2 : tie.Need-loop-again-2 Inv-loop μ-loop
 loop-again-2 c =
-    let l = c .before .before .before .before .before .before .before in
+    let l = c .before .before .before .before .before .before in
     let w = c .before .skip-run .ensures in
     (omega arith, w .1 ∙ l .loop .inv .1)
 
@@ -52,7 +52,6 @@ valid-spec =
     Inv-loop
     μ-loop
     (λ c. (omega arith, refl))
-    (λ c. search needs)
     (λ c. search needs)
     (λ c κs. search needs)
     (λ c. search needs)
