@@ -19,13 +19,7 @@ use Rattle.value.specs.Answer.{Answer, refused, seen, andThen, check, cursorAt,
 use Rattle.value.specs.Read.{count}
 use Rattle.cursor.specs.declared.item.NumberStep.{NumberStep}
 use Rattle.cursor.specs.declared.item.Number.the-variants.{Is, Refused}
-use Rattle.cursor.specs.Item.{numberOf, span, numberStep, varuintAt}
-
--- The answer to an item at a place: 20 or 21 at the place itself, or what was read, with the cursor at a later place of the payload.
-pub data Fair {A : Type 0} (p : List ℕ) (from : ℕ) : Answer A → Type 0 where
-  cut : Fair p from (refused 20 from)
-  malformed : Fair p from (refused 21 from)
-  past : {a : A} {next : ℕ} → from < next → next ≤ length p → Fair p from (seen a (cursorAt p next))
+use Rattle.cursor.specs.Item.{numberOf, span, numberStep, varuintAt, Fair, cut, malformed, past}
 
 module _ (p : List ℕ) (from : ℕ) where
   -- ---- VarUInts

@@ -18,9 +18,9 @@ use Rattle.value.specs.Read.{Own, plain, parts, own}
 use Rattle.cursor.specs.declared.Reader.{Reader as Lent}
 use Rattle.cursor.specs.declared.item.Number.the-variants as Number
 use Rattle.cursor.specs.declared.item.Span.the-variants as Span
-use Rattle.cursor.specs.Item.{Content, numberOf, numberStep, spanStep, varuintAt, spanAt}
+use Rattle.cursor.specs.Item.{Content, numberOf, numberStep, spanStep, varuintAt, spanAt, Fair, cut, malformed, past}
 use Rattle.cursor.specs.Lent.{standing}
-use Rattle.cursor.proofs.Items.{Fair, cut, malformed, past, step-seen, whole-span}
+use Rattle.cursor.proofs.Items.{step-seen, whole-span}
 
 -- What is left and the position make up the payload.
 pub left-is : (r : Lent) → length (standing r .left) ≡ length (now (r .payload)) - r .at

@@ -16,38 +16,31 @@ use Rattle.value.specs.Answer.{Answer, refused, seen, Reader, andThen, check, c
 use Rattle.value.specs.Read.{Own, plain, count, own}
 use Rattle.cursor.specs.declared.item.Span.{Span}
 use Rattle.cursor.specs.declared.item.Span.the-variants.{At, Refused}
-use Rattle.cursor.specs.Item.{Content, span, bytesIn, spanStep, spanAt, textSpan, textAt}
+use Rattle.cursor.specs.Item.{Content, span, spanStep, spanAt, checked, judged, textSpan, textAt}
 use Rattle.cursor.proofs.Items.{Sized, large, broken, room, count-sized, block-here, span-refused, span-here}
 
 module _ (p : List ℕ) where
-  -- A content x at a place: of a string it has to be UTF-8.
-  abbrev checked : Bool → (place : ℕ) → List ℕ → Reader Own
-  checked good place x c = andThen (check good 23 place c) (λ _ c. seen (plain x) c)
-
-  abbrev pub judged : (kind : ℕ) → Content → Reader Own
-  judged kind s c = checked (not (eqb kind 12) || utf8 (bytesIn p s)) (s .place) (bytesIn p s) c
-
   module _ (from : ℕ) where
     text-refused : (kind n q : ℕ) → count 1 (cursorAt p from) ≡ refused n q → own (text kind) (cursorAt p from) ≡ refused n q
     unfolding andThen
     text-refused kind n q e = rw e
 
     text-here : (kind n start : ℕ) → count 1 (cursorAt p from) ≡ seen n (cursorAt p start) → n ≤ length p - start
-        → own (text kind) (cursorAt p from) ≡ judged kind (record { place = start; size = n }) (cursorAt p (start + n))
+        → own (text kind) (cursorAt p from) ≡ judged p kind (record { place = start; size = n }) (cursorAt p (start + n))
     unfolding andThen
     text-here kind n start e h = rw (e, block-here p start n h)
 
     -- A string or bytes, as the payload reader reads them: the span, and for a string its UTF-8, refused at the content's start.
-    pub text-by-span : (kind : ℕ) → own (text kind) (cursorAt p from) ≡ andThen (span (cursorAt p from)) (judged kind)
+    pub text-by-span : (kind : ℕ) → own (text kind) (cursorAt p from) ≡ andThen (span (cursorAt p from)) (judged p kind)
     unfolding andThen
     text-by-span kind = go (count 1 (cursorAt p from)) refl (count-sized p from)
       where
-        go : (a : Answer ℕ) → count 1 (cursorAt p from) ≡ a → Sized p from a → own (text kind) (cursorAt p from) ≡ andThen (span (cursorAt p from)) (judged kind)
-        go a e large = text-refused kind 20 from e ∙ ap (λ (x : Answer Content). andThen x (judged kind)) (sym (span-refused p from 20 from e))
-        go a e broken = text-refused kind 21 from e ∙ ap (λ (x : Answer Content). andThen x (judged kind)) (sym (span-refused p from 21 from e))
+        go : (a : Answer ℕ) → count 1 (cursorAt p from) ≡ a → Sized p from a → own (text kind) (cursorAt p from) ≡ andThen (span (cursorAt p from)) (judged p kind)
+        go a e large = text-refused kind 20 from e ∙ ap (λ (x : Answer Content). andThen x (judged p kind)) (sym (span-refused p from 20 from e))
+        go a e broken = text-refused kind 21 from e ∙ ap (λ (x : Answer Content). andThen x (judged p kind)) (sym (span-refused p from 21 from e))
         go a e (room {n} {start} l m) =
             let h : n ≤ length p - start = omega arith in
-            text-here kind n start e h ∙ ap (λ (x : Answer Content). andThen x (judged kind)) (sym (span-here p from n start e h))
+            text-here kind n start e h ∙ ap (λ (x : Answer Content). andThen x (judged p kind)) (sym (span-here p from n start e h))
 
     -- The span that was found.
     module _ (found : Span) (is : found ≡ spanAt p from .item) where

@@ -1,11 +1,14 @@
 -- The items of a payload, each by a reader of the crate `value`, and the steps that the code answers with.
 -- Assumes nothing.
 use mathlib.Core.List.{List}
-use Prim.Native.Nat.{ℕ, _-_}
+use mathlib.Core.Bool.{Bool, not, _||_}
+use Prim.Native.Nat.{ℕ, _-_, _≤_, _<_}
+use lib.Dec.{eqb}
 use lib.ListN.{length, take, drop}
 use Rattle.wire.specs.Little.{little}
+use Rattle.wire.specs.Utf8.{utf8}
 use Rattle.schema.specs.Table.{text}
-use Rattle.value.specs.Answer.{Answer, refused, seen, Reader, _>>=_, return, at, cursorAt, block, varUInt}
+use Rattle.value.specs.Answer.{Answer, refused, seen, Reader, andThen, _>>=_, return, at, check, cursorAt, block, varUInt}
 use Rattle.value.specs.Read.{Own, plain, parts, count, own}
 use Rattle.cursor.specs.declared.item.Width.{Width}
 use Rattle.cursor.specs.declared.item.Width.the-variants.{One, Two, Four, Eight}
@@ -63,6 +66,19 @@ numberAt width p from = numberStep from (numberOf (bytesOf width) (cursorAt p fr
 
 abbrev pub spanAt : List ℕ → ℕ → SpanStep
 spanAt p from = spanStep from (span (cursorAt p from))
+
+-- The answer to an item at a place: 20 or 21 at the place itself, or what was read, with the cursor at a later place of the payload.
+pub data Fair {A : Type 0} (p : List ℕ) (from : ℕ) : Answer A → Type 0 where
+  cut : Fair p from (refused 20 from)
+  malformed : Fair p from (refused 21 from)
+  past : {a : A} {next : ℕ} → from < next → next ≤ length p → Fair p from (seen a (cursorAt p next))
+
+-- A content x at a place, where the test says whether it is right; what a string is right by is its UTF-8.
+abbrev pub checked : Bool → (place : ℕ) → List ℕ → Reader Own
+checked good place x c = andThen (check good 23 place c) (λ _ c. seen (plain x) c)
+
+abbrev pub judged : (payload : List ℕ) (kind : ℕ) → Content → Reader Own
+judged p kind s c = checked (not (eqb kind 12) || utf8 (bytesIn p s)) (s .place) (bytesIn p s) c
 
 -- Where a leaf's content stands, by its end, or its refusal. (A string has no parts.)
 abbrev pub textSpan : Answer Own → Span

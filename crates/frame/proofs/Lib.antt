@@ -6,4 +6,5 @@ pub mod Frames
 pub mod Theorems
 pub mod Answers
 pub mod ReadBack
+pub mod Numbers
 pub mod Examples

@@ -2,3 +2,4 @@ pub mod Frame
 pub mod Places
 pub mod Written
 pub mod IsFrame
+pub mod Numbers

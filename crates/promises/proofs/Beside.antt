@@ -30,6 +30,7 @@ use Rattle.value.specs.Fits.{Shows, ShowsKnown}
 use Rattle.value.specs.Added.{reached, firstAdded, without, NoneAdded}
 use Rattle.value.specs.Claims.{DelimitedTree}
 use Rattle.value.specs.Listed.{ValueFault, within-list, many-pairs}
+use Rattle.value.proofs.Numbers.{fault-number as root-fault-number}
 use Rattle.value.specs.Beside.{readBeside, RightfulBeside, TooFewRows, ListedBeside, no-struct, too-long, faulty, too-few-rows, ShownAs, DelimitedBeside, SomeOf, rootLength}
 use Rattle.value.proofs.Telling.{shows-known}
 use Rattle.value.proofs.Reading.{sized}
@@ -134,7 +135,7 @@ payload-number : (S S′ : ℕ → Shape) (t : ℕ) (payload : List ℕ) (rows :
     → (7 ≤ n) × (n ≤ 46) × (n ≡ 46 → (fs : List Field) → S t ≡ struct fs → ⊥)
 payload-number S S′ t payload rows (no-struct h) = (omega arith, omega arith, λ e. h)
 payload-number S S′ t payload rows (too-long h) = (omega arith, omega arith, λ e. absurd (omega arith))
-payload-number S S′ t payload rows (faulty f h) = let k = fault-number f in (omega arith, omega arith, λ e. absurd (omega arith))
+payload-number S S′ t payload rows (faulty fs u x rest st short e f) = let k = fault-number (root-fault-number f) in (omega arith, omega arith, λ e. absurd (omega arith))
 payload-number S S′ t payload rows (too-few-rows fs st h) = (omega arith, omega arith, λ e. absurd (omega arith))
 
 module _ (ours theirs : List ℕ) (ty : ℕ) (payload sheet : List ℕ) where

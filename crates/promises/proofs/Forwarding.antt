@@ -24,7 +24,7 @@ use Rattle.value.specs.Sheet.{rowsOf}
 use Rattle.value.specs.Spell.{TailFits, RootSpells, encode}
 use Rattle.value.specs.Write.{span, written, write}
 use Rattle.value.specs.Fits.{Shows}
-use Rattle.value.proofs.Numbers.{sheet-reason-number}
+use Rattle.value.proofs.Numbers.{sheet-reason-number, write-number-above}
 use Rattle.reader.specs.declared.Reading.the-variants.{Shown}
 use Rattle.reader.specs.Entry.{outcome, room, readOutcome}
 use Rattle.writer.specs.declared.Writing.the-variants.{Written, Refused}
@@ -37,7 +37,7 @@ use Rattle.forward.specs.Claims.{ForwardListed, by-rows, outside, unfit, whole-
 use Rattle.forward.proofs.Statements as forward
 use Rattle.promises.specs.Claims.{shapes, firstRows, ReadsAs, ForwardReason}
 use Rattle.promises.proofs.Entries.{rows-back, shown-good, shown-from}
-use Rattle.promises.proofs.Refusals.{write-number-above, file-above}
+use Rattle.promises.proofs.Refusals.{file-above}
 use Rattle.promises.proofs.Reading.{shown-iff-spelled}
 use Rattle.promises.proofs.ReadBack.{read-back}
 use Rattle.promises.proofs.Extension.{goods}

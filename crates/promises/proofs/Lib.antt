@@ -6,5 +6,6 @@ pub mod Extension
 pub mod Beside
 pub mod ValueFrames
 pub mod Forwarding
+pub mod Numbers
 pub mod Examples
 pub mod BesideExamples

@@ -18,9 +18,7 @@ use Rattle.schema.proofs.Listed as file
 use Rattle.value.specs.Read.{refusal, read}
 use Rattle.value.specs.Sheet.{rowsOf}
 use Rattle.value.specs.Reasons.{RootFault, Reason, Settles}
-use Rattle.value.specs.Listed as listed
-use Rattle.value.specs.Listed.{ReadNumber, WriteNumber}
-use Rattle.value.proofs.Numbers.{reason-number, sheet-reason-number}
+use Rattle.value.proofs.Numbers.{reason-number, sheet-reason-number, read-number-above, write-number-above}
 use Rattle.value.proofs.Statements as value
 use Rattle.reader.specs.declared.Reading.the-variants.{Refused}
 use Rattle.reader.specs.Entry.{outcome, outcomeOf, room, byTable, readOutcome, payloadOutcome}
@@ -85,32 +83,12 @@ module _ (s : List ℕ) (ty : ℕ) (sheet B out : List ℕ) where
 
 -- ---- no refusal has the number 0
 
-number-above : {n : ℕ} → ReadNumber n → 0 < n
-number-above (listed.value (listed.within-list low high)) = omega arith
-number-above (listed.value listed.many-pairs) = omega arith
-number-above listed.no-struct = omega arith
-number-above listed.too-long = omega arith
-number-above listed.too-few-rows = omega arith
-
-pub write-number-above : {n : ℕ} → WriteNumber n → 0 < n
-write-number-above listed.no-bool = omega arith
-write-number-above listed.no-string = omega arith
-write-number-above listed.repeated-key = omega arith
-write-number-above listed.absent-field = omega arith
-write-number-above listed.too-deep = omega arith
-write-number-above listed.many-pairs = omega arith
-write-number-above listed.unfit = omega arith
-write-number-above listed.outside = omega arith
-write-number-above listed.no-struct = omega arith
-write-number-above listed.too-long = omega arith
-write-number-above listed.too-small = omega arith
-
 pub file-above : (s : List ℕ) (n q : ℕ) → checked s ≡ Faulty n q → 0 < n
 file-above s n q e = omega (arith, file.listed-bounds (tableOf s) (file.listed s n q e) .0)
 
 pub read-refused-above : (s : List ℕ) (ty : ℕ) (payload sheet : List ℕ) (n q : ℕ) (after : List ℕ) → readOutcome s ty payload sheet ≡ outcome (Refused n q) after → 0 < n
 read-refused-above s ty payload sheet n q after e =
-    ⊎-elim (file-above s n q) (λ w. number-above (reason-number (w .1))) (read-refused-iff s ty payload sheet n q after .0 e .1)
+    ⊎-elim (file-above s n q) (λ w. read-number-above (reason-number (w .1))) (read-refused-iff s ty payload sheet n q after .0 e .1)
 
 pub write-refused-above : (s : List ℕ) (ty : ℕ) (sheet B out : List ℕ) (n q : ℕ) (out′ : List ℕ) → writer.fileOutcome s ty sheet B out ≡ writer.outcome (Unwritten n q) out′ → 0 < n
 write-refused-above s ty sheet B out n q out′ e =

@@ -5,3 +5,4 @@ pub mod Outcomes
 pub mod Statements
 pub mod Examples
 pub mod Cells
+pub mod Numbers

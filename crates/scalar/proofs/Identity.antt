@@ -15,7 +15,7 @@ use Rattle.wire.proofs.Numbers.{bytes-little, little-below, sign-weight}
 use Rattle.schema.specs.Table.{width}
 use Rattle.scalar.specs.declared.Scalar.{Scalar}
 use Rattle.scalar.specs.declared.Scalar.the-variants.{Truth, Signed, Unsigned, Float32, Float64}
-use Rattle.scalar.specs.Scalar.{valueOf, identity}
+use Rattle.scalar.specs.Scalar.{valueOf, identity, Content}
 use Rattle.scalar.proofs.Widths.{width-bounds}
 
 -- The value of a number, by the tests of its kind.
@@ -64,12 +64,6 @@ number-once false true c d half m n p q t e = twos-once half m n p q e
 number-once false false true d half m n p q t e = pos-once m n e
 number-once false false false true half m n p q t e = pos-once m n e
 number-once false false false false half m n p q t e = pos-once m n e
-
--- x is a content of the scalar kind.
-pub record Content (kind : ℕ) (x : List ℕ) : Type 0 where
-  pub bytes : Bytes x
-  pub wide : length x ≡ width kind
-  pub truth : kind ≡ 1 → little x < 2
 
 module _ (kind : ℕ) (p : 0 < kind) (h : kind < 12) (x y : List ℕ) (cx : Content kind x) (cy : Content kind y) where
   below : (z : List ℕ) → Content kind z → little z < 2 ^ (8 * width kind - 1) + 2 ^ (8 * width kind - 1)

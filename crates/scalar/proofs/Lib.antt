@@ -2,6 +2,7 @@ pub mod Floats
 pub mod Widths
 pub mod Answers
 pub mod Reasons
+pub mod Numbers
 pub mod Identity
 pub mod Twos
 pub mod Reading

@@ -14,10 +14,9 @@ use Rattle.wire.specs.Little.{little, twos}
 use Rattle.wire.proofs.Numbers.{little-below, sign-weight}
 use Rattle.schema.specs.Table.{width}
 use Rattle.scalar.specs.declared.Scalar.the-variants.{Signed}
-use Rattle.scalar.specs.Scalar.{valueOf}
+use Rattle.scalar.specs.Scalar.{valueOf, Content}
 use Rattle.scalar.specs.Range.{InRange, IsModulo}
 use Rattle.scalar.proofs.Widths.{width-bounds}
-use Rattle.scalar.proofs.Identity.{Content}
 
 -- The sign bit is clear, or it is set.
 clear : (half x : ℕ) → x < half → InRange half (pos x) × IsModulo (half + half) (pos x) x

@@ -1,13 +1,14 @@
 -- One row of a sheet over its bytes as a value: the tests in order, and the value of a content by its kind.
 -- Assumes nothing.
+use mathlib.Core.Path.{_≡_}
 use mathlib.Core.List.{List}
 use mathlib.Core.Bool.{Bool, not, _||_, cond}
-use Prim.Native.Nat.{ℕ, _-_, _*_, _^_}
+use Prim.Native.Nat.{ℕ, _-_, _*_, _^_, _<_}
 use lib.Dec.{leb, ltb, eqb}
 use lib.Ieee.{binary32, binary64, ofBits}
 use lib.IntN.{ℤ, pos}
 use lib.ListN.{length}
-use Rattle.wire.specs.Little.{little, twos}
+use Rattle.wire.specs.Little.{little, twos, Bytes}
 use Rattle.wire.specs.Utf8.{utf8}
 use Rattle.schema.specs.declared.Checked.{Checked}
 use Rattle.schema.specs.declared.Checked.the-variants as check
@@ -96,3 +97,9 @@ identity (Unsigned n) = pos n
 identity (Float32 f bits) = pos bits
 identity (Float64 f bits) = pos bits
 identity (Span place n) = pos 0
+
+-- x is a content of the scalar kind.
+pub record Content (kind : ℕ) (x : List ℕ) : Type 0 where
+  pub bytes : Bytes x
+  pub wide : length x ≡ width kind
+  pub truth : kind ≡ 1 → little x < 2

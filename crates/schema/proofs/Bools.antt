@@ -24,6 +24,11 @@ pub and-i : (a b : Bool) → a ≡ true → b ≡ true → (a && b) ≡ true
 and-i true b p q = q
 and-i false b p q = p
 
+-- the first of two that fails
+pub and-false : (a b : Bool) → (a && b) ≡ false → (a ≡ false) ⊎ ((a ≡ true) × (b ≡ false))
+and-false true b h = inr (refl, h)
+and-false false b h = inl refl
+
 pub or-left : (a b : Bool) → a ≡ true → (a || b) ≡ true
 or-left true b h = refl
 or-left false b h = clash false h refl

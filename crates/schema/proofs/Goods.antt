@@ -12,15 +12,17 @@ use borrow.Author.Tests.{leb-true, ltb-true, eqb-true, leb-false, ltb-false, eqb
 use Rattle.schema.specs.declared.TypeRow.{TypeRow}
 use Rattle.schema.specs.declared.Field.{Field}
 use Rattle.schema.specs.declared.Method.{Method}
+use Rattle.schema.specs.declared.Found.the-variants.{Missing}
 use Rattle.schema.specs.declared.Checked.the-variants.{Good}
 use Rattle.schema.specs.Table.{Table, rowAt}
 use Rattle.schema.specs.File.{cell, trailerAt, fieldsAt, methodsAt, shaped, tableOf}
 use Rattle.schema.specs.Check.{noRow, keyKind, plainRow, arrayRow, mapRow, structRow, goodRow, field, goodField, methodRow, letter, formed, named, findAmong, isMissing, goodMethod, small, badRow, badField, badMethod, checkedTable, IsGood}
 use Rattle.schema.specs.Good.{HasShape, KeyKind, GoodRow, GoodField, Letter, GoodMethod, SameNames, GoodTable, GoodFile}
+use Rattle.schema.specs.Faults.{Few, RowOk, FieldOk, MethodOk, RowsOk, FieldsOk}
 use Rattle.schema.proofs.Bools.{cases, clash, and-left, and-right, and-i, or-left, or-right, or-cases}
 use Rattle.schema.proofs.Files.{tests-of}
 use Rattle.schema.proofs.Checks.{faultless, no-faults, in-shape, good-shaped, good-checked}
-use Rattle.schema.proofs.Lowest.{missing-is, none-below, below-none}
+use Rattle.schema.proofs.Lowest.{missing-is, none-below, below-none, all-good}
 
 ruleset tests = (and-left, and-right, eqb-true, ltb-true, leb-true)
 
@@ -261,33 +263,65 @@ module _ (T : Table) where
       ap isMissing
       (below-none _ j (λ i h. ⊎-elim (λ e. absurd (f i h (names-of (methodRow T i) (methodRow T j) e))) (λ e. e) (cases (named (methodRow T j .«package») (methodRow T j .service) (methodRow T j .method) (methodRow T i)))))
 
+  -- ---- each entry of the table
+
+  pub row-iff : (t : ℕ) → (goodRow T t ≡ true) ↔ RowOk T t
+  unfolding goodRow
+  row-iff t = (row-of (rowAt T t), of-row (rowAt T t))
+
+  pub field-iff : (i : ℕ) → (goodField T i ≡ true) ↔ FieldOk T i
+  unfolding goodField
+  field-iff i = (field-of (field T i), of-field (field T i))
+
+  pub method-iff : (i : ℕ) → (goodMethod T i ≡ true) ↔ MethodOk T i
+  unfolding goodMethod fresh
+  method-iff i = (
+    λ e. (method-of (methodRow T i) (and-left _ _ e), λ j. fresh-of j i (and-right (formed T (methodRow T i)) _ e)),
+    λ (g, f). and-i _ _ (of-method (methodRow T i) g) (of-fresh i f),
+  )
+
+  pub few-iff : (small T ≡ true) ↔ Few T
+  unfolding small
+  few-iff = (
+    λ e. let a : length (T .types) ≤ 256 = search tests in let b : length (T .fields) ≤ 2048 = search tests in let c : length (T .methods) ≤ 256 = search tests in (a, b, c),
+    λ (a, b, c). and-i _ _ (le-leb _ 256 a) (and-i _ _ (le-leb _ 2048 b) (le-leb _ 256 c)),
+  )
+
+  -- ---- the sections
+
+  pub rows-iff : (badRow T ≡ Missing) ↔ RowsOk T
+  unfolding badRow
+  rows-iff = all-good (goodRow T) (RowOk T) row-iff (length (T .types))
+
+  pub fields-iff : (badField T ≡ Missing) ↔ FieldsOk T
+  unfolding badField
+  fields-iff = all-good (goodField T) (FieldOk T) field-iff (length (T .fields))
+
+  pub methods-iff : (badMethod T ≡ Missing) ↔ ((i : ℕ) → i < length (T .methods) → MethodOk T i)
+  unfolding badMethod
+  methods-iff = all-good (goodMethod T) (MethodOk T) method-iff (length (T .methods))
+
   -- ---- the whole table
 
   pub table-of : checkedTable T ≡ Good → GoodTable T
-  unfolding small badRow badField badMethod goodRow goodField goodMethod fresh
   table-of e =
       let f = faultless T e in
-      let few = f .few in
-      let methods : (i : ℕ) → i < length (T .methods) → (formed T (methodRow T i) && fresh i) ≡ true =
-      λ i h. not-false _ (none-below _ (length (T .methods)) (f .methods) i h) in
+      let (types, fields, methods) = few-iff .0 (f .few) in
+      let each = methods-iff .0 (f .methods) in
       record {
-        fewTypes = search tests;
-        fewFields = search tests;
-        fewMethods = search tests;
-        rows = λ t h. row-of (rowAt T t) (not-false _ (none-below _ (length (T .types)) (f .rows) t h));
-        fields = λ i h. field-of (field T i) (not-false _ (none-below _ (length (T .fields)) (f .fields) i h));
-        methods = λ i h. method-of (methodRow T i) (and-left _ _ (methods i h));
-        distinct = λ i j h k. fresh-of i j (and-right (formed T (methodRow T j)) _ (methods j k)) h;
+        fewTypes = types;
+        fewFields = fields;
+        fewMethods = methods;
+        rows = rows-iff .0 (f .rows);
+        fields = fields-iff .0 (f .fields);
+        methods = λ i h. each i h .0;
+        distinct = λ i j h k. each j k .1 i h;
       }
 
   pub of-table : GoodTable T → checkedTable T ≡ Good
-  unfolding small badRow badField badMethod goodRow goodField goodMethod fresh
   of-table g =
-      sym (no-faults T
-      (and-i _ _ (le-leb _ 256 (g .fewTypes)) (and-i _ _ (le-leb _ 2048 (g .fewFields)) (le-leb _ 256 (g .fewMethods))))
-      (below-none _ (length (T .types)) (λ t h. ap not (of-row (rowAt T t) (g .rows t h))))
-      (below-none _ (length (T .fields)) (λ i h. ap not (of-field (field T i) (g .fields i h))))
-      (below-none _ (length (T .methods)) (λ i h. ap not (and-i _ _ (of-method (methodRow T i) (g .methods i h)) (of-fresh i (λ j k. g .distinct j i k h))))))
+      sym (no-faults T (few-iff .1 (g .fewTypes, g .fewFields, g .fewMethods)) (rows-iff .1 (g .rows)) (fields-iff .1 (g .fields))
+      (methods-iff .1 (λ i h. (g .methods i h, λ j k. g .distinct j i k h))))
 
 -- Number 0 comes exactly for good tables.
 pub good-iff : (s : List ℕ) → IsGood s ↔ GoodFile s

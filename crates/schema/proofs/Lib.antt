@@ -5,6 +5,10 @@ pub mod Checks
 pub mod Listed
 pub mod Examples
 pub mod Goods
+pub mod Faults
+pub mod Encoded
+pub mod Widths
+pub mod Numbers
 pub mod Shapes
 pub mod Methods
 pub mod Extensions

@@ -1,17 +1,20 @@
 -- The lowest number that passes a test: one turn of a loop that looks for it, and what it means that there is one or none.
 -- Assumes nothing.
 use mathlib.Core.Path.{_≡_, refl, sym, ap, _∙_}
+use mathlib.Core.Logic.{⊎-elim, _↔_}
 use mathlib.Core.Bool.{Bool, true, false, not, cond}
 use Prim.Native.Nat.{ℕ, zero, suc, _+_, _-_, _≤_, _<_, suc-le-suc}
 use native.Mathlib.Nat.{not-suc-le-zero, le-of-suc-le-suc, zero-lt-suc, add-zero, add-suc, suc-add, zero-add}
 use native.Mathlib.Omega.{arith}
-use borrow.Author.Tests.{not-false}
+use lib.Dec.{ltb, eqb}
+use borrow.Author.Tests.{eqb-true, eqb-false, ltb-true, ltb-false, not-true, not-false}
 use Rattle.wire.proofs.Cases.{differ}
 use Rattle.schema.specs.declared.Found.{Found}
 use Rattle.schema.specs.declared.Found.the-variants.{At, Missing}
 use Rattle.schema.specs.Check.{lowest, isMissing}
+use Rattle.schema.specs.Faults.{First}
 use Rattle.schema.specs.Extend.{every}
-use Rattle.schema.proofs.Bools.{clash}
+use Rattle.schema.proofs.Bools.{cases, clash, is-false}
 
 pub missing-is : (f : Found) → isMissing f ≡ true → f ≡ Missing
 missing-is (At i) e = clash false e refl
@@ -86,6 +89,57 @@ module _ (p : ℕ → Bool) where
   unfolding lowest
   found-passes i zero k e = absurd (at-missing k (sym e))
   found-passes i (suc n) k e = found-more i n k (p i) refl e (found-passes (suc i) n k)
+
+  -- and none before it passes
+  first-more : (i n k : ℕ) (b : Bool) → p i ≡ b → cond b (At i) (lowest p (suc i) n) ≡ At k
+      → (lowest p (suc i) n ≡ At k → (j : ℕ) → suc i ≤ j → j < k → p j ≡ false) → (j : ℕ) → i ≤ j → j < k → p j ≡ false
+  first-more i n k true t e f j h l = let q : i ≡ k = cc in absurd (omega arith)
+  first-more i n k false t e f j h l =
+      ⊎-elim (λ z. let q = eqb-true i j z in ap p (sym q) ∙ t) (λ z. let q = eqb-false i j z in f e j (omega arith) l) (cases (eqb i j))
+
+  found-first : (i n k : ℕ) → lowest p i n ≡ At k → (j : ℕ) → i ≤ j → j < k → p j ≡ false
+  unfolding lowest
+  found-first i zero k e j h l = absurd (at-missing k (sym e))
+  found-first i (suc n) k e j h l = first-more i n k (p i) refl e (found-first (suc i) n k) j h l
+
+  -- the first that passes is what is found
+  pub first-found : (n k : ℕ) → k < n → ((j : ℕ) → j < k → p j ≡ false) → p k ≡ true → lowest p 0 n ≡ At k
+  first-found n k h f t = go (lowest p 0 n) refl
+    where
+      go : (r : Found) → lowest p 0 n ≡ r → lowest p 0 n ≡ At k
+      go Missing e = clash (p k) t (none-below n e k h)
+      go (At m) e =
+          let (_, _, passes) = found-passes 0 n m e in
+          ⊎-elim (λ z. clash (p m) passes (f m (ltb-true m k z)))
+          (λ z.
+          let l = ltb-false m k z in
+          ⊎-elim (λ y. clash (p k) t (found-first 0 n m e k (omega arith) (ltb-true k m y)))
+          (λ y. let u = ltb-false k m y in let q : m ≡ k = omega arith in e ∙ ap At q)
+          (cases (ltb k m)))
+          (cases (ltb m k))
+
+-- ---- the first that is not good, by a relation that the test decides
+
+module _ (good : ℕ → Bool) (Good : ℕ → Type 0) (is : (i : ℕ) → (good i ≡ true) ↔ Good i) (n : ℕ) where
+  pub all-good : (lowest (λ i. not (good i)) 0 n ≡ Missing) ↔ ((i : ℕ) → i < n → Good i)
+  all-good = (
+    λ e i h. is i .0 (not-false (good i) (none-below (λ i. not (good i)) n e i h)),
+    λ f. below-none (λ i. not (good i)) n (λ i h. ap not (is i .1 (f i h))),
+  )
+
+  pub first-fault : (q : ℕ) → (lowest (λ i. not (good i)) 0 n ≡ At q) ↔ First Good n q
+  first-fault q = (
+    λ e.
+        let (_, below, bad) = found-passes (λ i. not (good i)) 0 n q e in
+        record {
+          there = omega (arith, below);
+          earlier = λ i h. is i .0 (not-false (good i) (found-first (λ i. not (good i)) 0 n q e i (omega arith) h));
+          fault = λ g. clash (good q) (is q .1 g) (not-true (good q) bad);
+        },
+    λ f.
+        first-found (λ i. not (good i)) n q (f .there) (λ j h. ap not (is j .1 (f .earlier j h)))
+        (ap not (is-false (good q) (λ e. f .fault (is q .0 e)))),
+  )
 
 -- ---- all pass
 

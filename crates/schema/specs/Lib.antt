@@ -4,4 +4,8 @@ pub mod File
 pub mod Check
 pub mod Listed
 pub mod Good
+pub mod Faults
+pub mod Encoded
+pub mod Widths
+pub mod Numbers
 pub mod Extend

@@ -9,7 +9,7 @@ use Prim.Native.Nat.{ℕ, _+_, _≤_, _<_}
 use native.Mathlib.Omega.{arith}
 use lib.Dec.{leb}
 use lib.ListN.{length}
-use borrow.Author.Tests.{leb-false, le-leb, lt-leb}
+use borrow.Author.Tests.{leb-true, leb-false, le-leb, lt-leb}
 use Rattle.wire.proofs.Cases.{differ}
 use Rattle.schema.specs.declared.Field.{Field}
 use Rattle.schema.specs.Table.{Table, Shape, unknown, scalar, text, array, map, struct, shape}
@@ -27,8 +27,8 @@ use Rattle.value.specs.Beside.{pruned, shownRows, besideOf, RightfulBesi
 use Rattle.value.proofs.Shapes.{Widening, Extension}
 use Rattle.value.proofs.Answers.{seen-end, yields-end}
 use Rattle.value.proofs.Root.{root-sound, root-complete}
-use Rattle.value.proofs.Places.{Within, before, root-within}
-use Rattle.value.proofs.Numbers.{Numbered, refuses, root-numbered}
+use Rattle.value.proofs.Blames.{blames-end}
+use Rattle.value.proofs.Refusals.{good-blames}
 use Rattle.value.proofs.Telling.{root-known, known-once}
 use Rattle.value.proofs.Pruned.{pruned-value, pruned-same, tree-shown}
 use Rattle.value.proofs.Reading.{sized, accepts, Gives, accepted-gives, gives-accepted, root-of, root-inv, root-in}
@@ -186,14 +186,11 @@ module _ (ours theirs : Table) (good′ : GoodTable theirs) (n : ℕ) (x : Widen
           let z = rw b at (h (length (rows tree))) in
           differ cc
 
-  value-fault : (k p : ℕ) → Within {A = Tree} (length payload) (refused k p) → Numbered {A = Tree} (refused k p) → Told k p
-  value-fault k p (before h) (refuses f) = faulty f h
-
   by-length : (k p : ℕ) (fs′ : List Field) → shape theirs t ≡ struct fs′ → (b : Bool) → leb (length payload) 16384 ≡ b
       → cond b (rootStruct (shape theirs) t fs′ (cursorAt payload 0)) (refused 7 0) ≡ refused k p → Told k p
   by-length k p fs′ st′ true q e =
-      value-fault k p (subst (Within (length payload)) e (root-within (length payload) (shape theirs) t fs′ (cursorAt payload 0) (omega arith)))
-      (subst Numbered e (root-numbered theirs good′ t fs′ st′ (cursorAt payload 0)))
+      let (u, y, rest, l, at, f) = blames-end (good-blames theirs good′ t fs′ st′ (cursorAt payload 0)) e in
+      subst (Told k) {y = p} (omega arith) (faulty fs′ u y rest st′ (leb-true (length payload) 16384 q) l f)
   by-length k p fs′ st′ false q e =
       let a : 7 ≡ k = cc in
       let b : 0 ≡ p = cc in

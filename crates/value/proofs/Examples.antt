@@ -81,6 +81,37 @@ pub p1-to-p10 : Hold T worked
 unfolding T answers
 p1-to-p10 = refl
 
+-- A type of each kind in turn, 1 to 13, an array of uint16, a map of uint16 to uint8, and a struct that requires one of each.
+unfoldable pub kinds : Table
+kinds = record {
+  types =
+      type 1 0 0 ∷ type 2 0 0 ∷ type 3 0 0 ∷ type 4 0 0 ∷ type 5 0 0 ∷ type 6 0 0 ∷ type 7 0 0 ∷ type 8 0 0 ∷ type 9 0 0 ∷ type 10 0 0 ∷ type 11 0 0
+      ∷ type 12 0 0 ∷ type 13 0 0 ∷ type 14 6 0 ∷ type 15 6 5 ∷ type 16 0 15 ∷ [];
+  fields =
+      field 0 0 ∷ field 1 0 ∷ field 2 0 ∷ field 3 0 ∷ field 4 0 ∷ field 5 0 ∷ field 6 0 ∷ field 7 0 ∷ field 8 0 ∷ field 9 0 ∷ field 10 0 ∷ field 11 0
+      ∷ field 12 0 ∷ field 13 0 ∷ field 14 0 ∷ [];
+  methods = [];
+}
+
+-- Two bytes of bitmap; 1, 1, 2, 4, 8, 1, 2, 4, 8, 4 and 8 bytes of scalars; "ok"; a byte; two numbers; and two pairs, the key before the value.
+pub each-kind : Hold kinds
+    (case 15
+    (0xFF ∷ 0x7F
+    ∷ 0x01 ∷ 0x80 ∷ 0x01 ∷ 0x02 ∷ 0x01 ∷ 0x02 ∷ 0x03 ∷ 0x04 ∷ 0x01 ∷ 0x02 ∷ 0x03 ∷ 0x04 ∷ 0x05 ∷ 0x06 ∷ 0x07 ∷ 0x08
+    ∷ 0xFF ∷ 0x01 ∷ 0x02 ∷ 0x01 ∷ 0x02 ∷ 0x03 ∷ 0x04 ∷ 0x01 ∷ 0x02 ∷ 0x03 ∷ 0x04 ∷ 0x05 ∷ 0x06 ∷ 0x07 ∷ 0x08
+    ∷ 0x00 ∷ 0x00 ∷ 0x80 ∷ 0x3F ∷ 0x00 ∷ 0x00 ∷ 0x00 ∷ 0x00 ∷ 0x00 ∷ 0x00 ∷ 0xF0 ∷ 0x3F
+    ∷ 0x02 ∷ 0x6F ∷ 0x6B ∷ 0x01 ∷ 0xFF
+    ∷ 0x02 ∷ 0x01 ∷ 0x02 ∷ 0x03 ∷ 0x04
+    ∷ 0x02 ∷ 0x0A ∷ 0x0B ∷ 0x0C ∷ 0x0A ∷ 0x0D ∷ 0x0C ∷ []) 4096
+    (accepted
+    (row 15 0 62 15
+    ∷ row 0 2 1 0 ∷ row 1 3 1 0 ∷ row 2 4 2 0 ∷ row 3 6 4 0 ∷ row 4 10 8 0 ∷ row 5 18 1 0 ∷ row 6 19 2 0 ∷ row 7 21 4 0 ∷ row 8 25 8 0
+    ∷ row 9 33 4 0 ∷ row 10 37 8 0 ∷ row 11 46 2 0 ∷ row 12 49 1 0
+    ∷ row 13 51 4 2 ∷ row 6 51 2 0 ∷ row 6 53 2 0
+    ∷ row 14 56 6 2 ∷ row 6 56 2 0 ∷ row 5 58 1 0 ∷ row 6 59 2 0 ∷ row 5 61 1 0 ∷ []) 62 0 1) ∷ [])
+unfolding kinds answers
+each-kind = refl
+
 -- T with a field added to the struct inside the answer's array, and T with one added to the answer itself. Both are an optional uint8.
 unfoldable pub innerAdded : Table
 innerAdded = record {

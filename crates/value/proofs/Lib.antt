@@ -12,6 +12,7 @@ pub mod Root
 pub mod Maps
 pub mod Comparisons
 pub mod Fields
+pub mod Items
 pub mod Depths
 pub mod Shown
 pub mod Placed
@@ -19,7 +20,6 @@ pub mod Delimited
 pub mod Written
 pub mod Telling
 pub mod Ignored
-pub mod Places
 pub mod TwoTables
 pub mod Stops
 pub mod Reasons

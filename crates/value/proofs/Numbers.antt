@@ -2,7 +2,8 @@
 -- Assumes nothing.
 use mathlib.Core.Path.{_≡_}
 use mathlib.Core.List.{List}
-use Prim.Native.Nat.{ℕ}
+use Prim.Native.Nat.{ℕ, _<_}
+use native.Mathlib.Omega.{arith}
 use lib.Dec.{lit≤}
 use Rattle.schema.specs.declared.Field.{Field}
 use Rattle.schema.specs.Table.{Table, Shape, struct, shape}
@@ -102,3 +103,25 @@ sheet-reason-number (sheet.no-struct h) = listed.no-struct
 sheet-reason-number (sheet.faulty fs u x rest st e f) = sheet-number f
 sheet-reason-number (sheet.too-long fs v st s h) = listed.too-long
 sheet-reason-number (sheet.too-small fs v st s h h′) = listed.too-small
+
+-- ---- none is 0
+
+pub read-number-above : {n : ℕ} → ReadNumber n → 0 < n
+read-number-above (listed.value (within-list low high)) = omega arith
+read-number-above (listed.value pairs) = omega arith
+read-number-above listed.no-struct = omega arith
+read-number-above listed.too-long = omega arith
+read-number-above listed.too-few-rows = omega arith
+
+pub write-number-above : {n : ℕ} → WriteNumber n → 0 < n
+write-number-above listed.no-bool = omega arith
+write-number-above listed.no-string = omega arith
+write-number-above listed.repeated-key = omega arith
+write-number-above listed.absent-field = omega arith
+write-number-above listed.too-deep = omega arith
+write-number-above listed.many-pairs = omega arith
+write-number-above listed.unfit = omega arith
+write-number-above listed.outside = omega arith
+write-number-above listed.no-struct = omega arith
+write-number-above listed.too-long = omega arith
+write-number-above listed.too-small = omega arith

@@ -13,12 +13,12 @@ use Rattle.wire.specs.Little.{Bytes}
 use Rattle.wire.specs.Varuint.{Spelled}
 use Rattle.wire.proofs.Cases.{differ}
 use Rattle.schema.specs.declared.Field.{Field}
-use Rattle.schema.specs.Table.{Table, map, struct, shape, bitmapBytes}
+use Rattle.schema.specs.Table.{Table, array, map, struct, shape, bitmapBytes}
 use Rattle.value.specs.declared.Row.{Row}
 use Rattle.value.specs.Answer.{Cursor, CursorOf, refused, seen, cursorAt}
 use Rattle.value.specs.Value.{Tree, Value, node, Values, value, depth}
 use Rattle.value.specs.Comparisons.{due, mapDue, comparisons, rowsDue, pairsAmong}
-use Rattle.value.specs.Read.{plainItem, present, plan, complete, rootBits, knownBits, unknownBits, parse, rootStruct, refusal, accepted, read}
+use Rattle.value.specs.Read.{Item, plainItem, present, plan, complete, rootBits, knownBits, unknownBits, parse, rootStruct, refusal, accepted, read}
 use Rattle.value.specs.Spell.{BitmapSpells, AllSpell, keysOf, Spells, TailFits, RootSpells, KeysDiffer, MapsSmall, encode}
 use Rattle.schema.specs.Check.{noField}
 use Rattle.schema.specs.Good.{GoodTable}
@@ -35,6 +35,7 @@ use Rattle.value.specs.Claims.{setBits, Rightful, ReadAs, Delimited, Wri
 use Rattle.value.proofs.Answers.{reads-end, yields-end, seen-end}
 use Rattle.value.proofs.Bits.{bit-beyond}
 use Rattle.value.proofs.Fields as fields
+use Rattle.value.proofs.Items as items
 use Rattle.value.proofs.Depths as depths
 use Rattle.value.proofs.Sound.{parse-reads}
 use Rattle.value.proofs.Complete.{takes, parse-complete}
@@ -68,6 +69,17 @@ present-is = fields.present-is
 -- The bits that are set in a bitmap's whole bytes are those of the fields that are present, and the unknown ones.
 pub unknown-is : (fs : List Field) (m : ℕ) → length (setBits m (8 * bitmapBytes (length fs))) ≡ length (present fs m) + unknownBits fs m
 unknown-is = fields.unknown-is
+
+-- ---- the items of arrays and maps, by their numbers
+
+-- An array holds as many elements as it counts, each of its element type and no key.
+pub array-items : (e n : ℕ) → (length (plan (array e) n) ≡ n) × ((i : ℕ) (d : Item) → i < n → getD (plan (array e) n) i d ≡ plainItem e)
+array-items e n = (items.array-length e n, items.array-item e n)
+
+-- A map holds key and value by turns, as many pairs as it counts: item 2i is a key of the key type, item 2i + 1 of the value type and no key.
+pub map-items : (k v n : ℕ) → (length (plan (map k v) n) ≡ 2 * n)
+    × ((i : ℕ) (d : Item) → i < n → (getD (plan (map k v) n) (2 * i) d ≡ record { type = k; key = true }) × (getD (plan (map k v) n) (2 * i + 1) d ≡ plainItem v))
+map-items k v n = (items.map-length k v n, λ i d h. (items.map-key k v n i d h, items.map-value k v n i d h))
 
 -- ---- key comparisons
 

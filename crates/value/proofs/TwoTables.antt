@@ -134,7 +134,7 @@ replicate-below n (suc k) e h = (h, replicate-below n k e h)
 
 pairs-below : (n j k v : ℕ) → k < n → v < n → Below n (pairs j k v)
 pairs-below n zero k v h l = tt
-pairs-below n (suc j) k v h l = (h, (l, pairs-below n j k v h l))
+pairs-below n (suc j) k v h l = (omega arith, (omega arith, pairs-below n j k v h l))
 
 pub plan-below : (n : ℕ) (s : Shape) (h : ℕ) → Closed n s → Below n (plan s h)
 plan-below n (array e) h w = replicate-below n h e w

@@ -1,7 +1,7 @@
 -- Reading with the writer's table beside ours: the payload is read wholly by theirs, the shapes S′, and shown by ours, the shapes S.
 -- Assumes nothing.
 use mathlib.Core.Path.{_≡_}
-use mathlib.Core.List.{List, [], _∷_}
+use mathlib.Core.List.{List, [], _∷_, _++_}
 use Prim.Native.Nat.{ℕ, _+_, _≤_, _<_}
 use lib.ListN.{length}
 use Rattle.schema.specs.declared.Field.{Field}
@@ -13,7 +13,7 @@ use Rattle.value.specs.Read.{Item, plan, counted, onStruct, rootOf, Read
 use Rattle.value.specs.Spell.{RootSpells}
 use Rattle.value.specs.Fits.{ShowsKnown}
 use Rattle.value.specs.Added.{keptHead, without}
-use Rattle.value.specs.Listed.{ValueFault}
+use Rattle.value.specs.Reasons.{RootFault}
 use Rattle.value.specs.Claims.{DelimitedTree}
 
 module _ (S : ℕ → Shape) where
@@ -59,12 +59,13 @@ abbrev pub TooFewRows : (S S′ : ℕ → Shape) (t : ℕ) (fs′ : List Field) 
 TooFewRows S S′ t fs′ payload room =
     (v : Value) × (tail : List ℕ) × RootSpells S′ fs′ v payload tail × (length payload ≤ 16384) × (room < size (without S v t))
 
--- The list of the refusals, for a type t and with room for so many rows: 46 for a type that is no struct of ours; 7 above 16,384 bytes; the number of a
--- value's fault, at a place within the payload or at its end; 30 where the payload is right by theirs and ours knows more of it than there is room for.
+-- The list of the refusals, for a type t and with room for so many rows: 46 for a type that is no struct of ours; 7 above 16,384 bytes; bytes that are
+-- faulty by theirs, at their place; 30 where the payload is right by theirs and ours knows more of it than there is room for.
 pub data ListedBeside (S S′ : ℕ → Shape) (t : ℕ) (payload : List ℕ) (room : ℕ) : (number place : ℕ) → Type 0 where
   no-struct : ((fs : List Field) → S t ≡ struct fs → ⊥) → ListedBeside S S′ t payload room 46 0
   too-long : 16384 < length payload → ListedBeside S S′ t payload room 7 0
-  faulty : {n p : ℕ} → ValueFault n → p ≤ length payload → ListedBeside S S′ t payload room n p
+  faulty : {n : ℕ} (fs′ : List Field) (u x rest : List ℕ) → S′ t ≡ struct fs′ → length payload ≤ 16384 → payload ≡ u ++ (x ++ rest)
+      → RootFault S′ fs′ u x rest n → ListedBeside S S′ t payload room n (length u)
   too-few-rows : (fs′ : List Field) → S′ t ≡ struct fs′ → TooFewRows S S′ t fs′ payload room → ListedBeside S S′ t payload room 30 0
 
 -- The answer accepts the payload with rows that show w by ours.

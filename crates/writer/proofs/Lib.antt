@@ -6,3 +6,4 @@ pub mod Composites
 pub mod Roots
 pub mod Entries
 pub mod Outcomes
+pub mod Numbers

@@ -3,3 +3,4 @@ pub mod Emit
 pub mod Leaf
 pub mod Walk
 pub mod Entry
+pub mod Numbers
