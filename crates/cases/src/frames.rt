@@ -1,8 +1,8 @@
 // Cases of the frame reader and of the frame writer.
+use crate::blank;
 use crate::input;
 use crate::output;
 use crate::sums;
-use crate::tables::MOST;
 
 // The most bytes of an output, and what each holds before the call.
 pub const ROOM: usize = 140000;
@@ -11,7 +11,7 @@ pub const BYTE: u8 = 165;
 
 // Code 6: the bytes of a frame. The line has number, the header's five numbers, and the payload's place and length.
 pub fn read() -> bool {
-    let mut data = [0u8; MOST];
+    let mut data = blank::bytes();
     let mut whole = true;
     let n = input::bytes(&mut data, &mut whole);
     if whole {
@@ -61,8 +61,8 @@ fn print_none(number: u64) {
 
 // Code 7: a header, a payload and the output's length. The line has number, the frame's length and the output's sum.
 pub fn write() -> bool {
-    let mut payload = [0u8; MOST];
-    let mut out = [BYTE; ROOM];
+    let mut payload = blank::bytes();
+    let mut out = blank::output();
     let mut whole = true;
     let header = read_header(&mut whole);
     let n = input::bytes(&mut payload, &mut whole);

@@ -1,9 +1,9 @@
 // Cases of the events of a line, frames and releases: from the fresh call table, and one on any call table.
+use crate::blank;
 use crate::input;
 use crate::output;
 use crate::sums;
 use crate::tables::MOST;
-use crate::values::CELL;
 use calls::Call;
 use calls::CallTable;
 
@@ -28,7 +28,7 @@ pub fn history() -> bool {
 }
 
 fn run_case(marked: bool) -> bool {
-    let mut schema = [0u8; MOST];
+    let mut schema = blank::bytes();
     let mut whole = true;
     let n = input::bytes(&mut schema, &mut whole);
     let cells = input::word(&mut whole) as usize;
@@ -84,8 +84,8 @@ fn run_release(table: CallTable, schema: &[u8], whole: &mut bool) -> CallTable {
 }
 
 fn run_frame(table: CallTable, schema: &[u8], cells: usize, whole: &mut bool) -> CallTable {
-    let mut data = [0u8; MOST];
-    let mut sheet = [CELL; MOST];
+    let mut data = blank::bytes();
+    let mut sheet = blank::cells();
     let side = input::byte(whole);
     let n = input::bytes(&mut data, whole);
     let room = input::within(&sheet, cells, whole);
@@ -117,9 +117,9 @@ fn answer(table: CallTable, schema: &[u8], side: u8, data: &[u8], sheet: &mut [u
 
 // Code 9: a table, the number of the sheet's cells, a call table, a side and a frame. The line is a run's with the next call table's sum after it.
 pub fn receive() -> bool {
-    let mut schema = [0u8; MOST];
-    let mut data = [0u8; MOST];
-    let mut sheet = [CELL; MOST];
+    let mut schema = blank::bytes();
+    let mut data = blank::bytes();
+    let mut sheet = blank::cells();
     let mut whole = true;
     let n = input::bytes(&mut schema, &mut whole);
     let cells = input::cells(&sheet, &mut whole);
@@ -136,7 +136,7 @@ pub fn receive() -> bool {
 
 // Code 10: a table, a call table and a correlation. The line has number, place, calls open and the next call table's sum.
 pub fn release() -> bool {
-    let mut schema = [0u8; MOST];
+    let mut schema = blank::bytes();
     let mut whole = true;
     let n = input::bytes(&mut schema, &mut whole);
     let table = read_table(&mut whole);

@@ -1,4 +1,5 @@
 // Runs the case file on standard input through the public entries, and prints a line of numbers for each case.
+mod blank;
 mod frames;
 mod input;
 mod lines;

@@ -1,20 +1,15 @@
 // Cases of the salvage of a record.
-use crate::frames::BYTE;
+use crate::blank;
 use crate::input;
 use crate::output;
 use crate::sums;
-use crate::tables::MOST;
-use crate::values::CELL;
-
-// The most bytes of a copy.
-const COPY: usize = 140000;
 
 // Code 17: a record, the copy's length and the number of the list's cells. The line has number, entries kept, bytes copied, spans listed, the copy's sum
 // and the list's.
 pub fn salvage() -> bool {
-    let mut record = [0u8; MOST];
-    let mut copy = [BYTE; COPY];
-    let mut spans = [CELL; MOST];
+    let mut record = blank::bytes();
+    let mut copy = blank::output();
+    let mut spans = blank::cells();
     let mut whole = true;
     let n = input::bytes(&mut record, &mut whole);
     let room = input::room(&copy, &mut whole);

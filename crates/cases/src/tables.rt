@@ -1,4 +1,5 @@
 // Cases of the table check and of the extension test.
+use crate::blank;
 use crate::input;
 use crate::output;
 
@@ -7,7 +8,7 @@ pub const MOST: usize = 70000;
 
 // Code 1: a table. The line has number and place.
 pub fn check() -> bool {
-    let mut schema = [0u8; MOST];
+    let mut schema = blank::bytes();
     let mut whole = true;
     let n = input::bytes(&mut schema, &mut whole);
     if whole {
@@ -31,8 +32,8 @@ fn print_checked(answer: schema::Checked) {
 
 // Code 2: an old table and a new one. The line has number, place and answer.
 pub fn extends() -> bool {
-    let mut old = [0u8; MOST];
-    let mut new = [0u8; MOST];
+    let mut old = blank::bytes();
+    let mut new = blank::bytes();
     let mut whole = true;
     let n = input::bytes(&mut old, &mut whole);
     let m = input::bytes(&mut new, &mut whole);

@@ -1,11 +1,9 @@
 // Cases of the payload reader, of the scalar entry, of the payload writer, of the writer of a whole frame and of the forwarding writer.
-use crate::frames::BYTE;
-use crate::frames::ROOM;
+use crate::blank;
 use crate::frames::read_header;
 use crate::input;
 use crate::output;
 use crate::sums;
-use crate::tables::MOST;
 
 // What the lent cells hold before the call.
 pub const CELL: u32 = 2779096485;
@@ -13,9 +11,9 @@ pub const CELL: u32 = 2779096485;
 // Code 3: a table, a type, a payload and the number of the sheet's cells. The line has number, place, rows, the tail's place and length, key comparisons,
 // and the sheet's sum.
 pub fn read() -> bool {
-    let mut schema = [0u8; MOST];
-    let mut payload = [0u8; MOST];
-    let mut sheet = [CELL; MOST];
+    let mut schema = blank::bytes();
+    let mut payload = blank::bytes();
+    let mut sheet = blank::cells();
     let mut whole = true;
     let n = input::bytes(&mut schema, &mut whole);
     let ty = input::word(&mut whole);
@@ -34,10 +32,10 @@ fn show(schema: &[u8], ty: u32, payload: &[u8], sheet: &mut [u32]) {
 
 // Code 16: our table and theirs, a type, a payload and the number of the sheet's cells. The line is that of code 3.
 pub fn read_beside() -> bool {
-    let mut ours = [0u8; MOST];
-    let mut theirs = [0u8; MOST];
-    let mut payload = [0u8; MOST];
-    let mut sheet = [CELL; MOST];
+    let mut ours = blank::bytes();
+    let mut theirs = blank::bytes();
+    let mut payload = blank::bytes();
+    let mut sheet = blank::cells();
     let mut whole = true;
     let n = input::bytes(&mut ours, &mut whole);
     let m = input::bytes(&mut theirs, &mut whole);
@@ -89,8 +87,8 @@ fn print_reading(answer: reader::Reading) {
 
 // Code 4: a table, a row and its bytes. The line has number, place, the case and its two numbers.
 pub fn scalar() -> bool {
-    let mut schema = [0u8; MOST];
-    let mut data = [0u8; MOST];
+    let mut schema = blank::bytes();
+    let mut data = blank::bytes();
     let mut whole = true;
     let n = input::bytes(&mut schema, &mut whole);
     let ty = input::word(&mut whole);
@@ -170,10 +168,10 @@ fn wide(x: u32) -> u64 {
 
 // Code 5: a table, a type, a sheet, its bytes and the output's length. The line has number, place, the payload's length and the output's sum.
 pub fn write() -> bool {
-    let mut schema = [0u8; MOST];
-    let mut sheet = [CELL; MOST];
-    let mut data = [0u8; MOST];
-    let mut out = [BYTE; ROOM];
+    let mut schema = blank::bytes();
+    let mut sheet = blank::cells();
+    let mut data = blank::bytes();
+    let mut out = blank::output();
     let mut whole = true;
     let n = input::bytes(&mut schema, &mut whole);
     let ty = input::word(&mut whole);
@@ -214,10 +212,10 @@ fn print_writing(answer: writer::Writing) {
 
 // Code 15: a header, then as for code 5. The line has number, place, the frame's length and the output's sum.
 pub fn write_frame() -> bool {
-    let mut schema = [0u8; MOST];
-    let mut sheet = [CELL; MOST];
-    let mut data = [0u8; MOST];
-    let mut out = [BYTE; ROOM];
+    let mut schema = blank::bytes();
+    let mut sheet = blank::cells();
+    let mut data = blank::bytes();
+    let mut out = blank::output();
     let mut whole = true;
     let header = read_header(&mut whole);
     let n = input::bytes(&mut schema, &mut whole);
@@ -253,10 +251,10 @@ fn show_frame(
 // Code 18: a table, a type, a sheet, its bytes, the tail's place and length and the output's length. The line has number, place, the payload's length and
 // the output's sum.
 pub fn forward() -> bool {
-    let mut schema = [0u8; MOST];
-    let mut sheet = [CELL; MOST];
-    let mut data = [0u8; MOST];
-    let mut out = [BYTE; ROOM];
+    let mut schema = blank::bytes();
+    let mut sheet = blank::cells();
+    let mut data = blank::bytes();
+    let mut out = blank::output();
     let mut whole = true;
     let n = input::bytes(&mut schema, &mut whole);
     let ty = input::word(&mut whole);

@@ -117,7 +117,10 @@ pub fn is_repeated(
 ) -> bool
     requires { ⌜ (i < length (now keys) / 2) × (place < 4294967296) × (n < 4294967296) × (place + n ≤ length (now s)) × Kept (now s) (now keys) judge i ⌝ }
     requires { ⌜ (judge ≡ false → among (span (now s) place n) (keysIn (now s) (now keys) i) ≡ false) ⌝ }
-    ensures { λ r. ⌜ (r ≡ among (span (now (s .entry)) place n) (keysIn (now (s .entry)) (now (keys .entry)) i)) × (keysIn (now (s .entry)) (now (keys .exit)) (i + 1) ≡ span (now (s .entry)) place n ∷ keysIn (now (s .entry)) (now (keys .entry)) i) × Kept (now (s .entry)) (now (keys .exit)) judge (i + 1) ⌝ }
+    ensures { λ r. ⌜
+        (r ≡ among (span (now (s .entry)) place n) (keysIn (now (s .entry)) (now (keys .entry)) i))
+        × (keysIn (now (s .entry)) (now (keys .exit)) (i + 1) ≡ span (now (s .entry)) place n ∷ keysIn (now (s .entry)) (now (keys .entry)) i)
+        × Kept (now (s .entry)) (now (keys .exit)) judge (i + 1) ⌝ }
 {
     let half = keys.len() / 2;
     let d = digest_of(s, place, n, judge);

@@ -413,7 +413,7 @@ sheets =
     ∷ []
 
 pub write-cases : map (λ (c : Sheet). write.write W (c .type) (c .rows) (c .over) (c .room)) sheets ≡ map (λ (c : Sheet). c .answer) sheets
-unfolding W write.write write.showRoot write.show write.rowOf write.nextRow write.bitsAt spell.encode little.little little.bytes varuint.shortest varuint.varuintBytes read.walk read.present read.complete table.shape answer.andThen answer.check utf8.run utf8.next utf8.leadOf utf8.rows value.value
+unfolding W write.write write.showRoot write.show write.rowOf write.nextRow write.bitsAt spell.encode little.little little.bytes varuint.shortest varuint.varuintBytes answers
 write-cases = refl
 
 -- The rows shown of T beside `widened`, written by T: the added field is left out, and the bitmap has T's one byte. Where an added field's bit stands in

@@ -1,8 +1,7 @@
 // The presence bitmap of a struct: bit i for field i, least bit first, in whole bytes.
 use crate::little::number;
 ghost use mathlib.Core.Path.{_≡_};
-ghost use Prim.Native.Nat.{_+_, _/_, _%_, _^_, _≤_, _<_};
-ghost use lib.Dec.{eqb};
+ghost use Prim.Native.Nat.{_+_, _/_, _%_, _^_, _≤_};
 ghost use lib.ListN.{length, take, drop};
 ghost use Rattle.wire.specs.Bitmap.{Present};
 
@@ -25,14 +24,6 @@ pub fn low_bits(x: u64, n: usize) -> u64
         return x;
     }
     x & ((1 << n) - 1)
-}
-
-// Whether bit i of x is set.
-pub fn bit(x: u64, i: usize) -> bool
-    requires { ⌜ i < 64 ⌝ }
-    ensures { λ r. ⌜ r ≡ eqb (x / 2 ^ i % 2) 1 ⌝ }
-{
-    (x >> i) % 2 == 1
 }
 
 // The bitmap of a struct of n fields, at a place.

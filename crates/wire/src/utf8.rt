@@ -6,7 +6,7 @@ ghost use mathlib.Core.List.{[], _∷_, List·Memᴰ};
 ghost use Prim.Native.Nat.{_+_, _<_, _≤_};
 ghost use lib.ListN.{length, take, drop};
 ghost use lib.Seq.{slice};
-ghost use Rattle.wire.specs.Utf8.{rows, In, isChar, leadOf, next, utf8, ascii};
+ghost use Rattle.wire.specs.Utf8.{rows, rowAt, In, isChar, leadOf, next, utf8, ascii};
 
 // A range of bytes: the lowest and the highest.
 pub struct Range(pub u8, pub u8);
@@ -52,18 +52,26 @@ fn within(g: Range, b: u8) -> bool
     (g.0 <= b) & (b <= g.1)
 }
 
+// The row at a place of the table. It stands apart from the loop, so that the check follows the nine rows once.
+fn row_at(k: usize) -> Row
+    requires { ⌜ k < 9 ⌝ }
+    ensures { λ r. ⌜ r ≡ rowAt k ⌝ }
+{
+    ROWS[k]
+}
+
 // The row that has b as a lead byte; where none has it, the last row.
 fn row_of(b: u8) -> Row
     ensures { λ r. ⌜ List·Memᴰ r rows × (leadOf b (r ∷ []) ≡ next b) ⌝ }
 {
-    let mut r = ROWS[0];
+    let mut r = UTF8_1;
     let mut k: usize = 0;
     while k < 8 {
         if within(r.1, b) {
             return r;
         }
         k += 1;
-        r = ROWS[k];
+        r = row_at(k);
     }
     r
 }

@@ -1,4 +1,5 @@
--- `cursor::span_from` meets its contract: a walk of its MIR, by hand. The reader that `new` returns is laid in a local, and lent by `&mut` to `span`, for a lifetime that is made within the payload's; it is taken back once that is over. All that the proof knows of `new` and of `span` is that each meets its contract.
+-- `cursor::span_from` meets its contract: a walk of its MIR, by hand.
+-- The reader that `new` returns is laid in a local, and lent by `&mut` to `span`, for a lifetime that is made within the payload's; it is taken back once that is over. All that the proof knows of `new` and of `span` is that each meets its contract.
 -- Assumes nothing.
 use mathlib.Core.Path.{_≡_, refl, _∙_}
 use Prim.Native.Nat.{ℕ, _<_, _^_}
@@ -127,6 +128,9 @@ module _ {M : Type 1} (𝓤 : URA M) (H : Heap 𝓤) (A : Atoms 𝓤) (W : Given
         qed W (‵ (MutRef (named 0) (ν ∷ κ) (row κ) .own (lent .0) (vptr b 0 ∷ [])) ∷ ‵ (flft (ν ∷ κ) (PosShare·right q)) ∷ ‵ (flft κ (PosShare·left q)) ∷ []) ∵
         nothing ! $ move ! (1 ∷ 0 ∷ []) $ fjoin ! $ nothing ! $ move ! (3 ∷ 0 ∷ []) $ join ! $ move ! (2 ∷ 0 ∷ []) $ join ! $ join ! $ frame ! $ done !
 
+    abbrev Told : Span → SProp 𝓤
+    Told t = ensured 𝓤 H A method.ended (method.clauses 𝓤 H A at-mem run) (ν ∷ κ, (κ, tt)) lent tt t
+
     abbrev Said : Span → Reader × Unit {0} → Type 0
     Said t ws = (t ≡ next .item) × (ws .0 ≡ movedTo r (next .next))
 
@@ -140,7 +144,8 @@ module _ {M : Type 1} (𝓤 : URA M) (H : Heap 𝓤) (A : Atoms 𝓤) (W : Given
     walk : Is (ShrSlice (named 0) κ u8) s (v ∷ []) → ent 𝓤 (onEntry 𝓤 H A above.signature (κ, tt) (q, tt) (s, (n, tt)) at) (WpFn 𝓤 H C Λ code.function (v ∷ vint w64 n ∷ []) Post)
     walk p =
         qed W (raw (onEntry 𝓤 H A above.signature (κ, tt) (q, tt) (s, (n, tt)) at) ∷ []) ∵ enter ! C Λ code.function (v ∷ vint w64 n ∷ []) _ $
-        alloc1 ! (λ l₀. alloc1 ! (λ l₁. alloc1 ! (λ l₂. alloc1 ! (λ l₃. alloc1 ! (λ l₄. alloc1 ! (λ l₅. alloc0 ! $ params1 ! $ pass1 ! (init ! 8 refl (shr-slice-lawful 𝓤 H A W (named 0) κ u8 .typed s (v ∷ []) p .0)) $ pass1 ! (init ! 6 refl (tt, record { fits = ok })) $ pass0 ! $
+        alloc1 ! (λ l₀. alloc1 ! (λ l₁. alloc1 ! (λ l₂. alloc1 ! (λ l₃. alloc1 ! (λ l₄. alloc1 ! (λ l₅. alloc0 ! $
+        params1 ! $ pass1 ! (init ! 8 refl (shr-slice-lawful 𝓤 H A W (named 0) κ u8 .typed s (v ∷ []) p .0)) $ pass1 ! (init ! 6 refl (tt, record { fits = ok })) $ pass0 ! $
         -- the call of `new`
         move ! (12 ∷ []) $ use1 W (raw (New 𝓤 H A at-mem run .pre to-new) ⊛ ‵ Own) goes-new $ split ! $
         calls-at ! fm (New 𝓤 H A at-mem run) known-new to-new (and-then ! (load ! (from ! (stop !)) (look ! 10 refl)) (and-then ! (load ! (from ! (stop !)) (look ! 8 refl)) (no-more !))) (λ u.
@@ -155,13 +160,16 @@ module _ {M : Type 1} (𝓤 : URA M) (H : Heap 𝓤) (A : Atoms 𝓤) (W : Given
         move ! (7 ∷ 0 ∷ []) $ use2 W (‵ (mem (row κ) .lies r l₃ 0)) (laid 𝓤 H A W κ r u l₃ 0) $
         lft-new ! tt (λ ν. move ! (2 ∷ []) $ split ! $ use1 W (‵ (flft κ (PosShare·left q)) ⊛ ‵ (flft κ (PosShare·right q))) (W .lfts .lft-split κ q) $ split ! $ move ! (3 ∷ 1 ∷ []) $
         use2 W (‵ (flft (ν ∷ κ) (PosShare·right q)) ⊛ raw (Rest 𝓤 H A W ν (PosShare·right q))) (within-token 𝓤 H A W ν κ (PosShare·right q)) $ split ! $ move ! (4 ∷ []) $
-        use1 W (later (some (λ (δ : GName). ‵ (MutRef (named 0) (ν ∷ κ) (row κ) .own (lent r l₃ ν δ .0) (vptr l₃ 0 ∷ [])) ⊛ ‵ (flent (ν ∷ κ) (Body (mem (row κ)) l₃ 0 δ))))) (lends-ref 𝓤 H A W (row κ) (named 0) (ν ∷ κ) r l₃ 0) $ await ! tt $ pick ! (λ δ. split ! $
+        use1 W (later (some (λ (δ : GName). ‵ (MutRef (named 0) (ν ∷ κ) (row κ) .own (lent r l₃ ν δ .0) (vptr l₃ 0 ∷ [])) ⊛ ‵ (flent (ν ∷ κ) (Body (mem (row κ)) l₃ 0 δ)))))
+        (lends-ref 𝓤 H A W (row κ) (named 0) (ν ∷ κ) r l₃ 0) $ await ! tt $ pick ! (λ δ. split ! $
         -- the call of `span`
         move ! (0 ∷ 2 ∷ 4 ∷ []) $ use3 W (raw (Next 𝓤 H A at-mem run .pre (to-next r l₃ ν δ))) (goes-next r l₃ ν δ) $
         -- [what is asked; the lender's part; the rest of the new lifetime's token; …; what s owns; _5; …; _4; …; _3's end; _2; …; _1; …; room for _0; …]
         calls-at ! fm (Next 𝓤 H A at-mem run) known-next (to-next r l₃ ν δ) (and-then ! (load ! (from ! (stop !)) (look ! 5 refl)) (no-more !)) (λ u′.
-        use1 W (later (some (λ (t : Span). ((‵ (flft (ν ∷ κ) (PosShare·right q)) ⊛ ‵ (flft κ (PosShare·left q)) ⊛ ‵ ftrue) ⊛ ‵ (I.the-row .own t (u′ ∷ []))) ⊛ raw (ensured 𝓤 H A method.ended (method.clauses 𝓤 H A at-mem run) (ν ∷ κ, (κ, tt)) (lent r l₃ ν δ) tt t)))) (id⊢ 𝓤 _) $ await ! tt $ pick ! (λ t. split ! $ move ! (1 ∷ []) $
-        use1 W (some (λ (ws : Reader × Unit {0}). ‵ (lasts method.ended (ν ∷ κ, (κ, tt)) (lent r l₃ ν δ) ws) ⊛ raw (fact 𝓤 (Said r l₃ ν δ t ws)))) (id⊢ 𝓤 _) $ pick ! (λ ws. split ! $ move ! (1 ∷ []) $ heard ! (Said r l₃ ν δ t ws) (λ e′. fsplit ! $ move ! (2 ∷ []) $ split ! $ split ! $ move ! (2 ∷ []) $
+        use1 W (later (some (λ (t : Span). ((‵ (flft (ν ∷ κ) (PosShare·right q)) ⊛ ‵ (flft κ (PosShare·left q)) ⊛ ‵ ftrue) ⊛ ‵ (I.the-row .own t (u′ ∷ []))) ⊛ raw (Told r l₃ ν δ t)))) (id⊢ 𝓤 _) $
+        await ! tt $ pick ! (λ t. split ! $ move ! (1 ∷ []) $
+        use1 W (some (λ (ws : Reader × Unit {0}). ‵ (lasts method.ended (ν ∷ κ, (κ, tt)) (lent r l₃ ν δ) ws) ⊛ raw (fact 𝓤 (Said r l₃ ν δ t ws)))) (id⊢ 𝓤 _) $
+        pick ! (λ ws. split ! $ move ! (1 ∷ []) $ heard ! (Said r l₃ ν δ t ws) (λ e′. fsplit ! $ move ! (2 ∷ []) $ split ! $ split ! $ move ! (2 ∷ []) $
         -- [the result; the tokens; the reader's last value; …; the lender's part; the rest of the new lifetime's token; …; what s owns; _5; …; _4; …; _3's end; _2; …; _1; …; room for _0; …]
         peeks ! I.the-row (Is I.the-row) (shows 𝓤 H A I.the-row) t (u′ ∷ []) (λ is′.
         land ! (from ! (stop !)) (init ! 18 refl (EL.lawful I.the-type I′.the-laws 𝓤 H A W tt .typed t _ is′ .0)) $
@@ -183,7 +191,8 @@ module _ {M : Type 1} (𝓤 : URA M) (H : Heap 𝓤) (A : Atoms 𝓤) (W : Given
 meets : {M : Type 1} (𝓤 : URA M) (H : Heap 𝓤) (A : Atoms 𝓤) (W : Given 𝓤 H A) (mem : Memory → SProp 𝓤) (run : Routine → Fun 𝓤) (𝓣 : Tables 𝓤 H) → Triple 𝓤 (𝓣 .C #new) (New 𝓤 H A mem run) → Triple 𝓤 (𝓣 .C #method) (Next 𝓤 H A mem run)
     → Meets 𝓤 H A above.signature (WpFn 𝓤 H (𝓣 .C) (𝓣 .Λ) code.function) (above.spec 𝓤 H A mem run)
 meets 𝓤 H A W mem run 𝓣 known-new known-next =
-    walk-meets 𝓤 H A above.ended stayed W (goes-none-slice 𝓤 H A W 1 (0 ∷ []) tt (plain (λ _. u8)) yes, (goes-none 𝓤 H A W 1 (λ _. usize) yes (λ κs x f. refl), tt)) (above.clauses 𝓤 H A mem run) (WpFn 𝓤 H (𝓣 .C) (𝓣 .Λ) code.function) (WpFn-mono 𝓤 H (W .laws) 𝓣 code.function)
+    walk-meets 𝓤 H A above.ended stayed W (goes-none-slice 𝓤 H A W 1 (0 ∷ []) tt (plain (λ _. u8)) yes, (goes-none 𝓤 H A W 1 (λ _. usize) yes (λ κs x f. refl), tt))
+    (above.clauses 𝓤 H A mem run) (WpFn 𝓤 H (𝓣 .C) (𝓣 .Λ) code.function) (WpFn-mono 𝓤 H (W .laws) 𝓣 code.function)
     (walks 𝓤 H A W mem run (𝓣 .C) (𝓣 .Λ) (fmOf 𝓤 H (W .laws) 𝓣) known-new known-next)
 
 pub span-from-spec : {M : Type 1} → stated.statement M

@@ -17,12 +17,24 @@ text-from-spec =
     -- enum-known-found-2
     (λ c. search needs)
     -- add-valid
-    (λ c. let i = span-inside (c .before .before .before .before .before .args .payload .now) (c .before .before .before .before .before .args .at) _ (c .before .before .before .span-from .ensures) _ _ (c .before .found2 .given .1) in omega arith)
+    (λ c.
+    let d = c .before .before .before in
+    let i = span-inside (d .before .before .args .payload .now) (d .before .before .args .at) _ (d .span-from .ensures) _ _ (c .before .found2 .given .1) in
+    omega arith)
     -- valid-requires
-    (λ c κs. let i = span-inside (c .before .before .before .before .before .args .payload .now) (c .before .before .before .before .before .args .at) _ (c .before .before .before .span-from .ensures) _ _ (c .before .found2 .given .1) in omega arith)
+    (λ c κs.
+    let d = c .before .before .before in
+    let i = span-inside (d .before .before .args .payload .now) (d .before .before .args .at) _ (d .span-from .ensures) _ _ (c .before .found2 .given .1) in
+    omega arith)
     -- returns
-    (λ c. text-bad (c .before .before .before .before .before .before .before .args .payload .now) (c .before .before .before .before .before .before .before .args .at) _ (c .before .before .before .before .before .span-from .ensures) _ _ (c .before .before .before .found2 .given .1) _ (c .before .valid .ensures) (c .if1 .taken))
+    (λ c.
+    let d = c .before .before .before .before .before in
+    text-bad (d .before .before .args .payload .now) (d .before .before .args .at) _ (d .span-from .ensures) _ _ (c .before .before .before .found2 .given .1) _ (c .before .valid .ensures) (c .if1 .taken))
     -- returns-2
-    (λ c. text-none (c .before .before .before .before .before .args .payload .now) (c .before .before .before .before .before .args .at) _ (c .before .before .before .span-from .ensures) _ _ (c .before .found .given .1))
+    (λ c.
+    let d = c .before .before .before in
+    text-none (d .before .before .args .payload .now) (d .before .before .args .at) _ (d .span-from .ensures) _ _ (c .before .found .given .1))
     -- returns-3
-    (λ c. text-good (c .before .before .before .before .before .before .before .args .payload .now) (c .before .before .before .before .before .before .before .args .at) _ (c .before .before .before .before .before .span-from .ensures) _ _ (c .before .before .before .found2 .given .1) _ (c .before .valid .ensures) (c .if1 .left)))
+    (λ c.
+    let d = c .before .before .before .before .before in
+    text-good (d .before .before .args .payload .now) (d .before .before .args .at) _ (d .span-from .ensures) _ _ (c .before .before .before .found2 .given .1) _ (c .before .valid .ensures) (c .if1 .left)))

@@ -38,7 +38,9 @@ judge-header-spec =
     (λ c. (sym (version (c .before) ∙ short _ 4 _ 4 _ (c .if5 .taken)), λ e. absurd (omega arith)))
     (λ c κs. search needs)
     (λ c κs. search needs)
-    (λ c. (sym (version (c .before .before .before .before) ∙ wrong _ 4 _ 4 _ (c .before .before .before .if5 .left) (ap knownKind (sym (c .before .before .byte2 .ensures)) ∙ sym (c .before .known-kind .ensures) ∙ not-true _ (c .if6 .taken))), λ e. absurd (omega arith)))
+    (λ c.
+    let none = ap knownKind (sym (c .before .before .byte2 .ensures)) ∙ sym (c .before .known-kind .ensures) ∙ not-true _ (c .if6 .taken) in
+    (sym (version (c .before .before .before .before) ∙ wrong _ 4 _ 4 _ (c .before .before .before .if5 .left) none), λ e. absurd (omega arith)))
     (λ c. (sym (kind (c .before) ∙ short _ 5 _ 5 _ (c .if7 .taken)), λ e. absurd (omega arith)))
     (λ c κs. search needs)
     (λ c. (sym (kind (c .before .before .before) ∙ wrong _ 5 _ 5 _ (c .before .before .if7 .left) (ne-eqb _ _ (λ e. c .if8 .taken (c .before .byte3 .ensures ∙ e)))), λ e. absurd (omega arith)))

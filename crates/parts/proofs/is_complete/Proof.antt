@@ -34,7 +34,10 @@ is-complete-spec =
     -- field-requires
     (λ c κs. search needs)
     -- returns-2
-    (λ c. complete-stop (tableOf (c .before .before .before .before .before .before .before .args .s .now)) _ _ (c .before .before .before .loop-test .taken) (c .before .before .before .before .loop .inv .1) _ _ (c .before .before .field .ensures) _ (c .before .before .before .before .loop .inv .0) (c .if2 .taken))
+    (λ c.
+    let t = c .before .before .before in
+    let l = t .before .loop in
+    complete-stop (tableOf (t .before .before .before .before .args .s .now)) _ _ (t .loop-test .taken) (l .inv .1) _ _ (c .before .before .field .ensures) _ (l .inv .0) (c .if2 .taken))
     -- add-i
     (λ c. let h = few-fields _ (c .before .before .before .before .before .before .before .pre .0) in omega arith)
     -- sub-left
@@ -42,6 +45,9 @@ is-complete-spec =
     -- loop-less
     (λ c. search needs)
     -- loop-again
-    (λ c. (complete-on (tableOf (c .before .before .before .before .before .before .before .args .s .now)) _ _ (c .before .before .before .loop-test .taken) (c .before .before .before .before .loop .inv .1) _ _ (c .before .before .field .ensures) _ (c .before .before .before .before .loop .inv .0) (c .if2 .left), omega arith))
+    (λ c.
+    let t = c .before .before .before in
+    let l = t .before .loop in
+    (complete-on (tableOf (t .before .before .before .before .args .s .now)) _ _ (t .loop-test .taken) (l .inv .1) _ _ (c .before .before .field .ensures) _ (l .inv .0) (c .if2 .left), omega arith))
     -- returns-3
     (λ c. sym (complete-end (tableOf (c .before .before .before .before .args .s .now)) (c .before .loop .i) _ (c .loop-test .left) (c .before .loop .bits)) ∙ c .before .loop .inv .0))

@@ -1,4 +1,6 @@
--- `cursor::Reader::number` meets its contract: a walk of its MIR, by hand. The borrow is opened, which gives the reader's cell and what the reader owns; `number_at` is called on the payload and the position, and on the width that was passed; the place that it returned is stored in the cell; and the borrow is shut at the reader that has moved.
+-- `cursor::Reader::number` meets its contract: a walk of its MIR, by hand.
+-- The borrow is opened, which gives the reader's cell and what the reader owns; `number_at` is called on the payload and the position, and on the width that was passed;
+-- the place that it returned is stored in the cell; and the borrow is shut at the reader that has moved.
 -- All that the proof knows of `number_at` is that it meets its contract.
 -- Assumes nothing.
 use mathlib.Core.Path.{_≡_, refl, ap}
@@ -17,7 +19,7 @@ use ghost.Atoms.{Atoms, sem}
 use contract.Lifetimes.{AllOutlive}
 use contract.Monad.{Fun, fact}
 use contract.Running.{givenOf, tables, tablesOf}
-use types.Kit.{Given, ‵, raw, _⊛_, ⋆, some, later, _$_, _∵_, !, qed, by, move, drop, use1, use2, split, join, pick, rewrite, fsplit, fsplit3, fjoin, fjoin3, feqI, suffices, frame, await, done}
+use types.Kit.{Item, Given, ‵, raw, _⊛_, ⋆, some, later, _$_, _∵_, !, qed, by, move, drop, use1, use2, split, join, pick, rewrite, fsplit, fsplit3, fjoin, fjoin3, feqI, suffices, frame, await, done}
 use types.Part.{whole, sub, look-in, store-in}
 use types.Run.{look, init, forget, stop, hop, fld, from, load, of-opd, and-then, no-more, assigns, land, returns, enter, alloc1, alloc0, params1, pass1, pass0, free1, free0}
 use types.SemTy.{Body}
@@ -66,7 +68,8 @@ module _ {M : Type 1} (𝓤 : URA M) (H : Heap 𝓤) (A : Atoms 𝓤) (mem : Mem
   abbrev StepAt : Contract 𝓤
   StepAt = tripleOf 𝓤 H A step.signature (step.spec 𝓤 H A mem run)
 
-module _ {M : Type 1} (𝓤 : URA M) (H : Heap 𝓤) (A : Atoms 𝓤) (W : Given 𝓤 H A) (at-mem : Memory → SProp 𝓤) (run : Routine → Fun 𝓤) (κ κ′ : Lft) (q q′ : Share) (bounds : AllOutlive 2 (method.signature .outlives) (κ, (κ′, tt))) (b o : ℕ) (γ : GName) (h : Reader) (n : Width) (is-n : Is N.the-row n (EL.vals N.the-type N′.the-laws n)) where
+module _ {M : Type 1} (𝓤 : URA M) (H : Heap 𝓤) (A : Atoms 𝓤) (W : Given 𝓤 H A) (at-mem : Memory → SProp 𝓤) (run : Routine → Fun 𝓤)
+    (κ κ′ : Lft) (q q′ : Share) (bounds : AllOutlive 2 (method.signature .outlives) (κ, (κ′, tt))) (b o : ℕ) (γ : GName) (h : Reader) (n : Width) (is-n : Is N.the-row n (EL.vals N.the-type N′.the-laws n)) where
   -- the width's machine value, and what it owns, which is had for nothing
   abbrev v : Val
   v = EL.val N.the-type N′.the-laws n
@@ -90,8 +93,12 @@ module _ {M : Type 1} (𝓤 : URA M) (H : Heap 𝓤) (A : Atoms 𝓤) (W : Given
   abbrev to : StepAt 𝓤 H A at-mem run .Ghost
   to = (((κ′, tt), (q′, tt), tt, (h .payload, (h .at, (n, tt))), (passed h .0, (passed h .1 .0, (v ∷ [], tt)))), tt)
 
+  -- what the callee says of its result
+  abbrev Told : NumberStep → SProp 𝓤
+  Told r = ensured 𝓤 H A step.ended (step.clauses 𝓤 H A at-mem run) (κ′, tt) (h .payload, (h .at, (n, tt))) tt r
+
   -- of the callee's `ensured`, the clause alone: it has no `&mut`, so what is said of last values is dropped
-  said : (r : NumberStep) → ent 𝓤 (ensured 𝓤 H A step.ended (step.clauses 𝓤 H A at-mem run) (κ′, tt) (h .payload, (h .at, (n, tt))) tt r) (fact 𝓤 (r ≡ found))
+  said : (r : NumberStep) → ent 𝓤 (Told r) (fact 𝓤 (r ≡ found))
   said r = exE 𝓤 _ (λ ws. snd∗ 𝓤 (sem 𝓤 H A (lasts step.ended (κ′, tt) (h .payload, (h .at, (n, tt))) ws)) (fact 𝓤 (r ≡ found)))
 
   module _ (r : NumberStep) where
@@ -102,18 +109,25 @@ module _ {M : Type 1} (𝓤 : URA M) (H : Heap 𝓤) (A : Atoms 𝓤) (W : Given
     abbrev w : Val
     w = EL.val I.the-type I′.the-laws (r .item)
 
-    exits : (u : Val) → r ≡ found → ent 𝓤 (⋆ 𝓤 H A (‵ (fobs γ (row κ′ .coded .code h′)) ∷ ‵ (fbor κ (Body (mem (row κ′)) b o γ)) ∷ ‵ (flft κ q) ∷ ‵ (S.the-row .own r (u ∷ [])) ∷ (‵ (flft κ′ q′) ⊛ ‵ ftrue) ∷ ‵ (owns (N.the-row ∷ []) (n, tt) (v ∷ [], tt)) ∷ [])) (Post w)
+    -- what is held at the end
+    abbrev held : Val → List (Item 𝓤)
+    held u = ‵ (fobs γ (row κ′ .coded .code h′)) ∷ ‵ (fbor κ (Body (mem (row κ′)) b o γ)) ∷ ‵ (flft κ q) ∷ ‵ (S.the-row .own r (u ∷ [])) ∷ (‵ (flft κ′ q′) ⊛ ‵ ftrue) ∷ ‵ (owns (N.the-row ∷ []) (n, tt) (v ∷ [], tt)) ∷ []
+
+    exits : (u : Val) → r ≡ found → ent 𝓤 (⋆ 𝓤 H A (held u)) (Post w)
     exits u e =
-        qed W (‵ (fobs γ (row κ′ .coded .code h′)) ∷ ‵ (fbor κ (Body (mem (row κ′)) b o γ)) ∷ ‵ (flft κ q) ∷ ‵ (S.the-row .own r (u ∷ [])) ∷ (‵ (flft κ′ q′) ⊛ ‵ ftrue) ∷ ‵ (owns (N.the-row ∷ []) (n, tt) (v ∷ [], tt)) ∷ []) ∵
-        suffices ! _ (ends-at 𝓤 H A method.ended stayed (method.clauses 𝓤 H A at-mem run) W (((κ, (κ′, tt)), (q, (q′, tt)), bounds, x, at), tt) w (r .item) (h′, (tt, tt)) (tt, (tt, tt))) $ says ! (ap (λ (s : NumberStep). s .item) e, ap (λ (s : NumberStep). movedTo h (s .next)) e) $
+        qed W (held u) ∵
+        suffices ! _ (ends-at 𝓤 H A method.ended stayed (method.clauses 𝓤 H A at-mem run) W (((κ, (κ′, tt)), (q, (q′, tt)), bounds, x, at), tt) w (r .item) (h′, (tt, tt)) (tt, (tt, tt))) $
+        says ! (ap (λ (s : NumberStep). s .item) e, ap (λ (s : NumberStep). movedTo h (s .next)) e) $
         move ! (2 ∷ 4 ∷ []) $ join ! $ frame ! $ feqI ! (List Val) (vptr b o ∷ []) (vptr b o ∷ []) refl $ fjoin3 ! $ move ! (0 ∷ 2 ∷ []) $ fjoin ! $
         frame ! $ by ! (first-own 𝓤 H A W S.the-type S′.the-laws (r .item, (r .next, tt)) u)
 
   module _ (C : Calls 𝓤 H) (Λ : Loops 𝓤 H) (fm : FmC 𝓤 H (W .laws) C) (known : Triple 𝓤 (C #step) (StepAt 𝓤 H A at-mem run)) where
     walk : ent 𝓤 (onEntry 𝓤 H A method.signature (κ, (κ′, tt)) (q, (q′, tt)) x at) (WpFn 𝓤 H C Λ code.function (vptr b o ∷ v ∷ []) Post)
     walk =
-        qed W ((‵ (flft κ q) ⊛ ‵ (flft κ′ q′) ⊛ ‵ ftrue) ∷ ‵ (owns (MutRef (named 0) κ (row κ′) ∷ N.the-row ∷ []) x at) ∷ []) ∵ enter ! C Λ code.function (vptr b o ∷ v ∷ []) _ $
-        alloc1 ! (λ l₀. alloc1 ! (λ l₁. alloc1 ! (λ l₂. alloc1 ! (λ l₃. alloc1 ! (λ l₄. alloc1 ! (λ l₅. alloc0 ! $ params1 ! $ pass1 ! (init ! 8 refl (tt, tt)) $ pass1 ! (init ! 6 refl (EL.lawful N.the-type N′.the-laws 𝓤 H A W tt .typed n _ is-n .0)) $ pass0 ! $
+        qed W ((‵ (flft κ q) ⊛ ‵ (flft κ′ q′) ⊛ ‵ ftrue) ∷ ‵ (owns (MutRef (named 0) κ (row κ′) ∷ N.the-row ∷ []) x at) ∷ []) ∵
+        enter ! C Λ code.function (vptr b o ∷ v ∷ []) _ $
+        alloc1 ! (λ l₀. alloc1 ! (λ l₁. alloc1 ! (λ l₂. alloc1 ! (λ l₃. alloc1 ! (λ l₄. alloc1 ! (λ l₅. alloc0 ! $
+        params1 ! $ pass1 ! (init ! 8 refl (tt, tt)) $ pass1 ! (init ! 6 refl (EL.lawful N.the-type N′.the-laws 𝓤 H A W tt .typed n _ is-n .0)) $ pass0 ! $
         -- the borrow is opened
         move ! (13 ∷ []) $ fsplit ! $ fsplit3 ! $ drop ! $ move ! (15 ∷ []) $ split ! $ move ! (2 ∷ 3 ∷ 0 ∷ []) $ opened ! tt (α κ′) h b o (λ wt.
         -- [the reader's cell; what the reader owns; the open borrow; obs; auth; 'a's token; what the width owns; _5; …; _4; …; _3; …; _2; …; _1; …; room for _0; …]
@@ -122,7 +136,7 @@ module _ {M : Type 1} (𝓤 : URA M) (H : Heap 𝓤) (A : Atoms 𝓤) (W : Given
         -- the call
         move ! (1 ∷ 5 ∷ []) $ use2 W (raw (StepAt 𝓤 H A at-mem run .pre to) ⊛ ‵ (Own 𝓤 H A W (α κ′) h)) (lends 𝓤 H A W (α κ′) h (N.the-row ∷ []) (n, tt) (v ∷ [], tt) width-own q′ (wt .1 .1 .0 .fits)) $ split ! $
         calls-at ! fm (StepAt 𝓤 H A at-mem run) known to (and-then ! (load ! (from ! (stop !)) (look ! 9 refl)) (and-then ! (load ! (from ! (stop !)) (look ! 7 refl)) (and-then ! (load ! (from ! (stop !)) (look ! 13 refl)) (no-more !)))) (λ u.
-        use1 W (later (some (λ (r : NumberStep). ((‵ (flft κ′ q′) ⊛ ‵ ftrue) ⊛ ‵ (S.the-row .own r (u ∷ []))) ⊛ raw (ensured 𝓤 H A step.ended (step.clauses 𝓤 H A at-mem run) (κ′, tt) (h .payload, (h .at, (n, tt))) tt r)))) (id⊢ 𝓤 _) $ await ! tt $ pick ! (λ r.
+        use1 W (later (some (λ (r : NumberStep). ((‵ (flft κ′ q′) ⊛ ‵ ftrue) ⊛ ‵ (S.the-row .own r (u ∷ []))) ⊛ raw (Told r)))) (id⊢ 𝓤 _) $ await ! tt $ pick ! (λ r.
         split ! $ move ! (1 ∷ []) $ use1 W (raw (fact 𝓤 (r ≡ found))) (said r) $ heard ! (r ≡ found) (λ e. split ! $ move ! (1 ∷ []) $
         -- [what the step owns; 'a's token; what the reader owns; the reader's cell; the open borrow; obs; auth; what the width owns; _5; …; _4; …; _3; …; _2; …; _1; …; room for _0; …]
         peeks ! S.the-row (Is S.the-row) (shows 𝓤 H A S.the-row) r (u ∷ []) (λ is. let owed = LL.owed S.the-type S′.the-laws r _ is in
@@ -136,12 +150,14 @@ module _ {M : Type 1} (𝓤 : URA M) (H : Heap 𝓤) (A : Atoms 𝓤) (W : Given
 
 module _ {M : Type 1} (𝓤 : URA M) (H : Heap 𝓤) (A : Atoms 𝓤) (W : Given 𝓤 H A) (mem : Memory → SProp 𝓤) (run : Routine → Fun 𝓤) where
   walks : (C : Calls 𝓤 H) (Λ : Loops 𝓤 H) → FmC 𝓤 H (W .laws) C → Triple 𝓤 (C #step) (StepAt 𝓤 H A mem run) → Walks 𝓤 H A method.ended stayed (WpFn 𝓤 H C Λ code.function) (method.clauses 𝓤 H A mem run)
-  walks C Λ fm known = walked 𝓤 H A method.ended stayed (method.clauses 𝓤 H A mem run) (WpFn 𝓤 H C Λ code.function) (λ κs. (ptr-vals, (EL.vals N.the-type N′.the-laws, tt))) (λ κs. (mut-tells (named 0) (κs .0) (row (κs .1 .0)), (EL.tells N.the-type N′.the-laws, tt)))
+  walks C Λ fm known = walked 𝓤 H A method.ended stayed (method.clauses 𝓤 H A mem run) (WpFn 𝓤 H C Λ code.function)
+      (λ κs. (ptr-vals, (EL.vals N.the-type N′.the-laws, tt))) (λ κs. (mut-tells (named 0) (κs .0) (row (κs .1 .0)), (EL.tells N.the-type N′.the-laws, tt)))
       (λ κs qs bounds a g are. via 𝓤 _ (fst∗ 𝓤 _ (emp 𝓤)) (walk 𝓤 H A W mem run (κs .0) (κs .1 .0) (qs .0) (qs .1 .0) bounds (a .0 .ptr .0) (a .0 .ptr .1) (a .0 .name) (a .0 .now) (a .1 .0) (are .1 .0) C Λ fm known))
 
 meets : {M : Type 1} (𝓤 : URA M) (H : Heap 𝓤) (A : Atoms 𝓤) (W : Given 𝓤 H A) (mem : Memory → SProp 𝓤) (run : Routine → Fun 𝓤) (𝓣 : Tables 𝓤 H) → Triple 𝓤 (𝓣 .C #step) (StepAt 𝓤 H A mem run)
     → Meets 𝓤 H A method.signature (WpFn 𝓤 H (𝓣 .C) (𝓣 .Λ) code.function) (method.spec 𝓤 H A mem run)
-meets 𝓤 H A W mem run 𝓣 known = walk-meets 𝓤 H A method.ended stayed W (goes-ref 𝓤 H A W 2 0 tt behind, (goes-none 𝓤 H A W 2 (λ _. N.the-row) yes (λ κs x f. refl), tt)) (method.clauses 𝓤 H A mem run) (WpFn 𝓤 H (𝓣 .C) (𝓣 .Λ) code.function) (WpFn-mono 𝓤 H (W .laws) 𝓣 code.function)
+meets 𝓤 H A W mem run 𝓣 known = walk-meets 𝓤 H A method.ended stayed W (goes-ref 𝓤 H A W 2 0 tt behind, (goes-none 𝓤 H A W 2 (λ _. N.the-row) yes (λ κs x f. refl), tt))
+    (method.clauses 𝓤 H A mem run) (WpFn 𝓤 H (𝓣 .C) (𝓣 .Λ) code.function) (WpFn-mono 𝓤 H (W .laws) 𝓣 code.function)
     (walks 𝓤 H A W mem run (𝓣 .C) (𝓣 .Λ) (fmOf 𝓤 H (W .laws) 𝓣) known)
 
 pub number-spec : {M : Type 1} → stated.statement M

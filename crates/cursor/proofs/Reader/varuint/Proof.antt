@@ -1,4 +1,5 @@
--- `cursor::Reader::varuint` meets its contract: a walk of its MIR, by hand. The borrow is opened, which gives the reader's cell and what the reader owns; `varuint_at` is called on the payload and the position; the place that it returned is stored in the cell; and the borrow is shut at the reader that has moved.
+-- `cursor::Reader::varuint` meets its contract: a walk of its MIR, by hand.
+-- The borrow is opened, which gives the reader's cell and what the reader owns; `varuint_at` is called on the payload and the position; the place that it returned is stored in the cell; and the borrow is shut at the reader that has moved.
 -- All that the proof knows of `varuint_at` is that it meets its contract.
 -- Assumes nothing.
 use mathlib.Core.Path.{_≡_, refl, ap}
@@ -17,7 +18,7 @@ use ghost.Atoms.{Atoms, sem}
 use contract.Lifetimes.{AllOutlive}
 use contract.Monad.{Fun, fact}
 use contract.Running.{givenOf, tables, tablesOf}
-use types.Kit.{Given, ‵, raw, _⊛_, ⋆, some, later, _$_, _∵_, !, qed, by, move, drop, use1, use2, split, join, pick, rewrite, fsplit, fsplit3, fjoin, fjoin3, feqI, suffices, frame, await}
+use types.Kit.{Item, Given, ‵, raw, _⊛_, ⋆, some, later, _$_, _∵_, !, qed, by, move, drop, use1, use2, split, join, pick, rewrite, fsplit, fsplit3, fjoin, fjoin3, feqI, suffices, frame, await}
 use types.Part.{whole, sub, look-in, store-in}
 use types.Run.{look, init, forget, stop, hop, fld, from, load, of-opd, and-then, no-more, assigns, land, returns, enter, alloc1, alloc0, params1, pass1, pass0, free1, free0}
 use types.SemTy.{Body}
@@ -62,7 +63,8 @@ module _ {M : Type 1} (𝓤 : URA M) (H : Heap 𝓤) (A : Atoms 𝓤) (mem : Mem
   abbrev StepAt : Contract 𝓤
   StepAt = tripleOf 𝓤 H A step.signature (step.spec 𝓤 H A mem run)
 
-module _ {M : Type 1} (𝓤 : URA M) (H : Heap 𝓤) (A : Atoms 𝓤) (W : Given 𝓤 H A) (at-mem : Memory → SProp 𝓤) (run : Routine → Fun 𝓤) (κ κ′ : Lft) (q q′ : Share) (bounds : AllOutlive 2 (method.signature .outlives) (κ, (κ′, tt))) (b o : ℕ) (γ : GName) (h : Reader) where
+module _ {M : Type 1} (𝓤 : URA M) (H : Heap 𝓤) (A : Atoms 𝓤) (W : Given 𝓤 H A) (at-mem : Memory → SProp 𝓤) (run : Routine → Fun 𝓤)
+    (κ κ′ : Lft) (q q′ : Share) (bounds : AllOutlive 2 (method.signature .outlives) (κ, (κ′, tt))) (b o : ℕ) (γ : GName) (h : Reader) where
   abbrev x : RefT Reader × Unit {0}
   x = (record { ptr = (b, o); name = γ; now = h }, tt)
 
@@ -79,8 +81,12 @@ module _ {M : Type 1} (𝓤 : URA M) (H : Heap 𝓤) (A : Atoms 𝓤) (W : Given
   abbrev to : StepAt 𝓤 H A at-mem run .Ghost
   to = (((κ′, tt), (q′, tt), tt, (h .payload, (h .at, tt)), (passed h .0, (passed h .1 .0, tt))), tt)
 
+  -- what the callee says of its result
+  abbrev Told : NumberStep → SProp 𝓤
+  Told r = ensured 𝓤 H A step.ended (step.clauses 𝓤 H A at-mem run) (κ′, tt) (h .payload, (h .at, tt)) tt r
+
   -- of the callee's `ensured`, the clause alone: it has no `&mut`, so what is said of last values is dropped
-  said : (r : NumberStep) → ent 𝓤 (ensured 𝓤 H A step.ended (step.clauses 𝓤 H A at-mem run) (κ′, tt) (h .payload, (h .at, tt)) tt r) (fact 𝓤 (r ≡ found))
+  said : (r : NumberStep) → ent 𝓤 (Told r) (fact 𝓤 (r ≡ found))
   said r = exE 𝓤 _ (λ ws. snd∗ 𝓤 (sem 𝓤 H A (lasts step.ended (κ′, tt) (h .payload, (h .at, tt)) ws)) (fact 𝓤 (r ≡ found)))
 
   module _ (r : NumberStep) where
@@ -91,10 +97,15 @@ module _ {M : Type 1} (𝓤 : URA M) (H : Heap 𝓤) (A : Atoms 𝓤) (W : Given
     abbrev w : Val
     w = EL.val I.the-type I′.the-laws (r .item)
 
-    exits : (u : Val) → r ≡ found → ent 𝓤 (⋆ 𝓤 H A (‵ (fobs γ (row κ′ .coded .code h′)) ∷ ‵ (fbor κ (Body (mem (row κ′)) b o γ)) ∷ ‵ (flft κ q) ∷ ‵ (S.the-row .own r (u ∷ [])) ∷ (‵ (flft κ′ q′) ⊛ ‵ ftrue) ∷ ‵ ftrue ∷ [])) (Post w)
+    -- what is held at the end
+    abbrev held : Val → List (Item 𝓤)
+    held u = ‵ (fobs γ (row κ′ .coded .code h′)) ∷ ‵ (fbor κ (Body (mem (row κ′)) b o γ)) ∷ ‵ (flft κ q) ∷ ‵ (S.the-row .own r (u ∷ [])) ∷ (‵ (flft κ′ q′) ⊛ ‵ ftrue) ∷ ‵ ftrue ∷ []
+
+    exits : (u : Val) → r ≡ found → ent 𝓤 (⋆ 𝓤 H A (held u)) (Post w)
     exits u e =
-        qed W (‵ (fobs γ (row κ′ .coded .code h′)) ∷ ‵ (fbor κ (Body (mem (row κ′)) b o γ)) ∷ ‵ (flft κ q) ∷ ‵ (S.the-row .own r (u ∷ [])) ∷ (‵ (flft κ′ q′) ⊛ ‵ ftrue) ∷ ‵ ftrue ∷ []) ∵
-        suffices ! _ (ends-at 𝓤 H A method.ended stayed (method.clauses 𝓤 H A at-mem run) W (((κ, (κ′, tt)), (q, (q′, tt)), bounds, x, at), tt) w (r .item) (h′, tt) (tt, tt)) $ says ! (ap (λ (s : NumberStep). s .item) e, ap (λ (s : NumberStep). movedTo h (s .next)) e) $
+        qed W (held u) ∵
+        suffices ! _ (ends-at 𝓤 H A method.ended stayed (method.clauses 𝓤 H A at-mem run) W (((κ, (κ′, tt)), (q, (q′, tt)), bounds, x, at), tt) w (r .item) (h′, tt) (tt, tt)) $
+        says ! (ap (λ (s : NumberStep). s .item) e, ap (λ (s : NumberStep). movedTo h (s .next)) e) $
         move ! (2 ∷ 4 ∷ []) $ join ! $ frame ! $ feqI ! (List Val) (vptr b o ∷ []) (vptr b o ∷ []) refl $ fjoin3 ! $ move ! (0 ∷ 2 ∷ []) $ fjoin ! $
         frame ! $ by ! (first-own 𝓤 H A W S.the-type S′.the-laws (r .item, (r .next, tt)) u)
 
@@ -111,7 +122,7 @@ module _ {M : Type 1} (𝓤 : URA M) (H : Heap 𝓤) (A : Atoms 𝓤) (W : Given
         -- the call
         move ! (1 ∷ 5 ∷ []) $ use2 W (raw (StepAt 𝓤 H A at-mem run .pre to) ⊛ ‵ (Own 𝓤 H A W (α κ′) h)) (lends 𝓤 H A W (α κ′) h [] tt tt (id⊢ 𝓤 _) q′ (wt .1 .1 .0 .fits)) $ split ! $
         calls-at ! fm (StepAt 𝓤 H A at-mem run) known to (and-then ! (load ! (from ! (stop !)) (look ! 9 refl)) (and-then ! (load ! (from ! (stop !)) (look ! 7 refl)) (no-more !))) (λ u.
-        use1 W (later (some (λ (r : NumberStep). ((‵ (flft κ′ q′) ⊛ ‵ ftrue) ⊛ ‵ (S.the-row .own r (u ∷ []))) ⊛ raw (ensured 𝓤 H A step.ended (step.clauses 𝓤 H A at-mem run) (κ′, tt) (h .payload, (h .at, tt)) tt r)))) (id⊢ 𝓤 _) $ await ! tt $ pick ! (λ r.
+        use1 W (later (some (λ (r : NumberStep). ((‵ (flft κ′ q′) ⊛ ‵ ftrue) ⊛ ‵ (S.the-row .own r (u ∷ []))) ⊛ raw (Told r)))) (id⊢ 𝓤 _) $ await ! tt $ pick ! (λ r.
         split ! $ move ! (1 ∷ []) $ use1 W (raw (fact 𝓤 (r ≡ found))) (said r) $ heard ! (r ≡ found) (λ e. split ! $ move ! (1 ∷ []) $
         -- [what the step owns; 'a's token; what the reader owns; the reader's cell; the open borrow; obs; auth; …; _4; …; _3; …; _2; …; _1; …; room for _0; …]
         peeks ! S.the-row (Is S.the-row) (shows 𝓤 H A S.the-row) r (u ∷ []) (λ is. let owed = LL.owed S.the-type S′.the-laws r _ is in

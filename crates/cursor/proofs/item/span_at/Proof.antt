@@ -21,10 +21,16 @@ span-at-spec =
     -- left-from-requires
     (λ c κs. search needs)
     -- returns
-    (λ c. ap (spanStep (c .before .before .before .before .before .before .before .args .at)) (sym (long-span (c .before .before .before .before .before .before .before .args .payload .now) (c .before .before .before .before .before .before .before .args .at) _ (c .before .before .before .before .before .varuint-at .ensures) _ (c .before .before .before .size2 .given .1) (omega arith))))
+    (λ c.
+    let a = c .before .before .before .before .before .before .before .args in
+    ap (spanStep (a .at)) (sym (long-span (a .payload .now) (a .at) _ (c .before .before .before .before .before .varuint-at .ensures) _ (c .before .before .before .size2 .given .1) (omega arith))))
     -- add-t11
     (λ c. search needs)
     -- returns-2
-    (λ c. ap (spanStep (c .before .before .before .before .before .args .at)) (sym (refused-span (c .before .before .before .before .before .args .payload .now) (c .before .before .before .before .before .args .at) _ (c .before .before .before .varuint-at .ensures) _ _ (c .before .size .given .1))))
+    (λ c.
+    let a = c .before .before .before .before .before .args in
+    ap (spanStep (a .at)) (sym (refused-span (a .payload .now) (a .at) _ (c .before .before .before .varuint-at .ensures) _ _ (c .before .size .given .1))))
     -- returns-3
-    (λ c. ap (spanStep (c .before .before .before .before .before .before .before .before .args .at)) (sym (whole-span (c .before .before .before .before .before .before .before .before .args .payload .now) (c .before .before .before .before .before .before .before .before .args .at) _ (c .before .before .before .before .before .before .varuint-at .ensures) _ (c .before .before .before .before .size2 .given .1) (omega arith)))))
+    (λ c.
+    let a = c .before .before .before .before .before .before .before .before .args in
+    ap (spanStep (a .at)) (sym (whole-span (a .payload .now) (a .at) _ (c .before .before .before .before .before .before .varuint-at .ensures) _ (c .before .before .before .before .size2 .given .1) (omega arith)))))

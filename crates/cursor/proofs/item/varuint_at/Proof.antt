@@ -20,8 +20,14 @@ varuint-at-spec =
     -- enum-told-2
     (λ c. search needs)
     -- returns
-    (λ c. ap (numberStep (c .before .before .before .before .before .args .at)) (sym (var-number (c .before .before .before .before .before .args .payload .now) (c .before .before .before .before .before .args .at) _ _ (sym (c .before .before .before .read .ensures) ∙ c .before .value .given .1))))
+    (λ c.
+    let a = c .before .before .before .before .before .args in
+    ap (numberStep (a .at)) (sym (var-number (a .payload .now) (a .at) _ _ (sym (c .before .before .before .read .ensures) ∙ c .before .value .given .1))))
     -- returns-2
-    (λ c. ap (numberStep (c .before .before .before .before .args .at)) (sym (var-cut (c .before .before .before .before .args .payload .now) (c .before .before .before .before .args .at) (sym (c .before .before .read .ensures) ∙ c .enum-told .given .1))))
+    (λ c.
+    let a = c .before .before .before .before .args in
+    ap (numberStep (a .at)) (sym (var-cut (a .payload .now) (a .at) (sym (c .before .before .read .ensures) ∙ c .enum-told .given .1))))
     -- returns-3
-    (λ c. ap (numberStep (c .before .before .before .before .args .at)) (sym (var-malformed (c .before .before .before .before .args .payload .now) (c .before .before .before .before .args .at) (sym (c .before .before .read .ensures) ∙ c .enum-told2 .given .1)))))
+    (λ c.
+    let a = c .before .before .before .before .args in
+    ap (numberStep (a .at)) (sym (var-malformed (a .payload .now) (a .at) (sym (c .before .before .read .ensures) ∙ c .enum-told2 .given .1)))))

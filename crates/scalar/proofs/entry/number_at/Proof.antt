@@ -42,8 +42,9 @@ shared-slice-read-if4 c = omega (arith, room (c .before .before))
 
 returns-3 : tie.Need-returns-3
 returns-3 c =
-    let a = c .before .before .before .before .before .before .before .before .before .args in
-    c .refuse3 .ensures ∙ sym (no-truth (a .kind) (a .place) (a .length) (a .bytes .now) (wide (c .before .before .before .before .before .before)) (within (c .before .before .before .before)) (c .before .before .before .if3 .taken) (c .before .if4 .taken))
+    let t = c .before .before .before .before in
+    let a = t .before .before .before .before .before .args in
+    c .refuse3 .ensures ∙ sym (no-truth (a .kind) (a .place) (a .length) (a .bytes .now) (wide (t .before .before)) (within t) (c .before .before .before .if3 .taken) (c .before .if4 .taken))
 
 value-requires : tie.Need-value-requires
 value-requires c κs = (c .before .before .before .before .before .before .pre .0, c .before .before .before .before .before .before .pre .1, rw (wide (c .before .before .before)) at (room (c .before)))

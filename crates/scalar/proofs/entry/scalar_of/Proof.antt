@@ -21,7 +21,10 @@ good c = good-table _ (c .before .before .before .before .pre)
 
 -- What the test of kind and count leaves.
 passed : (c : tie.Else1) → let k = c .before .before .before .before .before .type-row .result .kind in (0 < k) × (k < 14) × (c .before .before .before .before .before .before .before .before .before .args .row .count ≡ 0)
-passed c = let a = c .before .before .before .before .before .before .before .before .before .args in row-passed _ (good (c .before .before .before .before .before)) (a .row) (a .bytes .now) _ (kind-is (c .before .before .before .before .before)) (c .if1 .left)
+passed c =
+    let t = c .before .before .before .before .before in
+    let a = t .before .before .before .before .args in
+    row-passed _ (good t) (a .row) (a .bytes .now) _ (kind-is t) (c .if1 .left)
 
 returns : tie.Need-returns
 returns c = c .refuse .ensures ∙ sym (row-refused _ (good (c .before .before .before .before .before .before)) _ _ _ (kind-is (c .before .before .before .before .before .before)) (c .before .if1 .taken))

@@ -31,7 +31,8 @@ whole s l h = ap (λ (n : ℕ). first s 0 n) (laid-fields s l h)
 returns : tie.Need-returns Inv-loop μ-loop
 returns c =
     let l = c .before .before .before .before .loop in
-    bad-here (goodField (tableOf (c .before .before .before .before .before .before .args .s .now))) _ (l .i) (l .inv .1) _ (c .before .field-is-good .ensures) (c .before .before .if1 .taken) (c .if2 .taken) ∙ whole _ _ (c .before .before .before .before .before .before .pre)
+    let b = c .before .before .before .before .before .before in
+    bad-here (goodField (tableOf (b .args .s .now))) _ (l .i) (l .inv .1) _ (c .before .field-is-good .ensures) (c .before .before .if1 .taken) (c .if2 .taken) ∙ whole _ _ (b .pre)
 
 loop-again : tie.Need-loop-again Inv-loop μ-loop
 loop-again c =

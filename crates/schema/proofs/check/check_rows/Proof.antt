@@ -31,10 +31,12 @@ check-rows-spec =
     (λ c. search needs)
     (λ c. search needs)
     (λ c.
-    method-fault _ (few (c .before .before .before .before .before .before .before .before .before .before)) (sym (c .before .before .before .before .before .before .before .before .before .bad-row .ensures) ∙ c .before .before .before .before .before .before .before .enum-told .given .1)
-    (sym (c .before .before .before .before .before .before .bad-field .ensures) ∙ c .before .before .before .before .enum-told2 .given .1)
+    let d = c .before .before .before .before .before .before in
+    method-fault _ (few (d .before .before .before .before)) (sym (d .before .before .before .bad-row .ensures) ∙ d .before .enum-told .given .1)
+    (sym (d .bad-field .ensures) ∙ c .before .before .before .before .enum-told2 .given .1)
     _ (sym (c .before .before .before .bad-method .ensures) ∙ c .before .i .given .1))
     (λ c.
-    no-faults _ (few (c .before .before .before .before .before .before .before .before .before)) (sym (c .before .before .before .before .before .before .before .before .bad-row .ensures) ∙ c .before .before .before .before .before .before .enum-told .given .1)
-    (sym (c .before .before .before .before .before .bad-field .ensures) ∙ c .before .before .before .enum-told2 .given .1)
+    let d = c .before .before .before .before .before in
+    no-faults _ (few (d .before .before .before .before)) (sym (d .before .before .before .bad-row .ensures) ∙ d .before .enum-told .given .1)
+    (sym (d .bad-field .ensures) ∙ c .before .before .before .enum-told2 .given .1)
     (sym (c .before .before .bad-method .ensures) ∙ c .enum-told3 .given .1)))

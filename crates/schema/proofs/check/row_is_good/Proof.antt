@@ -9,8 +9,10 @@ use Rattle.schema.proofs.check.row_is_good.Tie as tie
 returns : tie.Need-returns
 returns c =
     let a = c .before .before .before .before .before .before .before .before in
+    let e = c .before .before .before .before .before .before in
+    let f = c .before .before .before .before in
     (λ i. (c .before .before .before .is-plain .ensures) i || ((c .before .before .is-array .ensures) i || ((c .before .is-map .ensures) i || (c .is-struct .ensures) i)))
-    ∙ row-judged (a .args .s .now) (a .args .l) (a .pre) (a .args .t) (c .before .before .before .before .before .before .row .result) (c .before .before .before .before .row2 .result) (c .before .before .before .before .before .before .row .ensures) (c .before .before .before .before .row2 .ensures)
+    ∙ row-judged (a .args .s .now) (a .args .l) (a .pre) (a .args .t) (e .row .result) (f .row2 .result) (e .row .ensures) (f .row2 .ensures)
 
 pub row-is-good-spec : {M : Type 1} → statement M
 row-is-good-spec =

@@ -30,4 +30,7 @@ is-shaped-spec =
     (λ c.
     let d = c .before .before .before .before .before in
     let e = c .before .before .before .before in
-    rest (d .before .before .before .args .s .now) (d .cell .result) (e .cell2 .result) (c .before .before .before .cell3 .result) (c .before .before .cell4 .result) (d .before .if1 .left) (d .cell .ensures) (e .cell2 .ensures) (c .before .before .before .cell3 .ensures) (c .before .before .cell4 .ensures) (c .before .if2 .left) (c .if3 .left)))
+    let f = c .before .before .before in
+    let g = c .before .before in
+    rest (d .before .before .before .args .s .now) (d .cell .result) (e .cell2 .result) (f .cell3 .result) (g .cell4 .result) (d .before .if1 .left)
+    (d .cell .ensures) (e .cell2 .ensures) (f .cell3 .ensures) (g .cell4 .ensures) (c .before .if2 .left) (c .if3 .left)))

@@ -25,20 +25,19 @@ returns : tie.Need-returns Inv-loop μ-loop
 returns c =
     let l = c .before .before .before in
     let e = l .loop .inv in
-    (row-mem (l .loop .k) (l .loop .r) (omega arith) (e .1), row-found (l .before .before .args .b) (l .loop .k) (l .loop .r) (omega arith) (e .1) (e .2) (sym (c .before .within .ensures) ∙ c .if1 .taken))
+    (row-mem (l .loop .k) (l .loop .r) (omega arith) (e .1), row-found (l .before .args .b) (l .loop .k) (l .loop .r) (omega arith) (e .1) (e .2) (sym (c .before .within .ensures) ∙ c .if1 .taken))
 
 loop-again : tie.Need-loop-again Inv-loop μ-loop
-unfolding rows
 loop-again c =
     let l = c .before .before .before .before in
     let e = l .loop .inv in
-    (omega arith, refl, e .2 ∙ lead-row (l .before .before .args .b) (l .loop .k) (l .loop .r) false (omega arith) (e .1) (sym (c .before .before .within .ensures) ∙ c .before .if1 .left))
+    (omega arith, c .row-at .ensures, e .2 ∙ lead-row (l .before .args .b) (l .loop .k) (l .loop .r) false (omega arith) (e .1) (sym (c .before .before .within .ensures) ∙ c .before .if1 .left))
 
 returns-2 : tie.Need-returns-2 Inv-loop μ-loop
 returns-2 c =
     let l = c .before in
     let e = l .loop .inv in
-    (row-mem (l .loop .k) (l .loop .r) (omega arith) (e .1), row-last (l .before .before .args .b) (l .loop .k) (l .loop .r) (omega arith) (e .1) (e .2))
+    (row-mem (l .loop .k) (l .loop .r) (omega arith) (e .1), row-last (l .before .args .b) (l .loop .k) (l .loop .r) (omega arith) (e .1) (e .2))
 
 pub row-of-spec : {M : Type 1} → statement M
 row-of-spec =
@@ -46,13 +45,11 @@ row-of-spec =
     (tie.spec
     Inv-loop
     μ-loop
-    (λ c. search needs)
     loop-holds
     (λ c κs. search needs)
     returns
     (λ c. search needs)
-    (λ c. search needs)
-    (λ c. search needs)
+    (λ c κs. search needs)
     (λ c. search needs)
     loop-again
     returns-2)
