@@ -34,7 +34,7 @@ use Rattle.writer.specs.declared.leaf.Leaf.the-variants.{At, Bad as BadL
 use Rattle.writer.specs.declared.leaf.Head.{Head}
 use Rattle.writer.specs.declared.leaf.Head.the-variants.{Bits, Fault}
 use Rattle.writer.specs.declared.walk.Walk.the-variants.{Past}
-use Rattle.writer.specs.Emit.{put, cap, PutAt, done, stopped, emit, emitAll}
+use Rattle.writer.specs.Emit.{put, cap, PutAt, Final, done, stopped, emit, emitAll}
 use Rattle.writer.specs.Leaf.{rowsAt, dueOf, DueIn, RowDue, leafOf, LeafIn, LeafRow, headOf, HeadIn, Headed}
 use Rattle.writer.specs.Walk.{Walked}
 use Rattle.writer.proofs.Steps.{done-put, branch-bytes, tip-bytes, item-past, item-stop, key-stop, key-again, key-new, show-refused, show-bad, show-parts, says-accepted, leaf-shown, leaf-refused}
@@ -258,6 +258,15 @@ module _ (P : ℕ → RowReader Tree) (cells : List ℕ) (T : Table) (i : ℕ) {
       (record { same = rw (present-clear T i left some room bits b); inside = inside; behind = behind; long = refl })
 
 -- ---- pairs of a map
+
+-- A value that one way or the other of a branch has written.
+pub record Came (cells : List ℕ) (end : Final) (before : List ℕ) (here to : ℕ) (out : List ℕ) : Type 0 where
+  pub walked : Walked cells end (Past here to) out
+  pub long : length out ≡ length before
+
+pub came-by : {cells : List ℕ} {end : Final} {before : List ℕ} {row next : ℕ} {out : List ℕ} → Walked cells end (Past row next) out → length out ≡ length before
+    → {here to : ℕ} {out′ : List ℕ} → here ≡ row → to ≡ next → out′ ≡ out → Came cells end before here to out′
+came-by w k e₁ e₂ e₃ = rw (e₁, e₂, e₃) (record { walked = w; long = k })
 
 module _ (P : ℕ → RowReader Tree) (k v : ℕ) {n i : ℕ} (keys : List (List ℕ)) (cells : List ℕ) (here : ℕ) (some : i < n) where
   split : pairs (n - i) k v ≡ keyItem k ∷ (plainItem v ∷ pairs (n - i - 1) k v)

@@ -8,7 +8,8 @@ use native.Mathlib.Decide.{ℕ-discrete}
 use native.Mathlib.Omega.{arith}
 use borrow.Author.Tests.{leb-true, le-leb, lt-leb}
 use lib.Dec.{leb}
-use lib.ListN.{length, drop, drop-of-length-le}
+use lib.ListN.{length, take, drop, drop-of-length-le}
+use lib.Seq.{take-at}
 use Rattle.wire.proofs.Cases.{differ}
 use Rattle.schema.specs.declared.TypeRow.{TypeRow}
 use Rattle.schema.specs.declared.Field.{Field}
@@ -21,15 +22,15 @@ use Rattle.value.specs.Answer.{CursorOf, AnswerOf, refused, seen, Accepted}
 use Rattle.value.specs.Value.{Tree, value}
 use Rattle.value.specs.Spell.{encode}
 use Rattle.value.specs.Sheet.{rowsOf}
-use Rattle.value.specs.Write.{showRoot, sheetRoot, Writing, refusal, written, fitted, writing, write}
+use Rattle.value.specs.Write.{span, showRoot, sheetRoot, Writing, refusal, written, fitted, writing, write}
 use Rattle.parts.proofs.Tables.{no-struct}
 use Rattle.writer.specs.declared.Writing.the-variants.{Written, Refused}
 use Rattle.writer.specs.declared.walk.Walk.{Walk}
 use Rattle.writer.specs.declared.walk.Walk.the-variants.{Past, Refused as Stopped}
-use Rattle.writer.specs.Emit.{put, cap, done, stopped, emit}
+use Rattle.writer.specs.Emit.{put, cap, PutAt, done, stopped, emit}
 use Rattle.writer.specs.Leaf.{rowsAt}
 use Rattle.writer.specs.Walk.{endOf, Walked}
-use Rattle.writer.specs.Entry.{Outcome, outcome, outcomeOf, payloadBy, lengthOf, within, sheetOutcome, fileOutcome}
+use Rattle.writer.specs.Entry.{Outcome, outcome, outcomeOf, payloadBy, lengthOf, Fronts, within, sheetOutcome, fileOutcome}
 use Rattle.writer.proofs.Puts.{put-whole}
 
 -- ---- a payload and its length
@@ -96,6 +97,10 @@ payload-struct s good ty cells B r is e = elim (ℕ-discrete (r .kind) 16) [
     never : {A : Type 0} {n m q : ℕ} → Refused m q ≡ Written n → A
     never e = differ cc
 
+-- what is refused stands nowhere
+pub front-refused : (memory : List ℕ) {w : Writing} {n q : ℕ} → w ≡ refusal n q → Fronts w memory
+front-refused memory e bs is room = let f = sym e ∙ is in differ cc
+
 -- ---- the two walks
 
 -- what a walk that ended has shown
@@ -147,6 +152,18 @@ module _ (s : List ℕ) (ty : ℕ) (cells B : List ℕ) (fs : List Field) (is : 
           let n : length bs ≡ pos = omega arith in
           let a : leb (length bs) 16384 ≡ true = le-leb (length bs) 16384 (omega arith) in
           ap lengthOf (shown .1) ∙ rw a (ap Written n)
+
+    -- what it has put stands at the output's front, where it fits there
+    pub payload-front : length o′ ≡ length o → Fronts (payloadBy s ty cells B) o′
+    payload-front long = go r (walked .same)
+      where
+        go : (r : Walk) → endOf cells r o′ ≡ emit (shape (tableOf s)) ty (showRoot (shape (tableOf s)) B ty fs (rowsAt cells 0)) 0 o → Fronts (payloadBy s ty cells B) o′
+        go (Past row pos) e bs is room =
+            let (tree, read, _, puts) = emit-done (shape (tableOf s)) ty _ (rowsAt cells row) pos o o′ e in
+            let own : encode (shape (tableOf s)) (value tree) ty ≡ bs = fitted-same 16384 _ bs (sym (payload-by (seen tree (rowsAt cells row)) read) ∙ is) .0 in
+            let whole : o′ ≡ bs ++ drop (length bs) o = puts ∙ ap (put o 0) own ∙ put-whole o bs (omega arith) in
+            ap (take (length bs)) whole ∙ take-at bs (drop (length bs) o) (length bs) refl
+        go (Stopped k q) e bs is room = front-refused o′ (payload-by (refused k q) (emit-stopped (shape (tableOf s)) ty _ k q o e)) bs is room
 
   -- The second writes what was measured, into an output of its length.
   module _ {n : ℕ} (measured : lengthOf (payloadBy s ty cells B) ≡ Written n) where
@@ -202,6 +219,15 @@ module _ (s : List ℕ) (ty : ℕ) (cells B out : List ℕ) where
       let size = written-length is e in
       let a : leb (length bs) (length out) ≡ true = le-leb (length bs) (length out) (omega arith) in
       rw (← size) (rw a at (entry-by is))
+
+  -- it is copied from memory that has it at its front
+  pub entry-copied : (n : ℕ) → lengthOf (payloadBy s ty cells B) ≡ Written n → n ≤ length out → (memory : List ℕ) → n ≤ length memory → Fronts (payloadBy s ty cells B) memory
+      → {r : ℕ} {out′ : List ℕ} → PutAt out 0 (span memory 0 n) r out′ → outcome (Written n) out′ ≡ sheetOutcome s ty cells B out
+  entry-copied n e l memory room front {r} {out′} p =
+      let (bs, is, size) = length-written (payloadBy s ty cells B) e in
+      let held : span memory 0 n ≡ bs = ap (λ (k : ℕ). take k memory) (sym size) ∙ front bs is (omega arith) in
+      let whole : out′ ≡ bs ++ drop n out = p .holds ∙ ap (put out 0) held ∙ put-whole out bs (omega arith) ∙ ap (λ (k : ℕ). bs ++ drop k out) size in
+      ap (outcome (Written n)) whole ∙ entry-written n e l bs is
 
 -- ---- any table
 

@@ -40,10 +40,13 @@ pub as-refused : {cells : List ℕ} {end : Final} {out : List ℕ} {r : Walk} {n
 as-refused e h = rw e (as-stopped h)
 
 -- a value that is refused ends its walk
+pub shown-stopped : (S : ℕ → Shape) (t pos : ℕ) (out : List ℕ) {o : AnswerOf Row Tree} {n q : ℕ} → o ≡ refused n q → stopped n q ≡ emit S t o pos out
+unfolding emit
+shown-stopped S t pos out h = rw h
+
 pub shown-refused : (S : ℕ → Shape) (t pos : ℕ) (out : List ℕ) {o : AnswerOf Row Tree} {cells out′ : List ℕ} {r : Walk} {n q : ℕ}
     → r ≡ Refused n q → o ≡ refused n q → Walked cells (emit S t o pos out) r out′
-unfolding emit
-shown-refused S t pos out e h = as-refused e (rw h)
+shown-refused S t pos out e h = as-refused e (shown-stopped S t pos out h)
 
 -- where two walks have the same end, one accepts where the other does
 pub accepted-along : (S : ℕ → Shape) (is is′ : List Item) (o o′ : AnswerOf Row Forest) (pos pos′ : ℕ) (l m : List ℕ)

@@ -3,16 +3,18 @@ pub mod leaf;
 pub mod put;
 pub mod walk;
 
+use crate::put::put_span;
 use crate::walk::Walk;
 use crate::walk::root;
 use schema::Checked;
 use schema::access::type_row;
 use schema::check::check;
 ghost use mathlib.Core.Path.{_≡_};
+ghost use Prim.Native.Nat.{_≤_};
 ghost use lib.ListN.{length};
 ghost use Rattle.schema.specs.Check.{IsGood};
 ghost use Rattle.value.specs.Write.{written};
-ghost use Rattle.writer.specs.Entry.{outcome, lengthOf, payloadBy, sheetOutcome, fileOutcome};
+ghost use Rattle.writer.specs.Entry.{outcome, lengthOf, payloadBy, Fronts, sheetOutcome, fileOutcome};
 
 // The answer: the length of what was written, or the refusal's number and place.
 pub enum Writing {
@@ -21,10 +23,11 @@ pub enum Writing {
 }
 
 // The length of the payload that the sheet's rows over the source make as a struct of type ty by a good table; or the refusal, which leaves out the
-// output's room.
-pub fn measure(s: &[u8], ty: u32, sheet: &[u32], source: &[u8]) -> Writing
-    requires { ⌜ IsGood (now s) ⌝ }
+// output's room. One walk judges, measures and writes: where the payload fits into the scratch memory, it stands at its front.
+fn make(s: &[u8], ty: u32, sheet: &[u32], source: &[u8], scratch: &mut [u8]) -> Writing
+    requires { ⌜ IsGood (now s) × (length (now scratch) ≤ 16384) ⌝ }
     ensures { λ r. ⌜ r ≡ lengthOf (payloadBy (now (s .entry)) ty (now (sheet .entry)) (now (source .entry))) ⌝ }
+    ensures { λ _. ⌜ Fronts (payloadBy (now (s .entry)) ty (now (sheet .entry)) (now (source .entry))) (now (scratch .exit)) ⌝ }
 {
     let t = type_row(s, ty as usize);
     if t.kind != 16 {
@@ -33,12 +36,11 @@ pub fn measure(s: &[u8], ty: u32, sheet: &[u32], source: &[u8]) -> Writing
             place: 0,
         };
     }
-    let mut none = [0u8; 1];
     match root(
         s,
         sheet,
         source,
-        &mut none[..0],
+        scratch,
         ty,
         t.a as usize,
         t.b as usize,
@@ -57,6 +59,15 @@ pub fn measure(s: &[u8], ty: u32, sheet: &[u32], source: &[u8]) -> Writing
     }
 }
 
+// The same with no memory to write into.
+pub fn measure(s: &[u8], ty: u32, sheet: &[u32], source: &[u8]) -> Writing
+    requires { ⌜ IsGood (now s) ⌝ }
+    ensures { λ r. ⌜ r ≡ lengthOf (payloadBy (now (s .entry)) ty (now (sheet .entry)) (now (source .entry))) ⌝ }
+{
+    let mut none = [0u8; 1];
+    make(s, ty, sheet, source, &mut none[..0])
+}
+
 // Writes a payload that was measured into an output of its length.
 pub fn put_payload(s: &[u8], ty: u32, sheet: &[u32], source: &[u8], out: &mut [u8])
     requires { ⌜ IsGood (now s) ⌝ }
@@ -67,13 +78,20 @@ pub fn put_payload(s: &[u8], ty: u32, sheet: &[u32], source: &[u8], out: &mut [u
     root(s, sheet, source, out, ty, t.a as usize, t.b as usize, false);
 }
 
-// The sheet's rows over the source, written as a struct of type ty by a good table. The first walk judges and measures, with no output;
-// the second writes, where all fits.
-pub fn write_sheet(s: &[u8], ty: u32, sheet: &[u32], source: &[u8], out: &mut [u8]) -> Writing
-    requires { ⌜ IsGood (now s) ⌝ }
+// The sheet's rows over the source, written as a struct of type ty by a good table: made in the scratch memory, and copied where all is right and fits.
+// A payload that is too long for the scratch memory takes a second walk, which writes.
+fn write_through(
+    s: &[u8],
+    ty: u32,
+    sheet: &[u32],
+    source: &[u8],
+    scratch: &mut [u8],
+    out: &mut [u8],
+) -> Writing
+    requires { ⌜ IsGood (now s) × (length (now scratch) ≤ 16384) ⌝ }
     ensures { λ r. ⌜ outcome r (now (out .exit)) ≡ sheetOutcome (now (s .entry)) ty (now (sheet .entry)) (now (source .entry)) (now (out .entry)) ⌝ }
 {
-    match measure(s, ty, sheet, source) {
+    match make(s, ty, sheet, source, scratch) {
         Writing::Refused { number, place } => Writing::Refused { number, place },
         Writing::Written { length } => {
             if out.len() < length {
@@ -82,10 +100,27 @@ pub fn write_sheet(s: &[u8], ty: u32, sheet: &[u32], source: &[u8], out: &mut [u
                     place: 0,
                 };
             }
-            put_payload(s, ty, sheet, source, &mut out[..length]);
+            if scratch.len() < length {
+                put_payload(s, ty, sheet, source, &mut out[..length]);
+            } else {
+                put_span(out, 0, scratch, 0, length);
+            }
             Writing::Written { length }
         }
     }
+}
+
+// The same with scratch memory of its own: little where there are few rows, and elsewhere enough for every payload.
+pub fn write_sheet(s: &[u8], ty: u32, sheet: &[u32], source: &[u8], out: &mut [u8]) -> Writing
+    requires { ⌜ IsGood (now s) ⌝ }
+    ensures { λ r. ⌜ outcome r (now (out .exit)) ≡ sheetOutcome (now (s .entry)) ty (now (sheet .entry)) (now (source .entry)) (now (out .entry)) ⌝ }
+{
+    if sheet.len() <= 256 {
+        let mut scratch = [0u8; 512];
+        return write_through(s, ty, sheet, source, &mut scratch, out);
+    }
+    let mut scratch = [0u8; 16384];
+    write_through(s, ty, sheet, source, &mut scratch, out)
 }
 
 // The same by any table: its own refusals come first.

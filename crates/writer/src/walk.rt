@@ -1,4 +1,4 @@
-// The walkers: a value, and the arrays, maps and structs that hold values, call each other in a cycle; the depth still allowed falls.
+// The walkers: arrays, maps and structs, and what they hold, call each other in a cycle; the depth still allowed falls.
 // They go over the rows of the sheet by the schema table s and put each value's encoding into the output, from `pos` on, where it has a place.
 // A walk that does not judge trusts that the same walk has been judged: it skips the tests that would read contents or keys again.
 use crate::leaf::Due;
@@ -11,7 +11,7 @@ use crate::put::put_bits;
 use crate::put::put_content;
 use crate::put::put_number;
 use parts::key::is_repeated;
-use schema::Layout;
+use schema::TypeRow;
 use schema::access::type_row;
 use schema::file::layout_of;
 use schema::rows::field_row;
@@ -21,7 +21,7 @@ ghost use mathlib.Core.List.{[]};
 ghost use Prim.Native.Nat.{suc, _+_, _/_, _≤_, _<_};
 ghost use lib.ListN.{length, replicate};
 ghost use Rattle.schema.specs.Table.{rowAt, array, map, struct};
-ghost use Rattle.schema.specs.File.{Laid, tableOf};
+ghost use Rattle.schema.specs.File.{tableOf};
 ghost use Rattle.value.specs.Read.{plainItem, pairs, present};
 ghost use Rattle.writer.specs.declared.walk.Walk.the-variants.{Refused};
 ghost use Rattle.parts.specs.Shape.{fieldsFrom, shapeIn};
@@ -39,43 +39,28 @@ fn refused(number: u32, place: usize) -> Walk
     Walk::Refused { number, place }
 }
 
-// A value of type ty in a row, with so many levels of depth still allowed.
-fn value(
+// An array, a map or a struct of type ty in a row, whose type row is t; what it holds has so many levels of depth.
+fn composite(
     s: &[u8],
     sheet: &[u32],
     source: &[u8],
     out: &mut [u8],
     ty: u32,
+    t: TypeRow,
     row: usize,
     pos: usize,
     depth: usize,
     judge: bool,
 ) -> Walk
-    requires { ⌜ Ready (now s) (now sheet) (now out) row pos judge (valueIn (now s) (now source) (now sheet) depth ty row) ⌝ }
-    ensures { λ r. ⌜ Walked (now (sheet .entry)) (valueEnd (now (s .entry)) (now (source .entry)) (now (sheet .entry)) depth ty row pos (now (out .entry))) r (now (out .exit)) ⌝ }
+    requires { ⌜ Ready (now s) (now sheet) (now out) row pos judge (valueIn (now s) (now source) (now sheet) (suc depth) ty row) × (t ≡ rowAt (tableOf (now s)) ty) × (13 < t .kind) ⌝ }
+    ensures { λ r. ⌜ Walked (now (sheet .entry)) (valueEnd (now (s .entry)) (now (source .entry)) (now (sheet .entry)) (suc depth) ty row pos (now (out .entry))) r (now (out .exit)) ⌝ }
 {
-    if depth == 0 {
-        return refused(28, row);
-    }
-    let t = type_row(s, ty as usize);
-    let kind = t.kind as usize;
+    let kind = t.kind;
     if kind == 14 {
-        return array(s, sheet, source, out, ty, t.a, row, pos, depth - 1, judge);
+        return array(s, sheet, source, out, ty, t.a, row, pos, depth, judge);
     }
     if kind == 15 {
-        return mapping(
-            s,
-            sheet,
-            source,
-            out,
-            ty,
-            t.a,
-            t.b,
-            row,
-            pos,
-            depth - 1,
-            judge,
-        );
+        return mapping(s, sheet, source, out, ty, t.a, t.b, row, pos, depth, judge);
     }
     if kind == 16 {
         return structure(
@@ -88,30 +73,11 @@ fn value(
             t.b as usize,
             row,
             pos,
-            depth - 1,
+            depth,
             judge,
         );
     }
-    if kind == 0 {
-        return refused(50, row);
-    }
-    if 16 < kind {
-        return refused(50, row);
-    }
-    leaf(s, sheet, source, out, kind, ty, row, pos, depth, judge)
-}
-
-// The kind of a type whose values are leaves, of a kind from 1 to 13, where depth is left for them; or else 0.
-fn leaf_kind(s: &[u8], l: Layout, ty: u32, depth: usize) -> usize
-    requires { ⌜ Laid (now s) l ⌝ }
-    ensures { λ r. ⌜ (0 < r → (r ≡ rowAt (tableOf (now (s .entry))) ty .kind) × (r < 14) × (0 < depth)) ⌝ }
-{
-    let t = row(s, l, ty as usize);
-    let kind = t.kind as usize;
-    if depth == 0 {
-        return 0;
-    }
-    if kind < 14 { kind } else { 0 }
+    refused(50, row)
 }
 
 // A leaf of a kind in a row.
@@ -143,29 +109,6 @@ fn leaf(
     }
 }
 
-// A value of type ty in a row, where its leaf_kind is at hand.
-fn item(
-    s: &[u8],
-    sheet: &[u32],
-    source: &[u8],
-    out: &mut [u8],
-    kind: usize,
-    ty: u32,
-    row: usize,
-    pos: usize,
-    depth: usize,
-    judge: bool,
-) -> Walk
-    requires { ⌜ Ready (now s) (now sheet) (now out) row pos judge (valueIn (now s) (now source) (now sheet) depth ty row) ⌝ }
-    requires { ⌜ (0 < kind → (kind ≡ rowAt (tableOf (now s)) ty .kind) × (kind < 14) × (0 < depth)) ⌝ }
-    ensures { λ r. ⌜ Walked (now (sheet .entry)) (valueEnd (now (s .entry)) (now (source .entry)) (now (sheet .entry)) depth ty row pos (now (out .entry))) r (now (out .exit)) ⌝ }
-{
-    if 0 < kind {
-        return leaf(s, sheet, source, out, kind, ty, row, pos, depth, judge);
-    }
-    value(s, sheet, source, out, ty, row, pos, depth, judge)
-}
-
 // So many elements of an array from a row on, which are leaves of a kind: a loop without the cycle of walkers.
 fn leaves(
     s: &[u8],
@@ -181,13 +124,16 @@ fn leaves(
     judge: bool,
 ) -> Walk
     requires { ⌜ Ready (now s) (now sheet) (now out) start pos judge (itemsIn (now s) (now source) (now sheet) depth [] (replicate n (plainItem elem)) start) ⌝ }
-    requires { ⌜ (0 < kind) × (kind ≡ rowAt (tableOf (now s)) elem .kind) × (kind < 14) × (0 < depth) ⌝ }
+    requires { ⌜ (0 < kind) × (kind ≡ rowAt (tableOf (now s)) elem .kind) × (kind < 14) ⌝ }
     ensures { λ r. ⌜ Walked (now (sheet .entry)) (itemsEnd (now (s .entry)) (now (source .entry)) (now (sheet .entry)) depth [] (replicate n (plainItem elem)) start pos (now (out .entry))) r (now (out .exit)) ⌝ }
 {
     let mut left = n;
     let mut here = start;
     let mut to = pos;
     while 0 < left {
+        if depth == 0 {
+            return refused(28, here);
+        }
         match leaf(s, sheet, source, out, kind, elem, here, to, depth, judge) {
             Walk::Refused { number, place } => {
                 return Walk::Refused { number, place };
@@ -215,7 +161,7 @@ fn array(
     depth: usize,
     judge: bool,
 ) -> Walk
-    requires { ⌜ Ready (now s) (now sheet) (now out) row pos judge (valueIn (now s) (now source) (now sheet) (suc depth) ty row) × (shapeIn (now s) ty ≡ array elem) ⌝ }
+    requires { ⌜ Ready (now s) (now sheet) (now out) row pos judge (valueIn (now s) (now source) (now sheet) (suc depth) ty row) × (shapeIn (now s) ty ≡ array elem) × (0 < rowAt (tableOf (now s)) elem .kind) ⌝ }
     ensures { λ r. ⌜ Walked (now (sheet .entry)) (valueEnd (now (s .entry)) (now (source .entry)) (now (sheet .entry)) (suc depth) ty row pos (now (out .entry))) r (now (out .exit)) ⌝ }
 {
     match row_due(sheet, row, ty) {
@@ -226,8 +172,9 @@ fn array(
             count,
         } => {
             let next = put_number(out, pos, count as u64);
-            let kind = leaf_kind(s, layout_of(s), elem, depth);
-            if 0 < kind {
+            let t = type_row(s, elem as usize);
+            let kind = t.kind as usize;
+            if kind < 14 {
                 return leaves(
                     s,
                     sheet,
@@ -246,7 +193,10 @@ fn array(
             let mut here = row + 1;
             let mut to = next;
             while 0 < left {
-                match value(s, sheet, source, out, elem, here, to, depth, judge) {
+                if depth == 0 {
+                    return refused(28, here);
+                }
+                match composite(s, sheet, source, out, elem, t, here, to, depth - 1, judge) {
                     Walk::Refused { number, place } => {
                         return Walk::Refused { number, place };
                     }
@@ -277,7 +227,7 @@ fn mapping(
     judge: bool,
 ) -> Walk
     requires { ⌜ Ready (now s) (now sheet) (now out) row pos judge (valueIn (now s) (now source) (now sheet) (suc depth) ty row) × (shapeIn (now s) ty ≡ map key val) ⌝ }
-    requires { ⌜ (0 < rowAt (tableOf (now s)) key .kind) × (rowAt (tableOf (now s)) key .kind < 14) ⌝ }
+    requires { ⌜ (0 < rowAt (tableOf (now s)) key .kind) × (rowAt (tableOf (now s)) key .kind < 14) × (0 < rowAt (tableOf (now s)) val .kind) ⌝ }
     ensures { λ r. ⌜ Walked (now (sheet .entry)) (valueEnd (now (s .entry)) (now (source .entry)) (now (sheet .entry)) (suc depth) ty row pos (now (out .entry))) r (now (out .exit)) ⌝ }
 {
     match row_due(sheet, row, ty) {
@@ -291,6 +241,12 @@ fn mapping(
                 return refused(31, row);
             }
             let next = put_number(out, pos, count as u64);
+            if count == 0 {
+                return Walk::Past {
+                    row: row + 1,
+                    pos: next,
+                };
+            }
             if count <= 8 {
                 let mut keys = [0usize; 16];
                 return pairs(
@@ -308,13 +264,11 @@ fn mapping(
                     judge,
                 );
             }
-            let mut keys = [0usize; 128];
-            pairs(
+            many(
                 s,
                 sheet,
                 source,
                 out,
-                &mut keys,
                 key,
                 val,
                 count,
@@ -325,6 +279,41 @@ fn mapping(
             )
         }
     }
+}
+
+// The n pairs of a map, of more than a few. The long array stands here, so that no other map has to make room for it.
+fn many(
+    s: &[u8],
+    sheet: &[u32],
+    source: &[u8],
+    out: &mut [u8],
+    key: u32,
+    val: u32,
+    n: usize,
+    start: usize,
+    pos: usize,
+    depth: usize,
+    judge: bool,
+) -> Walk
+    requires { ⌜ Ready (now s) (now sheet) (now out) start pos judge (itemsIn (now s) (now source) (now sheet) depth [] (pairs n key val) start) ⌝ }
+    requires { ⌜ (0 < rowAt (tableOf (now s)) key .kind) × (rowAt (tableOf (now s)) key .kind < 14) × (0 < rowAt (tableOf (now s)) val .kind) × (n ≤ 64) ⌝ }
+    ensures { λ r. ⌜ Walked (now (sheet .entry)) (itemsEnd (now (s .entry)) (now (source .entry)) (now (sheet .entry)) depth [] (pairs n key val) start pos (now (out .entry))) r (now (out .exit)) ⌝ }
+{
+    let mut keys = [0usize; 128];
+    pairs(
+        s,
+        sheet,
+        source,
+        out,
+        &mut keys,
+        key,
+        val,
+        n,
+        start,
+        pos,
+        depth,
+        judge,
+    )
 }
 
 // The n pairs of a map from a row on. What `keys` holds afterwards means nothing.
@@ -343,12 +332,11 @@ fn pairs(
     judge: bool,
 ) -> Walk
     requires { ⌜ Ready (now s) (now sheet) (now out) start pos judge (itemsIn (now s) (now source) (now sheet) depth [] (pairs n key val) start) ⌝ }
-    requires { ⌜ (0 < rowAt (tableOf (now s)) key .kind) × (rowAt (tableOf (now s)) key .kind < 14) × (n ≤ length (now keys) / 2) × (n ≤ 64) ⌝ }
+    requires { ⌜ (0 < rowAt (tableOf (now s)) key .kind) × (rowAt (tableOf (now s)) key .kind < 14) × (0 < rowAt (tableOf (now s)) val .kind) × (n ≤ length (now keys) / 2) × (n ≤ 64) ⌝ }
     ensures { λ r. ⌜ Walked (now (sheet .entry)) (itemsEnd (now (s .entry)) (now (source .entry)) (now (sheet .entry)) depth [] (pairs n key val) start pos (now (out .entry))) r (now (out .exit)) ⌝ }
 {
-    let t = type_row(s, key as usize);
-    let kind = t.kind as usize;
-    let own = leaf_kind(s, layout_of(s), val, depth);
+    let k = type_row(s, key as usize);
+    let v = type_row(s, val as usize);
     let mut i = 0;
     let mut here = start;
     let mut to = pos;
@@ -356,7 +344,7 @@ fn pairs(
         if depth == 0 {
             return refused(28, here);
         }
-        match leaf_row(sheet, source, kind, key, here, judge) {
+        match leaf_row(sheet, source, k.kind as usize, key, here, judge) {
             Leaf::Bad { number } => {
                 return refused(number, here);
             }
@@ -364,25 +352,37 @@ fn pairs(
                 if is_repeated(source, keys, i, place, length, judge) {
                     return refused(24, here);
                 }
-                let next = put_content(out, to, kind, source, place, length);
-                match item(
-                    s,
-                    sheet,
-                    source,
-                    out,
-                    own,
-                    val,
-                    here + 1,
-                    next,
-                    depth,
-                    judge,
-                ) {
-                    Walk::Refused { number, place } => {
-                        return Walk::Refused { number, place };
+                let next = put_content(out, to, k.kind as usize, source, place, length);
+                if 13 < v.kind {
+                    match composite(
+                        s,
+                        sheet,
+                        source,
+                        out,
+                        val,
+                        v,
+                        here + 1,
+                        next,
+                        depth - 1,
+                        judge,
+                    ) {
+                        Walk::Refused { number, place } => {
+                            return Walk::Refused { number, place };
+                        }
+                        Walk::Past { row, pos } => {
+                            here = row;
+                            to = pos;
+                        }
                     }
-                    Walk::Past { row, pos } => {
-                        here = row;
-                        to = pos;
+                } else {
+                    match leaf_row(sheet, source, v.kind as usize, val, here + 1, judge) {
+                        Leaf::Bad { number } => {
+                            return refused(number, here + 1);
+                        }
+                        Leaf::At { place, length } => {
+                            to = put_content(out, next, v.kind as usize, source, place, length);
+                            here = here + 2;
+                        }
                     }
                 }
             }
@@ -450,6 +450,7 @@ fn structure(
 }
 
 // The fields of a struct whose bits are set in `known`, from the row `start` on.
+// Most fields are scalars, strings or bytes: these are written in the loop itself, without a call of their own.
 fn fields(
     s: &[u8],
     sheet: &[u32],
@@ -475,15 +476,30 @@ fn fields(
     let mut to = pos;
     while 0 < left {
         if bits % 2 == 1 {
+            if depth == 0 {
+                return refused(28, here);
+            }
             let f = field_row(s, l, i);
-            let kind = leaf_kind(s, l, f.ty, depth);
-            match item(s, sheet, source, out, kind, f.ty, here, to, depth, judge) {
-                Walk::Refused { number, place } => {
-                    return Walk::Refused { number, place };
+            let t = row(s, l, f.ty as usize);
+            if 13 < t.kind {
+                match composite(s, sheet, source, out, f.ty, t, here, to, depth - 1, judge) {
+                    Walk::Refused { number, place } => {
+                        return Walk::Refused { number, place };
+                    }
+                    Walk::Past { row, pos } => {
+                        here = row;
+                        to = pos;
+                    }
                 }
-                Walk::Past { row, pos } => {
-                    here = row;
-                    to = pos;
+            } else {
+                match leaf_row(sheet, source, t.kind as usize, f.ty, here, judge) {
+                    Leaf::Bad { number } => {
+                        return refused(number, here);
+                    }
+                    Leaf::At { place, length } => {
+                        to = put_content(out, to, t.kind as usize, source, place, length);
+                        here = here + 1;
+                    }
                 }
             }
         }

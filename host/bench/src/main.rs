@@ -1,40 +1,28 @@
 //! Prints the figures of docs/SPEED.md: each entry of the static library beside
-//! the reference implementation, on the same input, in one run.
+//! `fast` and the reference implementation, on the same input, in one run.
+//!
+//! `bench WORD..` prints only the lines that have all the words.
 
 #![forbid(unsafe_code)]
 
-use std::hint::black_box;
-
-use bench::measure::{side_by_side, Times};
-use bench::samples::{self, Record, Sample};
-use bench::CELLS;
-use reference::MAX_PAYLOAD;
+use bench::lines::{self, Arrival, Times};
+use bench::samples::{self, Sample};
+use bench::{show, throughput};
 
 fn main() {
-    println!("| entry | input | library | reference | library / reference |");
-    println!("|---|---|---|---|---|");
-    table_check();
-    let payloads = samples::payloads();
-    payloads.iter().for_each(read);
-    samples::besides().iter().for_each(read_beside);
-    payloads.iter().for_each(write);
-    let receipt = samples::receipt();
-    frame_read(&receipt);
-    frame_write(&receipt);
-    receive("INVOKE with a 100-byte receipt", 1, 1_000, &receipt);
-    let cancel = Sample {
-        payload: Vec::new(),
-        ..receipt
-    };
-    receive("CANCEL, no payload", 8, 50, &cancel);
-    samples::records().iter().for_each(salvage);
-    println!();
-    println!("| input | one write | two in turn | one / two |");
-    println!("|---|---|---|---|");
-    let long = payloads
-        .iter()
-        .filter(|sample| IN_TURN.contains(&sample.name));
-    long.for_each(value_frame);
+    let words: Vec<String> = std::env::args().skip(1).collect();
+    let lines = Lines { words };
+    lines.entries();
+    lines.in_turn();
+    lines.growth();
+    if lines.words.is_empty() {
+        throughput_figures();
+    }
+}
+
+/// The lines asked for.
+struct Lines {
+    words: Vec<String>,
 }
 
 /// The payloads on which one write is held against two in turn.
@@ -45,284 +33,193 @@ const IN_TURN: &[&str] = &[
     "receipt of 100 bytes",
 ];
 
-/// A line of the table.
-fn figure(entry: &str, input: &str, times: Times) {
-    let ratio = times.library / times.reference;
-    let (library, reference) = (show(times.library), show(times.reference));
-    println!("| {entry} | {input} | {library} | {reference} | {ratio:.2} |");
-}
+impl Lines {
+    fn wanted(&self, line: &str) -> bool {
+        self.words.iter().all(|word| line.contains(&word[..]))
+    }
 
-/// Nanoseconds, or microseconds where there are many.
-fn show(nanoseconds: f64) -> String {
-    match nanoseconds < 1_000.0 {
-        true => format!("{nanoseconds:.1} ns"),
-        false => format!("{:.1} µs", nanoseconds / 1_000.0),
+    /// Prints a line of the first table, if it is asked for.
+    fn line(&self, entry: &str, input: &str, times: impl FnOnce() -> Times) {
+        if !self.wanted(&format!("{entry}, {input}")) {
+            return;
+        }
+        let Times {
+            library,
+            fast,
+            reference,
+        } = times();
+        let (quick, ratio) = match fast {
+            Some(fast) => (show(fast), format!("{:.2}", library / fast)),
+            None => ("–".into(), "–".into()),
+        };
+        let theirs = show(reference);
+        let other = library / reference;
+        let library = show(library);
+        println!("| {entry} | {input} | {library} | {quick} | {ratio} | {theirs} | {other:.2} |");
+    }
+
+    fn entries(&self) {
+        println!(
+            "| entry | input | library | fast | library / fast | reference | library / reference |"
+        );
+        println!("|---|---|---|---|---|---|---|");
+        let full = samples::full_table();
+        self.line(
+            "table check",
+            "256 types, 2,048 fields, 256 methods",
+            || lines::check_table(&full),
+        );
+        let methods = samples::table_of_methods(256);
+        self.line("table check", "2 types, 256 methods", || {
+            lines::check_table(&methods)
+        });
+        let payloads = samples::payloads();
+        for sample in &payloads {
+            self.line("read", sample.name, || lines::read(sample));
+        }
+        for beside in &samples::besides() {
+            self.line("read beside", beside.1.name, || lines::read_beside(beside));
+        }
+        for sample in &payloads {
+            self.line("write", sample.name, || lines::write(sample));
+        }
+        let receipt = samples::receipt();
+        let input = "frame of a 100-byte receipt";
+        self.line("frame read", input, || lines::frame_read(&receipt));
+        self.line("frame write", input, || lines::frame_write(&receipt));
+        self.receives(&receipt);
+        for record in &samples::records() {
+            self.line("salvage", record.name, || lines::salvage(record).0);
+        }
+    }
+
+    fn receives(&self, receipt: &Sample) {
+        let arrival = |kind, open: Vec<u64>, payload: &[u8]| Arrival {
+            schema: receipt.schema.clone(),
+            bytes: samples::frame(
+                kind,
+                open.first().map_or(9, |first| first + u64::from(kind == 1)),
+                payload,
+            ),
+            open,
+        };
+        // Correlations that are even, so that the odd ones are free.
+        let open = |calls: u64| (0..calls).map(|call| 2 * call).collect::<Vec<u64>>();
+        for calls in [0, 16, 100, 127] {
+            let entry = format!("receive, {calls} calls open");
+            let arrival = arrival(1, open(calls), &receipt.payload);
+            self.line(&entry, "INVOKE with a 100-byte receipt", || {
+                lines::receive(&arrival)
+            });
+        }
+        for calls in [16, 100, 127] {
+            let entry = format!("receive, {calls} calls open");
+            let arrival = arrival(8, open(calls), &[]);
+            self.line(&entry, "CANCEL, no payload", || lines::receive(&arrival));
+        }
+        let alike: Vec<u64> = (0..127).map(|call| call << 32).collect();
+        let arrival = arrival(8, alike, &[]);
+        let input = "CANCEL, correlations alike in their low 32 bits";
+        self.line("receive, 127 calls open", input, || {
+            lines::receive(&arrival)
+        });
+        let arrival = Arrival {
+            schema: samples::table_of_methods(256),
+            bytes: samples::frame_of([1, 2, 255], 1, 9, &[1, 7]),
+            open: open(100),
+        };
+        let input = "INVOKE of the last of 256 methods, 2 bytes";
+        self.line("receive, 100 calls open", input, || {
+            lines::receive(&arrival)
+        });
+    }
+
+    fn in_turn(&self) {
+        println!();
+        println!("| input | one write | two in turn | one / two |");
+        println!("|---|---|---|---|");
+        for sample in &samples::payloads() {
+            if IN_TURN.contains(&sample.name) && self.wanted(&format!("in turn, {}", sample.name)) {
+                let [once, turns] = lines::value_frame(sample);
+                let ratio = once / turns;
+                let (once, turns) = (show(once), show(turns));
+                println!("| {} | {once} | {turns} | {ratio:.2} |", sample.name);
+            }
+        }
+    }
+
+    /// How the time grows with what is given: each step has twice or four times
+    /// as much of it as the one before.
+    fn growth(&self) {
+        println!();
+        println!("| what grows | from | library | fast | library, times the one before |");
+        println!("|---|---|---|---|---|");
+        let sizes = [1_024, 2_048, 4_096, 8_192, 16_384];
+        let name = "bytes of small structs read";
+        self.grow(name, &sizes, |size| {
+            lines::read(&samples::small_structs_of(size))
+        });
+        let name = "bytes of small structs written";
+        self.grow(name, &sizes, |size| {
+            lines::write(&samples::small_structs_of(size))
+        });
+        self.grow(
+            "types of 8 fields checked",
+            &[16, 32, 64, 128, 256],
+            |types| lines::check_table(&samples::table_of_types(types)),
+        );
+        self.grow("methods checked", &[16, 32, 64, 128, 256], |methods| {
+            lines::check_table(&samples::table_of_methods(methods))
+        });
+        self.grow("calls open at a CANCEL", &[1, 16, 32, 64, 128], |calls| {
+            lines::receive(&Arrival {
+                schema: samples::receipt().schema,
+                bytes: samples::frame(8, 0, &[]),
+                open: (0..calls as u64).collect(),
+            })
+        });
+    }
+
+    fn grow(&self, what: &str, sizes: &[usize], times: impl Fn(usize) -> Times) {
+        if !self.wanted(&format!("growth, {what}")) {
+            return;
+        }
+        let mut before = None;
+        for &size in sizes {
+            let Times { library, fast, .. } = times(size);
+            let quick = fast.map_or("–".into(), show);
+            let step = before.map_or("–".into(), |before| format!("{:.2}", library / before));
+            println!("| {what} | {size} | {} | {quick} | {step} |", show(library));
+            before = Some(library);
+        }
     }
 }
 
-fn table_check() {
-    let schema = samples::full_table();
-    assert_eq!(arf::check_table(&schema), Ok(()));
-    assert_eq!(reference::check_table(&schema), Ok(()));
-    let times = side_by_side(
-        |_| arf::check_table(black_box(&schema)),
-        |_| reference::check_table(black_box(&schema)),
+fn throughput_figures() {
+    println!();
+    println!("| frames | library | fast | library / fast |");
+    println!("|---|---|---|---|");
+    let listed = throughput::listed();
+    let [ours, quick] = listed.times;
+    let (bytes, frames) = (listed.bytes, listed.frames);
+    let per = |nanoseconds: f64| per_second(frames, nanoseconds / 1e9);
+    println!(
+        "| a record of {bytes} bytes, {frames} frames, listed | {} | {} | {:.2} |",
+        per(ours),
+        per(quick),
+        ours / quick
     );
-    figure("table check", "256 types, 2,048 fields, 256 methods", times);
+    let [ours, quick] = throughput::million();
+    println!(
+        "| a million frames of two bytes received | {} | {} | {:.2} |",
+        per_second(throughput::FRAMES, ours),
+        per_second(throughput::FRAMES, quick),
+        ours / quick
+    );
 }
 
-fn read(sample: &Sample) {
-    let (schema, payload) = (&sample.schema[..], &sample.payload[..]);
-    let (mut ours, mut theirs) = (vec![0; CELLS], vec![0; CELLS]);
-    let reading = arf::read(schema, sample.type_number, payload, &mut ours);
-    let reading = reading.expect("the payload is right");
-    let expected = reference::read(schema, sample.type_number, payload, &mut theirs);
-    let expected = expected.expect("the payload is right");
-    assert_eq!(reading.rows, expected.rows);
-    assert_eq!(reading.comparisons, expected.comparisons);
-    assert_eq!(ours, theirs);
-    let times = side_by_side(
-        |clear| {
-            if clear {
-                ours.fill(0);
-            }
-            let (schema, payload) = black_box((schema, payload));
-            arf::read(schema, sample.type_number, payload, &mut ours)
-        },
-        |clear| {
-            if clear {
-                theirs.fill(0);
-            }
-            let (schema, payload) = black_box((schema, payload));
-            reference::read(schema, sample.type_number, payload, &mut theirs)
-        },
-    );
-    let input = format!("{}, {} rows", sample.name, reading.rows);
-    figure("read", &input, times);
-}
-
-/// A payload by the writer's table, shown by ours.
-fn read_beside((ours, sample): &(Vec<u8>, Sample)) {
-    let (theirs, payload) = (&sample.schema[..], &sample.payload[..]);
-    let (mut sheet, mut other) = (vec![0; CELLS], vec![0; CELLS]);
-    let type_number = sample.type_number;
-    let reading = arf::read_beside(ours, theirs, type_number, payload, &mut sheet);
-    let reading = reading.expect("the payload is right");
-    let expected = reference::read_beside(ours, theirs, type_number, payload, &mut other);
-    let expected = expected.expect("the payload is right");
-    assert_eq!(reading.rows, expected.rows);
-    assert_eq!(reading.comparisons, expected.comparisons);
-    assert_eq!(sheet, other);
-    let times = side_by_side(
-        |clear| {
-            if clear {
-                sheet.fill(0);
-            }
-            let (theirs, payload) = black_box((theirs, payload));
-            arf::read_beside(ours, theirs, type_number, payload, &mut sheet)
-        },
-        |clear| {
-            if clear {
-                other.fill(0);
-            }
-            let (theirs, payload) = black_box((theirs, payload));
-            reference::read_beside(ours, theirs, type_number, payload, &mut other)
-        },
-    );
-    let input = format!("{}, {} rows", sample.name, reading.rows);
-    figure("read beside", &input, times);
-}
-
-/// The rows that the reader shows, for a writer.
-fn sheet_of(sample: &Sample) -> Vec<u32> {
-    let mut sheet = vec![0; CELLS];
-    let (schema, payload) = (&sample.schema[..], &sample.payload[..]);
-    let reading = reference::read(schema, sample.type_number, payload, &mut sheet);
-    sheet.truncate(4 * reading.expect("the payload is right").rows);
-    sheet
-}
-
-fn write(sample: &Sample) {
-    let (schema, payload) = (&sample.schema[..], &sample.payload[..]);
-    let sheet = sheet_of(sample);
-    let (mut ours, mut theirs) = (vec![0; MAX_PAYLOAD], vec![0; MAX_PAYLOAD]);
-    let length = arf::write(schema, sample.type_number, &sheet, payload, &mut ours);
-    let expected = reference::write(schema, sample.type_number, &sheet, payload, &mut theirs);
-    assert_eq!(length, Ok(payload.len()));
-    assert_eq!(expected, Ok(payload.len()));
-    assert_eq!(ours[..payload.len()], *payload);
-    assert_eq!(ours, theirs);
-    let times = side_by_side(
-        |clear| {
-            if clear {
-                ours.fill(0);
-            }
-            let (schema, sheet, payload) = black_box((schema, &sheet[..], payload));
-            arf::write(schema, sample.type_number, sheet, payload, &mut ours)
-        },
-        |clear| {
-            if clear {
-                theirs.fill(0);
-            }
-            let (schema, sheet, payload) = black_box((schema, &sheet[..], payload));
-            reference::write(schema, sample.type_number, sheet, payload, &mut theirs)
-        },
-    );
-    figure("write", sample.name, times);
-}
-
-fn frame_read(sample: &Sample) {
-    let bytes = samples::frame(1, 9, &sample.payload);
-    let whole = arf::read_frame(&bytes);
-    assert!(matches!(
-        whole,
-        Ok(arf::FrameRead::Whole { length: 100, .. })
-    ));
-    let times = side_by_side(
-        |_| arf::read_frame(black_box(&bytes)),
-        |_| reference::read_frame(black_box(&bytes)),
-    );
-    figure("frame read", "frame of a 100-byte receipt", times);
-}
-
-/// The header of INVOKE for the method 1, 2, 3.
-const INVOKE: arf::Header = arf::Header {
-    kind: 1,
-    package: 1,
-    service: 2,
-    method: 3,
-    correlation: 9,
-};
-
-/// One write for a whole frame, beside the library's value writer and frame
-/// writer in turn.
-fn value_frame(sample: &Sample) {
-    let (schema, payload) = (&sample.schema[..], &sample.payload[..]);
-    let (ty, sheet) = (sample.type_number, sheet_of(sample));
-    let expected = samples::frame(1, 9, payload);
-    let (mut one, mut two) = (vec![0; expected.len()], vec![0; expected.len()]);
-    let mut between = vec![0; MAX_PAYLOAD];
-    let in_turn = |clear, between: &mut [u8], out: &mut [u8]| {
-        if clear {
-            out.fill(0);
-        }
-        let (schema, sheet, payload) = black_box((schema, &sheet[..], payload));
-        let length = arf::write(schema, ty, sheet, payload, between)?;
-        arf::write_frame(black_box(&INVOKE), &between[..length], out)
-    };
-    let at_once = |clear, out: &mut [u8]| {
-        if clear {
-            out.fill(0);
-        }
-        let (schema, sheet, payload) = black_box((schema, &sheet[..], payload));
-        arf::write_value_frame(black_box(&INVOKE), schema, ty, sheet, payload, out)
-    };
-    assert_eq!(at_once(true, &mut one), Ok(expected.len()));
-    assert_eq!(in_turn(true, &mut between, &mut two), Ok(expected.len()));
-    assert_eq!((&one, &two), (&expected, &expected));
-    let times = side_by_side(
-        |clear| at_once(clear, &mut one),
-        |clear| in_turn(clear, &mut between, &mut two),
-    );
-    let (once, turns) = (times.library, times.reference);
-    let ratio = once / turns;
-    let (once, turns) = (show(once), show(turns));
-    println!("| {} | {once} | {turns} | {ratio:.2} |", sample.name);
-}
-
-fn frame_write(sample: &Sample) {
-    let expected = samples::frame(1, 9, &sample.payload);
-    let theirs = reference::Header {
-        kind: 1,
-        identifiers: [1, 2, 3],
-        correlation: 9,
-    };
-    let (mut out, mut other) = (vec![0; 200], vec![0; 200]);
-    let length = arf::write_frame(&INVOKE, &sample.payload, &mut out);
-    assert_eq!(length, Ok(expected.len()));
-    assert_eq!(out[..expected.len()], expected);
-    let times = side_by_side(
-        |clear| {
-            if clear {
-                out.fill(0);
-            }
-            arf::write_frame(black_box(&INVOKE), black_box(&sample.payload), &mut out)
-        },
-        |clear| {
-            if clear {
-                other.fill(0);
-            }
-            reference::write_frame(black_box(&theirs), black_box(&sample.payload), &mut other)
-        },
-    );
-    figure("frame write", "frame of a 100-byte receipt", times);
-}
-
-/// One frame of a kind with 100 calls open. Each call starts from a copy of the
-/// same call table, on both sides.
-fn receive(input: &str, kind: u32, correlation: u64, sample: &Sample) {
-    let bytes = samples::frame(kind, correlation, &sample.payload);
-    let mut calls = [arf::Call::default(); arf::SLOTS];
-    let mut other = reference::CallTable::fresh();
-    for (correlation, (call, record)) in (0..100).zip(calls.iter_mut().zip(&mut other.slots)) {
-        (call.open, call.correlation) = (true, correlation);
-        (record.open, record.correlation) = (true, correlation);
-    }
-    let table = arf::CallTable::from_calls(&calls);
-    let (mut ours, mut theirs) = (vec![0; CELLS], vec![0; CELLS]);
-    let (mut first, mut second) = (table, other);
-    let received = first.receive(&sample.schema, b'C', &bytes, &mut ours);
-    let expected = second.receive(&sample.schema, b'C', &bytes, &mut theirs);
-    assert!(matches!(received.outcome, arf::Outcome::Accepted(_)));
-    assert_eq!((expected.number(), expected.open), (0, received.open));
-    assert_eq!(ours, theirs);
-    let times = side_by_side(
-        |clear| {
-            if clear {
-                ours.fill(0);
-            }
-            let mut table = black_box(table);
-            table.receive(&sample.schema, b'C', black_box(&bytes), &mut ours)
-        },
-        |clear| {
-            if clear {
-                theirs.fill(0);
-            }
-            let mut table = black_box(other);
-            table.receive(&sample.schema, b'C', black_box(&bytes), &mut theirs)
-        },
-    );
-    figure("receive, 100 calls open", input, times);
-}
-
-fn salvage(record: &Record) {
-    let bytes = &record.bytes[..];
-    let (mut ours, mut theirs) = (vec![0; bytes.len()], vec![0; bytes.len()]);
-    let (mut list, mut other) = (vec![0; arf::SPAN_CELLS], vec![0; arf::SPAN_CELLS]);
-    let salvaged = arf::salvage(bytes, &mut ours, &mut list);
-    let salvaged = salvaged.expect("both buffers have room");
-    let expected = reference::salvage(bytes, &mut theirs, &mut other);
-    let expected = expected.expect("both buffers have room");
-    assert_eq!(
-        (salvaged.entries, salvaged.spans),
-        (expected.kept, expected.spans)
-    );
-    assert_eq!((&ours, &list), (&theirs, &other));
-    let times = side_by_side(
-        |clear| {
-            if clear {
-                ours.fill(0);
-            }
-            arf::salvage(black_box(bytes), &mut ours, &mut list)
-        },
-        |clear| {
-            if clear {
-                theirs.fill(0);
-            }
-            reference::salvage(black_box(bytes), &mut theirs, &mut other)
-        },
-    );
-    let (entries, spans) = (salvaged.entries, salvaged.spans);
-    let input = format!("{}, {entries} entries, {spans} spans", record.name);
-    figure("salvage", &input, times);
+/// Seconds, and frames a second.
+fn per_second(frames: usize, seconds: f64) -> String {
+    let rate = frames as f64 / seconds / 1e6;
+    format!("{seconds:.4} s, {rate:.2} million a second")
 }

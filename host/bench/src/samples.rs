@@ -42,6 +42,29 @@ pub fn full_table() -> Vec<u8> {
     table.bytes()
 }
 
+/// A good table of so many types, each a struct of eight fields.
+pub fn table_of_types(types: usize) -> Vec<u8> {
+    let mut table = Table::default();
+    for _ in 0..types {
+        table.add_struct(&[[0, 1]; 8]);
+    }
+    table.bytes()
+}
+
+/// A good table of one struct and so many methods, which differ in their last
+/// identifier.
+pub fn table_of_methods(methods: usize) -> Vec<u8> {
+    let mut table = Table::default();
+    let byte = table.add_type(UINT8, 0, 0);
+    let small = table.add_struct(&[[byte, 0]]);
+    for method in 0..methods as u32 {
+        table
+            .methods
+            .push([1, 2, method, 12, small, small, u32::MAX, u32::MAX]);
+    }
+    table.bytes()
+}
+
 /// The shortest VarUInt of a number.
 pub fn size(number: usize) -> Vec<u8> {
     let mut out = vec![0; 10];
@@ -68,9 +91,20 @@ fn counted(room: usize, item: impl Fn(usize) -> Vec<u8>) -> Vec<u8> {
     }
 }
 
-/// A payload of exactly the longest length: a struct of one field, which takes
-/// the room it is given, and of bytes that fill the rest.
+/// A payload of exactly the longest length.
 fn longest(
+    name: &'static str,
+    table: Table,
+    field: u32,
+    content: impl Fn(usize) -> Vec<u8>,
+) -> Sample {
+    filled_to(MAX_PAYLOAD, name, table, field, content)
+}
+
+/// A payload of exactly so many bytes: a struct of one field, which takes the
+/// room it is given, and of bytes that fill the rest.
+fn filled_to(
+    size: usize,
     name: &'static str,
     mut table: Table,
     field: u32,
@@ -79,14 +113,14 @@ fn longest(
     let bytes = table.add_type(13, 0, 0);
     let type_number = table.add_struct(&[[field, 0], [bytes, 0]]);
     let mut payload = vec![3];
-    payload.extend(content(MAX_PAYLOAD - 4));
-    let left = MAX_PAYLOAD - payload.len();
+    payload.extend(content(size - 4));
+    let left = size - payload.len();
     let length = match left {
         0..=128 => left - 1,
         _ => left - 2,
     };
     payload.extend(text(&vec![0; length]));
-    assert_eq!(payload.len(), MAX_PAYLOAD);
+    assert_eq!(payload.len(), size);
     Sample {
         name,
         schema: table.bytes(),
@@ -97,12 +131,17 @@ fn longest(
 
 /// A struct of a byte and a word, many times.
 fn small_structs() -> Sample {
+    small_structs_of(MAX_PAYLOAD)
+}
+
+/// The same in a payload of so many bytes.
+pub fn small_structs_of(bytes: usize) -> Sample {
     let mut table = Table::default();
     let byte = table.add_type(UINT8, 0, 0);
     let word = table.add_type(UINT32, 0, 0);
     let small = table.add_struct(&[[byte, 0], [word, 1]]);
     let array = table.add_type(ARRAY, small, 0);
-    longest("small structs", table, array, |room| {
+    filled_to(bytes, "small structs", table, array, |room| {
         counted(room, |index| vec![3, index as u8, 1, 2, 3, 4])
     })
 }
@@ -156,6 +195,19 @@ fn nested_arrays() -> Sample {
     let outer = table.add_type(ARRAY, middle, 0);
     longest("nested arrays", table, outer, |room| {
         counted(room, |_| counted(33, |_| vec![3, 7, 8, 9]))
+    })
+}
+
+/// Structs of 64 optional bytes each, of which one is present.
+fn optional_fields() -> Sample {
+    let mut table = Table::default();
+    let byte = table.add_type(UINT8, 0, 0);
+    let wide = table.add_struct(&[[byte, 1]; 64]);
+    let array = table.add_type(ARRAY, wide, 0);
+    longest("64 optional fields, one present", table, array, |room| {
+        counted(room, |index| {
+            [&(1u64 << (index % 64)).to_le_bytes()[..], &[7]].concat()
+        })
     })
 }
 
@@ -278,9 +330,14 @@ pub fn receipt() -> Sample {
 
 /// A frame of a kind for the method 1, 2, 3, as the tables here have it.
 pub fn frame(kind: u32, correlation: u64, payload: &[u8]) -> Vec<u8> {
+    frame_of([1, 2, 3], kind, correlation, payload)
+}
+
+/// A frame of a kind for a method.
+pub fn frame_of(identifiers: [u32; 3], kind: u32, correlation: u64, payload: &[u8]) -> Vec<u8> {
     let header = reference::Header {
         kind,
-        identifiers: [1, 2, 3],
+        identifiers,
         correlation,
     };
     let mut bytes = vec![0; 40 + payload.len()];
@@ -295,7 +352,10 @@ pub fn payloads() -> Vec<Sample> {
         small_structs(),
         string("long string, ASCII", "a"),
         string("long string, two-byte characters", "é"),
+        string("long string, three-byte characters", "水"),
+        string("long string, four-byte characters", "🚰"),
         nested_arrays(),
+        optional_fields(),
         maps("64-pair maps, uint32 keys", 64, WORD, UINT32, |index| {
             (index as u32).to_le_bytes().to_vec()
         }),

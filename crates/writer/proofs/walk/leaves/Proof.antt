@@ -13,7 +13,7 @@ use Rattle.value.specs.Write.{show}
 use Rattle.parts.proofs.Items.{elements-none}
 use Rattle.writer.specs.Emit.{emitAll}
 use Rattle.writer.specs.Leaf.{rowsAt}
-use Rattle.writer.proofs.Steps.{was, as-stopped, accepted-along, onward, walk-done}
+use Rattle.writer.proofs.Steps.{was, as-stopped, as-refused, accepted-along, onward, walk-done, shown-stopped, show-deep}
 use Rattle.writer.proofs.Composites.{element-past, element-stop, element-accepted}
 use Rattle.writer.proofs.walk.leaves.Statement.{statement}
 use Rattle.writer.proofs.walk.leaves.Tie as tie
@@ -37,24 +37,35 @@ leaves-spec =
     (λ c.
     let asked = c .before .before .before .before .pre in
     (refl, asked .0 .inside, asked .0 .behind, refl))
-    -- leaf-requires
-    (λ c κs.
-    let turn = c .before .before in
-    let asked = turn .before .before .before .before .before .pre in
-    let inv = turn .loop .inv in
-    (onward (asked .0) (inv .1) (inv .2) (inv .3) (λ a. element-accepted _ _ (c .before .loop-test .taken) _ (accepted-along _ _ _ _ _ _ _ _ _ (turn .loop .inv .0) a)), asked .1))
-    -- enum-known-number
-    (λ c. search needs)
+    -- refused-requires
+    (λ c κs. search needs)
     -- same-length
-    (λ c.
-    let loop = c .before .before .before .before .before .before .before .before .loop in
-    let leaf = c .before .before .before .before .before .leaf in
-    leaf .kept .1 .1 .1 .0 ∙ loop .inv .3)
+    (λ c. c .before .before .before .loop .inv .3)
     -- returns
     (λ c.
-    let loop = c .before .before .before .before .before .before .before .before .loop in
-    let loop-test = c .before .before .before .before .before .before .before .loop-test in
+    let loop = c .before .before .before .loop in
+    as-refused (c .refused .ensures) (element-stop _ _ (c .before .before .loop-test .taken) _ _ _ _ (shown-stopped _ _ _ _ (show-deep _ _ _ _ _ (c .before .if1 .taken))) ∙ loop .inv .0))
+    -- leaf-requires
+    (λ c κs.
+    let loop = c .before .before .before .loop in
+    let asked = c .before .before .before .before .before .before .before .before .pre in
+    let inv = loop .inv in
+    let some = c .before .if1 .left in (
+      onward (asked .0) (inv .1) (inv .2) (inv .3) (λ a. element-accepted _ _ (c .before .before .loop-test .taken) _ (accepted-along _ _ _ _ _ _ _ _ _ (inv .0) a)),
+      (asked .1 .0, asked .1 .1, asked .1 .2, omega (arith, some)),
+    ))
+    -- enum-known-number
+    (λ c. search needs)
+    -- same-length-2
+    (λ c.
     let leaf = c .before .before .before .before .before .leaf in
+    let loop = c .before .before .before .before .before .before .before .before .before .loop in
+    leaf .kept .1 .1 .1 .0 ∙ loop .inv .3)
+    -- returns-2
+    (λ c.
+    let loop-test = c .before .before .before .before .before .before .before .before .loop-test in
+    let leaf = c .before .before .before .before .before .leaf in
+    let loop = c .before .before .before .before .before .before .before .before .before .loop in
     as-stopped (element-stop _ _ (loop-test .taken) _ _ _ _ (was (leaf .ensures) (c .before .number .given .1) .same) ∙ loop .inv .0))
     -- enum-known-row
     (λ c. search needs)
@@ -64,20 +75,21 @@ leaves-spec =
     (λ c. omega arith)
     -- loop-again
     (λ c.
-    let turn = c .before .before .before .before .before .before .before .before in
-    let asked = turn .before .before .before .before .before .pre in
-    let loop-test = c .before .before .before .before .before .before .before .loop-test in
+    let back = c .before .before .before .before .before .before .before .before .before in
+    let loop-test = c .before .before .before .before .before .before .before .before .loop-test in
+    let loop = back .loop in
+    let asked = back .before .before .before .before .before .pre in
     let leaf = c .before .before .before .before .before .leaf in
-    let small : length (turn .loop .out) ≤ 16384 = rw (turn .loop .inv .3) (asked .0 .small) in
+    let small : length (loop .out) ≤ 16384 = rw (loop .inv .3) (asked .0 .small) in
     let w = was (leaf .ensures) (c .before .row .given .1) in (
-      element-past _ _ (loop-test .taken) _ _ _ _ small (w .same) ∙ turn .loop .inv .0,
+      element-past _ _ (loop-test .taken) _ _ _ _ small (w .same) ∙ loop .inv .0,
       w .within .0,
       w .within .1,
-      leaf .kept .1 .1 .1 .0 ∙ turn .loop .inv .3,
+      leaf .kept .1 .1 .1 .0 ∙ loop .inv .3,
     ))
-    -- same-length-2
+    -- same-length-3
     (λ c. c .before .loop .inv .3)
-    -- returns-2
+    -- returns-3
     (λ c.
     let args = c .before .before .before .before .before .before .args in
     let inv = c .before .loop .inv in

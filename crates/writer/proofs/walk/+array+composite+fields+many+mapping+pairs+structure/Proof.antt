@@ -1,0 +1,1389 @@
+-- The proof of the cycle of walkers. A composite is given the depth of what it holds, so the measure is four times the depth:
+-- one more for the pairs of a long map, two for an array, a map or a struct, and three for the choice between them.
+-- Assumes nothing.
+use borrow.Author.Needs.{needs}
+use mathlib.Core.Path.{_≡_, refl, sym, ap, _∙_}
+use mathlib.Core.Logic.{⊎-elim}
+use mathlib.Core.List.{[]}
+use Prim.Native.Nat.{ℕ, _+_, _-_, _*_, _/_, _≤_, _<_}
+use native.Mathlib.Omega.{arith}
+use lib.ListN.{length, replicate}
+use Rattle.schema.specs.declared.TypeRow.{TypeRow}
+use Rattle.schema.specs.Table.{shape}
+use Rattle.schema.specs.File.{tableOf}
+use Rattle.schema.proofs.Checks.{good-shaped, good-laid}
+use Rattle.value.specs.Read.{plainItem, pairs, present, walk}
+use Rattle.value.specs.Write.{show}
+use Rattle.parts.specs.Shape.{fieldsFrom}
+use Rattle.parts.specs.Keys.{keysIn, Kept}
+use Rattle.parts.proofs.Keys.{keys-none}
+use Rattle.parts.proofs.Tables.{few-fields, field-row, struct-row, array-row, map-row, map-value, shape-array, shape-map, shape-struct, shape-past, shape-leaf}
+use Rattle.parts.proofs.Presence.{length-fields, present-end}
+use Rattle.parts.proofs.Items.{elements-none, pairs-none}
+use Rattle.writer.specs.Emit.{emit, emitAll}
+use Rattle.writer.specs.Leaf.{rowsAt}
+use Rattle.writer.proofs.Steps.{was, renamed, as-stopped, as-refused, shown-stopped, shown-refused, accepted-along, onward, walk-done}
+use Rattle.writer.proofs.Steps.{show-deep, accepted-deeper, walked-deeper, leaf-accepted, show-unknown}
+use Rattle.writer.proofs.Composites.{leaf-failed, leaf-in, leaf-read, leaf-past, row-absent, due-in, array-start, array-accepted, Came, came-by}
+use Rattle.writer.proofs.Composites.{map-many, map-start, map-accepted, struct-known, struct-fault, struct-unknown, struct-miscounted, struct-start, struct-accepted}
+use Rattle.writer.proofs.Composites.{element-past, element-stop, element-accepted, Turned, field-stop, field-accepted, field-read, field-absent}
+use Rattle.writer.proofs.Composites.{pair-key-accepted, pair-key-stop, pair-known, pair-value-accepted, pair-again, pair-value-stop, pair-value-past, pairs-first}
+use borrow.Fn.Kinds.{In}
+use borrow.Fn.PlainCycle.{Measures, is, falls, and}
+use Rattle.writer.proofs.walk.array.Reads as array
+use Rattle.writer.proofs.walk.array.Kinds as array-kinds
+use Rattle.writer.proofs.walk.+array+composite+fields+many+mapping+pairs+structure.Lts-array as array-lts
+use Rattle.writer.proofs.walk.composite.Reads as composite
+use Rattle.writer.proofs.walk.composite.Kinds as composite-kinds
+use Rattle.writer.proofs.walk.+array+composite+fields+many+mapping+pairs+structure.Lts-composite as composite-lts
+use Rattle.writer.proofs.walk.fields.Reads as fields
+use Rattle.writer.proofs.walk.fields.Kinds as fields-kinds
+use Rattle.writer.proofs.walk.+array+composite+fields+many+mapping+pairs+structure.Lts-fields as fields-lts
+use Rattle.writer.proofs.walk.many.Reads as many
+use Rattle.writer.proofs.walk.many.Kinds as many-kinds
+use Rattle.writer.proofs.walk.+array+composite+fields+many+mapping+pairs+structure.Lts-many as many-lts
+use Rattle.writer.proofs.walk.mapping.Reads as mapping
+use Rattle.writer.proofs.walk.mapping.Kinds as mapping-kinds
+use Rattle.writer.proofs.walk.+array+composite+fields+many+mapping+pairs+structure.Lts-mapping as mapping-lts
+use Rattle.writer.proofs.walk.pairs.Reads as pairs
+use Rattle.writer.proofs.walk.pairs.Kinds as pairs-kinds
+use Rattle.writer.proofs.walk.+array+composite+fields+many+mapping+pairs+structure.Lts-pairs as pairs-lts
+use Rattle.writer.proofs.walk.structure.Reads as structure
+use Rattle.writer.proofs.walk.structure.Kinds as structure-kinds
+use Rattle.writer.proofs.walk.+array+composite+fields+many+mapping+pairs+structure.Lts-structure as structure-lts
+use Rattle.schema.proofs.access.type_row.Reads as type-row-reads
+use Rattle.schema.proofs.file.layout_of.Reads as layout-of-reads
+use Rattle.schema.proofs.rows.field_row.Reads as field-row-reads
+use Rattle.schema.proofs.rows.row.Reads as row-reads
+use Rattle.parts.proofs.key.is_repeated.Reads as is-repeated-reads
+use Rattle.writer.proofs.leaf.leaf_row.Reads as leaf-row-reads
+use Rattle.writer.proofs.leaf.presence.Reads as presence-reads
+use Rattle.writer.proofs.leaf.row_due.Reads as row-due-reads
+use Rattle.writer.proofs.put.put_bits.Reads as put-bits-reads
+use Rattle.writer.proofs.put.put_content.Reads as put-content-reads
+use Rattle.writer.proofs.put.put_number.Reads as put-number-reads
+use Rattle.writer.proofs.walk.leaves.Reads as leaves-reads
+use Rattle.writer.proofs.walk.refused.Reads as refused-reads
+use Rattle.writer.proofs.walk.+array+composite+fields+many+mapping+pairs+structure.{statement}
+use Rattle.writer.proofs.walk.+array+composite+fields+many+mapping+pairs+structure.Tie.{close}
+
+abbrev μ-array : Measures 4 array-kinds.ps ℕ
+μ-array κs a = 4 * a .1 .1 .1 .1 .1 .1 .1 .1 .0 + 2
+
+abbrev μ-composite : Measures 4 composite-kinds.ps ℕ
+μ-composite κs a = 4 * a .1 .1 .1 .1 .1 .1 .1 .1 .0 + 3
+
+abbrev μ-fields : Measures 4 fields-kinds.ps ℕ
+μ-fields κs a = 4 * a .1 .1 .1 .1 .1 .1 .1 .1 .1 .0
+
+abbrev μ-many : Measures 4 many-kinds.ps ℕ
+μ-many κs a = 4 * a .1 .1 .1 .1 .1 .1 .1 .1 .1 .0 + 1
+
+abbrev μ-mapping : Measures 4 mapping-kinds.ps ℕ
+μ-mapping κs a = 4 * a .1 .1 .1 .1 .1 .1 .1 .1 .1 .0 + 2
+
+abbrev μ-pairs : Measures 5 pairs-kinds.ps ℕ
+μ-pairs κs a = 4 * a .1 .1 .1 .1 .1 .1 .1 .1 .1 .1 .0
+
+abbrev μ-structure : Measures 4 structure-kinds.ps ℕ
+μ-structure κs a = 4 * a .1 .1 .1 .1 .1 .1 .1 .1 .1 .0 + 2
+
+abbrev array-at : ℕ → In 4 array-kinds.ps
+array-at t = and 4 array-kinds.ps (is 4 array-kinds.ps μ-array t) array.Pre
+
+abbrev array-below : ℕ → In 4 array-kinds.ps
+array-below t = and 4 array-kinds.ps (falls 4 array-kinds.ps _<_ μ-array t) array.Pre
+
+abbrev composite-at : ℕ → In 4 composite-kinds.ps
+composite-at t = and 4 composite-kinds.ps (is 4 composite-kinds.ps μ-composite t) composite.Pre
+
+abbrev composite-below : ℕ → In 4 composite-kinds.ps
+composite-below t = and 4 composite-kinds.ps (falls 4 composite-kinds.ps _<_ μ-composite t) composite.Pre
+
+abbrev fields-at : ℕ → In 4 fields-kinds.ps
+fields-at t = and 4 fields-kinds.ps (is 4 fields-kinds.ps μ-fields t) fields.Pre
+
+abbrev fields-below : ℕ → In 4 fields-kinds.ps
+fields-below t = and 4 fields-kinds.ps (falls 4 fields-kinds.ps _<_ μ-fields t) fields.Pre
+
+abbrev many-at : ℕ → In 4 many-kinds.ps
+many-at t = and 4 many-kinds.ps (is 4 many-kinds.ps μ-many t) many.Pre
+
+abbrev many-below : ℕ → In 4 many-kinds.ps
+many-below t = and 4 many-kinds.ps (falls 4 many-kinds.ps _<_ μ-many t) many.Pre
+
+abbrev mapping-at : ℕ → In 4 mapping-kinds.ps
+mapping-at t = and 4 mapping-kinds.ps (is 4 mapping-kinds.ps μ-mapping t) mapping.Pre
+
+abbrev mapping-below : ℕ → In 4 mapping-kinds.ps
+mapping-below t = and 4 mapping-kinds.ps (falls 4 mapping-kinds.ps _<_ μ-mapping t) mapping.Pre
+
+abbrev pairs-at : ℕ → In 5 pairs-kinds.ps
+pairs-at t = and 5 pairs-kinds.ps (is 5 pairs-kinds.ps μ-pairs t) pairs.Pre
+
+abbrev pairs-below : ℕ → In 5 pairs-kinds.ps
+pairs-below t = and 5 pairs-kinds.ps (falls 5 pairs-kinds.ps _<_ μ-pairs t) pairs.Pre
+
+abbrev structure-at : ℕ → In 4 structure-kinds.ps
+structure-at t = and 4 structure-kinds.ps (is 4 structure-kinds.ps μ-structure t) structure.Pre
+
+abbrev structure-below : ℕ → In 4 structure-kinds.ps
+structure-below t = and 4 structure-kinds.ps (falls 4 structure-kinds.ps _<_ μ-structure t) structure.Pre
+
+-- what is asked of each walker's calls, and learnt from them
+
+abbrev array-calls : ℕ → array-lts.Claims
+array-calls t = (
+  row-due-reads.Asked,
+  row-due-reads.Learnt,
+  refused-reads.Asked,
+  refused-reads.Learnt,
+  put-number-reads.Asked,
+  put-number-reads.Learnt,
+  type-row-reads.Asked,
+  type-row-reads.Learnt,
+  leaves-reads.Asked,
+  leaves-reads.Learnt,
+  composite-below t,
+  composite.Post,
+)
+
+abbrev composite-calls : ℕ → composite-lts.Claims
+composite-calls t = (
+  array-below t,
+  array.Post,
+  mapping-below t,
+  mapping.Post,
+  structure-below t,
+  structure.Post,
+  refused-reads.Asked,
+  refused-reads.Learnt,
+)
+
+abbrev fields-calls : ℕ → fields-lts.Claims
+fields-calls t = (
+  layout-of-reads.Asked,
+  layout-of-reads.Learnt,
+  refused-reads.Asked,
+  refused-reads.Learnt,
+  field-row-reads.Asked,
+  field-row-reads.Learnt,
+  row-reads.Asked,
+  row-reads.Learnt,
+  composite-below t,
+  composite.Post,
+  leaf-row-reads.Asked,
+  leaf-row-reads.Learnt,
+  put-content-reads.Asked,
+  put-content-reads.Learnt,
+)
+
+abbrev many-calls : ℕ → many-lts.Claims
+many-calls t = (
+  pairs-below t,
+  pairs.Post,
+)
+
+abbrev mapping-calls : ℕ → mapping-lts.Claims
+mapping-calls t = (
+  row-due-reads.Asked,
+  row-due-reads.Learnt,
+  refused-reads.Asked,
+  refused-reads.Learnt,
+  put-number-reads.Asked,
+  put-number-reads.Learnt,
+  pairs-below t,
+  pairs.Post,
+  many-below t,
+  many.Post,
+)
+
+abbrev pairs-calls : ℕ → pairs-lts.Claims
+pairs-calls t = (
+  type-row-reads.Asked,
+  type-row-reads.Learnt,
+  refused-reads.Asked,
+  refused-reads.Learnt,
+  leaf-row-reads.Asked,
+  leaf-row-reads.Learnt,
+  is-repeated-reads.Asked,
+  is-repeated-reads.Learnt,
+  put-content-reads.Asked,
+  put-content-reads.Learnt,
+  composite-below t,
+  composite.Post,
+)
+
+abbrev structure-calls : ℕ → structure-lts.Claims
+structure-calls t = (
+  row-due-reads.Asked,
+  row-due-reads.Learnt,
+  refused-reads.Asked,
+  refused-reads.Learnt,
+  presence-reads.Asked,
+  presence-reads.Learnt,
+  put-bits-reads.Asked,
+  put-bits-reads.Learnt,
+  fields-below t,
+  fields.Post,
+)
+
+-- ---- invariants: what is left ends as the whole does
+
+abbrev array-Inv-loop : array-lts.InvT-loop
+array-Inv-loop s sheet source out₀ ty elem row pos depth judge count next t kind left₀ here₀ to₀ out left here to =
+    (emitAll (shape (tableOf s)) (replicate left (plainItem elem)) (walk (show (shape (tableOf s)) source depth) [] (replicate left (plainItem elem)) (rowsAt sheet here)) to out
+    ≡ emitAll (shape (tableOf s)) (replicate left₀ (plainItem elem)) (walk (show (shape (tableOf s)) source depth) [] (replicate left₀ (plainItem elem)) (rowsAt sheet here₀)) to₀ out₀)
+    × (here ≤ length sheet / 4) × (to ≤ 16385) × (length out ≡ length out₀)
+
+abbrev array-μ-loop : array-lts.MeasureT-loop
+array-μ-loop s sheet source out₀ ty elem row pos depth judge count next t kind left₀ here₀ to₀ out left here to = left
+
+abbrev fields-Inv-loop : fields-lts.InvT-loop
+fields-Inv-loop s sheet source out₀ first n known start pos depth judge l i₀ left₀ bits₀ here₀ to₀ out i left bits here to =
+    (emitAll (shape (tableOf s)) (present (fieldsFrom (tableOf s) i left) bits)
+    (walk (show (shape (tableOf s)) source depth) [] (present (fieldsFrom (tableOf s) i left) bits) (rowsAt sheet here)) to out
+    ≡ emitAll (shape (tableOf s)) (present (fieldsFrom (tableOf s) first n) known)
+    (walk (show (shape (tableOf s)) source depth) [] (present (fieldsFrom (tableOf s) first n) known) (rowsAt sheet start)) pos out₀)
+    × (here ≤ length sheet / 4) × (to ≤ 16385) × (length out ≡ length out₀) × (i + left ≤ length (tableOf s .fields))
+
+abbrev fields-μ-loop : fields-lts.MeasureT-loop
+fields-μ-loop s sheet source out₀ first n known start pos depth judge l i₀ left₀ bits₀ here₀ to₀ out i left bits here to = left
+
+abbrev pairs-Inv-loop : pairs-lts.InvT-loop
+pairs-Inv-loop s sheet source out₀ keys₀ key val n start pos depth judge k v i₀ here₀ to₀ out keys i here to =
+    (emitAll (shape (tableOf s)) (pairs (n - i) key val) (walk (show (shape (tableOf s)) source depth) (keysIn source keys i) (pairs (n - i) key val) (rowsAt sheet here)) to out
+    ≡ emitAll (shape (tableOf s)) (pairs n key val) (walk (show (shape (tableOf s)) source depth) [] (pairs n key val) (rowsAt sheet start)) pos out₀)
+    × (here ≤ length sheet / 4) × (to ≤ 16385) × (length out ≡ length out₀) × (i ≤ n) × (length keys ≡ length keys₀) × Kept source keys judge i
+
+abbrev pairs-μ-loop : pairs-lts.MeasureT-loop
+pairs-μ-loop s sheet source out₀ keys₀ key val n start pos depth judge k v i₀ here₀ to₀ out keys i here to = n - i
+
+array-spec : {M : Type 1} (t : ℕ) → array-lts.Closed (array-calls t) (array-at t) array.Post M
+array-spec t =
+    array-lts.spec (array-calls t) (array-at t) array.Post
+    array-Inv-loop
+    array-μ-loop
+    -- row-due-requires
+    (λ c κs. search needs)
+    -- enum-told
+    (λ c. search needs)
+    -- refused-requires
+    (λ c κs. search needs)
+    -- enum-known-count
+    (λ c. search needs)
+    -- put-number-requires
+    (λ c κs.
+    let pre = c .before .before .before .before .before .before .before .before .before .pre in
+    pre .1 .0 .behind)
+    -- type-row-requires
+    (λ c κs.
+    let pre = c .before .before .before .before .before .before .before .before .before .before .before .before .pre in
+    pre .1 .0 .good)
+    -- cast-kind
+    (λ c. search needs)
+    -- add-leaves
+    (λ c.
+    let back = c .before .before .before .before .before .before .before .before .before in
+    let row-due = back .before .before .row-due in
+    let count = back .count in
+    let due = due-in (row-due .ensures) (count .given .1) in
+    let sound = back .before .before .before .before .before .before .before .good in
+    omega (arith, due .0, sound .1 .0))
+    -- leaves-requires
+    (λ c κs.
+    let back = c .before .before .before .before .before .before .before .before .before in
+    let count = back .count in
+    let asked = back .before .before .before .before .before .before .before .pre in
+    let row-due = back .before .before .row-due in
+    let counted = count .given .1 in
+    let put-number = c .before .before .before .before .before .before .put-number in
+    let type-row = c .before .before .before .type-row in
+    let due = due-in (row-due .ensures) counted in (
+      onward (asked .1 .0) (omega (arith, due .0)) (put-number .ensures .capped) (put-number .kept .0) (array-accepted (row-due .ensures) counted _ _ _ (asked .1 .1)),
+      (rw (type-row .ensures) (asked .1 .2), ap (λ (r : TypeRow). r .kind) (type-row .ensures), c .before .if1 .taken),
+    ))
+    -- same-length
+    (λ c.
+    let put-number = c .before .before .before .before .before .before .before .before .before .put-number in
+    c .before .before .leaves .kept .1 .1 .1 .0 ∙ put-number .kept .0)
+    -- returns
+    (λ c.
+    let back = c .before .before .before .before .before .before .before .before .before in
+    let farther = back .before .before .before .before .before .before .before .before .before in
+    let row-due = back .before .before .before .before .before .row-due in
+    let count = back .before .before .before .count in
+    let asked = farther .before .pre in
+    let put-number = back .put-number in
+    renamed (array-start (row-due .ensures) (count .given .1) _ _ _ (asked .1 .1) (asked .1 .0 .small) (put-number .ensures)) (c .before .before .leaves .ensures))
+    -- add-here
+    (λ c.
+    let back = c .before .before .before .before .before .before .before .before .before in
+    let row-due = back .before .row-due in
+    let count = c .before .before .before .before .before .before .before .before .count in
+    let due = due-in (row-due .ensures) (count .given .1) in
+    let sound = back .before .before .before .before .before .before .good in
+    omega (arith, due .0, sound .1 .0))
+    -- loop-holds
+    (λ c.
+    let row-due = c .before .before .before .before .before .before .before .before .before .before .row-due in
+    let count = c .before .before .before .before .before .before .before .before .count in
+    let put-number = c .before .before .before .before .before .put-number in
+    let due = due-in (row-due .ensures) (count .given .1) in
+    (refl, omega (arith, due .0), put-number .ensures .capped, refl))
+    -- refused-requires-2
+    (λ c κs. search needs)
+    -- same-length-2
+    (λ c.
+    let put-number = c .before .before .before .before .before .before .before .before .before .put-number in
+    c .before .before .before .loop .inv .3 ∙ put-number .kept .0)
+    -- returns-2
+    (λ c.
+    let back = c .before .before .before .before .before .before .before .before .before in
+    let farther = back .before .before .before .before .before .before .before .before .before in
+    let row-due = back .before .before .before .before .before .row-due in
+    let count = back .before .before .before .count in
+    let asked = farther .before .pre in
+    let loop = c .before .before .before .loop in
+    let put-number = back .put-number in
+    as-refused (c .refused2 .ensures)
+    (element-stop _ _ (c .before .before .loop-test .taken) _ _ _ _ (shown-stopped _ _ _ _ (show-deep _ _ _ _ _ (c .before .if2 .taken))) ∙ loop .inv .0
+    ∙ array-start (row-due .ensures) (count .given .1) _ _ _ (asked .1 .1) (asked .1 .0 .small) (put-number .ensures)))
+    -- sub-composite
+    (λ c. search needs)
+    -- composite-requires
+    (λ c κs.
+    let back = c .before .before .before .before .before .before .before .before .before in
+    let farther = back .before .before .before .before .before .before .before .before .before in
+    let type-row-at = c .before .before .before .before .before .before .type-row in
+    let put-number = back .put-number in
+    let row-due = back .before .before .before .before .before .row-due in
+    let count = back .before .before .before .count in
+    let asked = farther .before .pre in
+    let loop = c .before .before .before .loop in
+    let inv = loop .inv in
+    let type-row = type-row-at in (
+      omega (arith, asked .0),
+      (
+        onward (asked .1 .0) (inv .1) (inv .2) (inv .3 ∙ put-number .kept .0)
+            (λ a.
+            accepted-deeper _ _ (c .before .if2 .left) _ _
+            (element-accepted _ _ (c .before .before .loop-test .taken) _
+            (accepted-along _ _ _ _ _ _ _ _ _ (inv .0) (array-accepted (row-due .ensures) (count .given .1) _ _ _ (asked .1 .1) a)))),
+        type-row .ensures,
+        omega (arith, c .before .before .before .before .if1 .left),
+      ),
+    ))
+    -- enum-known-number
+    (λ c. search needs)
+    -- same-length-3
+    (λ c.
+    let back = c .before .before .before .before .before .before .before .before .before in
+    let inner = c .before .before .before .before .before .composite in
+    let loop = back .loop in
+    let put-number = back .before .before .before .before .before .before .put-number in
+    inner .kept .1 .1 .1 .0 ∙ loop .inv .3 ∙ put-number .kept .0)
+    -- returns-3
+    (λ c.
+    let back = c .before .before .before .before .before .before .before .before .before in
+    let farther = back .before .before .before .before .before .before .before .before .before in
+    let if2 = c .before .before .before .before .before .before .before .if2 in
+    let inner = c .before .before .before .before .before .composite in
+    let loop-test = c .before .before .before .before .before .before .before .before .loop-test in
+    let row-due = farther .before .before .row-due in
+    let count = farther .count in
+    let asked = farther .before .before .before .before .before .before .before .pre in
+    let loop = back .loop in
+    let put-number = back .before .before .before .before .before .before .put-number in
+    let w = walked-deeper _ _ (if2 .left) _ _ _ _ (was (inner .ensures) (c .before .number .given .1)) in
+    as-stopped
+    (element-stop _ _ (loop-test .taken) _ _ _ _ (w .same) ∙ loop .inv .0
+    ∙ array-start (row-due .ensures) (count .given .1) _ _ _ (asked .1 .1) (asked .1 .0 .small) (put-number .ensures)))
+    -- enum-known-row
+    (λ c. search needs)
+    -- sub-left
+    (λ c. search needs)
+    -- loop-less
+    (λ c. omega arith)
+    -- loop-again
+    (λ c.
+    let back = c .before .before .before .before .before .before .before .before .before in
+    let farther = back .before .before .before .before .before .before .before .before .before in
+    let put-number = back .before .before .before .before .before .before .put-number in
+    let if2 = c .before .before .before .before .before .before .before .if2 in
+    let loop-test = c .before .before .before .before .before .before .before .before .loop-test in
+    let asked = farther .before .before .before .before .before .before .before .pre in
+    let loop = back .loop in
+    let composite = c .before .before .before .before .before .composite in
+    let small : length (loop .out) ≤ 16384 = rw (loop .inv .3 ∙ put-number .kept .0) (asked .1 .0 .small) in
+    let w = walked-deeper _ _ (if2 .left) _ _ _ _ (was (composite .ensures) (c .before .row .given .1)) in (
+      element-past _ _ (loop-test .taken) _ _ _ _ small (w .same) ∙ loop .inv .0,
+      w .within .0,
+      w .within .1,
+      composite .kept .1 .1 .1 .0 ∙ loop .inv .3,
+    ))
+    -- returns-4
+    (λ c. shown-refused _ _ _ _ (c .refused .ensures) (row-absent (c .before .before .before .row-due .ensures) _ _ _ (c .before .enum-told .given .1)))
+    -- same-length-4
+    (λ c.
+    let put-number = c .before .before .before .before .before .before .before .put-number in
+    c .before .loop .inv .3 ∙ put-number .kept .0)
+    -- returns-5
+    (λ c.
+    let back = c .before .before .before .before .before .before .before .before .before in
+    let row-due = back .before .before .before .row-due in
+    let count = back .before .count in
+    let args = back .before .before .before .before .before .before .before .before .args in
+    let asked = back .before .before .before .before .before .before .before .before .pre in
+    let loop = c .before .loop in
+    let put-number = c .before .before .before .before .before .before .before .put-number in
+    walk-done _ _ _ (elements-none (args .elem) (loop .left) (c .loop-test .left))
+    (loop .inv .0 ∙ array-start (row-due .ensures) (count .given .1) _ _ _ (asked .1 .1) (asked .1 .0 .small) (put-number .ensures)) (loop .inv .1) (loop .inv .2))
+
+composite-spec : {M : Type 1} (t : ℕ) → composite-lts.Closed (composite-calls t) (composite-at t) composite.Post M
+composite-spec t =
+    composite-lts.spec (composite-calls t) (composite-at t) composite.Post
+    -- array-requires
+    (λ c κs.
+    let args = c .before .before .before .before .before .before .args in
+    let asked = c .before .before .before .before .before .before .pre in
+    let pre = asked .1 .0 in
+    let kind = c .before .if1 .taken in
+    (omega (arith, asked .0), (pre, shape-array (tableOf (args .s .now)) (args .ty) _ (asked .1 .1) kind, array-row (args .s .now) (pre .good) (args .ty) _ (asked .1 .1) kind)))
+    -- same-length
+    (λ c. c .before .before .array .kept .1 .1 .1 .0)
+    -- returns
+    (λ c. c .before .before .array .ensures)
+    -- mapping-requires
+    (λ c κs.
+    let args = c .before .before .before .before .before .before .before .args in
+    let asked = c .before .before .before .before .before .before .before .pre in
+    let pre = asked .1 .0 in
+    let kind = c .before .if2 .taken in
+    let row = map-row (args .s .now) (pre .good) (args .ty) _ (asked .1 .1) kind in (
+      omega (arith, asked .0),
+      ((pre, shape-map (tableOf (args .s .now)) (args .ty) _ (asked .1 .1) kind), (row .0, row .1, map-value (args .s .now) (pre .good) (args .ty) _ (asked .1 .1) kind)),
+    ))
+    -- same-length-2
+    (λ c. c .before .before .mapping .kept .1 .1 .1 .0)
+    -- returns-2
+    (λ c. c .before .before .mapping .ensures)
+    -- cast-structure
+    (λ c. search needs)
+    -- cast-structure-2
+    (λ c. search needs)
+    -- structure-requires
+    (λ c κs.
+    let args = c .before .before .before .before .before .before .before .before .before .before .args in
+    let asked = c .before .before .before .before .before .before .before .before .before .before .pre in
+    let pre = asked .1 .0 in
+    let kind = c .before .before .before .if3 .taken in
+    (omega (arith, asked .0), ((pre, shape-struct (tableOf (args .s .now)) (args .ty) _ (asked .1 .1) kind), struct-row (args .s .now) (pre .good) (args .ty) _ (asked .1 .1) kind)))
+    -- same-length-3
+    (λ c. c .before .before .structure .kept .1 .1 .1 .0)
+    -- returns-3
+    (λ c. c .before .before .structure .ensures)
+    -- refused-requires
+    (λ c κs. search needs)
+    -- returns-4
+    (λ c.
+    let args = c .before .before .before .before .before .before .before .before .args in
+    let asked = c .before .before .before .before .before .before .before .before .pre in
+    let past : 16 < args .t .kind = omega (arith, asked .1 .2, c .before .before .before .if1 .left, c .before .before .if2 .left, c .before .if3 .left) in
+    shown-refused _ _ _ _ (c .refused .ensures)
+    (show-unknown _ _ (λ e. absurd (omega (arith, e))) _ _ _ (shape-past (tableOf (args .s .now)) (args .ty) _ (asked .1 .1) past)))
+
+fields-spec : {M : Type 1} (t : ℕ) → fields-lts.Closed (fields-calls t) (fields-at t) fields.Post M
+fields-spec t =
+    fields-lts.spec (fields-calls t) (fields-at t) fields.Post
+    fields-Inv-loop
+    fields-μ-loop
+    -- layout-of-requires
+    (λ c κs. good-shaped _ (c .before .before .before .before .pre .1 .0 .good))
+    -- loop-holds
+    (λ c.
+    let asked = c .before .before .before .before .before .pre in
+    (refl, asked .1 .0 .inside, asked .1 .0 .behind, refl, asked .1 .1))
+    -- refused-requires
+    (λ c κs. search needs)
+    -- same-length
+    (λ c. c .before .before .before .before .loop .inv .3)
+    -- returns
+    (λ c.
+    let args = c .before .before .before .before .before .before .before .before .before .before .args in
+    let loop = c .before .before .before .before .loop in
+    as-refused (c .refused .ensures)
+    (field-stop _ (args .sheet .now) (tableOf (args .s .now)) _ _ (loop .here) (c .before .before .before .loop-test .taken) (loop .inv .4) refl (c .before .before .if1 .taken) _ _ _
+    (shown-stopped _ _ _ _ (show-deep _ _ _ _ _ (c .before .if2 .taken))) ∙ loop .inv .0))
+    -- field-row-requires
+    (λ c κs.
+    let pre = c .before .before .before .before .before .before .before .before .before .pre in
+    good-laid _ _ (pre .1 .0 .good) (c .before .before .before .before .layout-of .ensures))
+    -- cast-row
+    (λ c. search needs)
+    -- row-requires
+    (λ c κs.
+    let pre = c .before .before .before .before .before .before .before .before .before .before .before .pre in
+    let layout-of = c .before .before .before .before .before .before .layout-of in
+    good-laid _ _ (pre .1 .0 .good) (layout-of .ensures))
+    -- sub-composite
+    (λ c. search needs)
+    -- composite-requires
+    (λ c κs.
+    let back = c .before .before .before .before .before .before .before .before .before in
+    let if2 = c .before .before .before .before .before .before .if2 in
+    let loop-test = c .before .before .before .before .before .before .before .before .loop-test in
+    let field = c .before .before .before .before .before .field-row in
+    let if1 = c .before .before .before .before .before .before .before .if1 in
+    let args = back .before .before .before .before .before .before .args in
+    let asked = back .before .before .before .before .before .before .pre in
+    let loop = back .loop in
+    let inv = loop .inv in
+    let cells = args .sheet .now in
+    let T = tableOf (args .s .now) in (
+      omega (arith, asked .0),
+      (
+        onward (asked .1 .0) (inv .1) (inv .2) (inv .3)
+            (λ a.
+            accepted-deeper _ _ (if2 .left) _ _
+            (field-accepted _ cells T _ _ (loop .here) (loop-test .taken) (inv .4) (field .ensures) (if1 .taken) (accepted-along _ _ _ _ _ _ _ _ _ (inv .0) a))),
+        c .before .before .before .row .ensures,
+        c .before .if3 .taken,
+      ),
+    ))
+    -- enum-known-number
+    (λ c. search needs)
+    -- same-length-2
+    (λ c.
+    let back = c .before .before .before .before .before .before .before .before .before in
+    let inner = c .before .before .before .before .before .composite in
+    let loop = back .before .before .before .before .before .before .loop in
+    inner .kept .1 .1 .1 .0 ∙ loop .inv .3)
+    -- returns-2
+    (λ c.
+    let back = c .before .before .before .before .before .before .before .before .before in
+    let farther = back .before .before .before .before .before .before .before .before .before in
+    let if2 = back .before .before .before .if2 in
+    let inner = c .before .before .before .before .before .composite in
+    let loop-test = back .before .before .before .before .before .loop-test in
+    let field = back .before .before .field-row in
+    let if1 = back .before .before .before .before .if1 in
+    let args = farther .before .before .before .args in
+    let loop = back .before .before .before .before .before .before .loop in
+    let w = walked-deeper _ _ (if2 .left) _ _ _ _ (was (inner .ensures) (c .before .number .given .1)) in
+    as-stopped
+    (field-stop _ (args .sheet .now) (tableOf (args .s .now)) _ _ (loop .here) (loop-test .taken) (loop .inv .4) (field .ensures) (if1 .taken) _ _ _ (w .same) ∙ loop .inv .0))
+    -- enum-known-row
+    (λ c. search needs)
+    -- cast-leaf-row
+    (λ c. search needs)
+    -- leaf-row-requires
+    (λ c κs.
+    let back = c .before .before .before .before .before .before .before .before .before in
+    let loop-test = c .before .before .before .before .before .before .before .before .loop-test in
+    let if2 = c .before .before .before .before .before .before .if2 in
+    let if1 = c .before .before .before .before .before .before .before .if1 in
+    let args = back .before .before .before .before .before .before .args in
+    let asked = back .before .before .before .before .before .before .pre in
+    let loop = back .loop in
+    let f = c .before .before .before .before .before .field-row in
+    let t = c .before .before .before .row in
+    let cells = args .sheet .now in
+    let T = tableOf (args .s .now) in
+    let other = field-row (args .s .now) (asked .1 .0 .good) (loop .i) (loop .left) (loop-test .taken) (loop .inv .4) (f .result) (f .ensures) (t .result) (t .ensures) in
+    let kind = shape-leaf T (f .result .ty) (t .result) (t .ensures) other (omega (arith, c .before .if3 .left)) in
+    λ j.
+    leaf-accepted (shape T) _ (if2 .left) _ _ kind
+    (field-accepted _ cells T _ _ (loop .here) (loop-test .taken) (loop .inv .4) (f .ensures) (if1 .taken)
+    (accepted-along _ _ _ _ _ _ _ _ _ (loop .inv .0) (asked .1 .0 .judged j))))
+    -- enum-known-number-2
+    (λ c. search needs)
+    -- refused-requires-2
+    (λ c κs. search needs)
+    -- same-length-3
+    (λ c.
+    let back = c .before .before .before .before .before .before .before .before .before in
+    let loop = back .before .before .before .before .before .loop in
+    loop .inv .3)
+    -- returns-3
+    (λ c.
+    let back = c .before .before .before .before .before .before .before .before .before in
+    let farther = back .before .before .before .before .before .before .before .before .before in
+    let loop-test = back .before .before .before .before .loop-test in
+    let if3 = c .before .before .before .before .before .before .if3 in
+    let if2 = back .before .before .if2 in
+    let if1 = back .before .before .before .if1 in
+    let args = farther .before .before .args in
+    let asked = farther .before .before .pre in
+    let loop = back .before .before .before .before .before .loop in
+    let f = back .before .field-row in
+    let t = c .before .before .before .before .before .before .before .before .row in
+    let cells = args .sheet .now in
+    let T = tableOf (args .s .now) in
+    let other = field-row (args .s .now) (asked .1 .0 .good) (loop .i) (loop .left) (loop-test .taken) (loop .inv .4) (f .result) (f .ensures) (t .result) (t .ensures) in
+    let kind = shape-leaf T (f .result .ty) (t .result) (t .ensures) other (omega (arith, if3 .left)) in
+    let failed = leaf-failed (c .before .before .before .before .leaf-row .ensures) (shape T) kind (if2 .left) (c .before .before .number2 .given .1) in
+    as-refused (c .refused2 .ensures)
+    (field-stop _ cells T _ _ (loop .here) (loop-test .taken) (loop .inv .4) (f .ensures) (if1 .taken) _ _ _ (shown-stopped _ _ _ _ failed) ∙ loop .inv .0))
+    -- enum-known-place
+    (λ c. search needs)
+    -- cast-put-content
+    (λ c. search needs)
+    -- put-content-requires
+    (λ c κs.
+    let back = c .before .before .before .before .before .before .before .before .before in
+    let farther = back .before .before .before .before .before .before .before .before .before in
+    let leaf-row = c .before .before .before .before .before .leaf-row in
+    let asked = farther .before .before .before .pre in
+    let loop = back .before .before .before .before .before .before .loop in
+    let own = leaf-in (leaf-row .ensures) (c .before .before .before .place .given .1) in
+    (loop .inv .2, rw (loop .inv .3) (asked .1 .0 .small), own .3))
+    -- add-here
+    (λ c.
+    let back = c .before .before .before .before .before .before .before .before .before in
+    let farther = back .before .before .before .before .before .before .before .before .before in
+    let leaf-row = c .before .before .before .before .before .before .before .before .leaf-row in
+    let at = c .before .before .before .before .before .before .place in
+    let own = leaf-in (leaf-row .ensures) (at .given .1) in
+    let sound = farther .before .before .before .before .before .before .good in
+    omega (arith, own .0, sound .1 .0))
+    -- add-i
+    (λ c.
+    let pre = c .before .before .before .before .before .before .before .before .pre in
+    let inv = c .before .before .loop .inv in
+    let h = few-fields _ (pre .1 .0 .good) in omega (arith, inv .4))
+    -- sub-left
+    (λ c. search needs)
+    -- loop-less
+    (λ c. omega arith)
+    -- loop-again
+    (λ c.
+    let args = c .before .before .before .before .before .before .before .before .args in
+    let asked = c .before .before .before .before .before .before .before .before .pre in
+    let loop = c .before .before .loop in
+    let some = c .before .loop-test .taken in
+    let joined = c .if1 in
+    let inv = loop .inv in
+    let T = tableOf (args .s .now) in
+    let S = shape T in
+    let P = show S (args .source .now) (args .depth) in
+    let cells = args .sheet .now in
+    let small : length (loop .out) ≤ 16384 = rw (inv .3) (asked .1 .0 .small) in
+    let t : Turned S P cells T (loop .i) (loop .left) (loop .bits) (loop .here) (loop .to) (loop .out) (joined .here) (joined .to) (joined .out) =
+    ⊎-elim
+    (λ w.
+    field-read _ cells T _ _ (loop .here) some (inv .4) (w .2 .ensures) (w .0 .taken) _ _ _ small
+    (walked-deeper _ _ (w .1 .left) _ _ _ _ (was (w .8 .ensures) (w .12 .given .1))) (w .8 .kept .1 .1 .1 .0) (w .15) (w .16) (w .14))
+    (⊎-elim
+    (λ w.
+    let other = field-row (args .s .now) (asked .1 .0 .good) (loop .i) (loop .left) some (inv .4) (w .2 .result) (w .2 .ensures) (w .4 .result) (w .4 .ensures) in
+    let kind = shape-leaf T (w .2 .result .ty) (w .4 .result) (w .4 .ensures) other (omega (arith, w .6 .left)) in
+    field-read _ cells T _ _ (loop .here) some (inv .4) (w .2 .ensures) (w .0 .taken) _ _ _ small
+    (leaf-past (w .8 .ensures) S kind (w .1 .left) (w .10 .given .1) (w .14 .ensures)) (w .14 .kept .0) (w .18) (w .19) (w .17))
+    (λ w. field-absent _ cells T _ _ (loop .here) some (inv .4) _ _ _ (w .0 .left) (inv .1) (inv .2) (w .2) (w .3) (w .1)))
+    (joined .came) in
+    (t .same ∙ inv .0, t .inside, t .behind, t .long ∙ inv .3, omega arith))
+    -- same-length-4
+    (λ c. c .before .loop .inv .3)
+    -- returns-4
+    (λ c.
+    let args = c .before .before .before .before .before .before .before .args in
+    let loop = c .before .loop in
+    walk-done _ _ _ (present-end (tableOf (args .s .now)) (loop .i) (loop .left) (c .loop-test .left) (loop .bits)) (loop .inv .0) (loop .inv .1) (loop .inv .2))
+
+many-spec : {M : Type 1} (t : ℕ) → many-lts.Closed (many-calls t) (many-at t) many.Post M
+many-spec t =
+    many-lts.spec (many-calls t) (many-at t) many.Post
+    -- slice-aggregate-pairs
+    (λ c. search needs)
+    -- pairs-requires
+    (λ c κs.
+    let asked = c .before .before .before .before .before .before .pre in
+    let h = asked .1 .1 in
+    (omega (arith, asked .0), (asked .1 .0, (h .0, h .1, h .2, omega (arith, h .3), h .3))))
+    -- same-length
+    (λ c. c .before .before .before .pairs .kept .1 .1 .1 .0)
+    -- returns
+    (λ c. c .before .before .before .pairs .ensures)
+
+mapping-spec : {M : Type 1} (t : ℕ) → mapping-lts.Closed (mapping-calls t) (mapping-at t) mapping.Post M
+mapping-spec t =
+    mapping-lts.spec (mapping-calls t) (mapping-at t) mapping.Post
+    -- row-due-requires
+    (λ c κs. search needs)
+    -- enum-told
+    (λ c. search needs)
+    -- refused-requires
+    (λ c κs. search needs)
+    -- enum-known-count
+    (λ c. search needs)
+    -- refused-requires-2
+    (λ c κs. search needs)
+    -- returns
+    (λ c.
+    let row-due = c .before .before .before .before .before .row-due in
+    let pre = c .before .before .before .before .before .before .before .before .before .before .pre in
+    shown-refused _ _ _ _ (c .refused2 .ensures) (map-many (row-due .ensures) (c .before .before .before .count .given .1) _ _ _ (pre .1 .0 .1) (c .before .if1 .taken)))
+    -- put-number-requires
+    (λ c κs.
+    let pre = c .before .before .before .before .before .before .before .before .before .before .pre in
+    pre .1 .0 .0 .behind)
+    -- add-t21
+    (λ c.
+    let back = c .before .before .before .before .before .before .before .before .before in
+    let row-due = back .row-due in
+    let count = c .before .before .before .before .before .before .before .count in
+    let due = due-in (row-due .ensures) (count .given .1) in
+    let sound = back .before .before .before .before .before .good in
+    omega (arith, due .0, sound .1 .0))
+    -- same-length
+    (λ c. c .before .before .before .put-number .kept .0)
+    -- returns-2
+    (λ c.
+    let back = c .before .before .before .before .before .before .before .before .before in
+    let row-due = back .row-due in
+    let if1 = c .before .before .before .before .before .if1 in
+    let args = back .before .before .before .before .before .args in
+    let asked = back .before .before .before .before .before .pre in
+    let counted = c .before .before .before .before .before .before .before .count in
+    let put-number = c .before .before .before .put-number in
+    let due = due-in (row-due .ensures) (counted .given .1) in
+    let start = map-start (row-due .ensures) (counted .given .1) _ _ _ (asked .1 .0 .1) (if1 .left) (asked .1 .0 .0 .small) (put-number .ensures) in
+    walk-done _ _ _ (pairs-none (args .key) (args .val) (counted .given .0 .1 .1 .0) (omega (arith, c .if2 .taken))) start (omega (arith, due .0)) (put-number .ensures .capped))
+    -- slice-aggregate-pairs
+    (λ c. search needs)
+    -- add-pairs
+    (λ c.
+    let back = c .before .before .before .before .before .before .before .before .before in
+    let row-due = back .before .before .before .row-due in
+    let count = back .before .count in
+    let due = due-in (row-due .ensures) (count .given .1) in
+    let sound = back .before .before .before .before .before .before .before .before .good in
+    omega (arith, due .0, sound .1 .0))
+    -- pairs-requires
+    (λ c κs.
+    let back = c .before .before .before .before .before .before .before .before .before in
+    let count = back .before .count in
+    let if1 = c .before .before .before .before .before .before .before .before .if1 in
+    let asked = back .before .before .before .before .before .before .before .before .pre in
+    let row-due = back .before .before .before .row-due in
+    let counted = count .given .1 in
+    let put-number = c .before .before .before .before .before .before .put-number in
+    let few = if1 .left in
+    let due = due-in (row-due .ensures) counted in
+    let h = asked .1 .1 in (
+      omega (arith, asked .0),
+      (
+        onward (asked .1 .0 .0) (omega (arith, due .0)) (put-number .ensures .capped) (put-number .kept .0) (map-accepted (row-due .ensures) counted _ _ _ (asked .1 .0 .1) few),
+        (h .0, h .1, h .2, omega (arith, c .before .before .if3 .taken), few),
+      ),
+    ))
+    -- same-length-2
+    (λ c.
+    let put-number = c .before .before .before .before .before .before .before .before .before .before .put-number in
+    c .before .before .before .pairs .kept .1 .1 .1 .0 ∙ put-number .kept .0)
+    -- returns-3
+    (λ c.
+    let back = c .before .before .before .before .before .before .before .before .before in
+    let farther = back .before .before .before .before .before .before .before .before .before in
+    let row-due = back .before .before .before .before .before .before .before .row-due in
+    let count = back .before .before .before .before .before .count in
+    let if1 = back .before .before .before .if1 in
+    let asked = farther .before .before .before .pre in
+    let put-number = back .before .put-number in
+    renamed (map-start (row-due .ensures) (count .given .1) _ _ _ (asked .1 .0 .1) (if1 .left) (asked .1 .0 .0 .small) (put-number .ensures)) (c .before .before .before .pairs .ensures))
+    -- add-many
+    (λ c.
+    let back = c .before .before .before .before .before .before .before .before .before in
+    let row-due = back .before .before .row-due in
+    let count = back .count in
+    let due = due-in (row-due .ensures) (count .given .1) in
+    let sound = back .before .before .before .before .before .before .before .good in
+    omega (arith, due .0, sound .1 .0))
+    -- many-requires
+    (λ c κs.
+    let back = c .before .before .before .before .before .before .before .before .before in
+    let count = back .count in
+    let if1 = c .before .before .before .before .before .before .before .if1 in
+    let asked = back .before .before .before .before .before .before .before .pre in
+    let row-due = back .before .before .row-due in
+    let counted = count .given .1 in
+    let put-number = c .before .before .before .before .before .put-number in
+    let few = if1 .left in
+    let due = due-in (row-due .ensures) counted in
+    let h = asked .1 .1 in (
+      omega (arith, asked .0),
+      (
+        onward (asked .1 .0 .0) (omega (arith, due .0)) (put-number .ensures .capped) (put-number .kept .0) (map-accepted (row-due .ensures) counted _ _ _ (asked .1 .0 .1) few),
+        (h .0, h .1, h .2, few),
+      ),
+    ))
+    -- returns-4
+    (λ c. shown-refused _ _ _ _ (c .refused .ensures) (row-absent (c .before .before .before .row-due .ensures) _ _ _ (c .before .enum-told .given .1)))
+    -- same-length-3
+    (λ c.
+    let put-number = c .before .before .before .before .before .before .before .before .put-number in
+    c .before .before .many .kept .1 .1 .1 .0 ∙ put-number .kept .0)
+    -- returns-5
+    (λ c.
+    let back = c .before .before .before .before .before .before .before .before .before in
+    let farther = back .before .before .before .before .before .before .before .before .before in
+    let row-due = back .before .before .before .before .before .row-due in
+    let count = back .before .before .before .count in
+    let if1 = back .before .if1 in
+    let asked = farther .before .pre in
+    let put-number = c .before .before .before .before .before .before .before .before .put-number in
+    renamed (map-start (row-due .ensures) (count .given .1) _ _ _ (asked .1 .0 .1) (if1 .left) (asked .1 .0 .0 .small) (put-number .ensures)) (c .before .before .many .ensures))
+
+pairs-spec : {M : Type 1} (t : ℕ) → pairs-lts.Closed (pairs-calls t) (pairs-at t) pairs.Post M
+pairs-spec t =
+    pairs-lts.spec (pairs-calls t) (pairs-at t) pairs.Post
+    pairs-Inv-loop
+    pairs-μ-loop
+    -- type-row-requires
+    (λ c κs.
+    let pre = c .before .before .before .before .before .pre in
+    pre .1 .0 .good)
+    -- type-row-requires-2
+    (λ c κs.
+    let pre = c .before .before .before .before .before .before .pre in
+    pre .1 .0 .good)
+    -- loop-holds
+    (λ c.
+    let args = c .before .before .before .before .before .before .before .args in
+    let asked = c .before .before .before .before .before .before .before .pre in
+    let B = args .source .now in
+    let P = show (shape (tableOf (args .s .now))) B (args .depth) in (
+      pairs-first _ P _ _ (args .n) (rowsAt (args .sheet .now) (args .start)) _ _ (keys-none B _),
+      asked .1 .0 .inside,
+      asked .1 .0 .behind,
+      refl,
+      omega arith,
+      refl,
+      λ j l. absurd (omega arith),
+    ))
+    -- refused-requires
+    (λ c κs. search needs)
+    -- same-length
+    (λ c. c .before .before .before .loop .inv .3)
+    -- same-length-2
+    (λ c. c .before .before .before .loop .inv .5)
+    -- returns
+    (λ c.
+    let args = c .before .before .before .before .before .before .before .before .before .before .before .args in
+    let loop = c .before .before .before .loop in
+    as-refused (c .refused .ensures)
+    (pair-key-stop _ _ _ _ (args .sheet .now) (loop .here) (c .before .before .loop-test .taken) _ _ _ (show-deep _ _ _ _ _ (c .before .if1 .taken)) ∙ loop .inv .0))
+    -- cast-leaf-row
+    (λ c. search needs)
+    -- leaf-row-requires
+    (λ c κs.
+    let args = c .before .before .before .before .before .before .before .before .before .before .before .args in
+    let asked = c .before .before .before .before .before .before .before .before .before .before .before .pre in
+    let k = c .before .before .before .before .before .type-row in
+    let loop = c .before .before .before .loop in
+    let cells = args .sheet .now in
+    let T = tableOf (args .s .now) in
+    let kind = shape-leaf T (args .key) (k .result) (k .ensures) (rw (k .ensures) (asked .1 .1 .0)) (rw (k .ensures) (asked .1 .1 .1)) in
+    λ j.
+    leaf-accepted (shape T) _ (c .before .if1 .left) _ _ kind
+    (pair-key-accepted _ _ _ _ cells (loop .here) (c .before .before .loop-test .taken) (accepted-along _ _ _ _ _ _ _ _ _ (loop .inv .0) (asked .1 .0 .judged j))))
+    -- enum-known-number
+    (λ c. search needs)
+    -- refused-requires-2
+    (λ c κs. search needs)
+    -- same-length-3
+    (λ c.
+    let loop = c .before .before .before .before .before .before .before .before .loop in
+    loop .inv .3)
+    -- same-length-4
+    (λ c.
+    let loop = c .before .before .before .before .before .before .before .before .loop in
+    loop .inv .5)
+    -- returns-2
+    (λ c.
+    let back = c .before .before .before .before .before .before .before .before .before in
+    let if1 = c .before .before .before .before .before .before .if1 in
+    let loop-test = c .before .before .before .before .before .before .before .loop-test in
+    let args = back .before .before .before .before .before .before .before .args in
+    let asked = back .before .before .before .before .before .before .before .pre in
+    let k = back .before .type-row in
+    let loop = c .before .before .before .before .before .before .before .before .loop in
+    let cells = args .sheet .now in
+    let T = tableOf (args .s .now) in
+    let kind = shape-leaf T (args .key) (k .result) (k .ensures) (rw (k .ensures) (asked .1 .1 .0)) (rw (k .ensures) (asked .1 .1 .1)) in
+    let failed = leaf-failed (c .before .before .before .before .leaf-row .ensures) (shape T) kind (if1 .left) (c .before .before .number .given .1) in
+    as-refused (c .refused2 .ensures) (pair-key-stop _ _ _ _ cells (loop .here) (loop-test .taken) _ _ _ failed ∙ loop .inv .0))
+    -- enum-known-place
+    (λ c. search needs)
+    -- is-repeated-requires
+    (λ c κs.
+    let back = c .before .before .before .before .before .before .before .before .before in
+    let loop-test = c .before .before .before .before .before .before .before .loop-test in
+    let if1 = c .before .before .before .before .before .before .if1 in
+    let shared-slice-known2 = back .before .before .before .before .before .shared-slice-known2 in
+    let args = back .before .before .before .before .before .before .before .args in
+    let asked = back .before .before .before .before .before .before .before .pre in
+    let k = back .before .type-row in
+    let loop = c .before .before .before .before .before .before .before .before .loop in
+    let cells = args .sheet .now in
+    let T = tableOf (args .s .now) in
+    let kind = shape-leaf T (args .key) (k .result) (k .ensures) (rw (k .ensures) (asked .1 .1 .0)) (rw (k .ensures) (asked .1 .1 .1)) in
+    let placed = c .before .before .place .given .1 in
+    let leaf-row = c .before .before .before .before .leaf-row in
+    let some = loop-test .taken in
+    let deep = if1 .left in
+    let read = leaf-read (leaf-row .ensures) (shape T) kind deep placed in
+    let own = leaf-in (leaf-row .ensures) placed in
+    let sheet = shared-slice-known2 .given in (
+      (
+        omega (arith, some, loop .inv .5, asked .1 .1 .3),
+        omega (arith, own .1, sheet (4 * loop .here + 1)),
+        omega (arith, own .2, sheet (4 * loop .here + 2)),
+        own .3,
+        loop .inv .6,
+      ),
+      λ j. pair-known _ _ _ _ cells (loop .here) some read (accepted-along _ _ _ _ _ _ _ _ _ (loop .inv .0) (asked .1 .0 .judged j)),
+    ))
+    -- refused-requires-3
+    (λ c κs. search needs)
+    -- same-length-5
+    (λ c.
+    let back = c .before .before .before .before .before .before .before .before .before in
+    let loop = back .before .before .before .before .loop in
+    loop .inv .3)
+    -- same-length-6
+    (λ c.
+    let back = c .before .before .before .before .before .before .before .before .before in
+    let loop = back .before .before .before .before .loop in
+    c .before .before .before .before .is-repeated .kept .1 .0 ∙ loop .inv .5)
+    -- returns-3
+    (λ c.
+    let back = c .before .before .before .before .before .before .before .before .before in
+    let farther = back .before .before .before .before .before .before .before .before .before in
+    let at = c .before .before .before .before .before .before .before .place in
+    let loop-test = back .before .before .before .loop-test in
+    let if1 = back .before .before .if1 in
+    let args = farther .before .before .before .args in
+    let asked = farther .before .before .before .pre in
+    let k = back .before .before .before .before .before .before .type-row in
+    let loop = back .before .before .before .before .loop in
+    let cells = args .sheet .now in
+    let T = tableOf (args .s .now) in
+    let kind = shape-leaf T (args .key) (k .result) (k .ensures) (rw (k .ensures) (asked .1 .1 .0)) (rw (k .ensures) (asked .1 .1 .1)) in
+    let placed = at .given .1 in
+    let leaf-row = back .leaf-row in
+    let some = loop-test .taken in
+    let deep = if1 .left in
+    let read = leaf-read (leaf-row .ensures) (shape T) kind deep placed in
+    as-refused (c .refused3 .ensures) (pair-again _ _ _ _ cells (loop .here) some read _ _ _ (sym (c .before .before .before .before .is-repeated .ensures .0) ∙ c .before .if2 .taken) ∙ loop .inv .0))
+    -- cast-put-content
+    (λ c. search needs)
+    -- put-content-requires
+    (λ c κs.
+    let back = c .before .before .before .before .before .before .before .before .before in
+    let farther = back .before .before .before .before .before .before .before .before .before in
+    let leaf-row = back .before .leaf-row in
+    let at = c .before .before .before .before .before .before .before .before .place in
+    let asked = farther .before .before .before .before .pre in
+    let loop = back .before .before .before .before .before .loop in
+    let own = leaf-in (leaf-row .ensures) (at .given .1) in
+    (loop .inv .2, rw (loop .inv .3) (asked .1 .0 .small), own .3))
+    -- add-composite
+    (λ c.
+    let back = c .before .before .before .before .before .before .before .before .before in
+    let farther = back .before .before .before .before .before .before .before .before .before in
+    let leaf-row = back .before .before .before .before .before .before .before .leaf-row in
+    let at = back .before .before .before .before .before .place in
+    let own = leaf-in (leaf-row .ensures) (at .given .1) in
+    let sound = farther .before .before .before .before .before .before .before .before .before .before .good in
+    omega (arith, own .0, sound .1 .0))
+    -- sub-composite
+    (λ c. search needs)
+    -- composite-requires
+    (λ c κs.
+    let back = c .before .before .before .before .before .before .before .before .before in
+    let farther = back .before .before .before .before .before .before .before .before .before in
+    let at = back .before .before .before .before .before .place in
+    let loop-test = farther .before .loop-test in
+    let if1 = farther .if1 in
+    let put-content-at = c .before .before .before .before .before .put-content in
+    let type-row2 = farther .before .before .before .type-row2 in
+    let args = farther .before .before .before .before .before .before .before .before .before .before .args in
+    let asked = farther .before .before .before .before .before .before .before .before .before .before .pre in
+    let k = farther .before .before .before .before .type-row in
+    let loop = farther .before .before .loop in
+    let cells = args .sheet .now in
+    let T = tableOf (args .s .now) in
+    let kind = shape-leaf T (args .key) (k .result) (k .ensures) (rw (k .ensures) (asked .1 .1 .0)) (rw (k .ensures) (asked .1 .1 .1)) in
+    let placed = at .given .1 in
+    let leaf-row = back .before .before .before .before .before .before .before .leaf-row in
+    let some = loop-test .taken in
+    let deep = if1 .left in
+    let read = leaf-read (leaf-row .ensures) (shape T) kind deep placed in
+    let own = leaf-in (leaf-row .ensures) placed in
+    let put-content = put-content-at in (
+      omega (arith, asked .0),
+      (
+        onward (asked .1 .0) (omega (arith, own .0)) (put-content .ensures .capped) (put-content .kept .0 ∙ loop .inv .3)
+            (λ a. accepted-deeper _ _ deep _ _ (pair-value-accepted _ _ _ _ cells (loop .here) some read (accepted-along _ _ _ _ _ _ _ _ _ (loop .inv .0) a))),
+        type-row2 .ensures,
+        c .before .if3 .taken,
+      ),
+    ))
+    -- enum-known-number-2
+    (λ c. search needs)
+    -- same-length-7
+    (λ c.
+    let back = c .before .before .before .before .before .before .before .before .before in
+    let farther = back .before .before .before .before .before .before .before .before .before in
+    let inner = c .before .before .before .before .before .composite in
+    let put-content = back .before .before .put-content in
+    let loop = farther .before .before .before .before .before .before .before .before .loop in
+    inner .kept .1 .1 .1 .0 ∙ put-content .kept .0 ∙ loop .inv .3)
+    -- same-length-8
+    (λ c.
+    let back = c .before .before .before .before .before .before .before .before .before in
+    let farther = back .before .before .before .before .before .before .before .before .before in
+    let is-repeated = back .before .before .before .before .before .before .before .before .is-repeated in
+    let loop = farther .before .before .before .before .before .before .before .before .loop in
+    is-repeated .kept .1 .0 ∙ loop .inv .5)
+    -- returns-4
+    (λ c.
+    let back = c .before .before .before .before .before .before .before .before .before in
+    let farther = back .before .before .before .before .before .before .before .before .before in
+    let at = farther .before .before .place in
+    let loop-test = farther .before .before .before .before .before .before .before .loop-test in
+    let if1 = farther .before .before .before .before .before .before .if1 in
+    let if2 = back .before .before .before .before .before .if2 in
+    let inner = c .before .before .before .before .before .composite in
+    let put-content = back .before .before .put-content in
+    let args = farther .before .before .before .before .before .before .before .before .before .before .before .before .before .before .before .before .args in
+    let asked = farther .before .before .before .before .before .before .before .before .before .before .before .before .before .before .before .before .pre in
+    let k = farther .before .before .before .before .before .before .before .before .before .before .type-row in
+    let loop = farther .before .before .before .before .before .before .before .before .loop in
+    let cells = args .sheet .now in
+    let T = tableOf (args .s .now) in
+    let kind = shape-leaf T (args .key) (k .result) (k .ensures) (rw (k .ensures) (asked .1 .1 .0)) (rw (k .ensures) (asked .1 .1 .1)) in
+    let placed = at .given .1 in
+    let leaf-row = farther .before .before .before .before .leaf-row in
+    let some = loop-test .taken in
+    let deep = if1 .left in
+    let read = leaf-read (leaf-row .ensures) (shape T) kind deep placed in
+    let is-repeated = back .before .before .before .before .before .before .before .before .is-repeated in
+    let new = sym (is-repeated .ensures .0) ∙ if2 .left in
+    let small : length (loop .out) ≤ 16384 = rw (loop .inv .3) (asked .1 .0 .small) in
+    let w = walked-deeper _ _ deep _ _ _ _ (was (inner .ensures) (c .before .number2 .given .1)) in
+    as-stopped (pair-value-stop _ _ _ _ cells (loop .here) some read _ _ _ new kind small (put-content .ensures) (w .same) ∙ loop .inv .0))
+    -- enum-known-row
+    (λ c. search needs)
+    -- cast-leaf-row-2
+    (λ c. search needs)
+    -- add-leaf-row
+    (λ c.
+    let back = c .before .before .before .before .before .before .before .before .before in
+    let farther = back .before .before .before .before .before .before .before .before .before in
+    let leaf-row = back .before .before .before .before .before .before .before .leaf-row in
+    let at = back .before .before .before .before .before .place in
+    let own = leaf-in (leaf-row .ensures) (at .given .1) in
+    let sound = farther .before .before .before .before .before .before .before .before .before .before .good in
+    omega (arith, own .0, sound .1 .0))
+    -- leaf-row-requires-2
+    (λ c κs.
+    let back = c .before .before .before .before .before .before .before .before .before in
+    let farther = back .before .before .before .before .before .before .before .before .before in
+    let at = back .before .before .before .before .before .place in
+    let loop-test = farther .before .loop-test in
+    let if1 = farther .if1 in
+    let args = farther .before .before .before .before .before .before .before .before .before .before .args in
+    let asked = farther .before .before .before .before .before .before .before .before .before .before .pre in
+    let k = farther .before .before .before .before .type-row in
+    let loop = farther .before .before .loop in
+    let cells = args .sheet .now in
+    let T = tableOf (args .s .now) in
+    let kind = shape-leaf T (args .key) (k .result) (k .ensures) (rw (k .ensures) (asked .1 .1 .0)) (rw (k .ensures) (asked .1 .1 .1)) in
+    let placed = at .given .1 in
+    let leaf-row = back .before .before .before .before .before .before .before .leaf-row in
+    let some = loop-test .taken in
+    let deep = if1 .left in
+    let read = leaf-read (leaf-row .ensures) (shape T) kind deep placed in
+    let v = farther .before .before .before .type-row2 in
+    let other = shape-leaf T (args .val) (v .result) (v .ensures) (rw (v .ensures) (asked .1 .1 .2)) (omega (arith, c .before .if3 .left)) in
+    λ j.
+    leaf-accepted (shape T) _ deep _ _ other
+    (pair-value-accepted _ _ _ _ cells (loop .here) some read (accepted-along _ _ _ _ _ _ _ _ _ (loop .inv .0) (asked .1 .0 .judged j))))
+    -- enum-known-number-3
+    (λ c. search needs)
+    -- add-refused
+    (λ c.
+    let back = c .before .before .before .before .before .before .before .before .before in
+    let farther = back .before .before .before .before .before .before .before .before .before in
+    let leaf-row = farther .before .before .leaf-row in
+    let at = farther .place in
+    let own = leaf-in (leaf-row .ensures) (at .given .1) in
+    let sound = farther .before .before .before .before .before .before .before .before .before .before .before .before .before .before .good in
+    omega (arith, own .0, sound .1 .0))
+    -- refused-requires-4
+    (λ c κs. search needs)
+    -- same-length-9
+    (λ c.
+    let back = c .before .before .before .before .before .before .before .before .before in
+    let farther = back .before .before .before .before .before .before .before .before .before in
+    let put-content = back .before .put-content in
+    let loop = farther .before .before .before .before .before .before .before .loop in
+    put-content .kept .0 ∙ loop .inv .3)
+    -- same-length-10
+    (λ c.
+    let back = c .before .before .before .before .before .before .before .before .before in
+    let farther = back .before .before .before .before .before .before .before .before .before in
+    let is-repeated = back .before .before .before .before .before .before .before .is-repeated in
+    let loop = farther .before .before .before .before .before .before .before .loop in
+    is-repeated .kept .1 .0 ∙ loop .inv .5)
+    -- returns-5
+    (λ c.
+    let back = c .before .before .before .before .before .before .before .before .before in
+    let farther = back .before .before .before .before .before .before .before .before .before in
+    let at = farther .before .place in
+    let loop-test = farther .before .before .before .before .before .before .loop-test in
+    let if1 = farther .before .before .before .before .before .if1 in
+    let if2 = back .before .before .before .before .if2 in
+    let if3 = c .before .before .before .before .before .before .if3 in
+    let put-content = back .before .put-content in
+    let args = farther .before .before .before .before .before .before .before .before .before .before .before .before .before .before .before .args in
+    let asked = farther .before .before .before .before .before .before .before .before .before .before .before .before .before .before .before .pre in
+    let k = farther .before .before .before .before .before .before .before .before .before .type-row in
+    let loop = farther .before .before .before .before .before .before .before .loop in
+    let cells = args .sheet .now in
+    let T = tableOf (args .s .now) in
+    let kind = shape-leaf T (args .key) (k .result) (k .ensures) (rw (k .ensures) (asked .1 .1 .0)) (rw (k .ensures) (asked .1 .1 .1)) in
+    let placed = at .given .1 in
+    let leaf-row = farther .before .before .before .leaf-row in
+    let some = loop-test .taken in
+    let deep = if1 .left in
+    let read = leaf-read (leaf-row .ensures) (shape T) kind deep placed in
+    let is-repeated = back .before .before .before .before .before .before .before .is-repeated in
+    let new = sym (is-repeated .ensures .0) ∙ if2 .left in
+    let small : length (loop .out) ≤ 16384 = rw (loop .inv .3) (asked .1 .0 .small) in
+    let v = farther .before .before .before .before .before .before .before .before .type-row2 in
+    let other = shape-leaf T (args .val) (v .result) (v .ensures) (rw (v .ensures) (asked .1 .1 .2)) (omega (arith, if3 .left)) in
+    let failed = leaf-failed (c .before .before .before .before .leaf-row2 .ensures) (shape T) other deep (c .before .before .number3 .given .1) in
+    as-refused (c .refused4 .ensures)
+    (pair-value-stop _ _ _ _ cells (loop .here) some read _ _ _ new kind small (put-content .ensures) (shown-stopped _ _ _ _ failed) ∙ loop .inv .0))
+    -- enum-known-place-2
+    (λ c. search needs)
+    -- cast-put-content-2
+    (λ c. search needs)
+    -- put-content-requires-2
+    (λ c κs.
+    let back = c .before .before .before .before .before .before .before .before .before in
+    let farther = back .before .before .before .before .before .before .before .before .before in
+    let leaf-row2 = c .before .before .before .before .before .leaf-row2 in
+    let loop = farther .before .before .before .before .before .before .before .before .loop in
+    let asked = farther .before .before .before .before .before .before .before .before .before .before .before .before .before .before .before .before .pre in
+    let put-content = back .before .before .put-content in
+    let own = leaf-in (leaf-row2 .ensures) (c .before .before .before .place2 .given .1) in
+    (put-content .ensures .capped, rw (put-content .kept .0 ∙ loop .inv .3) (asked .1 .0 .small), own .3))
+    -- add-here
+    (λ c.
+    let back = c .before .before .before .before .before .before .before .before .before in
+    let farther = back .before .before .before .before .before .before .before .before .before in
+    let leaf-row2 = c .before .before .before .before .before .before .before .before .leaf-row2 in
+    let place2 = c .before .before .before .before .before .before .place2 in
+    let own = leaf-in (leaf-row2 .ensures) (place2 .given .1) in
+    let sound = farther .before .before .before .before .before .before .before .before .before .before .before .before .before .before .before .before .before .before .before .good in
+    omega (arith, own .0, sound .1 .0))
+    -- add-i
+    (λ c.
+    let back = c .before .before .before .before .before .before .before .before .before in
+    let farther = back .before .before .before .before .before .before .before .before .before in
+    let loop-test = farther .loop-test in
+    let fits = farther .before .before .before .before .before .before .before .before .before .fits in
+    omega (arith, loop-test .taken, fits .n))
+    -- loop-less
+    (λ c.
+    let back = c .before .before .before .before .before .before .before .before .before in
+    let farther = back .before .before .before .before .before .before .before .before .before in
+    let loop-test = farther .loop-test in
+    omega (arith, loop-test .taken))
+    -- loop-again
+    (λ c.
+    let back = c .before .before .before .before .before .before .before .before .before in
+    let farther = back .before .before .before .before .before .before .before .before .before in
+    let at = back .before .before .before .before .place in
+    let loop-test = farther .loop-test in
+    let if1 = back .before .before .before .before .before .before .before .before .if1 in
+    let if2 = c .before .before .before .before .before .before .before .if2 in
+    let args = farther .before .before .before .before .before .before .before .before .before .args in
+    let asked = farther .before .before .before .before .before .before .before .before .before .pre in
+    let k = farther .before .before .before .type-row in
+    let loop = farther .before .loop in
+    let cells = args .sheet .now in
+    let T = tableOf (args .s .now) in
+    let kind = shape-leaf T (args .key) (k .result) (k .ensures) (rw (k .ensures) (asked .1 .1 .0)) (rw (k .ensures) (asked .1 .1 .1)) in
+    let placed = at .given .1 in
+    let leaf-row = back .before .before .before .before .before .before .leaf-row in
+    let some = loop-test .taken in
+    let deep = if1 .left in
+    let read = leaf-read (leaf-row .ensures) (shape T) kind deep placed in
+    let is-repeated = back .before .is-repeated in
+    let new = sym (is-repeated .ensures .0) ∙ if2 .left in
+    let small : length (loop .out) ≤ 16384 = rw (loop .inv .3) (asked .1 .0 .small) in
+    let put-content = c .before .before .before .before .put-content in
+    let joined = c .if3 in
+    let t : Came cells (emit (shape T) (args .val) (show (shape T) (args .source .now) (args .depth) (args .val) (rowsAt cells (loop .here + 1))) _ _) (loop .out) (joined .here) (joined .to) (joined .out) =
+    ⊎-elim
+    (λ w. came-by (walked-deeper _ _ deep _ _ _ _ (was (w .2 .ensures) (w .6 .given .1))) (w .2 .kept .1 .1 .1 .0 ∙ put-content .kept .0) (w .9) (w .10) (w .8))
+    (λ w.
+    let v = farther .before .before .type-row2 in
+    let other = shape-leaf T (args .val) (v .result) (v .ensures) (rw (v .ensures) (asked .1 .1 .2)) (omega (arith, w .0 .left)) in
+    came-by (leaf-past (w .2 .ensures) (shape T) other deep (w .4 .given .1) (w .8 .ensures)) (w .8 .kept .0 ∙ put-content .kept .0) (omega (arith, w .12)) (w .13) (w .11))
+    (joined .came) in (
+      pair-value-past _ _ _ _ cells (loop .here) some read _ _ _ new kind small (put-content .ensures) (rw (put-content .kept .0) small) (t .walked .same) (is-repeated .ensures .1) ∙ loop .inv .0,
+      t .walked .within .0,
+      t .walked .within .1,
+      t .long ∙ loop .inv .3,
+      omega (arith, some),
+      is-repeated .kept .1 .0 ∙ loop .inv .5,
+      is-repeated .ensures .2,
+    ))
+    -- same-length-11
+    (λ c. c .before .loop .inv .3)
+    -- same-length-12
+    (λ c. c .before .loop .inv .5)
+    -- returns-6
+    (λ c.
+    let args = c .before .before .before .before .before .before .before .before .before .args in
+    let loop = c .before .loop in
+    walk-done _ _ _ (pairs-none (args .key) (args .val) (args .n - loop .i) (omega (arith, c .loop-test .left))) (loop .inv .0) (loop .inv .1) (loop .inv .2))
+
+structure-spec : {M : Type 1} (t : ℕ) → structure-lts.Closed (structure-calls t) (structure-at t) structure.Post M
+structure-spec t =
+    structure-lts.spec (structure-calls t) (structure-at t) structure.Post
+    -- row-due-requires
+    (λ c κs. search needs)
+    -- enum-told
+    (λ c. search needs)
+    -- refused-requires
+    (λ c κs. search needs)
+    -- enum-known-place
+    (λ c. search needs)
+    -- presence-requires
+    (λ c κs.
+    let asked = c .before .before .before .before .before .before .before .before .pre in
+    let args = c .before .before .before .before .before .before .before .before .args in
+    let row-due = c .before .before .before .row-due in
+    let h = asked .1 .1 in
+    let due = due-in (row-due .ensures) (c .before .place .given .1) in
+    let T = tableOf (args .s .now) in (
+      asked .1 .0 .0 .good,
+      h .0,
+      h .1,
+      h .2,
+      due .3,
+      λ j. rw (length-fields T (args .first) (args .n) (h .2)) at (struct-known (row-due .ensures) (c .before .place .given .1) _ _ _ (asked .1 .0 .1) (asked .1 .0 .0 .judged j)),
+    ))
+    -- enum-known-number
+    (λ c. search needs)
+    -- refused-requires-2
+    (λ c κs. search needs)
+    -- enum-known-word
+    (λ c. search needs)
+    -- refused-requires-3
+    (λ c κs. search needs)
+    -- returns
+    (λ c.
+    let back = c .before .before .before .before .before .before .before .before .before in
+    let asked = back .before .before .before .before .before .pre in
+    let row-due = back .row-due in
+    let placed = c .before .before .before .before .before .before .before .place in
+    let presence = c .before .before .before .before .before .presence in
+    shown-refused _ _ _ _ (c .refused3 .ensures) (struct-unknown (row-due .ensures) (placed .given .1) _ _ _ (asked .1 .0 .1) (presence .ensures) (c .before .before .before .word .given .1) (c .before .if1 .taken)))
+    -- refused-requires-4
+    (λ c κs. search needs)
+    -- returns-2
+    (λ c.
+    let back = c .before .before .before .before .before .before .before .before .before in
+    let asked = back .before .before .before .before .before .before .pre in
+    let row-due = back .before .row-due in
+    let placed = c .before .before .before .before .before .before .before .before .place in
+    let presence = c .before .before .before .before .before .before .presence in
+    shown-refused _ _ _ _ (c .refused4 .ensures)
+    (struct-miscounted (row-due .ensures) (placed .given .1) _ _ _ (asked .1 .0 .1) (presence .ensures) (c .before .before .before .before .word .given .1) (c .before .before .if1 .left) (c .before .if2 .taken)))
+    -- add-put-bits
+    (λ c.
+    let back = c .before .before .before .before .before .before .before .before .before in
+    let asked = back .before .before .before .before .before .before .pre in
+    let h = asked .1 .1 in
+    omega (arith, h .1))
+    -- put-bits-requires
+    (λ c κs.
+    let back = c .before .before .before .before .before .before .before .before .before in
+    let asked = back .before .before .before .before .before .before .pre in
+    let h = asked .1 .1 in
+    (asked .1 .0 .0 .behind, omega (arith, h .1)))
+    -- add-fields
+    (λ c.
+    let back = c .before .before .before .before .before .before .before .before .before in
+    let farther = back .before .before .before .before .before .before .before .before .before in
+    let sound = farther .before .good in
+    let row-due = back .before .before .before .before .before .row-due in
+    let placed = back .before .before .before .place in
+    let due = due-in (row-due .ensures) (placed .given .1) in
+    omega (arith, due .0, sound .1 .0))
+    -- fields-requires
+    (λ c κs.
+    let back = c .before .before .before .before .before .before .before .before .before in
+    let farther = back .before .before .before .before .before .before .before .before .before in
+    let asked = farther .before .pre in
+    let row-due = back .before .before .before .before .before .row-due in
+    let placed = back .before .before .before .place in
+    let presence = back .before .presence in
+    let headed = c .before .before .before .before .before .before .before .before .word in
+    let if1 = c .before .before .before .before .before .before .if1 in
+    let if2 = c .before .before .before .before .before .if2 in
+    let put-bits = c .before .before .before .put-bits in
+    let due = due-in (row-due .ensures) (placed .given .1) in
+    let h = asked .1 .1 in (
+      omega arith,
+      (
+        onward (asked .1 .0 .0) (omega (arith, due .0)) (put-bits .ensures .capped) (put-bits .kept .0)
+            (struct-accepted (row-due .ensures) (placed .given .1) _ _ _ (asked .1 .0 .1) (presence .ensures) (headed .given .1) (if1 .left) (if2 .left)),
+        h .2,
+      ),
+    ))
+    -- returns-3
+    (λ c. shown-refused _ _ _ _ (c .refused .ensures) (row-absent (c .before .before .before .row-due .ensures) _ _ _ (c .before .enum-told .given .1)))
+    -- returns-4
+    (λ c.
+    let back = c .before .before .before .before .before .before .before .before .before in
+    let asked = back .before .before .before .before .pre in
+    let row-due = c .before .before .before .before .before .before .before .before .row-due in
+    let placed = c .before .before .before .before .before .before .place in
+    shown-refused _ _ _ _ (c .refused2 .ensures) (struct-fault (row-due .ensures) (placed .given .1) _ _ _ (asked .1 .0 .1) (c .before .before .before .before .presence .ensures) (c .before .before .number .given .1)))
+    -- same-length
+    (λ c.
+    let put-bits = c .before .before .before .before .before .before .put-bits in
+    c .before .before .fields .kept .1 .1 .1 .0 ∙ put-bits .kept .0)
+    -- returns-5
+    (λ c.
+    let back = c .before .before .before .before .before .before .before .before .before in
+    let farther = back .before .before .before .before .before .before .before .before .before in
+    let asked = farther .before .before .before .before .pre in
+    let args = farther .before .before .before .before .args in
+    let row-due = back .before .before .before .before .before .before .before .before .row-due in
+    let placed = back .before .before .before .before .before .before .place in
+    let presence = back .before .before .before .before .presence in
+    let headed = back .before .before .word in
+    let if1 = back .if1 in
+    let if2 = c .before .before .before .before .before .before .before .before .if2 in
+    let put-bits = c .before .before .before .before .before .before .put-bits in
+    let T = tableOf (args .s .now) in
+    let h = asked .1 .1 in
+    renamed
+    (struct-start (row-due .ensures) (placed .given .1) _ _ _ (asked .1 .0 .1) (presence .ensures) (headed .given .1) (if1 .left) (if2 .left)
+    (length-fields T (args .first) (args .n) (h .2)) (asked .1 .0 .0 .small) (put-bits .ensures)) (c .before .before .fields .ensures))
+
+pub +array+composite+fields+many+mapping+pairs+structure-spec : {M : Type 1} → statement M
++array+composite+fields+many+mapping+pairs+structure-spec =
+    close μ-array μ-composite μ-fields μ-many μ-mapping μ-pairs μ-structure
+    array-spec composite-spec fields-spec many-spec mapping-spec pairs-spec structure-spec

@@ -1,0 +1,405 @@
+//! The call table, and one frame against it.
+
+use crate::bytes::u32_at;
+use crate::frame::{read_frame, Frame, FrameAnswer};
+use crate::reader::{read_checked, Reading};
+use crate::scratch::{with, Scratch};
+use crate::table::{check, Table};
+use crate::Refusal;
+
+/// The number of slots.
+pub const SLOTS: usize = 128;
+
+/// The record of one call. A free slot is zero in every member.
+#[derive(Clone, Copy, Debug, Default, PartialEq, Eq)]
+pub struct Call {
+    pub open: bool,
+    pub correlation: u64,
+    pub method: u32,
+    pub response: bool,
+    pub input_closed: bool,
+    pub output_closed: bool,
+    pub cancelled: bool,
+}
+
+/// A record as two numbers: the correlation, and the method in the low half of
+/// the second with the marks above it.
+#[derive(Clone, Copy, Debug, Default, PartialEq, Eq)]
+struct Slot {
+    correlation: u64,
+    state: u64,
+}
+
+const OPEN: u64 = 1 << 32;
+const RESPONSE: u64 = 1 << 33;
+const INPUT_CLOSED: u64 = 1 << 34;
+const OUTPUT_CLOSED: u64 = 1 << 35;
+const CANCELLED: u64 = 1 << 36;
+
+impl Slot {
+    #[inline(always)]
+    fn is_open(self) -> bool {
+        self.state & OPEN != 0
+    }
+
+    #[inline(always)]
+    fn method(self) -> usize {
+        self.state as u32 as usize
+    }
+
+    /// The marks for RESPONSE (1), input closed (2) and output closed (4).
+    #[inline(always)]
+    fn marks(self) -> u64 {
+        self.state >> 33 & 7
+    }
+}
+
+/// The calls of one connection.
+#[derive(Clone, Copy, Debug, PartialEq, Eq)]
+pub struct CallTable {
+    slots: [Slot; SLOTS],
+}
+
+/// What became of a frame.
+#[derive(Clone, Copy, Debug, PartialEq, Eq)]
+pub enum Outcome {
+    /// Accepted; a frame without a value has a reading of zeros.
+    Accepted(Reading),
+    More,
+    Refused(Refusal),
+}
+
+/// The answer to a frame: the bytes used, and how many calls are open then.
+#[derive(Clone, Copy, Debug, PartialEq, Eq)]
+pub struct Received {
+    pub outcome: Outcome,
+    pub used: usize,
+    pub open: usize,
+}
+
+/// The answer to a release.
+#[derive(Clone, Copy, Debug, PartialEq, Eq)]
+pub struct Released {
+    pub outcome: Result<(), Refusal>,
+    pub open: usize,
+}
+
+/// Whether RESPONSE has come and each stream of the form is closed. A form has
+/// 2 for an input stream and 1 for an output stream.
+const fn complete(form: u64, marks: u64) -> bool {
+    marks & 1 != 0 && (marks & 2 != 0 || form & 2 == 0) && (marks & 4 != 0 || form & 1 == 0)
+}
+
+/// Bit 8 * form + marks: an open call of that form may have these marks.
+const GOOD: u32 = {
+    let mut bits = 0;
+    let mut i = 0;
+    while i < 32 {
+        let (form, marks) = (i >> 3, i & 7);
+        let input = marks & 2 == 0 || form & 2 != 0;
+        let output = marks & 4 == 0 || (form & 1 != 0 && marks & 1 != 0);
+        if input && output && !complete(form, marks) {
+            bits |= 1 << i;
+        }
+        i += 1;
+    }
+    bits
+};
+
+/// What one pass over a good table shows: the open calls by their correlation.
+struct Seen {
+    open: usize,
+    free: usize,
+    index: [u8; 512],
+}
+
+#[inline(always)]
+fn hash(correlation: u64) -> usize {
+    (correlation.wrapping_mul(0x9E37_79B9_7F4A_7C15) >> 55) as usize
+}
+
+/// A frame that the order of calls allows: its slot, the record there once it
+/// is accepted, and the type of its payload.
+type Step = (usize, Slot, u32);
+
+/// No payload belongs here.
+const EMPTY: u32 = u32::MAX;
+
+/// ERROR carries any bytes. No type has this number.
+const UNREAD: u32 = u32::MAX - 1;
+
+impl CallTable {
+    /// The table of a new connection: all slots free.
+    pub fn fresh() -> Self {
+        CallTable {
+            slots: [Slot::default(); SLOTS],
+        }
+    }
+
+    /// The table with these records.
+    pub fn from_calls(calls: &[Call; SLOTS]) -> Self {
+        let mark = |set: bool, bit: u64| if set { bit } else { 0 };
+        CallTable {
+            slots: calls.map(|call| Slot {
+                correlation: call.correlation,
+                state: u64::from(call.method)
+                    | mark(call.open, OPEN)
+                    | mark(call.response, RESPONSE)
+                    | mark(call.input_closed, INPUT_CLOSED)
+                    | mark(call.output_closed, OUTPUT_CLOSED)
+                    | mark(call.cancelled, CANCELLED),
+            }),
+        }
+    }
+
+    /// The records.
+    pub fn calls(&self) -> [Call; SLOTS] {
+        self.slots.map(|slot| Call {
+            open: slot.is_open(),
+            correlation: slot.correlation,
+            method: slot.state as u32,
+            response: slot.state & RESPONSE != 0,
+            input_closed: slot.state & INPUT_CLOSED != 0,
+            output_closed: slot.state & OUTPUT_CLOSED != 0,
+            cancelled: slot.state & CANCELLED != 0,
+        })
+    }
+
+    fn open_count(&self) -> usize {
+        self.slots.iter().filter(|slot| slot.is_open()).count()
+    }
+
+    /// Whether the slots are good by themselves and their correlations differ.
+    #[inline(always)]
+    fn look(&self, table: &Table, seen: &mut Seen) -> bool {
+        for (i, &slot) in self.slots.iter().enumerate() {
+            if !slot.is_open() {
+                if slot.correlation | slot.state != 0 {
+                    return false;
+                }
+                if seen.free == SLOTS {
+                    seen.free = i;
+                }
+                continue;
+            }
+            let Some(method) = table.methods.get(slot.method()) else {
+                return false;
+            };
+            let form = u64::from(method[12]) & 3;
+            if GOOD >> (form << 3 | slot.marks()) & 1 == 0 {
+                return false;
+            }
+            seen.open += 1;
+            let mut at = hash(slot.correlation);
+            loop {
+                let there = seen.index[at & 511];
+                if there == 0 {
+                    break;
+                }
+                if self.slots[(usize::from(there) - 1) & 127].correlation == slot.correlation {
+                    return false;
+                }
+                at += 1;
+            }
+            seen.index[at & 511] = i as u8 + 1;
+        }
+        true
+    }
+
+    #[inline(always)]
+    fn find(&self, seen: &Seen, correlation: u64) -> Option<usize> {
+        let mut at = hash(correlation);
+        loop {
+            let there = usize::from(seen.index[at & 511]);
+            if there == 0 {
+                return None;
+            }
+            let slot = (there - 1) & 127;
+            if self.slots[slot].correlation == correlation {
+                return Some(slot);
+            }
+            at += 1;
+        }
+    }
+
+    /// The schema table and what the call table shows, where both are good.
+    #[inline(always)]
+    fn check<'a>(
+        &self,
+        scratch: &mut Scratch,
+        schema: &'a [u8],
+    ) -> Result<(Table<'a>, Seen), Refusal> {
+        let table = check(schema, &mut scratch.info)?;
+        let mut seen = Seen {
+            open: 0,
+            free: SLOTS,
+            index: [0; 512],
+        };
+        match self.look(&table, &mut seen) {
+            true => Ok((table, seen)),
+            false => Err(Refusal::of(15)),
+        }
+    }
+
+    /// Judges the first frame of some bytes from a side, C or S.
+    pub fn receive(
+        &mut self,
+        schema: &[u8],
+        side: u8,
+        bytes: &[u8],
+        sheet: &mut [u32],
+    ) -> Received {
+        with(|scratch| self.receive_in(scratch, schema, side, bytes, sheet))
+    }
+
+    #[inline(always)]
+    fn receive_in(
+        &mut self,
+        scratch: &mut Scratch,
+        schema: &[u8],
+        side: u8,
+        bytes: &[u8],
+        sheet: &mut [u32],
+    ) -> Received {
+        let refuse = |refusal, used, open| Received {
+            outcome: Outcome::Refused(refusal),
+            used,
+            open,
+        };
+        let (table, seen) = match self.check(scratch, schema) {
+            Ok(good) => good,
+            Err(refusal) => return refuse(refusal, 0, self.open_count()),
+        };
+        let open = seen.open;
+        let frame = match read_frame(bytes) {
+            FrameAnswer::Whole(frame) => frame,
+            FrameAnswer::More => {
+                return Received {
+                    outcome: Outcome::More,
+                    used: 0,
+                    open,
+                }
+            }
+            FrameAnswer::Refused(number) => return refuse(Refusal::of(number), 0, open),
+        };
+        let size = frame.place + frame.length;
+        let sender = match frame.kind.wrapping_sub(4) < 4 {
+            true => b'S',
+            false => b'C',
+        };
+        if side != sender {
+            return refuse(Refusal::of(8), size, open);
+        }
+        let step = match frame.kind {
+            1 => self.invoke(&table, &seen, &frame),
+            _ => self.follow(&table, &seen, &frame),
+        };
+        let (slot, next, due) = match step {
+            Ok(step) => step,
+            Err(number) => return refuse(Refusal::of(number), size, open),
+        };
+        let payload = &bytes[frame.place..size];
+        let judged = match due {
+            UNREAD => Ok(Reading::default()),
+            EMPTY if payload.is_empty() => Ok(Reading::default()),
+            EMPTY => Err(Refusal::of(29)),
+            ty => read_checked(scratch, &table, ty, payload, sheet),
+        };
+        let others = open - usize::from(self.slots[slot].is_open());
+        match judged {
+            Ok(reading) => {
+                self.slots[slot] = next;
+                Received {
+                    outcome: Outcome::Accepted(reading),
+                    used: size,
+                    open: others + usize::from(next.is_open()),
+                }
+            }
+            Err(refusal) if refusal.number == 30 => refuse(refusal, 0, open),
+            Err(refusal) => {
+                self.slots[slot] = Slot::default();
+                refuse(refusal, size, others)
+            }
+        }
+    }
+
+    /// An INVOKE opens a call in the lowest free slot.
+    #[inline(always)]
+    fn invoke(&self, table: &Table, seen: &Seen, frame: &Frame) -> Result<Step, u32> {
+        let [package, service, name] = frame.identifiers;
+        let named = |row: &[u8; 32]| {
+            u32_at(row, 8) == name && u32_at(row, 4) == service && u32_at(row, 0) == package
+        };
+        let method = table.methods.iter().position(named).ok_or(9u32)?;
+        if self.find(seen, frame.correlation).is_some() {
+            return Err(10);
+        }
+        if seen.free == SLOTS {
+            return Err(13);
+        }
+        let next = Slot {
+            correlation: frame.correlation,
+            state: OPEN | method as u64,
+        };
+        Ok((seen.free, next, u32_at(&table.methods[method], 16)))
+    }
+
+    /// Any other frame needs its call open and the order of frames kept.
+    #[inline(always)]
+    fn follow(&self, table: &Table, seen: &Seen, frame: &Frame) -> Result<Step, u32> {
+        let at = self.find(seen, frame.correlation).ok_or(11u32)?;
+        let slot = self.slots[at];
+        let row = &table.methods[slot.method()];
+        if [u32_at(row, 0), u32_at(row, 4), u32_at(row, 8)] != frame.identifiers {
+            return Err(12);
+        }
+        if slot.state & CANCELLED != 0 {
+            return match frame.kind {
+                7 => Ok((at, Slot::default(), UNREAD)),
+                4..=6 => Err(16),
+                _ => Err(14),
+            };
+        }
+        let form = u64::from(row[12]) & 3;
+        let input = form & 2 != 0 && slot.state & INPUT_CLOSED == 0;
+        let output = form & 1 != 0 && slot.state & RESPONSE != 0 && slot.state & OUTPUT_CLOSED == 0;
+        let (allowed, mark, due) = match frame.kind {
+            2 => (input, 0, u32_at(row, 24)),
+            3 => (input, INPUT_CLOSED, EMPTY),
+            4 => (output, 0, u32_at(row, 28)),
+            5 => (output, OUTPUT_CLOSED, EMPTY),
+            6 => (slot.state & RESPONSE == 0, RESPONSE, u32_at(row, 20)),
+            7 => (true, 0, UNREAD),
+            _ => (true, CANCELLED, EMPTY),
+        };
+        if !allowed {
+            return Err(14);
+        }
+        let next = Slot {
+            correlation: slot.correlation,
+            state: slot.state | mark,
+        };
+        let next = match frame.kind == 7 || complete(form, next.marks()) {
+            true => Slot::default(),
+            false => next,
+        };
+        Ok((at, next, due))
+    }
+
+    /// Ends a cancelled call without waiting for its ERROR.
+    pub fn release(&mut self, schema: &[u8], correlation: u64) -> Released {
+        let outcome = with(|scratch| {
+            let (_, seen) = self.check(scratch, schema)?;
+            let slot = self.find(&seen, correlation).ok_or(Refusal::of(11))?;
+            if self.slots[slot].state & CANCELLED == 0 {
+                return Err(Refusal::of(14));
+            }
+            self.slots[slot] = Slot::default();
+            Ok(())
+        });
+        Released {
+            outcome,
+            open: self.open_count(),
+        }
+    }
+}
