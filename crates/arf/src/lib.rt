@@ -1,11 +1,15 @@
 // The public entries. None of them asks anything of its caller: whatever the bytes and numbers, each ends and answers, and its statement fixes the answer
 // and every cell of lent memory.
+//
+// `receive` is the frame at the front of the bytes from a side (the byte C or S): the answer with the next call table. Only an accepted payload changes
+// the sheet, and at most one figure of one tally row rises. `release` ends the cancelled call with a correlation: the answer with the next call table.
+// Both stand in `line` as they are, since a lent slice of rows is not handed on.
 use calls::CallTable;
 use frame::FrameRead;
 use frame::FrameWritten;
 use frame::Header;
-use line::Received;
-use line::Released;
+pub use line::receive::receive;
+pub use line::release::release;
 use reader::Reading;
 use salvage::Salvaging;
 use scalar::Answer;
@@ -19,9 +23,6 @@ ghost use Rattle.calls.specs.Slots.{freshTable};
 ghost use Rattle.forward.specs.Entry.{forwardOutcome};
 ghost use Rattle.frame.specs.Frame.{frameOf};
 ghost use Rattle.frame.specs.Written.{writtenOf, outputOf};
-ghost use Rattle.line.specs.Answer.{line};
-ghost use Rattle.line.specs.Receive.{received};
-ghost use Rattle.line.specs.Release.{released};
 ghost use Rattle.reader.specs.Beside.{besideOutcome};
 ghost use Rattle.reader.specs.Entry.{Outcome, readOutcome};
 ghost use Rattle.salvage.specs.Salvage.{outcome, salvageOf};
@@ -132,26 +133,6 @@ pub fn fresh() -> CallTable
     ensures { λ r. ⌜ r ≡ freshTable ⌝ }
 {
     CallTable::fresh()
-}
-
-// The frame at the front of the bytes from a side (the byte C or S): the answer with the next call table. Only an accepted payload changes the sheet.
-pub fn receive(
-    table: CallTable,
-    schema: &[u8],
-    side: u8,
-    bytes: &[u8],
-    sheet: &mut [u32],
-) -> Received
-    ensures { λ r. ⌜ line r (now (sheet .exit)) ≡ received (now (schema .entry)) side (now (bytes .entry)) (now (sheet .entry)) (table .slots) ⌝ }
-{
-    line::receive::receive(table, schema, side, bytes, sheet)
-}
-
-// Ends the cancelled call with this correlation: the answer with the next call table. A refusal changes nothing.
-pub fn release(table: CallTable, schema: &[u8], correlation: u64) -> Released
-    ensures { λ r. ⌜ r ≡ released (now (schema .entry)) (table .slots) correlation ⌝ }
-{
-    line::release::release(table, schema, correlation)
 }
 
 // Copies every entry of a record that can be kept, and lists the spans left out, place and length of each: the entries kept, the bytes copied and the

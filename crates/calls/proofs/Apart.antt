@@ -23,7 +23,7 @@ use Rattle.calls.specs.declared.Judged.{Judged}
 use Rattle.calls.specs.declared.Judged.the-variants.{Stop, Opens, Goes}
 use Rattle.calls.specs.Forms.{rowOf}
 use Rattle.calls.specs.Numbers.{endsCall, EndsCall, payload, many-pairs}
-use Rattle.calls.specs.Record.{emptyCall, openedCall, isCall, isFree, complete, allowed, notAllowed, marked, withMark, ends, afterFrame}
+use Rattle.calls.specs.Record.{emptyCall, openedCall, isCall, isFree, complete, allowed, notAllowed, atLimit, marked, withMark, ends, afterFrame}
 use Rattle.calls.specs.Slots.{slot, firstSlot, countOpen, formRow, Own, none, one, recordAt, ownOf, full}
 use Rattle.calls.specs.Judge.{rightSide, payloadOf, Verdict, stop, opens, goes, openVerdict, invokeVerdict, otherVerdict, verdictOf, releaseVerdict, placed, judgeOf, judgeRelease}
 use Rattle.calls.specs.Step.{numberOf, slotsAfter, stepOf, dueOf, receive, release}
@@ -93,9 +93,9 @@ module _ (T : Table) (f : Frame) (reading : Payload → ℕ) where
       number-by J (reading (dueOf J)) ∙ ap (λ (d : Payload). verdictNumber (verdict J) (reading d)) (due-by J) ∙ ap answer (judged-by T f l)
 
 -- A release's number, by the own record.
-pub release-answered : (id : ℕ) (l : List Call) → release id l .number ≡ verdictNumber (releaseVerdict (ownOf id l)) 0
+pub release-answered : (id n : ℕ) (l : List Call) → release id n l .number ≡ verdictNumber (releaseVerdict (ownOf id l)) n
 unfolding release stepOf
-release-answered id l = number-by (judgeRelease id l) 0 ∙ ap (λ (v : Verdict). verdictNumber v 0) (released-by id l)
+release-answered id n l = number-by (judgeRelease id l) n ∙ ap (λ (v : Verdict). verdictNumber v n) (released-by id l)
 
 -- Two tables with the same own record and, for INVOKE, as much room get the same judgement but for the slot.
 module _ (T : Table) (f : Frame) (l₁ l₂ : List Call) (same : ownOf (f .correlation) l₁ ≡ ownOf (f .correlation) l₂) (room : f .kind ≡ 1 → full l₁ ≡ full l₂) where
@@ -183,10 +183,10 @@ own-after T f l g reading =
     ∙ ap (λ (d : Payload). verdictOwn (verdict J) (reading d) own) (due-by J)
     ∙ ap (λ (v : Verdict). verdictOwn v (reading (verdictDue v)) own) (judged-by T f l)
 
-pub release-own : (T : Table) (id : ℕ) (l : List Call) → GoodTable T l → ownOf id (release id l .table .slots) ≡ verdictOwn (releaseVerdict (ownOf id l)) 0 (ownOf id l)
+pub release-own : (T : Table) (id n : ℕ) (l : List Call) → GoodTable T l → ownOf id (release id n l .table .slots) ≡ verdictOwn (releaseVerdict (ownOf id l)) n (ownOf id l)
 unfolding release stepOf
-release-own T id l g =
-    stepped-own T id l g 0 (release-fits T id l) ∙ ap (λ (v : Verdict). verdictOwn v 0 (ownOf id l)) (released-by id l)
+release-own T id n l g =
+    stepped-own T id l g n (release-fits T id l) ∙ ap (λ (v : Verdict). verdictOwn v n (ownOf id l)) (released-by id l)
 
 -- ---- the other records
 -- a record that is free, or open under id, is open under no other correlation
@@ -237,9 +237,9 @@ pub others-kept : (T : Table) (f : Frame) (l : List Call) (reading : Payload →
 unfolding receive stepOf
 others-kept T f l reading k n = stepped-other T (f .correlation) l k n (reading (dueOf (judgeOf T f l))) (frame-fits T f l)
 
-pub release-others : (T : Table) (id : ℕ) (l : List Call) (k : ℕ) → (k ≡ id → ⊥) → ownOf k (release id l .table .slots) ≡ ownOf k l
+pub release-others : (T : Table) (id n : ℕ) (l : List Call) (k : ℕ) → (k ≡ id → ⊥) → ownOf k (release id n l .table .slots) ≡ ownOf k l
 unfolding release stepOf
-release-others T id l k n = stepped-other T id l k n 0 (release-fits T id l)
+release-others T id n l k h = stepped-other T id l k h n (release-fits T id l)
 
 -- an accepted frame is no refusal
 none-ended : endsCall 0 ≡ false
@@ -281,9 +281,9 @@ pub open-kept : (T : Table) (f : Frame) (l : List Call) (reading : Payload → �
 open-kept T f l reading i o n = other-slots T f l reading i (λ t. n (touched-own T (f .correlation) l (frame-fits T f l) i t o))
 
 -- A release changes no slot but its own call's.
-pub release-kept : (id : ℕ) (l : List Call) (i : ℕ) → isCall id (slot l i) ≡ false → slot (release id l .table .slots) i ≡ slot l i
+pub release-kept : (id n : ℕ) (l : List Call) (i : ℕ) → isCall id (slot l i) ≡ false → slot (release id n l .table .slots) i ≡ slot l i
 unfolding release stepOf
-release-kept id l i n = untouched l 0 (judgeRelease id l) i (λ t. clash (isCall id (slot l i)) (go (judgeRelease id l) refl t) n)
+release-kept id n l i h = untouched l n (judgeRelease id l) i (λ t. clash (isCall id (slot l i)) (go (judgeRelease id l) refl t) h)
   where
     go : (J : Judged) → judgeRelease id l ≡ J → touched J ≡ At i → isCall id (slot l i) ≡ true
     go (Stop m) e t = missing-at i t
@@ -360,13 +360,14 @@ module _ (T : Table) (f : Frame) (l : List Call) (i : ℕ) (o : slot l i .«open
   freed reading q = freed-by (reading (dueOf (judgeOf T f l))) q
 
 -- A release frees the slot of its own call alone, and only where that is cancelled.
-pub release-freed : (T : Table) (id : ℕ) (l : List Call) (i : ℕ) → slot l i .«open» ≡ true →
-    let r = release id l in slot (r .table .slots) i .«open» ≡ false → Freed T (event.release id) (r .number) (slot l i)
+pub release-freed : (T : Table) (id n : ℕ) (l : List Call) → endsCall n ≡ false → (i : ℕ) → slot l i .«open» ≡ true →
+    let r = release id n l in slot (r .table .slots) i .«open» ≡ false → Freed T (event.release id) (r .number) (slot l i)
 unfolding release stepOf
-release-freed T id l i o q =
-    let w = emptied T id l i o 0 (release-fits T id l) q in
+release-freed T id n l k i o q =
+    let w = emptied T id l i o n (release-fits T id l) q in
     let g = released-goes id l i (w .next) (w .due) (w .isGoing) in
-    rw (w .isGoing) (record { isOwn = w .isOwn; cause = released id (g .isCancelled) })
+    let z : n ≡ 0 = ⊎-elim (λ t. clash (endsCall n) t k) (λ r. r .0) (w .why) in
+    rw (w .isGoing, z) (record { isOwn = w .isOwn; cause = released id (g .isCancelled) })
 
 -- ---- what changes no call
 same-slots : (T : Table) (f : Frame) (l : List Call) (p : ℕ) (J : Judged) → judgeOf T f l ≡ J → (numberOf J p ≡ 0 → ⊥) →
@@ -383,35 +384,35 @@ unfolding receive stepOf
 refused-same T f reading l h w = same-slots T f l (reading (dueOf (judgeOf T f l))) (judgeOf T f l) refl h w
 
 -- A release that is refused changes none.
-pub release-same : (id : ℕ) (l : List Call) → let r = release id l in (r .number ≡ 0 → ⊥) → r .table .slots ≡ l
+pub release-same : (id n : ℕ) (l : List Call) → endsCall n ≡ false → let r = release id n l in (r .number ≡ 0 → ⊥) → r .table .slots ≡ l
 unfolding release stepOf
-release-same id l = go (judgeRelease id l)
+release-same id n l k = go (judgeRelease id l)
   where
-    go : (J : Judged) → (numberOf J 0 ≡ 0 → ⊥) → slotsAfter J 0 l ≡ l
-    go (Stop n) h = refl
-    go (Opens j c d) h = absurd (h refl)
-    go (Goes i c d) h = absurd (h refl)
+    go : (J : Judged) → (numberOf J n ≡ 0 → ⊥) → slotsAfter J n l ≡ l
+    go (Stop m) h = refl
+    go (Opens j c d) h = rw (ne-eqb n 0 h)
+    go (Goes i c d) h = rw (ne-eqb n 0 h, k)
 
 -- ---- what ends a call
-spared : {n : ℕ} → (8 ≤ n) × (n ≤ 16) → EndsCall n → ⊥
+spared : {n : ℕ} → (8 ≤ n) × (n ≤ 17) → EndsCall n → ⊥
 spared w (payload low high) = omega (arith, w .1, low)
 spared w many-pairs = omega (arith, w .1)
 
 -- a release that is accepted
-gone : (own : Own) → verdictNumber (releaseVerdict own) 0 ≡ 0 → verdictOwn (releaseVerdict own) 0 own ≡ none
-gone none e = absurd (omega arith)
-gone (one c) e = go (c .cancelled) e
+gone : (n : ℕ) (own : Own) → verdictNumber (releaseVerdict own) n ≡ 0 → verdictOwn (releaseVerdict own) n own ≡ none
+gone n none e = absurd (omega arith)
+gone n (one c) e = go (c .cancelled) e
   where
-    go : (b : Bool) → verdictNumber (cond b (goes emptyCall Unread) (stop 14)) 0 ≡ 0 → verdictOwn (cond b (goes emptyCall Unread) (stop 14)) 0 (one c) ≡ none
-    go true z = refl
+    go : (b : Bool) → verdictNumber (cond b (goes emptyCall Unread) (stop 14)) n ≡ 0 → verdictOwn (cond b (goes emptyCall Unread) (stop 14)) n (one c) ≡ none
+    go true z = rw z
     go false z = absurd (omega arith)
 
-pub release-ends : (T : Table) (id : ℕ) (l : List Call) → GoodTable T l → release id l .number ≡ 0 → ownOf id (release id l .table .slots) ≡ none
-release-ends T id l g e = release-own T id l g ∙ gone (ownOf id l) (sym (release-answered id l) ∙ e)
+pub release-ends : (T : Table) (id n : ℕ) (l : List Call) → GoodTable T l → release id n l .number ≡ 0 → ownOf id (release id n l .table .slots) ≡ none
+release-ends T id n l g e = release-own T id n l g ∙ gone n (ownOf id l) (sym (release-answered id n l) ∙ e)
 
--- the numbers before the payload are 8 to 16
+-- the numbers before the payload are 8 to 17
 Spares : Verdict → Type 0
-Spares (stop n) = (8 ≤ n) × (n ≤ 16)
+Spares (stop n) = (8 ≤ n) × (n ≤ 17)
 Spares (opens c d) = Unit {0}
 Spares (goes c d) = Unit {0}
 
@@ -439,9 +440,11 @@ module _ (T : Table) (f : Frame) (l : List Call) where
       let m = methodRow T (c .method) in
       let next = goes (afterFrame (rowOf (m .form)) (f .kind) c) (payloadOf m (f .kind)) in
       let late = stop (notAllowed (f .kind) c) in
+      let few = cond (atLimit (f .kind) c) (stop 17) next in
       let may = allowed (rowOf (m .form)) (f .kind) c in
-      cond-case Spares (named (f .«package») (f .service) (f .method) m) (cond may next late) (stop 12)
-      (λ _. cond-case Spares may next late (λ _. tt) (λ _. spares-late (c .cancelled && (leb 4 (f .kind) && leb (f .kind) 7))))
+      cond-case Spares (named (f .«package») (f .service) (f .method) m) (cond may few late) (stop 12)
+      (λ _. cond-case Spares may few late (λ _. cond-case Spares (atLimit (f .kind) c) (stop 17) next (λ _. (lit≤ tt, lit≤ tt)) (λ _. tt))
+      (λ _. spares-late (c .cancelled && (leb 4 (f .kind) && leb (f .kind) 7))))
       (λ _. (lit≤ tt, lit≤ tt))
 
   spares-verdict : (own : Own) (b : Bool) → Spares (verdictOf T f own b)
@@ -456,8 +459,8 @@ module _ (T : Table) (f : Frame) (l : List Call) where
   spares : Spares (verdict (judgeOf T f l))
   spares = rw (judged-by T f l) (spares-verdict (ownOf (f .correlation) l) (full l))
 
-  -- A refusal before the payload has a number from 8 to 16.
-  pub stop-number : (n : ℕ) → judgeOf T f l ≡ Stop n → (8 ≤ n) × (n ≤ 16)
+  -- A refusal before the payload has a number from 8 to 17.
+  pub stop-number : (n : ℕ) → judgeOf T f l ≡ Stop n → (8 ≤ n) × (n ≤ 17)
   unfolding Spares
   stop-number n e = subst (λ (J : Judged). Spares (verdict J)) e spares
 
@@ -540,17 +543,18 @@ error-due : (T : Table) (f : Frame) (own : Own) (b : Bool) → f .kind ≡ 7 →
 unfolding verdictOf
 error-due T f own b e = go (rightSide (f .side) (f .kind)) (eqb (f .kind) 1) (ne-eqb (f .kind) 1 (λ z. omega arith)) own
   where
-    call : (a b : Bool) (x : Call) (d : Payload) (n : ℕ) → d ≡ Unread → verdictDue (cond a (cond b (goes x d) (stop n)) (stop 12)) ≡ Unread
-    call true true x d n h = h
-    call true false x d n h = refl
-    call false b x d n h = refl
+    call : (a b z : Bool) (x : Call) (d : Payload) (n : ℕ) → d ≡ Unread → verdictDue (cond a (cond b (cond z (stop 17) (goes x d)) (stop n)) (stop 12)) ≡ Unread
+    call true true true x d n h = refl
+    call true true false x d n h = h
+    call true false z x d n h = refl
+    call false b z x d n h = refl
 
     other : (own : Own) → verdictDue (otherVerdict T f own) ≡ Unread
     other none = refl
     other (one c) =
         let m = methodRow T (c .method) in
-        call (named (f .«package») (f .service) (f .method) m) (allowed (rowOf (m .form)) (f .kind) c) (afterFrame (rowOf (m .form)) (f .kind) c)
-        (payloadOf m (f .kind)) (notAllowed (f .kind) c) (error-payload m (f .kind) e)
+        call (named (f .«package») (f .service) (f .method) m) (allowed (rowOf (m .form)) (f .kind) c) (atLimit (f .kind) c)
+        (afterFrame (rowOf (m .form)) (f .kind) c) (payloadOf m (f .kind)) (notAllowed (f .kind) c) (error-payload m (f .kind) e)
 
     go : (a q : Bool) → q ≡ false → (own : Own) →
         verdictDue (cond a (cond q (invokeVerdict T (f .correlation) (findMethod T (f .«package») (f .service) (f .method)) own b) (otherVerdict T f own)) (stop 8)) ≡ Unread
@@ -567,15 +571,17 @@ module _ (T : Table) (f : Frame) (l : List Call) (i : ℕ) (o : slot l i .«open
   is-error : allowed (formRow T (slot l i)) (f .kind) (slot l i) ≡ true → f .kind ≡ 7
   is-error a = ⊎-elim (eqb-true (f .kind) 7) (λ q. clash false (rw late at q) refl) (or-cases (eqb (f .kind) 7) _ a)
 
-  freed-late : (reading : Payload → ℕ) → reading Unread ≡ 0 → (J : Judged) → judgeOf T f l ≡ J → Emptied (f .correlation) l (reading (dueOf J)) J i
+  freed-late : (reading : Payload → ℕ) → endsCall (reading Unread) ≡ false → (J : Judged) → judgeOf T f l ≡ J → Emptied (f .correlation) l (reading (dueOf J)) J i
       → (isCall (f .correlation) (slot l i) ≡ true) × (f .kind ≡ 7) × (numberOf J (reading (dueOf J)) ≡ 0)
   freed-late reading z J e w =
       let going : judgeOf T f l ≡ Goes i (w .next) (w .due) = e ∙ w .isGoing in
       let k = is-error (judged-goes T f l i (w .next) (w .due) going .isAllowed) in
       let due : w .due ≡ Unread = sym (ap dueOf going) ∙ error-unread T f l k in
-      (w .isOwn, k, ap (λ (x : Judged). numberOf x (reading (dueOf x))) (w .isGoing) ∙ ap reading due ∙ z)
+      let same : reading (dueOf J) ≡ reading Unread = ap (λ (x : Judged). reading (dueOf x)) (w .isGoing) ∙ ap reading due in
+      let zero : reading (dueOf J) ≡ 0 = ⊎-elim (λ t. clash (endsCall (reading Unread)) (sym (ap endsCall same) ∙ t) z) (λ r. r .0) (w .why) in
+      (w .isOwn, k, ap (λ (x : Judged). numberOf x (reading (dueOf J))) (w .isGoing) ∙ zero)
 
-  pub cancelled-freed : (reading : Payload → ℕ) → reading Unread ≡ 0 → let r = receive T f reading l in
+  pub cancelled-freed : (reading : Payload → ℕ) → endsCall (reading Unread) ≡ false → let r = receive T f reading l in
       slot (r .table .slots) i .«open» ≡ false → (isCall (f .correlation) (slot l i) ≡ true) × (f .kind ≡ 7) × (r .number ≡ 0)
   unfolding receive stepOf
   cancelled-freed reading z q =

@@ -37,5 +37,7 @@ any-open T c b g =
       inputClosed = g .inputClosed;
       outputClosed = g .outputClosed;
       afterResponse = g .afterResponse;
+      inputElements = g .inputElements;
+      outputElements = g .outputElements;
       notComplete = g .notComplete;
     }

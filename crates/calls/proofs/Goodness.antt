@@ -2,7 +2,7 @@
 -- Assumes nothing.
 use mathlib.Core.Path.{_≡_, refl, sym, ap, subst}
 use mathlib.Core.Logic.{⊎-elim}
-use mathlib.Core.Bool.{Bool, true, false, not, cond, _&&_}
+use mathlib.Core.Bool.{Bool, true, false, not, cond, _&&_, _||_}
 use mathlib.Core.List.{List, [], _∷_}
 use Prim.Native.Nat.{ℕ, zero, suc}
 use native.Mathlib.Omega.{arith}
@@ -19,9 +19,19 @@ use Rattle.schema.proofs.Bools.{cases, clash, and-i, and-left, and-right, or-ri
 use Rattle.calls.proofs.Bools.{imp-i, imp-e}
 
 -- ---- one record
-members : (a b : ℕ) (o r i u x : Bool) → a ≡ 0 → b ≡ 0 → o ≡ false → r ≡ false → i ≡ false → u ≡ false → x ≡ false →
-    record { correlation = a; method = b; «open» = o; responded = r; «input_closed» = i; «output_closed» = u; cancelled = x } ≡ emptyCall
-members a b o r i u x p q s t v w y = rw (p, q, s, t, v, w, y)
+members : (a b : ℕ) (o r i u x : Bool) (p q : ℕ) → a ≡ 0 → b ≡ 0 → o ≡ false → r ≡ false → i ≡ false → u ≡ false → x ≡ false → p ≡ 0 → q ≡ 0 →
+    record {
+      correlation = a;
+      method = b;
+      «open» = o;
+      responded = r;
+      «input_closed» = i;
+      «output_closed» = u;
+      cancelled = x;
+      «input_elements» = p;
+      «output_elements» = q;
+    } ≡ emptyCall
+members a b o r i u x p q e₁ e₂ e₃ e₄ e₅ e₆ e₇ e₈ e₉ = rw (e₁, e₂, e₃, e₄, e₅, e₆, e₇, e₈, e₉)
 
 zero-is : (c : Call) → c .«open» ≡ false → zeroCall c ≡ true → c ≡ emptyCall
 zero-is c o z =
@@ -31,14 +41,30 @@ zero-is c o z =
     let i = not (c .«input_closed») in
     let u = not (c .«output_closed») in
     let x = not (c .cancelled) in
-    let z₁ = and-right id (m && (r && (i && (u && x)))) z in
-    let z₂ = and-right m (r && (i && (u && x))) z₁ in
-    let z₃ = and-right r (i && (u && x)) z₂ in
-    let z₄ = and-right i (u && x) z₃ in
+    let p = eqb (c .«input_elements») 0 in
+    let q = eqb (c .«output_elements») 0 in
+    let z₁ = and-right id (m && (r && (i && (u && (x && (p && q)))))) z in
+    let z₂ = and-right m (r && (i && (u && (x && (p && q))))) z₁ in
+    let z₃ = and-right r (i && (u && (x && (p && q)))) z₂ in
+    let z₄ = and-right i (u && (x && (p && q))) z₃ in
+    let z₅ = and-right u (x && (p && q)) z₄ in
+    let z₆ = and-right x (p && q) z₅ in
     members (c .correlation) (c .method) (c .«open») (c .responded) (c .«input_closed») (c .«output_closed») (c .cancelled)
-    (eqb-true (c .correlation) 0 (and-left id (m && (r && (i && (u && x)))) z)) (eqb-true (c .method) 0 (and-left m (r && (i && (u && x))) z₁)) o
-    (not-true (c .responded) (and-left r (i && (u && x)) z₂)) (not-true (c .«input_closed») (and-left i (u && x) z₃))
-    (not-true (c .«output_closed») (and-left u x z₄)) (not-true (c .cancelled) (and-right u x z₄))
+    (c .«input_elements») (c .«output_elements»)
+    (eqb-true (c .correlation) 0 (and-left id (m && (r && (i && (u && (x && (p && q)))))) z))
+    (eqb-true (c .method) 0 (and-left m (r && (i && (u && (x && (p && q))))) z₁)) o
+    (not-true (c .responded) (and-left r (i && (u && (x && (p && q)))) z₂)) (not-true (c .«input_closed») (and-left i (u && (x && (p && q))) z₃))
+    (not-true (c .«output_closed») (and-left u (x && (p && q)) z₄)) (not-true (c .cancelled) (and-left x (p && q) z₅))
+    (eqb-true (c .«input_elements») 0 (and-left p q z₆)) (eqb-true (c .«output_elements») 0 (and-right p q z₆))
+
+-- a count is 0, or the form has the stream
+none-or : (b : Bool) (n : ℕ) → (b || eqb n 0) ≡ true → b ≡ false → n ≡ 0
+none-or true n h e = clash true refl e
+none-or false n h e = eqb-true n 0 h
+
+or-zero : (b : Bool) (n : ℕ) → (b ≡ false → n ≡ 0) → (b || eqb n 0) ≡ true
+or-zero true n f = refl
+or-zero false n f = eq-eqb n 0 (f refl)
 
 module _ (T : Table) (c : Call) where
   abbrev row : FormRow
@@ -53,29 +79,42 @@ module _ (T : Table) (c : Call) where
   abbrev output : Bool
   output = implies (c .«output_closed») (row .3 && c .responded)
 
+  abbrev inputs : Bool
+  inputs = row .0 || eqb (c .«input_elements») 0
+
+  abbrev outputs : Bool
+  outputs = row .2 || eqb (c .«output_elements») 0
+
   abbrev incomplete : Bool
   incomplete = not (complete row c)
 
   open-clauses : goodOpen (length (T .methods)) row c ≡ true → GoodCall T c
   open-clauses g =
-      let g₁ = and-right known (input && (output && incomplete)) g in
-      let g₂ = and-right input (output && incomplete) g₁ in
-      let closed : c .«output_closed» ≡ true → (row .3 && c .responded) ≡ true = imp-e (c .«output_closed») (row .3 && c .responded) (and-left output incomplete g₂) in
+      let counts = inputs && (outputs && incomplete) in
+      let g₁ = and-right known (input && (output && counts)) g in
+      let g₂ = and-right input (output && counts) g₁ in
+      let g₃ = and-right output counts g₂ in
+      let g₄ = and-right inputs (outputs && incomplete) g₃ in
+      let closed : c .«output_closed» ≡ true → (row .3 && c .responded) ≡ true = imp-e (c .«output_closed») (row .3 && c .responded) (and-left output counts g₂) in
       record {
-        methodExists = ltb-true (c .method) (length (T .methods)) (and-left known (input && (output && incomplete)) g);
-        inputClosed = imp-e (c .«input_closed») (row .1) (and-left input (output && incomplete) g₁);
+        methodExists = ltb-true (c .method) (length (T .methods)) (and-left known (input && (output && counts)) g);
+        inputClosed = imp-e (c .«input_closed») (row .1) (and-left input (output && counts) g₁);
         outputClosed = λ o. and-left (row .3) (c .responded) (closed o);
         afterResponse = λ o. and-right (row .3) (c .responded) (closed o);
-        notComplete = not-true (complete row c) (and-right output incomplete g₂);
+        inputElements = none-or (row .0) (c .«input_elements») (and-left inputs (outputs && incomplete) g₃);
+        outputElements = none-or (row .2) (c .«output_elements») (and-left outputs incomplete g₄);
+        notComplete = not-true (complete row c) (and-right outputs incomplete g₄);
       }
 
   open-test : GoodCall T c → goodOpen (length (T .methods)) row c ≡ true
   open-test g =
-      and-i known (input && (output && incomplete)) (lt-ltb (c .method) (length (T .methods)) (g .methodExists))
-      (and-i input (output && incomplete) (imp-i (c .«input_closed») (row .1) (g .inputClosed))
-      (and-i output incomplete
+      let counts = inputs && (outputs && incomplete) in
+      and-i known (input && (output && counts)) (lt-ltb (c .method) (length (T .methods)) (g .methodExists))
+      (and-i input (output && counts) (imp-i (c .«input_closed») (row .1) (g .inputClosed))
+      (and-i output counts
       (imp-i (c .«output_closed») (row .3 && c .responded) (λ o. and-i (row .3) (c .responded) (g .outputClosed o) (g .afterResponse o)))
-      (not-i (complete row c) (g .notComplete))))
+      (and-i inputs (outputs && incomplete) (or-zero (row .0) (c .«input_elements») (g .inputElements))
+      (and-i outputs incomplete (or-zero (row .2) (c .«output_elements») (g .outputElements)) (not-i (complete row c) (g .notComplete))))))
 
   call-open : goodCall T c ≡ true → c .«open» ≡ true → GoodCall T c
   unfolding goodCall

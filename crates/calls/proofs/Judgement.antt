@@ -18,7 +18,7 @@ use Rattle.calls.specs.declared.Payload.{Payload}
 use Rattle.calls.specs.declared.Payload.the-variants.{Unread}
 use Rattle.calls.specs.declared.Judged.the-variants.{Opens, Goes}
 use Rattle.calls.specs.Forms.{rowOf}
-use Rattle.calls.specs.Record.{isCall, isFree, emptyCall, openedCall, allowed, notAllowed, afterFrame}
+use Rattle.calls.specs.Record.{isCall, isFree, emptyCall, openedCall, allowed, notAllowed, atLimit, afterFrame}
 use Rattle.calls.specs.Slots.{slot, firstSlot, slotOf, Own, none, one, recordAt, ownOf, full, formRow}
 use Rattle.calls.specs.Judge.{rightSide, payloadOf, Verdict, stop, opens, goes, openVerdict, invokeVerdict, callVerdict, otherVerdict, verdictOf, releaseVerdict, placed, slotFor, judgeOf, judgeRelease}
 
@@ -53,6 +53,11 @@ module _ (l : List Call) where
       go Missing e s = differ cc
       go (At k) e s = let same : slot l k ≡ c = cc in (ap At s, sym same ∙ ap (slot l) s)
 
+  -- the record of the call that is found
+  pub own-at : (id i : ℕ) → firstSlot (isCall id) 0 l ≡ At i → ownOf id l ≡ one (slot l i)
+  unfolding ownOf
+  own-at id i e = rw e
+
   not-full : (j : ℕ) → full l ≡ false → slotOf (firstSlot isFree 0 l) ≡ j → firstSlot isFree 0 l ≡ At j
   unfolding full
   not-full j = go (firstSlot isFree 0 l)
@@ -84,13 +89,13 @@ module _ (T : Table) (f : Frame) where
   open-never new c p d none false e = differ cc
 
   -- of the method that its identifiers name; the identifier is not open, and there is room
-  record Invoked (own : Own) (b : Bool) (c : Call) : Type 0 where
-    method : ℕ
-    isMethod : foundMethod ≡ At method
-    isInvoke : f .kind ≡ 1
-    isNew : c ≡ openedCall method id
-    notOpen : own ≡ none
-    room : b ≡ false
+  pub record Invoked (own : Own) (b : Bool) (c : Call) : Type 0 where
+    pub method : ℕ
+    pub isMethod : foundMethod ≡ At method
+    pub isInvoke : f .kind ≡ 1
+    pub isNew : c ≡ openedCall method id
+    pub notOpen : own ≡ none
+    pub room : b ≡ false
 
   invoke-opens : (g : Found) (own : Own) (b : Bool) (c : Call) (d : Payload) → foundMethod ≡ g → f .kind ≡ 1 → invokeVerdict T id g own b ≡ opens c d → Invoked own b c
   invoke-opens Missing own b c d m k e = differ cc
@@ -107,6 +112,10 @@ module _ (T : Table) (f : Frame) where
     abbrev next : Verdict
     next = goes (afterFrame (rowOf (m .form)) (f .kind) x) (payloadOf m (f .kind))
 
+    -- below the element limit
+    abbrev few : Verdict
+    few = cond (atLimit (f .kind) x) (stop 17) next
+
     abbrev late : Verdict
     late = stop (notAllowed (f .kind) x)
 
@@ -116,31 +125,33 @@ module _ (T : Table) (f : Frame) where
     abbrev may : Bool
     may = allowed (rowOf (m .form)) (f .kind) x
 
-    call-goes : (c : Call) (d : Payload) → callVerdict m f x ≡ goes c d → (may ≡ true) × (c ≡ afterFrame (rowOf (m .form)) (f .kind) x)
+    call-goes : (c : Call) (d : Payload) → callVerdict m f x ≡ goes c d → (may ≡ true) × (atLimit (f .kind) x ≡ false) × (c ≡ afterFrame (rowOf (m .form)) (f .kind) x)
     call-goes c d e =
-        let r = chosen may next late (λ q. differ cc) (chosen isNamed (cond may next late) (stop 12) (λ q. differ cc) e .1) in
-        let q : next ≡ goes c d = r .1 in
-        (r .0, cc)
+        let r = chosen may few late (λ q. differ cc) (chosen isNamed (cond may few late) (stop 12) (λ q. differ cc) e .1) in
+        let w = passed-over (atLimit (f .kind) x) (stop 17) next (λ q. differ cc) (r .1) in
+        let q : next ≡ goes c d = w .1 in
+        (r .0, w .0, cc)
 
     call-never : (c : Call) (d : Payload) → callVerdict m f x ≡ opens c d → ⊥
     call-never c d e =
-        let r = chosen may next late (λ q. differ cc) (chosen isNamed (cond may next late) (stop 12) (λ q. differ cc) e .1) in
-        let q : next ≡ opens c d = r .1 in
+        let r = chosen may few late (λ q. differ cc) (chosen isNamed (cond may few late) (stop 12) (λ q. differ cc) e .1) in
+        let q : next ≡ opens c d = passed-over (atLimit (f .kind) x) (stop 17) next (λ q. differ cc) (r .1) .1 in
         differ cc
 
   -- to the open call x, where it is allowed; its record then is c
-  record Reached (own : Own) (c : Call) : Type 0 where
-    call : Call
-    isOther : f .kind ≡ 1 → ⊥
-    isOpen : own ≡ one call
-    isAllowed : allowed (formRow T call) (f .kind) call ≡ true
-    isNext : c ≡ afterFrame (formRow T call) (f .kind) call
+  pub record Reached (own : Own) (c : Call) : Type 0 where
+    pub call : Call
+    pub isOther : f .kind ≡ 1 → ⊥
+    pub isOpen : own ≡ one call
+    pub isAllowed : allowed (formRow T call) (f .kind) call ≡ true
+    pub isBelow : atLimit (f .kind) call ≡ false
+    pub isNext : c ≡ afterFrame (formRow T call) (f .kind) call
 
   other-goes : (own : Own) (c : Call) (d : Payload) → (f .kind ≡ 1 → ⊥) → otherVerdict T f own ≡ goes c d → Reached own c
   other-goes none c d n e = differ cc
   other-goes (one x) c d n e =
       let r = call-goes (methodRow T (x .method)) x c d e in
-      record { call = x; isOther = n; isOpen = refl; isAllowed = r .0; isNext = r .1 }
+      record { call = x; isOther = n; isOpen = refl; isAllowed = r .0; isBelow = r .1; isNext = r .2 }
 
   other-never : (own : Own) (c : Call) (d : Payload) → otherVerdict T f own ≡ opens c d → ⊥
   other-never none c d e = differ cc
@@ -154,14 +165,14 @@ module _ (T : Table) (f : Frame) where
     abbrev other : Verdict
     other = otherVerdict T f own
 
-    verdict-opens : verdictOf T f own b ≡ opens c d → Invoked own b c
+    pub verdict-opens : verdictOf T f own b ≡ opens c d → Invoked own b c
     unfolding verdictOf
     verdict-opens e =
         let r = chosen right (cond (eqb (f .kind) 1) invoke other) (stop 8) (λ q. differ cc) e in
         let s = chosen (eqb (f .kind) 1) invoke other (other-never own c d) (r .1) in
         invoke-opens foundMethod own b c d refl (eqb-true (f .kind) 1 (s .0)) (s .1)
 
-    verdict-goes : verdictOf T f own b ≡ goes c d → Reached own c
+    pub verdict-goes : verdictOf T f own b ≡ goes c d → Reached own c
     unfolding verdictOf
     verdict-goes e =
         let r = chosen right (cond (eqb (f .kind) 1) invoke other) (stop 8) (λ q. differ cc) e in
@@ -184,6 +195,7 @@ module _ (T : Table) (f : Frame) (l : List Call) where
     pub isOther : f .kind ≡ 1 → ⊥
     pub isOwn : firstSlot (isCall (f .correlation)) 0 l ≡ At i
     pub isAllowed : allowed (formRow T (slot l i)) (f .kind) (slot l i) ≡ true
+    pub isBelow : atLimit (f .kind) (slot l i) ≡ false
     pub isNext : c ≡ afterFrame (formRow T (slot l i)) (f .kind) (slot l i)
 
   abbrev v : Verdict
@@ -215,6 +227,7 @@ module _ (T : Table) (f : Frame) (l : List Call) where
         isOther = w .isOther;
         isOwn = o .0;
         isAllowed = subst (λ (x : Call). allowed (formRow T x) (f .kind) x ≡ true) (o .1) (w .isAllowed);
+        isBelow = subst (λ (x : Call). atLimit (f .kind) x ≡ false) (o .1) (w .isBelow);
         isNext = w .isNext ∙ ap (λ (x : Call). afterFrame (formRow T x) (f .kind) x) (o .1);
       }
 

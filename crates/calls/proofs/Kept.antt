@@ -7,7 +7,7 @@ use mathlib.Core.List.{List}
 use Prim.Native.Nat.{ℕ, _<_}
 use lib.ListN.{length, set, length-set}
 use lib.Dec.{eqb}
-use borrow.Author.Tests.{eqb-true, eqb-false, eq-eqb}
+use borrow.Author.Tests.{eqb-true, eqb-false, eq-eqb, ne-eqb}
 use Rattle.schema.specs.Table.{Table}
 use Rattle.calls.specs.declared.Call.{Call}
 use Rattle.calls.specs.declared.FormRow.{FormRow}
@@ -16,7 +16,7 @@ use Rattle.calls.specs.declared.Payload.{Payload}
 use Rattle.calls.specs.declared.Judged.{Judged}
 use Rattle.calls.specs.declared.Judged.the-variants.{Stop, Opens, Goes}
 use Rattle.calls.specs.Numbers.{endsCall}
-use Rattle.calls.specs.Record.{emptyCall, openedCall, isCall, isFree, complete, allowed, marked, ends, afterFrame}
+use Rattle.calls.specs.Record.{emptyCall, openedCall, isCall, isFree, complete, allowed, counting, marked, ends, afterFrame}
 use Rattle.calls.specs.Slots.{slot, firstSlot, formRow, goodTable}
 use Rattle.calls.specs.Judge.{judgeOf, judgeRelease}
 use Rattle.calls.specs.Step.{slotsAfter, stepOf, dueOf, receive, release}
@@ -93,11 +93,29 @@ good-opened T m id h =
       inputClosed = λ o. clash false o refl;
       outputClosed = λ o. clash false o refl;
       afterResponse = λ o. clash false o refl;
+      inputElements = λ o. refl;
+      outputElements = λ o. refl;
       notComplete = refl;
     }
 
--- what `allowed` asks of the two closes
+-- what `allowed` asks of the two closes and of stream elements
 module _ (row : FormRow) (c : Call) where
+  in-stream : allowed row 2 c ≡ true → row .0 ≡ true
+  in-stream a = go (c .cancelled) (row .0) a
+    where
+      go : (x b : Bool) → (not x && ((b && not (c .«input_closed»)) || false)) ≡ true → b ≡ true
+      go true b h = clash false h refl
+      go false true h = refl
+      go false false h = h
+
+  out-stream : allowed row 4 c ≡ true → row .2 ≡ true
+  out-stream a = go (c .cancelled) (row .2) (c .responded) a
+    where
+      go : (x b d : Bool) → (not x && ((b && (d && not (c .«output_closed»))) || false)) ≡ true → b ≡ true
+      go true b d h = clash false h refl
+      go false true d h = refl
+      go false false d h = h
+
   in-close : allowed row 3 c ≡ true → row .1 ≡ true
   in-close a = go (c .cancelled) (row .1) a
     where
@@ -114,6 +132,10 @@ module _ (row : FormRow) (c : Call) where
       go false true true h = refl
       go false true false h = h
       go false false d h = h
+
+-- without the stream no element is counted
+none-counted : (kind k n : ℕ) (b : Bool) → (kind ≡ k → b ≡ true) → b ≡ false → n ≡ 0 → counting (eqb kind k) n ≡ 0
+none-counted kind k n b f z e = rw (ne-eqb kind k (λ q. clash b (f q) z), e)
 
 module _ (T : Table) (kind : ℕ) (c : Call) where
   abbrev row : FormRow
@@ -136,6 +158,10 @@ module _ (T : Table) (kind : ℕ) (c : Call) where
         afterResponse = λ o.
             or-left (c .responded) (eqb kind 6)
             (⊎-elim (g .afterResponse) (λ q. and-right (row .3) (c .responded) (out q)) (or-cases (c .«output_closed») (eqb kind 5) o));
+        inputElements = λ z.
+            none-counted kind 2 (c .«input_elements») (row .0) (λ e. in-stream row c (subst (λ (k : ℕ). allowed row k c ≡ true) e a)) z (g .inputElements z);
+        outputElements = λ z.
+            none-counted kind 4 (c .«output_elements») (row .2) (λ e. out-stream row c (subst (λ (k : ℕ). allowed row k c ≡ true) e a)) z (g .outputElements z);
         notComplete = d;
       }
 
@@ -298,14 +324,14 @@ module _ (T : Table) (f : Frame) (reading : Payload → ℕ) (l : List Call) whe
   stays-long = slots-length (reading (dueOf (judgeOf T f l))) (judgeOf T f l) l
 
 -- so does a release
-module _ (T : Table) (id : ℕ) (l : List Call) where
-  pub release-good : GoodTable T l → GoodTable T (release id l .table .slots)
+module _ (T : Table) (id n : ℕ) (l : List Call) where
+  pub release-good : GoodTable T l → GoodTable T (release id n l .table .slots)
   unfolding release stepOf
-  release-good g = good-step T id l g 0 (release-fits T id l)
+  release-good g = good-step T id l g n (release-fits T id l)
 
-  pub release-test : goodTable T l ≡ true → goodTable T (release id l .table .slots) ≡ true
-  release-test g = good-test T (release id l .table .slots) (release-good (good-clauses T l g))
+  pub release-test : goodTable T l ≡ true → goodTable T (release id n l .table .slots) ≡ true
+  release-test g = good-test T (release id n l .table .slots) (release-good (good-clauses T l g))
 
-pub release-long : (id : ℕ) (l : List Call) → length (release id l .table .slots) ≡ length l
+pub release-long : (id n : ℕ) (l : List Call) → length (release id n l .table .slots) ≡ length l
 unfolding release stepOf
-release-long id l = slots-length 0 (judgeRelease id l) l
+release-long id n l = slots-length n (judgeRelease id l) l

@@ -10,9 +10,12 @@ pub mod Goodness
 pub mod Cancelled
 pub mod Judgement
 pub mod Kept
+pub mod Limits
 pub mod Apart
+pub mod Rises
 pub mod Belongs
 pub mod Ordered
+pub mod Counted
 pub mod Once
 pub mod Pasts
 pub mod Payloads

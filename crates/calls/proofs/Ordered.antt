@@ -1,40 +1,45 @@
 -- The order of a call's frames: where the record's marks reflect the kinds accepted, a frame is ruled by them, and its record reflects them afterwards.
 -- Assumes nothing.
 use mathlib.Core.Path.{_≡_, refl, sym, _∙_, ap, subst}
-use mathlib.Core.Logic.{⊎-elim}
+use mathlib.Core.Logic.{_⊎_, inl, inr, ⊎-elim}
 use mathlib.Core.Bool.{Bool, true, false, not, cond, _&&_, _||_}
 use mathlib.Core.List.{List, [], _∷_}
-use Prim.Native.Nat.{ℕ, zero, suc, _<_, _≤_}
+use Prim.Native.Nat.{ℕ, zero, suc, _+_, _<_, _≤_}
 use native.Mathlib.Omega.{arith}
 use lib.Dec.{eqb, leb, lit≤}
 use lib.ListN.{length}
-use borrow.Author.Tests.{eqb-true, eqb-false, ne-eqb, leb-true}
+use borrow.Author.Tests.{eqb-true, eqb-false, eq-eqb, ne-eqb, leb-true}
 use Rattle.schema.specs.declared.Found.{Found}
 use Rattle.schema.specs.declared.Found.the-variants.{At, Missing}
 use Rattle.schema.specs.Table.{Table}
 use Rattle.schema.specs.Check.{methodRow, named, findMethod}
 use Rattle.schema.specs.Good.{GoodTable as GoodSchema}
-use Rattle.schema.proofs.Bools.{clash, and-i, and-left, and-right, or-cases, or-none, or-comm}
+use Rattle.schema.proofs.Bools.{clash, and-i, and-left, and-right, or-left, or-cases, or-none, or-comm}
 use Rattle.schema.proofs.Methods.{found-named}
 use Rattle.calls.specs.declared.Call.{Call}
 use Rattle.calls.specs.declared.FormRow.{FormRow}
 use Rattle.calls.specs.declared.Frame.{Frame}
 use Rattle.calls.specs.declared.Payload.{Payload}
 use Rattle.calls.specs.declared.Payload.the-variants.{Unread}
+use Rattle.calls.specs.declared.Figure.{Figure}
+use Rattle.calls.specs.declared.Figure.the-variants.{Nothing, Opened, Completed, Errored, Cancelled, Failed}
+use Rattle.calls.specs.declared.Rise.{Rise}
 use Rattle.calls.specs.Forms.{letter, lettersRow, rowOf}
 use Rattle.calls.specs.Numbers.{endsCall, EndsCall, payload, many-pairs}
-use Rattle.calls.specs.Record.{implies, emptyCall, openedCall, isCall, complete, allowed, notAllowed, marked, ends, afterFrame}
+use Rattle.calls.specs.Record.{implies, emptyCall, openedCall, isCall, complete, allowed, notAllowed, atLimit, counting, marked, ends, afterFrame}
 use Rattle.calls.specs.Slots.{slot, firstSlot, holds, Own, none, one, recordAt, ownOf, full}
-use Rattle.calls.specs.Judge.{rightSide, payloadOf, Verdict, stop, opens, goes, invokeVerdict, callVerdict, otherVerdict, verdictOf, releaseVerdict}
+use Rattle.calls.specs.Judge.{rightSide, payloadOf, Verdict, stop, opens, goes, invokeVerdict, callVerdict, otherVerdict, verdictOf, judgeOf, releaseVerdict, judgeRelease}
 use Rattle.calls.specs.Step.{receive, release}
+use Rattle.calls.specs.Counting.{noRise, ending, riseOf, releaseRise, figureBy}
 use Rattle.calls.specs.Good.{GoodTable}
 use Rattle.calls.specs.Event.{Event, frame}
 use Rattle.calls.specs.Event as event
-use Rattle.calls.specs.Apart.{verdictDue, verdictNumber, kept, verdictOwn}
+use Rattle.calls.specs.Apart.{verdictDue, verdictNumber, kept, verdictOwn, verdictRise, verdictReleaseRise}
+use Rattle.calls.specs.Figures.{acceptedAs, eventAs, methodIn}
 use Rattle.calls.specs.Belongs.{Belongs}
-use Rattle.calls.specs.Order.{cancelled, MayCome, inStream, inClose, outStream, outClose, response, error, cancel, Crosses, whole, over}
+use Rattle.calls.specs.Order.{cancelled, MayCome, inStream, inClose, outStream, outClose, response, error, cancel, Crosses, whole, over, Elements, noElements, times, TooMany, inputs, outputs}
 use Rattle.calls.specs.Order.{Past, closed, since, Heard, continued, accepted, after, Marks, Reflects, nothing, call}
-use Rattle.calls.specs.Order.{Ruling, refused, comes, Ruled, wrongSide, unknown, already, noRoom, opens as opensCall, notOpen, differ, notNow, dropped, goes as goesOn}
+use Rattle.calls.specs.Order.{Ruling, refused, comes, Ruled, wrongSide, unknown, already, noRoom, opens as opensCall, notOpen, differ, notNow, dropped, tooMany, goes as goesOn}
 use Rattle.calls.specs.Order.{Releases, noCall, notCancelled, released}
 use Rattle.wire.proofs.Cases.{cond-case}
 use Rattle.calls.proofs.Letters.{by-letters}
@@ -42,6 +47,7 @@ use Rattle.calls.proofs.Used.{not-ending}
 use Rattle.calls.proofs.Searches.{found-passes}
 use Rattle.calls.proofs.Kept.{call-open}
 use Rattle.calls.proofs.Apart.{answered, own-after, release-answered, release-own}
+use Rattle.calls.proofs.Rises.{rise-by, release-rise-by}
 use Rattle.calls.proofs.Belongs.{invoke-belongs, payload-belongs}
 
 -- ---- the kinds that are no INVOKE
@@ -80,7 +86,12 @@ tell-first : (x : Bool) → (not x && true) ≡ true → x ≡ false
 tell-first true h = clash false h refl
 tell-first false h = refl
 
-module _ (form : ℕ) (h : List ℕ) (c : Call) (m : ℕ) (w : Marks m h c) where
+-- an element more of what is counted before and since
+counting-since : (q : Bool) (a n t : ℕ) → n ≡ a + t → counting q n ≡ a + counting q t
+counting-since true a n t e = omega arith
+counting-since false a n t e = e
+
+module _ (form : ℕ) (before : Elements) (h : List ℕ) (c : Call) (m : ℕ) (w : Marks m before h c) where
   abbrev row : FormRow
   row = lettersRow form
 
@@ -128,9 +139,23 @@ module _ (form : ℕ) (h : List ℕ) (c : Call) (m : ℕ) (w : Marks m h c) wher
       }))
       (λ t. refuses (λ x. clash (c .cancelled && server) (and-i (c .cancelled) server (w .isCancelled ∙ x .isCancelled) (x .fromServer)) t))
 
+  -- the element limit
+  limited : (kind : ℕ) → atLimit kind c ≡ true → TooMany before h kind
+  limited kind t =
+      let a = eqb (c .«input_elements») 65535 in
+      let b = eqb (c .«output_elements») 65535 in
+      ⊎-elim
+      (λ p. rw (eqb-true kind 2 (and-left (eqb kind 2) a p)) (inputs (sym (w .inputElements) ∙ eqb-true (c .«input_elements») 65535 (and-right (eqb kind 2) a p))))
+      (λ p. rw (eqb-true kind 4 (and-left (eqb kind 4) b p)) (outputs (sym (w .outputElements) ∙ eqb-true (c .«output_elements») 65535 (and-right (eqb kind 4) b p))))
+      (or-cases (eqb kind 2 && a) (eqb kind 4 && b) t)
+
+  limits : {kind : ℕ} → TooMany before h kind → atLimit kind c ≡ true
+  limits (inputs e) = or-left (eqb (c .«input_elements») 65535) false (eq-eqb (c .«input_elements») 65535 (w .inputElements ∙ e))
+  limits (outputs e) = eq-eqb (c .«output_elements») 65535 (w .outputElements ∙ e)
+
   -- the record after an accepted frame
   module _ (kind : ℕ) where
-    marks-next : eqb kind 7 ≡ false → Marks m (kind ∷ h) (marked kind c)
+    marks-next : eqb kind 7 ≡ false → Marks m before (kind ∷ h) (marked kind c)
     marks-next p =
         record {
           method = w .method;
@@ -138,6 +163,8 @@ module _ (form : ℕ) (h : List ℕ) (c : Call) (m : ℕ) (w : Marks m h c) wher
           inputClosed = or-comm (c .«input_closed») (eqb kind 3) ∙ ap (λ (b : Bool). eqb kind 3 || b) (w .inputClosed);
           outputClosed = or-comm (c .«output_closed») (eqb kind 5) ∙ ap (λ (b : Bool). eqb kind 5 || b) (w .outputClosed);
           isCancelled = or-comm (c .cancelled) (eqb kind 8) ∙ ap (λ (b : Bool). eqb kind 8 || b) (w .isCancelled);
+          inputElements = counting-since (eqb kind 2) (before .inputs) (c .«input_elements») (times 2 h) (w .inputElements);
+          outputElements = counting-since (eqb kind 4) (before .outputs) (c .«output_elements») (times 4 h) (w .outputElements);
           noError = rw p (w .noError);
         }
 
@@ -184,13 +211,21 @@ Known : Table → Own → Type 0
 Known T none = Unit {0}
 Known T (one c) = c .method < length (T .methods)
 
+-- an event with this number counts as what rises, for the method of the row that rises
+abbrev pub CountsAs : Table → Event → Past → Rise → (number : ℕ) → Type 0
+CountsAs T e past r n = (eventAs T e n past ≡ figureBy r n) × ((figureBy r n ≡ Nothing) ⊎ (methodIn T e past ≡ At (r .row)))
+
 module _ (T : Table) (g : GoodSchema T) (f : Frame) (b : Bool) where
   abbrev heard : Verdict → ℕ → Heard
   heard v p = record { event = frame f; number = verdictNumber v p }
 
-  -- the ruling is the one by the past, and whatever number the payload has, the record afterwards reflects the past afterwards
+  -- the ruling is the one by the past, and whatever number the payload has, the record afterwards reflects the past afterwards, and what rises is what
+  -- the event counts as
   abbrev Fits : Past → Own → Verdict → Type 0
-  Fits past own v = Ruled T f b past (rulingOf v) × ((p : ℕ) → Reflects (after T (heard v p) past) (verdictOwn v p own))
+  Fits past own v =
+      Ruled T f b past (rulingOf v)
+      × ((p : ℕ) → Reflects (after T (heard v p) past) (verdictOwn v p own))
+      × ((p : ℕ) → CountsAs T (frame f) past (verdictRise (f .kind) own v) (verdictNumber v p))
 
   abbrev right : Bool
   right = rightSide (f .side) (f .kind)
@@ -199,10 +234,19 @@ module _ (T : Table) (g : GoodSchema T) (f : Frame) (b : Bool) where
   found = findMethod T (f .«package») (f .service) (f .method)
 
   -- a refusal before the payload
-  stays : (n : ℕ) → 8 ≤ n → n ≤ 16 → {past : Past} {own : Own} → Reflects past own → Reflects (after T (record { event = frame f; number = n }) past) own
+  stays : (n : ℕ) → 8 ≤ n → n ≤ 17 → {past : Past} {own : Own} → Reflects past own → Reflects (after T (record { event = frame f; number = n }) past) own
   stays n low high r = rw (ne-eqb n 0 (λ z. omega arith), not-ending n (early low high)) r
     where
-      early : {n : ℕ} → 8 ≤ n → n ≤ 16 → EndsCall n → ⊥
+      early : {n : ℕ} → 8 ≤ n → n ≤ 17 → EndsCall n → ⊥
+      early low high (payload a b) = omega arith
+      early low high many-pairs = omega arith
+
+  -- counts nowhere
+  nowhere : (n : ℕ) → 8 ≤ n → n ≤ 17 → (past : Past) → CountsAs T (frame f) past noRise n
+  unfolding figureBy
+  nowhere n low high past = let e = ne-eqb n 0 (λ z. omega arith) in let k = not-ending n (early low high) in (rw (e, k), inl (rw (e, k)))
+    where
+      early : {n : ℕ} → 8 ≤ n → n ≤ 17 → EndsCall n → ⊥
       early low high (payload a b) = omega arith
       early low high many-pairs = omega arith
 
@@ -212,33 +256,50 @@ module _ (T : Table) (g : GoodSchema T) (f : Frame) (b : Bool) where
         Reflects (after T (record { event = frame f; number = p }) closed) (cond (eqb p 0) (one (openedCall n (f .correlation))) none)
     opening n p e = go (eqb p 0) (endsCall p)
       where
-        begins : accepted T (frame f) closed ≡ since n []
+        begins : accepted T (frame f) closed ≡ since n noElements []
         begins = rw (k, e)
 
         go : (x y : Bool) → Reflects (cond x (accepted T (frame f) closed) (cond y closed closed)) (cond x (one (openedCall n (f .correlation))) none)
         go true y =
             rw begins
-            (call n [] (openedCall n (f .correlation))
-            (record { method = refl; responded = refl; inputClosed = refl; outputClosed = refl; isCancelled = refl; noError = refl }))
+            (call n noElements [] (openedCall n (f .correlation))
+            (record {
+              method = refl;
+              responded = refl;
+              inputClosed = refl;
+              outputClosed = refl;
+              isCancelled = refl;
+              inputElements = refl;
+              outputElements = refl;
+              noError = refl;
+            }))
         go false true = nothing
         go false false = nothing
+
+    opens-counted : (n p : ℕ) → found ≡ At n → CountsAs T (frame f) closed (record { row = n; accepted = Opened; refused = Nothing }) p
+    unfolding figureBy
+    opens-counted n p e = (refl, inr e)
 
     belongs : (n : ℕ) → found ≡ At n → Belongs (methodRow T n) 1 (payloadOf (methodRow T n) 1)
     belongs n e =
         invoke-belongs T (g .fewTypes) (methodRow T n) (g .methods n (found-named T (f .«package») (f .service) (f .method) n e .0))
 
     invoked : (past : Past) (own : Own) → Reflects past own → (m : Found) → found ≡ m → Fits past own (invokeVerdict T (f .correlation) m own b)
-    invoked past own r Missing e = (unknown past s k e, λ p. stays 9 (lit≤ tt) (lit≤ tt) r)
+    invoked past own r Missing e = (unknown past s k e, λ p. stays 9 (lit≤ tt) (lit≤ tt) r, λ p. nowhere 9 (lit≤ tt) (lit≤ tt) past)
     invoked closed none nothing (At n) e = go b refl
       where
         go : (x : Bool) → b ≡ x → Fits closed none (invokeVerdict T (f .correlation) (At n) none x)
-        go true q = (noRoom n s k e q, λ p. stays 13 (lit≤ tt) (lit≤ tt) nothing)
-        go false q = (opensCall n _ s k e q (belongs n e), λ p. opening n p e)
-    invoked (since m h) (one c) (call _ _ _ w) (At n) e = (already m n h s k e, λ p. stays 10 (lit≤ tt) (lit≤ tt) (call m h c w))
+        go true q = (noRoom n s k e q, λ p. stays 13 (lit≤ tt) (lit≤ tt) nothing, λ p. nowhere 13 (lit≤ tt) (lit≤ tt) closed)
+        go false q = (opensCall n _ s k e q (belongs n e), λ p. opening n p e, λ p. opens-counted n p e)
+    invoked (since m x h) (one c) (call _ _ _ _ w) (At n) e = (
+      already m n x h s k e,
+      λ p. stays 10 (lit≤ tt) (lit≤ tt) (call m x h c w),
+      λ p. nowhere 10 (lit≤ tt) (lit≤ tt) (since m x h),
+    )
 
   -- the others
   module _ (s : right ≡ true) (n : f .kind ≡ 1 → ⊥) where
-    module _ (m : ℕ) (known : m < length (T .methods)) (h : List ℕ) (c : Call) (w : Marks m h c) where
+    module _ (m : ℕ) (known : m < length (T .methods)) (before : Elements) (h : List ℕ) (c : Call) (w : Marks m before h c) where
       abbrev form : ℕ
       form = methodRow T m .form
 
@@ -249,50 +310,100 @@ module _ (T : Table) (g : GoodSchema T) (f : Frame) (b : Bool) where
       bounds = other-kind (f .side) (f .kind) s n
 
       over-is : ends (rowOf form) (f .kind) c ≡ over form (f .kind ∷ h)
-      over-is = ap (λ (r : FormRow). ends r (f .kind) c) letters ∙ ends-over form h c m w (f .kind)
+      over-is = ap (λ (r : FormRow). ends r (f .kind) c) letters ∙ ends-over form before h c m w (f .kind)
 
       -- a frame that does not end the call is no ERROR
       not-last : (k : ℕ) → ends (rowOf form) k c ≡ true → ends (rowOf form) (f .kind) c ≡ false → eqb (f .kind) k ≡ false
       not-last k t z = ne-eqb (f .kind) k (λ e. clash (ends (rowOf form) (f .kind) c) (subst (λ (x : ℕ). ends (rowOf form) x c ≡ true) (sym e) t) z)
 
-      continues : Reflects (continued T (f .kind) (since m h)) (kept (afterFrame (rowOf form) (f .kind) c))
+      continues : Reflects (continued T (f .kind) (since m before h)) (kept (afterFrame (rowOf form) (f .kind) c))
       continues = rw (← over-is) (go (ends (rowOf form) (f .kind) c) refl)
         where
           go : (z : Bool) → ends (rowOf form) (f .kind) c ≡ z →
-              Reflects (cond z closed (since m (f .kind ∷ h))) (kept (cond z emptyCall (marked (f .kind) c)))
+              Reflects (cond z closed (since m before (f .kind ∷ h))) (kept (cond z emptyCall (marked (f .kind) c)))
           go true e = nothing
-          go false e = call m (f .kind ∷ h) (marked (f .kind) c) (marks-next form h c m w (f .kind) (not-last 7 refl e))
+          go false e = call m before (f .kind ∷ h) (marked (f .kind) c) (marks-next form before h c m w (f .kind) (not-last 7 refl e))
 
       going : (p : ℕ) →
-          Reflects (after T (record { event = frame f; number = p }) (since m h)) (cond (eqb p 0) (kept (afterFrame (rowOf form) (f .kind) c)) (cond (endsCall p) none (one c)))
+          Reflects (after T (record { event = frame f; number = p }) (since m before h)) (cond (eqb p 0) (kept (afterFrame (rowOf form) (f .kind) c)) (cond (endsCall p) none (one c)))
       going p = go (eqb p 0) (endsCall p)
         where
           go : (x y : Bool) →
-              Reflects (cond x (accepted T (frame f) (since m h)) (cond y closed (since m h))) (cond x (kept (afterFrame (rowOf form) (f .kind) c)) (cond y none (one c)))
+              Reflects (cond x (accepted T (frame f) (since m before h)) (cond y closed (since m before h))) (cond x (kept (afterFrame (rowOf form) (f .kind) c)) (cond y none (one c)))
           go true y = rw (ne-eqb (f .kind) 1 n) continues
           go false true = nothing
-          go false false = call m h c w
+          go false false = call m before h c w
 
-      called : Fits (since m h) (one c) (callVerdict (methodRow T m) f c)
-      called = go (named (f .«package») (f .service) (f .method) (methodRow T m)) (allowed (rowOf form) (f .kind) c) refl refl
+      -- what an accepted frame counts as, by the kinds and by the record
+      accepted-as : acceptedAs T (f .kind) (since m before h) ≡ ending (f .kind) c (afterFrame (rowOf form) (f .kind) c)
+      accepted-as = go (eqb (f .kind) 7) refl
         where
-          go : (x y : Bool) → named (f .«package») (f .service) (f .method) (methodRow T m) ≡ x → allowed (rowOf form) (f .kind) c ≡ y →
-              Fits (since m h) (one c) (cond x (cond y (goes (afterFrame (rowOf form) (f .kind) c) (payloadOf (methodRow T m) (f .kind))) (stop (notAllowed (f .kind) c))) (stop 12))
-          go true true p q =
-              let may = may-come form h c m w (f .kind) (bounds .0) (bounds .1) (rw letters at q) in
-              (goesOn m h _ s n p may (payload-belongs T (g .fewTypes) (methodRow T m) (g .methods m known) h may), going)
-          go true false p q =
+          next : Call
+          next = afterFrame (rowOf form) (f .kind) c
+
+          completes : complete (rowOf form) (marked (f .kind) c) ≡ whole form (f .kind ∷ h)
+          completes = ap (λ (r : FormRow). complete r (marked (f .kind) c)) letters ∙ whole-next form before h c m w (f .kind)
+
+          last : (z : Bool) → cond z Completed Nothing ≡ cond ((cond z emptyCall (marked (f .kind) c)) .«open») Nothing Completed
+          last true = refl
+          last false = refl
+
+          go : (q : Bool) → eqb (f .kind) 7 ≡ q →
+              cond q (cond (cancelled h) Cancelled Errored) (cond (whole form (f .kind ∷ h)) Completed Nothing)
+              ≡ cond q (cond (c .cancelled) Cancelled Errored) (cond (next .«open») Nothing Completed)
+          go true e = ap (λ (b : Bool). cond b Cancelled Errored) (sym (w .isCancelled))
+          go false e = rw (e, ← completes) (last (complete (rowOf form) (marked (f .kind) c)))
+
+      counted : (p : ℕ) → CountsAs T (frame f) (since m before h) (verdictRise (f .kind) (one c) (goes (afterFrame (rowOf form) (f .kind) c) (payloadOf (methodRow T m) (f .kind)))) p
+      unfolding figureBy
+      counted p = (ap (λ (x : Figure). cond (eqb p 0) x (cond (endsCall p) Failed Nothing)) accepted-as, inr (ap At (sym (w .method))))
+
+      called : Fits (since m before h) (one c) (callVerdict (methodRow T m) f c)
+      called = go (named (f .«package») (f .service) (f .method) (methodRow T m)) (allowed (rowOf form) (f .kind) c) (atLimit (f .kind) c) refl refl refl
+        where
+          next : Verdict
+          next = goes (afterFrame (rowOf form) (f .kind) c) (payloadOf (methodRow T m) (f .kind))
+
+          same-call : Reflects (since m before h) (one c)
+          same-call = call m before h c w
+
+          go : (x y z : Bool) → named (f .«package») (f .service) (f .method) (methodRow T m) ≡ x → allowed (rowOf form) (f .kind) c ≡ y
+              → atLimit (f .kind) c ≡ z
+              → Fits (since m before h) (one c) (cond x (cond y (cond z (stop 17) next) (stop (notAllowed (f .kind) c))) (stop 12))
+          go true true true p q l =
+              let may = may-come form before h c m w (f .kind) (bounds .0) (bounds .1) (rw letters at q) in (
+                tooMany m before h s n p may (limited form before h c m w (f .kind) l),
+                λ k. stays 17 (lit≤ tt) (lit≤ tt) same-call,
+                λ k. nowhere 17 (lit≤ tt) (lit≤ tt) (since m before h),
+              )
+          go true true false p q l =
+              let may = may-come form before h c m w (f .kind) (bounds .0) (bounds .1) (rw letters at q) in
+              let few : TooMany before h (f .kind) → ⊥ = λ x. clash (atLimit (f .kind) c) (limits form before h c m w x) l in
+              (goesOn m before h _ s n p may few (payload-belongs T (g .fewTypes) (methodRow T m) (g .methods m known) h may), going, counted)
+          go true false z p q l =
               let bar : allowed (lettersRow form) (f .kind) c ≡ false = rw letters at q in
-              late form h c m w (λ k. Fits (since m h) (one c) (stop k)) (f .kind) bar
-              (λ x. (dropped m h s p x, λ k. stays 16 (lit≤ tt) (lit≤ tt) (call m h c w)))
-              (λ x. (notNow m h s n p (λ z. clash (allowed (lettersRow form) (f .kind) c) (comes-in form h c m w z) bar) x, λ k. stays 14 (lit≤ tt) (lit≤ tt) (call m h c w)))
-          go false y p q = (differ m h s n p, λ k. stays 12 (lit≤ tt) (lit≤ tt) (call m h c w))
+              late form before h c m w (λ k. Fits (since m before h) (one c) (stop k)) (f .kind) bar
+              (λ x. (
+                dropped m before h s p x,
+                λ k. stays 16 (lit≤ tt) (lit≤ tt) same-call,
+                λ k. nowhere 16 (lit≤ tt) (lit≤ tt) (since m before h),
+              ))
+              (λ x. (
+                notNow m before h s n p (λ z. clash (allowed (lettersRow form) (f .kind) c) (comes-in form before h c m w z) bar) x,
+                λ k. stays 14 (lit≤ tt) (lit≤ tt) same-call,
+                λ k. nowhere 14 (lit≤ tt) (lit≤ tt) (since m before h),
+              ))
+          go false y z p q l = (
+            differ m before h s n p,
+            λ k. stays 12 (lit≤ tt) (lit≤ tt) same-call,
+            λ k. nowhere 12 (lit≤ tt) (lit≤ tt) (since m before h),
+          )
 
     other : (past : Past) (own : Own) → Known T own → Reflects past own → Fits past own (otherVerdict T f own)
     unfolding Known
-    other closed none known nothing = (notOpen s n, λ p. stays 11 (lit≤ tt) (lit≤ tt) nothing)
-    other (since m h) (one c) known (call _ _ _ w) =
-        subst (λ (x : ℕ). Fits (since m h) (one c) (callVerdict (methodRow T x) f c)) (sym (w .method)) (called m (rw (w .method) at known) h c w)
+    other closed none known nothing = (notOpen s n, λ p. stays 11 (lit≤ tt) (lit≤ tt) nothing, λ p. nowhere 11 (lit≤ tt) (lit≤ tt) closed)
+    other (since m x h) (one c) known (call _ _ _ _ w) =
+        subst (λ (k : ℕ). Fits (since m x h) (one c) (callVerdict (methodRow T k) f c)) (sym (w .method)) (called m (rw (w .method) at known) x h c w)
 
   every : (past : Past) (own : Own) → Known T own → Reflects past own → Fits past own (verdictOf T f own b)
   unfolding verdictOf
@@ -302,21 +413,33 @@ module _ (T : Table) (g : GoodSchema T) (f : Frame) (b : Bool) where
           Fits past own (cond x (cond y (invokeVerdict T (f .correlation) found own b) (otherVerdict T f own)) (stop 8))
       go true s true k = invoked s (eqb-true (f .kind) 1 k) past own r found refl
       go true s false k = other s (eqb-false (f .kind) 1 k) past own known r
-      go false s y k = (wrongSide past s, λ p. stays 8 (lit≤ tt) (lit≤ tt) r)
+      go false s y k = (wrongSide past s, λ p. stays 8 (lit≤ tt) (lit≤ tt) r, λ p. nowhere 8 (lit≤ tt) (lit≤ tt) past)
 
 -- ---- a release
--- the number is the one by the past, and the record afterwards reflects the past afterwards
+-- the number is the one by the past, the record afterwards reflects the past afterwards, and what rises is what the release counts as; where 18 is the
+-- answer, nothing rises
 abbrev Suits : Table → (correlation : ℕ) → Past → Own → Verdict → Type 0
 Suits T id past own v =
-    Releases past (verdictNumber v 0) × Reflects (after T (record { event = event.release id; number = verdictNumber v 0 }) past) (verdictOwn v 0 own)
+    Releases past (verdictNumber v 0)
+    × ((p : ℕ) → endsCall p ≡ false → Reflects (after T (record { event = event.release id; number = verdictNumber v p }) past) (verdictOwn v p own))
+    × ((p : ℕ) → endsCall p ≡ false → CountsAs T (event.release id) past (verdictReleaseRise own v) (verdictNumber v p))
 
-release-suits : (T : Table) (id : ℕ) (past : Past) (own : Own) → Reflects past own → Suits T id past own (releaseVerdict own)
-unfolding endsCall
-release-suits T id closed none nothing = (noCall, nothing)
-release-suits T id (since m h) (one c) (call _ _ _ w) =
-    cond-case (Suits T id (since m h) (one c)) (c .cancelled) (goes emptyCall Unread) (stop 14)
-    (λ t. (released m h (sym (w .isCancelled) ∙ t), nothing))
-    (λ t. (notCancelled m h (sym (w .isCancelled) ∙ t), call m h c w))
+module _ (T : Table) (id : ℕ) where
+  released-one : (m : ℕ) (b : Elements) (h : List ℕ) (c : Call) → Marks m b h c → (p : ℕ) → endsCall p ≡ false →
+      Reflects (after T (record { event = event.release id; number = p }) (since m b h)) (cond (eqb p 0) none (cond (endsCall p) none (one c)))
+  released-one m b h c w p n = rw n (go (eqb p 0))
+    where
+      go : (q : Bool) → Reflects (cond q closed (since m b h)) (cond q none (one c))
+      go true = nothing
+      go false = call m b h c w
+
+  release-suits : (past : Past) (own : Own) → Reflects past own → Suits T id past own (releaseVerdict own)
+  unfolding endsCall figureBy
+  release-suits closed none nothing = (noCall, λ p n. nothing, λ p n. (refl, inl refl))
+  release-suits (since m b h) (one c) (call _ _ _ _ w) =
+      cond-case (Suits T id (since m b h) (one c)) (c .cancelled) (goes emptyCall Unread) (stop 14)
+      (λ t. (released m b h (sym (w .isCancelled) ∙ t), released-one m b h c w, λ p n. (rw n, inr (ap At (sym (w .method))))))
+      (λ t. (notCancelled m b h (sym (w .isCancelled) ∙ t), λ p n. call m b h c w, λ p n. (refl, inl refl)))
 
 -- ---- under good tables
 module _ (T : Table) (g : GoodSchema T) (l : List Call) (w : GoodTable T l) where
@@ -343,13 +466,20 @@ module _ (T : Table) (g : GoodSchema T) (l : List Call) (w : GoodTable T l) wher
         let p = reading (verdictDue (verdictOf T f own (full l))) in
         rw (answered T f reading l, own-after T f l w reading) (every T g f (full l) past own (own-known (f .correlation)) r .1 p)
 
+    -- What rises is what the frame counts as.
+    pub rises-as : (reading : Payload → ℕ) → CountsAs T (frame f) past (riseOf (f .kind) l (judgeOf T f l)) (receive T f reading l .number)
+    rises-as reading =
+        let p = reading (verdictDue (verdictOf T f own (full l))) in
+        rw (answered T f reading l, rise-by T f l) (every T g f (full l) past own (own-known (f .correlation)) r .2 p)
+
   -- A release is ruled by them too.
   module _ (id : ℕ) (past : Past) (r : Reflects past (ownOf id l)) where
-    abbrev number : ℕ
-    number = release id l .number
+    pub release-ruled : Releases past (release id 0 l .number)
+    release-ruled = rw (release-answered id 0 l) (release-suits T id past (ownOf id l) r .0)
 
-    pub release-ruled : Releases past number
-    release-ruled = rw (release-answered id l) (release-suits T id past (ownOf id l) r .0)
+    pub release-reflects : (n : ℕ) → endsCall n ≡ false → let x = release id n l in
+        Reflects (after T (record { event = event.release id; number = x .number }) past) (ownOf id (x .table .slots))
+    release-reflects n k = rw (release-answered id n l, release-own T id n l w) (release-suits T id past (ownOf id l) r .1 n k)
 
-    pub release-reflects : Reflects (after T (record { event = event.release id; number = number }) past) (ownOf id (release id l .table .slots))
-    release-reflects = rw (release-answered id l, release-own T id l w) (release-suits T id past (ownOf id l) r .1)
+    pub release-rises-as : (n : ℕ) → endsCall n ≡ false → CountsAs T (event.release id) past (releaseRise l (judgeRelease id l)) (release id n l .number)
+    release-rises-as n k = rw (release-answered id n l, release-rise-by id l) (release-suits T id past (ownOf id l) r .2 n k)

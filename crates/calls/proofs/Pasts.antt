@@ -18,7 +18,7 @@ use Rattle.calls.specs.Forms.{letter, lettersRow}
 use Rattle.calls.specs.Record.{implies, isCall}
 use Rattle.calls.specs.Slots.{slot, firstSlot, formRow, holds, ownOf}
 use Rattle.calls.specs.Good.{GoodCall, GoodTable}
-use Rattle.calls.specs.Order.{cancelled, MayCome, inStream, inClose, outStream, outClose, response, error, cancel, whole, over, Came, begun, next, closed, since, Lawful, idle, calling, Marks, nothing, call, Reached, PastIn}
+use Rattle.calls.specs.Order.{cancelled, MayCome, inStream, inClose, outStream, outClose, response, error, cancel, whole, over, Came, begun, next, Elements, times, closed, since, Lawful, idle, calling, Marks, nothing, call, Reached, PastIn}
 use Rattle.calls.proofs.Bools.{imp-i, imp-e}
 use Rattle.calls.proofs.Letters.{by-letters}
 use Rattle.calls.proofs.Searches.{found-passes}
@@ -29,21 +29,79 @@ record Told (form : ℕ) (h : List ℕ) : Type 0 where
   inputs : holds 3 h ≡ true → letter 2 form ≡ true
   outputs : holds 5 h ≡ true → letter 1 form ≡ true
   later : holds 5 h ≡ true → holds 6 h ≡ true
+  noInputs : letter 2 form ≡ false → times 2 h ≡ 0
+  noOutputs : letter 1 form ≡ false → times 4 h ≡ 0
   notOver : over form h ≡ false
 
 module _ (form : ℕ) (h : List ℕ) (t : Told form h) where
   -- one kind more
   told-next : {kind : ℕ} → MayCome form h kind → over form (kind ∷ h) ≡ false → Told form (kind ∷ h)
-  told-next (inStream n p q) o = record { inputs = t .inputs; outputs = t .outputs; later = t .later; notOver = o }
-  told-next (inClose n p q) o = record { inputs = λ _. p; outputs = t .outputs; later = t .later; notOver = o }
-  told-next (outStream n p q r) o = record { inputs = t .inputs; outputs = t .outputs; later = t .later; notOver = o }
-  told-next (outClose n p q r) o = record { inputs = t .inputs; outputs = λ _. p; later = λ _. r; notOver = o }
-  told-next (response n q) o = record { inputs = t .inputs; outputs = t .outputs; later = λ _. refl; notOver = o }
+  told-next (inStream n p q) o =
+      record {
+        inputs = t .inputs;
+        outputs = t .outputs;
+        later = t .later;
+        noInputs = λ z. clash (letter 2 form) p z;
+        noOutputs = t .noOutputs;
+        notOver = o;
+      }
+  told-next (inClose n p q) o =
+      record {
+        inputs = λ _. p;
+        outputs = t .outputs;
+        later = t .later;
+        noInputs = t .noInputs;
+        noOutputs = t .noOutputs;
+        notOver = o;
+      }
+  told-next (outStream n p q r) o =
+      record {
+        inputs = t .inputs;
+        outputs = t .outputs;
+        later = t .later;
+        noInputs = t .noInputs;
+        noOutputs = λ z. clash (letter 1 form) p z;
+        notOver = o;
+      }
+  told-next (outClose n p q r) o =
+      record {
+        inputs = t .inputs;
+        outputs = λ _. p;
+        later = λ _. r;
+        noInputs = t .noInputs;
+        noOutputs = t .noOutputs;
+        notOver = o;
+      }
+  told-next (response n q) o =
+      record {
+        inputs = t .inputs;
+        outputs = t .outputs;
+        later = λ _. refl;
+        noInputs = t .noInputs;
+        noOutputs = t .noOutputs;
+        notOver = o;
+      }
   told-next error o = clash true refl o
-  told-next (cancel n) o = record { inputs = t .inputs; outputs = t .outputs; later = t .later; notOver = o }
+  told-next (cancel n) o =
+      record {
+        inputs = t .inputs;
+        outputs = t .outputs;
+        later = t .later;
+        noInputs = t .noInputs;
+        noOutputs = t .noOutputs;
+        notOver = o;
+      }
 
 told : (form : ℕ) {h : List ℕ} → Came form h → Told form h
-told form begun = record { inputs = λ e. clash false e refl; outputs = λ e. clash false e refl; later = λ e. clash false e refl; notOver = refl }
+told form begun =
+    record {
+      inputs = λ e. clash false e refl;
+      outputs = λ e. clash false e refl;
+      later = λ e. clash false e refl;
+      noInputs = λ _. refl;
+      noOutputs = λ _. refl;
+      notOver = refl;
+    }
 told form (next {h} {kind} c m o) = told-next form h (told form c) m o
 
 -- ---- kinds that leave given marks
@@ -58,25 +116,25 @@ abbrev markings : (responded input output cancel : Bool) → List ℕ
 markings r i o x = cond x (8 ∷ marking r i o) (marking r i o)
 
 abbrev Leaves : (r i o x : Bool) → List ℕ → Type 0
-Leaves r i o x h = (r ≡ holds 6 h) × (i ≡ holds 3 h) × (o ≡ holds 5 h) × (x ≡ cancelled h) × (holds 7 h ≡ false)
+Leaves r i o x h = (r ≡ holds 6 h) × (i ≡ holds 3 h) × (o ≡ holds 5 h) × (x ≡ cancelled h) × (holds 7 h ≡ false) × (times 2 h ≡ 0) × (times 4 h ≡ 0)
 
 leaves : (r i o x : Bool) → Leaves r i o x (markings r i o x)
-leaves true true true true = (refl, refl, refl, refl, refl)
-leaves true true true false = (refl, refl, refl, refl, refl)
-leaves true true false true = (refl, refl, refl, refl, refl)
-leaves true true false false = (refl, refl, refl, refl, refl)
-leaves true false true true = (refl, refl, refl, refl, refl)
-leaves true false true false = (refl, refl, refl, refl, refl)
-leaves true false false true = (refl, refl, refl, refl, refl)
-leaves true false false false = (refl, refl, refl, refl, refl)
-leaves false true true true = (refl, refl, refl, refl, refl)
-leaves false true true false = (refl, refl, refl, refl, refl)
-leaves false true false true = (refl, refl, refl, refl, refl)
-leaves false true false false = (refl, refl, refl, refl, refl)
-leaves false false true true = (refl, refl, refl, refl, refl)
-leaves false false true false = (refl, refl, refl, refl, refl)
-leaves false false false true = (refl, refl, refl, refl, refl)
-leaves false false false false = (refl, refl, refl, refl, refl)
+leaves true true true true = (refl, refl, refl, refl, refl, refl, refl)
+leaves true true true false = (refl, refl, refl, refl, refl, refl, refl)
+leaves true true false true = (refl, refl, refl, refl, refl, refl, refl)
+leaves true true false false = (refl, refl, refl, refl, refl, refl, refl)
+leaves true false true true = (refl, refl, refl, refl, refl, refl, refl)
+leaves true false true false = (refl, refl, refl, refl, refl, refl, refl)
+leaves true false false true = (refl, refl, refl, refl, refl, refl, refl)
+leaves true false false false = (refl, refl, refl, refl, refl, refl, refl)
+leaves false true true true = (refl, refl, refl, refl, refl, refl, refl)
+leaves false true true false = (refl, refl, refl, refl, refl, refl, refl)
+leaves false true false true = (refl, refl, refl, refl, refl, refl, refl)
+leaves false true false false = (refl, refl, refl, refl, refl, refl, refl)
+leaves false false true true = (refl, refl, refl, refl, refl, refl, refl)
+leaves false false true false = (refl, refl, refl, refl, refl, refl, refl)
+leaves false false false true = (refl, refl, refl, refl, refl, refl, refl)
+leaves false false false false = (refl, refl, refl, refl, refl, refl, refl)
 
 module _ (form : ℕ) where
   -- the marks of a call that is not complete
@@ -149,26 +207,43 @@ module _ (T : Table) (g : GoodSchema T) (c : Call) where
       let e = letters (w .methodExists) in
       let x = c .cancelled in
       let m = leaves r i o x in
+      let b : Elements = record { inputs = c .«input_elements»; outputs = c .«output_elements» } in
       record {
+        before = b;
         kinds = markings r i o x;
         lawful =
-            calling (c .method) (markings r i o x) (w .methodExists)
+            calling (c .method) b (markings r i o x) (w .methodExists)
+            (record { inputs = rw e at (w .inputElements); outputs = rw e at (w .outputElements) })
             (came form r i o x (rw e at (w .inputClosed)) (rw e at (w .outputClosed)) (w .afterResponse) (rw e at (w .notComplete)));
-        marks = record { method = refl; responded = m .0; inputClosed = m .1; outputClosed = m .2; isCancelled = m .3; noError = m .4 };
+        marks =
+            record {
+              method = refl;
+              responded = m .0;
+              inputClosed = m .1;
+              outputClosed = m .2;
+              isCancelled = m .3;
+              inputElements = omega (arith, m .5);
+              outputElements = omega (arith, m .6);
+              noError = m .4;
+            };
       }
 
   reached-good : Reached T c → GoodCall T c
-  reached-good w = go (w .kinds) (w .lawful) (w .marks)
+  reached-good w = go (w .before) (w .kinds) (w .lawful) (w .marks)
     where
-      go : (h : List ℕ) → Lawful T (since (c .method) h) → Marks (c .method) h c → GoodCall T c
-      go h (calling _ _ k came) m =
+      go : (b : Elements) (h : List ℕ) → Lawful T (since (c .method) b h) → Marks (c .method) b h c → GoodCall T c
+      go b h (calling _ _ _ k streams came) m =
           let t = told form came in
           let e = letters k in
+          let inputs : letter 2 form ≡ false → c .«input_elements» ≡ 0 = λ z. omega (arith, m .inputElements, streams .inputs z, t .noInputs z) in
+          let outputs : letter 1 form ≡ false → c .«output_elements» ≡ 0 = λ z. omega (arith, m .outputElements, streams .outputs z, t .noOutputs z) in
           record {
             methodExists = k;
             inputClosed = rw (e, m .inputClosed) (t .inputs);
             outputClosed = rw (e, m .outputClosed) (t .outputs);
             afterResponse = rw (m .outputClosed, m .responded) (t .later);
+            inputElements = rw e inputs;
+            outputElements = rw e outputs;
             notComplete = rw (e, m .responded, m .inputClosed, m .outputClosed) (or-false (holds 7 h) (whole form h) (t .notOver) .1);
           }
 
@@ -186,4 +261,4 @@ some-past T g l w id = go (firstSlot (isCall id) 0 l) refl
     go (At i) e =
         let c = slot l i in
         let r = good-reached T g c (w .calls i (call-open id c (found-passes (isCall id) l i e))) in
-        record { past = since (c .method) (r .kinds); lawful = r .lawful; reflects = rw e (call (c .method) (r .kinds) c (r .marks)) }
+        record { past = since (c .method) (r .before) (r .kinds); lawful = r .lawful; reflects = rw e (call (c .method) (r .before) (r .kinds) c (r .marks)) }

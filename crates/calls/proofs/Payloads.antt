@@ -20,7 +20,7 @@ use Rattle.calls.specs.declared.Frame.{Frame}
 use Rattle.calls.specs.declared.Payload.{Payload}
 use Rattle.calls.specs.declared.Payload.the-variants.{Struct, Empty, Unread}
 use Rattle.calls.specs.Forms.{rowOf}
-use Rattle.calls.specs.Record.{isCall, openedCall, allowed, notAllowed, afterFrame}
+use Rattle.calls.specs.Record.{isCall, openedCall, allowed, notAllowed, atLimit, afterFrame}
 use Rattle.calls.specs.Slots.{slot, firstSlot, Own, none, one, recordAt, ownOf, full}
 use Rattle.calls.specs.Judge.{rightSide, typed, payloadOf, Verdict, stop, goes, openVerdict, invokeVerdict, otherVerdict, verdictOf, judgeOf}
 use Rattle.calls.specs.Apart.{verdictDue}
@@ -93,8 +93,12 @@ module _ (s : List ℕ) (g : IsGood s) (f : Frame) where
       let next = goes (afterFrame (rowOf (m .form)) (f .kind) c) (payloadOf m (f .kind)) in
       let late = stop (notAllowed (f .kind) c) in
       let may = allowed (rowOf (m .form)) (f .kind) c in
-      cond-case (λ (v : Verdict). Sound T (verdictDue v)) (named (f .«package») (f .service) (f .method) m) (cond may next late) (stop 12)
-      (λ _. cond-case (λ (v : Verdict). Sound T (verdictDue v)) may next late (λ _. method-sound (c .method) (f .kind) known) (λ _. unread))
+      let full = atLimit (f .kind) c in
+      let few = cond full (stop 17) next in
+      cond-case (λ (v : Verdict). Sound T (verdictDue v)) (named (f .«package») (f .service) (f .method) m) (cond may few late) (stop 12)
+      (λ _. cond-case (λ (v : Verdict). Sound T (verdictDue v)) may few late
+      (λ _. cond-case (λ (v : Verdict). Sound T (verdictDue v)) full (stop 17) next (λ _. unread) (λ _. method-sound (c .method) (f .kind) known))
+      (λ _. unread))
       (λ _. unread)
 
   module _ (l : List Call) (w : GoodTable T l) where

@@ -7,13 +7,17 @@ use lib.Dec.{eqb}
 use Rattle.schema.specs.declared.Found.{Found}
 use Rattle.schema.specs.declared.Found.the-variants.{At, Missing}
 use Rattle.schema.specs.Table.{Table}
+use Rattle.schema.specs.Check.{findMethod}
 use Rattle.calls.specs.declared.Call.{Call}
 use Rattle.calls.specs.declared.Frame.{Frame}
 use Rattle.calls.specs.declared.Payload.{Payload}
 use Rattle.calls.specs.declared.Payload.the-variants.{Unread}
 use Rattle.calls.specs.declared.Judged.{Judged}
 use Rattle.calls.specs.declared.Judged.the-variants.{Stop, Opens, Goes}
+use Rattle.calls.specs.declared.Figure.the-variants.{Nothing, Opened, Cancelled, Failed}
+use Rattle.calls.specs.declared.Rise.{Rise}
 use Rattle.calls.specs.Numbers.{endsCall}
+use Rattle.calls.specs.Counting.{noRise, ending}
 use Rattle.calls.specs.Record.{isCall, complete, marked}
 use Rattle.calls.specs.Slots.{Own, none, one, formRow}
 use Rattle.calls.specs.Judge.{Verdict, stop, opens, goes}
@@ -44,6 +48,24 @@ abbrev pub verdictOwn : Verdict → (payload : ℕ) → Own → Own
 verdictOwn (stop n) p own = own
 verdictOwn (opens c due) p own = cond (eqb p 0) (kept c) own
 verdictOwn (goes c due) p own = cond (eqb p 0) (kept c) (cond (endsCall p) none own)
+
+-- The method of the call that a frame is about, by its own record: the call's, or for INVOKE the one that its identifiers name.
+abbrev pub callMethod : Table → Frame → Own → Found
+callMethod T f none = cond (eqb (f .kind) 1) (findMethod T (f .«package») (f .service) (f .method)) Missing
+callMethod T f (one c) = cond (eqb (f .kind) 1) (findMethod T (f .«package») (f .service) (f .method)) (At (c .method))
+
+-- What it raises in which tally row.
+abbrev pub verdictRise : (kind : ℕ) → Own → Verdict → Rise
+verdictRise kind own (stop n) = noRise
+verdictRise kind own (opens c due) = record { row = c .method; accepted = Opened; refused = Nothing }
+verdictRise kind none (goes c due) = noRise
+verdictRise kind (one x) (goes c due) = record { row = x .method; accepted = ending kind x c; refused = Failed }
+
+abbrev pub verdictReleaseRise : Own → Verdict → Rise
+verdictReleaseRise own (stop n) = noRise
+verdictReleaseRise own (opens c due) = noRise
+verdictReleaseRise none (goes c due) = noRise
+verdictReleaseRise (one x) (goes c due) = record { row = x .method; accepted = Cancelled; refused = Nothing }
 
 -- ---- the slots
 

@@ -16,6 +16,8 @@ pub record GoodCall (T : Table) (c : Call) : Type 0 where
   pub inputClosed : c .«input_closed» ≡ true → formRow T c .1 ≡ true
   pub outputClosed : c .«output_closed» ≡ true → formRow T c .3 ≡ true
   pub afterResponse : c .«output_closed» ≡ true → c .responded ≡ true
+  pub inputElements : formRow T c .0 ≡ false → c .«input_elements» ≡ 0
+  pub outputElements : formRow T c .2 ≡ false → c .«output_elements» ≡ 0
   pub notComplete : complete (formRow T c) c ≡ false
 
 pub record GoodTable (T : Table) (l : List Call) : Type 0 where

@@ -1,4 +1,4 @@
--- A frame judged before its payload is read: 8; INVOKE 9, 10, 13; the others 11, 12, 14 or 16. And what its payload holds.
+-- A frame judged before its payload is read: 8; INVOKE 9, 10, 13; the others 11, 12, 14 or 16, 17. And what its payload holds.
 -- The judgement is a function of the frame, of its own call's record and, for INVOKE, of whether 128 calls are open; the slot is added last.
 -- Assumes nothing.
 use Prim.Native.Nat.{ℕ}
@@ -17,7 +17,7 @@ use Rattle.calls.specs.declared.Payload.the-variants.{Struct, Empty, Unr
 use Rattle.calls.specs.declared.Judged.{Judged}
 use Rattle.calls.specs.declared.Judged.the-variants.{Stop, Opens, Goes}
 use Rattle.calls.specs.Forms.{rowOf}
-use Rattle.calls.specs.Record.{isCall, isFree, emptyCall, openedCall, allowed, notAllowed, afterFrame}
+use Rattle.calls.specs.Record.{isCall, isFree, emptyCall, openedCall, allowed, notAllowed, atLimit, afterFrame}
 use Rattle.calls.specs.Slots.{firstSlot, slotOf, Own, none, one, ownOf, full}
 
 -- Client kinds: 1 INVOKE, 2 IN_STREAM, 3 IN_CLOSE, 8 CANCEL. Server kinds: 4 OUT_STREAM, 5 OUT_CLOSE, 6 RESPONSE, 7 ERROR. The sides are the bytes C and S.
@@ -59,12 +59,12 @@ abbrev pub invokeVerdict : Table → (correlation : ℕ) → Found → Own → (
 invokeVerdict T id Missing own f = stop 9
 invokeVerdict T id (At m) own f = openVerdict (openedCall m id) (payloadOf (methodRow T m) 1) own f
 
--- A frame to the open call c, of method entry m: 12, then 14 or 16.
+-- A frame to the open call c, of method entry m: 12, then 14 or 16, then 17.
 abbrev pub callVerdict : Method → Frame → Call → Verdict
 callVerdict m f c =
     cond (named (f .«package») (f .service) (f .method) m)
     (cond (allowed (rowOf (m .form)) (f .kind) c)
-    (goes (afterFrame (rowOf (m .form)) (f .kind) c) (payloadOf m (f .kind)))
+    (cond (atLimit (f .kind) c) (stop 17) (goes (afterFrame (rowOf (m .form)) (f .kind) c) (payloadOf m (f .kind))))
     (stop (notAllowed (f .kind) c)))
     (stop 12)
 

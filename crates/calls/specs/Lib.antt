@@ -3,10 +3,13 @@ pub mod Forms
 pub mod Numbers
 pub mod Record
 pub mod Slots
+pub mod Limits
 pub mod Judge
 pub mod Step
+pub mod Counting
 pub mod Good
 pub mod Event
 pub mod Apart
 pub mod Belongs
 pub mod Order
+pub mod Figures

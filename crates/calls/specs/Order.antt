@@ -1,10 +1,10 @@
--- The order of a call's frames as a relation on the kinds accepted for it since its INVOKE, without its record; and what it says of a frame and of a
--- release.
+-- The order of a call's frames as a relation on the kinds accepted for it since its INVOKE, without its record; the stream elements that these count;
+-- and what both say of a frame and of a release.
 -- Assumes nothing.
 use mathlib.Core.Path.{_≡_}
 use mathlib.Core.Bool.{Bool, true, false, cond, _&&_, _||_}
 use mathlib.Core.List.{List, [], _∷_}
-use Prim.Native.Nat.{ℕ, _<_}
+use Prim.Native.Nat.{ℕ, _+_, _<_}
 use lib.Dec.{eqb}
 use lib.ListN.{length}
 use Rattle.schema.specs.declared.Found.{Found}
@@ -16,7 +16,7 @@ use Rattle.calls.specs.declared.Frame.{Frame}
 use Rattle.calls.specs.declared.Payload.{Payload}
 use Rattle.calls.specs.Forms.{letter}
 use Rattle.calls.specs.Numbers.{endsCall}
-use Rattle.calls.specs.Record.{implies}
+use Rattle.calls.specs.Record.{implies, counting}
 use Rattle.calls.specs.Slots.{holds, Own, none, one, ownOf}
 use Rattle.calls.specs.Judge.{rightSide}
 use Rattle.calls.specs.Event.{Event, frame, release, identifier}
@@ -61,17 +61,51 @@ pub data Came (form : ℕ) : List ℕ → Type 0 where
   begun : Came form []
   next : {h : List ℕ} {kind : ℕ} → Came form h → MayCome form h kind → over form (kind ∷ h) ≡ false → Came form (kind ∷ h)
 
+-- ---- stream elements
+
+-- The elements accepted each way.
+pub record Elements : Type 0 where
+  pub inputs : ℕ
+  pub outputs : ℕ
+
+abbrev pub noElements : Elements
+noElements = record { inputs = 0; outputs = 0 }
+
+-- How often a kind came.
+abbrev pub times : (kind : ℕ) → List ℕ → ℕ
+times k [] = 0
+times k (x ∷ xs) = counting (eqb x k) (times k xs)
+
+-- Those that were counted before, and each IN_STREAM and OUT_STREAM since; closes are no elements.
+abbrev pub inputsOf : Elements → List ℕ → ℕ
+inputsOf b h = b .inputs + times 2 h
+
+abbrev pub outputsOf : Elements → List ℕ → ℕ
+outputsOf b h = b .outputs + times 4 h
+
+-- An element more of this kind would be above 65,535.
+pub data TooMany (b : Elements) (h : List ℕ) : (kind : ℕ) → Type 0 where
+  inputs : inputsOf b h ≡ 65535 → TooMany b h 2
+  outputs : outputsOf b h ≡ 65535 → TooMany b h 4
+
+-- Elements are counted only where the form has the stream.
+pub record Streams (form : ℕ) (b : Elements) : Type 0 where
+  pub inputs : letter 2 form ≡ false → b .inputs ≡ 0
+  pub outputs : letter 1 form ≡ false → b .outputs ≡ 0
+
 -- ---- what has been heard under one identifier
 
--- No call is open, or one of this method, with the kinds accepted since its INVOKE.
+-- No call is open, or one of this method, with the elements counted before and the kinds accepted since. A call that INVOKE opens starts with none of both;
+-- a call of a table that is lent may have any.
 pub data Past : Type 0 where
   closed : Past
-  since : (method : ℕ) → List ℕ → Past
+  since : (method : ℕ) → Elements → List ℕ → Past
 
 -- A past that the rules allow.
 pub data Lawful (T : Table) : Past → Type 0 where
   idle : Lawful T closed
-  calling : (m : ℕ) (h : List ℕ) → m < length (T .methods) → Came (methodRow T m .form) h → Lawful T (since m h)
+  calling : (m : ℕ) (b : Elements) (h : List ℕ) → m < length (T .methods) → Streams (methodRow T m .form) b → Came (methodRow T m .form) h
+      → Lawful T (since m b h)
 
 -- An event and the number that was answered.
 pub record Heard : Type 0 where
@@ -80,11 +114,11 @@ pub record Heard : Type 0 where
 
 abbrev pub opened : Found → Past
 opened Missing = closed
-opened (At m) = since m []
+opened (At m) = since m noElements []
 
 abbrev pub continued : Table → (kind : ℕ) → Past → Past
 continued T kind closed = closed
-continued T kind (since m h) = cond (over (methodRow T m .form) (kind ∷ h)) closed (since m (kind ∷ h))
+continued T kind (since m b h) = cond (over (methodRow T m .form) (kind ∷ h)) closed (since m b (kind ∷ h))
 
 -- A released call has ended.
 abbrev pub accepted : Table → Event → Past → Past
@@ -125,45 +159,50 @@ module _ (T : Table) (f : Frame) (full : Bool) where
     wrongSide : (past : Past) → rightSide (f .side) (f .kind) ≡ false → Ruled past (refused 8)
     -- INVOKE: 9, 10, 13, payload
     unknown : (past : Past) → sent T f → f .kind ≡ 1 → methodNamed T f ≡ Missing → Ruled past (refused 9)
-    already : (m n : ℕ) (h : List ℕ) → sent T f → f .kind ≡ 1 → methodNamed T f ≡ At n → Ruled (since m h) (refused 10)
+    already : (m n : ℕ) (b : Elements) (h : List ℕ) → sent T f → f .kind ≡ 1 → methodNamed T f ≡ At n → Ruled (since m b h) (refused 10)
     noRoom : (n : ℕ) → sent T f → f .kind ≡ 1 → methodNamed T f ≡ At n → full ≡ true → Ruled closed (refused 13)
     opens : (n : ℕ) (d : Payload) → sent T f → f .kind ≡ 1 → methodNamed T f ≡ At n → full ≡ false → Belongs (methodRow T n) 1 d → Ruled closed (comes d)
-    -- the others: 11, 12, 14 or 16, payload
+    -- the others: 11, 12, 14 or 16, 17, payload
     notOpen : sent T f → (f .kind ≡ 1 → ⊥) → Ruled closed (refused 11)
-    differ : (m : ℕ) (h : List ℕ) → sent T f → (f .kind ≡ 1 → ⊥) → same T f m ≡ false → Ruled (since m h) (refused 12)
-    notNow : (m : ℕ) (h : List ℕ) → sent T f → (f .kind ≡ 1 → ⊥) → same T f m ≡ true → (MayCome (methodRow T m .form) h (f .kind) → ⊥)
-        → (Crosses h (f .kind) → ⊥) → Ruled (since m h) (refused 14)
+    differ : (m : ℕ) (b : Elements) (h : List ℕ) → sent T f → (f .kind ≡ 1 → ⊥) → same T f m ≡ false → Ruled (since m b h) (refused 12)
+    notNow : (m : ℕ) (b : Elements) (h : List ℕ) → sent T f → (f .kind ≡ 1 → ⊥) → same T f m ≡ true → (MayCome (methodRow T m .form) h (f .kind) → ⊥)
+        → (Crosses h (f .kind) → ⊥) → Ruled (since m b h) (refused 14)
     -- 16 stands where 14 would.
-    dropped : (m : ℕ) (h : List ℕ) → sent T f → same T f m ≡ true → Crosses h (f .kind) → Ruled (since m h) (refused 16)
-    goes : (m : ℕ) (h : List ℕ) (d : Payload) → sent T f → (f .kind ≡ 1 → ⊥) → same T f m ≡ true → MayCome (methodRow T m .form) h (f .kind)
-        → Belongs (methodRow T m) (f .kind) d → Ruled (since m h) (comes d)
+    dropped : (m : ℕ) (b : Elements) (h : List ℕ) → sent T f → same T f m ≡ true → Crosses h (f .kind) → Ruled (since m b h) (refused 16)
+    tooMany : (m : ℕ) (b : Elements) (h : List ℕ) → sent T f → (f .kind ≡ 1 → ⊥) → same T f m ≡ true → MayCome (methodRow T m .form) h (f .kind)
+        → TooMany b h (f .kind) → Ruled (since m b h) (refused 17)
+    goes : (m : ℕ) (b : Elements) (h : List ℕ) (d : Payload) → sent T f → (f .kind ≡ 1 → ⊥) → same T f m ≡ true → MayCome (methodRow T m .form) h (f .kind)
+        → (TooMany b h (f .kind) → ⊥) → Belongs (methodRow T m) (f .kind) d → Ruled (since m b h) (comes d)
 
 -- What the rules say of a release: 11 for a call not open, 14 for one not cancelled.
 pub data Releases : Past → (number : ℕ) → Type 0 where
   noCall : Releases closed 11
-  notCancelled : (m : ℕ) (h : List ℕ) → cancelled h ≡ false → Releases (since m h) 14
-  released : (m : ℕ) (h : List ℕ) → cancelled h ≡ true → Releases (since m h) 0
+  notCancelled : (m : ℕ) (b : Elements) (h : List ℕ) → cancelled h ≡ false → Releases (since m b h) 14
+  released : (m : ℕ) (b : Elements) (h : List ℕ) → cancelled h ≡ true → Releases (since m b h) 0
 
 -- ---- the record reflects the past
 
--- The marks of an open call's record, by the kinds accepted.
-pub record Marks (m : ℕ) (h : List ℕ) (c : Call) : Type 0 where
+-- The marks of an open call's record, by the kinds accepted, and its elements.
+pub record Marks (m : ℕ) (b : Elements) (h : List ℕ) (c : Call) : Type 0 where
   pub method : c .method ≡ m
   pub responded : c .responded ≡ holds 6 h
   pub inputClosed : c .«input_closed» ≡ holds 3 h
   pub outputClosed : c .«output_closed» ≡ holds 5 h
   pub isCancelled : c .cancelled ≡ cancelled h
+  pub inputElements : c .«input_elements» ≡ inputsOf b h
+  pub outputElements : c .«output_elements» ≡ outputsOf b h
   pub noError : holds 7 h ≡ false
 
 pub data Reflects : Past → Own → Type 0 where
   nothing : Reflects closed none
-  call : (m : ℕ) (h : List ℕ) (c : Call) → Marks m h c → Reflects (since m h) (one c)
+  call : (m : ℕ) (b : Elements) (h : List ℕ) (c : Call) → Marks m b h c → Reflects (since m b h) (one c)
 
 -- The record is that of a call whose kinds came in an order that the rules allow.
 pub record Reached (T : Table) (c : Call) : Type 0 where
+  pub before : Elements
   pub kinds : List ℕ
-  pub lawful : Lawful T (since (c .method) kinds)
-  pub marks : Marks (c .method) kinds c
+  pub lawful : Lawful T (since (c .method) before kinds)
+  pub marks : Marks (c .method) before kinds c
 
 -- A past of an identifier that the rules allow and that the call table reflects.
 pub record PastIn (T : Table) (l : List Call) (correlation : ℕ) : Type 0 where

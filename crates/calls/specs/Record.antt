@@ -1,6 +1,6 @@
 -- The record of a call: when it is free, what is allowed, what an accepted frame changes, when it is complete and when it is good.
 -- All that depends on the members of a record stands here. Assumes nothing.
-use Prim.Native.Nat.{ℕ}
+use Prim.Native.Nat.{ℕ, _+_}
 use mathlib.Core.Bool.{Bool, true, false, not, cond, _&&_, _||_}
 use lib.Dec.{eqb, ltb, leb}
 use Rattle.calls.specs.declared.Call.{Call}
@@ -9,12 +9,12 @@ use Rattle.calls.specs.declared.FormRow.{FormRow}
 -- The record of a free slot is zero in every member.
 abbrev pub emptyCall : Call
 emptyCall =
-    record { correlation = 0; method = 0; «open» = false; responded = false; «input_closed» = false; «output_closed» = false; cancelled = false }
+    record { correlation = 0; method = 0; «open» = false; responded = false; «input_closed» = false; «output_closed» = false; cancelled = false; «input_elements» = 0; «output_elements» = 0 }
 
 -- The record that INVOKE makes.
 abbrev pub openedCall : (method correlation : ℕ) → Call
 openedCall m id =
-    record { correlation = id; method = m; «open» = true; responded = false; «input_closed» = false; «output_closed» = false; cancelled = false }
+    record { correlation = id; method = m; «open» = true; responded = false; «input_closed» = false; «output_closed» = false; cancelled = false; «input_elements» = 0; «output_elements» = 0 }
 
 -- The call is open under this correlation.
 abbrev pub isCall : ℕ → Call → Bool
@@ -46,7 +46,15 @@ allowed row kind c =
 abbrev pub notAllowed : ℕ → Call → ℕ
 notAllowed kind c = cond (c .cancelled && (leb 4 kind && leb kind 7)) 16 14
 
--- The record with the mark of an accepted frame.
+-- The element limit: an element of this kind, 2 IN_STREAM or 4 OUT_STREAM, would be one above 65,535.
+abbrev pub atLimit : ℕ → Call → Bool
+atLimit kind c = (eqb kind 2 && eqb (c .«input_elements») 65535) || (eqb kind 4 && eqb (c .«output_elements») 65535)
+
+-- One more, where one is counted.
+abbrev pub counting : Bool → ℕ → ℕ
+counting counted n = cond counted (n + 1) n
+
+-- The record with the mark of an accepted frame, and a stream element counted.
 abbrev pub marked : ℕ → Call → Call
 marked kind c =
     record {
@@ -57,6 +65,8 @@ marked kind c =
       «input_closed» = c .«input_closed» || eqb kind 3;
       «output_closed» = c .«output_closed» || eqb kind 5;
       cancelled = c .cancelled || eqb kind 8;
+      «input_elements» = counting (eqb kind 2) (c .«input_elements»);
+      «output_elements» = counting (eqb kind 4) (c .«output_elements»);
     }
 
 -- An open call's record with this cancelled mark, and every other member as it was.
@@ -70,6 +80,8 @@ withMark b c =
       «input_closed» = c .«input_closed»;
       «output_closed» = c .«output_closed»;
       cancelled = b;
+      «input_elements» = c .«input_elements»;
+      «output_elements» = c .«output_elements»;
     }
 
 -- ERROR ends a call at once, and so does the frame that makes it complete. CANCEL marks it.
@@ -86,13 +98,18 @@ abbrev pub zeroCall : Call → Bool
 zeroCall c =
     eqb (c .correlation) 0 &&
     (eqb (c .method) 0 &&
-    (not (c .responded) && (not (c .«input_closed») && (not (c .«output_closed») && not (c .cancelled)))))
+    (not (c .responded) &&
+    (not (c .«input_closed») &&
+    (not (c .«output_closed») &&
+    (not (c .cancelled) && (eqb (c .«input_elements») 0 && eqb (c .«output_elements») 0))))))
 
 -- An open record: its method is one of the table's, a closed mark stands only where the form has that stream, output isn't ended before
--- RESPONSE, and the call is not complete. The cancelled mark may stand in any.
+-- RESPONSE, both counts of elements are 0 where the form lacks the stream, and the call is not complete. The cancelled mark may stand in any.
 abbrev pub goodOpen : (methods : ℕ) → FormRow → Call → Bool
 goodOpen methods row c =
     ltb (c .method) methods &&
     (implies (c .«input_closed») (row .1) &&
     (implies (c .«output_closed») (row .3 && c .responded) &&
-    not (complete row c)))
+    ((row .0 || eqb (c .«input_elements») 0) &&
+    ((row .2 || eqb (c .«output_elements») 0) &&
+    not (complete row c)))))

@@ -44,6 +44,6 @@ dueOf (Goes i c due) = due
 unfoldable pub receive : Table → Frame → (reading : Payload → ℕ) → List Call → Stepped
 receive T f reading l = stepOf (judgeOf T f l) (reading (dueOf (judgeOf T f l))) l
 
--- The release of a call reads nothing.
-unfoldable pub release : (correlation : ℕ) → List Call → Stepped
-release id l = stepOf (judgeRelease id l) 0 l
+-- The release of a call reads nothing; `number` is 0, or the refusal of its tally.
+unfoldable pub release : (correlation number : ℕ) → List Call → Stepped
+release id number l = stepOf (judgeRelease id l) number l

@@ -60,11 +60,13 @@ impl Call {
             return Judged::Stop(12);
         }
         let row = row_of(m.form);
-        if self.allows(row, f.kind) {
-            Judged::Goes(i, self.after(row, f.kind), payload_of(m, f.kind))
-        } else {
-            Judged::Stop(self.not_allowed(f.kind))
+        if !self.allows(row, f.kind) {
+            return Judged::Stop(self.not_allowed(f.kind));
         }
+        if self.at_limit(f.kind) {
+            return Judged::Stop(17);
+        }
+        Judged::Goes(i, self.after(row, f.kind), payload_of(m, f.kind))
     }
 }
 

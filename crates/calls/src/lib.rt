@@ -1,4 +1,4 @@
-// The calls of a connection: the call table by value, when it is good, and its step on a judged frame and on a release.
+// The calls of a connection: the call table by value, when it is good, its step on a judged frame and on a release, and what that raises in a tally row.
 pub mod forms;
 pub mod good;
 pub mod judge;
@@ -6,6 +6,7 @@ pub mod numbers;
 pub mod record;
 pub mod slots;
 pub mod step;
+pub mod tallies;
 
 // The record of a call. A free slot is zero in every member.
 pub struct Call {
@@ -17,6 +18,9 @@ pub struct Call {
     pub output_closed: bool,
     // CANCEL was accepted: only ERROR and a release end the call.
     pub cancelled: bool,
+    // The stream elements accepted each way since INVOKE.
+    pub input_elements: u16,
+    pub output_elements: u16,
 }
 
 pub struct CallTable {
@@ -57,4 +61,30 @@ pub enum Judged {
 pub struct Stepped {
     pub number: u32,
     pub table: CallTable,
+}
+
+// A tally row: how many calls of a method were opened, and how many ended in each way.
+pub struct Tally {
+    pub opened: u32,
+    pub completed: u32,
+    pub errored: u32,
+    pub cancelled: u32,
+    pub failed: u32,
+}
+
+// A figure of a tally row, or none.
+pub enum Figure {
+    Nothing,
+    Opened,
+    Completed,
+    Errored,
+    Cancelled,
+    Failed,
+}
+
+// What a judged frame or release raises: in the row of this method, once it is accepted, and where its payload is refused.
+pub struct Rise {
+    pub row: usize,
+    pub accepted: Figure,
+    pub refused: Figure,
 }

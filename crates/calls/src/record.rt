@@ -2,7 +2,9 @@
 use crate::Call;
 use crate::FormRow;
 ghost use mathlib.Core.Path.{_≡_};
-ghost use Rattle.calls.specs.Record.{isCall, isFree, openedCall, complete, allowed, notAllowed, marked, afterFrame, zeroCall, goodOpen};
+ghost use mathlib.Core.Bool.{true, false};
+ghost use Prim.Native.Nat.{_<_};
+ghost use Rattle.calls.specs.Record.{isCall, isFree, openedCall, complete, allowed, notAllowed, counting, atLimit, marked, afterFrame, zeroCall, goodOpen};
 
 pub const EMPTY: Call = Call {
     correlation: 0,
@@ -12,7 +14,17 @@ pub const EMPTY: Call = Call {
     input_closed: false,
     output_closed: false,
     cancelled: false,
+    input_elements: 0,
+    output_elements: 0,
 };
+
+// One element more, where one is counted.
+fn more(n: u16, counted: bool) -> u16
+    requires { ⌜ (counted ≡ true → n < 65535) ⌝ }
+    ensures { λ r. ⌜ r ≡ counting counted n ⌝ }
+{
+    if counted { n + 1 } else { n }
+}
 
 impl Call {
     // The record that INVOKE makes.
@@ -27,6 +39,8 @@ impl Call {
             input_closed: false,
             output_closed: false,
             cancelled: false,
+            input_elements: 0,
+            output_elements: 0,
         }
     }
 
@@ -74,8 +88,17 @@ impl Call {
         }
     }
 
-    // With the mark of an accepted frame.
+    // An element of this kind would be one above 65,535.
+    pub fn at_limit(self, kind: u8) -> bool
+        ensures { λ r. ⌜ r ≡ atLimit kind self ⌝ }
+    {
+        ((kind == 2) & (self.input_elements == 65535))
+            | ((kind == 4) & (self.output_elements == 65535))
+    }
+
+    // With the mark of an accepted frame, and a stream element counted.
     fn mark(self, kind: u8) -> Call
+        requires { ⌜ atLimit kind self ≡ false ⌝ }
         ensures { λ r. ⌜ r ≡ marked kind self ⌝ }
     {
         Call {
@@ -86,11 +109,14 @@ impl Call {
             input_closed: self.input_closed | (kind == 3),
             output_closed: self.output_closed | (kind == 5),
             cancelled: self.cancelled | (kind == 8),
+            input_elements: more(self.input_elements, kind == 2),
+            output_elements: more(self.output_elements, kind == 4),
         }
     }
 
     // The record after an accepted frame; an ended one is zeroed.
     pub fn after(self, row: FormRow, kind: u8) -> Call
+        requires { ⌜ atLimit kind self ≡ false ⌝ }
         ensures { λ r. ⌜ r ≡ afterFrame row kind self ⌝ }
     {
         let next = self.mark(kind);
@@ -107,7 +133,10 @@ impl Call {
         (self.correlation == 0)
             & ((self.method == 0)
                 & (!self.responded
-                    & (!self.input_closed & (!self.output_closed & !self.cancelled))))
+                    & (!self.input_closed
+                        & (!self.output_closed
+                            & (!self.cancelled
+                                & ((self.input_elements == 0) & (self.output_elements == 0)))))))
     }
 
     // An open record is good by itself, where the schema has so many methods and its own has this form.
@@ -117,6 +146,8 @@ impl Call {
         let m = self.method as usize;
         (m < methods)
             & ((!self.input_closed | row.1)
-                & ((!self.output_closed | (row.3 & self.responded)) & !self.is_complete(row)))
+                & ((!self.output_closed | (row.3 & self.responded))
+                    & ((row.0 | (self.input_elements == 0))
+                        & ((row.2 | (self.output_elements == 0)) & !self.is_complete(row)))))
     }
 }

@@ -11,7 +11,7 @@ ghost use mathlib.Core.Bool.{cond};
 ghost use lib.Dec.{eqb};
 ghost use Rattle.calls.specs.Numbers.{endsCall};
 ghost use Rattle.calls.specs.Record.{emptyCall};
-ghost use Rattle.calls.specs.Step.{stepOf, release};
+ghost use Rattle.calls.specs.Step.{stepOf};
 
 impl CallTable {
     // A frame that opens a call: one refused for its payload opens none.
@@ -63,12 +63,5 @@ impl CallTable {
                 }
             }
         }
-    }
-
-    // The release of a cancelled call: the answer and the next table.
-    pub fn release(self, id: u64) -> Stepped
-        ensures { λ r. ⌜ r ≡ release id (self .slots) ⌝ }
-    {
-        self.step(self.judge_release(id), 0)
     }
 }

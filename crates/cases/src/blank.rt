@@ -1,6 +1,7 @@
 // Buffers as they are before a case. They come from functions, so that the proofs of the callers know their lengths alone, and not 70,000 numbers.
 use crate::frames::BYTE;
 use crate::frames::ROOM;
+use crate::lines::TALLIES;
 use crate::tables::MOST;
 use crate::values::CELL;
 
@@ -14,4 +15,8 @@ pub fn cells() -> [u32; MOST] {
 
 pub fn output() -> [u8; ROOM] {
     [BYTE; ROOM]
+}
+
+pub fn tallies() -> [u32; TALLIES] {
+    [0u32; TALLIES]
 }

@@ -11,6 +11,13 @@ pub fn byte(whole: &mut bool) -> u8 {
     b[0]
 }
 
+// Two bytes, the least first.
+pub fn short(whole: &mut bool) -> u16 {
+    let low = byte(whole) as u16;
+    let high = byte(whole) as u16;
+    low + 256 * high
+}
+
 // Four bytes, the least first.
 pub fn word(whole: &mut bool) -> u32 {
     let mut b = [0u8; 4];
@@ -84,6 +91,16 @@ pub fn sheet(sheet: &mut [u32], whole: &mut bool) -> usize
 {
     let n = cells(sheet, whole);
     fill(&mut sheet[..n], whole);
+    n
+}
+
+// A number of tally rows and the rows, five cells each, which it puts at the start of the cells. More rows than there are cells for count as a cut file.
+pub fn rows(cells: &mut [u32], whole: &mut bool) -> usize
+    ensures { λ r. ⌜ Counts r (now (cells .exit)) ⌝ }
+{
+    let rows = word(whole) as usize;
+    let n = within(cells, 5 * rows, whole);
+    fill(&mut cells[..n], whole);
     n
 }
 

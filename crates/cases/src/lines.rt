@@ -6,29 +6,51 @@ use crate::sums;
 use crate::tables::MOST;
 use calls::Call;
 use calls::CallTable;
+use schema::Checked;
+use schema::access::method_count;
+ghost use Prim.Native.Nat.{_≤_};
 
 // The most events of a run or a history.
 const EVENTS: u32 = 1000;
 
-// The next call table, and the sheet's sum.
+// The cells of the most tally rows, five each.
+pub const TALLIES: usize = 10500;
+
+// The next call table, the sheet's sum (0 for a release), and that of the tally rows.
 struct Next {
     table: CallTable,
     sum: u64,
+    tally_sum: u64,
 }
 
 // Code 8: a table, the number of the sheet's cells, and frames with their sides. A line for each has number, place, bytes used, rows, the tail's place
-// and length, calls open, key comparisons, and the sheet's sum.
+// and length, calls open, key comparisons, the sheet's sum, and that of the tally rows.
 pub fn run() -> bool {
     run_case(false)
 }
 
-// Code 11: the same with releases. A byte before each event says which it is: 0 a frame, 1 a release. A release's line has number, place and calls open.
+// Code 11: the same with releases. A byte before each event says which it is: 0 a frame, 1 a release. A release's line has number, place,
+// calls open, and the sum of the tally rows.
 pub fn history() -> bool {
     run_case(true)
 }
 
+// As many fresh tally rows as the schema has methods; none where it is not good.
+fn fresh_rows(schema: &[u8]) -> usize
+    ensures { λ r. ⌜ r ≤ 256 ⌝ }
+{
+    match arf::check_table(schema) {
+        Checked::Good => method_count(schema),
+        Checked::Refused {
+            number: _,
+            place: _,
+        } => 0,
+    }
+}
+
 fn run_case(marked: bool) -> bool {
     let mut schema = blank::bytes();
+    let mut tallies = blank::tallies();
     let mut whole = true;
     let n = input::bytes(&mut schema, &mut whole);
     let cells = input::word(&mut whole) as usize;
@@ -37,16 +59,32 @@ fn run_case(marked: bool) -> bool {
         whole = false;
     }
     if whole {
-        run_events(&schema[..n], cells, events, marked, &mut whole);
+        let rows = fresh_rows(&schema[..n]);
+        let m = input::within(&tallies, 5 * rows, &mut whole);
+        run_events(
+            &schema[..n],
+            cells,
+            events,
+            marked,
+            &mut tallies[..m],
+            &mut whole,
+        );
     }
     whole
 }
 
-fn run_events(schema: &[u8], cells: usize, events: u32, marked: bool, whole: &mut bool) {
+fn run_events(
+    schema: &[u8],
+    cells: usize,
+    events: u32,
+    marked: bool,
+    tallies: &mut [u32],
+    whole: &mut bool,
+) {
     let mut table = arf::fresh();
     let mut left = events;
     while left > 0 {
-        table = run_event(table, schema, cells, marked, whole);
+        table = run_event(table, schema, cells, marked, tallies, whole);
         left -= 1;
     }
 }
@@ -57,12 +95,13 @@ fn run_event(
     schema: &[u8],
     cells: usize,
     marked: bool,
+    tallies: &mut [u32],
     whole: &mut bool,
 ) -> CallTable {
     let sort = if marked { input::byte(whole) } else { 0 };
     match sort {
-        0 => run_frame(table, schema, cells, whole),
-        1 => run_release(table, schema, whole),
+        0 => run_frame(table, schema, cells, tallies, whole),
+        1 => run_release(table, schema, tallies, whole),
         _ => {
             *whole = false;
             table
@@ -70,20 +109,42 @@ fn run_event(
     }
 }
 
-fn run_release(table: CallTable, schema: &[u8], whole: &mut bool) -> CallTable {
+fn run_release(
+    table: CallTable,
+    schema: &[u8],
+    tallies: &mut [u32],
+    whole: &mut bool,
+) -> CallTable {
     let correlation = input::long(whole);
     if !*whole {
         return table;
     }
-    let r = arf::release(table, schema, correlation);
-    output::number(r.number as u64);
-    output::number(r.place as u64);
-    output::last(r.open as u64);
-    let next = r.table;
-    next
+    let next = released(table, schema, correlation, tallies);
+    output::last(next.tally_sum);
+    next.table
 }
 
-fn run_frame(table: CallTable, schema: &[u8], cells: usize, whole: &mut bool) -> CallTable {
+// Prints all but the sums. The tally rows stand in cells, as the entry for other languages has them: it is over the same core as `arf::release`.
+fn released(table: CallTable, schema: &[u8], correlation: u64, tallies: &mut [u32]) -> Next {
+    let r = exports::release::judge(true, table, schema, correlation, tallies);
+    output::number(r.number as u64);
+    output::number(r.place as u64);
+    output::number(r.open as u64);
+    let table = r.table;
+    Next {
+        table,
+        sum: 0,
+        tally_sum: sums::of_cells(tallies),
+    }
+}
+
+fn run_frame(
+    table: CallTable,
+    schema: &[u8],
+    cells: usize,
+    tallies: &mut [u32],
+    whole: &mut bool,
+) -> CallTable {
     let mut data = blank::bytes();
     let mut sheet = blank::cells();
     let side = input::byte(whole);
@@ -92,14 +153,22 @@ fn run_frame(table: CallTable, schema: &[u8], cells: usize, whole: &mut bool) ->
     if !*whole {
         return table;
     }
-    let next = answer(table, schema, side, &data[..n], &mut sheet[..room]);
-    output::last(next.sum);
+    let next = answer(table, schema, side, &data[..n], &mut sheet[..room], tallies);
+    output::number(next.sum);
+    output::last(next.tally_sum);
     next.table
 }
 
-// Prints all but the sum.
-fn answer(table: CallTable, schema: &[u8], side: u8, data: &[u8], sheet: &mut [u32]) -> Next {
-    let r = arf::receive(table, schema, side, data, sheet);
+// Prints all but the sums, likewise over the core of `arf::receive`.
+fn answer(
+    table: CallTable,
+    schema: &[u8],
+    side: u8,
+    data: &[u8],
+    sheet: &mut [u32],
+    tallies: &mut [u32],
+) -> Next {
+    let r = exports::receive::judge(true, table, schema, side, data, sheet, tallies);
     output::number(r.number as u64);
     output::number(r.place as u64);
     output::number(r.used as u64);
@@ -112,42 +181,53 @@ fn answer(table: CallTable, schema: &[u8], side: u8, data: &[u8], sheet: &mut [u
     Next {
         table,
         sum: sums::of_cells(sheet),
+        tally_sum: sums::of_cells(tallies),
     }
 }
 
-// Code 9: a table, the number of the sheet's cells, a call table, a side and a frame. The line is a run's with the next call table's sum after it.
+// Code 9: a table, the number of the sheet's cells, a call table, tally rows, a side and a frame. The line is a run's with the next call table's sum
+// before that of the tally rows.
 pub fn receive() -> bool {
     let mut schema = blank::bytes();
     let mut data = blank::bytes();
     let mut sheet = blank::cells();
+    let mut tallies = blank::tallies();
     let mut whole = true;
     let n = input::bytes(&mut schema, &mut whole);
     let cells = input::cells(&sheet, &mut whole);
     let table = read_table(&mut whole);
+    let k = input::rows(&mut tallies, &mut whole);
     let side = input::byte(&mut whole);
     let m = input::bytes(&mut data, &mut whole);
     if whole {
-        let next = answer(table, &schema[..n], side, &data[..m], &mut sheet[..cells]);
+        let next = answer(
+            table,
+            &schema[..n],
+            side,
+            &data[..m],
+            &mut sheet[..cells],
+            &mut tallies[..k],
+        );
         output::number(next.sum);
-        output::last(sums::of_calls(next.table));
+        output::number(sums::of_calls(next.table));
+        output::last(next.tally_sum);
     }
     whole
 }
 
-// Code 10: a table, a call table and a correlation. The line has number, place, calls open and the next call table's sum.
+// Code 10: a table, a call table, tally rows and a correlation. The line has number, place, calls open, the next call table's sum and that of the rows.
 pub fn release() -> bool {
     let mut schema = blank::bytes();
+    let mut tallies = blank::tallies();
     let mut whole = true;
     let n = input::bytes(&mut schema, &mut whole);
     let table = read_table(&mut whole);
+    let k = input::rows(&mut tallies, &mut whole);
     let correlation = input::long(&mut whole);
     if whole {
-        let r = arf::release(table, &schema[..n], correlation);
-        output::number(r.number as u64);
-        output::number(r.place as u64);
-        output::number(r.open as u64);
-        let next = r.table;
-        output::last(sums::of_calls(next));
+        let next = released(table, &schema[..n], correlation, &mut tallies[..k]);
+        output::number(sums::of_calls(next.table));
+        output::last(next.tally_sum);
     }
     whole
 }
@@ -170,6 +250,8 @@ fn read_call(whole: &mut bool) -> Call {
     let input_closed = read_mark(whole);
     let output_closed = read_mark(whole);
     let cancelled = read_mark(whole);
+    let input_elements = input::short(whole);
+    let output_elements = input::short(whole);
     Call {
         correlation,
         method,
@@ -178,6 +260,8 @@ fn read_call(whole: &mut bool) -> Call {
         input_closed,
         output_closed,
         cancelled,
+        input_elements,
+        output_elements,
     }
 }
 

@@ -23,6 +23,11 @@ fn add_word(h: u64, x: u64) -> u64 {
     )
 }
 
+// A number below 2^16 as its two little-endian bytes.
+fn add_short(h: u64, x: u64) -> u64 {
+    add(add(h, x % 256), x / 256 % 256)
+}
+
 fn add_mark(h: u64, mark: bool) -> u64 {
     add(h, if mark { 1 } else { 0 })
 }
@@ -36,7 +41,9 @@ fn add_call(start: u64, call: calls::Call) -> u64 {
     h = add_mark(h, call.responded);
     h = add_mark(h, call.input_closed);
     h = add_mark(h, call.output_closed);
-    add_mark(h, call.cancelled)
+    h = add_mark(h, call.cancelled);
+    h = add_short(h, call.input_elements as u64);
+    add_short(h, call.output_elements as u64)
 }
 
 pub fn of_calls(table: calls::CallTable) -> u64 {

@@ -1,4 +1,4 @@
--- A call table survives being stored and read back, so that a history over lent cells is the history of the call table itself.
+-- A call table and tally rows survive being stored and read back, so that a history over lent cells is the history of the table and the rows themselves.
 -- Assumes nothing.
 use mathlib.Core.Path.{_≡_, refl, sym, ap, subst, _∙_}
 use mathlib.Core.Logic.{_↔_, ⊎-elim}
@@ -18,27 +18,30 @@ use Rattle.schema.specs.Check.{checked}
 use Rattle.schema.proofs.Bools.{cases, and-i, and-left, and-right}
 use Rattle.schema.proofs.Goods.{good-table}
 use Rattle.calls.specs.declared.Call.{Call}
+use Rattle.calls.specs.declared.Tally.{Tally}
 use Rattle.calls.specs.Numbers.{endsCall}
 use Rattle.calls.specs.Record.{emptyCall}
 use Rattle.calls.specs.Slots.{slot, freshTable}
 use Rattle.calls.specs.Good.{GoodTable}
 use Rattle.calls.proofs.Goodness.{good-clauses}
 use Rattle.calls.proofs.Kept.{test-stays, release-test}
+use Rattle.calls.proofs.Limits.{FewIn, few-stays, few-released}
 use Rattle.line.specs.Answer.{Line, line, stopped}
 use Rattle.line.specs.Receive.{received}
-use Rattle.line.specs.declared.Released.{Released}
-use Rattle.line.specs.Release.{releaseAnswer, released}
-use Rattle.line.specs.Run.{Event, input, release, slotsAfter, runFrom}
-use Rattle.line.proofs.Kept.{holds, same-length, release-holds, release-length}
-use Rattle.line.proofs.Answers.{refused-untouched as sheet-kept}
+use Rattle.line.specs.Release.{ReleaseLine, releaseLine, releaseAnswer, released}
+use Rattle.line.specs.Claims.{rowFor}
+use Rattle.line.specs.Run.{Event, input, release, State, stateAfter, runFrom}
+use Rattle.line.proofs.Kept.{holds, same-length, same-rows, release-holds, release-length, release-rows}
+use Rattle.line.proofs.Answers.{refused-untouched as sheet-kept, refused-rows as rows-kept, rows-alike}
 use Rattle.line.proofs.Records.{refused-kept}
-use Rattle.line.proofs.Releases.{refused-kept as release-kept}
+use Rattle.line.proofs.Releases.{refused-kept as release-kept, refused-rows as release-rows-kept}
 use Rattle.exports.specs.Cells.{stored}
-use Rattle.exports.specs.Records.{callOf, callAt, callsFrom, callsOf, marksOf, recordCells, cellsOf, plain, plainFrom, areCalls, AreCalls}
+use Rattle.exports.specs.Records.{callOf, callAt, callsFrom, callsOf, marksOf, recordCells, cellsOf, plain, plainFrom, areCalls, AreCalls, rowsOf, rowCells}
 use Rattle.exports.specs.Answers.{notCalls, judgement, receiving, notReleased, releaseJudgement, releasing, callCells}
-use Rattle.exports.specs.Run.{Fits, cellsAfter, runCells}
+use Rattle.exports.specs.Run.{FitsCall, Fits, Cells, stateOf, cellsAfter, runCells}
 use Rattle.exports.proofs.Stores.{sets-stored}
 use Rattle.exports.proofs.Tables.{calls-long}
+use Rattle.exports.proofs.Tallies.{rows-long, rows-same, rows-back}
 
 -- ---- one record
 
@@ -55,22 +58,31 @@ bit-is zero h = refl
 bit-is (suc zero) h = refl
 bit-is (suc (suc n)) h = absurd (omega arith)
 
--- five bits, each read from the number that they count
-module _ (a b c d e : ℕ) (p : a ≤ 1) (q : b ≤ 1) (r : c ≤ 1) (s : d ≤ 1) (t : e ≤ 1) where
-  bit-1 : (a + 2 * b + 4 * c + 8 * d + 16 * e) % 2 ≡ a
+-- five bits and two counts, each read from the number that they make
+module _ (a b c d e f g : ℕ) (p : a ≤ 1) (q : b ≤ 1) (r : c ≤ 1) (s : d ≤ 1) (t : e ≤ 1) (u : f < 65536) (v : g < 65536) where
+  abbrev all : ℕ
+  all = a + 2 * b + 4 * c + 8 * d + 16 * e + 32 * f + 2097152 * g
+
+  bit-1 : all % 2 ≡ a
   bit-1 = omega arith
 
-  bit-2 : (a + 2 * b + 4 * c + 8 * d + 16 * e) / 2 % 2 ≡ b
+  bit-2 : all / 2 % 2 ≡ b
   bit-2 = omega arith
 
-  bit-4 : (a + 2 * b + 4 * c + 8 * d + 16 * e) / 4 % 2 ≡ c
+  bit-4 : all / 4 % 2 ≡ c
   bit-4 = omega arith
 
-  bit-8 : (a + 2 * b + 4 * c + 8 * d + 16 * e) / 8 % 2 ≡ d
+  bit-8 : all / 8 % 2 ≡ d
   bit-8 = omega arith
 
-  bit-16 : (a + 2 * b + 4 * c + 8 * d + 16 * e) / 16 % 2 ≡ e
+  bit-16 : all / 16 % 2 ≡ e
   bit-16 = omega arith
+
+  inputs-back : all / 32 % 65536 ≡ f
+  inputs-back = omega arith
+
+  outputs-back : all / 2097152 % 65536 ≡ g
+  outputs-back = omega arith
 
 five-bits : (n : ℕ) → n % 2 + 2 * (n / 2 % 2) + 4 * (n / 4 % 2) + 8 * (n / 8 % 2) + 16 * (n / 16 % 2) ≡ n % 32
 five-bits n =
@@ -80,11 +92,17 @@ five-bits n =
     let d : n / 16 ≡ 2 * (n / 32) + n / 16 % 2 = omega arith in
     omega arith
 
+all-bits : (n : ℕ) → n < 137438953472 → n % 32 + 32 * (n / 32 % 65536) + 2097152 * (n / 2097152 % 65536) ≡ n
+all-bits n h =
+    let a : n / 32 ≡ 65536 * (n / 2097152) + n / 32 % 65536 = omega arith in
+    let b : n / 2097152 % 65536 ≡ n / 2097152 = omega arith in
+    omega arith
+
 below-two : (n : ℕ) → n % 2 < 2
 below-two n = omega arith
 
 -- A record survives its cells.
-pub record-back : (c : Call) → c .method < 4294967296 → callOf (c .correlation) (c .method) (marksOf c) ≡ c
+pub record-back : (c : Call) → FitsCall c → callOf (c .correlation) (c .method) (marksOf c) ≡ c
 unfolding callOf
 record-back c h =
     let o : ℕ = cond (c .«open») 1 0 in
@@ -92,18 +110,24 @@ record-back c h =
     let i : ℕ = cond (c .«input_closed») 1 0 in
     let u : ℕ = cond (c .«output_closed») 1 0 in
     let x : ℕ = cond (c .cancelled) 1 0 in
+    let m = c .«input_elements» in
+    let n = c .«output_elements» in
     let a = bit-small (c .«open») in
     let b = bit-small (c .responded) in
     let d = bit-small (c .«input_closed») in
     let e = bit-small (c .«output_closed») in
     let f = bit-small (c .cancelled) in
-    let one : ℕ → Bool = λ n. eqb n 1 in
-    let method : c .method % 4294967296 ≡ c .method = omega arith in
-    let first : eqb (marksOf c % 2) 1 ≡ c .«open» = ap one (bit-1 o r i u x a b d e f) ∙ bit-told (c .«open») in
-    let second : eqb (marksOf c / 2 % 2) 1 ≡ c .responded = ap one (bit-2 o r i u x a b d e f) ∙ bit-told (c .responded) in
-    let third : eqb (marksOf c / 4 % 2) 1 ≡ c .«input_closed» = ap one (bit-4 o r i u x a b d e f) ∙ bit-told (c .«input_closed») in
-    let fourth : eqb (marksOf c / 8 % 2) 1 ≡ c .«output_closed» = ap one (bit-8 o r i u x a b d e f) ∙ bit-told (c .«output_closed») in
-    let fifth : eqb (marksOf c / 16 % 2) 1 ≡ c .cancelled = ap one (bit-16 o r i u x a b d e f) ∙ bit-told (c .cancelled) in
+    let v = h .inputs in
+    let w = h .outputs in
+    let one : ℕ → Bool = λ k. eqb k 1 in
+    let method : c .method % 4294967296 ≡ c .method = omega (arith, h .method) in
+    let first : eqb (marksOf c % 2) 1 ≡ c .«open» = ap one (bit-1 o r i u x m n a b d e f v w) ∙ bit-told (c .«open») in
+    let second : eqb (marksOf c / 2 % 2) 1 ≡ c .responded = ap one (bit-2 o r i u x m n a b d e f v w) ∙ bit-told (c .responded) in
+    let third : eqb (marksOf c / 4 % 2) 1 ≡ c .«input_closed» = ap one (bit-4 o r i u x m n a b d e f v w) ∙ bit-told (c .«input_closed») in
+    let fourth : eqb (marksOf c / 8 % 2) 1 ≡ c .«output_closed» = ap one (bit-8 o r i u x m n a b d e f v w) ∙ bit-told (c .«output_closed») in
+    let fifth : eqb (marksOf c / 16 % 2) 1 ≡ c .cancelled = ap one (bit-16 o r i u x m n a b d e f v w) ∙ bit-told (c .cancelled) in
+    let sixth : marksOf c / 32 % 65536 ≡ m = inputs-back o r i u x m n a b d e f v w in
+    let seventh : marksOf c / 2097152 % 65536 ≡ n = outputs-back o r i u x m n a b d e f v w in
     λ k.
     record {
       correlation = c .correlation;
@@ -113,16 +137,17 @@ record-back c h =
       «input_closed» = third k;
       «output_closed» = fourth k;
       cancelled = fifth k;
+      «input_elements» = sixth k;
+      «output_elements» = seventh k;
     }
 
 -- The cells of a record that was read are those that it was read from.
-pub record-plain : (id method marks : ℕ) → method < 4294967296 → marks < 32 → recordCells (callOf id method marks) ≡ id ∷ method ∷ marks ∷ []
+pub record-plain : (id method marks : ℕ) → method < 4294967296 → marks < 137438953472 → recordCells (callOf id method marks) ≡ id ∷ method ∷ marks ∷ []
 unfolding callOf
 record-plain id method marks few small =
     let bit : (n : ℕ) → cond (eqb (n % 2) 1) 1 0 ≡ n % 2 = λ n. bit-is (n % 2) (below-two n) in
     let number : method % 4294967296 ≡ method = omega arith in
-    let five : marks % 32 ≡ marks = omega arith in
-    rw (number, bit marks, bit (marks / 2), bit (marks / 4), bit (marks / 8), bit (marks / 16), five-bits marks, five)
+    rw (number, bit marks, bit (marks / 2), bit (marks / 4), bit (marks / 8), bit (marks / 16), five-bits marks, all-bits marks small)
 
 -- ---- the whole table
 
@@ -164,18 +189,21 @@ table-back cells l n h room =
 
 -- ---- any cells are a table
 
--- Whatever the cells, they hold 128 records, whose method numbers have 32 bits.
+-- Whatever the cells, they hold 128 records, whose method numbers have 32 bits and whose counts have 16.
 pub loaded-long : (cells : List ℕ) → length (callsOf cells) ≡ 128
 loaded-long cells = calls-long cells 0 128
 
-method-small : (id method marks : ℕ) → callOf id method marks .method < 4294967296
+record-small : (id method marks : ℕ) → FitsCall (callOf id method marks)
 unfolding callOf
-method-small id method marks = omega arith
+record-small id method marks = record { method = omega arith; inputs = omega arith; outputs = omega arith }
+
+none-fits : FitsCall emptyCall
+none-fits = record { method = lit≤ tt; inputs = lit≤ tt; outputs = lit≤ tt }
 
 loaded-from : (cells : List ℕ) (i n : ℕ) → Fits (callsFrom cells i n)
 unfolding callsFrom
-loaded-from cells i zero j = lit≤ tt
-loaded-from cells i (suc n) zero = method-small (getD cells (3 * i) 0) (getD cells (3 * i + 1) 0) (getD cells (3 * i + 2) 0)
+loaded-from cells i zero j = none-fits
+loaded-from cells i (suc n) zero = record-small (getD cells (3 * i) 0) (getD cells (3 * i + 1) 0) (getD cells (3 * i + 2) 0)
 loaded-from cells i (suc n) (suc j) = loaded-from cells (suc i) n j
 
 pub loaded-fits : (cells : List ℕ) → Fits (callsOf cells)
@@ -215,8 +243,8 @@ are-calls-iff cells = (told, test)
         plain-at cells 0 128 (and-right (leb 384 (length cells)) (plainFrom cells 0 128) t) i (omega arith) h in
         record {
           enough = leb-true 384 (length cells) (and-left (leb 384 (length cells)) (plainFrom cells 0 128) t);
-          methods = λ i h. ltb-true (getD cells (3 * i + 1) 0) 4294967296 (and-left (ltb (getD cells (3 * i + 1) 0) 4294967296) (ltb (getD cells (3 * i + 2) 0) 32) (each i h));
-          marks = λ i h. ltb-true (getD cells (3 * i + 2) 0) 32 (and-right (ltb (getD cells (3 * i + 1) 0) 4294967296) (ltb (getD cells (3 * i + 2) 0) 32) (each i h));
+          methods = λ i h. ltb-true (getD cells (3 * i + 1) 0) 4294967296 (and-left (ltb (getD cells (3 * i + 1) 0) 4294967296) (ltb (getD cells (3 * i + 2) 0) 137438953472) (each i h));
+          marks = λ i h. ltb-true (getD cells (3 * i + 2) 0) 137438953472 (and-right (ltb (getD cells (3 * i + 1) 0) 4294967296) (ltb (getD cells (3 * i + 2) 0) 137438953472) (each i h));
         }
 
     test : AreCalls cells → areCalls cells ≡ true
@@ -224,8 +252,8 @@ are-calls-iff cells = (told, test)
         and-i (leb 384 (length cells)) (plainFrom cells 0 128) (le-leb 384 (length cells) (w .enough))
         (all-plain cells 0 128
         (λ j low high.
-        and-i (ltb (getD cells (3 * j + 1) 0) 4294967296) (ltb (getD cells (3 * j + 2) 0) 32)
-        (lt-ltb (getD cells (3 * j + 1) 0) 4294967296 (w .methods j high)) (lt-ltb (getD cells (3 * j + 2) 0) 32 (w .marks j high))))
+        and-i (ltb (getD cells (3 * j + 1) 0) 4294967296) (ltb (getD cells (3 * j + 2) 0) 137438953472)
+        (lt-ltb (getD cells (3 * j + 1) 0) 4294967296 (w .methods j high)) (lt-ltb (getD cells (3 * j + 2) 0) 137438953472 (w .marks j high))))
 
 -- three cells more at the front, and one record later
 plain-later : (a b m : ℕ) (cells : List ℕ) (i n : ℕ) → plainFrom (a ∷ b ∷ m ∷ cells) (suc i) n ≡ plainFrom cells i n
@@ -236,21 +264,21 @@ plain-later a b m cells i (suc n) =
     let one : 3 * suc i + 1 ≡ suc (suc (suc (3 * i + 1))) = omega arith in
     rw (two, one) (ap (λ (t : Bool). plainAt cells i && t) (plain-later a b m cells (suc i) n))
 
-marks-small : (c : Call) → marksOf c < 32
-marks-small c =
+marks-small : (c : Call) → FitsCall c → marksOf c < 137438953472
+marks-small c h =
     let a = bit-small (c .«open») in
     let b = bit-small (c .responded) in
     let d = bit-small (c .«input_closed») in
     let e = bit-small (c .«output_closed») in
     let f = bit-small (c .cancelled) in
-    omega arith
+    omega (arith, h .inputs, h .outputs, a, b, d, e, f)
 
 front-plain : (l : List Call) (rest : List ℕ) → Fits l → plainFrom (cellsOf l ++ rest) 0 (length l) ≡ true
 unfolding plainFrom cellsOf
 front-plain [] rest h = refl
 front-plain (c ∷ cs) rest h =
     and-i (plain (c .method) (marksOf c)) (plainFrom (cellsOf (c ∷ cs) ++ rest) 1 (length cs))
-    (and-i (ltb (c .method) 4294967296) (ltb (marksOf c) 32) (lt-ltb (c .method) 4294967296 (h 0)) (lt-ltb (marksOf c) 32 (marks-small c)))
+    (and-i (ltb (c .method) 4294967296) (ltb (marksOf c) 137438953472) (lt-ltb (c .method) 4294967296 (h 0 .method)) (lt-ltb (marksOf c) 137438953472 (marks-small c (h 0))))
     (plain-later (c .correlation) (c .method) (marksOf c) (cellsOf cs ++ rest) 0 (length cs) ∙ front-plain cs rest (λ i. h (suc i)))
 
 -- The cells of a table are a call table.
@@ -292,35 +320,44 @@ unfolding stopped
 refused-slots Good l = refl
 refused-slots (Faulty n q) l = refl
 
--- A good call table of a good schema table has few methods.
-good-fits : (T : Table) (l : List Call) → length (T .methods) ≤ 256 → GoodTable T l → Fits l
-good-fits T l few g i =
+-- A good call table of a good schema table has few methods, and no call that was read has more elements than a cell holds.
+good-fits : (T : Table) (l : List Call) → length (T .methods) ≤ 256 → GoodTable T l → FewIn 65535 l → Fits l
+good-fits T l few g h i =
     ⊎-elim
-    (λ e. let m = g .calls i e .methodExists in omega arith)
-    (λ e. subst (λ (c : Call). c .method < 4294967296) (sym (g .freeZero i e)) (lit≤ tt))
+    (λ e. record { method = omega (arith, few, g .calls i e .methodExists); inputs = omega (arith, h i .inputs); outputs = omega (arith, h i .outputs) })
+    (λ e. subst FitsCall (sym (g .freeZero i e)) none-fits)
     (cases (slot l i .«open»))
 
-module _ (cells schema : List ℕ) (side : ℕ) (bytes sheet : List ℕ) where
+loaded-few : (cells : List ℕ) → FewIn 65535 (callsOf cells)
+loaded-few cells i = let w = loaded-fits cells i in record { inputs = omega (arith, w .inputs); outputs = omega (arith, w .outputs) }
+
+module _ (cells schema : List ℕ) (side : ℕ) (bytes sheet tallies : List ℕ) where
+  abbrev rows : List Tally
+  rows = rowsOf tallies
+
   abbrev answer : Line
-  answer = receiving cells schema side bytes sheet
+  answer = receiving cells schema side bytes sheet tallies
 
   abbrev after : List ℕ
   after = callCells cells (answer .answer .table .slots)
 
+  abbrev rowsLeft : List ℕ
+  rowsLeft = rowCells tallies (answer .tallies)
+
   -- ---- cells that are no call table
   module _ (bad : areCalls cells ≡ false) where
     -- They are refused with 15, after the schema's faults.
-    pub cells-refused : answer ≡ line (notCalls (checked schema) (callsOf cells)) sheet
+    pub cells-refused : answer ≡ line (notCalls (checked schema) (callsOf cells)) sheet rows
     unfolding judgement
     cells-refused = rw bad
 
   -- ---- cells that are one
   module _ (good : areCalls cells ≡ true) where
     abbrev next : List Call
-    next = received schema side bytes sheet (callsOf cells) .answer .table .slots
+    next = received schema side bytes sheet rows (callsOf cells) .answer .table .slots
 
-    -- The answer is the one over the table that they hold.
-    pub table-judged : answer ≡ received schema side bytes sheet (callsOf cells)
+    -- The answer is the one over the table and the rows that they hold.
+    pub table-judged : answer ≡ received schema side bytes sheet rows (callsOf cells)
     unfolding judgement
     table-judged = rw good
 
@@ -328,16 +365,16 @@ module _ (cells schema : List ℕ) (side : ℕ) (bytes sheet : List ℕ) where
     room = are-calls-iff cells .0 good .enough
 
     next-long : length next ≡ 128
-    next-long = same-length schema side bytes sheet (callsOf cells) ∙ loaded-long cells
+    next-long = same-length schema side bytes sheet rows (callsOf cells) ∙ loaded-long cells
 
     next-fits : Fits next
     next-fits =
-        holds schema side bytes sheet (callsOf cells) (λ _ l. Fits l)
+        holds schema side bytes sheet rows (callsOf cells) (λ _ l. Fits l)
         (λ n q e. loaded-fits cells)
         (λ f w g t reading.
         let l = callsOf cells in
         let T = tableOf schema in
-        good-fits T _ (good-table schema g .fewMethods) (good-clauses T _ (test-stays T f reading l t)))
+        good-fits T _ (good-table schema g .fewMethods) (good-clauses T _ (test-stays T f reading l t)) (few-stays T f reading l (loaded-few cells)))
 
     after-is : after ≡ stored cells (cellsOf next)
     unfolding judgement
@@ -350,24 +387,43 @@ module _ (cells schema : List ℕ) (side : ℕ) (bytes sheet : List ℕ) where
     pub next-held : callsOf after ≡ next
     next-held = rw after-is (table-back cells next next-long next-fits room)
 
-  -- Whatever the cells, afterwards they hold the table of the answer.
+  -- Whatever the cells, afterwards they hold the table of the answer,
   pub after-held : callsOf after ≡ answer .answer .table .slots
   after-held = ⊎-elim (λ t. next-held t ∙ ap (λ (a : Line). a .answer .table .slots) (sym (table-judged t))) (λ f. kept f) (cases (areCalls cells))
     where
       kept : areCalls cells ≡ false → callsOf after ≡ answer .answer .table .slots
       kept f = rw (cells-refused f, f) (sym (refused-slots (checked schema) (callsOf cells)))
 
-  -- At a refusal the sheet stays as it was, and so do the cells but where the refusal ends a call.
-  pub refused-untouched : (answer .answer .number ≡ 0 → ⊥) → (answer .sheet ≡ sheet) × (endsCall (answer .answer .number) ≡ false → after ≡ cells)
+  -- and its tally rows.
+  rows-many : length (answer .tallies) ≡ length rows
+  rows-many =
+      ⊎-elim
+      (λ t. ap (λ (a : Line). length (a .tallies)) (table-judged t) ∙ same-rows schema side bytes sheet rows (callsOf cells))
+      (λ f. ap (λ (a : Line). length (a .tallies)) (cells-refused f))
+      (cases (areCalls cells))
+
+  pub rows-held : rowsOf rowsLeft ≡ answer .tallies
+  rows-held = rows-back tallies (answer .tallies) (rows-many ∙ rows-long tallies)
+
+  -- At a refusal the sheet stays as it was, and so do the cells of the table and of the rows but where the refusal ends a call.
+  pub refused-untouched : (answer .answer .number ≡ 0 → ⊥)
+      → (answer .sheet ≡ sheet) × (endsCall (answer .answer .number) ≡ false → (after ≡ cells) × (rowsLeft ≡ tallies))
   refused-untouched z =
       ⊎-elim
       (λ t.
+      let l = callsOf cells in
       let e = table-judged t in
-      let other : received schema side bytes sheet (callsOf cells) .answer .number ≡ 0 → ⊥ = rw e at z in (
-        rw e (sheet-kept schema side bytes sheet (callsOf cells) other .same),
-        λ spares. after-is t ∙ ap (λ (l : List Call). stored cells (cellsOf l)) (refused-kept schema side bytes sheet (callsOf cells) other (rw e at spares)) ∙ cells-kept cells (are-calls-iff cells .0 t),
+      let other : received schema side bytes sheet rows l .answer .number ≡ 0 → ⊥ = rw e at z in (
+        rw e (sheet-kept schema side bytes sheet rows l other .same),
+        λ spares.
+            let spared : endsCall (received schema side bytes sheet rows l .answer .number) ≡ false = rw e at spares in
+            let same : answer .tallies ≡ rows =
+            rows-alike (answer .tallies) rows rows-many (λ m. ap (λ (a : Line). rowFor (a .tallies) m) e ∙ rows-kept schema side bytes sheet rows l other spared m) in (
+              after-is t ∙ ap (λ (x : List Call). stored cells (cellsOf x)) (refused-kept schema side bytes sheet rows l other spared) ∙ cells-kept cells (are-calls-iff cells .0 t),
+              ap (rowCells tallies) same ∙ rows-same tallies,
+            ),
       ))
-      (λ f. (rw (cells-refused f), λ spares. rw f))
+      (λ f. (rw (cells-refused f), λ spares. (rw f, ap (λ (a : Line). rowCells tallies (a .tallies)) (cells-refused f) ∙ rows-same tallies)))
       (cases (areCalls cells))
 
 -- ---- the fresh table
@@ -407,35 +463,43 @@ unfolding releaseAnswer
 refused-release Good l = refl
 refused-release (Faulty n q) l = refl
 
-module _ (cells schema : List ℕ) (id : ℕ) where
-  abbrev reply : Released
-  reply = releasing cells schema id
+module _ (cells schema : List ℕ) (id : ℕ) (tallies : List ℕ) where
+  abbrev lent : List Tally
+  lent = rowsOf tallies
+
+  abbrev reply : ReleaseLine
+  reply = releasing cells schema id tallies
 
   abbrev left : List ℕ
-  left = callCells cells (reply .table .slots)
+  left = callCells cells (reply .answer .table .slots)
+
+  abbrev leftRows : List ℕ
+  leftRows = rowCells tallies (reply .tallies)
 
   -- Cells that are no call table are refused with 15, after the schema's faults.
-  pub release-refused : areCalls cells ≡ false → reply ≡ notReleased (checked schema) (callsOf cells)
+  pub release-refused : areCalls cells ≡ false → reply ≡ releaseLine (notReleased (checked schema) (callsOf cells)) lent
   unfolding releaseJudgement
   release-refused bad = rw bad
 
   module _ (good : areCalls cells ≡ true) where
     abbrev remaining : List Call
-    remaining = released schema (callsOf cells) id .table .slots
+    remaining = released schema (callsOf cells) id lent .answer .table .slots
 
-    -- The answer is the one over the table that they hold.
-    pub release-judged : reply ≡ released schema (callsOf cells) id
+    -- The answer is the one over the table and the rows that they hold.
+    pub release-judged : reply ≡ released schema (callsOf cells) id lent
     unfolding releaseJudgement
     release-judged = rw good
 
     remaining-long : length remaining ≡ 128
-    remaining-long = release-length schema (callsOf cells) id ∙ loaded-long cells
+    remaining-long = release-length schema (callsOf cells) id lent ∙ loaded-long cells
 
     remaining-fits : Fits remaining
     remaining-fits =
-        release-holds schema (callsOf cells) id (λ _ l. Fits l)
+        release-holds schema (callsOf cells) id lent (λ _ l. Fits l)
         (λ n q e. loaded-fits cells)
-        (λ g t. let T = tableOf schema in good-fits T _ (good-table schema g .fewMethods) (good-clauses T _ (release-test T id (callsOf cells) t)))
+        (λ g t n k.
+        let T = tableOf schema in
+        good-fits T _ (good-table schema g .fewMethods) (good-clauses T _ (release-test T id n (callsOf cells) t)) (few-released id n (callsOf cells) (loaded-few cells)))
 
     left-is : left ≡ stored cells (cellsOf remaining)
     unfolding releaseJudgement
@@ -448,52 +512,80 @@ module _ (cells schema : List ℕ) (id : ℕ) where
     pub left-held : callsOf left ≡ remaining
     left-held = rw left-is (table-back cells remaining remaining-long remaining-fits (are-calls-iff cells .0 good .enough))
 
-  -- Whatever the cells, afterwards they hold the table of the answer.
-  pub release-held : callsOf left ≡ reply .table .slots
-  release-held = ⊎-elim (λ t. left-held t ∙ ap (λ (a : Released). a .table .slots) (sym (release-judged t))) (λ f. kept f) (cases (areCalls cells))
+  -- Whatever the cells, afterwards they hold the table of the answer,
+  pub release-held : callsOf left ≡ reply .answer .table .slots
+  release-held = ⊎-elim (λ t. left-held t ∙ ap (λ (a : ReleaseLine). a .answer .table .slots) (sym (release-judged t))) (λ f. kept f) (cases (areCalls cells))
     where
-      kept : areCalls cells ≡ false → callsOf left ≡ reply .table .slots
+      kept : areCalls cells ≡ false → callsOf left ≡ reply .answer .table .slots
       kept f = rw (release-refused f, f) (sym (refused-release (checked schema) (callsOf cells)))
 
+  -- and its tally rows.
+  left-many : length (reply .tallies) ≡ length lent
+  left-many =
+      ⊎-elim
+      (λ t. ap (λ (a : ReleaseLine). length (a .tallies)) (release-judged t) ∙ release-rows schema (callsOf cells) id lent)
+      (λ f. ap (λ (a : ReleaseLine). length (a .tallies)) (release-refused f))
+      (cases (areCalls cells))
+
+  pub left-rows-held : rowsOf leftRows ≡ reply .tallies
+  left-rows-held = rows-back tallies (reply .tallies) (left-many ∙ rows-long tallies)
+
   -- At a refusal the cells stay as they were.
-  pub release-untouched : (reply .number ≡ 0 → ⊥) → left ≡ cells
+  pub release-untouched : (reply .answer .number ≡ 0 → ⊥) → (left ≡ cells) × (leftRows ≡ tallies)
   release-untouched z =
       ⊎-elim
       (λ t.
-      let other : released schema (callsOf cells) id .number ≡ 0 → ⊥ = rw (release-judged t) at z in
-      left-is t ∙ ap (λ (l : List Call). stored cells (cellsOf l)) (release-kept schema (callsOf cells) id other) ∙ cells-kept cells (are-calls-iff cells .0 t))
-      (λ f. rw f)
+      let l = callsOf cells in
+      let e = release-judged t in
+      let other : released schema l id lent .answer .number ≡ 0 → ⊥ = rw e at z in
+      let same : reply .tallies ≡ lent =
+      rows-alike (reply .tallies) lent left-many (λ m. ap (λ (a : ReleaseLine). rowFor (a .tallies) m) e ∙ release-rows-kept schema l id lent other m) in (
+        left-is t ∙ ap (λ (x : List Call). stored cells (cellsOf x)) (release-kept schema l id lent other) ∙ cells-kept cells (are-calls-iff cells .0 t),
+        ap (rowCells tallies) same ∙ rows-same tallies,
+      ))
+      (λ f. (rw f, ap (λ (a : ReleaseLine). rowCells tallies (a .tallies)) (release-refused f) ∙ rows-same tallies))
       (cases (areCalls cells))
 
 -- ---- a history
 
-module _ (s start : List ℕ) (w : AreCalls start) where
+module _ (s : List ℕ) (start : Cells) (w : AreCalls (start .table)) where
   -- After any history the cells are a call table.
-  event-calls : (e : Event) (cells : List ℕ) → areCalls cells ≡ true → areCalls (cellsAfter s e cells) ≡ true
-  event-calls (input i) cells t = after-calls cells s (i .side) (i .bytes) (i .sheet) t
-  event-calls (release id) cells t = left-calls cells s id t
+  event-calls : (e : Event) (c : Cells) → areCalls (c .table) ≡ true → areCalls (cellsAfter s e c .table) ≡ true
+  event-calls (input i) c t = after-calls (c .table) s (i .side) (i .bytes) (i .sheet) (c .tallies) t
+  event-calls (release id) c t = left-calls (c .table) s id (c .tallies) t
 
-  pub run-calls : (es : List Event) → areCalls (runCells s start es) ≡ true
+  pub run-calls : (es : List Event) → areCalls (runCells s start es .table) ≡ true
   unfolding runCells
-  run-calls [] = are-calls-iff start .1 w
+  run-calls [] = are-calls-iff (start .table) .1 w
   run-calls (e ∷ es) = event-calls e (runCells s start es) (run-calls es)
 
-  -- It is the one of the history.
-  event-held : (e : Event) (cells : List ℕ) → areCalls cells ≡ true → callsOf (cellsAfter s e cells) ≡ slotsAfter s e (callsOf cells)
-  event-held (input i) cells t = next-held cells s (i .side) (i .bytes) (i .sheet) t
-  event-held (release id) cells t = left-held cells s id t
+  -- They hold the call table and the tally rows of the history.
+  event-held : (e : Event) (c : Cells) → areCalls (c .table) ≡ true → stateOf (cellsAfter s e c) ≡ stateAfter s e (stateOf c)
+  event-held (input i) c t =
+      let slots = next-held (c .table) s (i .side) (i .bytes) (i .sheet) (c .tallies) t in
+      let rows = rows-held (c .table) s (i .side) (i .bytes) (i .sheet) (c .tallies)
+      ∙ ap (λ (a : Line). a .tallies) (table-judged (c .table) s (i .side) (i .bytes) (i .sheet) (c .tallies) t) in
+      λ k. record { calls = slots k; tallies = rows k }
+  event-held (release id) c t =
+      let slots = left-held (c .table) s id (c .tallies) t in
+      let rows = left-rows-held (c .table) s id (c .tallies) ∙ ap (λ (a : ReleaseLine). a .tallies) (release-judged (c .table) s id (c .tallies) t) in
+      λ k. record { calls = slots k; tallies = rows k }
 
-  pub run-held : (es : List Event) → callsOf (runCells s start es) ≡ runFrom s (callsOf start) es
+  pub run-held : (es : List Event) → stateOf (runCells s start es) ≡ runFrom s (stateOf start) es
   unfolding runCells runFrom
   run-held [] = refl
-  run-held (e ∷ es) = event-held e (runCells s start es) (run-calls es) ∙ ap (slotsAfter s e) (run-held es)
+  run-held (e ∷ es) = event-held e (runCells s start es) (run-calls es) ∙ ap (stateAfter s e) (run-held es)
 
-  -- So each answer is the one that `arf::receive` gives over the table itself,
-  pub answer-held : (es : List Event) (side : ℕ) (bytes sheet : List ℕ)
-      → receiving (runCells s start es) s side bytes sheet ≡ received s side bytes sheet (runFrom s (callsOf start) es)
+  -- So each answer is the one that `arf::receive` gives over the table and the rows themselves,
+  pub answer-held : (es : List Event) (side : ℕ) (bytes sheet : List ℕ) → let c = runCells s start es in let st = runFrom s (stateOf start) es in
+      receiving (c .table) s side bytes sheet (c .tallies) ≡ received s side bytes sheet (st .tallies) (st .calls)
   answer-held es side bytes sheet =
-      table-judged (runCells s start es) s side bytes sheet (run-calls es) ∙ ap (λ (l : List Call). received s side bytes sheet l) (run-held es)
+      let c = runCells s start es in
+      table-judged (c .table) s side bytes sheet (c .tallies) (run-calls es) ∙ ap (λ (st : State). received s side bytes sheet (st .tallies) (st .calls)) (run-held es)
 
   -- or `arf::release`.
-  pub reply-held : (es : List Event) (id : ℕ) → releasing (runCells s start es) s id ≡ released s (runFrom s (callsOf start) es) id
-  reply-held es id = release-judged (runCells s start es) s id (run-calls es) ∙ ap (λ (l : List Call). released s l id) (run-held es)
+  pub reply-held : (es : List Event) (id : ℕ) → let c = runCells s start es in let st = runFrom s (stateOf start) es in
+      releasing (c .table) s id (c .tallies) ≡ released s (st .calls) id (st .tallies)
+  reply-held es id =
+      let c = runCells s start es in
+      release-judged (c .table) s id (c .tallies) (run-calls es) ∙ ap (λ (st : State). released s (st .calls) id (st .tallies)) (run-held es)

@@ -12,7 +12,7 @@ sets-none : (i : ℕ) (vs : List ℕ) → sets [] i vs ≡ []
 sets-none i [] = refl
 sets-none i (v ∷ vs) = sets-none (suc i) vs
 
-sets-later : (x : ℕ) (l : List ℕ) (i : ℕ) (vs : List ℕ) → sets (x ∷ l) (suc i) vs ≡ x ∷ sets l i vs
+pub sets-later : (x : ℕ) (l : List ℕ) (i : ℕ) (vs : List ℕ) → sets (x ∷ l) (suc i) vs ≡ x ∷ sets l i vs
 sets-later x l i [] = refl
 sets-later x l i (v ∷ vs) = sets-later x (set l i v) (suc i) vs
 

@@ -136,14 +136,14 @@ told-over a l =
     }
 
 -- The number, the answer's cells and the call table's cells afterwards determine the answer to a frame, whatever was lent.
-pub receive-entry : (table schema : List ℕ) (side : ℕ) (bytes sheet : List ℕ) → let a = receiving table schema side bytes sheet .answer in
+pub receive-entry : (table schema : List ℕ) (side : ℕ) (bytes sheet tallies : List ℕ) → let a = receiving table schema side bytes sheet tallies .answer in
     receivedTold (a .number) (receivedCells a) (callCells table (a .table .slots)) ≡ a
-receive-entry table schema side bytes sheet =
-    ap (told-over (receiving table schema side bytes sheet .answer)) (after-held table schema side bytes sheet)
+receive-entry table schema side bytes sheet tallies =
+    ap (told-over (receiving table schema side bytes sheet tallies .answer)) (after-held table schema side bytes sheet tallies)
 
 -- So do they determine the answer to a release.
-pub release-entry : (table schema : List ℕ) (id : ℕ) → let a = releasing table schema id in
+pub release-entry : (table schema : List ℕ) (id : ℕ) (tallies : List ℕ) → let a = releasing table schema id tallies .answer in
     releasedTold (a .number) (releasedCells a) (callCells table (a .table .slots)) ≡ a
-release-entry table schema id =
-    let a = releasing table schema id in
-    ap (λ (l : List Call). record { number = a .number; place = a .place; «open» = a .«open»; table = record { slots = l } }) (release-held table schema id)
+release-entry table schema id tallies =
+    let a = releasing table schema id tallies .answer in
+    ap (λ (l : List Call). record { number = a .number; place = a .place; «open» = a .«open»; table = record { slots = l } }) (release-held table schema id tallies)

@@ -28,17 +28,20 @@ use Rattle.forward.specs.Entry.{forwardOutcome}
 use Rattle.salvage.specs.declared.Salvaging.{Salvaging}
 use Rattle.salvage.specs.Salvage.{salvageEntries, salvageBytes, salvageSpans}
 use Rattle.calls.specs.declared.Call.{Call}
+use Rattle.calls.specs.declared.Tally.{Tally}
 use Rattle.line.specs.declared.Received.{Received}
 use Rattle.line.specs.Answer.{Line, line, stopped}
+use Rattle.line.specs.declared.Plan.{Plan}
+use Rattle.line.specs.Planning.{stopPlan}
 use Rattle.line.specs.Receive.{received}
 use Rattle.line.specs.declared.Released.{Released}
-use Rattle.line.specs.Release.{releaseAnswer, released}
+use Rattle.line.specs.Release.{ReleaseLine, releaseLine, releaseAnswer, released}
 use Rattle.scalar.specs.declared.Scalar.{Scalar}
 use Rattle.scalar.specs.declared.Scalar.the-variants.{Truth, Signed, Unsigned, Float32, Float64, Span}
 use Rattle.scalar.specs.declared.Answer.{Answer}
 use Rattle.scalar.specs.declared.Answer.the-variants.{Is, Refused}
 use Rattle.exports.specs.Cells.{stored}
-use Rattle.exports.specs.Records.{callsOf, cellsOf, areCalls}
+use Rattle.exports.specs.Records.{callsOf, cellsOf, areCalls, rowsOf}
 
 -- ---- tables
 
@@ -166,14 +169,19 @@ abbrev pub notCalls : Checked → List Call → Received
 notCalls check.Good l = stopped l 15 0
 notCalls (check.Refused number row) l = stopped l number row
 
--- One frame against the call table l, which the cells are, or are not.
-unfoldable pub judgement : Bool → (schema : List ℕ) (side : ℕ) (bytes sheet : List ℕ) → List Call → Line
-judgement known schema side bytes sheet l =
-    cond known (received schema side bytes sheet l) (line (notCalls (checked schema) l) sheet)
+-- The plan of such a refusal.
+abbrev pub refusedPlan : Checked → Plan
+refusedPlan check.Good = stopPlan 15 0
+refusedPlan (check.Refused number row) = stopPlan number row
 
--- One frame against the call table that these cells hold. Cells that are no call table are refused as one that is not good.
-abbrev pub receiving : (table schema : List ℕ) (side : ℕ) (bytes sheet : List ℕ) → Line
-receiving table schema side bytes sheet = judgement (areCalls table) schema side bytes sheet (callsOf table)
+-- One frame against the call table l, which the cells are, or are not.
+unfoldable pub judgement : Bool → (schema : List ℕ) (side : ℕ) (bytes sheet : List ℕ) → List Tally → List Call → Line
+judgement known schema side bytes sheet ts l =
+    cond known (received schema side bytes sheet ts l) (line (notCalls (checked schema) l) sheet ts)
+
+-- One frame against the call table and the tally rows that these cells hold. Cells that are no call table are refused as one that is not good.
+abbrev pub receiving : (table schema : List ℕ) (side : ℕ) (bytes sheet tallies : List ℕ) → Line
+receiving table schema side bytes sheet tallies = judgement (areCalls table) schema side bytes sheet (rowsOf tallies) (callsOf table)
 
 -- The cells afterwards: those of the next table; cells that are no call table stay as they are.
 abbrev pub callCells : (table : List ℕ) → List Call → List ℕ
@@ -188,11 +196,11 @@ abbrev pub notReleased : Checked → List Call → Released
 notReleased check.Good l = releaseAnswer 15 0 l
 notReleased (check.Refused number row) l = releaseAnswer number row l
 
-unfoldable pub releaseJudgement : Bool → (schema : List ℕ) → List Call → (correlation : ℕ) → Released
-releaseJudgement known schema l id = cond known (released schema l id) (notReleased (checked schema) l)
+unfoldable pub releaseJudgement : Bool → (schema : List ℕ) → List Call → (correlation : ℕ) → List Tally → ReleaseLine
+releaseJudgement known schema l id ts = cond known (released schema l id ts) (releaseLine (notReleased (checked schema) l) ts)
 
-abbrev pub releasing : (table schema : List ℕ) (correlation : ℕ) → Released
-releasing table schema id = releaseJudgement (areCalls table) schema (callsOf table) id
+abbrev pub releasing : (table schema : List ℕ) (correlation : ℕ) (tallies : List ℕ) → ReleaseLine
+releasing table schema id tallies = releaseJudgement (areCalls table) schema (callsOf table) id (rowsOf tallies)
 
 -- The answer to a release: place, calls open.
 abbrev pub releasedCells : Released → List ℕ

@@ -1,4 +1,4 @@
--- What the exported functions answer, how they store it, and the call table in cells.
+-- What the exported functions answer, how they store it, and the call table and the tally rows in cells.
 pub mod Cells
 pub mod Records
 pub mod Answers

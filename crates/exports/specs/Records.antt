@@ -1,4 +1,4 @@
--- The call table as cells that a caller lends: three a record, for the correlation, the method number and the marks.
+-- The call table and the tally rows as cells that a caller lends; a record of the table has three, for the correlation, the method number and the marks with the elements.
 -- Assumes nothing.
 use mathlib.Core.Bool.{Bool, true, cond, _&&_}
 use mathlib.Core.List.{List, [], _∷_}
@@ -6,8 +6,10 @@ use Prim.Native.Nat.{ℕ, zero, suc, _+_, _*_, _/_, _%_, _≤_, _<_}
 use lib.Dec.{eqb, leb, ltb}
 use lib.ListN.{length, getD}
 use Rattle.calls.specs.declared.Call.{Call}
+use Rattle.calls.specs.declared.Tally.{Tally}
 
--- The marks count 1 open, 2 RESPONSE, 4 input closed, 8 output closed, 16 cancelled. A method number has 32 bits.
+-- The marks count 1 open, 2 RESPONSE, 4 input closed, 8 output closed, 16 cancelled; above them stand 16 bits of input elements and 16 of output elements. A
+-- method number has 32 bits.
 unfoldable pub callOf : (correlation method marks : ℕ) → Call
 callOf id method marks =
     record {
@@ -18,6 +20,8 @@ callOf id method marks =
       «input_closed» = eqb (marks / 4 % 2) 1;
       «output_closed» = eqb (marks / 8 % 2) 1;
       cancelled = eqb (marks / 16 % 2) 1;
+      «input_elements» = marks / 32 % 65536;
+      «output_elements» = marks / 2097152 % 65536;
     }
 
 -- The i-th record; a cell past the last is 0.
@@ -36,7 +40,7 @@ callsOf cells = callsFrom cells 0 128
 abbrev pub marksOf : Call → ℕ
 marksOf c =
     cond (c .«open») 1 0 + 2 * cond (c .responded) 1 0 + 4 * cond (c .«input_closed») 1 0 + 8 * cond (c .«output_closed») 1 0
-    + 16 * cond (c .cancelled) 1 0
+    + 16 * cond (c .cancelled) 1 0 + 32 * c .«input_elements» + 2097152 * c .«output_elements»
 
 abbrev pub recordCells : Call → List ℕ
 recordCells c = c .correlation ∷ c .method ∷ marksOf c ∷ []
@@ -48,9 +52,9 @@ cellsOf (c ∷ cs) = c .correlation ∷ c .method ∷ marksOf c ∷ cellsOf cs
 
 -- ---- cells that are a call table
 
--- A method number has 32 bits, and none but the five marks is set.
+-- A method number has 32 bits, and the marks with the elements 37.
 abbrev pub plain : (method marks : ℕ) → Bool
-plain method marks = ltb method 4294967296 && ltb marks 32
+plain method marks = ltb method 4294967296 && ltb marks 137438953472
 
 -- The same of n records, from the i-th on.
 unfoldable pub plainFrom : List ℕ → (i n : ℕ) → Bool
@@ -65,4 +69,32 @@ areCalls cells = leb 384 (length cells) && plainFrom cells 0 128
 pub record AreCalls (cells : List ℕ) : Type 0 where
   pub enough : 384 ≤ length cells
   pub methods : (i : ℕ) → i < 128 → getD cells (3 * i + 1) 0 < 4294967296
-  pub marks : (i : ℕ) → i < 128 → getD cells (3 * i + 2) 0 < 32
+  pub marks : (i : ℕ) → i < 128 → getD cells (3 * i + 2) 0 < 137438953472
+
+-- ---- tally rows
+
+-- A row of five cells: opened, completed, errored, cancelled, failed.
+abbrev pub tallyOf : (opened completed errored cancelled failed : ℕ) → Tally
+tallyOf a b c d e = record { opened = a; completed = b; errored = c; cancelled = d; failed = e }
+
+abbrev pub tallyCells : Tally → List ℕ
+tallyCells t = t .opened ∷ t .completed ∷ t .errored ∷ t .cancelled ∷ t .failed ∷ []
+
+-- The rows in cells that a caller lends, five a method; cells after the last whole row are none.
+unfoldable pub rowsOf : List ℕ → List Tally
+rowsOf [] = []
+rowsOf (a ∷ []) = []
+rowsOf (a ∷ b ∷ []) = []
+rowsOf (a ∷ b ∷ c ∷ []) = []
+rowsOf (a ∷ b ∷ c ∷ d ∷ []) = []
+rowsOf (a ∷ b ∷ c ∷ d ∷ e ∷ cells) = tallyOf a b c d e ∷ rowsOf cells
+
+-- The cells with these rows, from the first on; what is beyond stays.
+unfoldable pub rowCells : List ℕ → List Tally → List ℕ
+rowCells cells [] = cells
+rowCells [] (t ∷ ts) = []
+rowCells (a ∷ []) (t ∷ ts) = a ∷ []
+rowCells (a ∷ b ∷ []) (t ∷ ts) = a ∷ b ∷ []
+rowCells (a ∷ b ∷ c ∷ []) (t ∷ ts) = a ∷ b ∷ c ∷ []
+rowCells (a ∷ b ∷ c ∷ d ∷ []) (t ∷ ts) = a ∷ b ∷ c ∷ d ∷ []
+rowCells (a ∷ b ∷ c ∷ d ∷ e ∷ cells) (t ∷ ts) = t .opened ∷ t .completed ∷ t .errored ∷ t .cancelled ∷ t .failed ∷ rowCells cells ts

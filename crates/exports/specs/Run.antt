@@ -1,22 +1,41 @@
--- The call table over a history of frames and releases, kept from event to event in cells that the caller lends.
+-- The call table and the tally rows over a history of frames and releases, kept from event to event in cells that the caller lends.
 -- Assumes nothing.
 use mathlib.Core.List.{List, [], _∷_}
 use Prim.Native.Nat.{ℕ, _<_}
 use Rattle.calls.specs.declared.Call.{Call}
 use Rattle.calls.specs.Slots.{slot}
-use Rattle.line.specs.Run.{Event, input, release}
+use Rattle.line.specs.Run.{Event, input, release, State}
+use Rattle.exports.specs.Records.{callsOf, rowsOf, rowCells}
 use Rattle.exports.specs.Answers.{receiving, releasing, callCells}
 
--- Every method number has 32 bits, as the member of the record has.
-abbrev pub Fits : List Call → Type 0
-Fits l = (i : ℕ) → slot l i .method < 4294967296
+-- Every method number has 32 bits and every count of elements 16, as the members of the record have.
+pub record FitsCall (c : Call) : Type 0 where
+  pub method : c .method < 4294967296
+  pub inputs : c .«input_elements» < 65536
+  pub outputs : c .«output_elements» < 65536
 
--- The cells after one event: it is judged against the table that the cells hold, and the next table is stored there.
-abbrev pub cellsAfter : (schema : List ℕ) → Event → (cells : List ℕ) → List ℕ
-cellsAfter schema (input i) cells = callCells cells (receiving cells schema (i .side) (i .bytes) (i .sheet) .answer .table .slots)
-cellsAfter schema (release id) cells = callCells cells (releasing cells schema id .table .slots)
+abbrev pub Fits : List Call → Type 0
+Fits l = (i : ℕ) → FitsCall (slot l i)
+
+-- The cells of the call table and those of the tally rows.
+pub record Cells : Type 0 where
+  pub table : List ℕ
+  pub tallies : List ℕ
+
+-- What they hold.
+abbrev pub stateOf : Cells → State
+stateOf c = record { calls = callsOf (c .table); tallies = rowsOf (c .tallies) }
+
+-- The cells after one event: it is judged against the table and the rows that the cells hold, and the next ones are stored there.
+abbrev pub cellsAfter : (schema : List ℕ) → Event → Cells → Cells
+cellsAfter schema (input i) c =
+    let a = receiving (c .table) schema (i .side) (i .bytes) (i .sheet) (c .tallies) in
+    record { table = callCells (c .table) (a .answer .table .slots); tallies = rowCells (c .tallies) (a .tallies) }
+cellsAfter schema (release id) c =
+    let a = releasing (c .table) schema id (c .tallies) in
+    record { table = callCells (c .table) (a .answer .table .slots); tallies = rowCells (c .tallies) (a .tallies) }
 
 -- The cells after a history, its last event first.
-unfoldable pub runCells : (schema start : List ℕ) → List Event → List ℕ
+unfoldable pub runCells : (schema : List ℕ) → (start : Cells) → List Event → Cells
 runCells schema start [] = start
 runCells schema start (e ∷ es) = cellsAfter schema e (runCells schema start es)

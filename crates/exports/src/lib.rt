@@ -6,6 +6,7 @@ pub mod payloads;
 pub mod receive;
 pub mod records;
 pub mod release;
+mod rows;
 pub mod salvages;
 pub mod scalars;
 pub mod table;

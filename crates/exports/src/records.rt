@@ -29,6 +29,8 @@ fn call_of(correlation: u64, method: u64, marks: u64) -> Call
         input_closed: marks / 4 % 2 == 1,
         output_closed: marks / 8 % 2 == 1,
         cancelled: marks / 16 % 2 == 1,
+        input_elements: (marks / 32 % 65536) as u16,
+        output_elements: (marks / 2097152 % 65536) as u16,
     }
 }
 
@@ -46,7 +48,7 @@ fn call_at(cells: &[u64], i: usize) -> Call
 fn is_plain(method: u64, marks: u64) -> bool
     ensures { λ r. ⌜ r ≡ plain method marks ⌝ }
 {
-    (method < 4294967296) & (marks < 32)
+    (method < 4294967296) & (marks < 137438953472)
 }
 
 // The cells are a call table: there are enough of them, and each number is one of a record.
@@ -93,6 +95,8 @@ fn marks_of(call: Call) -> u64
         + 4 * mark(call.input_closed)
         + 8 * mark(call.output_closed)
         + 16 * mark(call.cancelled)
+        + 32 * (call.input_elements as u64)
+        + 2097152 * (call.output_elements as u64)
 }
 
 // The cells of one record, as many as there are.

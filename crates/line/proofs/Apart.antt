@@ -1,33 +1,37 @@
 -- Calls kept apart: what the answer to a frame depends on.
 -- Assumes nothing.
-use mathlib.Core.Path.{_≡_, refl, sym, ap, _∙_}
-use mathlib.Core.Bool.{Bool, true, false, cond}
+use mathlib.Core.Path.{_≡_, refl, sym, ap, subst, _∙_}
+use mathlib.Core.Logic.{_⊎_, inl, inr, ⊎-elim}
 use mathlib.Core.List.{List, []}
-use Prim.Native.Nat.{ℕ, _+_}
-use lib.ListN.{take, drop}
-use Rattle.schema.specs.declared.Checked.{Checked}
-use Rattle.schema.specs.declared.Checked.the-variants.{Good, Refused as Faulty}
+use Prim.Native.Nat.{ℕ, _+_, _-_}
+use lib.ListN.{length, take, drop}
+use Rattle.schema.specs.declared.Found.the-variants.{At}
+use Rattle.schema.specs.Table.{Table}
 use Rattle.schema.specs.File.{tableOf}
-use Rattle.schema.specs.Check.{checked}
-use Rattle.frame.specs.declared.FrameRead.{FrameRead}
-use Rattle.frame.specs.declared.FrameRead.the-variants.{More, Frame as Whole, Refused}
-use Rattle.frame.specs.Frame.{frameOf}
 use Rattle.calls.specs.declared.Call.{Call}
 use Rattle.calls.specs.declared.Frame.{Frame}
 use Rattle.calls.specs.declared.Judged.{Judged}
 use Rattle.calls.specs.declared.Judged.the-variants.{Stop, Opens, Goes}
-use Rattle.calls.specs.Slots.{goodTable, ownOf, full}
-use Rattle.calls.specs.Judge.{judgeOf, Verdict}
+use Rattle.calls.specs.declared.Tally.{Tally}
+use Rattle.calls.specs.declared.Rise.{Rise}
+use Rattle.calls.specs.Slots.{ownOf, full}
+use Rattle.calls.specs.Judge.{judgeOf, Verdict, verdictOf}
 use Rattle.calls.specs.Step.{stepOf, dueOf}
-use Rattle.calls.specs.Apart.{verdict, verdictDue, verdictNumber}
+use Rattle.calls.specs.Counting.{noRise, riseOf}
+use Rattle.calls.specs.Apart.{verdict, verdictDue, verdictNumber, callMethod, verdictRise}
+use Rattle.calls.proofs.Goodness.{good-clauses, good-test}
 use Rattle.calls.proofs.Apart as calls
+use Rattle.calls.proofs.Rises.{rise-by, rise-method}
 use Rattle.reader.specs.declared.Reading.{Reading}
 use Rattle.reader.specs.Entry.{Outcome, readingIn, room, numbers}
-use Rattle.line.specs.Answer.{line, stopped, payloadRead, usedOf, answerOf, answered}
-use Rattle.line.specs.Receive.{onGood, onFrame, frameFrom, frameLine, bytesLine, received}
-use Rattle.line.specs.Claims.{Reply, replyOf, Alike, SameAnswer}
-use Rattle.line.proofs.Ways.{front-of}
-use Rattle.line.proofs.Payloads.{none-shown, Both, both-read}
+use Rattle.line.specs.declared.Next.{Next}
+use Rattle.line.specs.declared.Next.the-variants as next
+use Rattle.line.specs.Answer.{Line, line, inRow, stopped, payloadRead, tallied, usedOf, answerOf}
+use Rattle.line.specs.Planning.{frameFrom, planOf}
+use Rattle.line.specs.Receive.{answered, frameSettled, settled, frameLine, received}
+use Rattle.line.specs.Claims.{Reply, replyOf, rowFor, Ready, Unready, schemaFault, callsBad, rowsWrong, Stops, tables, frameFault, needsMore, Alike, SameAnswer}
+use Rattle.line.proofs.Ways.{front-of, Way, stops, judges, ways, stops-early, judged}
+use Rattle.line.proofs.Payloads.{none-shown, Both, both-read, both-tallied}
 
 -- ---- what the answer depends on
 
@@ -54,16 +58,15 @@ reply-by size r l (Stop n) = refl
 reply-by size r l (Opens j c d) = refl
 reply-by size r l (Goes i c d) = refl
 
-module _ (sheet₁ sheet₂ : List ℕ) (l₁ l₂ : List Call) where
-  stop-same : (n q : ℕ) → SameAnswer sheet₁ sheet₂ (line (stopped l₁ n q) sheet₁) (line (stopped l₂ n q) sheet₂)
+module _ (sheet₁ sheet₂ : List ℕ) (ts₁ ts₂ : List Tally) (l₁ l₂ : List Call) where
+  stop-same : (n q : ℕ) → SameAnswer sheet₁ sheet₂ (line (stopped l₁ n q) sheet₁ ts₁) (line (stopped l₂ n q) sheet₂ ts₂)
   unfolding stopped
   stop-same n q =
       record { reply = refl; rows = []; first = record { rows = refl; cells = none-shown sheet₁ }; second = record { rows = refl; cells = none-shown sheet₂ } }
 
-  answered-same : (size : ℕ) (J₁ J₂ : Judged) (o₁ o₂ : Outcome) → verdict J₁ ≡ verdict J₂ → Both sheet₁ sheet₂ o₁ o₂
-      → SameAnswer sheet₁ sheet₂ (answered size l₁ J₁ o₁) (answered size l₂ J₂ o₂)
-  unfolding answered
-  answered-same size J₁ J₂ o₁ o₂ e b =
+  answered-same : (size : ℕ) (J₁ J₂ : Judged) (r₁ r₂ : Rise) (t₁ t₂ : Tally) (o₁ o₂ : Outcome) → verdict J₁ ≡ verdict J₂ → Both sheet₁ sheet₂ o₁ o₂
+      → SameAnswer sheet₁ sheet₂ (inRow ts₁ (r₁ .row) (answered size l₁ J₁ r₁ t₁ o₁)) (inRow ts₂ (r₂ .row) (answered size l₂ J₂ r₂ t₂ o₂))
+  answered-same size J₁ J₂ r₁ r₂ t₁ t₂ o₁ o₂ e b =
       record {
         reply =
             reply-by size (readingIn o₁) l₁ J₁
@@ -76,46 +79,89 @@ module _ (sheet₁ sheet₂ : List ℕ) (l₁ l₂ : List Call) where
       }
 
   module _ (s : List ℕ) (space : room sheet₁ ≡ room sheet₂) where
+    abbrev T : Table
+    T = tableOf s
+
+    -- both frames raise the same, and nothing rises or the rows of its method are alike
+    pub same-rise : (f : Frame) → ownOf (f .correlation) l₁ ≡ ownOf (f .correlation) l₂ → (f .kind ≡ 1 → full l₁ ≡ full l₂)
+        → riseOf (f .kind) l₁ (judgeOf T f l₁) ≡ riseOf (f .kind) l₂ (judgeOf T f l₂)
+    same-rise f own slots =
+        let e = calls.same-verdict T f l₁ l₂ own slots in
+        rise-by T f l₁ ∙ (λ i. verdictRise (f .kind) (own i) (e i)) ∙ sym (rise-by T f l₂)
+
+    same-row : (f : Frame) → ((m : ℕ) → callMethod T f (ownOf (f .correlation) l₁) ≡ At m → rowFor ts₁ m ≡ rowFor ts₂ m)
+        → let r = riseOf (f .kind) l₁ (judgeOf T f l₁) in (r ≡ noRise) ⊎ (rowFor ts₁ (r .row) ≡ rowFor ts₂ (r .row))
+    same-row f h =
+        rw (rise-by T f l₁)
+        (⊎-elim inl (λ e. inr (h (verdictRise (f .kind) (ownOf (f .correlation) l₁) (verdictOf T f (ownOf (f .correlation) l₁) (full l₁)) .row) e))
+        (rise-method T f (ownOf (f .correlation) l₁) (full l₁)))
+
     frame-same : (f : Frame) (payload : List ℕ) (size : ℕ) → ownOf (f .correlation) l₁ ≡ ownOf (f .correlation) l₂ → (f .kind ≡ 1 → full l₁ ≡ full l₂)
-        → SameAnswer sheet₁ sheet₂ (frameLine s f payload size sheet₁ l₁) (frameLine s f payload size sheet₂ l₂)
-    unfolding frameLine
-    frame-same f payload size own slots =
-        let J₁ = judgeOf (tableOf s) f l₁ in
-        let J₂ = judgeOf (tableOf s) f l₂ in
-        let e = calls.same-judgement (tableOf s) f l₁ l₂ own slots in
+        → ((m : ℕ) → callMethod T f (ownOf (f .correlation) l₁) ≡ At m → rowFor ts₁ m ≡ rowFor ts₂ m)
+        → SameAnswer sheet₁ sheet₂ (frameLine s f payload size sheet₁ ts₁ l₁) (frameLine s f payload size sheet₂ ts₂ l₂)
+    unfolding frameLine frameSettled
+    frame-same f payload size own slots rows =
+        let J₁ = judgeOf T f l₁ in
+        let J₂ = judgeOf T f l₂ in
+        let r₁ = riseOf (f .kind) l₁ J₁ in
+        let r₂ = riseOf (f .kind) l₂ J₂ in
+        let e = calls.same-judgement T f l₁ l₂ own slots in
         let due = calls.due-by J₁ ∙ ap verdictDue e ∙ sym (calls.due-by J₂) in
-        answered-same size J₁ J₂ (payloadRead s (dueOf J₁) payload sheet₁) (payloadRead s (dueOf J₂) payload sheet₂) e
-        (rw due (both-read s payload sheet₁ sheet₂ space (dueOf J₂)))
+        let o₁ = payloadRead s (dueOf J₁) payload sheet₁ in
+        let o₂ = payloadRead s (dueOf J₂) payload sheet₂ in
+        let read : Both sheet₁ sheet₂ o₁ o₂ = rw due (both-read s payload sheet₁ sheet₂ space (dueOf J₂)) in
+        let raises : Both sheet₁ sheet₂ (tallied (rowFor ts₁ (r₁ .row)) r₁ sheet₁ o₁) (tallied (rowFor ts₂ (r₂ .row)) r₂ sheet₂ o₂) =
+        subst (λ (r : Rise). Both sheet₁ sheet₂ (tallied (rowFor ts₁ (r₁ .row)) r₁ sheet₁ o₁) (tallied (rowFor ts₂ (r .row)) r sheet₂ o₂)) (same-rise f own slots)
+        (both-tallied sheet₁ sheet₂ r₁ (rowFor ts₁ (r₁ .row)) (rowFor ts₂ (r₁ .row)) o₁ o₂ (same-row f rows) read) in
+        answered-same size J₁ J₂ r₁ r₂ (rowFor ts₁ (r₁ .row)) (rowFor ts₂ (r₂ .row)) _ _ e raises
 
-    module _ (side : ℕ) (bytes : List ℕ) (w : Alike (tableOf s) side bytes l₁ l₂) where
-      front-same : SameAnswer sheet₁ sheet₂ (bytesLine s side bytes sheet₁ l₁) (bytesLine s side bytes sheet₂ l₂)
-      unfolding bytesLine
-      front-same = go (frameOf bytes) refl
+    module _ (side : ℕ) (bytes : List ℕ) (w : Alike T side bytes l₁ l₂ ts₁ ts₂) where
+      pub ready-too : Ready s l₁ (length ts₁) → Ready s l₂ (length ts₂)
+      ready-too r =
+          record {
+            schemaGood = r .schemaGood;
+            callsGood = good-clauses T l₂ (sym (w .good) ∙ good-test T l₁ (r .callsGood));
+            rowsRight = sym (w .rows) ∙ r .rowsRight;
+          }
+
+      unready-too : {n q : ℕ} → Unready s l₁ (length ts₁) n q → Unready s l₂ (length ts₂) n q
+      unready-too (schemaFault n q e) = schemaFault n q e
+      unready-too (callsBad g b) = callsBad g (λ x. b (good-clauses T l₁ (w .good ∙ good-test T l₂ x)))
+      unready-too (rowsWrong g x n) = rowsWrong g (good-clauses T l₂ (sym (w .good) ∙ good-test T l₁ x)) (λ e. n (w .rows ∙ e))
+
+      pub stops-too : {n q : ℕ} → Stops s bytes l₁ (length ts₁) n q → Stops s bytes l₂ (length ts₂) n q
+      stops-too (tables e) = tables (unready-too e)
+      stops-too (frameFault n r e) = frameFault n (ready-too r) e
+      stops-too (needsMore r e) = needsMore (ready-too r) e
+
+      -- The open count aside, the answer depends on the schema table, on whether the call table is good, on the frame, its side, the sheet's room, its own
+      -- call's record, the number of tally rows and the row of the call's method; INVOKE also on whether 128 calls are open.
+      pub same-answer : SameAnswer sheet₁ sheet₂ (received s side bytes sheet₁ ts₁ l₁) (received s side bytes sheet₂ ts₂ l₂)
+      same-answer = go (ways s side bytes sheet₁ ts₁ l₁)
         where
-          go : (v : FrameRead) → frameOf bytes ≡ v →
-              SameAnswer sheet₁ sheet₂
-              (onFrame v (λ number. line (stopped l₁ number 0) sheet₁) (λ h place n. frameLine s (frameFrom side h) (take n (drop place bytes)) (place + n) sheet₁ l₁))
-              (onFrame v (λ number. line (stopped l₂ number 0) sheet₂) (λ h place n. frameLine s (frameFrom side h) (take n (drop place bytes)) (place + n) sheet₂ l₂))
-          go More e = stop-same 1 0
-          go (Refused n) e = stop-same n 0
-          go (Whole h place n) e =
+          go : {x : Line} → Way s side bytes sheet₁ ts₁ l₁ x → SameAnswer sheet₁ sheet₂ x (received s side bytes sheet₂ ts₂ l₂)
+          go (stops {n} {q} e) = rw (stops-early s side bytes sheet₂ ts₂ l₂ (stops-too e)) (stop-same n q)
+          go (judges h place n r e) =
+              let f = frameFrom side h in
               let front = front-of side bytes h place n e in
-              frame-same (frameFrom side h) (take n (drop place bytes)) (place + n) (w .own (frameFrom side h) front) (w .room (frameFrom side h) front)
+              rw (judged s side bytes sheet₂ ts₂ l₂ h place n (ready-too r) e)
+              (frame-same f (take n (drop place bytes)) (place + n) (w .own f front) (w .room f front)
+              (λ m k. w .row m (record { frame = f; front = front; isMethod = k })))
 
-      -- The open count aside, the answer depends on the schema table, on whether the call table is good, on the frame, its side, the sheet's room and
-      -- its own call's record; INVOKE also on whether 128 calls are open.
-      pub same-answer : SameAnswer sheet₁ sheet₂ (received s side bytes sheet₁ l₁) (received s side bytes sheet₂ l₂)
-      unfolding received
-      same-answer = go (checked s)
-        where
-          good : (a : Bool) → SameAnswer sheet₁ sheet₂
-              (cond a (bytesLine s side bytes sheet₁ l₁) (line (stopped l₁ 15 0) sheet₁))
-              (cond a (bytesLine s side bytes sheet₂ l₂) (line (stopped l₂ 15 0) sheet₂))
-          good true = front-same
-          good false = stop-same 15 0
+-- ---- two sheets with as much room
 
-          go : (v : Checked) → SameAnswer sheet₁ sheet₂
-              (onGood v (λ number row. line (stopped l₁ number row) sheet₁) (cond (goodTable (tableOf s) l₁) (bytesLine s side bytes sheet₁ l₁) (line (stopped l₁ 15 0) sheet₁)))
-              (onGood v (λ number row. line (stopped l₂ number row) sheet₂) (cond (goodTable (tableOf s) l₂) (bytesLine s side bytes sheet₂ l₂) (line (stopped l₂ 15 0) sheet₂)))
-          go Good = rw (w .good) (good (goodTable (tableOf s) l₂))
-          go (Faulty n q) = stop-same n q
+module _ (s bytes sheet₁ sheet₂ : List ℕ) (l : List Call) (space : room sheet₁ ≡ room sheet₂) where
+  settled-same : (t : Tally) (next : Next) → settled s bytes sheet₁ l t next .answer ≡ settled s bytes sheet₂ l t next .answer
+  unfolding settled frameSettled
+  settled-same t (next.Stop n q) = refl
+  settled-same t (next.Settle J r place end) =
+      let p = take (end - place) (drop place bytes) in
+      let o₁ = payloadRead s (dueOf J) p sheet₁ in
+      let o₂ = payloadRead s (dueOf J) p sheet₂ in
+      ap (λ (x : Reading). answerOf end (stepOf J (numbers x .number) l) x)
+      (both-tallied sheet₁ sheet₂ r t t o₁ o₂ (inr refl) (both-read s p sheet₁ sheet₂ space (dueOf J)) .reading)
+
+  -- With the same calls and rows the whole answer depends on the sheet's room alone.
+  pub same-room : (side : ℕ) (ts : List Tally) → received s side bytes sheet₁ ts l .answer ≡ received s side bytes sheet₂ ts l .answer
+  unfolding received
+  same-room side ts = let plan = planOf s side bytes (length ts) l in settled-same (rowFor ts (plan .row)) (plan .next)

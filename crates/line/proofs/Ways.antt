@@ -1,18 +1,20 @@
--- The ways of an answer: it stops before a frame is judged, or it judges the whole frame at the front under a good schema table and a good call table.
--- The same of a release.
+-- The two ways of an answer: it stops before a frame is judged, or it judges the whole frame at the front under good tables, with as many tally rows as
+-- methods. The same of a release.
 -- Assumes nothing.
-use mathlib.Core.Path.{_≡_, refl}
+use mathlib.Core.Path.{_≡_, refl, sym, ap, subst, _∙_}
 use mathlib.Core.Bool.{true, false, cond}
-use mathlib.Core.List.{List}
-use Prim.Native.Nat.{ℕ, _+_, _≤_, _<_}
+use mathlib.Core.List.{List, [], _∷_}
+use Prim.Native.Nat.{ℕ, zero, suc, _+_, _-_, _≤_, _<_}
 use native.Mathlib.Omega.{arith}
-use lib.Dec.{lit≤}
-use lib.ListN.{take, drop}
+use lib.Dec.{eqb, lit≤}
+use lib.ListN.{length, take, drop, getD, set}
+use borrow.Author.Tests.{eqb-true, eqb-false, eq-eqb, ne-eqb}
 use Rattle.wire.proofs.Cases.{cond-case}
 use Rattle.schema.specs.declared.Checked.{Checked}
 use Rattle.schema.specs.declared.Checked.the-variants.{Good, Refused as Faulty}
+use Rattle.schema.specs.Table.{Table}
 use Rattle.schema.specs.File.{tableOf}
-use Rattle.schema.specs.Check.{checked, IsGood}
+use Rattle.schema.specs.Check.{checked}
 use Rattle.schema.proofs.Bools.{clash, is-false}
 use Rattle.schema.proofs.Listed.{listed, listed-bounds}
 use Rattle.frame.specs.declared.Header.{Header}
@@ -22,15 +24,21 @@ use Rattle.frame.specs.Frame.{frameOf}
 use Rattle.frame.proofs.Answers.{refused-numbers}
 use Rattle.calls.specs.declared.Call.{Call}
 use Rattle.calls.specs.declared.Frame.{Frame}
+use Rattle.calls.specs.declared.Tally.{Tally}
+use Rattle.calls.specs.declared.Rise.{Rise}
+use Rattle.calls.specs.Numbers.{endsCall}
 use Rattle.calls.specs.Slots.{goodTable}
+use Rattle.calls.specs.Judge.{judgeRelease}
 use Rattle.calls.specs.Step.{release}
+use Rattle.calls.specs.Counting.{noTally, releaseRise, figureBy, fullAt, raised, countedNumber}
 use Rattle.calls.specs.Good.{GoodTable}
 use Rattle.calls.proofs.Goodness.{good-clauses, good-test}
-use Rattle.line.specs.declared.Released.{Released}
-use Rattle.line.specs.Answer.{Line, line, stopped}
-use Rattle.line.specs.Claims.{SeenAs, Front, Unready, schemaFault, callsBad, Stops, tables, frameFault, needsMore}
-use Rattle.line.specs.Receive.{onGood, onFrame, frameFrom, frameLine, bytesLine, received}
-use Rattle.line.specs.Release.{releaseAnswer, released}
+use Rattle.line.specs.declared.Plan.{Plan}
+use Rattle.line.specs.Answer.{Line, line, inRow, stopped}
+use Rattle.line.specs.Planning.{onGood, onFrame, frameFrom, stopPlan, judgedPlan, framePlan, onTables, bytesPlan, planOf, releasePlan}
+use Rattle.line.specs.Claims.{SeenAs, Front, Ready, Unready, schemaFault, callsBad, rowsWrong, Stops, tables, frameFault, needsMore}
+use Rattle.line.specs.Receive.{settled, frameLine, received}
+use Rattle.line.specs.Release.{ReleaseLine, releaseLine, releaseAnswer, steppedAnswer, releaseSettled, released}
 
 -- ---- the frame at the front
 
@@ -53,6 +61,14 @@ front-is {f = f} w =
       correlation = (s .correlation) i;
     }
 
+-- ---- the rows
+
+-- a row put back as it was
+pub same-row : (ts : List Tally) (i : ℕ) → set ts i (getD ts i noTally) ≡ ts
+same-row [] i = refl
+same-row (t ∷ ts) zero = refl
+same-row (t ∷ ts) (suc i) = ap (_∷_ t) (same-row ts i)
+
 -- ---- the ways
 
 not-good : (s : List ℕ) (l : List Call) → goodTable (tableOf s) l ≡ false → GoodTable (tableOf s) l → ⊥
@@ -62,90 +78,158 @@ not-good s l e w = clash (goodTable (tableOf s) l) (good-test (tableOf s) l w) e
 pub data Early : (number place : ℕ) → Type 0 where
   schema : {n q : ℕ} → 40 ≤ n → n ≤ 44 → (n < 42 → q ≡ 0) → Early n q
   calls : Early 15 0
+  rows : Early 19 0
   frame : {n : ℕ} → 1 ≤ n → n ≤ 7 → Early n 0
 
-pub unready-early : (s : List ℕ) (l : List Call) {n q : ℕ} → Unready s l n q → Early n q
-unready-early s l (schemaFault n q e) = let w = listed-bounds (tableOf s) (listed s n q e) in schema (w .0) (w .1) (w .2)
-unready-early s l (callsBad g b) = calls
+module _ (s : List ℕ) (l : List Call) (k : ℕ) where
+  pub unready-early : {n q : ℕ} → Unready s l k n q → Early n q
+  unready-early (schemaFault n q e) = let w = listed-bounds (tableOf s) (listed s n q e) in schema (w .0) (w .1) (w .2)
+  unready-early (callsBad g b) = calls
+  unready-early (rowsWrong g w n) = rows
 
-pub early : (s bytes : List ℕ) (l : List Call) {n q : ℕ} → Stops s bytes l n q → Early n q
-early s bytes l (tables e) = unready-early s l e
-early s bytes l (frameFault n g w e) = let r = refused-numbers bytes e in frame {n = n} (omega arith) (r .1)
-early s bytes l (needsMore g w e) = frame (lit≤ tt) (lit≤ tt)
+  pub early : (bytes : List ℕ) {n q : ℕ} → Stops s bytes l k n q → Early n q
+  early bytes (tables e) = unready-early e
+  early bytes (frameFault n w e) = let r = refused-numbers bytes e in frame {n = n} (omega arith) (r .1)
+  early bytes (needsMore w e) = frame (lit≤ tt) (lit≤ tt)
 
-module _ (s : List ℕ) (side : ℕ) (bytes sheet : List ℕ) (l : List Call) where
-  pub data Way : Line → Type 0 where
-    stops : {n q : ℕ} → Stops s bytes l n q → Way (line (stopped l n q) sheet)
-    judges : (h : Header) (place n : ℕ) → IsGood s → goodTable (tableOf s) l ≡ true → frameOf bytes ≡ Whole h place n
-        → Way (frameLine s (frameFrom side h) (take n (drop place bytes)) (place + n) sheet l)
-
-  front-way : IsGood s → goodTable (tableOf s) l ≡ true → Way (bytesLine s side bytes sheet l)
-  unfolding bytesLine
-  front-way g k = go (frameOf bytes) refl
+  -- a plan over the tables
+  on-tables : {A : Type 0} (P : A → Type 0) (stop : ℕ → ℕ → A) (next : A) → ((n q : ℕ) → Unready s l k n q → P (stop n q)) → (Ready s l k → P next)
+      → P (onTables s l k stop next)
+  on-tables P stop next f h = go (checked s) refl
     where
-      w : GoodTable (tableOf s) l
-      w = good-clauses (tableOf s) l k
+      T : Table
+      T = tableOf s
 
-      go : (v : FrameRead) → frameOf bytes ≡ v →
-          Way (onFrame v (λ number. line (stopped l number 0) sheet) (λ h place n. frameLine s (frameFrom side h) (take n (drop place bytes)) (place + n) sheet l))
-      go More e = stops (needsMore g w e)
-      go (Refused n) e = stops (frameFault n g w e)
-      go (Whole h place n) e = judges h place n g k e
-
-  pub ways : Way (received s side bytes sheet l)
-  unfolding received
-  ways = go (checked s) refl
-    where
-      go : (v : Checked) → checked s ≡ v →
-          Way (onGood v (λ number row. line (stopped l number row) sheet)
-          (cond (goodTable (tableOf s) l) (bytesLine s side bytes sheet l) (line (stopped l 15 0) sheet)))
+      go : (v : Checked) → checked s ≡ v → P (onGood v stop (cond (goodTable T l) (cond (eqb k (length (T .methods))) next (stop 19 0)) (stop 15 0)))
       go Good e =
-          cond-case Way (goodTable (tableOf s) l) (bytesLine s side bytes sheet l) (line (stopped l 15 0) sheet) (front-way e)
-          (λ b. stops (tables (callsBad e (not-good s l b))))
-      go (Faulty n q) e = stops (tables (schemaFault n q e))
+          cond-case P (goodTable T l) (cond (eqb k (length (T .methods))) next (stop 19 0)) (stop 15 0)
+          (λ t. cond-case P (eqb k (length (T .methods))) next (stop 19 0)
+          (λ q. h (record { schemaGood = e; callsGood = good-clauses T l t; rowsRight = eqb-true k (length (T .methods)) q }))
+          (λ q. f 19 0 (rowsWrong e (good-clauses T l t) (eqb-false k (length (T .methods)) q))))
+          (λ b. f 15 0 (callsBad e (not-good s l b)))
+      go (Faulty n q) e = f n q (schemaFault n q e)
 
-  -- Such an answer has this number and place, and nothing else: no bytes used, no rows, no tail, and the calls and the sheet as they were.
-  pub stops-early : {n q : ℕ} → Stops s bytes l n q → received s side bytes sheet l ≡ line (stopped l n q) sheet
-  unfolding received bytesLine
-  stops-early (tables (schemaFault n q e)) = rw e
-  stops-early (tables (callsBad g b)) = rw (g, is-false (goodTable (tableOf s) l) (λ t. b (good-clauses (tableOf s) l t)))
-  stops-early (frameFault n g w e) = rw (g, good-test (tableOf s) l w, e)
-  stops-early (needsMore g w e) = rw (g, good-test (tableOf s) l w, e)
+  tables-stop : {A : Type 0} (stop : ℕ → ℕ → A) (next : A) {n q : ℕ} → Unready s l k n q → onTables s l k stop next ≡ stop n q
+  tables-stop stop next (schemaFault n q e) = rw e
+  tables-stop stop next (callsBad g b) = rw (g, is-false (goodTable (tableOf s) l) (λ t. b (good-clauses (tableOf s) l t)))
+  tables-stop stop next (rowsWrong g w n) = rw (g, good-test (tableOf s) l w, ne-eqb k (length (tableOf s .methods)) n)
 
--- Under good tables a whole frame is judged.
-pub judged : (s : List ℕ) (side : ℕ) (bytes sheet : List ℕ) (l : List Call) (h : Header) (place n : ℕ)
-    → IsGood s → goodTable (tableOf s) l ≡ true → frameOf bytes ≡ Whole h place n
-    → received s side bytes sheet l ≡ frameLine s (frameFrom side h) (take n (drop place bytes)) (place + n) sheet l
-unfolding received bytesLine
-judged s side bytes sheet l h place n g k e = rw (g, k, e)
+  tables-go : {A : Type 0} (stop : ℕ → ℕ → A) (next : A) → Ready s l k → onTables s l k stop next ≡ next
+  tables-go stop next r = rw (r .schemaGood, good-test (tableOf s) l (r .callsGood), eq-eqb k (length (tableOf s .methods)) (r .rowsRight))
+
+module _ (s : List ℕ) (side : ℕ) (bytes sheet : List ℕ) (ts : List Tally) (l : List Call) where
+  abbrev T : Table
+  T = tableOf s
+
+  abbrev k : ℕ
+  k = length ts
+
+  -- a plan settled among the rows
+  abbrev lineOf : Plan → Line
+  lineOf plan = inRow ts (plan .row) (settled s bytes sheet l (getD ts (plan .row) noTally) (plan .next))
+
+  stop-line : (n q : ℕ) → lineOf (stopPlan n q) ≡ line (stopped l n q) sheet ts
+  unfolding settled
+  stop-line n q = ap (line (stopped l n q) sheet) (same-row ts 0)
+
+  frame-line : (f : Frame) (place n : ℕ) → lineOf (framePlan T f l place (place + n)) ≡ frameLine s f (take n (drop place bytes)) (place + n) sheet ts l
+  unfolding settled frameLine
+  frame-line f place n = let size : place + n - place ≡ n = omega arith in rw size
+
+  pub data Way : Line → Type 0 where
+    stops : {n q : ℕ} → Stops s bytes l k n q → Way (line (stopped l n q) sheet ts)
+    judges : (h : Header) (place n : ℕ) → Ready s l k → frameOf bytes ≡ Whole h place n
+        → Way (frameLine s (frameFrom side h) (take n (drop place bytes)) (place + n) sheet ts l)
+
+  front-way : Ready s l k → Way (lineOf (bytesPlan T side bytes l))
+  unfolding bytesPlan
+  front-way w = go (frameOf bytes) refl
+    where
+      go : (v : FrameRead) → frameOf bytes ≡ v →
+          Way (lineOf (onFrame v (λ number. stopPlan number 0) (λ h place n. framePlan T (frameFrom side h) l place (place + n))))
+      go More e = subst Way (sym (stop-line 1 0)) (stops (needsMore w e))
+      go (Refused n) e = subst Way (sym (stop-line n 0)) (stops (frameFault n w e))
+      go (Whole h place n) e = subst Way (sym (frame-line (frameFrom side h) place n)) (judges h place n w e)
+
+  pub ways : Way (received s side bytes sheet ts l)
+  unfolding received planOf
+  ways =
+      on-tables s l k (λ (P : Plan). Way (lineOf P)) stopPlan (bytesPlan T side bytes l)
+      (λ n q e. subst Way (sym (stop-line n q)) (stops (tables e))) front-way
+
+  plan-stops : {n q : ℕ} → Stops s bytes l k n q → planOf s side bytes k l ≡ stopPlan n q
+  unfolding planOf bytesPlan
+  plan-stops (tables e) = tables-stop s l k stopPlan (bytesPlan T side bytes l) e
+  plan-stops (frameFault n w e) = tables-go s l k stopPlan (bytesPlan T side bytes l) w ∙ rw e
+  plan-stops (needsMore w e) = tables-go s l k stopPlan (bytesPlan T side bytes l) w ∙ rw e
+
+  -- Such an answer has this number and place, and nothing else: no bytes used, no rows, no tail, and the calls, the sheet and the tally rows as they were.
+  pub stops-early : {n q : ℕ} → Stops s bytes l k n q → received s side bytes sheet ts l ≡ line (stopped l n q) sheet ts
+  unfolding received
+  stops-early {n} {q} e = ap lineOf (plan-stops e) ∙ stop-line n q
+
+  plan-judges : (h : Header) (place n : ℕ) → Ready s l k → frameOf bytes ≡ Whole h place n → planOf s side bytes k l ≡ framePlan T (frameFrom side h) l place (place + n)
+  unfolding planOf bytesPlan
+  plan-judges h place n w e = tables-go s l k stopPlan (bytesPlan T side bytes l) w ∙ rw e
+
+  -- Under good tables a whole frame is judged.
+  pub judged : (h : Header) (place n : ℕ) → Ready s l k → frameOf bytes ≡ Whole h place n
+      → received s side bytes sheet ts l ≡ frameLine s (frameFrom side h) (take n (drop place bytes)) (place + n) sheet ts l
+  unfolding received
+  judged h place n w e = ap lineOf (plan-judges h place n w e) ∙ frame-line (frameFrom side h) place n
 
 -- ---- a release
 
-module _ (s : List ℕ) (l : List Call) (id : ℕ) where
+module _ (s : List ℕ) (l : List Call) (id : ℕ) (ts : List Tally) where
+  abbrev released-rise : Rise
+  released-rise = releaseRise l (judgeRelease id l)
+
+  -- the row that it asks for, and its number where the call may be released
+  abbrev pub releasedRow : Tally
+  releasedRow = getD ts (released-rise .row) noTally
+
+  abbrev pub releasedNumber : ℕ
+  releasedNumber = countedNumber releasedRow released-rise 0
+
+  -- the call is judged
+  abbrev pub releaseJudged : ReleaseLine
+  releaseJudged =
+      releaseLine (steppedAnswer (release id releasedNumber l)) (set ts (released-rise .row) (raised releasedRow (figureBy released-rise releasedNumber)))
+
+  pub number-spares : endsCall releasedNumber ≡ false
+  unfolding endsCall
+  number-spares = cond-case (λ (n : ℕ). endsCall n ≡ false) (fullAt releasedRow (figureBy released-rise 0)) 18 0 (λ _. refl) (λ _. refl)
+
+  abbrev told : Plan → ReleaseLine
+  told plan =
+      let x = releaseSettled l (getD ts (plan .row) noTally) (plan .next) in
+      releaseLine (x .answer) (set ts (plan .row) (x .row))
+
+  stop-told : (n q : ℕ) → told (stopPlan n q) ≡ releaseLine (releaseAnswer n q l) ts
+  unfolding releaseSettled
+  stop-told n q = ap (releaseLine (releaseAnswer n q l)) (same-row ts 0)
+
+  judged-told : told (judgedPlan (judgeRelease id l) released-rise 0 0) ≡ releaseJudged
+  unfolding releaseSettled release
+  judged-told = refl
+
   -- It stops at a fault of the tables, or the call is judged.
-  pub data ReleaseWay : Released → Type 0 where
-    unready : {n q : ℕ} → Unready s l n q → ReleaseWay (releaseAnswer n q l)
-    releases : IsGood s → goodTable (tableOf s) l ≡ true → ReleaseWay (releaseAnswer (release id l .number) 0 (release id l .table .slots))
+  pub data ReleaseWay : ReleaseLine → Type 0 where
+    unready : {n q : ℕ} → Unready s l (length ts) n q → ReleaseWay (releaseLine (releaseAnswer n q l) ts)
+    releases : Ready s l (length ts) → ReleaseWay releaseJudged
 
-  pub release-ways : ReleaseWay (released s l id)
-  unfolding released
-  release-ways = go (checked s) refl
-    where
-      judged-as : Released
-      judged-as = releaseAnswer (release id l .number) 0 (release id l .table .slots)
+  pub release-ways : ReleaseWay (released s l id ts)
+  unfolding released releasePlan
+  release-ways =
+      on-tables s l (length ts) (λ (P : Plan). ReleaseWay (told P)) stopPlan (judgedPlan (judgeRelease id l) released-rise 0 0)
+      (λ n q e. subst ReleaseWay (sym (stop-told n q)) (unready e)) (λ w. subst ReleaseWay (sym judged-told) (releases w))
 
-      go : (v : Checked) → checked s ≡ v →
-          ReleaseWay (onGood v (λ number row. releaseAnswer number row l) (cond (goodTable (tableOf s) l) judged-as (releaseAnswer 15 0 l)))
-      go Good e = cond-case ReleaseWay (goodTable (tableOf s) l) judged-as (releaseAnswer 15 0 l) (releases e) (λ b. unready (callsBad e (not-good s l b)))
-      go (Faulty n q) e = unready (schemaFault n q e)
-
-  -- Such an answer has this number and place, and the calls as they were.
-  pub release-stops : {n q : ℕ} → Unready s l n q → released s l id ≡ releaseAnswer n q l
-  unfolding released
-  release-stops (schemaFault n q e) = rw e
-  release-stops (callsBad g b) = rw (g, is-false (goodTable (tableOf s) l) (λ t. b (good-clauses (tableOf s) l t)))
+  -- Such an answer has this number and place, and the calls and the tally rows as they were.
+  pub release-stops : {n q : ℕ} → Unready s l (length ts) n q → released s l id ts ≡ releaseLine (releaseAnswer n q l) ts
+  unfolding released releasePlan
+  release-stops {n} {q} e = ap told (tables-stop s l (length ts) stopPlan (judgedPlan (judgeRelease id l) released-rise 0 0) e) ∙ stop-told n q
 
   -- Under good tables the call is judged.
-  pub release-judged : IsGood s → goodTable (tableOf s) l ≡ true → released s l id ≡ releaseAnswer (release id l .number) 0 (release id l .table .slots)
-  unfolding released
-  release-judged g k = rw (g, k)
+  pub release-judged : Ready s l (length ts) → released s l id ts ≡ releaseJudged
+  unfolding released releasePlan
+  release-judged w = ap told (tables-go s l (length ts) stopPlan (judgedPlan (judgeRelease id l) released-rise 0 0) w) ∙ judged-told

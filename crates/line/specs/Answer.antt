@@ -4,27 +4,43 @@ use Prim.Native.Nat.{ℕ}
 use mathlib.Core.Bool.{cond}
 use mathlib.Core.List.{List}
 use lib.Dec.{eqb}
-use lib.ListN.{length}
+use lib.ListN.{length, set}
 use Rattle.calls.specs.declared.Call.{Call}
-use Rattle.calls.specs.declared.Judged.{Judged}
+use Rattle.calls.specs.declared.Tally.{Tally}
+use Rattle.calls.specs.declared.Rise.{Rise}
 use Rattle.calls.specs.declared.Payload.{Payload}
 use Rattle.calls.specs.declared.Payload.the-variants.{Struct, Empty, Unread}
 use Rattle.calls.specs.declared.Stepped.{Stepped}
 use Rattle.calls.specs.Numbers.{usesFrame}
 use Rattle.calls.specs.Slots.{countOpen}
-use Rattle.calls.specs.Step.{stepOf}
+use Rattle.calls.specs.Counting.{figureBy, fullAt}
 use Rattle.reader.specs.declared.Reading.{Reading}
 use Rattle.reader.specs.declared.Reading.the-variants.{Shown, Refused}
 use Rattle.reader.specs.Entry.{Outcome, outcome, readingIn, sheetIn, payloadOutcome, Numbers, numbers}
+pub use Rattle.reader.specs.Entry.{numberIn}
 use Rattle.line.specs.declared.Received.{Received}
 
--- An answer with the sheet (01's term: the cells that show a read value) as it is left.
+-- An answer with the sheet (01's term: the cells that show a read value) and the tally rows as they are left.
 pub record Line : Type 0 where
   pub answer : Received
   pub sheet : List ℕ
+  pub tallies : List Tally
 
-abbrev pub line : Received → List ℕ → Line
-line r sheet = record { answer = r; sheet = sheet }
+abbrev pub line : Received → List ℕ → List Tally → Line
+line r sheet ts = record { answer = r; sheet = sheet; tallies = ts }
+
+-- The same with the one tally row that is asked for.
+pub record RowLine : Type 0 where
+  pub answer : Received
+  pub sheet : List ℕ
+  pub row : Tally
+
+abbrev pub rowLine : Received → List ℕ → Tally → RowLine
+rowLine r sheet t = record { answer = r; sheet = sheet; row = t }
+
+-- That row is put back among the rows lent.
+abbrev pub inRow : List Tally → (row : ℕ) → RowLine → Line
+inRow ts i x = line (x .answer) (x .sheet) (set ts i (x .row))
 
 -- The numbers of an answer that a payload's reading has too: number, place, rows, the tail's place and length, comparisons.
 abbrev pub numbersOf : Received → Numbers
@@ -67,9 +83,9 @@ payloadRead schema (Struct t) payload sheet = payloadOutcome schema t payload sh
 payloadRead schema Empty payload sheet = outcome (emptyRead payload) sheet
 payloadRead schema Unread payload sheet = outcome (Shown 0 0 0 0) sheet
 
--- The payload's number.
-abbrev pub numberIn : Outcome → ℕ
-numberIn o = numbers (readingIn o) .number
+-- Where the figure that would rise is full, 18 stands in the outcome's place, and nothing is written.
+abbrev pub tallied : Tally → Rise → (sheet : List ℕ) → Outcome → Outcome
+tallied t r sheet o = cond (fullAt t (figureBy r (numberIn o))) (outcome (Refused 18 0) sheet) o
 
 -- ---- the answer to a whole frame
 
@@ -91,7 +107,3 @@ answerOf size stepped reading =
       comparisons = numbers reading .comparisons;
       table = stepped .table;
     }
-
--- A judged frame whose payload was read so.
-unfoldable pub answered : (size : ℕ) → List Call → Judged → Outcome → Line
-answered size l J o = line (answerOf size (stepOf J (numberIn o) l) (readingIn o)) (sheetIn o)

@@ -1,10 +1,12 @@
 -- What the theorems about a whole frame speak of.
 -- Assumes nothing.
 use mathlib.Core.Path.{_≡_}
+use mathlib.Core.Bool.{true}
 use mathlib.Core.List.{List}
 use mathlib.Core.Logic.{_⊎_}
 use Prim.Native.Nat.{ℕ, _≤_}
-use lib.ListN.{length, take, drop}
+use lib.ListN.{length, take, drop, getD}
+use Rattle.schema.specs.declared.Found.the-variants.{At}
 use Rattle.schema.specs.declared.Checked.the-variants.{Refused as Faulty}
 use Rattle.schema.specs.Table.{Table}
 use Rattle.schema.specs.File.{tableOf}
@@ -14,8 +16,15 @@ use Rattle.frame.specs.declared.FrameRead.the-variants.{More, Frame as Whole, R
 use Rattle.frame.specs.Frame.{frameOf}
 use Rattle.calls.specs.declared.Call.{Call}
 use Rattle.calls.specs.declared.Frame.{Frame}
-use Rattle.calls.specs.Slots.{goodTable, ownOf, full}
+use Rattle.calls.specs.declared.Tally.{Tally}
+use Rattle.calls.specs.declared.Figure.{Figure}
+use Rattle.calls.specs.Counting.{noTally}
+use Rattle.calls.specs.Figures.{Full}
+use Rattle.calls.specs.Record.{atLimit}
+use Rattle.calls.specs.Apart.{callMethod}
+use Rattle.calls.specs.Slots.{goodTable, Own, one, ownOf, full}
 use Rattle.calls.specs.Good.{GoodTable}
+use Rattle.calls.specs.Order.{times, noElements, Past, since}
 use Rattle.value.specs.declared.Row.{Row}
 use Rattle.reader.specs.Sheet.{shownIn}
 use Rattle.reader.specs.Entry.{Numbers}
@@ -43,16 +52,23 @@ pub record Front (side : ℕ) (bytes : List ℕ) (f : Frame) : Type 0 where
 abbrev pub payloadIn : {side : ℕ} {bytes : List ℕ} {f : Frame} → Front side bytes f → List ℕ
 payloadIn {bytes = bytes} w = take (w .size) (drop (w .place) bytes)
 
--- A fault of the two tables, with its number and place, in 01's order: of the schema table; a call table that is not good.
-pub data Unready (schema : List ℕ) (l : List Call) : (number place : ℕ) → Type 0 where
-  schemaFault : (n row : ℕ) → checked schema ≡ Faulty n row → Unready schema l n row
-  callsBad : IsGood schema → (GoodTable (tableOf schema) l → ⊥) → Unready schema l 15 0
+-- Good tables, with as many tally rows as methods.
+pub record Ready (schema : List ℕ) (l : List Call) (rows : ℕ) : Type 0 where
+  pub schemaGood : IsGood schema
+  pub callsGood : GoodTable (tableOf schema) l
+  pub rowsRight : rows ≡ length (tableOf schema .methods)
 
--- Why an answer comes before a frame is judged, in 01's order: a fault of the tables; a fault of the frame itself; more bytes needed.
-pub data Stops (schema bytes : List ℕ) (l : List Call) : (number place : ℕ) → Type 0 where
-  tables : {n row : ℕ} → Unready schema l n row → Stops schema bytes l n row
-  frameFault : (n : ℕ) → IsGood schema → GoodTable (tableOf schema) l → frameOf bytes ≡ Refused n → Stops schema bytes l n 0
-  needsMore : IsGood schema → GoodTable (tableOf schema) l → frameOf bytes ≡ More → Stops schema bytes l 1 0
+-- A fault of the tables, with its number and place, in the papers' order: of the schema table; a call table that is not good; a wrong number of tally rows.
+pub data Unready (schema : List ℕ) (l : List Call) (rows : ℕ) : (number place : ℕ) → Type 0 where
+  schemaFault : (n row : ℕ) → checked schema ≡ Faulty n row → Unready schema l rows n row
+  callsBad : IsGood schema → (GoodTable (tableOf schema) l → ⊥) → Unready schema l rows 15 0
+  rowsWrong : IsGood schema → GoodTable (tableOf schema) l → (rows ≡ length (tableOf schema .methods) → ⊥) → Unready schema l rows 19 0
+
+-- Why an answer comes before a frame is judged, in the papers' order: a fault of the tables; a fault of the frame itself; more bytes needed.
+pub data Stops (schema bytes : List ℕ) (l : List Call) (rows : ℕ) : (number place : ℕ) → Type 0 where
+  tables : {n row : ℕ} → Unready schema l rows n row → Stops schema bytes l rows n row
+  frameFault : (n : ℕ) → Ready schema l rows → frameOf bytes ≡ Refused n → Stops schema bytes l rows n 0
+  needsMore : Ready schema l rows → frameOf bytes ≡ More → Stops schema bytes l rows 1 0
 
 -- The answer without the calls.
 pub record Reply : Type 0 where
@@ -80,14 +96,45 @@ pub data Listed : (number place : ℕ) → Type 0 where
   accepted : Listed 0 0
   -- more bytes needed; the frame's own faults
   frame : {n : ℕ} → 1 ≤ n → n ≤ 7 → Listed n 0
-  -- the side and the call; the call table; a frame that crosses our cancel
-  call : {n : ℕ} → 8 ≤ n → n ≤ 16 → Listed n 0
+  -- the side and the call; the call table; a frame that crosses our cancel; the element limit; a full tally; the number of tally rows
+  call : {n : ℕ} → 8 ≤ n → n ≤ 19 → Listed n 0
   value : {n : ℕ} (place : ℕ) → 20 ≤ n → n ≤ 28 → Listed n place
   pairs : (place : ℕ) → Listed 31 place
   -- a payload where none belongs; too few rows
   payload : {n : ℕ} → 29 ≤ n → n ≤ 30 → Listed n 0
   shape : {n : ℕ} → 40 ≤ n → n ≤ 41 → Listed n 0
   row : {n : ℕ} (place : ℕ) → 42 ≤ n → n ≤ 44 → Listed n place
+
+-- The row of method m among the rows lent.
+abbrev pub rowFor : List Tally → (method : ℕ) → Tally
+rowFor ts m = getD ts m noTally
+
+-- The numbers that keep a whole frame under good tables, so that it can come again: its own call is at the element limit, a lent tally is full, or the
+-- sheet has too few rows.
+pub data Keeps (kind : ℕ) (own : Own) (ts : List Tally) : (number : ℕ) → Type 0 where
+  limit : (c : Call) → own ≡ one c → atLimit kind c ≡ true → Keeps kind own ts 17
+  tally : (m : ℕ) (x : Figure) → Full (rowFor ts m) x → Keeps kind own ts 18
+  fewRows : Keeps kind own ts 30
+
+-- The numbers that keep a frame, and 19, which comes before it is judged.
+pub data Keeping : (number : ℕ) → Type 0 where
+  elementLimit : Keeping 17
+  tallyFull : Keeping 18
+  rowsMiscounted : Keeping 19
+  sheetSmall : Keeping 30
+
+-- Nothing is changed, and no bytes are used: no rows, tail or comparisons, and sheet, calls and tally rows as they were.
+pub record KeptWhole (sheet : List ℕ) (ts : List Tally) (l : List Call) (a : Line) : Type 0 where
+  pub used : a .answer .used ≡ 0
+  pub nothing : Nothing sheet a
+  pub slots : a .answer .table .slots ≡ l
+  pub tallies : a .tallies ≡ ts
+
+-- m is the method of the call that the frame at the front is about, by its own record: the call's, or for INVOKE the one that its identifiers name.
+pub record About (T : Table) (side : ℕ) (bytes : List ℕ) (l : List Call) (m : ℕ) : Type 0 where
+  pub frame : Frame
+  pub front : Front side bytes frame
+  pub isMethod : callMethod T frame (ownOf (frame .correlation) l) ≡ At m
 
 -- Two answers that are the same but for the calls: equal replies, and sheets that show the same rows.
 pub record SameAnswer (sheet₁ sheet₂ : List ℕ) (a₁ a₂ : Line) : Type 0 where
@@ -96,12 +143,14 @@ pub record SameAnswer (sheet₁ sheet₂ : List ℕ) (a₁ a₂ : Line) : Type 0
   pub first : Shows rows sheet₁ a₁
   pub second : Shows rows sheet₂ a₂
 
--- Two call tables alike for the frame at the front of the bytes: both good or both not, with the same record of its own call; for INVOKE both with 128
--- calls open, or both with fewer.
-pub record Alike (T : Table) (side : ℕ) (bytes : List ℕ) (l₁ l₂ : List Call) : Type 0 where
+-- Two call tables and lists of tally rows alike for the frame at the front of the bytes: both tables good or both not, with the same record of its own call;
+-- for INVOKE both with 128 calls open, or both with fewer; as many rows, and the same row of the call's method.
+pub record Alike (T : Table) (side : ℕ) (bytes : List ℕ) (l₁ l₂ : List Call) (ts₁ ts₂ : List Tally) : Type 0 where
   pub good : goodTable T l₁ ≡ goodTable T l₂
   pub own : (f : Frame) → Front side bytes f → ownOf (f .correlation) l₁ ≡ ownOf (f .correlation) l₂
   pub room : (f : Frame) → Front side bytes f → f .kind ≡ 1 → full l₁ ≡ full l₂
+  pub rows : length ts₁ ≡ length ts₂
+  pub row : (m : ℕ) → About T side bytes l₁ m → rowFor ts₁ m ≡ rowFor ts₂ m
 
 -- ---- a release
 
@@ -110,7 +159,8 @@ pub data ReleaseListed : (number place : ℕ) → Type 0 where
   released : ReleaseListed 0 0
   notOpen : ReleaseListed 11 0
   notCancelled : ReleaseListed 14 0
-  unready : {n place : ℕ} → (n ≡ 15) ⊎ (40 ≤ n) → Listed n place → ReleaseListed n place
+  fullTally : ReleaseListed 18 0
+  unready : {n place : ℕ} → (n ≡ 15) ⊎ ((n ≡ 19) ⊎ (40 ≤ n)) → Listed n place → ReleaseListed n place
 
 -- What the answer to a release says beside the calls.
 pub record ReleaseReply : Type 0 where
@@ -119,3 +169,9 @@ pub record ReleaseReply : Type 0 where
 
 abbrev pub releaseReply : Released → ReleaseReply
 releaseReply r = record { number = r .number; place = r .place }
+
+-- ---- stream elements
+
+-- The record's counts are those of the elements accepted each way since the INVOKE of its call.
+pub data CountedSince (c : Call) : Past → Type 0 where
+  counts : (m : ℕ) (h : List ℕ) → c .«input_elements» ≡ times 2 h → c .«output_elements» ≡ times 4 h → CountedSince c (since m noElements h)

@@ -1,62 +1,55 @@
--- The whole judgement of a frame in 01's order: the schema table (40 to 44), the call table (15), the frame (2 to 7 by wire order, then 1), its side and
--- its call (8 to 14, 16), its payload (20 to 31). Assumes nothing.
-use Prim.Native.Nat.{ℕ, _+_}
-use mathlib.Core.Bool.{cond}
+-- The whole judgement of a frame in the papers' order: a plan (40 to 44, 15, 19, 2 to 7, 1, 8 to 14, 16, 17), its payload (20 to 31), and last the tally
+-- that would rise (18). Assumes nothing.
+use mathlib.Core.Path.{_≡_}
+use Prim.Native.Nat.{ℕ, _-_}
 use mathlib.Core.List.{List}
-use lib.ListN.{take, drop}
-use Rattle.schema.specs.declared.Checked.{Checked}
-use Rattle.schema.specs.declared.Checked.the-variants.{Good, Refused as Faulty}
+use lib.ListN.{length, take, drop, getD}
 use Rattle.schema.specs.File.{tableOf}
-use Rattle.schema.specs.Check.{checked}
-use Rattle.frame.specs.declared.Header.{Header}
-use Rattle.frame.specs.declared.FrameRead.{FrameRead}
-use Rattle.frame.specs.declared.FrameRead.the-variants.{More, Frame as Whole, Refused}
-use Rattle.frame.specs.Frame.{frameOf}
 use Rattle.calls.specs.declared.Call.{Call}
 use Rattle.calls.specs.declared.Frame.{Frame}
-use Rattle.calls.specs.Slots.{goodTable}
+use Rattle.calls.specs.declared.Judged.{Judged}
+use Rattle.calls.specs.declared.Rise.{Rise}
+use Rattle.calls.specs.declared.Tally.{Tally}
 use Rattle.calls.specs.Judge.{judgeOf}
-use Rattle.calls.specs.Step.{dueOf}
-use Rattle.line.specs.Answer.{Line, line, stopped, payloadRead, answered}
+use Rattle.calls.specs.Step.{stepOf, dueOf}
+use Rattle.calls.specs.Counting.{noTally, riseOf, figureBy, raised}
+use Rattle.reader.specs.Entry.{Outcome, readingIn, sheetIn}
+use Rattle.line.specs.declared.Received.{Received}
+use Rattle.line.specs.declared.Next.{Next}
+use Rattle.line.specs.declared.Next.the-variants.{Stop, Settle}
+use Rattle.line.specs.Answer.{Line, RowLine, rowLine, inRow, stopped, payloadRead, numberIn, tallied, answerOf}
+use Rattle.line.specs.Planning.{planOf}
 
--- Goes on where the table is good, and else stops with its number and row.
-abbrev pub onGood : {A : Type 0} → Checked → (stop : ℕ → ℕ → A) → A → A
-onGood Good stop next = next
-onGood (Faulty number row) stop next = stop number row
+-- A judged frame whose payload gave this outcome: the row of its method is raised by the payload's number.
+abbrev pub answered : (size : ℕ) → List Call → Judged → Rise → Tally → Outcome → RowLine
+answered size l J r t o = rowLine (answerOf size (stepOf J (numberIn o) l) (readingIn o)) (sheetIn o) (raised t (figureBy r (numberIn o)))
 
--- Goes on with a whole frame, and else stops.
-abbrev pub onFrame : FrameRead → (stop : ℕ → Line) → (Header → (place size : ℕ) → Line) → Line
-onFrame More stop next = stop 1
-onFrame (Refused number) stop next = stop number
-onFrame (Whole h place n) stop next = next h place n
+-- A judged frame of so many bytes: its payload is read as what it holds, unless the figure that would rise is full.
+unfoldable pub frameSettled : (schema : List ℕ) → Judged → Rise → (payload : List ℕ) (size : ℕ) (sheet : List ℕ) → Tally → List Call → RowLine
+frameSettled schema J r payload size sheet t l = answered size l J r t (tallied t r sheet (payloadRead schema (dueOf J) payload sheet))
 
--- What a step sees of a frame.
-abbrev pub frameFrom : (side : ℕ) → Header → Frame
-frameFrom side h =
-    record {
-      side = side;
-      kind = h .kind;
-      «package» = h .«package»;
-      service = h .service;
-      method = h .method;
-      correlation = h .correlation;
-    }
+-- What is left to do of a plan, with the row that it asks for.
+unfoldable pub settled : (schema bytes sheet : List ℕ) → List Call → Tally → Next → RowLine
+settled schema bytes sheet l t (Stop number place) = rowLine (stopped l number place) sheet t
+settled schema bytes sheet l t (Settle J r place end) = frameSettled schema J r (take (end - place) (drop place bytes)) end sheet t l
 
--- A whole frame of so many bytes: its side and its call are judged, then its payload is read as what it holds.
-unfoldable pub frameLine : (schema : List ℕ) → Frame → (payload : List ℕ) (size : ℕ) (sheet : List ℕ) → List Call → Line
-frameLine schema f payload size sheet l =
-    answered size l (judgeOf (tableOf schema) f l) (payloadRead schema (dueOf (judgeOf (tableOf schema) f l)) payload sheet)
+-- An answer and a sheet that are those of a settled plan, whose row is not kept.
+abbrev pub Unkept : RowLine → Received → (sheet : List ℕ) → Type 0
+Unkept x r sheet = (r ≡ x .answer) × (sheet ≡ x .sheet)
 
--- The frame at the front of the bytes, under a good schema table and a good call table.
-unfoldable pub bytesLine : (schema : List ℕ) (side : ℕ) (bytes sheet : List ℕ) → List Call → Line
-bytesLine schema side bytes sheet l =
-    onFrame (frameOf bytes)
-    (λ number. line (stopped l number 0) sheet)
-    (λ h place n. frameLine schema (frameFrom side h) (take n (drop place bytes)) (place + n) sheet l)
+-- What a frame raises.
+abbrev pub frameRise : (schema : List ℕ) → Frame → List Call → Rise
+frameRise schema f l = riseOf (f .kind) l (judgeOf (tableOf schema) f l)
 
--- Any schema file, side byte, bytes, sheet and call table.
-unfoldable pub received : (schema : List ℕ) (side : ℕ) (bytes sheet : List ℕ) → List Call → Line
-received schema side bytes sheet l =
-    onGood (checked schema)
-    (λ number row. line (stopped l number row) sheet)
-    (cond (goodTable (tableOf schema) l) (bytesLine schema side bytes sheet l) (line (stopped l 15 0) sheet))
+-- A whole frame with the lent rows.
+unfoldable pub frameLine : (schema : List ℕ) → Frame → (payload : List ℕ) (size : ℕ) (sheet : List ℕ) → List Tally → List Call → Line
+frameLine schema f payload size sheet ts l =
+    let J = judgeOf (tableOf schema) f l in
+    let r = riseOf (f .kind) l J in
+    inRow ts (r .row) (frameSettled schema J r payload size sheet (getD ts (r .row) noTally) l)
+
+-- Any schema file, side byte, bytes, sheet, tally rows and call table.
+unfoldable pub received : (schema : List ℕ) (side : ℕ) (bytes sheet : List ℕ) → List Tally → List Call → Line
+received schema side bytes sheet ts l =
+    let plan = planOf schema side bytes (length ts) l in
+    inRow ts (plan .row) (settled schema bytes sheet l (getD ts (plan .row) noTally) (plan .next))

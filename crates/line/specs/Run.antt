@@ -1,15 +1,21 @@
--- A history of events from a call table: frames that come in and releases; and what was heard in it.
+-- A history of events from a call table and tally rows: frames that come in and releases; and what was heard in it.
 -- Assumes nothing.
 use mathlib.Core.List.{List, [], _∷_}
 use Prim.Native.Nat.{ℕ}
+use lib.ListN.{length, replicate}
+use Rattle.schema.specs.Table.{Table}
 use Rattle.frame.specs.declared.FrameRead.{FrameRead}
 use Rattle.frame.specs.declared.FrameRead.the-variants.{More, Frame as Whole, Refused}
 use Rattle.frame.specs.Frame.{frameOf}
 use Rattle.calls.specs.declared.Call.{Call}
 use Rattle.calls.specs.declared.Frame.{Frame}
+use Rattle.calls.specs.declared.Tally.{Tally}
+use Rattle.calls.specs.Slots.{freshTable}
+use Rattle.calls.specs.Counting.{noTally}
 use Rattle.calls.specs.Event as calls
 use Rattle.calls.specs.Order.{Heard}
-use Rattle.line.specs.Receive.{frameFrom, received}
+use Rattle.line.specs.Planning.{frameFrom}
+use Rattle.line.specs.Receive.{received}
 use Rattle.line.specs.Release.{released}
 use Rattle.line.specs.Claims.{Front}
 
@@ -23,16 +29,25 @@ pub data Event : Type 0 where
   input : Input → Event
   release : (correlation : ℕ) → Event
 
+-- The calls and the tally rows between two events.
+pub record State : Type 0 where
+  pub calls : List Call
+  pub tallies : List Tally
+
 -- ---- one event
 
--- The records after it, from the records l, and the number that is answered.
-abbrev pub slotsAfter : (schema : List ℕ) → Event → List Call → List Call
-slotsAfter schema (input i) l = received schema (i .side) (i .bytes) (i .sheet) l .answer .table .slots
-slotsAfter schema (release id) l = released schema l id .table .slots
+-- The state after it, and the number that is answered.
+abbrev pub stateAfter : (schema : List ℕ) → Event → State → State
+stateAfter schema (input i) st =
+    let a = received schema (i .side) (i .bytes) (i .sheet) (st .tallies) (st .calls) in
+    record { calls = a .answer .table .slots; tallies = a .tallies }
+stateAfter schema (release id) st =
+    let a = released schema (st .calls) id (st .tallies) in
+    record { calls = a .answer .table .slots; tallies = a .tallies }
 
-abbrev pub numberOf : (schema : List ℕ) → Event → List Call → ℕ
-numberOf schema (input i) l = received schema (i .side) (i .bytes) (i .sheet) l .answer .number
-numberOf schema (release id) l = released schema l id .number
+abbrev pub numberOf : (schema : List ℕ) → Event → State → ℕ
+numberOf schema (input i) st = received schema (i .side) (i .bytes) (i .sheet) (st .tallies) (st .calls) .answer .number
+numberOf schema (release id) st = released schema (st .calls) id (st .tallies) .answer .number
 
 -- What happens to the calls: the whole frame at the front of an input, or the release.
 pub data Happens : Event → calls.Event → Type 0 where
@@ -51,12 +66,19 @@ heardIn (release id) number es = record { event = calls.release id; number = num
 
 -- ---- a history, its last event first
 
--- The records after it.
-unfoldable pub runFrom : (schema : List ℕ) → List Call → List Event → List Call
-runFrom schema l [] = l
-runFrom schema l (e ∷ es) = slotsAfter schema e (runFrom schema l es)
+-- The state after it.
+unfoldable pub runFrom : (schema : List ℕ) → State → List Event → State
+runFrom schema st [] = st
+runFrom schema st (e ∷ es) = stateAfter schema e (runFrom schema st es)
 
 -- Its frames and releases, each with the number that was answered.
-unfoldable pub heardFrom : (schema : List ℕ) → List Call → List Event → List Heard
-heardFrom schema l [] = []
-heardFrom schema l (e ∷ es) = heardIn e (numberOf schema e (runFrom schema l es)) (heardFrom schema l es)
+unfoldable pub heardFrom : (schema : List ℕ) → State → List Event → List Heard
+heardFrom schema st [] = []
+heardFrom schema st (e ∷ es) = heardIn e (numberOf schema e (runFrom schema st es)) (heardFrom schema st es)
+
+-- A fresh start under a schema table: no calls, and a row of noughts for each method.
+unfoldable pub freshTallies : Table → List Tally
+freshTallies T = replicate (length (T .methods)) noTally
+
+abbrev pub freshState : Table → State
+freshState T = record { calls = freshTable .slots; tallies = freshTallies T }

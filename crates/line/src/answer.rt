@@ -35,7 +35,8 @@ fn used_of(number: u32, size: usize) -> usize
     if uses_frame(number) { size } else { 0 }
 }
 
-fn number_of(reading: Reading) -> u32
+// The number of a payload's reading.
+pub fn number_of(reading: Reading) -> u32
     ensures { λ r. ⌜ r ≡ numbers reading .number ⌝ }
 {
     match reading {

@@ -1,10 +1,17 @@
-// One frame's bytes with their side, judged against the schema table, the call table and the sheet; and the release of a cancelled call.
+// One frame's bytes with their side, judged against the schema table, the call table, the sheet and the tally rows; and the release of a cancelled call.
+// An entry is a plan, which names the tally row, and its settling with that row.
 pub mod answer;
+pub mod fresh;
 pub mod payload;
+pub mod planning;
 pub mod receive;
 pub mod release;
+pub mod settling;
 
 use calls::CallTable;
+use calls::Judged;
+use calls::Rise;
+use calls::Tally;
 
 // The answer to a frame, with the next call table.
 pub struct Received {
@@ -35,4 +42,37 @@ pub struct Released {
     // Calls open afterwards.
     pub open: usize,
     pub table: CallTable,
+}
+
+// What is left to do once the tables, the frame and its call are judged.
+pub enum Next {
+    // The answer is this refusal, or 1.
+    Stop {
+        number: u32,
+        place: usize,
+    },
+    // The payload stands between two places of the bytes; a release has none.
+    Settle {
+        judged: Judged,
+        rise: Rise,
+        place: usize,
+        end: usize,
+    },
+}
+
+// The tally row that an entry asks for, and what is left to do with it.
+pub struct Plan {
+    pub row: usize,
+    pub next: Next,
+}
+
+// The tally row afterwards, and the answer.
+pub struct Settled {
+    pub row: Tally,
+    pub answer: Received,
+}
+
+pub struct SettledRelease {
+    pub row: Tally,
+    pub answer: Released,
 }

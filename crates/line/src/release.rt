@@ -1,37 +1,25 @@
-// The release of a cancelled call.
+// The release of a cancelled call over the lent tally rows. Proved by hand, as `receive` is.
 use crate::Released;
+use crate::planning::plan_release;
+use crate::settling::missed_release;
+use crate::settling::settle_release;
 use calls::CallTable;
-use schema::Checked;
-use schema::check::check;
+use calls::Tally;
 ghost use mathlib.Core.Path.{_≡_};
-ghost use Rattle.line.specs.Release.{releaseAnswer, released};
+ghost use Rattle.line.specs.Release.{releaseLine, released};
 
-// An answer to a release, with the table that it leaves.
-pub fn tell(table: CallTable, number: u32, place: usize) -> Released
-    ensures { λ r. ⌜ r ≡ releaseAnswer number place (table .slots) ⌝ }
+// Ends the cancelled call with this correlation, judged in the order: schema table, call table, number of tally rows, call, tally.
+pub fn release(table: CallTable, schema: &[u8], correlation: u64, tallies: &mut [Tally]) -> Released
+    ensures { λ r. ⌜ releaseLine r (now (tallies .exit)) ≡ released (now (schema .entry)) (table .slots) correlation (now (tallies .entry)) ⌝ }
 {
-    let open = table.open_count();
-    Released {
-        number,
-        place,
-        open,
-        table,
-    }
-}
-
-// Ends the cancelled call with this correlation, judged in the order: schema table, call table, call.
-pub fn release(table: CallTable, schema: &[u8], correlation: u64) -> Released
-    ensures { λ r. ⌜ r ≡ released (now (schema .entry)) (table .slots) correlation ⌝ }
-{
-    match check(schema) {
-        Checked::Refused { number, place } => tell(table, number, place),
-        Checked::Good => {
-            if !table.is_good(schema) {
-                return tell(table, 15, 0);
-            }
-            let stepped = table.release(correlation);
-            let next = stepped.table;
-            tell(next, stepped.number, 0)
-        }
+    let rows = tallies.len();
+    let plan = plan_release(table, schema, correlation, rows);
+    if plan.row < rows {
+        let row = &mut tallies[plan.row];
+        let next = settle_release(table, plan, *row);
+        *row = next.row;
+        return next.answer;
+    } else {
+        return missed_release(table, plan);
     }
 }

@@ -17,12 +17,16 @@ use Rattle.calls.specs.Numbers as numbers
 use Rattle.calls.specs.Slots as slots
 use Rattle.calls.specs.Judge as judge
 use Rattle.calls.specs.Step as step
+use Rattle.calls.specs.Counting as counting
 use Rattle.value.specs.Answer as answer
 use Rattle.value.specs.Value as value
 use Rattle.value.specs.Read as read
 use Rattle.reader.specs.Entry as entry
 use Rattle.line.specs.Answer as line
+use Rattle.line.specs.Planning as planning
 use Rattle.line.specs.Receive as receive
+use Rattle.line.specs.Run as run
+use Rattle.line.specs.Fresh as fresh
 use Rattle.listing.specs.Decimal as decimal
 use Rattle.listing.specs.Text as text
 use Rattle.listing.specs.Listing as listing
@@ -53,7 +57,8 @@ unfolding little.little varuint.front varuint.groups utf8.run utf8.next utf8.lea
     check.badMethod check.checkedTable check.checked frame.whole frame.payloadOf frame.frameOf forms.rowOf numbers.endsCall numbers.usesFrame
     slots.goodCall slots.goodTable slots.ownOf slots.full judge.payloadOf judge.verdictOf judge.judgeOf step.stepOf answer.andThen answer.check
     answer.block answer.varUInt value.rows value.value read.present read.count read.complete read.bitmap read.walk read.parse read.ending
-    read.rootStruct read.read entry.payloadOutcome line.stopped line.payloadRead line.answered receive.frameLine receive.bytesLine receive.received
+    read.rootStruct read.read entry.payloadOutcome counting.riseOf counting.figureBy counting.raised line.stopped line.payloadRead
+    planning.bytesPlan planning.planOf receive.frameSettled receive.settled receive.received run.freshTallies fresh.receivedFresh
     decimal.digits decimal.decimal text.field text.lineStart text.lineText text.stoppedText listing.freshCalls listing.answerTo listing.headerIn
     listing.entriesText listing.listing
 listed r = listing.listing example.file r

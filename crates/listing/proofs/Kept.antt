@@ -4,7 +4,7 @@ use mathlib.Core.Path.{_≡_, refl, sym, ap, ap₂, subst, _∙_}
 use mathlib.Core.Bool.{Bool, true, false, _&&_}
 use mathlib.Core.List.{List, [], _∷_, _++_}
 use mathlib.Core.Logic.{⊎-elim}
-use Prim.Native.Nat.{ℕ, zero, suc, _+_, _-_, _≤_}
+use Prim.Native.Nat.{ℕ, zero, suc, _+_, _-_, _*_, _≤_}
 use native.Mathlib.Omega.{arith}
 use borrow.Author.Tests.{eqb-true, eqb-false, le-ltb}
 use lib.Dec.{eqb, ltb}
@@ -29,12 +29,11 @@ use Rattle.salvage.proofs.Statements.{salvaged-iff, copy-entries, copy-shorter}
 use Rattle.calls.specs.declared.Call.{Call}
 use Rattle.calls.specs.Slots.{goodTable}
 use Rattle.calls.proofs.Goodness.{fresh-good}
-use Rattle.line.specs.Answer.{Line}
+use Rattle.calls.proofs.Limits.{FewIn, few-wide, few-fresh}
+use Rattle.line.specs.Fresh.{FreshLine}
 use Rattle.line.specs.declared.Received.{Received}
 use Rattle.line.proofs.Ways.{front-of}
-use Rattle.line.proofs.Answers.{rest-ignored}
-use Rattle.line.proofs.Listed.{used-or-rows}
-use Rattle.line.proofs.Kept.{stays-good}
+use Rattle.line.proofs.FreshRows.{rest-ignored, stays-good, few-more, used-or-rows}
 use Rattle.listing.specs.Text.{heading, lineText, stoppedText}
 use Rattle.listing.specs.Listing.{sheet, freshCalls, answerTo, headerIn, stops, entriesText, listing}
 use Rattle.listing.specs.Lines.{joined, linesOf, Lines, no-entry, too-few-rows, one-line}
@@ -55,12 +54,18 @@ side-goes : {side : ℕ} → Side side → (number used : ℕ) → eqb used 0 �
 side-goes client number used e = or-neither (eqb used 0) _ e (never (eqb number 8))
 side-goes server number used e = or-neither (eqb used 0) _ e (never (eqb number 8))
 
+-- An entry takes two bytes at least.
+few-entries : {s : List ℕ} {es : List (List ℕ)} → Entries s es → 2 * length es ≤ length s
+few-entries no-more = omega arith
+few-entries (one-more {s = rest} (made-of {side = side} {frame = f} who is) w) =
+    omega (arith, few-entries w, frame-least is, length-append (side ∷ f) rest)
+
 module _ (schema : List ℕ) where
   -- what follows a frame does not show in its answer
   same-answer : (side : ℕ) {h : Header} {p f : List ℕ} → IsFrame h p f → (rest : List ℕ) (l : List Call) → answerTo schema side (f ++ rest) l ≡ answerTo schema side f l
   unfolding answerTo
   same-answer side {h} {p} {f} is rest l =
-      ap (λ (a : Line). a .answer) (rest-ignored schema side f sheet l _ (front-of side f h (length f - length p) (length p) (frame-reads is)) rest)
+      ap (λ (a : FreshLine). a .answer) (rest-ignored schema side f sheet l _ (front-of side f h (length f - length p) (length p) (frame-reads is)) rest)
 
   lines-end : (entry : ℕ) (l : List Call) → linesOf schema entry [] l ≡ stoppedText 0 0
   unfolding linesOf
@@ -124,37 +129,44 @@ module _ (schema : List ℕ) where
 
   -- ---- where a listing of whole entries stops
 
-  -- an answer to a whole frame that uses no bytes has 30
-  unused-rows : (side : ℕ) {h : Header} {p f : List ℕ} → IsFrame h p f → (l : List Call) → IsGood schema → goodTable (tableOf schema) l ≡ true
+  -- an answer to a whole frame that uses no bytes has 30, where no call is at the element limit
+  unused-rows : (side : ℕ) {h : Header} {p f : List ℕ} → IsFrame h p f → (l : List Call) → IsGood schema → goodTable (tableOf schema) l ≡ true → FewIn 65534 l
       → eqb (answerTo schema side f l .used) 0 ≡ true → answerTo schema side f l .number ≡ 30
   unfolding answerTo
-  unused-rows side {h} {p} {f} is l good held z =
+  unused-rows side {h} {p} {f} is l good held few z =
       ⊎-elim
       (λ u. absurd (omega (arith, u, eqb-true (answerTo schema side f l .used) 0 z, frame-least is)))
       (λ r. r)
-      (used-or-rows schema side f sheet l good held (frame-reads is))
+      (used-or-rows schema side f sheet l good held few (frame-reads is))
 
   held-after : (side : ℕ) (f : List ℕ) (l : List Call) → goodTable (tableOf schema) l ≡ true → goodTable (tableOf schema) (answerTo schema side f l .table .slots) ≡ true
   unfolding answerTo
   held-after side f l held = stays-good schema side f sheet l held
 
-  -- Whole entries by good tables are listed one line each, and the listing stops early only at 30.
-  pub entries-lines : {s : List ℕ} {es : List (List ℕ)} → Entries s es → (n : ℕ) (l : List Call) → IsGood schema → goodTable (tableOf schema) l ≡ true
-      → Lines schema n es l (linesOf schema n es l)
-  entries-lines no-more n l good held = subst (Lines schema n [] l) (sym (lines-end n l)) no-entry
-  entries-lines (one-more {e = e} {s = rest} {es = es} (made-of {side = side} {h = header} {payload = p} {frame = f} who is) w) n l good held =
+  few-after : (side : ℕ) (f : List ℕ) (l : List Call) (most : ℕ) → FewIn most l → FewIn (suc most) (answerTo schema side f l .table .slots)
+  unfolding answerTo
+  few-after side f l most few = few-more schema side f sheet l most few
+
+  -- Whole entries by good tables are listed one line each, and the listing stops early only at 30. There are too few of them for the element limit.
+  pub entries-lines : {s : List ℕ} {es : List (List ℕ)} → Entries s es → (n most : ℕ) (l : List Call) → IsGood schema → goodTable (tableOf schema) l ≡ true
+      → FewIn most l → most + length es ≤ 65535 → Lines schema n es l (linesOf schema n es l)
+  entries-lines no-more n most l good held few small = subst (Lines schema n [] l) (sym (lines-end n l)) no-entry
+  entries-lines (one-more {e = e} {s = rest} {es = es} (made-of {side = side} {h = header} {payload = p} {frame = f} who is) w) n most l good held few small =
       let a = answerTo schema side f l in
       ⊎-elim
       (λ z.
-      let rows = unused-rows side is l good held z in
+      let rows = unused-rows side is l good held (few-wide most 65534 l (omega (arith, small)) few) z in
       let text = lines-stop n side f es l z ∙ ap (λ (k : ℕ). stoppedText k (length (joined ((side ∷ f) ∷ es)))) rows in
       subst (Lines schema n ((side ∷ f) ∷ es) l) (sym text) (too-few-rows rows))
       (λ z.
       subst (Lines schema n ((side ∷ f) ∷ es) l) (sym (lines-turn n side f es l z))
-      (one-line (entries-lines w (n + 1) (a .table .slots) good (held-after side f l held))))
+      (one-line (entries-lines w (n + 1) (suc most) (a .table .slots) good (held-after side f l held) (few-after side f l most few) (omega (arith, small)))))
       (cases (eqb (a .used) 0))
 
-  -- So is a salvaged copy.
-  pub kept-lines : (torn : List ℕ) → IsGood schema → Lines schema 1 (entriesIn (piecesOf torn)) freshCalls (linesOf schema 1 (entriesIn (piecesOf torn)) freshCalls)
+  -- So is a salvaged copy of a record of at most 65,536 bytes.
+  pub kept-lines : (torn : List ℕ) → IsGood schema → length torn ≤ 65536
+      → Lines schema 1 (entriesIn (piecesOf torn)) freshCalls (linesOf schema 1 (entriesIn (piecesOf torn)) freshCalls)
   unfolding freshCalls
-  kept-lines torn good = entries-lines (copy-entries (covered torn)) 1 freshCalls good (fresh-good (tableOf schema))
+  kept-lines torn good small =
+      let w = copy-entries (covered torn) in
+      entries-lines w 1 0 freshCalls good (fresh-good (tableOf schema)) few-fresh (omega (arith, few-entries w, copy-shorter (covered torn), small))

@@ -32,10 +32,8 @@ use Rattle.calls.specs.Step.{stepOf, dueOf}
 use Rattle.reader.specs.declared.Reading.{Reading}
 use Rattle.reader.specs.Entry.{room, numbers}
 use Rattle.line.specs.declared.Received.{Received}
-use Rattle.line.specs.Answer.{Line, line, stopped, answerOf, answered}
-use Rattle.line.specs.Receive.{onGood, onFrame, frameFrom, frameLine, bytesLine, received}
-use Rattle.line.proofs.Payloads.{both-read}
-use Rattle.line.proofs.Answers.{used-by-number}
+use Rattle.line.specs.Fresh.{FreshLine, freshLine, receivedFresh}
+use Rattle.line.proofs.FreshRows.{used-by-number, same-room}
 use Rattle.listing.specs.Text.{lineText, stoppedText, Added}
 use Rattle.listing.specs.Listing.{sheet, freshCalls, answerTo, noHeader, headerIn, stops, entriesText}
 use Rattle.listing.proofs.Texts.{added-then}
@@ -57,46 +55,12 @@ module _ (bytes : List ℕ) (v : FrameRead) (is : v ≡ frameOf bytes) where
 
 -- ---- the sheet
 
-module _ (s : List ℕ) (sheet₁ sheet₂ : List ℕ) (l : List Call) (space : room sheet₁ ≡ room sheet₂) where
-  frame-same : (f : calls.Frame) (payload : List ℕ) (size : ℕ) → frameLine s f payload size sheet₁ l .answer ≡ frameLine s f payload size sheet₂ l .answer
-  unfolding frameLine answered
-  frame-same f payload size =
-      let J = judgeOf (tableOf s) f l in
-      ap (λ (r : Reading). answerOf size (stepOf J (numbers r .number) l) r) (both-read s payload sheet₁ sheet₂ space (dueOf J) .reading)
-
-  front-same : (side : ℕ) (bytes : List ℕ) → bytesLine s side bytes sheet₁ l .answer ≡ bytesLine s side bytes sheet₂ l .answer
-  unfolding bytesLine
-  front-same side bytes = go (frameOf bytes)
-    where
-      go : (v : FrameRead) →
-          onFrame v (λ number. line (stopped l number 0) sheet₁) (λ h place n. frameLine s (frameFrom side h) (take n (drop place bytes)) (place + n) sheet₁ l) .answer
-          ≡ onFrame v (λ number. line (stopped l number 0) sheet₂) (λ h place n. frameLine s (frameFrom side h) (take n (drop place bytes)) (place + n) sheet₂ l) .answer
-      go More = refl
-      go (Refused n) = refl
-      go (Frame h place n) = frame-same (frameFrom side h) (take n (drop place bytes)) (place + n)
-
-  -- The answer depends on the sheet's room alone.
-  pub same-room : (side : ℕ) (bytes : List ℕ) → received s side bytes sheet₁ l .answer ≡ received s side bytes sheet₂ l .answer
-  unfolding received
-  same-room side bytes = go (checked s)
-    where
-      good : (b : Bool) →
-          cond b (bytesLine s side bytes sheet₁ l) (line (stopped l 15 0) sheet₁) .answer ≡ cond b (bytesLine s side bytes sheet₂ l) (line (stopped l 15 0) sheet₂) .answer
-      good true = front-same side bytes
-      good false = refl
-
-      go : (v : Checked) →
-          onGood v (λ number row. line (stopped l number row) sheet₁) (cond (goodTable (tableOf s) l) (bytesLine s side bytes sheet₁ l) (line (stopped l 15 0) sheet₁)) .answer
-          ≡ onGood v (λ number row. line (stopped l number row) sheet₂) (cond (goodTable (tableOf s) l) (bytesLine s side bytes sheet₂ l) (line (stopped l 15 0) sheet₂)) .answer
-      go Good = good (goodTable (tableOf s) l)
-      go (Faulty n q) = refl
-
 pub by-sheet : (s : List ℕ) (side : ℕ) (bytes cells : List ℕ) (l : List Call) → length cells ≡ 16384
-    → (r : Received) (after : List ℕ) → line r after ≡ received s side bytes cells l → r ≡ answerTo s side bytes l
+    → (r : Received) (after : List ℕ) → freshLine r after ≡ receivedFresh s side bytes cells l → r ≡ answerTo s side bytes l
 unfolding answerTo
 by-sheet s side bytes cells l e r after h =
     let space : room cells ≡ room sheet = ap (λ (n : ℕ). n / 4) (e ∙ sym (length-replicate {A = ℕ} 16384 0)) in
-    ap (λ (a : Line). a .answer) h ∙ same-room s cells sheet l space side bytes
+    ap (λ (a : FreshLine). a .answer) h ∙ same-room s side bytes cells l sheet space
 
 -- ---- bytes used
 
@@ -111,9 +75,9 @@ used-least bytes = go (frameOf bytes) refl
 module _ (s : List ℕ) (side : ℕ) (bytes : List ℕ) (l : List Call) (z : answerTo s side bytes l .used ≡ 0 → ⊥) where
   pub used-frame : answerTo s side bytes l .used ≡ readUsed (frameOf bytes)
   unfolding answerTo
-  used-frame = go (usesFrame (received s side bytes sheet l .answer .number)) (used-by-number s side bytes sheet l)
+  used-frame = go (usesFrame (receivedFresh s side bytes sheet l .answer .number)) (used-by-number s side bytes sheet l)
     where
-      go : (b : Bool) → received s side bytes sheet l .answer .used ≡ cond b (readUsed (frameOf bytes)) 0 → received s side bytes sheet l .answer .used ≡ readUsed (frameOf bytes)
+      go : (b : Bool) → receivedFresh s side bytes sheet l .answer .used ≡ cond b (readUsed (frameOf bytes)) 0 → receivedFresh s side bytes sheet l .answer .used ≡ readUsed (frameOf bytes)
       go true e = e
       go false e = absurd (z e)
 

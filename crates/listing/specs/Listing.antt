@@ -15,7 +15,7 @@ use Rattle.frame.specs.Frame.{frameOf}
 use Rattle.calls.specs.declared.Call.{Call}
 use Rattle.calls.specs.Slots.{freshTable}
 use Rattle.line.specs.declared.Received.{Received}
-use Rattle.line.specs.Receive.{received}
+use Rattle.line.specs.Fresh.{receivedFresh}
 use Rattle.listing.specs.Text.{heading, lineText, stoppedText}
 
 -- The sheet has 4,096 rows of four cells. What it holds before an entry does not show.
@@ -26,9 +26,9 @@ sheet = replicate 16384 0
 unfoldable pub freshCalls : List Call
 freshCalls = freshTable .slots
 
--- The answer to an entry's frame, on these calls.
+-- The answer to an entry's frame, on these calls, with fresh tallies.
 unfoldable pub answerTo : (schema : List ℕ) (side : ℕ) (bytes : List ℕ) → List Call → Received
-answerTo schema side bytes l = received schema side bytes sheet l .answer
+answerTo schema side bytes l = receivedFresh schema side bytes sheet l .answer
 
 abbrev pub noHeader : Header
 noHeader = record { kind = 0; «package» = 0; service = 0; method = 0; correlation = 0 }

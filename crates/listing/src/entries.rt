@@ -9,12 +9,12 @@ ghost use lib.ListN.{length};
 ghost use Rattle.listing.specs.Text.{Added};
 ghost use Rattle.listing.specs.Listing.{freshCalls, answerTo, stops as stopsAt, entriesText};
 
-// The answer to an entry's frame, on a sheet of 4,096 rows.
+// The answer to an entry's frame, on a sheet of 4,096 rows, with fresh tallies.
 fn answer(table: CallTable, schema: &[u8], side: u8, bytes: &[u8], sheet: &mut [u32]) -> Received
     requires { ⌜ length (now sheet) ≡ 16384 ⌝ }
     ensures { λ r. ⌜ r ≡ answerTo (now (schema .entry)) side (now (bytes .entry)) (table .slots) ⌝ }
 {
-    arf::receive(table, schema, side, bytes, sheet)
+    line::fresh::receive_fresh(table, schema, side, bytes, sheet)
 }
 
 // Whether an entry with this side and answer stops the listing.

@@ -20,17 +20,16 @@ use Rattle.writer.proofs.Outcomes.{written-is}
 use Rattle.valueframe.specs.Entry.{frameOutcome}
 use Rattle.valueframe.specs.Claims as turn
 use Rattle.valueframe.proofs.InTurn.{payload-good, written-iff-in-turn}
-use Rattle.calls.specs.declared.Call.{Call}
 use Rattle.calls.specs.Order.{Past, Ruling}
 use Rattle.line.specs.Answer.{usedOf}
 use Rattle.line.specs.Order.{Said, said, Answered, Stands}
 use Rattle.line.specs.Order as order
 use Rattle.line.specs.Claims.{Front}
-use Rattle.line.specs.Receive.{frameFrom, received}
-use Rattle.line.specs.Run.{Event, Input, runFrom}
+use Rattle.line.specs.Planning.{frameFrom}
+use Rattle.line.specs.Run.{Event, Input, State, runFrom}
 use Rattle.line.proofs.Answers.{used-by-number}
 use Rattle.line.proofs.Runs.{by-order}
-use Rattle.promises.specs.ValueFrames.{Carries, value, none, RuledNext, ReceivedBack}
+use Rattle.promises.specs.ValueFrames.{Carries, value, none, RuledNext, CountedNext, receivedNext, ReceivedBack}
 use Rattle.promises.proofs.ReadBack.{read-back}
 
 module _ (h : Header) (fits : Fits h) (s : List ℕ) (ty : ℕ) (sheet B out : List ℕ) (m : ℕ) (out′ : List ℕ)
@@ -75,11 +74,11 @@ module _ (h : Header) (fits : Fits h) (s : List ℕ) (ty : ℕ) (sheet B out : L
       let size = frame.written-iff h (in-turn .payload) (length out) m .0 (in-turn .then) .size in
       omega (arith, size, length-frame h (in-turn .payload))
 
-  -- The same by `receive`, in any history from a good call table of 128 slots, for a frame that may come next.
-  pub received-back : (l : List Call) (past : ℕ → Past) → Stands (tableOf s) l past → (is : List Event) (side : ℕ)
+  -- The same by `receive`, in any history from a good call table of 128 slots with as many tally rows as methods, for a frame that may come next.
+  pub received-back : (st : State) (past : ℕ → Past) → Stands (tableOf s) (st .calls) (st .tallies) past → (is : List Event) (side : ℕ)
       → (after : List ℕ) → length sheet / 4 ≤ room after → (rest : List ℕ)
-      → (p : List ℕ) × Carries s ty sheet B after p × ReceivedBack s ty p after l past is side h m (take m out′ ++ rest)
-  received-back l past stands is side after rows rest =
+      → (p : List ℕ) × Carries s ty sheet B after p × ReceivedBack s ty p after st past is side h m (take m out′ ++ rest)
+  received-back st past stands is side after rows rest =
       let good = payload-good s ty sheet B mid (in-turn .payload) (in-turn .first) in
       let p = in-turn .payload in
       let back = back-read rest in
@@ -93,11 +92,19 @@ module _ (h : Header) (fits : Fits h) (s : List ℕ) (ty : ℕ) (sheet B out : L
         seen = record { side = refl; kind = refl; «package» = refl; service = refl; method = refl; correlation = refl };
       } in
       let i : Input = record { side = side; bytes = bytes; sheet = after } in
-      let says : (ruling : Ruling) (x : Said) → RuledNext s l past is side h ruling → Answered s p after ruling x → said (received s side bytes after (runFrom s l is)) ≡ x =
-      λ ruling x may a. by-order s good l past stands is i (frameFrom side h) w x .1
-      (record { ruling = ruling; ruled = may; answered = subst (λ (q : List ℕ). Answered s q after ruling x) (sym (back .payload)) a }) in
+      let says : (ruling : Ruling) (y : Said) → RuledNext s st past is side h ruling → Answered s p after ruling y → (x : Said)
+      → CountedNext s st past is side h after y x → said (receivedNext s st is side bytes after) ≡ x =
+      λ ruling y may a x counts. by-order s good st past stands is i (frameFrom side h) w x .1
+      (record {
+        ruling = ruling;
+        ruled = may;
+        payloadSaid = y;
+        answered = subst (λ (q : List ℕ). Answered s q after ruling y) (sym (back .payload)) a;
+        counted = counts;
+      }) in
+      let now = runFrom s st is in
       let length-used : readUsed (frameOf bytes) ≡ m = ap readUsed (back .reads) ∙ whole-length in
-      let used-all = used-by-number s side bytes after (runFrom s l is) ∙ ap (usedOf (received s side bytes after (runFrom s l is) .answer .number)) length-used in (
+      let used-all = used-by-number s side bytes after (now .tallies) (now .calls) ∙ ap (usedOf (receivedNext s st is side bytes after .answer .number)) length-used in (
         p,
         carries after rows,
         record { value = λ may. says _ _ may (order.value ty); none = λ none may. says _ _ may (order.empty none); error = λ may. says _ _ may order.error; used = used-all },

@@ -14,14 +14,14 @@ use Rattle.value.specs.Sheet.{rowsOf}
 use Rattle.value.specs.Fits.{Shows}
 use Rattle.reader.specs.declared.Reading.the-variants.{Shown}
 use Rattle.reader.specs.Entry.{outcome, readOutcome}
-use Rattle.calls.specs.declared.Call.{Call}
 use Rattle.calls.specs.declared.Payload.the-variants.{Struct, Empty, Unread}
 use Rattle.calls.specs.Slots.{countOpen}
 use Rattle.calls.specs.Order.{Past, Ruling, comes, pastOf, Ruled}
-use Rattle.line.specs.Answer.{usedOf}
-use Rattle.line.specs.Order.{said, saidBy}
-use Rattle.line.specs.Receive.{frameFrom, received}
-use Rattle.line.specs.Run.{Event, runFrom, heardFrom}
+use Rattle.line.specs.Answer.{Line, usedOf}
+use Rattle.line.specs.Planning.{frameFrom}
+use Rattle.line.specs.Receive.{received}
+use Rattle.line.specs.Order.{Said, said, saidBy, Counted}
+use Rattle.line.specs.Run.{Event, State, runFrom, heardFrom}
 use Rattle.promises.specs.Claims.{shapes, ReadsAs}
 
 -- The payload holds what the sheet shows over the bytes B: `read` shows it in the sheet after, whole and with no tail. Without a value it is empty.
@@ -30,18 +30,33 @@ pub data Carries (schema : List ℕ) (ty : ℕ) (sheet B after : List ℕ) : (pa
       → ReadsAs schema ty fs payload after v (length payload) 0 → Carries schema ty sheet B after payload
   none : ty ≡ 4294967295 → Carries schema ty sheet B after []
 
--- What the rules say of the header's frame from this side, next after a history from the records l, whose calls had these pasts before.
-abbrev pub RuledNext : (schema : List ℕ) → List Call → (ℕ → Past) → List Event → (side : ℕ) → Header → Ruling → Type 0
-RuledNext schema l past is side h ruling =
-    Ruled (tableOf schema) (frameFrom side h) (eqb (countOpen (runFrom schema l is)) 128)
-    (pastOf (tableOf schema) (h .correlation) (past (h .correlation)) (heardFrom schema l is))
-    ruling
+-- The past of the header's call after a history from a start whose calls had these pasts before.
+abbrev pub pastNext : (schema : List ℕ) → State → (ℕ → Past) → List Event → Header → Past
+pastNext schema st past is h = pastOf (tableOf schema) (h .correlation) (past (h .correlation)) (heardFrom schema st is)
+
+-- What the rules say of the header's frame from this side, next after that history.
+abbrev pub RuledNext : (schema : List ℕ) → State → (ℕ → Past) → List Event → (side : ℕ) → Header → Ruling → Type 0
+RuledNext schema st past is side h ruling =
+    Ruled (tableOf schema) (frameFrom side h) (eqb (countOpen (runFrom schema st is .calls)) 128) (pastNext schema st past is h) ruling
+
+-- The answer x in place of y, by the tally rows of that history: y itself, or 18 where the tally that would rise is full.
+abbrev pub CountedNext : (schema : List ℕ) → State → (ℕ → Past) → List Event → (side : ℕ) → Header → (after : List ℕ) → (y x : Said) → Type 0
+CountedNext schema st past is side h after y x =
+    Counted (tableOf schema) (frameFrom side h) (pastNext schema st past is h) (runFrom schema st is .tallies) after y x
+
+-- The next answer.
+abbrev pub receivedNext : (schema : List ℕ) → State → List Event → (side : ℕ) (bytes after : List ℕ) → Line
+receivedNext schema st is side bytes after = let now = runFrom schema st is in received schema side bytes after (now .tallies) (now .calls)
 
 -- `receive` answers such a frame, the first m of the bytes, by its payload: a value that belongs as `read` answers it, an empty payload where nothing
--- belongs with 0, and that of an ERROR, whatever it is, with 0 and without a row. Bytes used are the frame's, or 0, by the number answered.
-pub record ReceivedBack (schema : List ℕ) (ty : ℕ) (payload after : List ℕ) (l : List Call) (past : ℕ → Past) (is : List Event) (side : ℕ) (h : Header)
+-- belongs with 0, and that of an ERROR, whatever it is, with 0 and without a row; each unless a tally is full. Bytes used are the frame's, or 0, by the
+-- number answered.
+pub record ReceivedBack (schema : List ℕ) (ty : ℕ) (payload after : List ℕ) (st : State) (past : ℕ → Past) (is : List Event) (side : ℕ) (h : Header)
     (m : ℕ) (bytes : List ℕ) : Type 0 where
-  pub value : RuledNext schema l past is side h (comes (Struct ty)) → said (received schema side bytes after (runFrom schema l is)) ≡ saidBy (readOutcome schema ty payload after)
-  pub none : payload ≡ [] → RuledNext schema l past is side h (comes Empty) → said (received schema side bytes after (runFrom schema l is)) ≡ saidBy (outcome (Shown 0 0 0 0) after)
-  pub error : RuledNext schema l past is side h (comes Unread) → said (received schema side bytes after (runFrom schema l is)) ≡ saidBy (outcome (Shown 0 0 0 0) after)
-  pub used : received schema side bytes after (runFrom schema l is) .answer .used ≡ usedOf (received schema side bytes after (runFrom schema l is) .answer .number) m
+  pub value : RuledNext schema st past is side h (comes (Struct ty)) → (x : Said) → CountedNext schema st past is side h after (saidBy (readOutcome schema ty payload after)) x
+      → said (receivedNext schema st is side bytes after) ≡ x
+  pub none : payload ≡ [] → RuledNext schema st past is side h (comes Empty) → (x : Said) → CountedNext schema st past is side h after (saidBy (outcome (Shown 0 0 0 0) after)) x
+      → said (receivedNext schema st is side bytes after) ≡ x
+  pub error : RuledNext schema st past is side h (comes Unread) → (x : Said) → CountedNext schema st past is side h after (saidBy (outcome (Shown 0 0 0 0) after)) x
+      → said (receivedNext schema st is side bytes after) ≡ x
+  pub used : let a = receivedNext schema st is side bytes after in a .answer .used ≡ usedOf (a .answer .number) m

@@ -29,7 +29,7 @@ use Rattle.reader.specs.declared.walk.Walk.{Walk}
 use Rattle.reader.specs.declared.walk.Walk.the-variants.{Past, Refused as Stop}
 use Rattle.reader.specs.Sheet.{putRows, shownIn}
 use Rattle.reader.specs.Walk.{Told, told, firstFields, done, stopped, walkOf, endOf, rootIn, Walked}
-use Rattle.reader.specs.Entry.{Outcome, outcome, readingIn, outcomeOf, room, payloadOutcome, byTable, readOutcome, numbers}
+use Rattle.reader.specs.Entry.{Outcome, outcome, readingIn, outcomeOf, room, payloadOutcome, byTable, readOutcome, numbers, numberIn}
 use Rattle.reader.specs.Beside.{shownOutcome, besidePayload, besideOutcome}
 use Rattle.reader.proofs.Sheets.{rows-shown}
 
@@ -74,6 +74,13 @@ module _ (known s : List ℕ) (ty : ℕ) (p sheet : List ℕ) (r : TypeRow) (is 
             rw (lt-leb (length (tell tree .rows)) (room sheet) (omega arith))
         full (refused n q) due next row e h = differ cc
 
+        fits : (o : Answer Tree) (due next row : ℕ) → done (cursorAt p next) due row m ≡ walkOf tell o 0 0 [] → row ≤ room sheet → 0 ≡ numberIn (answer o)
+        unfolding told
+        fits (seen tree c) due next row e h =
+            let f : row ≡ 0 + length (tell tree .rows) = cc in
+            rw (le-leb (length (tell tree .rows)) (room sheet) (omega arith))
+        fits (refused n q) due next row e h = differ cc
+
         shown : (o : Answer Tree) (due next row : ℕ) (w : Walk) (after : List ℕ) → done (cursorAt p next) due row m ≡ walkOf tell o 0 0 [] → row ≤ room sheet
             → endOf p w after ≡ walkOf tell o 0 0 sheet → outcome (Shown row next (length p - next) due) after ≡ answer o
         unfolding told
@@ -104,6 +111,13 @@ module _ (known s : List ℕ) (ty : ℕ) (p sheet : List ℕ) (r : TypeRow) (is 
           pub entry-full : length (m ++ sheet) / 4 < row → outcome (Refused 30 0) (m ++ sheet) ≡ shownOutcome known s ty p sheet
           entry-full h =
               rw (nothing-before m sheet none, ← entry-root) (full root due next row (w .same) (rw (nothing-before m sheet none) at h))
+
+          -- the number alone, without the second walk
+          pub entry-short : room sheet < row → 30 ≡ numberIn (shownOutcome known s ty p sheet)
+          entry-short h = ap numberIn (entry-full (rw (nothing-before m sheet none) h))
+
+          pub entry-fits : row ≤ room sheet → 0 ≡ numberIn (shownOutcome known s ty p sheet)
+          entry-fits h = rw (← entry-root) (fits root due next row (w .same) h)
 
           -- what the second walk has written
           pub entry-shown : (v : Walk) (after : List ℕ) → row ≤ length (m ++ sheet) / 4 → Walked p 1 tell root 0 (m ++ sheet) v after

@@ -60,3 +60,11 @@ pub record Numbers : Type 0 where
 abbrev pub numbers : Reading → Numbers
 numbers (Shown rows place size due) = record { number = 0; place = 0; rows = rows; tailPlace = place; tailLength = size; comparisons = due }
 numbers (Refused n q) = record { number = n; place = q; rows = 0; tailPlace = 0; tailLength = 0; comparisons = 0 }
+
+-- The number of an outcome.
+abbrev pub numberIn : Outcome → ℕ
+numberIn o = numbers (readingIn o) .number
+
+-- The number that reading a payload by a good table answers.
+abbrev pub payloadNumber : (schema : List ℕ) (ty : ℕ) (payload sheet : List ℕ) → ℕ
+payloadNumber schema ty payload sheet = numberIn (payloadOutcome schema ty payload sheet)

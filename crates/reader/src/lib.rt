@@ -12,7 +12,7 @@ use schema::access::type_row;
 use schema::check::check;
 ghost use mathlib.Core.Path.{_≡_};
 ghost use Rattle.schema.specs.Check.{IsGood};
-ghost use Rattle.reader.specs.Entry.{Outcome, payloadOutcome, readOutcome};
+ghost use Rattle.reader.specs.Entry.{Outcome, payloadOutcome, payloadNumber, readOutcome, numberIn};
 ghost use Rattle.reader.specs.Beside.{shownOutcome};
 
 // The answer: the number of rows with the tail's place and length and the key comparisons due, or the refusal's number and place.
@@ -93,4 +93,43 @@ pub fn read(schema: &[u8], ty: u32, payload: &[u8], sheet: &mut [u32]) -> Readin
         Checked::Refused { number, place } => Reading::Refused { number, place },
         Checked::Good => read_payload(schema, ty, payload, sheet),
     }
+}
+
+// The number that `read_shown` answers, 0 for a payload that is shown: the first walk alone, so that the sheet's cells are not touched.
+fn judge_shown(shown: &[u8; 256], schema: &[u8], ty: u32, payload: &[u8], sheet: &[u32]) -> u32
+    requires { ⌜ IsGood (now schema) ⌝ }
+    ensures { λ r. ⌜ r ≡ numberIn (shownOutcome (now (shown .entry)) (now (schema .entry)) ty (now (payload .entry)) (now (sheet .entry))) ⌝ }
+{
+    let t = type_row(schema, ty as usize);
+    if t.kind != 16 {
+        return 46;
+    }
+    if 16384 < payload.len() {
+        return 7;
+    }
+    let first = t.a as usize;
+    let n = t.b as usize;
+    let mut none = [0u32; 1];
+    match root(shown, schema, payload, &mut none[..0], ty, first, n, true) {
+        Walk::Refused { number, place: _ } => number,
+        Walk::Past {
+            due: _,
+            next: _,
+            row,
+        } => {
+            if row <= sheet.len() / 4 {
+                return 0;
+            }
+            30
+        }
+    }
+}
+
+// The number that `read_payload` answers, without touching the sheet's cells.
+pub fn judge_payload(schema: &[u8], ty: u32, payload: &[u8], sheet: &[u32]) -> u32
+    requires { ⌜ IsGood (now schema) ⌝ }
+    ensures { λ r. ⌜ r ≡ payloadNumber (now (schema .entry)) ty (now (payload .entry)) (now (sheet .entry)) ⌝ }
+{
+    let all = [64u8; 256];
+    judge_shown(&all, schema, ty, payload, sheet)
 }

@@ -9,6 +9,8 @@
 //! Nothing holds these declarations to the Rattle source: they repeat its
 //! parameters in order, and the tests below and `compare` look at the answers.
 
+use crate::Tally;
+
 extern "C" {
     fn arf_check_table(
         schema: *const u8,
@@ -105,6 +107,8 @@ extern "C" {
         bytes_n: usize,
         sheet: *mut u32,
         sheet_n: usize,
+        tallies: *mut u32,
+        tallies_n: usize,
         answer: *mut u64,
         answer_n: usize,
     ) -> u32;
@@ -115,6 +119,8 @@ extern "C" {
         schema: *const u8,
         schema_n: usize,
         correlation: u64,
+        tallies: *mut u32,
+        tallies_n: usize,
         answer: *mut u64,
         answer_n: usize,
     ) -> u32;
@@ -401,18 +407,31 @@ pub fn write_value_frame(
     }
 }
 
+/// The cells of tally rows, five a row in the order of its figures.
+pub fn tally_cells(tallies: &mut [Tally]) -> &mut [u32] {
+    const FIGURES: usize = 5;
+    const { assert!(size_of::<Tally>() == FIGURES * size_of::<u32>()) };
+    const { assert!(align_of::<Tally>() == align_of::<u32>()) };
+    let cells = FIGURES * tallies.len();
+    // SAFETY: a row is laid out as in C and has five numbers of 32 bits and no
+    // other byte, so the rows are as many cells, and any cells are rows; they
+    // are lent on as long as the rows are.
+    unsafe { std::slice::from_raw_parts_mut(tallies.as_mut_ptr().cast(), cells) }
+}
+
 /// Stores the place, the bytes used, the rows, the tail's place and length, the
 /// calls open and the comparisons. The table has three cells a record, for the
-/// correlation, the method number and the marks.
+/// correlation, the method number, and the marks with the elements.
 pub fn receive(
     table: &mut [u64],
     schema: &[u8],
     side: u8,
     bytes: &[u8],
     sheet: &mut [u32],
+    tallies: &mut [u32],
     answer: &mut [u64],
 ) -> u32 {
-    // SAFETY: each pointer and length are those of a Rust slice; the three that
+    // SAFETY: each pointer and length are those of a Rust slice; the four that
     // are written do not overlap, since all are `&mut`.
     unsafe {
         arf_receive(
@@ -425,6 +444,8 @@ pub fn receive(
             bytes.len(),
             sheet.as_mut_ptr(),
             sheet.len(),
+            tallies.as_mut_ptr(),
+            tallies.len(),
             answer.as_mut_ptr(),
             answer.len(),
         )
@@ -450,9 +471,15 @@ pub fn salvage(record: &[u8], copy: &mut [u8], spans: &mut [u32], answer: &mut [
 }
 
 /// Stores the place and the calls open.
-pub fn release(table: &mut [u64], schema: &[u8], correlation: u64, answer: &mut [u64]) -> u32 {
-    // SAFETY: each pointer and length are those of a Rust slice; the two that
-    // are written do not overlap, since both are `&mut`.
+pub fn release(
+    table: &mut [u64],
+    schema: &[u8],
+    correlation: u64,
+    tallies: &mut [u32],
+    answer: &mut [u64],
+) -> u32 {
+    // SAFETY: each pointer and length are those of a Rust slice; the three that
+    // are written do not overlap, since all are `&mut`.
     unsafe {
         arf_release(
             table.as_mut_ptr(),
@@ -460,6 +487,8 @@ pub fn release(table: &mut [u64], schema: &[u8], correlation: u64, answer: &mut 
             schema.as_ptr(),
             schema.len(),
             correlation,
+            tallies.as_mut_ptr(),
+            tallies.len(),
             answer.as_mut_ptr(),
             answer.len(),
         )
@@ -499,8 +528,10 @@ mod tests {
         with_any_room(2, |cells| forward(&[], 0, &[], &[], [0; 2], &mut [], cells));
         with_any_room(4, |cells| scalar(&[], [0; 4], &[], cells));
         with_any_room(7, |cells| read_frame(&[], cells));
-        with_any_room(7, |cells| receive(&mut [], &[], b'C', &[], &mut [], cells));
-        with_any_room(2, |cells| release(&mut [], &[], 0, cells));
+        with_any_room(7, |cells| {
+            receive(&mut [], &[], b'C', &[], &mut [], &mut [], cells)
+        });
+        with_any_room(2, |cells| release(&mut [], &[], 0, &mut [], cells));
         with_any_room(1, |cells| write_frame(9, [0; 3], 0, &[], &mut [], cells));
         with_any_room(2, |cells| {
             write_value_frame([0; 4], 0, &[], (0, &[], &[]), &mut [], cells)
@@ -631,7 +662,10 @@ mod tests {
         let (mut table, mut frame, mut cells) = ([0; 3 * 128], [0; 35], [FILL; 7]);
         let mut receive = |correlation, payload: &[u8]| {
             write_frame(1, [1, 2, 3], correlation, payload, &mut frame, &mut []);
-            receive(&mut table, &schema, b'C', &frame, &mut sheet, &mut cells);
+            let (sheet, tallies) = (&mut sheet[..], &mut [0; 5]);
+            receive(
+                &mut table, &schema, b'C', &frame, sheet, tallies, &mut cells,
+            );
             cells
         };
         assert_eq!(receive(1, &right), [0, 34, 8, 8, 0, 1, 3]);
@@ -642,8 +676,10 @@ mod tests {
     fn the_cancelled_mark_stands_in_the_lent_cells() {
         let schema = map_schema();
         let (mut table, mut frame, mut cells) = ([0; 3 * 128], [0; 34], [FILL; 2]);
+        // Two cells are left over, and belong to no row.
+        let mut tallies = [0, 0, 0, 0, 0, 8, 9];
         let correlation = 0x0807_0605_0403_0201;
-        let mut send = |table: &mut [u64], kind, payload: &[u8]| {
+        let mut send = |table: &mut [u64], tallies: &mut [u32], kind, payload: &[u8]| {
             let mut length = [0];
             write_frame(
                 kind,
@@ -654,22 +690,73 @@ mod tests {
                 &mut length,
             );
             let bytes = &frame[..length[0] as usize];
-            receive(table, &schema, b'C', bytes, &mut [0; 32], &mut [])
+            receive(table, &schema, b'C', bytes, &mut [0; 32], tallies, &mut [])
         };
-        assert_eq!(send(&mut table, 1, &[1, 0]), 0);
+        assert_eq!(send(&mut table, &mut tallies, 1, &[1, 0]), 0);
         assert_eq!(table[..3], [correlation, 0, 1]);
-        assert_eq!(send(&mut table, 8, &[]), 0);
+        assert_eq!(send(&mut table, &mut tallies, 8, &[]), 0);
         assert_eq!(table[..3], [correlation, 0, 17]);
+        assert_eq!(tallies, [1, 0, 0, 0, 0, 8, 9]);
 
-        // A mark beside the five is 15, and changes nothing.
-        table[2] = 49;
-        assert_eq!(release(&mut table, &schema, correlation, &mut cells), 15);
-        assert_eq!((table[2], cells), (49, [0, 1]));
-
+        let mut release = |table: &mut [u64], tallies: &mut [u32]| {
+            let number = release(table, &schema, correlation, tallies, &mut cells);
+            (number, cells)
+        };
+        // Elements of a stream that the form lacks, and a number above all marks
+        // and elements, are 15, and change nothing.
+        for marks in [17 + (1 << 5), 17 + (1 << 21), 17 + (1 << 37)] {
+            table[2] = marks;
+            assert_eq!(release(&mut table, &mut tallies), (15, [0, 1]));
+            assert_eq!((table[2], tallies), (marks, [1, 0, 0, 0, 0, 8, 9]));
+        }
         table[2] = 17;
-        assert_eq!(release(&mut table, &schema, correlation, &mut cells), 0);
-        assert_eq!((table, cells), ([0; 3 * 128], [0, 0]));
-        assert_eq!(release(&mut table, &schema, correlation, &mut cells), 11);
+        assert_eq!(release(&mut table, &mut tallies[..4]), (19, [0, 1]));
+        assert_eq!(release(&mut table, &mut tallies), (0, [0, 0]));
+        assert_eq!(table, [0; 3 * 128]);
+        assert_eq!(tallies, [1, 0, 0, 1, 0, 8, 9]);
+        assert_eq!(release(&mut table, &mut tallies), (11, [0, 0]));
+    }
+
+    /// A struct with one uint8, and a method that streams it both ways.
+    fn stream_schema() -> Vec<u8> {
+        let types = [6, 0, 0, 16, 0, 1];
+        let method = [1, 2, 3, 3, u32::MAX, u32::MAX, 1, 1];
+        let words = [&types[..], &[0, 0], &method, &[24, 32, 64, 1]].concat();
+        words.iter().flat_map(|word| word.to_le_bytes()).collect()
+    }
+
+    #[test]
+    fn elements_are_counted_each_in_its_own_bits() {
+        let schema = stream_schema();
+        let (mut table, mut tallies, mut frame) = ([0; 3 * 128], [0; 5], [0; 28]);
+        let mut send = |table: &mut [u64], kind, payload: &[u8]| {
+            let mut length = [0];
+            write_frame(kind, [1, 2, 3], 7, payload, &mut frame, &mut length);
+            let bytes = &frame[..length[0] as usize];
+            let side = if matches!(kind, 4..=7) { b'S' } else { b'C' };
+            let mut cells = [FILL; 7];
+            let sheet = &mut [0; 8];
+            let number = receive(table, &schema, side, bytes, sheet, &mut tallies, &mut cells);
+            (number, cells[1])
+        };
+        assert_eq!(send(&mut table, 1, &[]), (0, 26));
+        assert_eq!(send(&mut table, 2, &[1, 9]), (0, 28));
+        assert_eq!(send(&mut table, 2, &[1, 9]), (0, 28));
+        assert_eq!(send(&mut table, 6, &[]), (0, 26));
+        assert_eq!(send(&mut table, 4, &[1, 9]), (0, 28));
+        assert_eq!(table[2], 3 + (2 << 5) + (1 << 21));
+        // The last element that is counted, and one more, whatever it carries.
+        table[2] = 3 + (2 << 5) + (65_534 << 21);
+        assert_eq!(send(&mut table, 4, &[1, 9]), (0, 28));
+        let full = 3 + (2 << 5) + (65_535 << 21);
+        assert_eq!(table[2], full);
+        assert_eq!(send(&mut table, 4, &[1, 9]), (17, 0));
+        assert_eq!(send(&mut table, 4, &[]), (17, 0));
+        assert_eq!(table[2], full);
+        assert_eq!(send(&mut table, 5, &[]), (0, 26));
+        assert_eq!(send(&mut table, 3, &[]), (0, 26));
+        assert_eq!(table, [0; 3 * 128]);
+        assert_eq!(tallies, [1, 1, 0, 0, 0]);
     }
 
     /// uint8, a map from it to itself, and a struct with a field of the first

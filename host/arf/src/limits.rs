@@ -67,6 +67,10 @@ pub const SPAN_CELLS: usize = 4_682;
 /// refused with 13.
 pub const SLOTS: usize = 128;
 
+/// The most elements that are counted for each stream of a call; one more is
+/// refused with 17.
+pub const MAX_ELEMENTS: u16 = 65_535;
+
 /// The stack in bytes that a thread needs for any call: 64 KiB, which leaves the
 /// caller some of it, since `tools/stack` measures 54 KiB at most. With less
 /// stack than a call needs, the system ends the process.

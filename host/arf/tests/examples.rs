@@ -1,6 +1,6 @@
 //! What a host does with the record of examples/ that releases a call.
 
-use arf::{CallTable, Outcome};
+use arf::{CallTable, Outcome, Tally};
 
 /// The entries of a record: a side byte and a frame each.
 fn entries(mut record: &[u8]) -> Vec<(u8, &[u8])> {
@@ -16,16 +16,18 @@ fn entries(mut record: &[u8]) -> Vec<(u8, &[u8])> {
     entries
 }
 
-/// The answers to the entries, with a release of call 5 before the given one.
-fn answers(release_before: Option<usize>) -> Vec<(u32, usize)> {
+/// The answers to the entries, with a release of call 5 before the given one,
+/// and the tallies afterwards.
+fn answers(release_before: Option<usize>) -> (Vec<(u32, usize)>, Vec<Tally>) {
     let schema = include_bytes!("../../../examples/carrier.schema");
     let record = include_bytes!("../../../examples/released.record");
     let (mut table, mut sheet) = (CallTable::fresh(), [0; 64]);
+    let mut tallies = Tally::fresh(schema).expect("the schema is good");
     let judge = |(at, (side, frame)): (usize, (u8, &[u8]))| {
         if release_before == Some(at + 1) {
-            assert_eq!(table.release(schema, 5).outcome, Ok(()));
+            assert_eq!(table.release(schema, 5, &mut tallies).outcome, Ok(()));
         }
-        let received = table.receive(schema, side, frame, &mut sheet);
+        let received = table.receive(schema, side, frame, &mut sheet, &mut tallies);
         assert_eq!(received.used, frame.len());
         let number = match received.outcome {
             Outcome::Accepted(_) => 0,
@@ -34,7 +36,8 @@ fn answers(release_before: Option<usize>) -> Vec<(u32, usize)> {
         };
         (number, received.open)
     };
-    entries(record).into_iter().enumerate().map(judge).collect()
+    let answers = entries(record).into_iter().enumerate().map(judge).collect();
+    (answers, tallies)
 }
 
 #[test]
@@ -42,12 +45,24 @@ fn a_released_number_is_used_again() {
     let numbers = [0, 0, 0, 16, 0, 0, 0, 0];
     let open = [1, 1, 1, 1, 1, 1, 1, 0];
     let expected: Vec<_> = numbers.into_iter().zip(open).collect();
-    assert_eq!(answers(Some(5)), expected);
+    let (answers, tallies) = answers(Some(5));
+    assert_eq!(answers, expected);
+    // One was released, and the next of that number went to its end.
+    let cancelled: u32 = tallies.iter().map(|row| row.cancelled).sum();
+    let completed: u32 = tallies.iter().map(|row| row.completed).sum();
+    assert_eq!((cancelled, completed), (1, 1));
+    assert!(tallies
+        .iter()
+        .all(|row| u64::from(row.opened) == row.ended()));
 }
 
 #[test]
 fn without_a_release_the_call_stays_cancelled() {
     let numbers = [0, 0, 0, 16, 10, 16, 16, 16];
     let expected: Vec<_> = numbers.into_iter().zip([1; 8]).collect();
-    assert_eq!(answers(None), expected);
+    let (answers, tallies) = answers(None);
+    assert_eq!(answers, expected);
+    let opened: u32 = tallies.iter().map(|row| row.opened).sum();
+    let ended: u64 = tallies.iter().map(Tally::ended).sum();
+    assert_eq!((opened, ended), (1, 0));
 }

@@ -271,9 +271,12 @@ pub fn receive(arrival: &Arrival) -> Times {
     let mut sheets = [const { Vec::new() }; 3].map(|_: Vec<u32>| vec![0; CELLS]);
     let [ours, middle, theirs] = &mut sheets;
     let (mut first, mut second, mut third) = (table, quick, other);
-    let received = first.receive(schema, b'C', bytes, ours);
-    let answered = second.receive(schema, b'C', bytes, middle);
-    let expected = third.receive(schema, b'C', bytes, theirs);
+    let mut rows = arf::Tally::fresh(schema).expect("the schema is good");
+    let mut quick_rows = vec![fast::Tally::default(); rows.len()];
+    let mut their_rows = reference::tallies::fresh(schema);
+    let received = first.receive(schema, b'C', bytes, ours, &mut rows);
+    let answered = second.receive(schema, b'C', bytes, middle, &mut quick_rows);
+    let expected = third.receive(schema, &mut their_rows, b'C', bytes, theirs);
     assert!(matches!(received.outcome, arf::Outcome::Accepted(_)));
     assert!(matches!(answered.outcome, fast::Outcome::Accepted(_)));
     assert_eq!((expected.number(), expected.open), (0, received.open));
@@ -285,21 +288,21 @@ pub fn receive(arrival: &Arrival) -> Times {
                 ours.fill(0);
             }
             let mut table = black_box(table);
-            table.receive(schema, b'C', black_box(bytes), ours)
+            table.receive(schema, b'C', black_box(bytes), ours, &mut rows)
         }),
         side(|clear| {
             if clear {
                 middle.fill(0);
             }
             let mut table = black_box(quick);
-            table.receive(schema, b'C', black_box(bytes), middle)
+            table.receive(schema, b'C', black_box(bytes), middle, &mut quick_rows)
         }),
         side(|clear| {
             if clear {
                 theirs.fill(0);
             }
             let mut table = black_box(other);
-            table.receive(schema, b'C', black_box(bytes), theirs)
+            table.receive(schema, &mut their_rows, b'C', black_box(bytes), theirs)
         }),
     ]))
 }

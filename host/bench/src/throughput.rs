@@ -74,8 +74,9 @@ fn list(record: &[u8], mut receive: impl FnMut(u8, &[u8]) -> Entry) -> String {
 
 fn list_by_library(schema: &[u8], record: &[u8], sheet: &mut [u32]) -> String {
     let mut table = arf::CallTable::fresh();
+    let mut tallies = arf::Tally::fresh(schema).expect("the schema is good");
     list(record, |side, bytes| {
-        let received = table.receive(schema, side, bytes, sheet);
+        let received = table.receive(schema, side, bytes, sheet, &mut tallies);
         let (answer, place, rows) = match received.outcome {
             arf::Outcome::Accepted(reading) => (0, 0, reading.rows),
             arf::Outcome::More => (1, 0, 0),
@@ -92,10 +93,11 @@ fn list_by_library(schema: &[u8], record: &[u8], sheet: &mut [u32]) -> String {
     })
 }
 
-fn list_by_fast(schema: &[u8], record: &[u8], sheet: &mut [u32]) -> String {
+fn list_by_fast(schema: &[u8], record: &[u8], sheet: &mut [u32], methods: usize) -> String {
     let mut table = fast::CallTable::fresh();
+    let mut tallies = vec![fast::Tally::default(); methods];
     list(record, |side, bytes| {
-        let received = table.receive(schema, side, bytes, sheet);
+        let received = table.receive(schema, side, bytes, sheet, &mut tallies);
         let (answer, place, rows) = match received.outcome {
             fast::Outcome::Accepted(reading) => (0, 0, reading.rows),
             fast::Outcome::More => (1, 0, 0),
@@ -126,10 +128,11 @@ pub fn listed() -> Listed {
     let (mut ours, mut quick) = (vec![0; SHEET], vec![0; SHEET]);
     let text = list_by_library(&schema, &record, &mut ours);
     assert_eq!(text, reference::list(&schema, &record));
-    assert_eq!(text, list_by_fast(&schema, &record, &mut quick));
+    let methods = reference::tallies::fresh(&schema).len();
+    assert_eq!(text, list_by_fast(&schema, &record, &mut quick, methods));
     let times = medians([
         side(|_| list_by_library(black_box(&schema), black_box(&record), &mut ours)),
-        side(|_| list_by_fast(black_box(&schema), black_box(&record), &mut quick)),
+        side(|_| list_by_fast(black_box(&schema), black_box(&record), &mut quick, methods)),
     ]);
     Listed {
         bytes: record.len(),
@@ -155,17 +158,18 @@ pub fn million() -> [f64; 2] {
         })
         .collect();
     let (mut table, mut other) = (arf::CallTable::fresh(), fast::CallTable::fresh());
+    let (mut tallies, mut rows) = ([arf::Tally::default()], [fast::Tally::default()]);
     let mut seconds = [0.0; 2];
     for _ in 0..FRAMES / BATCH {
         let start = Instant::now();
         for (side, bytes) in &frames {
-            let received = table.receive(&schema, *side, bytes, sheet);
+            let received = table.receive(&schema, *side, bytes, sheet, &mut tallies);
             assert_eq!(received.used, bytes.len());
         }
         seconds[0] += start.elapsed().as_secs_f64();
         let start = Instant::now();
         for (side, bytes) in &frames {
-            let received = other.receive(&schema, *side, bytes, sheet);
+            let received = other.receive(&schema, *side, bytes, sheet, &mut rows);
             assert_eq!(received.used, bytes.len());
         }
         seconds[1] += start.elapsed().as_secs_f64();

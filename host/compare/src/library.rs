@@ -1,9 +1,9 @@
 //! The answers of the static library to cases, in the words of the case file.
 
 use reference::cases::{
-    call_table_sum, line, sheet_sum, sum, BesideCase, Case, Event, ExtendsCase, ForwardCase,
-    FrameCase, FrameWriteCase, HistoryCase, ReadCase, ReceiveCase, ReleaseCase, RunCase,
-    SalvageCase, ScalarCase, TableCase, ValueFrameCase, WriteCase, BYTE_FILL, CELL_FILL,
+    call_table_sum, line, sheet_sum, sum, tally_sum, BesideCase, Case, Event, ExtendsCase,
+    ForwardCase, FrameCase, FrameWriteCase, HistoryCase, ReadCase, ReceiveCase, ReleaseCase,
+    RunCase, SalvageCase, ScalarCase, TableCase, ValueFrameCase, WriteCase, BYTE_FILL, CELL_FILL,
 };
 
 /// The codes of the entries that the library has.
@@ -30,7 +30,16 @@ pub fn answer(case: &Case, text: &mut String) {
         Case::ValueFrame(case) => value_frame(case, text),
         Case::Forward(case) => forward(case, text),
         Case::Salvage(case) => salvage(case, text),
+        Case::Index(_) | Case::LookUp(_) => absent(case, text),
     }
+}
+
+/// The answer to a case of an entry that the library does not have.
+fn absent(case: &Case, text: &mut String) {
+    text.push_str(&format!(
+        "the library has no entry of code {}\n",
+        case.code()
+    ));
 }
 
 /// Lends a filled buffer to a call, and gives what the call answers and the
@@ -209,15 +218,75 @@ fn value_frame(case: &ValueFrameCase, text: &mut String) {
     line(text, &[number, place, length as u64, sum(out)]);
 }
 
-/// One frame against a call table, with a newly filled sheet.
-fn receive(
-    table: &mut arf::CallTable,
-    schema: &[u8],
-    cells: usize,
-    (side, data): (u8, &[u8]),
-) -> [u64; 9] {
+/// The calls and tallies of a connection.
+struct Line {
+    table: arf::CallTable,
+    tallies: Vec<arf::Tally>,
+}
+
+/// A row that stands around the lent ones.
+const TALLY_FILL: arf::Tally = arf::Tally {
+    opened: CELL_FILL,
+    completed: CELL_FILL,
+    errored: CELL_FILL,
+    cancelled: CELL_FILL,
+    failed: CELL_FILL,
+};
+
+impl Line {
+    /// A new connection; tallies only where the schema table is good.
+    fn fresh(schema: &[u8]) -> Line {
+        Line {
+            table: arf::CallTable::fresh(),
+            tallies: arf::Tally::fresh(schema).unwrap_or_default(),
+        }
+    }
+
+    /// A connection with the records and tallies of the reference's.
+    fn of(table: &reference::CallTable, tallies: &[reference::Tally]) -> Line {
+        let tally = |row: &reference::Tally| arf::Tally {
+            opened: row.opened,
+            completed: row.completed,
+            errored: row.errored,
+            cancelled: row.cancelled,
+            failed: row.failed,
+        };
+        Line {
+            table: table_of(table),
+            tallies: tallies.iter().map(tally).collect(),
+        }
+    }
+
+    /// Lends the tallies to a call, with rows around them that must stay.
+    fn with_tallies<A>(
+        &mut self,
+        call: impl FnOnce(&mut arf::CallTable, &mut [arf::Tally]) -> A,
+    ) -> A {
+        let (answer, tallies) = lend(TALLY_FILL, self.tallies.len(), |lent| {
+            lent.copy_from_slice(&self.tallies);
+            call(&mut self.table, lent)
+        });
+        self.tallies = tallies;
+        answer
+    }
+
+    fn tally_sum(&self) -> u64 {
+        let row = |row: &arf::Tally| reference::Tally {
+            opened: row.opened,
+            completed: row.completed,
+            errored: row.errored,
+            cancelled: row.cancelled,
+            failed: row.failed,
+        };
+        let rows: Vec<reference::Tally> = self.tallies.iter().map(row).collect();
+        tally_sum(&rows)
+    }
+}
+
+/// One frame against a connection, with a newly filled sheet.
+fn receive(line: &mut Line, schema: &[u8], cells: usize, (side, data): (u8, &[u8])) -> Vec<u64> {
     let (received, sheet) = lend(CELL_FILL, cells, |sheet| {
-        table.receive(schema, side, data, sheet)
+        line.with_tallies(|table, tallies| table.receive(schema, side, data, sheet, tallies))
     });
     let (number, place, reading) = match received.outcome {
         arf::Outcome::Accepted(reading) => (0, 0, reading),
@@ -225,7 +294,7 @@ fn receive(
         arf::Outcome::Refused(refusal) => outcome(Err(refusal), arf::Reading::default()),
     };
     let [rows, tail_place, tail_length, comparisons] = reading_numbers(reading);
-    [
+    vec![
         number,
         place,
         received.used as u64,
@@ -239,20 +308,20 @@ fn receive(
 }
 
 fn run(case: &RunCase, text: &mut String) {
-    let mut table = arf::CallTable::fresh();
+    let mut calls = Line::fresh(&case.schema);
     for (side, data) in &case.frames {
-        let numbers = receive(&mut table, &case.schema, case.cells, (*side, data));
+        let mut numbers = receive(&mut calls, &case.schema, case.cells, (*side, data));
+        numbers.push(calls.tally_sum());
         line(text, &numbers);
     }
 }
 
 fn receive_one(case: &ReceiveCase, text: &mut String) {
-    let mut table = table_of(&case.table);
+    let mut calls = Line::of(&case.table, &case.tallies);
     let sent = (case.side, &case.data[..]);
-    let numbers = receive(&mut table, &case.schema, case.cells, sent);
-    let mut all = numbers.to_vec();
-    all.push(table_sum(&table));
-    line(text, &all);
+    let mut numbers = receive(&mut calls, &case.schema, case.cells, sent);
+    numbers.extend([table_sum(&calls.table), calls.tally_sum()]);
+    line(text, &numbers);
 }
 
 /// The library's table with the records of the reference's.
@@ -265,6 +334,8 @@ fn table_of(table: &reference::CallTable) -> arf::CallTable {
         input_closed: call.input_closed,
         output_closed: call.output_closed,
         cancelled: call.cancelled,
+        input_elements: call.input_elements,
+        output_elements: call.output_elements,
     }))
 }
 
@@ -277,36 +348,37 @@ fn table_sum(table: &arf::CallTable) -> u64 {
         input_closed: call.input_closed,
         output_closed: call.output_closed,
         cancelled: call.cancelled,
+        input_elements: call.input_elements,
+        output_elements: call.output_elements,
     });
     call_table_sum(&reference::CallTable { slots })
 }
 
 /// One release: number, place, calls open.
-fn release(table: &mut arf::CallTable, schema: &[u8], correlation: u64) -> [u64; 3] {
-    let released = table.release(schema, correlation);
+fn release(line: &mut Line, schema: &[u8], correlation: u64) -> Vec<u64> {
+    let released = line.with_tallies(|table, tallies| table.release(schema, correlation, tallies));
     let (number, place, ()) = outcome(released.outcome, ());
-    [number, place, released.open as u64]
+    vec![number, place, released.open as u64]
 }
 
 fn release_one(case: &ReleaseCase, text: &mut String) {
-    let mut table = table_of(&case.table);
-    let [number, place, open] = release(&mut table, &case.schema, case.correlation);
-    line(text, &[number, place, open, table_sum(&table)]);
+    let mut calls = Line::of(&case.table, &case.tallies);
+    let mut numbers = release(&mut calls, &case.schema, case.correlation);
+    numbers.extend([table_sum(&calls.table), calls.tally_sum()]);
+    line(text, &numbers);
 }
 
 fn history(case: &HistoryCase, text: &mut String) {
-    let mut table = arf::CallTable::fresh();
+    let mut calls = Line::fresh(&case.schema);
     for event in &case.events {
-        match event {
+        let mut numbers = match event {
             Event::Frame((side, data)) => {
-                let numbers = receive(&mut table, &case.schema, case.cells, (*side, data));
-                line(text, &numbers);
+                receive(&mut calls, &case.schema, case.cells, (*side, data))
             }
-            Event::Release(correlation) => {
-                let numbers = release(&mut table, &case.schema, *correlation);
-                line(text, &numbers);
-            }
-        }
+            Event::Release(correlation) => release(&mut calls, &case.schema, *correlation),
+        };
+        numbers.push(calls.tally_sum());
+        line(text, &numbers);
     }
 }
 

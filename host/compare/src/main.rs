@@ -6,7 +6,8 @@
 //! ```
 //!
 //! CODES is a list such as `1,2` and selects entries by their code in the case
-//! file; without it every entry that the library has comes up. At the first
+//! file; without it every entry that the library has comes up. Every
+//! other random case is large (see `reference::generate::large`). At the first
 //! difference the case is printed and written to a file, from which it can be
 //! run again, and the exit status is 1.
 
@@ -67,7 +68,7 @@ fn random(seed: &str, count: &str, codes: Vec<u8>) -> Result<String, String> {
     let bad = |what: &str| format!("{what} is no number\n{USAGE}");
     let first: u64 = seed.parse().map_err(|_| bad(seed))?;
     let count: usize = count.parse().map_err(|_| bad(count))?;
-    let mut generator = Generator::new(first, &codes);
+    let mut generator = Generator::compared(first, &codes);
     let mut tally = Tally::new(count);
     for _ in 0..count {
         let case = generator.case().ok_or("no case")?;

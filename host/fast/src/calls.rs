@@ -20,14 +20,37 @@ pub struct Call {
     pub input_closed: bool,
     pub output_closed: bool,
     pub cancelled: bool,
+    /// The stream elements accepted each way.
+    pub input_elements: u16,
+    pub output_elements: u16,
 }
 
-/// A record as two numbers: the correlation, and the method in the low half of
-/// the second with the marks above it.
+/// What became of the calls of one method: opened, completed, errored,
+/// cancelled, failed on payload.
+#[derive(Clone, Copy, Debug, Default, PartialEq, Eq)]
+pub struct Tally(pub [u32; 5]);
+
+const OPENED: usize = 0;
+const COMPLETED: usize = 1;
+const ERRORED: usize = 2;
+const ENDED_CANCELLED: usize = 3;
+const FAILED: usize = 4;
+
+impl Tally {
+    #[inline(always)]
+    fn is_full(&self, figure: usize) -> bool {
+        self.0[figure] == u32::MAX
+    }
+}
+
+/// A record as three numbers: the correlation; the method in the low half of
+/// the second with the marks above it; the input elements in the low half of
+/// the third, with the output elements above.
 #[derive(Clone, Copy, Debug, Default, PartialEq, Eq)]
 struct Slot {
     correlation: u64,
     state: u64,
+    elements: u32,
 }
 
 const OPEN: u64 = 1 << 32;
@@ -51,6 +74,12 @@ impl Slot {
     #[inline(always)]
     fn marks(self) -> u64 {
         self.state >> 33 & 7
+    }
+
+    /// Whether no element has come of a stream that the form lacks.
+    #[inline(always)]
+    fn has_streams(self, form: u64) -> bool {
+        (form & 2 != 0 || self.elements as u16 == 0) && (form & 1 != 0 || self.elements >> 16 == 0)
     }
 }
 
@@ -119,8 +148,15 @@ fn hash(correlation: u64) -> usize {
 }
 
 /// A frame that the order of calls allows: its slot, the record there once it
-/// is accepted, and the type of its payload.
-type Step = (usize, Slot, u32);
+/// is accepted, the type of its payload, its method, and the figure that
+/// rises where it is accepted.
+struct Step {
+    slot: usize,
+    next: Slot,
+    due: u32,
+    method: usize,
+    figure: Option<usize>,
+}
 
 /// No payload belongs here.
 const EMPTY: u32 = u32::MAX;
@@ -148,6 +184,7 @@ impl CallTable {
                     | mark(call.input_closed, INPUT_CLOSED)
                     | mark(call.output_closed, OUTPUT_CLOSED)
                     | mark(call.cancelled, CANCELLED),
+                elements: u32::from(call.input_elements) | u32::from(call.output_elements) << 16,
             }),
         }
     }
@@ -162,6 +199,8 @@ impl CallTable {
             input_closed: slot.state & INPUT_CLOSED != 0,
             output_closed: slot.state & OUTPUT_CLOSED != 0,
             cancelled: slot.state & CANCELLED != 0,
+            input_elements: slot.elements as u16,
+            output_elements: (slot.elements >> 16) as u16,
         })
     }
 
@@ -174,7 +213,7 @@ impl CallTable {
     fn look(&self, table: &Table, seen: &mut Seen) -> bool {
         for (i, &slot) in self.slots.iter().enumerate() {
             if !slot.is_open() {
-                if slot.correlation | slot.state != 0 {
+                if slot != Slot::default() {
                     return false;
                 }
                 if seen.free == SLOTS {
@@ -186,7 +225,7 @@ impl CallTable {
                 return false;
             };
             let form = u64::from(method[12]) & 3;
-            if GOOD >> (form << 3 | slot.marks()) & 1 == 0 {
+            if GOOD >> (form << 3 | slot.marks()) & 1 == 0 || !slot.has_streams(form) {
                 return false;
             }
             seen.open += 1;
@@ -222,12 +261,14 @@ impl CallTable {
         }
     }
 
-    /// The schema table and what the call table shows, where both are good.
+    /// The schema table and what the call table shows, where both are good and
+    /// there are as many tally rows as methods.
     #[inline(always)]
     fn check<'a>(
         &self,
         scratch: &mut Scratch,
         schema: &'a [u8],
+        rows: usize,
     ) -> Result<(Table<'a>, Seen), Refusal> {
         let table = check(schema, &mut scratch.info)?;
         let mut seen = Seen {
@@ -235,10 +276,13 @@ impl CallTable {
             free: SLOTS,
             index: [0; 512],
         };
-        match self.look(&table, &mut seen) {
-            true => Ok((table, seen)),
-            false => Err(Refusal::of(15)),
+        if !self.look(&table, &mut seen) {
+            return Err(Refusal::of(15));
         }
+        if rows != table.methods.len() {
+            return Err(Refusal::of(19));
+        }
+        Ok((table, seen))
     }
 
     /// Judges the first frame of some bytes from a side, C or S.
@@ -248,8 +292,9 @@ impl CallTable {
         side: u8,
         bytes: &[u8],
         sheet: &mut [u32],
+        tallies: &mut [Tally],
     ) -> Received {
-        with(|scratch| self.receive_in(scratch, schema, side, bytes, sheet))
+        with(|scratch| self.receive_in(scratch, schema, side, bytes, sheet, tallies))
     }
 
     #[inline(always)]
@@ -260,13 +305,14 @@ impl CallTable {
         side: u8,
         bytes: &[u8],
         sheet: &mut [u32],
+        tallies: &mut [Tally],
     ) -> Received {
         let refuse = |refusal, used, open| Received {
             outcome: Outcome::Refused(refusal),
             used,
             open,
         };
-        let (table, seen) = match self.check(scratch, schema) {
+        let (table, seen) = match self.check(scratch, schema, tallies.len()) {
             Ok(good) => good,
             Err(refusal) => return refuse(refusal, 0, self.open_count()),
         };
@@ -294,30 +340,46 @@ impl CallTable {
             1 => self.invoke(&table, &seen, &frame),
             _ => self.follow(&table, &seen, &frame),
         };
-        let (slot, next, due) = match step {
+        let step = match step {
             Ok(step) => step,
+            Err(17) => return refuse(Refusal::of(17), 0, open),
             Err(number) => return refuse(Refusal::of(number), size, open),
         };
+        let row = &mut tallies[step.method];
+        let full = step.figure.is_some_and(|figure| row.is_full(figure));
         let payload = &bytes[frame.place..size];
-        let judged = match due {
+        let judged = match step.due {
             UNREAD => Ok(Reading::default()),
             EMPTY if payload.is_empty() => Ok(Reading::default()),
             EMPTY => Err(Refusal::of(29)),
+            // A full tally leaves the sheet as it was.
+            ty if full => read_checked(scratch, &table, ty, payload, &mut sheet.to_vec()),
             ty => read_checked(scratch, &table, ty, payload, sheet),
         };
-        let others = open - usize::from(self.slots[slot].is_open());
+        let was_open = self.slots[step.slot].is_open();
+        let others = open - usize::from(was_open);
         match judged {
+            Ok(_) if full => refuse(Refusal::of(18), 0, open),
             Ok(reading) => {
-                self.slots[slot] = next;
+                self.slots[step.slot] = step.next;
+                if let Some(figure) = step.figure {
+                    row.0[figure] += 1;
+                }
                 Received {
                     outcome: Outcome::Accepted(reading),
                     used: size,
-                    open: others + usize::from(next.is_open()),
+                    open: others + usize::from(step.next.is_open()),
                 }
             }
             Err(refusal) if refusal.number == 30 => refuse(refusal, 0, open),
             Err(refusal) => {
-                self.slots[slot] = Slot::default();
+                if was_open {
+                    if row.is_full(FAILED) {
+                        return refuse(Refusal::of(18), 0, open);
+                    }
+                    row.0[FAILED] += 1;
+                }
+                self.slots[step.slot] = Slot::default();
                 refuse(refusal, size, others)
             }
         }
@@ -337,11 +399,17 @@ impl CallTable {
         if seen.free == SLOTS {
             return Err(13);
         }
-        let next = Slot {
-            correlation: frame.correlation,
-            state: OPEN | method as u64,
-        };
-        Ok((seen.free, next, u32_at(&table.methods[method], 16)))
+        Ok(Step {
+            slot: seen.free,
+            next: Slot {
+                correlation: frame.correlation,
+                state: OPEN | method as u64,
+                elements: 0,
+            },
+            due: u32_at(&table.methods[method], 16),
+            method,
+            figure: Some(OPENED),
+        })
     }
 
     /// Any other frame needs its call open and the order of frames kept.
@@ -353,9 +421,16 @@ impl CallTable {
         if [u32_at(row, 0), u32_at(row, 4), u32_at(row, 8)] != frame.identifiers {
             return Err(12);
         }
+        let step = |next, due, figure| Step {
+            slot: at,
+            next,
+            due,
+            method: slot.method(),
+            figure,
+        };
         if slot.state & CANCELLED != 0 {
             return match frame.kind {
-                7 => Ok((at, Slot::default(), UNREAD)),
+                7 => Ok(step(Slot::default(), UNREAD, Some(ENDED_CANCELLED))),
                 4..=6 => Err(16),
                 _ => Err(14),
             };
@@ -375,26 +450,39 @@ impl CallTable {
         if !allowed {
             return Err(14);
         }
+        let elements = match frame.kind {
+            2 if slot.elements as u16 == u16::MAX => return Err(17),
+            2 => slot.elements + 1,
+            4 => slot.elements.checked_add(1 << 16).ok_or(17u32)?,
+            _ => slot.elements,
+        };
         let next = Slot {
             correlation: slot.correlation,
             state: slot.state | mark,
+            elements,
         };
-        let next = match frame.kind == 7 || complete(form, next.marks()) {
-            true => Slot::default(),
-            false => next,
-        };
-        Ok((at, next, due))
+        Ok(match frame.kind {
+            7 => step(Slot::default(), due, Some(ERRORED)),
+            _ if complete(form, next.marks()) => step(Slot::default(), due, Some(COMPLETED)),
+            _ => step(next, due, None),
+        })
     }
 
     /// Ends a cancelled call without waiting for its ERROR.
-    pub fn release(&mut self, schema: &[u8], correlation: u64) -> Released {
+    pub fn release(&mut self, schema: &[u8], correlation: u64, tallies: &mut [Tally]) -> Released {
         let outcome = with(|scratch| {
-            let (_, seen) = self.check(scratch, schema)?;
-            let slot = self.find(&seen, correlation).ok_or(Refusal::of(11))?;
-            if self.slots[slot].state & CANCELLED == 0 {
+            let (_, seen) = self.check(scratch, schema, tallies.len())?;
+            let at = self.find(&seen, correlation).ok_or(Refusal::of(11))?;
+            let slot = self.slots[at];
+            if slot.state & CANCELLED == 0 {
                 return Err(Refusal::of(14));
             }
-            self.slots[slot] = Slot::default();
+            let row = &mut tallies[slot.method()];
+            if row.is_full(ENDED_CANCELLED) {
+                return Err(Refusal::of(18));
+            }
+            row.0[ENDED_CANCELLED] += 1;
+            self.slots[at] = Slot::default();
             Ok(())
         });
         Released {

@@ -18,7 +18,7 @@ mod table;
 mod utf8;
 mod writer;
 
-pub use calls::{Call, CallTable, Outcome, Received, Released, SLOTS};
+pub use calls::{Call, CallTable, Outcome, Received, Released, Tally, SLOTS};
 pub use frame::{read_frame, write_frame, Frame, FrameAnswer, Header};
 pub use reader::{read, Reading};
 pub use table::check_table;

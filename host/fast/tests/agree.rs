@@ -3,7 +3,9 @@
 //! `AGREE_CASES` in the environment is the number of cases, and `AGREE_SEED`
 //! the first of the numbers they are drawn from.
 
-use reference::cases::{call_table_sum, line, sheet_sum, sum, Case, Event, BYTE_FILL, CELL_FILL};
+use reference::cases::{
+    call_table_sum, line, sheet_sum, sum, tally_sum, Case, Event, BYTE_FILL, CELL_FILL,
+};
 use reference::generate::Generator;
 
 /// The codes of the entries that this crate has, in the words of the case file.
@@ -109,36 +111,46 @@ fn answers(case: &Case) -> String {
             );
         }
         Case::Run(case) => {
-            let mut table = fast::CallTable::fresh();
+            let mut line_state = Line::fresh(&case.schema, case.cells);
             for (side, data) in &case.frames {
-                let numbers = receive(&mut table, &case.schema, case.cells, *side, data);
+                let mut numbers = line_state.receive(*side, data);
+                numbers.push(line_state.tally_sum());
                 line(&mut text, &numbers);
             }
         }
         Case::Receive(case) => {
-            let mut table = table_of(&case.table);
-            let numbers = receive(&mut table, &case.schema, case.cells, case.side, &case.data);
-            let mut numbers = numbers.to_vec();
-            numbers.push(table_sum(&table));
+            let (table, tallies) = (table_of(&case.table), tallies_of(&case.tallies));
+            let mut line_state = Line {
+                schema: &case.schema,
+                cells: case.cells,
+                table,
+                tallies,
+            };
+            let mut numbers = line_state.receive(case.side, &case.data);
+            numbers.extend([table_sum(&line_state.table), line_state.tally_sum()]);
             line(&mut text, &numbers);
         }
         Case::Release(case) => {
-            let mut table = table_of(&case.table);
-            let [number, place, open] = release(&mut table, &case.schema, case.correlation);
-            line(&mut text, &[number, place, open, table_sum(&table)]);
+            let (table, tallies) = (table_of(&case.table), tallies_of(&case.tallies));
+            let mut line_state = Line {
+                schema: &case.schema,
+                cells: 0,
+                table,
+                tallies,
+            };
+            let mut numbers = line_state.release(case.correlation);
+            numbers.extend([table_sum(&line_state.table), line_state.tally_sum()]);
+            line(&mut text, &numbers);
         }
         Case::History(case) => {
-            let mut table = fast::CallTable::fresh();
+            let mut line_state = Line::fresh(&case.schema, case.cells);
             for event in &case.events {
-                match event {
-                    Event::Frame((side, data)) => {
-                        let numbers = receive(&mut table, &case.schema, case.cells, *side, data);
-                        line(&mut text, &numbers);
-                    }
-                    Event::Release(correlation) => {
-                        line(&mut text, &release(&mut table, &case.schema, *correlation));
-                    }
-                }
+                let mut numbers = match event {
+                    Event::Frame((side, data)) => line_state.receive(*side, data),
+                    Event::Release(correlation) => line_state.release(*correlation),
+                };
+                numbers.push(line_state.tally_sum());
+                line(&mut text, &numbers);
             }
         }
         _ => panic!("no entry has this code"),
@@ -158,44 +170,74 @@ fn reading(reading: fast::Reading) -> [u64; 4] {
     [reading.rows, tail.0, tail.1, reading.comparisons].map(|number| number as u64)
 }
 
-/// One frame against a call table, with a newly filled sheet.
-fn receive(
-    table: &mut fast::CallTable,
-    schema: &[u8],
+/// What the frames and releases of a case go through.
+struct Line<'a> {
+    schema: &'a [u8],
     cells: usize,
-    side: u8,
-    data: &[u8],
-) -> [u64; 9] {
-    let mut sheet = vec![CELL_FILL; cells];
-    let received = table.receive(schema, side, data, &mut sheet);
-    let (number, place, shown) = match received.outcome {
-        fast::Outcome::Accepted(shown) => (0, 0, shown),
-        fast::Outcome::More => (1, 0, fast::Reading::default()),
-        fast::Outcome::Refused(refusal) => {
-            let (number, place) = refused(Some(refusal));
-            (number, place, fast::Reading::default())
-        }
-    };
-    let [rows, tail_place, tail_length, due] = reading(shown);
-    let (used, open) = (received.used as u64, received.open as u64);
-    let sum = sheet_sum(&sheet);
-    [
-        number,
-        place,
-        used,
-        rows,
-        tail_place,
-        tail_length,
-        open,
-        due,
-        sum,
-    ]
+    table: fast::CallTable,
+    tallies: Vec<fast::Tally>,
 }
 
-fn release(table: &mut fast::CallTable, schema: &[u8], correlation: u64) -> [u64; 3] {
-    let released = table.release(schema, correlation);
-    let (number, place) = refused(released.outcome.err());
-    [number, place, released.open as u64]
+impl<'a> Line<'a> {
+    fn fresh(schema: &'a [u8], cells: usize) -> Self {
+        Line {
+            schema,
+            cells,
+            table: fast::CallTable::fresh(),
+            tallies: tallies_of(&reference::tallies::fresh(schema)),
+        }
+    }
+
+    /// One frame, with a newly filled sheet.
+    fn receive(&mut self, side: u8, data: &[u8]) -> Vec<u64> {
+        let mut sheet = vec![CELL_FILL; self.cells];
+        let tallies = &mut self.tallies;
+        let received = self
+            .table
+            .receive(self.schema, side, data, &mut sheet, tallies);
+        let (number, place, shown) = match received.outcome {
+            fast::Outcome::Accepted(shown) => (0, 0, shown),
+            fast::Outcome::More => (1, 0, fast::Reading::default()),
+            fast::Outcome::Refused(refusal) => {
+                let (number, place) = refused(Some(refusal));
+                (number, place, fast::Reading::default())
+            }
+        };
+        let [rows, tail_place, tail_length, due] = reading(shown);
+        let (used, open) = (received.used as u64, received.open as u64);
+        vec![
+            number,
+            place,
+            used,
+            rows,
+            tail_place,
+            tail_length,
+            open,
+            due,
+            sheet_sum(&sheet),
+        ]
+    }
+
+    fn release(&mut self, correlation: u64) -> Vec<u64> {
+        let released = self
+            .table
+            .release(self.schema, correlation, &mut self.tallies);
+        let (number, place) = refused(released.outcome.err());
+        vec![number, place, released.open as u64]
+    }
+
+    fn tally_sum(&self) -> u64 {
+        let rows = self.tallies.iter();
+        let rows: Vec<_> = rows
+            .map(|row| reference::tallies::Tally::from_figures(row.0))
+            .collect();
+        tally_sum(&rows)
+    }
+}
+
+fn tallies_of(rows: &[reference::tallies::Tally]) -> Vec<fast::Tally> {
+    let rows = rows.iter();
+    rows.map(|row| fast::Tally(row.figures())).collect()
 }
 
 fn table_of(table: &reference::CallTable) -> fast::CallTable {
@@ -207,6 +249,8 @@ fn table_of(table: &reference::CallTable) -> fast::CallTable {
         input_closed: call.input_closed,
         output_closed: call.output_closed,
         cancelled: call.cancelled,
+        input_elements: call.input_elements,
+        output_elements: call.output_elements,
     }))
 }
 
@@ -219,6 +263,8 @@ fn table_sum(table: &fast::CallTable) -> u64 {
         input_closed: call.input_closed,
         output_closed: call.output_closed,
         cancelled: call.cancelled,
+        input_elements: call.input_elements,
+        output_elements: call.output_elements,
     });
     call_table_sum(&reference::CallTable { slots })
 }

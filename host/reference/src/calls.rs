@@ -2,6 +2,7 @@
 
 use crate::refusal::{Reason, Refusal};
 use crate::schema::{Method, Schema};
+use crate::tallies::Tally;
 
 /// The number of slots.
 pub const SLOTS: usize = 128;
@@ -59,6 +60,10 @@ pub struct Call {
     pub output_closed: bool,
     /// Whether the client has cancelled the call, which stays open.
     pub cancelled: bool,
+    /// How many elements of the input stream were accepted.
+    pub input_elements: u16,
+    /// How many elements of the output stream were accepted.
+    pub output_elements: u16,
 }
 
 impl Call {
@@ -81,6 +86,8 @@ impl Call {
         (form.in_close || !self.input_closed)
             && (form.out_close || !self.output_closed)
             && (self.response || !self.output_closed)
+            && (form.in_stream || self.input_elements == 0)
+            && (form.out_stream || self.output_elements == 0)
             && !self.is_complete(form)
     }
 }
@@ -126,13 +133,21 @@ impl CallTable {
         self.slots.iter().all(|call| call.is_good(schema)) && self.identifiers_differ()
     }
 
-    /// The schema table, where it and this call table are good under it.
-    pub(crate) fn check<'a>(&self, schema: &'a [u8]) -> Result<Schema<'a>, Refusal> {
+    /// The schema table, where it is good, this call table is good under it, and
+    /// there is a tally row for each of its methods.
+    pub(crate) fn check<'a>(
+        &self,
+        schema: &'a [u8],
+        tallies: &[Tally],
+    ) -> Result<Schema<'a>, Refusal> {
         let schema = Schema::check(schema)?;
-        match self.is_good(&schema) {
-            true => Ok(schema),
-            false => Err(Reason::CallTableNotGood.at(0)),
+        if !self.is_good(&schema) {
+            return Err(Reason::CallTableNotGood.at(0));
         }
+        if tallies.len() != schema.methods().len() {
+            return Err(Reason::TallyRows.at(0));
+        }
+        Ok(schema)
     }
 
     fn identifiers_differ(&self) -> bool {

@@ -1,6 +1,6 @@
 //! A plain implementation of the arf rules: the schema table, the reader and
-//! writer of values, frames, the call table, the listing, and the salvage of
-//! records with holes.
+//! writer of values, frames, the call table, the listing and the index of a
+//! record, and the salvage of records with holes.
 //!
 //! Every entry answers with a value or a [`Refusal`]: a numbered reason and a
 //! place. A refusal leaves the lent sheet and the lent output untouched.
@@ -18,6 +18,7 @@ pub mod extension;
 pub mod forward;
 pub mod frame;
 pub mod generate;
+pub mod index;
 pub mod keys;
 pub mod listing;
 pub mod reader;
@@ -27,6 +28,7 @@ pub mod release;
 pub mod salvage;
 pub mod scalar;
 pub mod schema;
+pub mod tallies;
 pub mod utf8;
 pub mod value_frame;
 pub mod varuint;
@@ -37,6 +39,7 @@ pub use calls::{Call, CallTable};
 pub use extension::extends;
 pub use forward::{forward, Tail};
 pub use frame::{read_frame, write_frame, Frame, FrameAnswer, Header};
+pub use index::{look_up, make_index};
 pub use listing::list;
 pub use reader::{read, Reading};
 pub use receive::{Outcome, Received};
@@ -45,8 +48,12 @@ pub use release::Released;
 pub use salvage::{salvage, Salvaged};
 pub use scalar::{scalar, Scalar};
 pub use schema::{check_table, Schema};
+pub use tallies::Tally;
 pub use value_frame::write_value_frame;
 pub use writer::write;
+
+/// The most stream elements that a call counts each way.
+pub const MAX_ELEMENTS: u16 = 65_535;
 
 /// The most bytes a payload may have.
 pub const MAX_PAYLOAD: usize = 16_384;

@@ -3,10 +3,11 @@
 use std::fmt::Write;
 
 use crate::calls::CallTable;
-use crate::frame::{read_frame, FrameAnswer};
+use crate::frame::{read_frame, FrameAnswer, Header};
 use crate::receive::Received;
 use crate::refusal::Reason;
 use crate::schema::check_table;
+use crate::tallies;
 
 /// The most bytes a record or a schema file may have here.
 pub const MAX_FILE: usize = 65_536;
@@ -24,45 +25,61 @@ pub fn list(schema: &[u8], record: &[u8]) -> String {
     } else if let Err(refusal) = check_table(schema) {
         (refusal.number(), record.len())
     } else {
-        entries(schema, record, &mut text)
+        let mut number = 0u32;
+        run(schema, record, |entry| {
+            number += 1;
+            line(&mut text, number, entry);
+        })
     };
     add(&mut text, format_args!("stopped {number} left {left}\n"));
     text
 }
 
-/// Lists entries until one stops the listing; gives the answer that stopped it
-/// and the bytes left from that entry on.
-fn entries(schema: &[u8], record: &[u8], text: &mut String) -> (u32, usize) {
+/// An entry that has a line: its place in the record, and what it is.
+pub(crate) struct Entry {
+    pub(crate) place: usize,
+    pub(crate) side: u8,
+    pub(crate) header: Header,
+    pub(crate) received: Received,
+}
+
+/// Runs a record from an empty call table until an entry stops it, and hands on
+/// each entry that has a line. Gives the answer that stopped the run and the
+/// bytes left from that entry on.
+pub(crate) fn run(schema: &[u8], record: &[u8], mut each: impl FnMut(&Entry)) -> (u32, usize) {
     let mut table = CallTable::fresh();
+    let mut tallies = tallies::fresh(schema);
     let mut sheet = vec![0; SHEET_CELLS];
     let mut rest = record;
-    let mut entry = 1u32;
     while let [side, bytes @ ..] = rest {
-        let received = table.receive(schema, *side, bytes, &mut sheet);
-        let known_side = matches!(side, b'C' | b'S');
-        if received.used == 0 || !known_side {
+        let received = table.receive(schema, &mut tallies, *side, bytes, &mut sheet);
+        let FrameAnswer::Whole(frame) = read_frame(bytes) else {
+            return (received.number(), rest.len());
+        };
+        if received.used == 0 || !matches!(side, b'C' | b'S') {
             return (received.number(), rest.len());
         }
-        line(text, entry, *side, bytes, &received);
+        each(&Entry {
+            place: record.len() - rest.len(),
+            side: *side,
+            header: frame.header,
+            received,
+        });
         rest = &bytes[received.used..];
-        entry += 1;
     }
     (0, 0)
 }
 
-/// The line of one entry, whose frame is whole.
-fn line(text: &mut String, entry: u32, side: u8, bytes: &[u8], received: &Received) {
-    let FrameAnswer::Whole(frame) = read_frame(bytes) else {
-        return;
-    };
-    let header = frame.header;
+/// The line of one entry.
+fn line(text: &mut String, number: u32, entry: &Entry) {
+    let received = &entry.received;
     add(
         text,
         format_args!(
-            "{entry} {} {} {} {} {} {} {}\n",
-            char::from(side),
-            header.kind,
-            header.correlation,
+            "{number} {} {} {} {} {} {} {}\n",
+            char::from(entry.side),
+            entry.header.kind,
+            entry.header.correlation,
             received.number(),
             received.place(),
             received.reading().rows,

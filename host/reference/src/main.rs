@@ -2,6 +2,8 @@
 //!
 //! ```text
 //! reference list SCHEMA RECORD        print the listing of a record
+//! reference index SCHEMA RECORD       write the index of a record
+//! reference look-up INDEX RECORD CALL print the entries of one call
 //! reference listings SEED N           write a file of listing cases, N of them random
 //! reference list-all                  print the listing of each case from standard input
 //! reference examples FOLDER           write the files of the folder examples/
@@ -10,10 +12,11 @@
 //! reference count SEED N [CODES]      count the answers to those cases
 //! ```
 //!
-//! SCHEMA and RECORD are files. CODES is a list such as `1,2` and selects the
-//! entries the cases are about; without it all come up. The word `across`
-//! in its place asks for payloads of one table that are read by another, where
-//! one of the two extends the other. The same SEED, N and CODES always give the
+//! SCHEMA, RECORD and INDEX are files. CALL is a correlation. CODES is a list
+//! such as `1,2` and selects the entries the cases are about; without it all
+//! come up. The word `across` in its place asks for payloads of one table that
+//! are read by another, where one of the two extends the other, and the word
+//! `large` for large cases of all entries in turn. The same SEED, N and CODES always give the
 //! same case file. `count` prints a line for each entry and answer: the code,
 //! the answer's number, and how often it is given. A listing case is a schema
 //! file and a record, each as a length of four bytes and its bytes.
@@ -31,6 +34,8 @@ use reference::generate::listings::cases as listing_cases;
 use reference::generate::{codes as all_codes, Generator};
 
 const USAGE: &str = "usage: reference list SCHEMA RECORD
+       reference index SCHEMA RECORD
+       reference look-up INDEX RECORD CALL
        reference listings SEED N
        reference list-all
        reference examples FOLDER
@@ -60,6 +65,12 @@ fn run(arguments: &[&str]) -> Result<Vec<u8>, String> {
             let (schema, record) = (read_file(schema)?, read_file(record)?);
             Ok(reference::list(&schema, &record).into_bytes())
         }
+        ["index", schema, record] => index(&read_file(schema)?, &read_file(record)?),
+        ["look-up", index, record, call] => {
+            let (index, record) = (read_file(index)?, read_file(record)?);
+            let call = call.parse().map_err(|_| format!("bad call {call}"))?;
+            Ok(reference::look_up(&index, &record, call).1.into_bytes())
+        }
         ["answers"] => Ok(answer_file(&standard_input()?).into_bytes()),
         ["listings", seed, number] => listings(seed, number),
         ["list-all"] => Ok(list_file(&standard_input()?).into_bytes()),
@@ -83,6 +94,15 @@ fn standard_input() -> Result<Vec<u8>, String> {
     Ok(input)
 }
 
+/// The index of a record, which has a row for at most one in 27 bytes.
+fn index(schema: &[u8], record: &[u8]) -> Result<Vec<u8>, String> {
+    let mut out = vec![0; record.len() + 16];
+    let made = reference::make_index(schema, record, &mut out);
+    let refused = |refusal: reference::Refusal| format!("refused {}", refusal.number());
+    out.truncate(made.map_err(refused)?);
+    Ok(out)
+}
+
 /// A file of listing cases.
 fn listings(seed: &str, number: &str) -> Result<Vec<u8>, String> {
     let seed = seed.parse().map_err(|_| format!("bad seed {seed}"))?;
@@ -104,8 +124,10 @@ fn examples(folder: &str) -> Result<Vec<u8>, String> {
 fn generator(seed: &str, number: &str, codes: &str) -> Result<(Generator, usize), String> {
     let seed = seed.parse().map_err(|_| format!("bad seed {seed}"))?;
     let number = number.parse().map_err(|_| format!("bad number {number}"))?;
-    if codes == "across" {
-        return Ok((Generator::across(seed), number));
+    match codes {
+        "across" => return Ok((Generator::across(seed), number)),
+        "large" => return Ok((Generator::large(seed, &[]), number)),
+        _ => {}
     }
     let all = all_codes();
     let known = |code: &str| code.parse().ok().filter(|code| all.contains(code));

@@ -6,6 +6,8 @@ use crate::frame::{read_frame, Frame, FrameAnswer, Kind};
 use crate::reader::{read_checked, Reading};
 use crate::refusal::{Reason, Refusal};
 use crate::schema::{Method, Schema, NO_TYPE};
+use crate::tallies::{Figure, Tally};
+use crate::MAX_ELEMENTS;
 
 /// What became of a frame.
 #[derive(Clone, Copy, Debug, PartialEq, Eq)]
@@ -61,25 +63,34 @@ enum Expected {
     Anything,
 }
 
-/// A frame that the order of calls allows: the slot it concerns, the record
-/// there once it is accepted, and the payload it must have.
+/// A frame that the order of calls allows.
 struct Step {
+    /// The slot that it concerns, and the method of the call there.
     slot: usize,
+    method: u32,
+    /// The record there once it is accepted.
     next: Call,
+    /// The payload it must have.
     payload: Expected,
+    /// The tally that rises where it is accepted, and where its payload is
+    /// refused and so ends the call.
+    accepted: Option<Figure>,
+    refused: Option<Figure>,
 }
 
 impl CallTable {
     /// Judges the first frame of `bytes` from `side`, the byte C or S. The
-    /// table changes only by what the frame does to its own call.
+    /// table changes only by what the frame does to its own call, the tallies
+    /// only by one figure of that call's method.
     pub fn receive(
         &mut self,
         schema: &[u8],
+        tallies: &mut [Tally],
         side: u8,
         bytes: &[u8],
         sheet: &mut [u32],
     ) -> Received {
-        let (outcome, used) = match self.judge(schema, side, bytes, sheet) {
+        let (outcome, used) = match self.judge(schema, tallies, side, bytes, sheet) {
             Ok(answer) => answer,
             Err(refusal) => (Outcome::Refused(refusal), 0),
         };
@@ -94,18 +105,19 @@ impl CallTable {
     fn judge(
         &mut self,
         schema: &[u8],
+        tallies: &mut [Tally],
         side: u8,
         bytes: &[u8],
         sheet: &mut [u32],
     ) -> Result<(Outcome, usize), Refusal> {
-        let schema = self.check(schema)?;
+        let schema = self.check(schema, tallies)?;
         let frame = match read_frame(bytes) {
             FrameAnswer::Whole(frame) => frame,
             FrameAnswer::MoreNeeded => return Ok((Outcome::MoreNeeded, 0)),
             FrameAnswer::Refused(reason) => return Err(reason.at(0)),
         };
         let payload = &bytes[frame.payload_place..frame.length()];
-        let outcome = match self.advance(&schema, side, &frame, payload, sheet) {
+        let outcome = match self.advance(&schema, tallies, side, &frame, payload, sheet) {
             Ok(reading) => Outcome::Accepted(reading),
             Err(refusal) if refusal.reason.uses_frame() => Outcome::Refused(refusal),
             Err(refusal) => return Err(refusal),
@@ -113,10 +125,12 @@ impl CallTable {
         Ok((outcome, frame.length()))
     }
 
-    /// Judges a whole frame and brings the table to its next state.
+    /// Judges a whole frame and brings the table and the tally of its method to
+    /// their next state.
     fn advance(
         &mut self,
         schema: &Schema,
+        tallies: &mut [Tally],
         side: u8,
         frame: &Frame,
         payload: &[u8],
@@ -130,12 +144,25 @@ impl CallTable {
             _ => self.follow(schema, frame),
         };
         let step = step.map_err(|reason| reason.at(0))?;
-        let judged = judge_payload(schema, &step.payload, payload, sheet);
-        match judged {
-            Ok(_) => self.slots[step.slot] = step.next,
-            Err(refusal) if refusal.reason.ends_call() => self.slots[step.slot] = Call::default(),
-            Err(_) => {}
+        let tally = &mut tallies[step.method as usize];
+        let full = |figure| tally.is_full(figure);
+        let judged = match step.accepted.is_some_and(full) {
+            // It will not be accepted, so the sheet stays as it is.
+            true => judge_payload(schema, &step.payload, payload, &mut sheet.to_vec()),
+            false => judge_payload(schema, &step.payload, payload, sheet),
+        };
+        let (next, figure) = match judged {
+            Ok(_) => (step.next, step.accepted),
+            Err(refusal) if refusal.reason.ends_call() => (Call::default(), step.refused),
+            Err(_) => return judged,
+        };
+        if let Some(figure) = figure {
+            if tally.is_full(figure) {
+                return Err(Reason::TallyFull.at(0));
+            }
+            tally.raise(figure);
         }
+        self.slots[step.slot] = next;
         judged
     }
 
@@ -157,11 +184,13 @@ impl CallTable {
             method: number as u32,
             ..Call::default()
         };
-        let payload = value_or_empty(method.types[0]);
         Ok(Step {
             slot,
+            method: next.method,
             next,
-            payload,
+            payload: value_or_empty(method.types[0]),
+            accepted: Some(Figure::Opened),
+            refused: None,
         })
     }
 
@@ -177,12 +206,21 @@ impl CallTable {
         }
         let (next, payload) = match call.cancelled {
             true => order_cancelled(frame.kind)?,
-            false => order(call, &method, frame.kind).ok_or(Reason::NotAllowedNow)?,
+            false => order(call, &method, frame.kind)?,
+        };
+        let accepted = match frame.kind {
+            Kind::Error if call.cancelled => Some(Figure::Cancelled),
+            Kind::Error => Some(Figure::Errored),
+            _ if !next.open => Some(Figure::Completed),
+            _ => None,
         };
         Ok(Step {
             slot,
+            method: call.method,
             next,
             payload,
+            accepted,
+            refused: Some(Figure::Failed),
         })
     }
 }
@@ -198,9 +236,8 @@ fn order_cancelled(kind: Kind) -> Result<(Call, Expected), Reason> {
 }
 
 /// The order of frames within an open call that is not cancelled: the record
-/// after the frame and the payload it must have, or none where the frame is not
-/// allowed now.
-fn order(call: Call, method: &Method, kind: Kind) -> Option<(Call, Expected)> {
+/// after the frame and the payload it must have.
+fn order(call: Call, method: &Method, kind: Kind) -> Result<(Call, Expected), Reason> {
     let form = FORMS[method.form];
     let [_, output, input_stream, output_stream] = method.types;
     let output_open = call.response && !call.output_closed;
@@ -220,18 +257,32 @@ fn order(call: Call, method: &Method, kind: Kind) -> Option<(Call, Expected)> {
         Kind::Error => (true, Expected::Anything),
         Kind::Cancel => (true, Expected::Empty),
     };
+    if !allowed {
+        return Err(Reason::NotAllowedNow);
+    }
     let next = Call {
         response: call.response || kind == Kind::Response,
         input_closed: call.input_closed || kind == Kind::InClose,
         output_closed: call.output_closed || kind == Kind::OutClose,
         cancelled: kind == Kind::Cancel,
+        input_elements: count(call.input_elements, kind == Kind::InStream)?,
+        output_elements: count(call.output_elements, kind == Kind::OutStream)?,
         ..call
     };
     let next = match kind == Kind::Error || next.is_complete(form) {
         true => Call::default(),
         false => next,
     };
-    allowed.then_some((next, payload))
+    Ok((next, payload))
+}
+
+/// The elements of a stream once another has come, or none.
+fn count(elements: u16, another: bool) -> Result<u16, Reason> {
+    match another {
+        true if elements == MAX_ELEMENTS => Err(Reason::ElementLimit),
+        true => Ok(elements + 1),
+        false => Ok(elements),
+    }
 }
 
 /// A side of a method expects a value where its form has a Y.

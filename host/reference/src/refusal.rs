@@ -34,6 +34,12 @@ pub enum Reason {
     CallTableNotGood = 15,
     /// A frame of the server for a cancelled call is dropped, its payload unread.
     Dropped = 16,
+    /// A stream of the call has had as many elements as are counted.
+    ElementLimit = 17,
+    /// A tally that would rise is at its limit.
+    TallyFull = 18,
+    /// There is not one tally row for each method.
+    TallyRows = 19,
     /// An item, count or tail exceeds the bytes that remain.
     ExceedsRemaining = 20,
     /// A VarUInt has a tenth byte above 1, or two or more bytes and the last 0.
@@ -82,6 +88,10 @@ pub enum Reason {
     OutputTooSmall = 52,
     /// The list of the spans left out is too small.
     ListTooSmall = 53,
+    /// The index has a wrong shape, or its rows do not rise.
+    IndexShape = 65,
+    /// The index is of a record of another length.
+    OtherRecord = 66,
 }
 
 impl Reason {

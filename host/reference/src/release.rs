@@ -2,6 +2,7 @@
 
 use crate::calls::{Call, CallTable};
 use crate::refusal::{Reason, Refusal};
+use crate::tallies::{Figure, Tally};
 
 /// The answer to a release.
 #[derive(Clone, Copy, Debug, PartialEq, Eq)]
@@ -25,20 +26,31 @@ impl Released {
 
 impl CallTable {
     /// Ends a cancelled call without waiting for its ERROR.
-    pub fn release(&mut self, schema: &[u8], correlation: u64) -> Released {
-        let result = self.end_cancelled(schema, correlation);
+    pub fn release(&mut self, schema: &[u8], tallies: &mut [Tally], correlation: u64) -> Released {
+        let result = self.end_cancelled(schema, tallies, correlation);
         Released {
             result,
             open: self.open_count(),
         }
     }
 
-    fn end_cancelled(&mut self, schema: &[u8], correlation: u64) -> Result<(), Refusal> {
-        self.check(schema)?;
+    fn end_cancelled(
+        &mut self,
+        schema: &[u8],
+        tallies: &mut [Tally],
+        correlation: u64,
+    ) -> Result<(), Refusal> {
+        self.check(schema, tallies)?;
         let slot = self.find(correlation).ok_or(Reason::CallNotOpen.at(0))?;
-        if !self.slots[slot].cancelled {
+        let call = self.slots[slot];
+        if !call.cancelled {
             return Err(Reason::NotAllowedNow.at(0));
         }
+        let tally = &mut tallies[call.method as usize];
+        if tally.is_full(Figure::Cancelled) {
+            return Err(Reason::TallyFull.at(0));
+        }
+        tally.raise(Figure::Cancelled);
         self.slots[slot] = Call::default();
         Ok(())
     }

@@ -6,7 +6,9 @@ use common::{table_t, CELL, NO_TYPE};
 use reference::calls::{Form, FORMS};
 use reference::frame::Kind;
 use reference::generate::table::Table;
-use reference::{write_frame, Call, CallTable, Header, Outcome, Reading, Reason, Received};
+use reference::{
+    tallies, write_frame, Call, CallTable, Header, Outcome, Reading, Reason, Received,
+};
 use Reason::*;
 
 /// A table with a method 0, 0, form for each of the sixteen forms. Types 2 and
@@ -63,7 +65,9 @@ impl Line {
     fn send(&mut self, side: u8, bytes: &[u8], cells: usize) -> Received {
         let before = self.table;
         let mut sheet = vec![CELL; cells];
-        let received = self.table.receive(&self.schema, side, bytes, &mut sheet);
+        let mut tallies = tallies::fresh(&self.schema);
+        let (schema, tallies) = (&self.schema, &mut tallies[..]);
+        let received = self.table.receive(schema, tallies, side, bytes, &mut sheet);
         let rows = received.reading().rows;
         assert!(sheet[4 * rows..].iter().all(|&cell| cell == CELL));
         assert_eq!(received.open, self.table.open_count());
@@ -459,6 +463,12 @@ fn call_tables_that_are_not_good() {
         output_closed,
         ..call
     };
+    let elements = |method, input_elements, output_elements| Call {
+        method,
+        input_elements,
+        output_elements,
+        ..call
+    };
     let judge = |slots: &[(usize, Call)]| {
         let mut line = Line::new();
         for &(slot, call) in slots {
@@ -475,6 +485,10 @@ fn call_tables_that_are_not_good() {
         marks(2, true, false, false),
         marks(1, true, false, false),
         marks(15, false, false, false),
+        // Elements of the output before RESPONSE are no fault of a record.
+        elements(1, 0, 65_535),
+        elements(2, 65_535, 0),
+        elements(3, 1, 1),
     ];
     let cancelled = |call: Call| Call {
         cancelled: true,
@@ -506,6 +520,19 @@ fn call_tables_that_are_not_good() {
             cancelled: true,
             ..free
         },
+        Call {
+            input_elements: 1,
+            ..free
+        },
+        Call {
+            output_elements: 1,
+            ..free
+        },
+        elements(0, 1, 0),
+        elements(0, 0, 1),
+        elements(1, 1, 0),
+        elements(2, 0, 1),
+        elements(2, 5, 65_535),
         marks(16, false, false, false),
         marks(u32::MAX, false, false, false),
         marks(1, false, true, false),

@@ -9,8 +9,8 @@ use reference::frame::Kind;
 use reference::generate::table::Table;
 use reference::generate::Generator;
 use reference::{
-    list, read_frame, write_frame, Call, CallTable, FrameAnswer, Header, Outcome, Reading, Reason,
-    Refusal, Schema,
+    list, read_frame, tallies, write_frame, Call, CallTable, FrameAnswer, Header, Outcome, Reading,
+    Reason, Refusal, Schema,
 };
 
 /// A table with a method 0, 0, form for each of the sixteen forms; all values
@@ -68,7 +68,10 @@ impl Line {
         let bytes = frame(kind, form, correlation, payload);
         let mut sheet = [CELL; 8];
         let schema = all_forms();
-        let received = self.table.receive(&schema, kind.side(), &bytes, &mut sheet);
+        let mut tallies = tallies::fresh(&schema);
+        let received = self
+            .table
+            .receive(&schema, &mut tallies, kind.side(), &bytes, &mut sheet);
         let number = received.number();
         assert_eq!(received.used, bytes.len());
         assert_eq!(received.open, self.table.open_count());
@@ -93,7 +96,9 @@ impl Line {
 
     fn release(&mut self, correlation: u64) -> (u32, usize) {
         let before = self.table;
-        let released = self.table.release(&all_forms(), correlation);
+        let schema = all_forms();
+        let mut tallies = tallies::fresh(&schema);
+        let released = self.table.release(&schema, &mut tallies, correlation);
         assert_eq!(released.place(), 0);
         assert_eq!(released.open, self.table.open_count());
         if released.number() != 0 {
@@ -206,7 +211,10 @@ fn what_comes_before_16() {
     assert_eq!(line.kind(15, Kind::Cancel), 0);
     let schema = all_forms();
     let answer = |line: &mut Line, side: u8, bytes: &[u8]| {
-        let received = line.table.receive(&schema, side, bytes, &mut []);
+        let mut tallies = tallies::fresh(&schema);
+        let received = line
+            .table
+            .receive(&schema, &mut tallies, side, bytes, &mut []);
         (received.number(), received.used)
     };
     let right = frame(Kind::Response, 15, 9, &[1, 7]);
@@ -263,7 +271,7 @@ fn refusals_of_a_release_in_their_order() {
         let mut table = CallTable::fresh();
         table.slots[..slots.len()].copy_from_slice(slots);
         let before = table;
-        let released = table.release(schema, 9);
+        let released = table.release(schema, &mut tallies::fresh(schema), 9);
         let open = slots.iter().filter(|call| call.open).count();
         match released.result {
             Ok(()) => assert_eq!(released.open, open - 1),
@@ -405,11 +413,12 @@ fn generated_histories_keep_a_plain_model() {
             panic!("no case");
         };
         let mut table = CallTable::fresh();
+        let mut tallies = tallies::fresh(&case.schema);
         let mut model = Model::new();
         for event in &case.events {
             match event {
                 Event::Release(call) => {
-                    let number = table.release(&case.schema, *call).number();
+                    let number = table.release(&case.schema, &mut tallies, *call).number();
                     let expected = match model.get(call) {
                         None => 11,
                         Some(false) => 14,
@@ -423,7 +432,8 @@ fn generated_histories_keep_a_plain_model() {
                 }
                 Event::Frame((side, bytes)) => {
                     let mut sheet = vec![CELL; case.cells];
-                    let received = table.receive(&case.schema, *side, bytes, &mut sheet);
+                    let received =
+                        table.receive(&case.schema, &mut tallies, *side, bytes, &mut sheet);
                     if let FrameAnswer::Whole(frame) = read_frame(bytes) {
                         let late = model.get(&frame.header.correlation) == Some(&true);
                         follow(&mut model, &frame.header, received.number());

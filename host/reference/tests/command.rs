@@ -179,3 +179,31 @@ fn examples_are_written_with_their_listings() {
         std::fs::read(folder.join("added.listing")).unwrap()
     );
 }
+
+#[test]
+fn an_index_and_a_look_up() {
+    let folder = PathBuf::from(env!("CARGO_TARGET_TMPDIR")).join("indexed");
+    std::fs::create_dir_all(&folder).unwrap();
+    let output = reference(&["examples", folder.to_str().unwrap()], &[]);
+    assert!(output.status.success());
+    let schema = folder.join("worked.schema");
+    let record = folder.join("worked.record");
+    let (schema, record) = (schema.to_str().unwrap(), record.to_str().unwrap());
+    let made = reference(&["index", schema, record], &[]);
+    assert!(made.status.success());
+    assert_eq!(made.stdout.len(), 16 * 6);
+    let index = file("worked.index", &made.stdout);
+    let index = index.to_str().unwrap();
+    let found = reference(&["look-up", index, record, "9"], &[]);
+    assert!(found.status.success());
+    assert_eq!(found.stdout, b"place answer\n0 0\n29 0\n60 11\nstopped 0\n");
+    let other = reference(&["look-up", index, schema, "9"], &[]);
+    assert_eq!(other.stdout, b"place answer\nstopped 66\n");
+    for wrong in [
+        ["index", record, record].to_vec(),
+        ["look-up", index, record, "nine"].to_vec(),
+    ] {
+        let output = reference(&wrong, &[]);
+        assert!(!output.status.success() && output.stdout.is_empty());
+    }
+}

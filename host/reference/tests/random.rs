@@ -42,12 +42,14 @@ fn numbers(code: u8) -> Vec<u32> {
         6 => (0..=7).collect(),
         7 => vec![0, 4, 7, 52],
         8 | 11 => (0..=14).chain([16]).chain(20..=31).chain(table).collect(),
-        9 => (0..=16).chain(20..=31).chain(table).collect(),
-        10 => [0, 11, 14, 15].into_iter().chain(table).collect(),
+        9 => (0..=31).chain(table).collect(),
+        10 => [0, 11, 14, 15, 18, 19].into_iter().chain(table).collect(),
         15 => numbers(5).into_iter().chain([4]).collect(),
         17 => vec![0, 45, 52, 53],
         16 => numbers(3).into_iter().chain([47]).collect(),
         18 => numbers(5),
+        19 => [0, 45, 52].into_iter().chain(table).collect(),
+        20 => vec![0, 52, 65, 66],
         _ => panic!("code {code} has no numbers here"),
     }
 }
@@ -56,6 +58,7 @@ fn numbers(code: u8) -> Vec<u32> {
 fn enough(code: u8) -> usize {
     match code {
         3 | 5 => 4_200,
+        9 => 2_300,
         16 => 2_600,
         _ => 2_000,
     }
@@ -86,7 +89,7 @@ fn codes_do_not_disturb_each_other() {
     let mut all = cases_of(&[], 16, 3_000);
     all.retain(|case| case.code() <= 9);
     assert_eq!(all, cases(16, all.len()));
-    for code in [10, 11, 15, 16, 17, 18] {
+    for code in [10, 11, 15, 16, 17, 18, 19, 20] {
         let mut alone = Generator::new(16, &[code]);
         for case in cases_of(&[], 16, 3_000) {
             if case.code() == code {
@@ -138,6 +141,8 @@ fn case_files_stay_small() {
         (&[16], 4_800_000),
         (&[18], 4_000_000),
         (&[17], 5_500_000),
+        (&[19], 6_500_000),
+        (&[20], 2_500_000),
     ] {
         let mut generator = Generator::new(3, codes);
         let mut file = Vec::new();
@@ -566,7 +571,13 @@ fn a_frame_carries_what_the_reader_says() {
         let mut other = sheet.clone();
         let by_reader = read(&case.schema, case.type_number, &case.payload, &mut sheet);
         let mut calls = CallTable::fresh();
-        let received = calls.receive(&schema, b'C', &frame[..length], &mut other);
+        let received = calls.receive(
+            &schema,
+            &mut tallies::fresh(&schema),
+            b'C',
+            &frame[..length],
+            &mut other,
+        );
         let expected = match by_reader {
             Ok(reading) => Outcome::Accepted(reading),
             Err(refusal) => Outcome::Refused(refusal),
@@ -657,7 +668,13 @@ fn nothing_panics_on_random_bytes() {
         let data = near(&mut rng, &frame);
         let _ = read_frame(&data);
         let mut calls = CallTable::fresh();
-        calls.receive(&schema, b'C', &data, &mut cells);
+        calls.receive(
+            &schema,
+            &mut tallies::fresh(&schema),
+            b'C',
+            &data,
+            &mut cells,
+        );
         let record = [b"C", &data[..], b"S", &frame].concat();
         assert!(list(&schema, &record).ends_with('\n'));
     }
@@ -668,6 +685,7 @@ fn random_call_tables() {
     let mut rng = Rng::new(8);
     let schema = table_t();
     for _ in 0..2_000 {
+        let mut tallies = tallies::fresh(&schema);
         let mut table = CallTable::fresh();
         for _ in 0..rng.below(4) {
             let slot = rng.below(128);
@@ -679,13 +697,14 @@ fn random_call_tables() {
                 input_closed: rng.one_in(4),
                 output_closed: rng.one_in(4),
                 cancelled: rng.one_in(4),
+                ..Call::default()
             };
         }
         let good = Schema::check(&schema).is_ok_and(|schema| table.is_good(&schema));
-        let answer = table.receive(&schema, b'C', &[], &mut []);
+        let answer = table.receive(&schema, &mut tallies, b'C', &[], &mut []);
         assert_eq!(answer.number(), if good { 1 } else { 15 });
         let before = table;
-        let answer = table.release(&schema, 1);
+        let answer = table.release(&schema, &mut tallies, 1);
         let mut open = before.slots.iter().filter(|call| call.open);
         let call = open.find(|call| call.correlation == 1);
         let expected = match (good, call.map(|call| call.cancelled)) {

@@ -5,7 +5,7 @@ mod common;
 use common::{table_t, NO_TYPE};
 use reference::generate::table::Table;
 use reference::{check_table, extends, list, read, scalar, write, CallTable};
-use reference::{Outcome, Reason, Refusal};
+use reference::{Outcome, Reason, Refusal, Tally};
 
 fn check(table: &Table) -> Result<(), Refusal> {
     check_table(&table.bytes())
@@ -325,9 +325,13 @@ fn every_entry_gives_the_faults_of_a_table_first() {
         assert_eq!(write(&schema, 99, &[9; 9], &[], &mut []), Err(refusal));
         let mut calls = CallTable::fresh();
         calls.slots[3].response = true;
-        let received = calls.receive(&schema, 0, &[0; 40], &mut []);
+        let mut tallies = [Tally::default(); 3];
+        let received = calls.receive(&schema, &mut tallies, 0, &[0; 40], &mut []);
         assert_eq!(received.outcome, Outcome::Refused(refusal));
         assert_eq!((received.used, received.open), (0, 0));
+        let released = calls.release(&schema, &mut tallies, 0);
+        assert_eq!((released.result, released.open), (Err(refusal), 0));
+        assert_eq!(tallies, [Tally::default(); 3]);
         let stopped = format!("stopped {} left 3\n", refusal.number());
         assert!(list(&schema, &[0; 3]).ends_with(&stopped));
     }

@@ -121,6 +121,7 @@ fn run(entry: &str, nest: &Nest, kib: usize) -> u32 {
     };
     let invoke = frame(1, 1_000, payload);
     let mut table = Box::new(open_calls());
+    let mut tallies = arf::Tally::fresh(schema).expect("the schema is good");
     match entry {
         "read" => on_thread(kib, || number(arf::read(schema, ty, payload, &mut sheet))),
         "beside" => on_thread(kib, || {
@@ -140,7 +141,8 @@ fn run(entry: &str, nest: &Nest, kib: usize) -> u32 {
             number(arf::forward(schema, ty, sheet, payload, end, 0, &mut out))
         }),
         "receive" => on_thread(kib, || {
-            match table.receive(schema, b'C', &invoke, &mut sheet).outcome {
+            let received = table.receive(schema, b'C', &invoke, &mut sheet, &mut tallies);
+            match received.outcome {
                 arf::Outcome::Accepted(_) => 0,
                 arf::Outcome::More => 1,
                 arf::Outcome::Refused(refusal) => refusal.number,

@@ -2,13 +2,14 @@
 //! into one, and answered.
 
 use super::format::{
-    call_table_sum, line, put_bytes, put_call_table, put_header, put_sheet, put_words, sheet_sum,
-    sum, Input, Sent, MAX_CELLS, MAX_OUTPUT,
+    call_table_sum, line, put_bytes, put_call_table, put_header, put_sheet, put_tallies, put_words,
+    sheet_sum, sum, tally_sum, Input, Sent, MAX_CELLS, MAX_OUTPUT,
 };
 use crate::calls::CallTable;
 use crate::frame::{read_frame, write_frame, FrameAnswer, Header};
 use crate::refusal::Refusal;
 use crate::scalar::Scalar;
+use crate::tallies::{self, Tally};
 use crate::{check_table, extends, read, scalar, write, Reading};
 
 /// What each sheet cell and each output byte holds before a call.
@@ -292,12 +293,18 @@ impl Entry for FrameWriteCase {
     }
 }
 
-/// One frame against a call table, with a newly filled sheet.
-pub fn receive(table: &mut CallTable, schema: &[u8], cells: usize, sent: (u8, &[u8])) -> [u64; 9] {
+/// One frame against a call table and tallies, with a newly filled sheet.
+pub fn receive(
+    table: &mut CallTable,
+    tallies: &mut [Tally],
+    schema: &[u8],
+    cells: usize,
+    (side, bytes): (u8, &[u8]),
+) -> Vec<u64> {
     let mut sheet = vec![CELL_FILL; cells];
-    let received = table.receive(schema, sent.0, sent.1, &mut sheet);
+    let received = table.receive(schema, tallies, side, bytes, &mut sheet);
     let [rows, tail_place, tail_length, comparisons] = reading_numbers(received.reading());
-    [
+    vec![
         received.number().into(),
         received.place().into(),
         received.used as u64,
@@ -338,8 +345,11 @@ impl Entry for RunCase {
 
     fn answer(&self, text: &mut String) {
         let mut table = CallTable::fresh();
+        let mut tallies = tallies::fresh(&self.schema);
         for (side, data) in &self.frames {
-            let numbers = receive(&mut table, &self.schema, self.cells, (*side, data));
+            let sent = (*side, &data[..]);
+            let mut numbers = receive(&mut table, &mut tallies, &self.schema, self.cells, sent);
+            numbers.push(tally_sum(&tallies));
             line(text, &numbers);
         }
     }
@@ -351,6 +361,7 @@ pub struct ReceiveCase {
     pub schema: Vec<u8>,
     pub cells: usize,
     pub table: Box<CallTable>,
+    pub tallies: Vec<Tally>,
     pub side: u8,
     pub data: Vec<u8>,
 }
@@ -361,6 +372,7 @@ impl Entry for ReceiveCase {
             schema: input.bytes()?,
             cells: input.limited(MAX_CELLS)?,
             table: input.call_table()?,
+            tallies: input.tallies()?,
             side: input.u8()?,
             data: input.bytes()?,
         })
@@ -370,16 +382,17 @@ impl Entry for ReceiveCase {
         put_bytes(out, &self.schema);
         put_words(out, &[self.cells as u32]);
         put_call_table(out, &self.table);
+        put_tallies(out, &self.tallies);
         out.push(self.side);
         put_bytes(out, &self.data);
     }
 
     fn answer(&self, text: &mut String) {
         let mut table = self.table.clone();
+        let mut tallies = self.tallies.clone();
         let sent = (self.side, &self.data[..]);
-        let numbers = receive(&mut table, &self.schema, self.cells, sent);
-        let mut all = numbers.to_vec();
-        all.push(call_table_sum(&table));
-        line(text, &all);
+        let mut numbers = receive(&mut table, &mut tallies, &self.schema, self.cells, sent);
+        numbers.extend([call_table_sum(&table), tally_sum(&tallies)]);
+        line(text, &numbers);
     }
 }

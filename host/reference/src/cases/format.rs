@@ -5,12 +5,14 @@ use std::fmt::Write;
 
 use crate::calls::{Call, CallTable, SLOTS};
 use crate::frame::Header;
+use crate::tallies::Tally;
 
 /// The most a case may ask for.
 pub const MAX_BYTES: usize = 70_000;
 pub const MAX_CELLS: usize = 70_000;
 pub const MAX_OUTPUT: usize = 140_000;
 pub const MAX_FRAMES: usize = 1_000;
+pub const MAX_TALLIES: usize = 2_100;
 
 /// A frame and the side byte it comes with.
 pub type Sent = (u8, Vec<u8>);
@@ -44,6 +46,10 @@ impl<'a> Input<'a> {
 
     pub fn u8(&mut self) -> Option<u8> {
         self.take::<1>().map(|[byte]| byte)
+    }
+
+    pub fn u16(&mut self) -> Option<u16> {
+        self.take().map(u16::from_le_bytes)
     }
 
     pub fn u32(&mut self) -> Option<u32> {
@@ -104,6 +110,12 @@ impl<'a> Input<'a> {
         })
     }
 
+    pub fn tallies(&mut self) -> Option<Vec<Tally>> {
+        let rows = self.limited(MAX_TALLIES)?;
+        let row = |_| self.u32s().map(Tally::from_figures);
+        (0..rows).map(row).collect()
+    }
+
     fn mark(&mut self) -> Option<bool> {
         self.u8().map(|byte| byte != 0)
     }
@@ -119,6 +131,8 @@ impl<'a> Input<'a> {
                 input_closed: self.mark()?,
                 output_closed: self.mark()?,
                 cancelled: self.mark()?,
+                input_elements: self.u16()?,
+                output_elements: self.u16()?,
             };
         }
         Some(table)
@@ -154,7 +168,21 @@ pub fn put_call_table(out: &mut Vec<u8>, table: &CallTable) {
         out.push(call.input_closed.into());
         out.push(call.output_closed.into());
         out.push(call.cancelled.into());
+        out.extend(call.input_elements.to_le_bytes());
+        out.extend(call.output_elements.to_le_bytes());
     }
+}
+
+/// The rows of tallies, without their number.
+fn put_tally_rows(out: &mut Vec<u8>, tallies: &[Tally]) {
+    for tally in tallies {
+        put_words(out, &tally.figures());
+    }
+}
+
+pub fn put_tallies(out: &mut Vec<u8>, tallies: &[Tally]) {
+    put_words(out, &[tallies.len() as u32]);
+    put_tally_rows(out, tallies);
 }
 
 /// The sum over a lent buffer: FNV-1a of 64 bits.
@@ -168,8 +196,14 @@ pub fn sheet_sum(sheet: &[u32]) -> u64 {
 }
 
 pub fn call_table_sum(table: &CallTable) -> u64 {
-    let mut bytes = Vec::with_capacity(17 * SLOTS);
+    let mut bytes = Vec::with_capacity(21 * SLOTS);
     put_call_table(&mut bytes, table);
+    sum(bytes)
+}
+
+pub fn tally_sum(tallies: &[Tally]) -> u64 {
+    let mut bytes = Vec::with_capacity(20 * tallies.len());
+    put_tally_rows(&mut bytes, tallies);
     sum(bytes)
 }
 

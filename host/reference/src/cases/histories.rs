@@ -2,14 +2,21 @@
 
 use super::entries::{receive, Entry};
 use super::format::{
-    call_table_sum, line, put_bytes, put_call_table, put_words, Event, Input, MAX_CELLS,
+    call_table_sum, line, put_bytes, put_call_table, put_tallies, put_words, tally_sum, Event,
+    Input, MAX_CELLS,
 };
 use crate::calls::CallTable;
+use crate::tallies::{self, Tally};
 
 /// One release, as its line begins: number, place, open.
-fn release(table: &mut CallTable, schema: &[u8], correlation: u64) -> [u64; 3] {
-    let released = table.release(schema, correlation);
-    [
+fn release(
+    table: &mut CallTable,
+    tallies: &mut [Tally],
+    schema: &[u8],
+    correlation: u64,
+) -> Vec<u64> {
+    let released = table.release(schema, tallies, correlation);
+    vec![
         released.number().into(),
         released.place().into(),
         released.open as u64,
@@ -21,6 +28,7 @@ fn release(table: &mut CallTable, schema: &[u8], correlation: u64) -> [u64; 3] {
 pub struct ReleaseCase {
     pub schema: Vec<u8>,
     pub table: Box<CallTable>,
+    pub tallies: Vec<Tally>,
     pub correlation: u64,
 }
 
@@ -29,6 +37,7 @@ impl Entry for ReleaseCase {
         Some(ReleaseCase {
             schema: input.bytes()?,
             table: input.call_table()?,
+            tallies: input.tallies()?,
             correlation: input.u64()?,
         })
     }
@@ -36,13 +45,16 @@ impl Entry for ReleaseCase {
     fn put(&self, out: &mut Vec<u8>) {
         put_bytes(out, &self.schema);
         put_call_table(out, &self.table);
+        put_tallies(out, &self.tallies);
         out.extend(self.correlation.to_le_bytes());
     }
 
     fn answer(&self, text: &mut String) {
         let mut table = self.table.clone();
-        let [number, place, open] = release(&mut table, &self.schema, self.correlation);
-        line(text, &[number, place, open, call_table_sum(&table)]);
+        let mut tallies = self.tallies.clone();
+        let mut numbers = release(&mut table, &mut tallies, &self.schema, self.correlation);
+        numbers.extend([call_table_sum(&table), tally_sum(&tallies)]);
+        line(text, &numbers);
     }
 }
 
@@ -82,17 +94,19 @@ impl Entry for HistoryCase {
 
     fn answer(&self, text: &mut String) {
         let mut table = CallTable::fresh();
+        let mut tallies = tallies::fresh(&self.schema);
         for event in &self.events {
-            match event {
+            let mut numbers = match event {
                 Event::Frame((side, data)) => {
-                    let numbers = receive(&mut table, &self.schema, self.cells, (*side, data));
-                    line(text, &numbers);
+                    let sent = (*side, &data[..]);
+                    receive(&mut table, &mut tallies, &self.schema, self.cells, sent)
                 }
                 Event::Release(correlation) => {
-                    let numbers = release(&mut table, &self.schema, *correlation);
-                    line(text, &numbers);
+                    release(&mut table, &mut tallies, &self.schema, *correlation)
                 }
-            }
+            };
+            numbers.push(tally_sum(&tallies));
+            line(text, &numbers);
         }
     }
 }

@@ -18,13 +18,14 @@ pub use entries::{
     WriteCase, BYTE_FILL, CELL_FILL,
 };
 pub use format::{
-    call_table_sum, line, sheet_sum, sum, Event, Sent, MAX_BYTES, MAX_CELLS, MAX_FRAMES, MAX_OUTPUT,
+    call_table_sum, line, sheet_sum, sum, tally_sum, Event, Sent, MAX_BYTES, MAX_CELLS, MAX_FRAMES,
+    MAX_OUTPUT, MAX_TALLIES,
 };
 
 pub use forward::ForwardCase;
 pub use histories::{HistoryCase, ReleaseCase};
 pub use listings::{list_file, put_listings, ListingCase};
-pub use records::SalvageCase;
+pub use records::{IndexCase, LookUpCase, SalvageCase};
 pub use value_frame::ValueFrameCase;
 
 use entries::Entry;
@@ -48,6 +49,8 @@ pub enum Case {
     Beside(BesideCase),
     Forward(ForwardCase),
     Salvage(SalvageCase),
+    Index(IndexCase),
+    LookUp(LookUpCase),
 }
 
 impl Case {
@@ -69,6 +72,8 @@ impl Case {
             Case::Beside(_) => 16,
             Case::Forward(_) => 18,
             Case::Salvage(_) => 17,
+            Case::Index(_) => 19,
+            Case::LookUp(_) => 20,
         }
     }
 
@@ -89,6 +94,8 @@ impl Case {
             Case::Beside(case) => case,
             Case::Forward(case) => case,
             Case::Salvage(case) => case,
+            Case::Index(case) => case,
+            Case::LookUp(case) => case,
         }
     }
 
@@ -110,6 +117,8 @@ impl Case {
             16 => Case::Beside(BesideCase::take(input)?),
             18 => Case::Forward(ForwardCase::take(input)?),
             17 => Case::Salvage(SalvageCase::take(input)?),
+            19 => Case::Index(IndexCase::take(input)?),
+            20 => Case::LookUp(LookUpCase::take(input)?),
             _ => return None,
         })
     }

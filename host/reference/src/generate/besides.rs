@@ -14,9 +14,9 @@ use crate::{read_beside, MAX_PAYLOAD};
 
 /// Our table, the writer's, and a struct type that both have.
 pub struct Pair {
-    ours: Table,
-    theirs: Table,
-    root: u32,
+    pub ours: Table,
+    pub theirs: Table,
+    pub root: u32,
 }
 
 /// How many fields a struct of so many gains.
@@ -163,6 +163,32 @@ pub fn extended(rng: &mut Rng) -> Pair {
     pair_of(rng, within_bitmap)
 }
 
+/// As many fields as make 63 or 64, or as ours has already.
+fn to_the_brim(rng: &mut Rng, fields: usize) -> usize {
+    match rng.below(4) {
+        0 => 63usize.saturating_sub(fields),
+        1 => 0,
+        _ => 64 - fields,
+    }
+}
+
+/// A pair whose structs have 63 or 64 fields in the writer's table, or in both.
+pub fn brim_pair(rng: &mut Rng) -> Pair {
+    let mut ours = nested_table(rng);
+    if rng.one_in(4) {
+        let types = ours.types.len();
+        let every: Vec<u32> = (0..types as u32).collect();
+        add_fields(rng, &mut ours, types, to_the_brim, &every);
+    }
+    let theirs = grown(rng, &ours, to_the_brim);
+    let structs = ours.structs();
+    Pair {
+        root: structs[structs.len() - 1],
+        ours,
+        theirs,
+    }
+}
+
 /// The same table twice.
 pub fn same(rng: &mut Rng) -> Pair {
     let mut pair = pair_of(rng, within_bitmap);
@@ -198,7 +224,7 @@ fn rows(ours: &[u8], theirs: &[u8], root: u32, payload: &[u8]) -> usize {
 }
 
 /// The case, with cells enough in most.
-fn beside_case(rng: &mut Rng, pair: &Pair, payload: Vec<u8>) -> Case {
+pub fn beside_case(rng: &mut Rng, pair: &Pair, payload: Vec<u8>) -> Case {
     let (ours, theirs) = (pair.ours.bytes(), pair.theirs.bytes());
     let rows = rows(&ours, &theirs, pair.root, &payload);
     let cells = match rng.below(12) {

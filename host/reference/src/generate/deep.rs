@@ -2,7 +2,7 @@
 
 use super::rng::Rng;
 use super::table::{Table, ARRAY, MAP, STRING, STRUCT};
-use super::value::{Content, Maker, Types, Value};
+use super::value::{Content, Length, Maker, Types, Value};
 
 /// A table for deep values: a struct that may hold itself, an array or map of
 /// it, and leaves.
@@ -51,6 +51,7 @@ fn leaf_value(rng: &mut Rng, table: &Table, number: u32) -> Value {
         rng,
         budget: 3,
         full: false,
+        length: Length::Short,
     };
     maker.value(number, 1)
 }

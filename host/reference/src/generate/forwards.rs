@@ -55,6 +55,15 @@ pub fn longer(rng: &mut Rng, data: &mut Vec<u8>, unknown: usize) -> Option<Tail>
     })
 }
 
+/// A tail of thousands of bytes, up to more than a payload may have (7).
+pub fn long(rng: &mut Rng, data: &mut Vec<u8>, unknown: usize) -> Option<Tail> {
+    if unknown == 0 {
+        return None;
+    }
+    let length = rng.range(1_000, MAX_PAYLOAD) + rng.pick(&[0, 0, 0, 500]);
+    Some(any_span(rng, data, length))
+}
+
 /// A tail shorter than the unknown bits, by one or by all (50).
 pub fn short(rng: &mut Rng, data: &mut Vec<u8>, unknown: usize) -> Option<Tail> {
     let length = rng.below(unknown);
@@ -173,16 +182,22 @@ fn with_room(rng: &mut Rng, mut case: ForwardCase) -> Case {
 /// A sheet of the value writer, in many with unknown bits, and a tail.
 pub fn sheet(rng: &mut Rng, number: Option<u32>, make: TailMaker) -> Case {
     loop {
-        let mut sheet = writer_sheet(rng, number);
-        if rng.below(3) > 0 {
-            set_unknown_bits(rng, &mut sheet);
-        }
-        let unknown = unknown_bits(&sheet);
-        if let Some(tail) = make(rng, &mut sheet.data, unknown) {
-            let case = passed_on(sheet, tail, 0);
-            return with_room(rng, case);
+        let sheet = writer_sheet(rng, number);
+        if let Some(case) = of_sheet(rng, sheet, make) {
+            return case;
         }
     }
+}
+
+/// A sheet, in many with unknown bits, and a tail, where one suits.
+pub fn of_sheet(rng: &mut Rng, mut sheet: WriteCase, make: TailMaker) -> Option<Case> {
+    if rng.below(3) > 0 {
+        set_unknown_bits(rng, &mut sheet);
+    }
+    let unknown = unknown_bits(&sheet);
+    let tail = make(rng, &mut sheet.data, unknown)?;
+    let case = passed_on(sheet, tail, 0);
+    Some(with_room(rng, case))
 }
 
 /// What reading a payload gives, if it is accepted.

@@ -4,10 +4,11 @@
 
 use super::damage::Damage;
 use super::line::{
-    after_cancel, cancel, crossing, damaged, either, late_error, open, spoilt, step, Line, Sent,
+    after_cancel, cancel, completing, crossing, damaged, either, late_error, open, spoilt, step,
+    Line, Sent,
 };
 use super::rng::Rng;
-use super::runs::{cells, open_count, spoil_calls};
+use super::runs::{cells, fill_tallies, long_cells, miscount, open_count, spoil_calls};
 use crate::calls::SLOTS;
 use crate::cases::{Case, Event, HistoryCase, ReleaseCase};
 
@@ -15,6 +16,7 @@ fn release_case(line: Line, correlation: u64) -> Case {
     Case::Release(ReleaseCase {
         schema: line.table.bytes(),
         table: Box::new(line.calls),
+        tallies: line.tallies,
         correlation,
     })
 }
@@ -52,6 +54,31 @@ pub fn release_not_open(rng: &mut Rng) -> Case {
     release_case(line, correlation)
 }
 
+/// A release against tallies that can hardly rise.
+pub fn release_tallied(rng: &mut Rng) -> Case {
+    loop {
+        let open = open_count(rng);
+        let mut line = Line::fresh(rng).busy(rng, open);
+        fill_tallies(rng, &mut line);
+        let cancelled = !rng.one_in(8);
+        if let Some(call) = line.pick_by_mark(rng, cancelled) {
+            return release_case(line, call.correlation);
+        }
+    }
+}
+
+/// A release with a wrong number of tally rows (19).
+pub fn release_miscounted(rng: &mut Rng) -> Case {
+    let open = rng.pick(&[0, 1, 2, 4, 128]);
+    let mut line = Line::fresh(rng).busy(rng, open);
+    let correlation = any_correlation(rng, &line);
+    miscount(rng, &mut line);
+    if rng.one_in(8) {
+        spoil_calls(rng, &mut line);
+    }
+    release_case(line, correlation)
+}
+
 /// An identifier to release, be its call open, cancelled or neither.
 fn any_correlation(rng: &mut Rng, line: &Line) -> u64 {
     let cancelled = !rng.one_in(3);
@@ -68,6 +95,9 @@ pub fn release_bad_calls(rng: &mut Rng) -> Case {
         let mut line = Line::fresh(rng).busy(rng, open);
         let correlation = any_correlation(rng, &line);
         if spoil_calls(rng, &mut line).is_some() {
+            if rng.one_in(4) {
+                miscount(rng, &mut line);
+            }
             return release_case(line, correlation);
         }
     }
@@ -84,6 +114,7 @@ pub fn release_bad_table(rng: &mut Rng, fault: fn(&mut Rng) -> Vec<u8>) -> Case 
     Case::Release(ReleaseCase {
         schema: fault(rng),
         table: Box::new(line.calls),
+        tallies: line.tallies,
         correlation,
     })
 }
@@ -100,13 +131,14 @@ fn release(rng: &mut Rng, line: &Line) -> Option<Event> {
 
 /// Lets an event happen to a connection.
 fn happen(line: &mut Line, schema: &[u8], cells: usize, event: &Event) {
+    let (calls, tallies) = (&mut line.calls, &mut line.tallies);
     match event {
         Event::Frame((side, bytes)) => {
             let mut sheet = vec![0; cells];
-            line.calls.receive(schema, *side, bytes, &mut sheet);
+            calls.receive(schema, tallies, *side, bytes, &mut sheet);
         }
         Event::Release(correlation) => {
-            line.calls.release(schema, *correlation);
+            calls.release(schema, tallies, *correlation);
         }
     }
 }
@@ -144,6 +176,7 @@ pub fn cancels(rng: &mut Rng) -> Case {
         let sent = match rng.below(12) {
             0 | 1 => open(rng, line),
             2 => step(rng, line),
+            3 if rng.one_in(2) => completing(rng, line),
             3 | 4 => cancel(rng, line),
             5..=7 => crossing(rng, line),
             8 => late_error(rng, line),
@@ -166,6 +199,23 @@ pub fn mixed(rng: &mut Rng, action: impl Fn(&mut Rng, &Line) -> Option<Sent>) ->
             2 => cancel(rng, line),
             3 => return release(rng, line),
             4 => crossing(rng, line),
+            _ => action(rng, line),
+        };
+        sent.map(Event::Frame)
+    })
+}
+
+/// The same for payloads of up to 16,384 bytes.
+pub fn long_mixed(rng: &mut Rng, action: impl Fn(&mut Rng, &Line) -> Option<Sent>) -> Case {
+    let line = Line::with_long_payloads(rng);
+    let events = rng.range(3, 8);
+    let cells = long_cells(rng);
+    history(rng, line, events, cells, |rng, line| {
+        let sent = match rng.below(7) {
+            0 => open(rng, line),
+            1 => step(rng, line),
+            2 => cancel(rng, line),
+            3 => return release(rng, line),
             _ => action(rng, line),
         };
         sent.map(Event::Frame)

@@ -248,6 +248,21 @@ fn long_records() -> Vec<Vec<u8>> {
     vec![cut, whole, over]
 }
 
+/// A record of 65,536 bytes by table T: frames without a payload for calls from
+/// all over, and a last one that fills it up.
+pub fn longest_invokes(rng: &mut Rng) -> Vec<u8> {
+    let mut record = Vec::new();
+    let length = entry(Kind::Cancel, 0, &[]).len();
+    while record.len() + 2 * length <= MAX_FILE {
+        let correlation = rng.bits() >> rng.pick(&[0, 0, 48, 62]);
+        let kind = rng.pick(&[Kind::Invoke, Kind::Response, Kind::Cancel]);
+        record.extend(entry(kind, correlation, &[]));
+    }
+    let left = MAX_FILE - record.len() - length;
+    record.extend(entry(Kind::Error, rng.bits(), &vec![0; left]));
+    record
+}
+
 /// Schema files with a fault of each sort, and those at the limit.
 fn schemas() -> Vec<Vec<u8>> {
     let good = table_t();
@@ -300,7 +315,7 @@ pub fn cases(seed: u64, number: usize) -> Vec<ListingCase> {
 }
 
 /// A run of frames as a record; sometimes cut, or with a byte changed.
-fn random(rng: &mut Rng, schema: Vec<u8>, frames: &[(u8, Vec<u8>)]) -> ListingCase {
+pub fn random(rng: &mut Rng, schema: Vec<u8>, frames: &[(u8, Vec<u8>)]) -> ListingCase {
     let mut record = Vec::new();
     for (side, bytes) in frames {
         record.push(*side);

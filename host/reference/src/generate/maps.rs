@@ -4,7 +4,7 @@
 use super::payload::{table_holding, value_of};
 use super::rng::Rng;
 use super::table::{Table, BYTES, MAP, STRING, STRUCT};
-use super::value::{random_text, scalar_width, Content, Maker, Types, Value};
+use super::value::{random_text, scalar_width, Content, Length, Maker, Types, Value};
 use crate::{MAX_DEPTH, MAX_PAIRS};
 
 /// Makes a number of pairs.
@@ -128,6 +128,7 @@ pub fn give_pairs(rng: &mut Rng, types: &Types, root: &mut Value, count: usize) 
             rng,
             budget: 2,
             full: false,
+            length: Length::Short,
         };
         let value = maker.value(element, levels - 1);
         pairs.push((leaf(key, kind, content), value));

@@ -12,6 +12,8 @@ mod forwards;
 mod frames;
 mod histories;
 mod holes;
+mod indexes;
+pub mod large;
 mod line;
 pub mod listings;
 mod maps;
@@ -83,6 +85,14 @@ pub struct Generator {
     turns: [usize; 256],
     later: Vec<Stream>,
     choice: Rng,
+    large: Large,
+}
+
+/// Large cases of the codes in turn, for one case in so many; 0 is none.
+struct Large {
+    one_in: usize,
+    streams: Vec<Stream>,
+    turn: usize,
 }
 
 /// The codes that there are cases for.
@@ -102,6 +112,24 @@ impl Generator {
             turns: [0; 256],
             later: later.map(|code| Stream::new(seed, code)).collect(),
             choice: Rng::new(!seed),
+            large: Large::new(seed, codes, 0),
+        }
+    }
+
+    /// The same with large cases among them, as the random comparison has them.
+    pub fn compared(seed: u64, codes: &[u8]) -> Self {
+        Generator {
+            large: Large::new(seed, codes, large::COMPARED),
+            ..Generator::new(seed, codes)
+        }
+    }
+
+    /// A generator for large cases alone, of some codes in turn; none named
+    /// means all.
+    pub fn large(seed: u64, codes: &[u8]) -> Self {
+        Generator {
+            large: Large::new(seed, codes, 1),
+            ..Generator::new(seed, codes)
         }
     }
 
@@ -114,11 +142,15 @@ impl Generator {
             turns: [0; 256],
             later: Vec::new(),
             choice: Rng::new(!seed),
+            large: Large::new(seed, &[], 0),
         }
     }
 
     /// The next case, or none if no code is known.
     pub fn case(&mut self) -> Option<Case> {
+        if self.large.one_in > 0 && self.choice.one_in(self.large.one_in) {
+            return self.large.case();
+        }
         let first: usize = self.codes.iter().map(|(_, share, _)| share).sum();
         let later: usize = self.later.iter().map(|stream| stream.share).sum();
         let mut place = self.choice.below(first + later);
@@ -144,6 +176,28 @@ impl Generator {
             place -= share;
         }
         None
+    }
+}
+
+impl Large {
+    fn new(seed: u64, codes: &[u8], one_in: usize) -> Self {
+        let wanted = |(code, _): &&(u8, Wheel)| codes.is_empty() || codes.contains(code);
+        let wheels = large::CODES.iter().filter(wanted);
+        Large {
+            one_in,
+            // Not the stream of the code's other cases.
+            streams: wheels
+                .map(|&(code, wheel)| Stream::new(seed.wrapping_add(1 << 40), &(code, 1, wheel)))
+                .collect(),
+            turn: 0,
+        }
+    }
+
+    fn case(&mut self) -> Option<Case> {
+        let streams = self.streams.len();
+        let stream = self.streams.get_mut(self.turn % streams.max(1))?;
+        self.turn += 1;
+        Some(stream.case())
     }
 }
 

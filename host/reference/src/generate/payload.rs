@@ -3,7 +3,7 @@
 use super::maps::give_pairs;
 use super::rng::Rng;
 use super::table::{good_table, key_kind, random_field, random_table, Table, ARRAY, MAP, STRUCT};
-use super::value::{Maker, Payload, Types, Value};
+use super::value::{Length, Maker, Payload, Types, Value};
 
 /// A table, a struct type of it and a right payload of that type.
 pub struct Sample {
@@ -26,6 +26,7 @@ pub fn value_of(rng: &mut Rng, types: &Types, root: u32, full: bool) -> Option<V
         rng,
         budget,
         full,
+        length: Length::Short,
     };
     Some(maker.value(root, 16))
 }

@@ -26,7 +26,7 @@ pub fn cells(rng: &mut Rng, schema: &[u8], root: u32, payload: &[u8]) -> usize {
 }
 
 /// A case for the reader.
-fn read_case(rng: &mut Rng, table: &Table, root: u32, payload: Vec<u8>) -> Case {
+pub fn read_case(rng: &mut Rng, table: &Table, root: u32, payload: Vec<u8>) -> Case {
     let schema = table.bytes();
     let cells = cells(rng, &schema, root, &payload);
     Case::Read(ReadCase {

@@ -3,13 +3,14 @@
 
 use super::damage::Damage;
 use super::frames::frame_bytes;
-use super::line::{damaged, either, end, open, spoilt, step, Line, Sent};
+use super::line::{cut_frame, damaged, either, end, open, spoilt, step, Line, Sent};
 use super::maps::{fullest, maps_of_maps};
 use super::rng::Rng;
 use super::table::add_method_of;
 use crate::calls::{FORMS, SLOTS};
 use crate::cases::{Case, ReceiveCase, RunCase};
 use crate::frame::{Header, Kind};
+use crate::tallies::Tally;
 
 /// The sheet's cells of a line whose payloads have maps of many pairs.
 const MAP_CELLS: usize = 2_000;
@@ -26,7 +27,8 @@ pub fn cells(rng: &mut Rng) -> usize {
 /// Sends a frame and keeps what it does to the calls.
 fn send(line: &mut Line, schema: &[u8], cells: usize, sent: &Sent) {
     let mut sheet = vec![0; cells];
-    line.calls.receive(schema, sent.0, &sent.1, &mut sheet);
+    let (calls, tallies) = (&mut line.calls, &mut line.tallies);
+    calls.receive(schema, tallies, sent.0, &sent.1, &mut sheet);
 }
 
 /// A run of so many frames by the given actions; where an action has no
@@ -86,6 +88,28 @@ pub fn run_maps(rng: &mut Rng, action: impl Fn(&mut Rng, &Line) -> Option<Sent>)
             1 => step(rng, line),
             _ => action(rng, line),
         }
+    })
+}
+
+/// The sheet's cells of a line with long payloads: mostly enough.
+pub fn long_cells(rng: &mut Rng) -> usize {
+    rng.pick(&[
+        4 * crate::MAX_PAYLOAD,
+        4 * crate::MAX_PAYLOAD,
+        16_000,
+        1_000,
+    ])
+}
+
+/// The same for payloads of up to 16,384 bytes.
+pub fn run_long(rng: &mut Rng, action: impl Fn(&mut Rng, &Line) -> Option<Sent>) -> Case {
+    let line = Line::with_long_payloads(rng);
+    let frames = rng.range(2, 6);
+    let cells = long_cells(rng);
+    run(rng, line, frames, cells, |rng, line| match rng.below(4) {
+        0 => open(rng, line),
+        1 => step(rng, line),
+        _ => action(rng, line),
     })
 }
 
@@ -154,6 +178,7 @@ fn receive_case(line: Line, cells: usize, sent: Sent) -> Case {
         schema: line.table.bytes(),
         cells,
         table: Box::new(line.calls),
+        tallies: line.tallies,
         side: sent.0,
         data: sent.1,
     })
@@ -185,6 +210,18 @@ pub fn receive_maps(rng: &mut Rng, action: impl Fn(&mut Rng, &Line) -> Option<Se
         let line = Line::with_maps(rng).busy(rng, open);
         if let Some(sent) = action(rng, &line) {
             return receive_case(line, MAP_CELLS, sent);
+        }
+    }
+}
+
+/// The same for a payload of up to 16,384 bytes.
+pub fn receive_long(rng: &mut Rng, action: impl Fn(&mut Rng, &Line) -> Option<Sent>) -> Case {
+    loop {
+        let open = open_count(rng);
+        let line = Line::with_long_payloads(rng).busy(rng, open);
+        if let Some(sent) = action(rng, &line) {
+            let cells = long_cells(rng);
+            return receive_case(line, cells, sent);
         }
     }
 }
@@ -221,6 +258,76 @@ pub fn receive_full(rng: &mut Rng) -> Case {
     }
 }
 
+/// Puts about half of the figures at or next to their limit.
+pub fn fill_tallies(rng: &mut Rng, line: &mut Line) {
+    for tally in &mut line.tallies {
+        let figures = tally.figures().map(|figure| match rng.below(4) {
+            0 | 1 => figure.min(u32::MAX - 1),
+            2 => u32::MAX - 1,
+            _ => u32::MAX,
+        });
+        *tally = Tally::from_figures(figures);
+    }
+}
+
+/// A frame by an action against tallies that can hardly rise.
+pub fn receive_tallied(rng: &mut Rng, action: impl Fn(&mut Rng, &Line) -> Option<Sent>) -> Case {
+    loop {
+        let open = rng.pick(&[0, 1, 2, 3, 5, 9, 127]);
+        let mut line = Line::fresh(rng).busy(rng, open);
+        fill_tallies(rng, &mut line);
+        if let Some(sent) = action(rng, &line) {
+            let cells = cells(rng);
+            return receive_case(line, cells, sent);
+        }
+    }
+}
+
+/// A frame by an action against tallies of which none can rise.
+pub fn receive_all_full(
+    rng: &mut Rng,
+    action: impl Fn(&mut Rng, &Line) -> Option<Sent>,
+    cells: usize,
+) -> Case {
+    loop {
+        let open = rng.pick(&[0, 1, 2, 3, 5, 9, 127]);
+        let mut line = Line::fresh(rng).busy(rng, open);
+        line.tallies.fill(Tally::from_figures([u32::MAX; 5]));
+        if let Some(sent) = action(rng, &line) {
+            return receive_case(line, cells, sent);
+        }
+    }
+}
+
+/// Gives a connection another number of tally rows than it has methods.
+pub fn miscount(rng: &mut Rng, line: &mut Line) {
+    let methods = line.tallies.len();
+    let rows = rng.pick(&[0, methods - 1, methods + 1, methods + 1, methods + 9, 257]);
+    line.tallies.resize(rows, Tally::default());
+}
+
+/// A wrong number of tally rows (19), with any frame.
+pub fn receive_miscounted(rng: &mut Rng) -> Case {
+    loop {
+        let open = rng.pick(&[0, 1, 2, 4, 128]);
+        let mut line = Line::fresh(rng).busy(rng, open);
+        let fault = rng.range(2, 7) as u32;
+        let sent = match rng.below(3) {
+            0 => spoilt(rng, &line, fault),
+            1 => cut_frame(rng, &line),
+            _ => either(rng, &line),
+        };
+        miscount(rng, &mut line);
+        // Seldom the call table is not good, which comes first.
+        if rng.one_in(8) {
+            spoil_calls(rng, &mut line);
+        }
+        if let Some(sent) = sent {
+            return receive_case(line, 40, sent);
+        }
+    }
+}
+
 /// A call table that breaks one of its rules (15), with any frame.
 pub fn receive_bad_calls(rng: &mut Rng) -> Case {
     loop {
@@ -232,6 +339,9 @@ pub fn receive_bad_calls(rng: &mut Rng) -> Case {
             false => either(rng, &line),
         };
         if let Some(sent) = sent.filter(|_| spoil_calls(rng, &mut line).is_some()) {
+            if rng.one_in(4) {
+                miscount(rng, &mut line);
+            }
             return receive_case(line, 40, sent);
         }
     }
@@ -253,7 +363,7 @@ pub fn spoil_calls(rng: &mut Rng, line: &mut Line) -> Option<()> {
     let correlation = line.calls.slots[other].correlation;
     let call = &mut line.calls.slots[slot];
     let form = FORMS[line.table.methods[call.method as usize][3] as usize];
-    match rng.below(7) {
+    match rng.below(9) {
         0 if slot != other => call.correlation = correlation,
         1 => call.method = rng.pick(&[methods, methods + 1, 256, u32::MAX]),
         2 if !form.in_close => call.input_closed = true,
@@ -264,6 +374,8 @@ pub fn spoil_calls(rng: &mut Rng, line: &mut Line) -> Option<()> {
             call.input_closed = form.in_close;
             call.output_closed = form.out_close;
         }
+        6 if !form.in_stream => call.input_elements = rng.pick(&[1, u16::MAX]),
+        7 if !form.out_stream => call.output_elements = rng.pick(&[1, u16::MAX]),
         _ => return None,
     }
     Some(())
@@ -277,13 +389,15 @@ fn spoil_free(rng: &mut Rng, line: &mut Line) -> Option<()> {
         return None;
     }
     let call = &mut slots[rng.pick(&free)];
-    match rng.below(6) {
+    match rng.below(8) {
         0 => call.correlation = rng.pick(&[1, 1 << 32, 1 << 63]),
         1 => call.method = rng.pick(&[1, u32::MAX]),
         2 => call.response = true,
         3 => call.input_closed = true,
         4 => call.output_closed = true,
-        _ => call.cancelled = true,
+        5 => call.cancelled = true,
+        6 => call.input_elements = rng.pick(&[1, 256]),
+        _ => call.output_elements = rng.pick(&[1, 256]),
     }
     Some(())
 }
@@ -300,6 +414,7 @@ pub fn receive_bad_table(rng: &mut Rng, fault: fn(&mut Rng) -> Vec<u8>) -> Case 
         schema: fault(rng),
         cells: 20,
         table: Box::new(line.calls),
+        tallies: line.tallies,
         side: sent.0,
         data: sent.1,
     })

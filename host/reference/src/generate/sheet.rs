@@ -35,7 +35,7 @@ impl Sheet {
     }
 
     /// The rows of a value, as a reader without limits would give them.
-    fn of_value(table: Table, value: &Value) -> Sheet {
+    pub fn of_value(table: Table, value: &Value) -> Sheet {
         let mut sheet = Sheet {
             table,
             root: value.number,
@@ -74,7 +74,7 @@ impl Sheet {
     }
 
     /// The case, with room enough in most and sometimes odd cells at the end.
-    fn case(self, rng: &mut Rng) -> Case {
+    pub fn case(self, rng: &mut Rng) -> Case {
         let length = self.length().unwrap_or(20);
         let room = match rng.below(8) {
             0..=2 => length,
@@ -418,6 +418,40 @@ fn repeat_key(
         }
     };
     sheet.rows[later] = [key, place, length, 0];
+    Some(())
+}
+
+impl Sheet {
+    /// The row after those of a value.
+    fn end(&self, row: usize) -> Option<usize> {
+        let count = self.rows.get(row)?[3];
+        let children = match self.kind(row) {
+            ARRAY | STRUCT => count,
+            MAP => 2 * count,
+            _ => 0,
+        };
+        (0..children).try_fold(row + 1, |row, _| self.end(row))
+    }
+}
+
+/// A later key of a map made an earlier one, however many rows stand between
+/// them (24).
+pub fn repeated_far_key(rng: &mut Rng, sheet: &mut Sheet) -> Option<()> {
+    let map = sheet.pick_row(rng, |kind| kind == MAP)?;
+    let pairs = sheet.rows[map][3] as usize;
+    if pairs < 2 {
+        return None;
+    }
+    let mut keys = vec![map + 1];
+    while keys.len() < pairs {
+        let value = sheet.end(keys[keys.len() - 1])?;
+        keys.push(sheet.end(value)?);
+    }
+    let later = rng.range(1, pairs - 1);
+    let earlier = rng.below(later);
+    let later = keys[rng.pick(&[later, pairs - 1])];
+    let earlier = keys[rng.pick(&[earlier, 0])];
+    sheet.rows[later] = sheet.rows[earlier];
     Some(())
 }
 

@@ -112,7 +112,21 @@ pub struct Maker<'a, 'r> {
     pub budget: usize,
     /// Whether optional fields are present and lists filled wherever possible.
     pub full: bool,
+    /// What goes on as far as the budget does.
+    pub length: Length,
 }
+
+/// What is long in a value.
+#[derive(Clone, Copy, Debug, PartialEq, Eq)]
+pub enum Length {
+    Short,
+    LongLists,
+    /// Lists too.
+    LongTexts,
+}
+
+/// The pairs of a map in a long value, at most; few maps have so many.
+const LONG_PAIRS: usize = 64;
 
 impl Maker<'_, '_> {
     /// A value of a type that fits into so many levels.
@@ -139,6 +153,7 @@ impl Maker<'_, '_> {
 
     fn text_length(&mut self) -> usize {
         let length = match self.rng.below(40) {
+            10..=29 if self.length == Length::LongTexts => self.rng.below(self.budget + 1),
             0 => self.rng.range(120, 140),
             _ => self.rng.below(6),
         };
@@ -159,6 +174,9 @@ impl Maker<'_, '_> {
 
     fn count(&mut self) -> usize {
         match self.full {
+            _ if self.length != Length::Short && !self.rng.one_in(3) => {
+                self.rng.below(self.budget + 1)
+            }
             true => self.rng.range(1, 4),
             false => self.rng.below(4),
         }
@@ -176,7 +194,8 @@ impl Maker<'_, '_> {
 
     fn pairs(&mut self, key: u32, value: u32, levels: usize) -> Content {
         let mut pairs: Vec<(Value, Value)> = Vec::new();
-        for _ in 0..self.count() + usize::from(self.full) {
+        let count = self.count() + usize::from(self.full);
+        for _ in 0..count.min(LONG_PAIRS) {
             if !self.may_add(key, levels) || !self.may_add(value, levels) {
                 break;
             }

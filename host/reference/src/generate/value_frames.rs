@@ -43,9 +43,19 @@ fn behind(header: Header, sheet: WriteCase, room: usize) -> Case {
 pub fn value_frame(rng: &mut Rng, number: Option<u32>) -> Case {
     let header = random_header(rng);
     let sheet = writer_sheet(rng, number);
+    headed(rng, header, sheet)
+}
+
+fn headed(rng: &mut Rng, header: Header, sheet: WriteCase) -> Case {
     let length = whole(&sheet).unwrap_or(60);
     let room = room(rng, length);
     behind(header, sheet, room)
+}
+
+/// A header and a sheet.
+pub fn of_sheet(rng: &mut Rng, sheet: WriteCase) -> Case {
+    let header = random_header(rng);
+    headed(rng, header, sheet)
 }
 
 /// A kind that does not exist (4), behind a table at fault or before any other

@@ -1,4 +1,4 @@
--- `Call::judge` meets its contract: 12, then 14 or 16, then the next record and the payload.
+-- `Call::judge` meets its contract: 12, then 14 or 16, then 17, then the next record and the payload.
 -- Assumes nothing.
 use mathlib.Core.Path.{_≡_, sym, _∙_, ap}
 use mathlib.Core.Bool.{false}
@@ -27,23 +27,39 @@ returns c =
 
 returns-2 : tie.Need-returns-2
 returns-2 c =
-    let a = c .before .before .before .before .before .before .before .args in
+    let test = c .before .before in
+    let a = test .before .before .before .before .args in
     rw (
-      sym (c .before .before .before .before .before .before .is-named .ensures) ∙ not-false _ (c .before .before .before .before .before .if1 .left),
-      sym (c .before .before .before .allows .ensures ∙ ap (λ (r : FormRow). allowed r (a .f .kind) (a .self)) (c .before .before .before .before .row-of .ensures)) ∙ c .before .before .if2 .taken,
-      c .payload-of .ensures,
-      c .before .after .ensures,
-      c .before .before .before .before .row-of .ensures,
+      sym (test .before .before .before .is-named .ensures) ∙ not-false _ (test .before .before .if1 .left),
+      sym (test .allows .ensures ∙ ap (λ (r : FormRow). allowed r (a .f .kind) (a .self)) (test .before .row-of .ensures)) ∙ not-true _ (c .before .if2 .taken),
+      c .not-allowed .ensures,
     )
 
 returns-3 : tie.Need-returns-3
 returns-3 c =
-    let a = c .before .before .before .before .before .before .args in
-    let test = c .before .before in
+    let test = c .before .before .before in
+    let a = test .before .before .before .before .args in
     rw (
       sym (test .before .before .before .is-named .ensures) ∙ not-false _ (test .before .before .if1 .left),
-      sym (test .allows .ensures ∙ ap (λ (r : FormRow). allowed r (a .f .kind) (a .self)) (test .before .row-of .ensures)) ∙ c .before .if2 .left,
-      c .not-allowed .ensures,
+      sym (test .allows .ensures ∙ ap (λ (r : FormRow). allowed r (a .f .kind) (a .self)) (test .before .row-of .ensures)) ∙ not-false _ (c .before .before .if2 .left),
+      sym (c .before .at-limit .ensures) ∙ c .if3 .taken,
+    )
+
+after-requires : tie.Need-after-requires
+after-requires c κs = sym (c .before .at-limit .ensures) ∙ c .if3 .left
+
+returns-4 : tie.Need-returns-4
+returns-4 c =
+    let limit = c .before .before .before in
+    let test = limit .before .before in
+    let a = test .before .before .before .before .args in
+    rw (
+      sym (test .before .before .before .is-named .ensures) ∙ not-false _ (test .before .before .if1 .left),
+      sym (test .allows .ensures ∙ ap (λ (r : FormRow). allowed r (a .f .kind) (a .self)) (test .before .row-of .ensures)) ∙ not-false _ (limit .before .if2 .left),
+      sym (limit .at-limit .ensures) ∙ c .before .before .if3 .left,
+      c .payload-of .ensures,
+      c .before .after .ensures,
+      test .before .row-of .ensures,
     )
 
 pub judge-spec : {M : Type 1} → statement M
@@ -55,7 +71,9 @@ judge-spec =
     (λ c κs. search needs)
     (λ c κs. search needs)
     (λ c κs. search needs)
-    (λ c κs. search needs)
-    (λ c κs. search needs)
     returns-2
-    returns-3)
+    (λ c κs. search needs)
+    returns-3
+    after-requires
+    (λ c κs. search needs)
+    returns-4)

@@ -1,14 +1,17 @@
--- `cases::lines::run_events` is safe and ends: the measure is the number of events that are left.
+-- `cases::lines::run_events` is safe and ends: the rows keep their number, and the measure is the number of events that are left.
 -- Assumes nothing.
+use mathlib.Core.Path.{_≡_, refl}
 use native.Mathlib.Omega.{arith}
+use borrow.Author.Needs.{needs}
+use lib.ListN.{length}
 use Rattle.cases.proofs.lines.run_events.Statement.{statement}
 use Rattle.cases.proofs.lines.run_events.Tie as tie
 
 abbrev Inv-loop : tie.InvT-loop
-Inv-loop schema cells events marked whole₀ table₀ left₀ whole table left = Unit {0}
+Inv-loop schema cells events marked tallies₀ whole₀ table₀ left₀ tallies whole table left = length tallies ≡ length tallies₀
 
 abbrev μ-loop : tie.MeasureT-loop
-μ-loop schema cells events marked whole₀ table₀ left₀ whole table left = left
+μ-loop schema cells events marked tallies₀ whole₀ table₀ left₀ tallies whole table left = left
 
 pub run-events-spec : {M : Type 1} → statement M
 run-events-spec =
@@ -16,10 +19,11 @@ run-events-spec =
     (tie.spec
     Inv-loop
     μ-loop
-    (λ c κs. tt)
-    (λ c. tt)
-    (λ c κs. tt)
+    (λ c κs. search needs)
+    (λ c. refl)
+    (λ c κs. search needs)
     (λ c. omega arith)
     (λ c. omega arith)
-    (λ c. tt)
-    (λ c. tt))
+    (λ c. search needs)
+    (λ c. search needs)
+    (λ c. search needs))

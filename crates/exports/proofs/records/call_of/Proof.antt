@@ -10,4 +10,4 @@ unfolding callOf
 returns c = refl
 
 pub call-of-spec : {M : Type 1} → statement M
-call-of-spec = tie.close (tie.spec (λ c. search needs) returns)
+call-of-spec = tie.close (tie.spec (λ c. search needs) (λ c. search needs) (λ c. search needs) returns)

@@ -1,0 +1,23 @@
+-- `Rise::figure` meets its contract: the number picks the case.
+-- Assumes nothing.
+use mathlib.Core.Path.{sym, _∙_}
+use borrow.Author.Tests.{eq-eqb, ne-eqb}
+use borrow.Author.Needs.{needs}
+use Rattle.calls.specs.Counting.{figureBy}
+use Rattle.calls.proofs.Rise.figure.Statement.{statement}
+use Rattle.calls.proofs.Rise.figure.Tie as tie
+
+returns : tie.Need-returns
+unfolding figureBy
+returns c = rw (eq-eqb _ 0 (c .if1 .taken))
+
+returns-2 : tie.Need-returns-2
+unfolding figureBy
+returns-2 c = rw (ne-eqb _ 0 (c .before .before .if1 .left), sym (c .before .ends-call .ensures) ∙ c .if2 .taken)
+
+returns-3 : tie.Need-returns-3
+unfolding figureBy
+returns-3 c = rw (ne-eqb _ 0 (c .before .before .if1 .left), sym (c .before .ends-call .ensures) ∙ c .if2 .left)
+
+pub figure-spec : {M : Type 1} → statement M
+figure-spec = tie.close (tie.spec returns (λ c κs. search needs) returns-2 returns-3)

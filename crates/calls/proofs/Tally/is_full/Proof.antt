@@ -1,0 +1,11 @@
+-- `Tally::is_full` meets its contract, by the figure.
+-- Assumes nothing.
+use borrow.Author.Needs.{needs}
+use Rattle.calls.proofs.Tally.is_full.Statement.{statement}
+use Rattle.calls.proofs.Tally.is_full.Tie as tie
+
+returns : tie.Need-returns
+returns c = rw (c .figure .ensures)
+
+pub is-full-spec : {M : Type 1} → statement M
+is-full-spec = tie.close (tie.spec (λ c κs. search needs) returns)

@@ -1,0 +1,15 @@
+-- Records that count few elements.
+-- Assumes nothing.
+use mathlib.Core.List.{List}
+use Prim.Native.Nat.{ℕ, _≤_}
+use Rattle.calls.specs.declared.Call.{Call}
+use Rattle.calls.specs.Slots.{slot}
+
+-- A record's counts are at most so many.
+pub record Few (most : ℕ) (c : Call) : Type 0 where
+  pub inputs : c .«input_elements» ≤ most
+  pub outputs : c .«output_elements» ≤ most
+
+-- So are those of every slot.
+abbrev pub FewIn : (most : ℕ) → List Call → Type 0
+FewIn most l = (i : ℕ) → Few most (slot l i)

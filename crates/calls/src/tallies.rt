@@ -1,0 +1,159 @@
+// Tally rows: what a judged frame or release raises in the row of its method.
+use crate::Call;
+use crate::CallTable;
+use crate::Figure;
+use crate::Judged;
+use crate::Rise;
+use crate::Tally;
+use crate::numbers::ends_call;
+ghost use mathlib.Core.Path.{_≡_};
+ghost use mathlib.Core.Bool.{false};
+ghost use Rattle.calls.specs.Counting.{noTally, ending, riseOf, releaseRise, figureBy, figureIn, fullAt, raised};
+
+// A fresh row.
+pub const NO_TALLY: Tally = Tally {
+    opened: 0,
+    completed: 0,
+    errored: 0,
+    cancelled: 0,
+    failed: 0,
+};
+
+const NO_RISE: Rise = Rise {
+    row: 0,
+    accepted: Figure::Nothing,
+    refused: Figure::Nothing,
+};
+
+impl Call {
+    // What an accepted frame of this kind counts as, where the call's record is `next` afterwards.
+    fn ending(self, kind: u8, next: Call) -> Figure
+        ensures { λ r. ⌜ r ≡ ending kind self next ⌝ }
+    {
+        let error = kind == 7;
+        let late = self.cancelled;
+        if error {
+            if late {
+                Figure::Cancelled
+            } else {
+                Figure::Errored
+            }
+        } else {
+            if next.open {
+                Figure::Nothing
+            } else {
+                Figure::Completed
+            }
+        }
+    }
+}
+
+impl CallTable {
+    // What a judged frame of this kind raises.
+    pub fn rise(self, kind: u8, judged: Judged) -> Rise
+        ensures { λ r. ⌜ r ≡ riseOf kind (self .slots) judged ⌝ }
+    {
+        match judged {
+            Judged::Stop(_) => NO_RISE,
+            Judged::Opens(_, call, _) => Rise {
+                row: call.method as usize,
+                accepted: Figure::Opened,
+                refused: Figure::Nothing,
+            },
+            Judged::Goes(i, next, _) => {
+                let call = self.at(i);
+                Rise {
+                    row: call.method as usize,
+                    accepted: call.ending(kind, next),
+                    refused: Figure::Failed,
+                }
+            }
+        }
+    }
+
+    // What a judged release raises.
+    pub fn release_rise(self, judged: Judged) -> Rise
+        ensures { λ r. ⌜ r ≡ releaseRise (self .slots) judged ⌝ }
+    {
+        match judged {
+            Judged::Stop(_) => NO_RISE,
+            Judged::Opens(_, _, _) => NO_RISE,
+            Judged::Goes(i, _, _) => {
+                let call = self.at(i);
+                let row = call.method as usize;
+                let accepted = Figure::Cancelled;
+                let refused = Figure::Nothing;
+                Rise {
+                    row,
+                    accepted,
+                    refused,
+                }
+            }
+        }
+    }
+}
+
+impl Rise {
+    // The figure that rises, by the number that the payload gives.
+    pub fn figure(self, number: u32) -> Figure
+        ensures { λ r. ⌜ r ≡ figureBy self number ⌝ }
+    {
+        if number == 0 {
+            return self.accepted;
+        }
+        if ends_call(number) {
+            self.refused
+        } else {
+            Figure::Nothing
+        }
+    }
+}
+
+impl Tally {
+    fn figure(self, f: Figure) -> u32
+        ensures { λ r. ⌜ r ≡ figureIn self f ⌝ }
+    {
+        match f {
+            Figure::Nothing => 0,
+            Figure::Opened => self.opened,
+            Figure::Completed => self.completed,
+            Figure::Errored => self.errored,
+            Figure::Cancelled => self.cancelled,
+            Figure::Failed => self.failed,
+        }
+    }
+
+    // The figure can rise no more.
+    pub fn is_full(self, f: Figure) -> bool
+        ensures { λ r. ⌜ r ≡ fullAt self f ⌝ }
+    {
+        self.figure(f) == 4294967295
+    }
+
+    // The row with one more in a figure that is not full.
+    pub fn raised(self, f: Figure) -> Tally
+        requires { ⌜ fullAt self f ≡ false ⌝ }
+        ensures { λ r. ⌜ r ≡ raised self f ⌝ }
+    {
+        let mut next = self;
+        match f {
+            Figure::Nothing => {}
+            Figure::Opened => {
+                next.opened += 1;
+            }
+            Figure::Completed => {
+                next.completed += 1;
+            }
+            Figure::Errored => {
+                next.errored += 1;
+            }
+            Figure::Cancelled => {
+                next.cancelled += 1;
+            }
+            Figure::Failed => {
+                next.failed += 1;
+            }
+        }
+        next
+    }
+}

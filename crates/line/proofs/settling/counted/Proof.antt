@@ -1,0 +1,20 @@
+-- `line::settling::counted` meets its contract: the test picks the case.
+-- Assumes nothing.
+use mathlib.Core.Path.{sym, _∙_, ap}
+use Rattle.calls.specs.Counting.{fullAt}
+use borrow.Author.Needs.{needs}
+use Rattle.line.proofs.settling.counted.Statement.{statement}
+use Rattle.line.proofs.settling.counted.Tie as tie
+
+returns : tie.Need-returns
+returns c =
+    let a = c .before .before .before .args in
+    rw (sym (c .before .is-full .ensures ∙ ap (fullAt (a .tally)) (c .before .before .figure .ensures)) ∙ c .if1 .taken)
+
+returns-2 : tie.Need-returns-2
+returns-2 c =
+    let a = c .before .before .before .args in
+    rw (sym (c .before .is-full .ensures ∙ ap (fullAt (a .tally)) (c .before .before .figure .ensures)) ∙ c .if1 .left)
+
+pub counted-spec : {M : Type 1} → statement M
+counted-spec = tie.close (tie.spec (λ c κs. search needs) (λ c κs. search needs) returns returns-2)
