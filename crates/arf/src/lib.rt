@@ -8,6 +8,8 @@ use calls::CallTable;
 use frame::FrameRead;
 use frame::FrameWritten;
 use frame::Header;
+use index::Finding;
+use index::Indexing;
 pub use line::receive::receive;
 pub use line::release::release;
 use reader::Reading;
@@ -23,6 +25,8 @@ ghost use Rattle.calls.specs.Slots.{freshTable};
 ghost use Rattle.forward.specs.Entry.{forwardOutcome};
 ghost use Rattle.frame.specs.Frame.{frameOf};
 ghost use Rattle.frame.specs.Written.{writtenOf, outputOf};
+ghost use Rattle.index.specs.Index as making;
+ghost use Rattle.index.specs.LookUp as look;
 ghost use Rattle.reader.specs.Beside.{besideOutcome};
 ghost use Rattle.reader.specs.Entry.{Outcome, readOutcome};
 ghost use Rattle.salvage.specs.Salvage.{outcome, salvageOf};
@@ -141,4 +145,22 @@ pub fn salvage(record: &[u8], copy: &mut [u8], spans: &mut [u32]) -> Salvaging
     ensures { λ r. ⌜ outcome r (now (copy .exit)) (now (spans .exit)) ≡ salvageOf (now («record» .entry)) (now (copy .entry)) (now (spans .entry)) ⌝ }
 {
     salvage::salvage(record, copy, spans)
+}
+
+// Makes the index of a record by a schema file at the start of the output: 16-byte rows of correlation, place and answer, a row for each entry that the listing
+// prints, strictly rising by correlation and then place, and a trailer. The length of the index, or the refusal's number (the table's, 45, 52) and place,
+// which leaves the output as it was. It runs the record on a sheet of its own, and needs 172 KiB of stack.
+pub fn make_index(schema: &[u8], record: &[u8], out: &mut [u8]) -> Indexing
+    ensures { λ r. ⌜ making.outcome r (now (out .exit)) ≡ making.makeIndex (now (schema .entry)) (now («record» .entry)) (now (out .entry)) ⌝ }
+{
+    index::make_index(schema, record, out)
+}
+
+// Prints the rows of one call in an index at the start of the output, as text: a heading, a line for each row with its place and answer, and last `stopped`
+// with 0, or with 65 for bytes that are no index or 66 for a record of another length. That number and the text's length, or 52 where the text does not fit,
+// which leaves the output as it was.
+pub fn look_up(index: &[u8], record: &[u8], correlation: u64, out: &mut [u8]) -> Finding
+    ensures { λ r. ⌜ look.outcome r (now (out .exit)) ≡ look.lookUp (now (index .entry)) (now («record» .entry)) correlation (now (out .entry)) ⌝ }
+{
+    index::look_up(index, record, correlation, out)
 }

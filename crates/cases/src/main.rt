@@ -32,6 +32,8 @@ fn run_case() -> bool {
         16 => values::read_beside(),
         17 => records::salvage(),
         18 => values::forward(),
+        19 => records::index(),
+        20 => records::look_up(),
         _ => false,
     };
     if !done {

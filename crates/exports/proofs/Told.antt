@@ -2,11 +2,12 @@
 -- Assumes nothing.
 use mathlib.Core.Path.{_≡_, refl, ap, subst}
 use mathlib.Core.Bool.{Bool, true, false, cond}
-use mathlib.Core.List.{List}
+use mathlib.Core.List.{List, _++_}
+use mathlib.Core.Logic.{⊎-elim}
 use Prim.Native.Nat.{ℕ, zero, suc, _≤_}
 use native.Mathlib.Omega.{arith}
-use lib.Dec.{leb, lit≤}
-use lib.ListN.{length}
+use lib.Dec.{eqb, leb, ltb, lit≤}
+use lib.ListN.{length, drop}
 use Rattle.schema.specs.File.{tableOf}
 use Rattle.schema.specs.Check.{checked}
 use Rattle.schema.specs.Extend.{ifGood, extended, extension}
@@ -28,15 +29,22 @@ use Rattle.reader.specs.declared.Reading.{Reading}
 use Rattle.reader.specs.declared.Reading.the-variants as reader
 use Rattle.writer.specs.declared.Writing.{Writing}
 use Rattle.writer.specs.declared.Writing.the-variants as writer
+use Rattle.index.specs.declared.Indexing.{Indexing}
+use Rattle.index.specs.declared.Indexing.the-variants as index
+use Rattle.index.specs.declared.Finding.{Finding}
+use Rattle.index.specs.declared.Finding.the-variants as find
+use Rattle.index.specs.Index as making
+use Rattle.index.specs.LookUp as look
+use Rattle.index.proofs.Statements.{refused-above as index-above, verdict-known}
 use Rattle.salvage.specs.declared.Salvaging.{Salvaging}
 use Rattle.salvage.specs.declared.Salvaging.the-variants as salvage
 use Rattle.salvage.specs.Salvage as salvaging
 use Rattle.salvage.proofs.Statements.{refused-bounds}
 use Rattle.calls.specs.declared.Call.{Call}
 use Rattle.line.specs.declared.Received.{Received}
-use Rattle.exports.specs.Answers.{checkCells, extendCells, frameCells, writtenCells, readNumber, readCells, writeCells, salvageCells}
+use Rattle.exports.specs.Answers.{checkCells, extendCells, frameCells, writtenCells, readNumber, readCells, writeCells, indexCells, findCells, salvageCells}
 use Rattle.exports.specs.Answers.{receiving, callCells, receivedCells, releasing, releasedCells}
-use Rattle.exports.specs.Told.{checkTold, extendTold, frameTold, writtenTold, readTold, writeTold, salvageTold, receivedTold, releasedTold}
+use Rattle.exports.specs.Told.{checkTold, extendTold, frameTold, writtenTold, readTold, writeTold, indexTold, findTold, salvageTold, receivedTold, releasedTold}
 use Rattle.exports.proofs.Held.{after-held, release-held}
 
 pub check-told : (a : Checked) → ((n q : ℕ) → a ≡ check.Refused n q → 1 ≤ n) → checkTold (checkNumber a) (checkCells a) ≡ a
@@ -119,6 +127,27 @@ write-frame-entry h p room = written-told (wrote.writtenOf h p room) (λ n e. su
 
 pub salvage-entry : (torn copy spans : List ℕ) → let a = salvaging.salvageOf torn copy spans .answer in salvageTold (salvaging.salvageNumber a) (salvageCells a) ≡ a
 salvage-entry torn copy spans = salvage-told (salvaging.salvageOf torn copy spans .answer) (λ n e. omega (arith, refused-bounds torn copy spans e))
+
+index-told : (a : Indexing) → ((n q : ℕ) → a ≡ index.Refused n q → 1 ≤ n) → indexTold (making.indexNumber a) (indexCells a) ≡ a
+index-told (index.Made n) h = refl
+index-told (index.Refused zero q) h = absurd (omega (arith, h 0 q refl))
+index-told (index.Refused (suc n) q) h = refl
+
+pub make-index-entry : (schema entries out : List ℕ) → let a = making.makeIndex schema entries out .answer in indexTold (making.indexNumber a) (indexCells a) ≡ a
+make-index-entry schema entries out = index-told (making.makeIndex schema entries out .answer) (λ n q e. index-above schema entries out e)
+
+pub look-up-entry : (index entries : List ℕ) (c : ℕ) (out : List ℕ) → let a = look.lookUp index entries c out .answer in findTold (look.findNumber a) (findCells a) ≡ a
+unfolding look.lookUp look.put
+look-up-entry s entries c out = go (ltb (length out) (length (look.lookText s (length entries) c)))
+  where
+    known : eqb (look.verdict s (length entries)) 52 ≡ false
+    known = ⊎-elim (λ e. rw e) (⊎-elim (λ e. rw e) (λ e. rw e)) (verdict-known s (length entries))
+
+    go : (b : Bool) → let text = look.lookText s (length entries) c in
+        let o = cond b (look.outcome (find.Refused 52) out) (look.outcome (find.Printed (look.verdict s (length entries)) (length text)) (text ++ drop (length text) out)) in
+        findTold (look.findNumber (o .answer)) (findCells (o .answer)) ≡ o .answer
+    go true = refl
+    go false = rw known
 
 -- the answer with these records
 abbrev told-over : Received → List Call → Received

@@ -25,6 +25,10 @@ use Rattle.writer.specs.declared.Writing.the-variants.{Written, Refused as Unwr
 use Rattle.writer.specs.Entry as writer
 use Rattle.valueframe.specs.Entry.{frameOutcome}
 use Rattle.forward.specs.Entry.{forwardOutcome}
+use Rattle.index.specs.declared.Indexing.{Indexing}
+use Rattle.index.specs.declared.Finding.{Finding}
+use Rattle.index.specs.Index.{indexPlace, indexLength}
+use Rattle.index.specs.LookUp.{findLength}
 use Rattle.salvage.specs.declared.Salvaging.{Salvaging}
 use Rattle.salvage.specs.Salvage.{salvageEntries, salvageBytes, salvageSpans}
 use Rattle.calls.specs.declared.Call.{Call}
@@ -161,6 +165,14 @@ scalarCells (Refused number place) = place ∷ 0 ∷ 0 ∷ 0 ∷ []
 -- A record salvaged: entries kept, bytes copied, spans listed.
 abbrev pub salvageCells : Salvaging → List ℕ
 salvageCells a = salvageEntries a ∷ salvageBytes a ∷ salvageSpans a ∷ []
+
+-- An index made: place, its length.
+abbrev pub indexCells : Indexing → List ℕ
+indexCells a = indexPlace a ∷ indexLength a ∷ []
+
+-- A call looked up: the text's length.
+abbrev pub findCells : Finding → List ℕ
+findCells a = findLength a ∷ []
 
 -- ---- calls
 

@@ -19,6 +19,10 @@ use Rattle.reader.specs.declared.Reading.{Reading}
 use Rattle.reader.specs.declared.Reading.the-variants as reader
 use Rattle.writer.specs.declared.Writing.{Writing}
 use Rattle.writer.specs.declared.Writing.the-variants as writer
+use Rattle.index.specs.declared.Indexing.{Indexing}
+use Rattle.index.specs.declared.Indexing.the-variants as index
+use Rattle.index.specs.declared.Finding.{Finding}
+use Rattle.index.specs.declared.Finding.the-variants as find
 use Rattle.salvage.specs.declared.Salvaging.{Salvaging}
 use Rattle.salvage.specs.declared.Salvaging.the-variants as salvage
 use Rattle.line.specs.declared.Received.{Received}
@@ -63,6 +67,14 @@ writeTold (suc n) cells = writer.Refused (suc n) (cell cells 0)
 abbrev pub salvageTold : (number : ℕ) → List ℕ → Salvaging
 salvageTold zero cells = salvage.Salvaged (cell cells 0) (cell cells 1) (cell cells 2)
 salvageTold (suc n) cells = salvage.Refused (suc n)
+
+abbrev pub indexTold : (number : ℕ) → List ℕ → Indexing
+indexTold zero cells = index.Made (cell cells 1)
+indexTold (suc n) cells = index.Refused (suc n) (cell cells 0)
+
+-- 52 is the number of a text that does not fit, and never stands in a text.
+abbrev pub findTold : (number : ℕ) → List ℕ → Finding
+findTold number cells = cond (eqb number 52) (find.Refused 52) (find.Printed number (cell cells 0))
 
 -- The answer to a frame, from the cells of the call table too.
 abbrev pub receivedTold : (number : ℕ) → (answer table : List ℕ) → Received

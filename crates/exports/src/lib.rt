@@ -2,6 +2,7 @@
 // Each gives 01's number and stores the answer's other numbers into cells that the caller lends, as many as there is room for.
 pub mod cells;
 pub mod frames;
+pub mod indexes;
 pub mod payloads;
 pub mod receive;
 pub mod records;

@@ -70,6 +70,16 @@ pub fn read(program: &[u8], i: usize, buf: &mut [u8], whole: &mut bool) -> usize
     n
 }
 
+// The number n of bytes at the front of buf; there are never more than buf has.
+pub fn front(n: usize, buf: &[u8]) -> usize
+    ensures { λ r. ⌜ Counts r (now (buf .entry)) ⌝ }
+{
+    if buf.len() < n {
+        return 0;
+    }
+    n
+}
+
 // Makes a file, which may not be there yet, and answers a descriptor that is open for writing.
 pub fn create(program: &[u8], path: &[u8], whole: &mut bool) -> i32 {
     let fd = os::create(path);
@@ -101,5 +111,18 @@ pub fn finish(program: &[u8], fd: i32, path: &[u8], whole: &mut bool) {
     if libc::close(fd) < 0 {
         fail(program, path);
         *whole = false;
+    }
+}
+
+// Writes the bytes to a new file, which is taken away again where that fails.
+pub fn save(program: &[u8], path: &[u8], bytes: &[u8], whole: &mut bool) {
+    let fd = create(program, path, whole);
+    if fd < 0 {
+        return;
+    }
+    put(program, fd, path, bytes, whole);
+    finish(program, fd, path, whole);
+    if !*whole {
+        os::unlink(path);
     }
 }

@@ -27,7 +27,11 @@ use Rattle.line.specs.Planning as planning
 use Rattle.line.specs.Receive as receive
 use Rattle.line.specs.Run as run
 use Rattle.line.specs.Fresh as fresh
-use Rattle.listing.specs.Decimal as decimal
+use Rattle.text.specs.Decimal as decimal
+use Rattle.text.specs.Put as put
+use Rattle.replay.specs.Run as replay
+use Rattle.index.specs.Row as rows
+use Rattle.index.specs.Index as index
 use Rattle.listing.specs.Text as text
 use Rattle.listing.specs.Listing as listing
 
@@ -42,7 +46,8 @@ entries =
 
 abbrev pub output : List ℕ
 output =
-    102 ∷ 114 ∷ 97 ∷ 109 ∷ 101 ∷ 32 ∷ 115 ∷ 105 ∷ 100 ∷ 101 ∷ 32 ∷ 107 ∷ 105 ∷ 110 ∷ 100 ∷ 32 ∷ 99 ∷ 97 ∷ 108 ∷ 108 ∷ 32 ∷ 97 ∷ 110 ∷ 115 ∷ 119 ∷ 101 ∷ 114 ∷ 32 ∷ 112 ∷ 108 ∷ 97 ∷ 99 ∷ 101 ∷ 32 ∷ 114 ∷ 111 ∷ 119 ∷ 115 ∷ 32 ∷ 111 ∷ 112 ∷ 101 ∷ 110 ∷ 10 ∷
+    102 ∷ 114 ∷ 97 ∷ 109 ∷ 101 ∷ 32 ∷ 115 ∷ 105 ∷ 100 ∷ 101 ∷ 32 ∷ 107 ∷ 105 ∷ 110 ∷ 100 ∷ 32 ∷ 99 ∷ 97 ∷ 108 ∷ 108 ∷ 32 ∷
+    97 ∷ 110 ∷ 115 ∷ 119 ∷ 101 ∷ 114 ∷ 32 ∷ 112 ∷ 108 ∷ 97 ∷ 99 ∷ 101 ∷ 32 ∷ 114 ∷ 111 ∷ 119 ∷ 115 ∷ 32 ∷ 111 ∷ 112 ∷ 101 ∷ 110 ∷ 10 ∷
     49 ∷ 32 ∷ 67 ∷ 32 ∷ 49 ∷ 32 ∷ 57 ∷ 32 ∷ 48 ∷ 32 ∷ 48 ∷ 32 ∷ 50 ∷ 32 ∷ 49 ∷ 10 ∷
     50 ∷ 32 ∷ 83 ∷ 32 ∷ 54 ∷ 32 ∷ 57 ∷ 32 ∷ 48 ∷ 32 ∷ 48 ∷ 32 ∷ 52 ∷ 32 ∷ 48 ∷ 10 ∷
     51 ∷ 32 ∷ 83 ∷ 32 ∷ 54 ∷ 32 ∷ 57 ∷ 32 ∷ 49 ∷ 49 ∷ 32 ∷ 48 ∷ 32 ∷ 48 ∷ 32 ∷ 48 ∷ 10 ∷
@@ -59,8 +64,8 @@ unfolding little.little varuint.front varuint.groups utf8.run utf8.next utf8.lea
     answer.block answer.varUInt value.rows value.value read.present read.count read.complete read.bitmap read.walk read.parse read.ending
     read.rootStruct read.read entry.payloadOutcome counting.riseOf counting.figureBy counting.raised line.stopped line.payloadRead
     planning.bytesPlan planning.planOf receive.frameSettled receive.settled receive.received run.freshTallies fresh.receivedFresh
-    decimal.digits decimal.decimal text.field text.lineStart text.lineText text.stoppedText listing.freshCalls listing.answerTo listing.headerIn
-    listing.entriesText listing.listing
+    decimal.digits decimal.decimal put.field replay.freshCalls replay.answerTo replay.headerIn replay.runFrom replay.runOf
+    text.lineStart text.lineText text.stoppedText listing.runLines listing.runText listing.listing
 listed r = listing.listing example.file r
 
 pub worked : listing.listing example.file entries ≡ output
@@ -94,3 +99,14 @@ crossedOutput =
 pub crossing : listing.listing example.file crossed ≡ crossedOutput
 unfolding listed
 crossing = refl
+
+-- the rows of 01's worked record: two calls, three entries and two
+pub worked-rows : index.rowsFor example.file entries
+    ≡ record { correlation = 9; place = 0; answer = 0 }
+    ∷ record { correlation = 9; place = 29; answer = 0 }
+    ∷ record { correlation = 9; place = 60; answer = 11 }
+    ∷ record { correlation = 10; place = 91; answer = 0 }
+    ∷ record { correlation = 10; place = 120; answer = 26 }
+    ∷ []
+unfolding listed rows.insert rows.ordered index.rowsFor
+worked-rows = refl

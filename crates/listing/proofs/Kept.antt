@@ -35,9 +35,11 @@ use Rattle.line.specs.declared.Received.{Received}
 use Rattle.line.proofs.Ways.{front-of}
 use Rattle.line.proofs.FreshRows.{rest-ignored, stays-good, few-more, used-or-rows}
 use Rattle.listing.specs.Text.{heading, lineText, stoppedText}
-use Rattle.listing.specs.Listing.{sheet, freshCalls, answerTo, headerIn, stops, entriesText, listing}
+use Rattle.replay.specs.Run.{sheet, freshCalls, answerTo, headerIn, stops, runOf}
+use Rattle.replay.proofs.Turns.{used-frame}
+use Rattle.listing.specs.Listing.{entriesText, listing}
 use Rattle.listing.specs.Lines.{joined, linesOf, Lines, no-entry, too-few-rows, one-line}
-use Rattle.listing.proofs.Turns.{used-frame, stop-turn, line-turn, end-turn}
+use Rattle.listing.proofs.Turns.{stop-turn, line-turn, end-turn}
 
 -- The entries' bytes are the record.
 pub joined-is : {s : List ℕ} {es : List (List ℕ)} → Entries s es → joined es ≡ s
@@ -111,7 +113,7 @@ module _ (schema : List ℕ) where
 
   -- The listing of a record of whole entries, by a good schema file: the heading, and then a line for each entry.
   pub listing-whole : {s : List ℕ} {es : List (List ℕ)} → IsGood schema → length schema ≤ 65536 → length s ≤ 65536 → Entries s es → listing schema s ≡ heading ++ linesOf schema 1 es freshCalls
-  unfolding listing
+  unfolding listing entriesText runOf
   listing-whole {s} {es} good small short w =
       rw (or-neither (ltb 65536 (length schema)) (ltb 65536 (length s)) (le-ltb 65536 (length schema) small) (le-ltb 65536 (length s) short), good)
       (ap (λ (t : List ℕ). heading ++ t) (entries-listed w (length s) 1 freshCalls (omega arith)))

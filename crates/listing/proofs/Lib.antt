@@ -1,6 +1,6 @@
 pub mod Texts
-pub mod Decimals
 pub mod Turns
 pub mod Wholes
 pub mod Examples
 pub mod Kept
+pub mod Indexed

@@ -11,9 +11,11 @@ use Rattle.schema.specs.declared.Checked.{Checked}
 use Rattle.schema.specs.declared.Checked.the-variants.{Good, Refused as Faulty}
 use Rattle.schema.specs.Check.{checked}
 use Rattle.schema.proofs.Bools.{cases, clash, or-right}
-use Rattle.listing.specs.Text.{heading, stoppedText, Added}
-use Rattle.listing.specs.Listing.{freshCalls, entriesText, tooLong, listing}
-use Rattle.listing.proofs.Texts.{added-then}
+use Rattle.text.specs.Put.{Added}
+use Rattle.text.proofs.Texts.{added-then}
+use Rattle.replay.specs.Run.{runOf}
+use Rattle.listing.specs.Text.{heading, stoppedText}
+use Rattle.listing.specs.Listing.{runText, tooLong, listing}
 use mathlib.Core.Logic.{⊎-elim}
 
 -- A record that is listed has at most 65,536 bytes.
@@ -34,6 +36,6 @@ module _ (schema entries : List ℕ) {out mid after : List ℕ} {at next : ℕ} 
     unfolding listing
     whole-faulty h f = rw (e, ← is, h) (added-then first f)
 
-    pub whole-good : v ≡ Good → Added mid at (entriesText schema (length entries) 1 entries freshCalls) next after → Added out 0 (listing schema entries) next after
+    pub whole-good : v ≡ Good → Added mid at (runText 1 (runOf schema entries)) next after → Added out 0 (listing schema entries) next after
     unfolding listing
     whole-good h f = rw (e, ← is, h) (added-then first f)

@@ -9,7 +9,7 @@ use lib.ListN.{length, getD, drop}
 use Rattle.frame.specs.Frame.{frameOf}
 use Rattle.calls.specs.declared.Call.{Call}
 use Rattle.listing.specs.Text.{lineText, stoppedText}
-use Rattle.listing.specs.Listing.{answerTo, headerIn}
+use Rattle.replay.specs.Run.{answerTo, headerIn}
 
 -- the entries' bytes, one after the other
 unfoldable pub joined : List (List ℕ) → List ℕ

@@ -1,13 +1,11 @@
 -- The lines of a listing, as ASCII codes. Each ends in one LF (10); its words have single blanks (32) between.
 -- Assumes nothing.
-use mathlib.Core.Path.{_≡_}
 use mathlib.Core.List.{List, [], _∷_, _++_}
-use Prim.Native.Nat.{ℕ, _+_}
-use lib.ListN.{length}
-use lib.Seq.{sets}
+use Prim.Native.Nat.{ℕ}
 use Rattle.frame.specs.declared.Header.{Header}
 use Rattle.line.specs.declared.Received.{Received}
-use Rattle.listing.specs.Decimal.{decimal}
+use Rattle.text.specs.Decimal.{decimal}
+use Rattle.text.specs.Put.{field}
 
 -- frame side kind call answer place rows open
 abbrev pub heading : List ℕ
@@ -15,10 +13,6 @@ heading =
     102 ∷ 114 ∷ 97 ∷ 109 ∷ 101 ∷ 32 ∷ 115 ∷ 105 ∷ 100 ∷ 101 ∷ 32 ∷ 107 ∷ 105 ∷ 110 ∷ 100 ∷ 32 ∷ 99 ∷ 97 ∷ 108 ∷ 108 ∷ 32 ∷
     97 ∷ 110 ∷ 115 ∷ 119 ∷ 101 ∷ 114 ∷ 32 ∷ 112 ∷ 108 ∷ 97 ∷ 99 ∷ 101 ∷ 32 ∷ 114 ∷ 111 ∷ 119 ∷ 115 ∷ 32 ∷
     111 ∷ 112 ∷ 101 ∷ 110 ∷ 10 ∷ []
-
--- A blank and a number.
-unfoldable pub field : ℕ → List ℕ
-field n = (32 ∷ []) ++ decimal n
 
 -- The line of an entry: its number, side, kind and correlation, then answer, place, rows, and the calls open afterwards.
 unfoldable pub lineStart : (entry side : ℕ) → Header → List ℕ
@@ -35,10 +29,3 @@ stoppedText number left =
     ++ (32 ∷ 108 ∷ 101 ∷ 102 ∷ 116 ∷ [])
     ++ field left
     ++ (10 ∷ [])
-
--- ---- texts in a buffer
-
--- The buffer as it is left where the text was stored from a place on, each byte that has a place there; and the place after the text.
-pub record Added (out : List ℕ) (pos : ℕ) (text : List ℕ) (next : ℕ) (after : List ℕ) : Type 0 where
-  pub holds : after ≡ sets out pos text
-  pub end : next ≡ pos + length text

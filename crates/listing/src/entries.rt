@@ -1,28 +1,14 @@
 // The entries of a record, one after the other.
 use crate::lines::put_line;
 use crate::lines::put_stopped;
-use calls::CallTable;
-use line::Received;
+use replay::step;
+use replay::stops;
 ghost use mathlib.Core.Path.{_≡_};
 ghost use Prim.Native.Nat.{_≤_};
 ghost use lib.ListN.{length};
-ghost use Rattle.listing.specs.Text.{Added};
-ghost use Rattle.listing.specs.Listing.{freshCalls, answerTo, stops as stopsAt, entriesText};
-
-// The answer to an entry's frame, on a sheet of 4,096 rows, with fresh tallies.
-fn answer(table: CallTable, schema: &[u8], side: u8, bytes: &[u8], sheet: &mut [u32]) -> Received
-    requires { ⌜ length (now sheet) ≡ 16384 ⌝ }
-    ensures { λ r. ⌜ r ≡ answerTo (now (schema .entry)) side (now (bytes .entry)) (table .slots) ⌝ }
-{
-    line::fresh::receive_fresh(table, schema, side, bytes, sheet)
-}
-
-// Whether an entry with this side and answer stops the listing.
-fn stops(side: u8, number: u32, used: usize) -> bool
-    ensures { λ r. ⌜ r ≡ stopsAt side number used ⌝ }
-{
-    (used == 0) | ((number == 8) & !((side == b'C') | (side == b'S')))
-}
+ghost use Rattle.text.specs.Put.{Added};
+ghost use Rattle.replay.specs.Run.{runOf};
+ghost use Rattle.listing.specs.Listing.{runText};
 
 // The entries from the first on, and the last line.
 fn put_from_first(
@@ -33,7 +19,7 @@ fn put_from_first(
     start: usize,
 ) -> usize
     requires { ⌜ (start ≤ 44) × (length (now entries) ≤ 65536) × (length (now sheet) ≡ 16384) ⌝ }
-    ensures { λ r. ⌜ Added (now (out .entry)) start (entriesText (now (schema .entry)) (length (now (entries .entry))) 1 (now (entries .entry)) freshCalls) r (now (out .exit)) ⌝ }
+    ensures { λ r. ⌜ Added (now (out .entry)) start (runText 1 (runOf (now (schema .entry)) (now (entries .entry)))) r (now (out .exit)) ⌝ }
     ensures { λ r. ⌜ r ≤ 362000 ⌝ }
 {
     let mut table = arf::fresh();
@@ -43,7 +29,7 @@ fn put_from_first(
     while at < entries.len() {
         let side = entries[at];
         let from = at + 1;
-        let a = answer(table, schema, side, &entries[from..], sheet);
+        let a = step(table, schema, side, &entries[from..], sheet);
         if stops(side, a.number, a.used) {
             return put_stopped(out, pos, a.number, entries.len() - at);
         }
@@ -58,7 +44,7 @@ fn put_from_first(
 // All entries of a record of at most 65,536 bytes, from the fresh call table, and the last line.
 pub fn put_entries(schema: &[u8], entries: &[u8], out: &mut [u8], start: usize) -> usize
     requires { ⌜ (start ≤ 44) × (length (now entries) ≤ 65536) ⌝ }
-    ensures { λ r. ⌜ Added (now (out .entry)) start (entriesText (now (schema .entry)) (length (now (entries .entry))) 1 (now (entries .entry)) freshCalls) r (now (out .exit)) ⌝ }
+    ensures { λ r. ⌜ Added (now (out .entry)) start (runText 1 (runOf (now (schema .entry)) (now (entries .entry)))) r (now (out .exit)) ⌝ }
     ensures { λ r. ⌜ r ≤ 362000 ⌝ }
 {
     let mut sheet = [0u32; 16384];

@@ -1,14 +1,13 @@
 // The listing of a record of frames, as text in a lent buffer.
 mod entries;
 mod lines;
-mod text;
 
 use schema::Checked;
 ghost use mathlib.Core.Path.{_≡_};
 ghost use mathlib.Core.List.{_++_};
 ghost use Prim.Native.Nat.{_≤_};
 ghost use lib.ListN.{length, take, drop};
-ghost use Rattle.listing.specs.Text.{Added};
+ghost use Rattle.text.specs.Put.{Added};
 ghost use Rattle.listing.specs.Listing.{listing};
 
 // Any listing has fewer bytes: a line has at most 149, and its entry at least 27 of the record's 65,536.

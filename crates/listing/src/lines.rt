@@ -1,16 +1,17 @@
 // The lines of a listing.
-use crate::text::put_byte;
-use crate::text::put_decimal;
-use crate::text::put_field;
-use crate::text::put_word;
-use frame::FrameRead;
 use frame::Header;
 use line::Received;
+use replay::header;
+use text::put_byte;
+use text::put_decimal;
+use text::put_field;
+use text::put_word;
 ghost use mathlib.Core.Path.{_≡_};
 ghost use Prim.Native.Nat.{_+_, _≤_};
 ghost use Rattle.frame.specs.Frame.{frameOf};
-ghost use Rattle.listing.specs.Text.{Added, heading, lineStart, lineText, stoppedText};
-ghost use Rattle.listing.specs.Listing.{noHeader, headerIn};
+ghost use Rattle.text.specs.Put.{Added};
+ghost use Rattle.replay.specs.Run.{headerIn};
+ghost use Rattle.listing.specs.Text.{heading, lineStart, lineText, stoppedText};
 
 // The first line.
 pub fn put_heading(out: &mut [u8]) -> usize
@@ -18,33 +19,6 @@ pub fn put_heading(out: &mut [u8]) -> usize
     ensures { λ r. ⌜ r ≡ 44 ⌝ }
 {
     put_word(out, 0, b"frame side kind call answer place rows open\n")
-}
-
-fn none() -> Header
-    ensures { λ r. ⌜ r ≡ noHeader ⌝ }
-{
-    Header {
-        kind: 0,
-        package: 0,
-        service: 0,
-        method: 0,
-        correlation: 0,
-    }
-}
-
-// The header of the frame at the front of the bytes.
-fn header(bytes: &[u8]) -> Header
-    ensures { λ r. ⌜ r ≡ headerIn (frameOf (now (bytes .entry))) ⌝ }
-{
-    match arf::read_frame(bytes) {
-        FrameRead::Frame {
-            header,
-            place: _,
-            length: _,
-        } => header,
-        FrameRead::More => none(),
-        FrameRead::Refused(_) => none(),
-    }
 }
 
 // The first words of a line: entry, side, kind and correlation.

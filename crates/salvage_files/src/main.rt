@@ -38,7 +38,7 @@ fn keep(record: &[u8], is_saved: bool) {
             bytes,
             spans: listed,
         } => {
-            let n = save::front_bytes(bytes, &copy);
+            let n = files::front(bytes, &copy);
             let m = save::front_cells(listed, &spans);
             let mut whole = true;
             if is_saved {

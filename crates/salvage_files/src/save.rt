@@ -1,16 +1,6 @@
 // The two files of a salvage.
 ghost use Rattle.io.specs.Counts.{Counts};
 
-// The number n of bytes at the front of buf; there are never more than buf has.
-pub fn front_bytes(n: usize, buf: &[u8]) -> usize
-    ensures { λ r. ⌜ Counts r (now (buf .entry)) ⌝ }
-{
-    if buf.len() < n {
-        return 0;
-    }
-    n
-}
-
 // The number of the cells of n spans at the front of the list; there are never more than the list has.
 pub fn front_cells(n: usize, spans: &[u32]) -> usize
     ensures { λ r. ⌜ Counts r (now (spans .entry)) ⌝ }
@@ -40,19 +30,6 @@ fn put_words(fd: i32, path: &[u8], cells: &[u32], whole: &mut bool) {
     }
 }
 
-// Writes the copy to a new file.
-fn save_copy(path: &[u8], copy: &[u8], whole: &mut bool) {
-    let fd = files::create(b"arf", path, whole);
-    if fd < 0 {
-        return;
-    }
-    files::put(b"arf", fd, path, copy, whole);
-    files::finish(b"arf", fd, path, whole);
-    if !*whole {
-        os::unlink(path);
-    }
-}
-
 // Writes the list to a new file.
 fn save_spans(path: &[u8], spans: &[u32], whole: &mut bool) {
     let fd = files::create(b"arf", path, whole);
@@ -75,7 +52,7 @@ pub fn save(copy: &[u8], spans: &[u32], whole: &mut bool) {
     if !*whole {
         return;
     }
-    save_copy(&first[..n], copy, whole);
+    files::save(b"arf", &first[..n], copy, whole);
     if !*whole {
         return;
     }

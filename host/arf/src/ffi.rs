@@ -125,6 +125,29 @@ extern "C" {
         answer_n: usize,
     ) -> u32;
 
+    fn arf_make_index(
+        schema: *const u8,
+        schema_n: usize,
+        record: *const u8,
+        record_n: usize,
+        out: *mut u8,
+        out_n: usize,
+        answer: *mut u64,
+        answer_n: usize,
+    ) -> u32;
+
+    fn arf_look_up(
+        index: *const u8,
+        index_n: usize,
+        record: *const u8,
+        record_n: usize,
+        correlation: u64,
+        out: *mut u8,
+        out_n: usize,
+        answer: *mut u64,
+        answer_n: usize,
+    ) -> u32;
+
     fn arf_read_frame(bytes: *const u8, bytes_n: usize, answer: *mut u64, answer_n: usize) -> u32;
 
     fn arf_write_frame(
@@ -470,6 +493,49 @@ pub fn salvage(record: &[u8], copy: &mut [u8], spans: &mut [u32], answer: &mut [
     }
 }
 
+/// Stores the place and the length of the index.
+pub fn make_index(schema: &[u8], record: &[u8], out: &mut [u8], answer: &mut [u64]) -> u32 {
+    // SAFETY: each pointer and length are those of a Rust slice; the two that
+    // are written do not overlap, since both are `&mut`.
+    unsafe {
+        arf_make_index(
+            schema.as_ptr(),
+            schema.len(),
+            record.as_ptr(),
+            record.len(),
+            out.as_mut_ptr(),
+            out.len(),
+            answer.as_mut_ptr(),
+            answer.len(),
+        )
+    }
+}
+
+/// Stores the length of the text.
+pub fn look_up(
+    index: &[u8],
+    record: &[u8],
+    correlation: u64,
+    out: &mut [u8],
+    answer: &mut [u64],
+) -> u32 {
+    // SAFETY: each pointer and length are those of a Rust slice; the two that
+    // are written do not overlap, since both are `&mut`.
+    unsafe {
+        arf_look_up(
+            index.as_ptr(),
+            index.len(),
+            record.as_ptr(),
+            record.len(),
+            correlation,
+            out.as_mut_ptr(),
+            out.len(),
+            answer.as_mut_ptr(),
+            answer.len(),
+        )
+    }
+}
+
 /// Stores the place and the calls open.
 pub fn release(
     table: &mut [u64],
@@ -537,6 +603,8 @@ mod tests {
             write_value_frame([0; 4], 0, &[], (0, &[], &[]), &mut [], cells)
         });
         with_any_room(3, |cells| salvage(&[], &mut [], &mut [], cells));
+        with_any_room(2, |cells| make_index(&[], &[], &mut [], cells));
+        with_any_room(1, |cells| look_up(&[], &[], 0, &mut [], cells));
     }
 
     #[test]

@@ -3,7 +3,7 @@
 //! Each function lends its slices to the static library of `crates/exports`,
 //! whose Rattle source is proved, and hands its answer on as a Rust value. No
 //! function panics or fails for any input, on a thread that has [`STACK`] bytes
-//! of stack: what the rules do not allow comes back as a [`Refusal`] with the
+//! of stack, or [`INDEX_STACK`] for [`make_index`]: what the rules do not allow comes back as a [`Refusal`] with the
 //! number and the place that they give it.
 //!
 //! ```
@@ -25,13 +25,15 @@
 #![deny(unsafe_op_in_unsafe_fn)]
 
 mod ffi;
+mod index;
 mod limits;
 mod refusal;
 mod tally;
 
+pub use index::{look_up, look_up_text, make_index, Entries, Entry, LookUp};
 pub use limits::{
-    MAX_COMPARISONS, MAX_DEPTH, MAX_ELEMENTS, MAX_FIELDS, MAX_FRAME, MAX_METHODS, MAX_PAIRS,
-    MAX_PAYLOAD, MAX_RECORD, MAX_TYPES, NO_VALUE, SLOTS, SPAN_CELLS, STACK,
+    INDEX_STACK, MAX_COMPARISONS, MAX_DEPTH, MAX_ELEMENTS, MAX_FIELDS, MAX_FRAME, MAX_INDEX,
+    MAX_METHODS, MAX_PAIRS, MAX_PAYLOAD, MAX_RECORD, MAX_TYPES, NO_VALUE, SLOTS, SPAN_CELLS, STACK,
 };
 pub use refusal::Refusal;
 pub use tally::Tally;

@@ -63,6 +63,14 @@ pub const MAX_RECORD: usize = 65_536;
 /// ```
 pub const SPAN_CELLS: usize = 4_682;
 
+/// The bytes that are enough for the index of any record: 16 for each entry,
+/// which has 27 bytes at least, and 16 more.
+///
+/// ```
+/// assert_eq!(arf::MAX_INDEX, 16 * (arf::MAX_RECORD / 27) + 16);
+/// ```
+pub const MAX_INDEX: usize = 38_848;
+
 /// The number of slots of a call table; an INVOKE that finds none free is
 /// refused with 13.
 pub const SLOTS: usize = 128;
@@ -71,9 +79,18 @@ pub const SLOTS: usize = 128;
 /// refused with 17.
 pub const MAX_ELEMENTS: u16 = 65_535;
 
-/// The stack in bytes that a thread needs for any call: 64 KiB, which leaves the
+/// The stack in bytes that a thread needs for [`make_index`], which holds a sheet
+/// of 4,096 rows and the rows of the index: 256 KiB, which leaves the caller some
+/// of it, since `tools/stack` measures 171 KiB at most.
+///
+/// [`make_index`]: crate::make_index
+pub const INDEX_STACK: usize = 256 * 1024;
+
+/// The stack in bytes that a thread needs for any call but [`make_index`]: 64 KiB, which leaves the
 /// caller some of it, since `tools/stack` measures 54 KiB at most. With less
 /// stack than a call needs, the system ends the process.
+///
+/// [`make_index`]: crate::make_index
 ///
 /// The main thread and those of `std::thread` have more unless they are given
 /// less. The deepest values need the most.

@@ -66,6 +66,8 @@ const MEANINGS: &[(u32, &str)] = &[
     (51, "a span or the tail lies outside the bytes"),
     (52, "the output is too small"),
     (53, "the list of spans is too small"),
+    (65, "the index has a wrong shape or order"),
+    (66, "the record has another length than the index tells"),
 ];
 
 impl Refusal {

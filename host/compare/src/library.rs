@@ -2,12 +2,13 @@
 
 use reference::cases::{
     call_table_sum, line, sheet_sum, sum, tally_sum, BesideCase, Case, Event, ExtendsCase,
-    ForwardCase, FrameCase, FrameWriteCase, HistoryCase, ReadCase, ReceiveCase, ReleaseCase,
-    RunCase, SalvageCase, ScalarCase, TableCase, ValueFrameCase, WriteCase, BYTE_FILL, CELL_FILL,
+    ForwardCase, FrameCase, FrameWriteCase, HistoryCase, IndexCase, LookUpCase, ReadCase,
+    ReceiveCase, ReleaseCase, RunCase, SalvageCase, ScalarCase, TableCase, ValueFrameCase,
+    WriteCase, BYTE_FILL, CELL_FILL,
 };
 
 /// The codes of the entries that the library has.
-pub const CODES: &[u8] = &[1, 2, 3, 4, 5, 6, 7, 8, 9, 10, 11, 15, 16, 17, 18];
+pub const CODES: &[u8] = &[1, 2, 3, 4, 5, 6, 7, 8, 9, 10, 11, 15, 16, 17, 18, 19, 20];
 
 /// How many cells or bytes before and after a lent buffer are watched.
 const MARGIN: usize = 16;
@@ -30,16 +31,9 @@ pub fn answer(case: &Case, text: &mut String) {
         Case::ValueFrame(case) => value_frame(case, text),
         Case::Forward(case) => forward(case, text),
         Case::Salvage(case) => salvage(case, text),
-        Case::Index(_) | Case::LookUp(_) => absent(case, text),
+        Case::Index(case) => index(case, text),
+        Case::LookUp(case) => look_up(case, text),
     }
-}
-
-/// The answer to a case of an entry that the library does not have.
-fn absent(case: &Case, text: &mut String) {
-    text.push_str(&format!(
-        "the library has no entry of code {}\n",
-        case.code()
-    ));
 }
 
 /// Lends a filled buffer to a call, and gives what the call answers and the
@@ -394,4 +388,37 @@ fn salvage(case: &SalvageCase, text: &mut String) {
     let [entries, bytes, listed] = counts.map(|count| count as u64);
     let sums = [sum(copy), sheet_sum(&spans)];
     line(text, &[number, entries, bytes, listed, sums[0], sums[1]]);
+}
+
+fn index(case: &IndexCase, text: &mut String) {
+    let (result, out) = lend(BYTE_FILL, case.room, |out| {
+        arf::make_index(&case.schema, &case.record, out)
+    });
+    let (number, place, length) = outcome(result, 0);
+    line(text, &[number, place, length as u64, sum(out)]);
+}
+
+fn look_up(case: &LookUpCase, text: &mut String) {
+    let (found, out) = lend(BYTE_FILL, case.room, |out| {
+        arf::look_up_text(&case.index, &case.record, case.correlation, out)
+    });
+    let (number, _, ()) = outcome(found.outcome, ());
+    hold_entries(case, number, &out[..found.length]);
+    line(text, &[number, found.length as u64, sum(out)]);
+}
+
+/// The iterator has to give what the text says; a text without room (52) says
+/// nothing.
+fn hold_entries(case: &LookUpCase, number: u64, text: &[u8]) {
+    let entries = arf::look_up(&case.index, &case.record, case.correlation);
+    let (stopped, lines) = match entries {
+        Ok(entries) => {
+            let lines = entries.map(|entry| format!("{} {}\n", entry.place, entry.answer));
+            (0, lines.collect())
+        }
+        Err(refusal) => (refusal.number, String::new()),
+    };
+    let expected = format!("place answer\n{lines}stopped {stopped}\n");
+    let same = (number, text) == (stopped.into(), expected.as_bytes());
+    assert!(same || number == 52, "other entries than the text's");
 }

@@ -21,7 +21,8 @@ returns-2 : tie.Need-returns-2
 returns-2 c =
     let a = c .before .before .before .before .before .before .before .before .before .before .before .before .before .before .before .before .args in
     let table = c .before .before .before .before .before .before .before .check-table in (
-      whole-faulty (now (a .schema)) (now (a .entries)) (c .before .before .before .before .before .before .before .before .before .before .before .put-heading .ensures .0) (c .before .before .before .before .before .before .before .before .if1 .left) (table .result) (table .ensures) (c .before .before .before .before .before .number .given .1)
+      whole-faulty (now (a .schema)) (now (a .entries)) (c .before .before .before .before .before .before .before .before .before .before .before .put-heading .ensures .0)
+          (c .before .before .before .before .before .before .before .before .if1 .left) (table .result) (table .ensures) (c .before .before .before .before .before .number .given .1)
           (c .before .before .put-stopped2 .ensures .0),
       omega arith,
     )
@@ -30,7 +31,8 @@ returns-3 : tie.Need-returns-3
 returns-3 c =
     let a = c .before .before .before .before .before .before .before .before .before .before .before .before .before .before .before .args in
     let table = c .before .before .before .before .before .before .check-table in (
-      whole-good (now (a .schema)) (now (a .entries)) (c .before .before .before .before .before .before .before .before .before .before .put-heading .ensures .0) (c .before .before .before .before .before .before .before .if1 .left) (table .result) (table .ensures) (c .before .before .before .before .enum-told .given .1)
+      whole-good (now (a .schema)) (now (a .entries)) (c .before .before .before .before .before .before .before .before .before .before .put-heading .ensures .0)
+          (c .before .before .before .before .before .before .before .if1 .left) (table .result) (table .ensures) (c .before .before .before .before .enum-told .given .1)
           (c .before .before .put-entries .ensures .0),
       omega arith,
     )

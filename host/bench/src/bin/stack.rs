@@ -1,6 +1,6 @@
 //! Prints the least stack with which a thread survives the deepest values, for
 //! each entry that goes down levels. The exit status is 1 where that is more
-//! than `arf::STACK`.
+//! than `arf::STACK`, or `arf::INDEX_STACK` for `make_index`.
 //!
 //! A stack that is too small ends the whole process, so each trial is a child
 //! of this program: `stack ENTRY NEST KIB`, with the nest's number.
@@ -18,7 +18,10 @@ use bench::CELLS;
 use reference::MAX_PAYLOAD;
 
 /// What is measured, `frame` for `write_value_frame`; a trial runs one of them, or nothing.
-const ENTRIES: [&str; 6] = ["read", "beside", "write", "forward", "receive", "frame"];
+const ENTRIES: [&str; 7] = [
+    "read", "beside", "write", "forward", "receive", "frame", INDEX,
+];
+const INDEX: &str = "index";
 const NOTHING: &str = "nothing";
 
 /// More than any entry may take, in KiB.
@@ -55,14 +58,24 @@ fn figures() -> ExitCode {
         most = std::array::from_fn(|column| most[column].max(needs[column]));
     }
     row("the most", &most);
-    let enough = most.iter().all(|kib| 1024 * kib <= arf::STACK);
-    if !enough {
-        eprintln!(
-            "arf::STACK is {} KiB, which is too little",
-            arf::STACK / 1024
-        );
+    let columns = ENTRIES.iter().zip(most);
+    let mut short = columns.filter(|(entry, kib)| 1024 * kib > promised(entry));
+    match short.next() {
+        Some((entry, _)) => {
+            let kib = promised(entry) / 1024;
+            eprintln!("{entry}: {kib} KiB are promised, which is too little");
+            ExitCode::FAILURE
+        }
+        None => ExitCode::SUCCESS,
     }
-    ExitCode::from(u8::from(!enough))
+}
+
+/// The stack that `arf` promises to be enough.
+fn promised(entry: &str) -> usize {
+    match entry {
+        INDEX => arf::INDEX_STACK,
+        _ => arf::STACK,
+    }
 }
 
 fn row<T: ToString>(name: &str, columns: &[T]) {
@@ -120,6 +133,7 @@ fn run(entry: &str, nest: &Nest, kib: usize) -> u32 {
         ..Default::default()
     };
     let invoke = frame(1, 1_000, payload);
+    let record = [b"C", &invoke[..]].concat();
     let mut table = Box::new(open_calls());
     let mut tallies = arf::Tally::fresh(schema).expect("the schema is good");
     match entry {
@@ -147,6 +161,14 @@ fn run(entry: &str, nest: &Nest, kib: usize) -> u32 {
                 arf::Outcome::More => 1,
                 arf::Outcome::Refused(refusal) => refusal.number,
             }
+        }),
+        INDEX => on_thread(kib, || {
+            let made = arf::make_index(schema, &record, &mut out);
+            // The answer to the one entry stands in its row.
+            made.map_or_else(
+                |refusal| refusal.number,
+                |_| u32::from_le_bytes([out[12], out[13], out[14], out[15]]),
+            )
         }),
         _ => on_thread(kib, || 0),
     }

@@ -6,9 +6,11 @@ use native.Mathlib.Omega.{arith}
 use borrow.Author.Needs.{needs}
 use denote.Ref.{now}
 use lib.ListN.{length}
-use Rattle.listing.specs.Text.{Added}
-use Rattle.listing.specs.Listing.{freshCalls, entriesText}
-use Rattle.listing.proofs.Turns.{tail-of, Rest, rest-first, rest-end, rest-stop, rest-line, entry-bounds}
+use Rattle.text.specs.Put.{Added}
+use Rattle.replay.specs.Run.{runOf}
+use Rattle.replay.proofs.Replays.{tail-of, entry-bounds}
+use Rattle.listing.specs.Listing.{runText}
+use Rattle.listing.proofs.Turns.{Rest, rest-first, rest-end, rest-stop, rest-line}
 use Rattle.listing.proofs.entries.put_from_first.Statement.{statement}
 use Rattle.listing.proofs.entries.put_from_first.Tie as tie
 
@@ -19,7 +21,7 @@ Inv-loop schema entries sheet₀ out₀ start table₀ pos₀ entry₀ at₀ she
     × (at ≤ length entries)
     × (27 * pos + 149 * (length entries - at) ≤ 9766052)
     × (entry ≤ at + 1)
-    × Rest schema entries (Added out₀ start (entriesText schema (length entries) 1 entries freshCalls)) out pos entry at (table .slots)
+    × Rest schema entries (Added out₀ start (runText 1 (runOf schema entries))) out pos entry at (table .slots)
 
 abbrev μ-loop : tie.MeasureT-loop
 μ-loop schema entries sheet₀ out₀ start table₀ pos₀ entry₀ at₀ sheet out table pos entry at = length entries - at
@@ -35,11 +37,13 @@ loop-holds c =
       rest-first (now (a .schema)) (now (a .entries)) (now (a .out)) (a .start) (c .fresh .result) (c .fresh .ensures),
     )
 
-answer-requires : tie.Need-answer-requires Inv-loop μ-loop
-answer-requires c κs = c .before .before .before .before .loop .inv .0
+step-requires : tie.Need-step-requires Inv-loop μ-loop
+step-requires c κs = c .before .before .before .before .loop .inv .0
 
 same-length : tie.Need-same-length Inv-loop μ-loop
-same-length c = c .before .before .before .before .before .before .before .before .answer .kept .1 .1 .1 .1 .0 ∙ c .before .before .before .before .before .before .before .before .before .before .before .before .before .loop .inv .0 ∙ sym (c .before .before .before .before .before .before .before .before .before .before .before .before .before .before .before .before .before .before .before .pre .2)
+same-length c =
+    let l = c .before .before .before .before .before .before .before .before .before .before .before .before .before in
+    c .before .before .before .before .before .before .before .before .step .kept .1 .1 .1 .1 .0 ∙ l .loop .inv .0 ∙ sym (l .before .before .before .before .before .before .pre .2)
 
 same-length-2 : tie.Need-same-length-2 Inv-loop μ-loop
 same-length-2 c = c .before .before .put-stopped .kept .0 ∙ c .before .before .before .before .before .before .before .before .before .before .before .before .before .loop .inv .1
@@ -47,34 +51,40 @@ same-length-2 c = c .before .before .put-stopped .kept .0 ∙ c .before .before 
 returns : tie.Need-returns Inv-loop μ-loop
 returns c =
     let a = c .before .before .before .before .before .before .before .before .before .before .before .before .before .before .before .before .before .before .before .args in
-    let here = c .before .before .before .before .before .before .before .before .before .before .before .before .before .loop in (
-      rest-stop (now (a .schema)) (now (a .entries)) _ (here .out) (here .pos) (here .entry) (here .at) (here .table .slots) (here .inv .5) (c .before .before .before .before .before .before .before .before .before .before .before .before .loop-test .taken)
-          _ (tail-of (now (a .entries)) (here .at)) _ refl (c .before .before .before .before .before .before .before .before .answer .result) (c .before .before .before .before .before .before .before .before .answer .ensures) (sym (c .before .before .before .before .before .stops .ensures) ∙ c .before .before .before .before .if1 .taken)
+    let here = c .before .before .before .before .before .before .before .before .before .before .before .before .before .loop in
+    let step = c .before .before .before .before .before .before .before .before .step in (
+      rest-stop (now (a .schema)) (now (a .entries)) _ (here .out) (here .pos) (here .entry) (here .at) (here .table .slots) (here .inv .5)
+          (c .before .before .before .before .before .before .before .before .before .before .before .before .loop-test .taken) _ (tail-of (now (a .entries)) (here .at)) _ refl (step .result) (step .ensures)
+          (sym (c .before .before .before .before .before .stops .ensures) ∙ c .before .before .before .before .if1 .taken)
           (c .before .before .put-stopped .result) _ (c .before .before .put-stopped .ensures .0),
       omega (arith, here .inv .3, c .before .before .put-stopped .ensures .1),
     )
 
 -- the entry that was listed lies in the record
-bounds : (c : tie.After-struct-known Inv-loop μ-loop) → let here = c .before .before .before .before .before .before .before .before .before .before .before .before .before .before .before .before .loop in let r = c .before .before .before .before .before .before .before .before .before .before .before .answer .result in
-    (26 ≤ r .used) × (here .at + 1 + r .used ≤ length (now (c .before .before .before .before .before .before .before .before .before .before .before .before .before .before .before .before .before .before .before .before .before .before .args .entries)))
+bounds : (c : tie.After-struct-known Inv-loop μ-loop) → let l = c .before .before .before .before .before .before .before .before .before .before .before .before .before .before .before .before in
+    let r = c .before .before .before .before .before .before .before .before .before .before .before .step .result in
+    (26 ≤ r .used) × (l .loop .at + 1 + r .used ≤ length (now (l .before .before .before .before .before .before .args .entries)))
 bounds c =
     let a = c .before .before .before .before .before .before .before .before .before .before .before .before .before .before .before .before .before .before .before .before .before .before .args in
     let here = c .before .before .before .before .before .before .before .before .before .before .before .before .before .before .before .before .loop in
-    entry-bounds (now (a .schema)) (now (a .entries)) _ (here .out) (here .pos) (here .entry) (here .at) (here .table .slots) (here .inv .5) (c .before .before .before .before .before .before .before .before .before .before .before .before .before .before .before .loop-test .taken)
-    _ (tail-of (now (a .entries)) (here .at)) _ refl (c .before .before .before .before .before .before .before .before .before .before .before .answer .result) (c .before .before .before .before .before .before .before .before .before .before .before .answer .ensures) (sym (c .before .before .before .before .before .before .before .before .stops .ensures) ∙ c .before .before .before .before .before .before .before .if1 .left)
+    let step = c .before .before .before .before .before .before .before .before .before .before .before .step in
+    entry-bounds (now (a .schema)) (now (a .entries)) (here .at) (here .table .slots) (c .before .before .before .before .before .before .before .before .before .before .before .before .before .before .before .loop-test .taken)
+    _ (tail-of (now (a .entries)) (here .at)) _ refl (step .result) (step .ensures) (sym (c .before .before .before .before .before .before .before .before .stops .ensures) ∙ c .before .before .before .before .before .before .before .if1 .left)
 
 loop-again : tie.Need-loop-again Inv-loop μ-loop
 loop-again c =
     let a = c .before .before .before .before .before .before .before .before .before .before .before .before .before .before .before .before .before .before .before .before .before .before .args in
     let here = c .before .before .before .before .before .before .before .before .before .before .before .before .before .before .before .before .loop in
+    let step = c .before .before .before .before .before .before .before .before .before .before .before .step in
     let b = bounds c in (
-      c .before .before .before .before .before .before .before .before .before .before .before .answer .kept .1 .1 .1 .1 .0 ∙ here .inv .0,
+      step .kept .1 .1 .1 .1 .0 ∙ here .inv .0,
       c .before .before .before .before .put-line .kept .0 ∙ here .inv .1,
       b .1,
       omega (arith, here .inv .3, b .0, b .1, c .before .before .before .before .put-line .ensures .1),
       omega (arith, here .inv .4, b .0),
-      rest-line (now (a .schema)) (now (a .entries)) _ (here .out) (here .pos) (here .entry) (here .at) (here .table .slots) (here .inv .5) (c .before .before .before .before .before .before .before .before .before .before .before .before .before .before .before .loop-test .taken)
-          _ (tail-of (now (a .entries)) (here .at)) _ refl (c .before .before .before .before .before .before .before .before .before .before .before .answer .result) (c .before .before .before .before .before .before .before .before .before .before .before .answer .ensures) (sym (c .before .before .before .before .before .before .before .before .stops .ensures) ∙ c .before .before .before .before .before .before .before .if1 .left) (b .0)
+      rest-line (now (a .schema)) (now (a .entries)) _ (here .out) (here .pos) (here .entry) (here .at) (here .table .slots) (here .inv .5)
+          (c .before .before .before .before .before .before .before .before .before .before .before .before .before .before .before .loop-test .taken) _ (tail-of (now (a .entries)) (here .at)) _ refl (step .result) (step .ensures)
+          (sym (c .before .before .before .before .before .before .before .before .stops .ensures) ∙ c .before .before .before .before .before .before .before .if1 .left) (b .0)
           _ (c .before .before .before .before .put-line .result) (c .before .before .before .before .put-line .ensures .0),
     )
 
@@ -106,7 +116,7 @@ put-from-first-spec =
     (λ c. omega arith)
     (λ c. search needs)
     (λ c. search needs)
-    answer-requires
+    step-requires
     (λ c κs. tt)
     (λ c. omega arith)
     (λ c κs. omega arith)

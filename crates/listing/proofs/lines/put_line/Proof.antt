@@ -8,9 +8,23 @@ use Rattle.listing.proofs.lines.put_line.Tie as tie
 
 returns : tie.Need-returns
 returns c =
-    let a = c .before .before .before .before .before .before .before .before .before .before .before .before .before .before .before .before .before .before .before .before .before .before .before .before .before .before .before .before .args in
-    let start = rw (c .before .before .before .before .before .before .before .before .before .before .before .before .before .before .before .before .before .before .before .before .before .before .before .before .header .ensures) at (c .before .before .before .before .before .before .before .before .before .before .before .before .before .before .before .before .before .before .before .before .before .before .before .put-start .ensures .0) in
-    (added-line (a .entry) (a .side) _ (a .a) start (c .before .before .before .before .before .before .before .before .before .before .before .before .before .before .before .before .before .before .put-field .ensures .0) (c .before .before .before .before .before .before .before .before .before .before .before .before .before .before .put-field2 .ensures .0) (c .before .before .before .before .before .before .before .before .before .before .put-field3 .ensures .0) (c .before .before .before .before .before .before .put-field4 .ensures .0) (c .before .before .put-byte .ensures .0), omega arith)
+    let third = c .before .before .before .before .before .before .before .before .before .before in
+    let first = third .before .before .before .before .before .before .before .before in
+    let header = first .before .before .before .before .before .before in
+    let a = header .before .before .before .before .args in
+    let start = rw (header .header .ensures) at (first .before .before .before .before .before .put-start .ensures .0) in (
+      added-line (a .entry) (a .side) _ (a .a) start (first .put-field .ensures .0) (third .before .before .before .before .put-field2 .ensures .0) (third .put-field3 .ensures .0)
+          (c .before .before .before .before .before .before .put-field4 .ensures .0) (c .before .before .put-byte .ensures .0),
+      omega (
+        arith,
+        first .before .before .before .before .before .put-start .ensures .1,
+        first .put-field .ensures .1,
+        third .before .before .before .before .put-field2 .ensures .1,
+        third .put-field3 .ensures .1,
+        c .before .before .before .before .before .before .put-field4 .ensures .1,
+        c .before .before .put-byte .ensures .1,
+      ),
+    )
 
 pub put-line-spec : {M : Type 1} → statement M
 put-line-spec =

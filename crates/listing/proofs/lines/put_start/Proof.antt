@@ -8,8 +8,13 @@ use Rattle.listing.proofs.lines.put_start.Tie as tie
 
 returns : tie.Need-returns
 returns c =
-    let a = c .before .before .before .before .before .before .before .before .before .before .before .before .before .before .before .before .before .before .before .before .before .before .args in
-    (added-start (a .entry) (a .side) (a .h) (c .before .before .before .before .before .before .before .before .before .before .before .before .before .before .before .before .before .before .before .put-decimal .ensures .0) (c .before .before .before .before .before .before .before .before .before .before .before .before .before .before .before .put-byte .ensures .0) (c .before .before .before .before .before .before .before .before .before .before .before .put-byte2 .ensures .0) (c .before .before .before .before .before .before .put-field .ensures .0) (c .before .before .put-field2 .ensures .0), omega arith)
+    let second = c .before .before .before .before .before .before .before .before .before .before .before in
+    let first = second .before .before .before .before .before .before .before .before in
+    let a = first .before .before .before .args in (
+      added-start (a .entry) (a .side) (a .h) (first .put-decimal .ensures .0) (second .before .before .before .before .put-byte .ensures .0) (second .put-byte2 .ensures .0)
+          (c .before .before .before .before .before .before .put-field .ensures .0) (c .before .before .put-field2 .ensures .0),
+      omega arith,
+    )
 
 pub put-start-spec : {M : Type 1} → statement M
 put-start-spec =

@@ -1,0 +1,16 @@
+-- `exports::indexes::find_cells` meets its contract: each case of the answer is the one that was met.
+-- Assumes nothing.
+use mathlib.Core.Path.{sym, ap}
+use borrow.Author.Needs.{needs}
+use Rattle.exports.specs.Answers.{findCells}
+use Rattle.exports.proofs.indexes.find_cells.Statement.{statement}
+use Rattle.exports.proofs.indexes.find_cells.Tie as tie
+
+returns : tie.Need-returns
+returns c = sym (ap findCells (c .before .a .given .1))
+
+returns-2 : tie.Need-returns-2
+returns-2 c = sym (ap findCells (c .enum-told .given .1))
+
+pub find-cells-spec : {M : Type 1} → statement M
+find-cells-spec = tie.close (tie.spec (λ c. search needs) (λ c. search needs) returns returns-2)

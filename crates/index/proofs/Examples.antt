@@ -1,0 +1,105 @@
+-- Worked examples over bytes: the index of 01's worked record, look-ups in it, and bytes that are no index.
+-- Assumes nothing.
+use mathlib.Core.Path.{_≡_, refl}
+use mathlib.Core.Bool.{true, false}
+use mathlib.Core.List.{List, [], _∷_, _++_, map}
+use Prim.Native.Nat.{ℕ}
+use lib.ListN.{take, drop, replicate}
+use Rattle.wire.specs.Little as little
+use Rattle.text.specs.Decimal as decimal
+use Rattle.text.specs.Put as put
+use Rattle.index.specs.declared.Finding.the-variants.{Printed, Refused}
+use Rattle.index.specs.Row.{Row, insert, ordered, isRising, ofCall}
+use Rattle.index.specs.Index.{rowsBytes, indexBytes}
+use Rattle.index.specs.IsIndex.{rowsIn, isShaped, isIndex}
+use Rattle.index.specs.Text.{lineText, linesText, stoppedText, textOf}
+use Rattle.index.specs.LookUp as look
+
+abbrev row : (correlation place answer : ℕ) → Row
+row c p a = record { correlation = c; place = p; answer = a }
+
+-- rows in the record's order, of three calls, and the same in the index's
+pub in-order : ordered [] (row 9 0 0 ∷ row 7 29 0 ∷ row 9 60 11 ∷ row 300 91 0 ∷ row 7 120 26 ∷ [])
+    ≡ row 7 29 0 ∷ row 7 120 26 ∷ row 9 0 0 ∷ row 9 60 11 ∷ row 300 91 0 ∷ []
+unfolding insert ordered
+in-order = refl
+
+-- two rows and the trailer: first row 0, two rows, a record of 31 bytes, layout number 1
+abbrev two : List ℕ
+two =
+    9 ∷ 0 ∷ 0 ∷ 0 ∷ 0 ∷ 0 ∷ 0 ∷ 0 ∷ 0 ∷ 0 ∷ 0 ∷ 0 ∷ 0 ∷ 0 ∷ 0 ∷ 0 ∷
+    9 ∷ 0 ∷ 0 ∷ 0 ∷ 0 ∷ 0 ∷ 0 ∷ 0 ∷ 0x2C ∷ 0x01 ∷ 0 ∷ 0 ∷ 11 ∷ 0 ∷ 0 ∷ 0 ∷
+    0 ∷ 0 ∷ 0 ∷ 0 ∷ 2 ∷ 0 ∷ 0 ∷ 0 ∷ 31 ∷ 0 ∷ 0 ∷ 0 ∷ 1 ∷ 0 ∷ 0 ∷ 0 ∷ []
+
+pub two-rows : indexBytes (row 9 0 0 ∷ row 9 300 11 ∷ []) 31 ≡ two
+unfolding little.bytes rowsBytes indexBytes
+two-rows = refl
+
+-- the trailer with another place, count or layout number
+abbrev with : (place count layout : ℕ) → List ℕ
+with place count layout = take 32 two ++ (place ∷ 0 ∷ 0 ∷ 0 ∷ count ∷ 0 ∷ 0 ∷ 0 ∷ 31 ∷ 0 ∷ 0 ∷ 0 ∷ layout ∷ 0 ∷ 0 ∷ 0 ∷ [])
+
+-- the same rows the other way round, and one row twice
+abbrev turned : List ℕ
+turned = take 16 (drop 16 two) ++ (take 16 two ++ drop 32 two)
+
+abbrev twice : List ℕ
+twice = take 16 two ++ (take 16 two ++ drop 32 two)
+
+-- an index; an index without rows; nothing; a byte too few; a byte too many; no trailer; another place, count, layout number; rows out of order, and alike
+pub indices : map isIndex
+    (two
+    ∷ (0 ∷ 0 ∷ 0 ∷ 0 ∷ 0 ∷ 0 ∷ 0 ∷ 0 ∷ 31 ∷ 0 ∷ 0 ∷ 0 ∷ 1 ∷ 0 ∷ 0 ∷ 0 ∷ [])
+    ∷ []
+    ∷ take 47 two
+    ∷ (0 ∷ two)
+    ∷ take 32 two
+    ∷ with 16 2 1
+    ∷ with 0 1 1
+    ∷ with 0 3 1
+    ∷ with 0 2 2
+    ∷ turned
+    ∷ twice
+    ∷ [])
+    ≡ true ∷ true ∷ false ∷ false ∷ false ∷ false ∷ false ∷ false ∷ false ∷ false ∷ false ∷ false ∷ []
+unfolding little.little rowsIn isShaped isRising isIndex
+indices = refl
+
+-- place answer; 0 0; 300 11; stopped 0
+abbrev found : List ℕ
+found =
+    112 ∷ 108 ∷ 97 ∷ 99 ∷ 101 ∷ 32 ∷ 97 ∷ 110 ∷ 115 ∷ 119 ∷ 101 ∷ 114 ∷ 10 ∷
+    48 ∷ 32 ∷ 48 ∷ 10 ∷
+    51 ∷ 48 ∷ 48 ∷ 32 ∷ 49 ∷ 49 ∷ 10 ∷
+    115 ∷ 116 ∷ 111 ∷ 112 ∷ 112 ∷ 101 ∷ 100 ∷ 32 ∷ 48 ∷ 10 ∷ []
+
+-- place answer; stopped N, in two digits
+abbrev refused : (tens ones : ℕ) → List ℕ
+refused tens ones =
+    112 ∷ 108 ∷ 97 ∷ 99 ∷ 101 ∷ 32 ∷ 97 ∷ 110 ∷ 115 ∷ 119 ∷ 101 ∷ 114 ∷ 10 ∷ 115 ∷ 116 ∷ 111 ∷ 112 ∷ 112 ∷ 101 ∷ 100 ∷ 32 ∷ tens ∷ ones ∷ 10 ∷ []
+
+-- place answer; stopped 0
+abbrev nothing : List ℕ
+nothing = 112 ∷ 108 ∷ 97 ∷ 99 ∷ 101 ∷ 32 ∷ 97 ∷ 110 ∷ 115 ∷ 119 ∷ 101 ∷ 114 ∷ 10 ∷ 115 ∷ 116 ∷ 111 ∷ 112 ∷ 112 ∷ 101 ∷ 100 ∷ 32 ∷ 48 ∷ 10 ∷ []
+
+abbrev fill : ℕ → List ℕ
+fill n = replicate n 165
+
+-- call 9, with a byte to spare and with one too few; call 8, which has no rows; a record of another length; bytes that are no index, for a record of another
+-- length too; the refusal where it does not fit
+pub look-ups : look.lookUp two (fill 31) 9 (fill 35)
+    ∷ look.lookUp two (fill 31) 9 (fill 33)
+    ∷ look.lookUp two (fill 31) 8 (fill 23)
+    ∷ look.lookUp two (fill 30) 9 (fill 24)
+    ∷ look.lookUp turned (fill 30) 9 (fill 24)
+    ∷ look.lookUp turned (fill 31) 9 (fill 23)
+    ∷ []
+    ≡ look.outcome (Printed 0 34) (found ++ (165 ∷ []))
+    ∷ look.outcome (Refused 52) (fill 33)
+    ∷ look.outcome (Printed 0 23) nothing
+    ∷ look.outcome (Printed 66 24) (refused 54 54)
+    ∷ look.outcome (Printed 65 24) (refused 54 53)
+    ∷ look.outcome (Refused 52) (fill 23)
+    ∷ []
+unfolding little.little decimal.digits decimal.decimal put.field rowsIn isShaped isRising isIndex ofCall lineText linesText stoppedText textOf look.verdict look.looked look.lookText look.put look.lookUp
+look-ups = refl

@@ -1,0 +1,372 @@
+-- What an index and a look-up promise: about the entries' answers, over bytes.
+-- Assumes nothing.
+use mathlib.Core.Path.{_≡_, refl, sym, ap, ap₂, subst, _∙_}
+use mathlib.Core.Bool.{Bool, true, false, cond}
+use mathlib.Core.List.{List, [], _∷_, _++_, List·Memᴰ, List·Memᴰ·head, List·Memᴰ·tail, List·Memᴰ·cases-cons, List·Memᴰ·not-nil}
+use mathlib.Core.Logic.{_↔_, _⊎_, inl, inr, ⊎-elim}
+use Prim.Native.Nat.{ℕ, zero, suc, _+_, _*_, _^_, _≤_, _<_}
+use native.Mathlib.Omega.{arith}
+use native.Mathlib.Decide.{decLe}
+use borrow.Author.Tests.{lt-ltb, le-ltb, eq-eqb, ne-eqb, eqb-true, eqb-false}
+use lib.Dec.{eqb}
+use lib.ListN.{length, take, drop, length-append, length-drop}
+use lib.Seq.{take-at}
+use Rattle.wire.specs.Little.{Bytes, little}
+use Rattle.wire.proofs.Numbers.{bytes-parts, bytes-drop, little-below}
+use Rattle.wire.proofs.Cases.{differ}
+use Rattle.schema.specs.declared.Checked.{Checked}
+use Rattle.schema.specs.declared.Checked.the-variants.{Good, Refused as Faulty}
+use Rattle.schema.specs.File.{tableOf}
+use Rattle.schema.specs.Check.{checked, IsGood}
+use Rattle.schema.proofs.Listed.{listed as schema-listed, listed-bounds}
+use Rattle.schema.proofs.Bools.{cases, clash}
+use Rattle.frame.specs.declared.Header.{Header}
+use Rattle.frame.specs.declared.FrameRead.the-variants.{Frame}
+use Rattle.frame.specs.Frame.{frameOf}
+use Rattle.frame.specs.IsFrame.{IsFrame, frame, Starts}
+use Rattle.frame.proofs.Frames.{read-is-frame}
+use Rattle.calls.specs.declared.Call.{Call}
+use Rattle.line.specs.Claims as line
+use Rattle.line.specs.Fresh.{receivedFresh}
+use Rattle.line.specs.Run.{freshTallies}
+use Rattle.line.proofs.Listed.{listed}
+use Rattle.replay.specs.Run.{sheet, freshCalls, answerTo, headerIn, Entry, entryOf, Run, runOf}
+use Rattle.replay.specs.Runs.{Runs, at-end, halting, answering}
+use Rattle.replay.proofs.Turns.{used-some, listed-frame}
+use Rattle.replay.proofs.Replays as replay
+use Rattle.index.specs.declared.Indexing.{Indexing}
+use Rattle.index.specs.declared.Indexing.the-variants.{Made, Refused}
+use Rattle.index.specs.declared.Finding.the-variants.{Printed, Refused as Unprinted}
+use Rattle.index.specs.Row.{Row, rowOf, rowsOf, insert, ordered, Rising, no-row, ofCall}
+use Rattle.index.specs.Index.{indexBytes, rowsFor, Outcome, outcome, indexInto, makeIndex}
+use Rattle.index.specs.IsIndex.{Fits, AllFit, none-left, one-fits, IsIndex, rowsIn, countIn, sizeIn, isIndex}
+use Rattle.index.specs.Text.{textOf}
+use Rattle.index.specs.Claims.{Accepted, Refuses, bad-table, too-long, no-room, Judges, right, other-record, no-index}
+use Rattle.index.specs.LookUp as look
+use Rattle.index.proofs.Orders.{Below, none-below, one-below, below-more, Later, ordered-rising, ordered-has, ordered-length, call-ordered, by-call}
+use Rattle.index.proofs.Orders.{call-is, call-not, call-none, by-first, insert-here, insert-later, insert-last, ordered-none, ordered-one}
+use Rattle.index.proofs.Readings.{Reads, index-reads, reads-index, index-long}
+use Rattle.index.proofs.Turns.{run-later, run-below, run-short, table-refused, record-refused, record-indexed}
+
+-- ---- the rows of an index
+
+module _ (schema entries : List ℕ) where
+  abbrev run : List Row
+  run = rowsOf (runOf schema entries .entries)
+
+  later : Later 0 run
+  unfolding runOf
+  later = run-later (replay.run-is schema (length entries) 0 entries freshCalls (omega arith))
+
+  -- "16-byte rows of correlation, entry place and answer, strictly rising by correlation and then place"
+  pub rows-rising : Rising (rowsFor schema entries)
+  unfolding rowsFor
+  rows-rising = ordered-rising [] run 0 no-row none-below later
+
+  -- "it covers exactly the entries the listing prints": a row is there exactly where its entry is in the record's run, and each entry has one.
+  pub rows-cover : (r : Row) → List·Memᴰ r (rowsFor schema entries) ↔ List·Memᴰ r run
+  unfolding rowsFor
+  rows-cover r = (
+    λ w. ⊎-elim (λ m. elim m [ ]) (λ m. m) (ordered-has [] run .0 w),
+    λ w. ordered-has [] run .1 (inr w),
+  )
+
+  pub rows-many : length (rowsFor schema entries) ≡ length run
+  unfolding rowsFor
+  rows-many = ordered-length [] run ∙ omega arith
+
+  -- The rows of one call are those of its entries, in the record's order.
+  pub call-rows : (c : ℕ) → ofCall c (rowsFor schema entries) ≡ ofCall c run
+  unfolding rowsFor
+  call-rows c = call-ordered c [] run 0 no-row none-below later ∙ ap (λ (t : List Row). t ++ ofCall c run) (call-none c)
+
+-- ---- the rows of one call
+
+-- A row is among those of a call exactly where it has that correlation.
+pub call-has : (c : ℕ) (r : Row) (rows : List Row) → List·Memᴰ r (ofCall c rows) ↔ (List·Memᴰ r rows × (r .correlation ≡ c))
+call-has c r rows = (only rows, has rows)
+  where
+    on : {l m : List Row} → l ≡ m → List·Memᴰ r l → List·Memᴰ r m
+    on e w = subst (List·Memᴰ r) e w
+
+    only : (rows : List Row) → List·Memᴰ r (ofCall c rows) → List·Memᴰ r rows × (r .correlation ≡ c)
+    only [] w = absurd (List·Memᴰ·not-nil (on (call-none c) w))
+    only (s ∷ rows) w =
+        by-call c s
+        (λ e.
+        ⊎-elim
+        (λ k. (List·Memᴰ·head k, ap (λ (x : Row). x .correlation) k ∙ e))
+        (λ m. let below = only rows m in (List·Memᴰ·tail (below .0), below .1))
+        (List·Memᴰ·cases-cons (on (call-is c s rows e) w)))
+        (λ e. let below = only rows (on (call-not c s rows e) w) in (List·Memᴰ·tail (below .0), below .1))
+
+    has : (rows : List Row) → List·Memᴰ r rows × (r .correlation ≡ c) → List·Memᴰ r (ofCall c rows)
+    has [] w = absurd (List·Memᴰ·not-nil (w .0))
+    has (s ∷ rows) w =
+        ⊎-elim
+        (λ k. on (sym (call-is c s rows (sym (ap (λ (x : Row). x .correlation) k) ∙ w .1))) (List·Memᴰ·head k))
+        (λ m.
+        by-call c s
+        (λ e. on (sym (call-is c s rows e)) (List·Memᴰ·tail (has rows (m, w .1))))
+        (λ e. on (sym (call-not c s rows e)) (has rows (m, w .1))))
+        (List·Memᴰ·cases-cons (w .0))
+
+-- ---- an index that was made
+
+-- a number of an answer has 32 bits
+small-number : {n place : ℕ} → line.Listed n place → n < 4294967296
+small-number line.accepted = omega arith
+small-number (line.frame low high) = omega arith
+small-number (line.call low high) = omega arith
+small-number (line.value place low high) = omega arith
+small-number (line.pairs place) = omega arith
+small-number (line.payload low high) = omega arith
+small-number (line.shape low high) = omega arith
+small-number (line.row place low high) = omega arith
+
+-- a correlation has 64
+small-correlation : {h : Header} {p f : List ℕ} → IsFrame h p f → Bytes f → h .correlation < 2 ^ 64
+small-correlation (frame {h = h} {«package» = a} {service = b} {method = m} {correlation = c} {payload = p} size low high p4 s4 m4 c8 spells small) w =
+    let rest₃ = c ++ (size ++ p) in
+    let rest₂ = m ++ rest₃ in
+    let rest₁ = b ++ rest₂ in
+    let five : Bytes (a ++ rest₁) = bytes-drop (0xAF ∷ 0x01 ∷ 0x01 ∷ h .kind ∷ 0x00 ∷ (a ++ rest₁)) 5 w in
+    let one = bytes-parts (a ++ rest₁) a rest₁ refl five .1 in
+    let two = bytes-parts rest₁ b rest₂ refl one .1 in
+    let three = bytes-parts rest₂ m rest₃ refl two .1 in
+    let four = bytes-parts rest₃ c (size ++ p) refl three .0 in
+    subst (λ (x : ℕ). x < 2 ^ 64) (c8 .value) (little-below c 8 four (omega (arith, c8 .width)))
+
+header-small : (s : List ℕ) (side : ℕ) (bytes : List ℕ) (l : List Call) → (answerTo s side bytes l .used ≡ 0 → ⊥) → Bytes bytes → headerIn (frameOf bytes) .correlation < 2 ^ 64
+unfolding headerIn
+header-small s side bytes l z b =
+    let f = listed-frame s side bytes l z in
+    let w = read-is-frame bytes (f .1 .1 .1) in
+    let head : headerIn (frameOf bytes) ≡ f .0 = ap headerIn (f .1 .1 .1) in
+    subst (λ (h : Header). h .correlation < 2 ^ 64) (sym head) (small-correlation (w .is) (bytes-parts bytes (w .frame) (w .rest) (w .split) b .0))
+
+number-small : (s : List ℕ) (side : ℕ) (bytes : List ℕ) (l : List Call) → answerTo s side bytes l .number < 2 ^ 32
+unfolding answerTo receivedFresh
+number-small s side bytes l = small-number (listed s side bytes sheet (freshTallies (tableOf s)) l)
+
+bytes-tail : (b : ℕ) (s : List ℕ) → Bytes (b ∷ s) → Bytes s
+bytes-tail b s w = bytes-drop (b ∷ s) 1 w
+
+run-fit : {s : List ℕ} {p : ℕ} {left : List ℕ} {l : List Call} {r : Run} → Runs s p left l r → Bytes left → Below 4294967296 (rowsOf (r .entries)) → AllFit (rowsOf (r .entries))
+run-fit at-end b w = none-left
+run-fit (halting e) b w = none-left
+run-fit {s} {p} (answering {side = side} {bytes = bytes} {l = l} e k) b (one-below h w) =
+    let a = answerTo s side bytes l in
+    one-fits
+    (record { correlation = header-small s side bytes l (λ z. used-some (a .used) _ e z) (bytes-tail side bytes b); place = h; answer = number-small s side bytes l })
+    (run-fit k (bytes-drop bytes (a .used) (bytes-tail side bytes b)) w)
+
+fit-insert : (r : Row) {rows : List Row} → Fits r → AllFit rows → AllFit (insert r rows)
+fit-insert r f none-left = subst AllFit (sym (insert-last r)) (one-fits f none-left)
+fit-insert r f (one-fits {r = s} {rows = rows} g w) =
+    by-first r s
+    (λ h. subst AllFit (sym (insert-here r s rows h)) (one-fits f (one-fits g w)))
+    (λ h. subst AllFit (sym (insert-later r s rows h)) (one-fits g (fit-insert r f w)))
+
+fit-ordered : (done rows : List Row) → AllFit done → AllFit rows → AllFit (ordered done rows)
+fit-ordered done [] w none-left = subst AllFit (sym (ordered-none done)) w
+fit-ordered done (r ∷ rows) w (one-fits f k) = subst AllFit (sym (ordered-one done r rows)) (fit-ordered (insert r done) rows (fit-insert r f w) k)
+
+module _ (schema entries : List ℕ) (b : Bytes entries) (small : length entries ≤ 65536) where
+  rows-fit : AllFit (rowsFor schema entries)
+  unfolding rowsFor runOf
+  rows-fit =
+      let r = replay.run-is schema (length entries) 0 entries freshCalls (omega arith) in
+      fit-ordered [] _ none-left (run-fit r b (below-more (omega (arith, small)) (run-below r)))
+
+  rows-few : length (rowsFor schema entries) < 2 ^ 32
+  rows-few = omega (arith, small, run-short schema entries)
+
+  -- An index made from a record is an index, for that record.
+  pub made-index : IsIndex (indexBytes (rowsFor schema entries) (length entries)) (rowsFor schema entries) (length entries)
+  made-index = record { is = refl; rising = rows-rising schema entries; fit = rows-fit; count = rows-few; small = omega (arith, small) }
+
+-- ---- making it
+
+into-made : (text out : List ℕ) (n : ℕ) → length text ≡ n → n ≤ length out → outcome (Made n) (text ++ drop n out) ≡ indexInto text out
+unfolding indexInto
+into-made text out n e h =
+    rw (le-ltb (length out) (length text) (omega (arith, e, h))) (λ i. outcome (Made (sym e i)) (text ++ drop (sym e i) out))
+
+into-refused : (text out : List ℕ) → length out < length text → outcome (Refused 52 0) out ≡ indexInto text out
+unfolding indexInto
+into-refused text out h = rw (lt-ltb (length out) (length text) h)
+
+same-size : {n m : ℕ} → Made n ≡ Made m → n ≡ m
+same-size e = cc
+
+-- each way that it can end
+ways : (schema entries out : List ℕ) (P : Outcome → Type 0)
+    → ((number place : ℕ) → checked schema ≡ Faulty number place → P (outcome (Refused number place) out))
+    → (IsGood schema → 65536 < length entries → P (outcome (Refused 45 0) out))
+    → (IsGood schema → length entries ≤ 65536 → length out < 16 * length (rowsFor schema entries) + 16 → P (outcome (Refused 52 0) out))
+    → (IsGood schema → length entries ≤ 65536 → 16 * length (rowsFor schema entries) + 16 ≤ length out
+    → P (outcome (Made (16 * length (rowsFor schema entries) + 16)) (indexBytes (rowsFor schema entries) (length entries) ++ drop (16 * length (rowsFor schema entries) + 16) out)))
+    → P (makeIndex schema entries out)
+ways schema entries out P faulty long full fine = by-check (checked schema) refl
+  where
+    by-room : checked schema ≡ Good → length entries ≤ 65536 → P (indexInto (indexBytes (rowsFor schema entries) (length entries)) out)
+    by-room g l = elim (decLe (16 * length (rowsFor schema entries) + 16) (length out)) [
+      | yes h ↦ subst P (into-made (indexBytes (rowsFor schema entries) (length entries)) out (16 * length (rowsFor schema entries) + 16) (index-long (rowsFor schema entries) (length entries)) h) (fine g l h)
+      | no h ↦ subst P (into-refused (indexBytes (rowsFor schema entries) (length entries)) out (omega (arith, h, index-long (rowsFor schema entries) (length entries)))) (full g l (omega arith))
+    ]
+
+    by-check : (v : Checked) → checked schema ≡ v → P (makeIndex schema entries out)
+    by-check (Faulty number place) e = subst P (table-refused schema entries out (Faulty number place) (sym e) refl) (faulty number place e)
+    by-check Good e = elim (decLe (length entries) 65536) [
+      | yes l ↦ subst P (record-indexed schema entries out Good (sym e) refl l) (by-room e l)
+      | no l ↦ subst P (record-refused schema entries out Good (sym e) refl (omega arith)) (long e (omega arith))
+    ]
+
+not-made : {A : Type 0} {number place n : ℕ} {out after : List ℕ} → outcome (Refused number place) out ≡ outcome (Made n) after → A
+not-made e = let f : _ = ap (λ (o : Outcome). o .answer) e in differ cc
+
+same-number : {n q n′ q′ : ℕ} → Refused n q ≡ Refused n′ q′ → n ≡ n′
+same-number e = cc
+
+same-place : {n q n′ q′ : ℕ} → Refused n q ≡ Refused n′ q′ → q ≡ q′
+same-place e = cc
+
+module _ (schema entries out : List ℕ) where
+  same-refusal : {n q n′ q′ : ℕ} → Refused n q ≡ Refused n′ q′ → Refuses schema entries out n q → Refuses schema entries out n′ q′
+  same-refusal {n} {q} {n′} {q′} e w =
+      subst (λ (k : ℕ). Refuses schema entries out n′ k) (same-place e) (subst (λ (k : ℕ). Refuses schema entries out k q) (same-number e) w)
+
+  -- An index is made exactly where the schema table is good, the record short enough and the output large enough; it is then the index of the record's rows.
+  pub made-iff : (n : ℕ) (after : List ℕ) → (makeIndex schema entries out ≡ outcome (Made n) after) ↔ Accepted schema entries out n after
+  made-iff n after = (made, making)
+    where
+      made : makeIndex schema entries out ≡ outcome (Made n) after → Accepted schema entries out n after
+      made =
+          ways schema entries out (λ o. o ≡ outcome (Made n) after → Accepted schema entries out n after) (λ k q e. not-made) (λ g l. not-made) (λ g l h. not-made)
+          (λ g l h e.
+          let size : 16 * length (rowsFor schema entries) + 16 ≡ n = same-size (ap (λ (o : Outcome). o .answer) e) in
+          record {
+            good = g;
+            small = l;
+            size = sym size;
+            fits = omega (arith, size, h);
+            after-is = sym (ap (λ (o : Outcome). o .out) e) ∙ ap (λ (k : ℕ). indexBytes (rowsFor schema entries) (length entries) ++ drop k out) size;
+          })
+
+      making : Accepted schema entries out n after → makeIndex schema entries out ≡ outcome (Made n) after
+      making a =
+          let long = index-long (rowsFor schema entries) (length entries) in
+          sym (record-indexed schema entries out Good (sym (a .good)) refl (a .small))
+          ∙ sym (into-made (indexBytes (rowsFor schema entries) (length entries)) out n (long ∙ sym (a .size)) (a .fits))
+          ∙ ap (outcome (Made n)) (sym (a .after-is))
+
+  -- It is refused exactly for these faults, the table's, 45 and 52 in this order, and leaves the output as it was.
+  pub refused-iff : (number place : ℕ) (after : List ℕ) → (makeIndex schema entries out ≡ outcome (Refused number place) after) ↔ (Refuses schema entries out number place × (after ≡ out))
+  refused-iff number place after = (refused-for, λ w. for-refused (w .0) ∙ ap (outcome (Refused number place)) (sym (w .1)))
+    where
+      told : {n q : ℕ} → Refuses schema entries out n q → outcome (Refused n q) out ≡ outcome (Refused number place) after → Refuses schema entries out number place × (after ≡ out)
+      told {n} {q} f e =
+          let same = ap (λ (o : Outcome). o .answer) e in
+          (same-refusal same f, sym (ap (λ (o : Outcome). o .out) e))
+
+      refused-for : makeIndex schema entries out ≡ outcome (Refused number place) after → Refuses schema entries out number place × (after ≡ out)
+      refused-for =
+          ways schema entries out (λ o. o ≡ outcome (Refused number place) after → Refuses schema entries out number place × (after ≡ out))
+          (λ k q e. told (bad-table e))
+          (λ g l. told (too-long g l))
+          (λ g l h. told (no-room g l h))
+          (λ g l h e. not-made (sym e))
+
+      for-refused : {n q : ℕ} → Refuses schema entries out n q → makeIndex schema entries out ≡ outcome (Refused n q) out
+      for-refused (bad-table {number = n} {place = q} e) = sym (table-refused schema entries out (Faulty n q) (sym e) refl)
+      for-refused (too-long g l) = sym (record-refused schema entries out Good (sym g) refl l)
+      for-refused (no-room g l h) =
+          sym (record-indexed schema entries out Good (sym g) refl l)
+          ∙ sym (into-refused (indexBytes (rowsFor schema entries) (length entries)) out (omega (arith, h, index-long (rowsFor schema entries) (length entries))))
+
+-- ---- the look-up
+
+-- "Refusals: 65 index shape or order, 66 record of another length, 65 first": of any bytes a look-up either accepts an index whose rows rise strictly, for
+-- a record of that length, or gives 66 or 65.
+pub judged : (index : List ℕ) (size : ℕ) → Bytes index → Judges index size (look.verdict index size) (rowsIn (countIn index) index)
+unfolding look.verdict
+judged index size b =
+    let rows = rowsIn (countIn index) index in
+    let told : (n : ℕ) → look.verdict index size ≡ n → Judges index size n rows → Judges index size (look.verdict index size) rows =
+    λ n v w. subst (λ (k : ℕ). Judges index size k rows) (sym v) w in
+    ⊎-elim
+    (λ (e : isIndex index ≡ true).
+    let w = reads-index index b e in
+    ⊎-elim
+    (λ (f : eqb (sizeIn index) size ≡ true). told 0 (rw (e, f)) (right (subst (IsIndex index rows) (eqb-true (sizeIn index) size f) w)))
+    (λ (f : eqb (sizeIn index) size ≡ false). told 66 (rw (e, f)) (other-record w (λ q. eqb-false (sizeIn index) size f q)))
+    (cases (eqb (sizeIn index) size)))
+    (λ (e : isIndex index ≡ false). told 65 (rw e) (no-index (λ rows n w. clash (isIndex index) (index-reads w .passes) e)))
+    (cases (isIndex index))
+
+module _ (index : List ℕ) (size c : ℕ) where
+  -- "for exactly the rows of one correlation, in order, and last `stopped` and 0"
+  pub rows-printed : {rows : List Row} → IsIndex index rows size → (look.verdict index size ≡ 0) × (look.lookText index size c ≡ textOf (ofCall c rows) 0)
+  unfolding look.verdict look.looked look.lookText
+  rows-printed {rows} w =
+      let r = index-reads w in
+      let v : look.verdict index size ≡ 0 = rw (r .passes, eq-eqb (sizeIn index) size (r .size-is)) in
+      (v, rw v (ap (λ (l : List Row). textOf (ofCall c l) 0) (r .rows-are)))
+
+  -- "or, without rows, the refusal"
+  pub other-printed : {rows : List Row} {n : ℕ} → IsIndex index rows n → (n ≡ size → ⊥) → (look.verdict index size ≡ 66) × (look.lookText index size c ≡ textOf [] 66)
+  unfolding look.verdict look.looked look.lookText rowsIn ofCall
+  other-printed w h =
+      let r = index-reads w in
+      let v : look.verdict index size ≡ 66 = rw (r .passes, ne-eqb (sizeIn index) size (λ q. h (sym (r .size-is) ∙ q))) in
+      (v, rw v)
+
+  pub none-printed : isIndex index ≡ false → (look.verdict index size ≡ 65) × (look.lookText index size c ≡ textOf [] 65)
+  unfolding look.verdict look.looked look.lookText rowsIn ofCall
+  none-printed e = let v : look.verdict index size ≡ 65 = rw e in (v, rw v)
+
+-- An index made from a record is accepted for it, and the look-up of a call prints the rows of its entries in the record's order.
+pub call-found : (schema entries out : List ℕ) {n : ℕ} {after : List ℕ} (c : ℕ) → Bytes entries → makeIndex schema entries out ≡ outcome (Made n) after
+    → (look.verdict (take n after) (length entries) ≡ 0)
+    × (look.lookText (take n after) (length entries) c ≡ textOf (ofCall c (rowsOf (runOf schema entries .entries))) 0)
+call-found schema entries out {n} {after} c b e =
+    let a = made-iff schema entries out n after .0 e in
+    let rows = rowsFor schema entries in
+    let front : take n after ≡ indexBytes rows (length entries) =
+    ap (take n) (a .after-is) ∙ take-at (indexBytes rows (length entries)) (drop n out) n (index-long rows (length entries) ∙ sym (a .size)) in
+    let w = rows-printed (indexBytes rows (length entries)) (length entries) c (made-index schema entries b (a .small)) in (
+      ap (λ (s : List ℕ). look.verdict s (length entries)) front ∙ w .0,
+      ap (λ (s : List ℕ). look.lookText s (length entries) c) front ∙ w .1 ∙ ap (λ (l : List Row). textOf l 0) (call-rows schema entries c),
+    )
+
+-- What a look-up answers and leaves: the text at the start of the output where it fits, or 52.
+pub look-up-fits : (index entries : List ℕ) (c : ℕ) (out : List ℕ) → let text = look.lookText index (length entries) c in length text ≤ length out
+    → look.lookUp index entries c out ≡ look.outcome (Printed (look.verdict index (length entries)) (length text)) (text ++ drop (length text) out)
+unfolding look.lookUp look.put
+look-up-fits index entries c out h = rw (le-ltb (length out) (length (look.lookText index (length entries) c)) h)
+
+pub look-up-full : (index entries : List ℕ) (c : ℕ) (out : List ℕ) → length out < length (look.lookText index (length entries) c)
+    → look.lookUp index entries c out ≡ look.outcome (Unprinted 52) out
+unfolding look.lookUp look.put
+look-up-full index entries c out h = rw (lt-ltb (length out) (length (look.lookText index (length entries) c)) h)
+
+-- No refusal has the number of what is made.
+pub refused-above : (schema entries out : List ℕ) {number place : ℕ} → makeIndex schema entries out .answer ≡ Refused number place → 1 ≤ number
+refused-above schema entries out {number} {place} e =
+    of-fault (refused-iff schema entries out number place (makeIndex schema entries out .out) .0 (λ i. outcome (e i) (makeIndex schema entries out .out)) .0)
+  where
+    of-fault : {n q : ℕ} → Refuses schema entries out n q → 1 ≤ n
+    of-fault (bad-table {number = n} {place = q} f) = omega (arith, listed-bounds (tableOf schema) (schema-listed schema n q f) .0)
+    of-fault (too-long g l) = omega arith
+    of-fault (no-room g l h) = omega arith
+
+-- What follows `stopped` is 0, 65 or 66.
+pub verdict-known : (index : List ℕ) (size : ℕ) → (look.verdict index size ≡ 0) ⊎ ((look.verdict index size ≡ 65) ⊎ (look.verdict index size ≡ 66))
+unfolding look.verdict
+verdict-known index size = go (isIndex index) (eqb (sizeIn index) size)
+  where
+    go : (a b : Bool) → let n : ℕ = cond {A = ℕ} a (cond {A = ℕ} b 0 66) 65 in (n ≡ 0) ⊎ ((n ≡ 65) ⊎ (n ≡ 66))
+    go true true = inl refl
+    go true false = inr (inr refl)
+    go false b = inr (inl refl)

@@ -1,0 +1,62 @@
+-- Which bytes are an index: the test by which a look-up judges them, and apart from it a relation. Assumes nothing.
+use mathlib.Core.Path.{_≡_}
+use mathlib.Core.Bool.{Bool, _&&_}
+use mathlib.Core.List.{List, [], _∷_}
+use Prim.Native.Nat.{ℕ, zero, suc, _+_, _-_, _*_, _/_, _%_, _^_, _≤_, _<_}
+use lib.Dec.{eqb, leb}
+use lib.ListN.{length, take, drop}
+use Rattle.wire.specs.Little.{little}
+use Rattle.index.specs.Row.{Row, isRising, Rising}
+use Rattle.index.specs.Index.{indexBytes}
+
+-- ---- the test
+
+-- the row at the front of the bytes
+abbrev pub rowAt : List ℕ → Row
+rowAt s = record { correlation = little (take 8 s); place = little (take 4 (drop 8 s)); answer = little (take 4 (drop 12 s)) }
+
+-- n rows from the front on
+unfoldable pub rowsIn : (n : ℕ) → List ℕ → List Row
+rowsIn zero s = []
+rowsIn (suc n) s = rowAt s ∷ rowsIn n (drop 16 s)
+
+-- how many rows stand before the trailer
+abbrev pub countIn : List ℕ → ℕ
+countIn s = (length s - 16) / 16
+
+-- the four numbers of the trailer, which is the last 16 bytes
+abbrev pub trailerCell : (i : ℕ) → List ℕ → ℕ
+trailerCell i s = little (take 4 (drop i (drop (length s - 16) s)))
+
+-- whole rows and a trailer, which points to place 0 and has the number of the rows and layout number 1
+unfoldable pub isShaped : List ℕ → Bool
+isShaped s =
+    leb 16 (length s) && (eqb (length s % 16) 0 && (eqb (trailerCell 0 s) 0 && (eqb (trailerCell 4 s) (countIn s) && eqb (trailerCell 12 s) 1)))
+
+-- strictly rising rows, too
+unfoldable pub isIndex : List ℕ → Bool
+isIndex s = isShaped s && isRising (rowsIn (countIn s) s)
+
+-- the length of the record that it was made of
+abbrev pub sizeIn : List ℕ → ℕ
+sizeIn s = trailerCell 8 s
+
+-- ---- the relation
+
+-- each number has its bytes
+pub record Fits (r : Row) : Type 0 where
+  pub correlation : r .correlation < 2 ^ 64
+  pub place : r .place < 2 ^ 32
+  pub answer : r .answer < 2 ^ 32
+
+pub data AllFit : List Row → Type 0 where
+  none-left : AllFit []
+  one-fits : {r : Row} {rows : List Row} → Fits r → AllFit rows → AllFit (r ∷ rows)
+
+-- The bytes are the index, for a record of so many bytes, of these rows, which rise strictly.
+pub record IsIndex (s : List ℕ) (rows : List Row) (size : ℕ) : Type 0 where
+  pub is : s ≡ indexBytes rows size
+  pub rising : Rising rows
+  pub fit : AllFit rows
+  pub count : length rows < 2 ^ 32
+  pub small : size < 2 ^ 32

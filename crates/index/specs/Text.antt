@@ -1,0 +1,27 @@
+-- The text of a look-up, as ASCII codes. Each line ends in one LF (10); its words have single blanks (32) between.
+-- Assumes nothing.
+use mathlib.Core.List.{List, [], _∷_, _++_}
+use Prim.Native.Nat.{ℕ}
+use Rattle.text.specs.Decimal.{decimal}
+use Rattle.text.specs.Put.{field}
+use Rattle.index.specs.Row.{Row}
+
+-- place answer
+abbrev pub heading : List ℕ
+heading = 112 ∷ 108 ∷ 97 ∷ 99 ∷ 101 ∷ 32 ∷ 97 ∷ 110 ∷ 115 ∷ 119 ∷ 101 ∷ 114 ∷ 10 ∷ []
+
+-- the line of a row
+unfoldable pub lineText : (place answer : ℕ) → List ℕ
+lineText place answer = decimal place ++ field answer ++ (10 ∷ [])
+
+unfoldable pub linesText : List Row → List ℕ
+linesText [] = []
+linesText (r ∷ rows) = lineText (r .place) (r .answer) ++ linesText rows
+
+-- stopped N
+unfoldable pub stoppedText : (number : ℕ) → List ℕ
+stoppedText number = (115 ∷ 116 ∷ 111 ∷ 112 ∷ 112 ∷ 101 ∷ 100 ∷ []) ++ field number ++ (10 ∷ [])
+
+-- the whole text: heading, the rows, and last `stopped` with 0 or a refusal's number
+unfoldable pub textOf : List Row → (number : ℕ) → List ℕ
+textOf rows number = heading ++ linesText rows ++ stoppedText number

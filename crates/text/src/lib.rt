@@ -1,0 +1,56 @@
+// Bytes put into a buffer one after the other, each where the buffer has a place for it. Every function answers the place after them.
+ghost use mathlib.Core.Path.{_≡_};
+ghost use mathlib.Core.List.{[], _∷_};
+ghost use Prim.Native.Nat.{_+_, _≤_};
+ghost use lib.ListN.{length};
+ghost use Rattle.text.specs.Decimal.{decimal};
+ghost use Rattle.text.specs.Put.{Added, field};
+
+pub fn put_byte(out: &mut [u8], pos: usize, b: u8) -> usize
+    requires { ⌜ pos + 1 ≤ 18446744073709551615 ⌝ }
+    ensures { λ r. ⌜ Added (now (out .entry)) pos (b ∷ []) r (now (out .exit)) ⌝ }
+    ensures { λ r. ⌜ r ≡ pos + 1 ⌝ }
+{
+    if pos < out.len() {
+        out[pos] = b;
+    }
+    pos + 1
+}
+
+// A word.
+pub fn put_word(out: &mut [u8], pos: usize, word: &[u8]) -> usize
+    requires { ⌜ pos + length (now word) ≤ 18446744073709551615 ⌝ }
+    ensures { λ r. ⌜ Added (now (out .entry)) pos (now (word .entry)) r (now (out .exit)) ⌝ }
+    ensures { λ r. ⌜ r ≡ pos + length (now (word .entry)) ⌝ }
+{
+    let mut at = pos;
+    let mut i = 0;
+    while i < word.len() {
+        at = put_byte(out, at, word[i]);
+        i += 1;
+    }
+    at
+}
+
+// A number in decimal: at most 20 digits.
+pub fn put_decimal(out: &mut [u8], pos: usize, n: u64) -> usize
+    requires { ⌜ pos + 21 ≤ 18446744073709551615 ⌝ }
+    ensures { λ r. ⌜ Added (now (out .entry)) pos (decimal n) r (now (out .exit)) ⌝ }
+    ensures { λ r. ⌜ r ≤ pos + 20 ⌝ }
+{
+    if n < 10 {
+        return put_byte(out, pos, (48 + n) as u8);
+    }
+    let at = put_decimal(out, pos, n / 10);
+    put_byte(out, at, (48 + n % 10) as u8)
+}
+
+// A blank and a number.
+pub fn put_field(out: &mut [u8], pos: usize, n: u64) -> usize
+    requires { ⌜ pos + 22 ≤ 18446744073709551615 ⌝ }
+    ensures { λ r. ⌜ Added (now (out .entry)) pos (field n) r (now (out .exit)) ⌝ }
+    ensures { λ r. ⌜ r ≤ pos + 21 ⌝ }
+{
+    let at = put_byte(out, pos, b' ');
+    put_decimal(out, at, n)
+}
