@@ -5,6 +5,8 @@
 
 #![forbid(unsafe_code)]
 
+use std::cell::Cell;
+
 use bench::lines::{self, Arrival, Times};
 use bench::samples::{self, Sample};
 use bench::{show, throughput};
@@ -25,6 +27,42 @@ struct Lines {
     words: Vec<String>,
 }
 
+/// A table whose heading is printed before its first line.
+struct Table<'a> {
+    heading: &'a str,
+    begun: Cell<bool>,
+}
+
+impl<'a> Table<'a> {
+    fn new(heading: &'a str) -> Self {
+        let begun = Cell::new(false);
+        Table { heading, begun }
+    }
+
+    fn print(&self, line: &str) {
+        if !self.begun.replace(true) {
+            let columns = self.heading.matches('|').count() - 1;
+            println!("{}\n|{}", self.heading, "---|".repeat(columns));
+        }
+        println!("{line}");
+    }
+}
+
+impl Drop for Table<'_> {
+    /// An empty line follows a table.
+    fn drop(&mut self) {
+        if self.begun.get() {
+            println!();
+        }
+    }
+}
+
+const ENTRIES: &str =
+    "| entry | input | library | fast | library / fast | reference | library / reference |";
+const WRITES: &str = "| input | one write | two in turn | one / two |";
+const GROWTH: &str = "| what grows | from | library | fast | library, times the one before |";
+const FRAMES: &str = "| frames | library | fast | library / fast |";
+
 /// The payloads on which one write is held against two in turn.
 const IN_TURN: &[&str] = &[
     "small structs",
@@ -39,7 +77,7 @@ impl Lines {
     }
 
     /// Prints a line of the first table, if it is asked for.
-    fn line(&self, entry: &str, input: &str, times: impl FnOnce() -> Times) {
+    fn line(&self, table: &Table, entry: &str, input: &str, times: impl FnOnce() -> Times) {
         if !self.wanted(&format!("{entry}, {input}")) {
             return;
         }
@@ -55,45 +93,47 @@ impl Lines {
         let theirs = show(reference);
         let other = library / reference;
         let library = show(library);
-        println!("| {entry} | {input} | {library} | {quick} | {ratio} | {theirs} | {other:.2} |");
+        table.print(&format!(
+            "| {entry} | {input} | {library} | {quick} | {ratio} | {theirs} | {other:.2} |"
+        ));
     }
 
     fn entries(&self) {
-        println!(
-            "| entry | input | library | fast | library / fast | reference | library / reference |"
-        );
-        println!("|---|---|---|---|---|---|---|");
+        let table = &Table::new(ENTRIES);
         let full = samples::full_table();
         self.line(
+            table,
             "table check",
             "256 types, 2,048 fields, 256 methods",
             || lines::check_table(&full),
         );
         let methods = samples::table_of_methods(256);
-        self.line("table check", "2 types, 256 methods", || {
+        self.line(table, "table check", "2 types, 256 methods", || {
             lines::check_table(&methods)
         });
         let payloads = samples::payloads();
         for sample in &payloads {
-            self.line("read", sample.name, || lines::read(sample));
+            self.line(table, "read", sample.name, || lines::read(sample));
         }
         for beside in &samples::besides() {
-            self.line("read beside", beside.1.name, || lines::read_beside(beside));
+            self.line(table, "read beside", beside.1.name, || {
+                lines::read_beside(beside)
+            });
         }
         for sample in &payloads {
-            self.line("write", sample.name, || lines::write(sample));
+            self.line(table, "write", sample.name, || lines::write(sample));
         }
         let receipt = samples::receipt();
         let input = "frame of a 100-byte receipt";
-        self.line("frame read", input, || lines::frame_read(&receipt));
-        self.line("frame write", input, || lines::frame_write(&receipt));
-        self.receives(&receipt);
+        self.line(table, "frame read", input, || lines::frame_read(&receipt));
+        self.line(table, "frame write", input, || lines::frame_write(&receipt));
+        self.receives(table, &receipt);
         for record in &samples::records() {
-            self.line("salvage", record.name, || lines::salvage(record).0);
+            self.line(table, "salvage", record.name, || lines::salvage(record).0);
         }
     }
 
-    fn receives(&self, receipt: &Sample) {
+    fn receives(&self, table: &Table, receipt: &Sample) {
         let arrival = |kind, open: Vec<u64>, payload: &[u8]| Arrival {
             schema: receipt.schema.clone(),
             bytes: samples::frame(
@@ -108,19 +148,21 @@ impl Lines {
         for calls in [0, 16, 100, 127] {
             let entry = format!("receive, {calls} calls open");
             let arrival = arrival(1, open(calls), &receipt.payload);
-            self.line(&entry, "INVOKE with a 100-byte receipt", || {
+            self.line(table, &entry, "INVOKE with a 100-byte receipt", || {
                 lines::receive(&arrival)
             });
         }
         for calls in [16, 100, 127] {
             let entry = format!("receive, {calls} calls open");
             let arrival = arrival(8, open(calls), &[]);
-            self.line(&entry, "CANCEL, no payload", || lines::receive(&arrival));
+            self.line(table, &entry, "CANCEL, no payload", || {
+                lines::receive(&arrival)
+            });
         }
         let alike: Vec<u64> = (0..127).map(|call| call << 32).collect();
         let arrival = arrival(8, alike, &[]);
         let input = "CANCEL, correlations alike in their low 32 bits";
-        self.line("receive, 127 calls open", input, || {
+        self.line(table, "receive, 127 calls open", input, || {
             lines::receive(&arrival)
         });
         let arrival = Arrival {
@@ -129,21 +171,20 @@ impl Lines {
             open: open(100),
         };
         let input = "INVOKE of the last of 256 methods, 2 bytes";
-        self.line("receive, 100 calls open", input, || {
+        self.line(table, "receive, 100 calls open", input, || {
             lines::receive(&arrival)
         });
     }
 
     fn in_turn(&self) {
-        println!();
-        println!("| input | one write | two in turn | one / two |");
-        println!("|---|---|---|---|");
+        let table = Table::new(WRITES);
         for sample in &samples::payloads() {
             if IN_TURN.contains(&sample.name) && self.wanted(&format!("in turn, {}", sample.name)) {
                 let [once, turns] = lines::value_frame(sample);
                 let ratio = once / turns;
                 let (once, turns) = (show(once), show(turns));
-                println!("| {} | {once} | {turns} | {ratio:.2} |", sample.name);
+                let line = format!("| {} | {once} | {turns} | {ratio:.2} |", sample.name);
+                table.print(&line);
             }
         }
     }
@@ -151,36 +192,43 @@ impl Lines {
     /// How the time grows with what is given: each step has twice or four times
     /// as much of it as the one before.
     fn growth(&self) {
-        println!();
-        println!("| what grows | from | library | fast | library, times the one before |");
-        println!("|---|---|---|---|---|");
+        let table = &Table::new(GROWTH);
         let sizes = [1_024, 2_048, 4_096, 8_192, 16_384];
         let name = "bytes of small structs read";
-        self.grow(name, &sizes, |size| {
+        self.grow(table, name, &sizes, |size| {
             lines::read(&samples::small_structs_of(size))
         });
         let name = "bytes of small structs written";
-        self.grow(name, &sizes, |size| {
+        self.grow(table, name, &sizes, |size| {
             lines::write(&samples::small_structs_of(size))
         });
         self.grow(
+            table,
             "types of 8 fields checked",
             &[16, 32, 64, 128, 256],
             |types| lines::check_table(&samples::table_of_types(types)),
         );
-        self.grow("methods checked", &[16, 32, 64, 128, 256], |methods| {
-            lines::check_table(&samples::table_of_methods(methods))
-        });
-        self.grow("calls open at a CANCEL", &[1, 16, 32, 64, 128], |calls| {
-            lines::receive(&Arrival {
-                schema: samples::receipt().schema,
-                bytes: samples::frame(8, 0, &[]),
-                open: (0..calls as u64).collect(),
-            })
-        });
+        self.grow(
+            table,
+            "methods checked",
+            &[16, 32, 64, 128, 256],
+            |methods| lines::check_table(&samples::table_of_methods(methods)),
+        );
+        self.grow(
+            table,
+            "calls open at a CANCEL",
+            &[1, 16, 32, 64, 128],
+            |calls| {
+                lines::receive(&Arrival {
+                    schema: samples::receipt().schema,
+                    bytes: samples::frame(8, 0, &[]),
+                    open: (0..calls as u64).collect(),
+                })
+            },
+        );
     }
 
-    fn grow(&self, what: &str, sizes: &[usize], times: impl Fn(usize) -> Times) {
+    fn grow(&self, table: &Table, what: &str, sizes: &[usize], times: impl Fn(usize) -> Times) {
         if !self.wanted(&format!("growth, {what}")) {
             return;
         }
@@ -189,33 +237,34 @@ impl Lines {
             let Times { library, fast, .. } = times(size);
             let quick = fast.map_or("–".into(), show);
             let step = before.map_or("–".into(), |before| format!("{:.2}", library / before));
-            println!("| {what} | {size} | {} | {quick} | {step} |", show(library));
+            let library_time = show(library);
+            table.print(&format!(
+                "| {what} | {size} | {library_time} | {quick} | {step} |"
+            ));
             before = Some(library);
         }
     }
 }
 
 fn throughput_figures() {
-    println!();
-    println!("| frames | library | fast | library / fast |");
-    println!("|---|---|---|---|");
+    let table = Table::new(FRAMES);
     let listed = throughput::listed();
     let [ours, quick] = listed.times;
     let (bytes, frames) = (listed.bytes, listed.frames);
     let per = |nanoseconds: f64| per_second(frames, nanoseconds / 1e9);
-    println!(
+    table.print(&format!(
         "| a record of {bytes} bytes, {frames} frames, listed | {} | {} | {:.2} |",
         per(ours),
         per(quick),
         ours / quick
-    );
+    ));
     let [ours, quick] = throughput::million();
-    println!(
+    table.print(&format!(
         "| a million frames of two bytes received | {} | {} | {:.2} |",
         per_second(throughput::FRAMES, ours),
         per_second(throughput::FRAMES, quick),
         ours / quick
-    );
+    ));
 }
 
 /// Seconds, and frames a second.
