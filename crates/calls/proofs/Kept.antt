@@ -16,7 +16,7 @@ use Rattle.calls.specs.declared.Payload.{Payload}
 use Rattle.calls.specs.declared.Judged.{Judged}
 use Rattle.calls.specs.declared.Judged.the-variants.{Stop, Opens, Goes}
 use Rattle.calls.specs.Numbers.{endsCall}
-use Rattle.calls.specs.Record.{emptyCall, openedCall, isCall, isFree, complete, allowed, counting, marked, ends, afterFrame}
+use Rattle.calls.specs.Record.{emptyCall, openedCall, isCall, isFree, complete, allowed, isInput, isOutput, counting, marked, ends, afterFrame}
 use Rattle.calls.specs.Slots.{slot, firstSlot, formRow, goodTable}
 use Rattle.calls.specs.Judge.{judgeOf, judgeRelease}
 use Rattle.calls.specs.Step.{slotsAfter, stepOf, dueOf, receive, release}
@@ -134,8 +134,9 @@ module _ (row : FormRow) (c : Call) where
       go false false d h = h
 
 -- without the stream no element is counted
-none-counted : (kind k n : ℕ) (b : Bool) → (kind ≡ k → b ≡ true) → b ≡ false → n ≡ 0 → counting (eqb kind k) n ≡ 0
-none-counted kind k n b f z e = rw (ne-eqb kind k (λ q. clash b (f q) z), e)
+none-counted : (counted : Bool) (n : ℕ) (b : Bool) → (counted ≡ true → b ≡ true) → b ≡ false → n ≡ 0 → counting counted n ≡ 0
+none-counted true n b f z e = clash b (f refl) z
+none-counted false n b f z e = e
 
 module _ (T : Table) (kind : ℕ) (c : Call) where
   abbrev row : FormRow
@@ -159,9 +160,9 @@ module _ (T : Table) (kind : ℕ) (c : Call) where
             or-left (c .responded) (eqb kind 6)
             (⊎-elim (g .afterResponse) (λ q. and-right (row .3) (c .responded) (out q)) (or-cases (c .«output_closed») (eqb kind 5) o));
         inputElements = λ z.
-            none-counted kind 2 (c .«input_elements») (row .0) (λ e. in-stream row c (subst (λ (k : ℕ). allowed row k c ≡ true) e a)) z (g .inputElements z);
+            none-counted (isInput kind) (c .«input_elements») (row .0) (λ e. in-stream row c (subst (λ (k : ℕ). allowed row k c ≡ true) (eqb-true kind 2 e) a)) z (g .inputElements z);
         outputElements = λ z.
-            none-counted kind 4 (c .«output_elements») (row .2) (λ e. out-stream row c (subst (λ (k : ℕ). allowed row k c ≡ true) e a)) z (g .outputElements z);
+            none-counted (isOutput kind) (c .«output_elements») (row .2) (λ e. out-stream row c (subst (λ (k : ℕ). allowed row k c ≡ true) (eqb-true kind 4 e) a)) z (g .outputElements z);
         notComplete = d;
       }
 

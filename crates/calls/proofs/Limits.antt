@@ -20,7 +20,7 @@ use Rattle.calls.specs.declared.Judged.{Judged}
 use Rattle.calls.specs.declared.Judged.the-variants.{Stop, Opens, Goes}
 use Rattle.calls.specs.Numbers.{endsCall}
 pub use Rattle.calls.specs.Limits.{Few, FewIn}
-use Rattle.calls.specs.Record.{emptyCall, openedCall, isCall, atLimit, counting, marked, ends, afterFrame}
+use Rattle.calls.specs.Record.{emptyCall, openedCall, isCall, isInput, isOutput, atLimit, counting, marked, ends, afterFrame}
 use Rattle.calls.specs.Slots.{slot, firstSlot, formRow, freshTable, one, recordAt, ownOf}
 use Rattle.calls.specs.Judge.{judgeOf, judgeRelease}
 use Rattle.calls.specs.Step.{slotsAfter, stepOf, dueOf, receive, release}
@@ -39,8 +39,8 @@ one-more false n e h = h
 
 marked-few : (kind : ℕ) (c : Call) → atLimit kind c ≡ false → Few 65535 c → Few 65535 (marked kind c)
 marked-few kind c e w =
-    let both = or-false (eqb kind 2 && eqb (c .«input_elements») 65535) (eqb kind 4 && eqb (c .«output_elements») 65535) e in
-    record { inputs = one-more (eqb kind 2) (c .«input_elements») (both .0) (w .inputs); outputs = one-more (eqb kind 4) (c .«output_elements») (both .1) (w .outputs) }
+    let both = or-false (isInput kind && eqb (c .«input_elements») 65535) (isOutput kind && eqb (c .«output_elements») 65535) e in
+    record { inputs = one-more (isInput kind) (c .«input_elements») (both .0) (w .inputs); outputs = one-more (isOutput kind) (c .«output_elements») (both .1) (w .outputs) }
 
 -- one more at most
 grown : (b : Bool) (n most : ℕ) → n ≤ most → counting b n ≤ suc most
@@ -49,7 +49,7 @@ grown false n most h = omega arith
 
 marked-grown : (kind : ℕ) (c : Call) (most : ℕ) → Few most c → Few (suc most) (marked kind c)
 marked-grown kind c most w =
-    record { inputs = grown (eqb kind 2) (c .«input_elements») most (w .inputs); outputs = grown (eqb kind 4) (c .«output_elements») most (w .outputs) }
+    record { inputs = grown (isInput kind) (c .«input_elements») most (w .inputs); outputs = grown (isOutput kind) (c .«output_elements») most (w .outputs) }
 
 module _ {most : ℕ} where
   set-few : (l : List Call) (i : ℕ) (x : Call) → Few most x → FewIn most l → FewIn most (set l i x)
@@ -117,7 +117,7 @@ few-below id l h kind c e =
     let w = own-few 65534 id l h c e in
     let ins : eqb (c .«input_elements») 65535 ≡ false = ne-eqb (c .«input_elements») 65535 (λ z. omega (arith, z, w .inputs)) in
     let outs : eqb (c .«output_elements») 65535 ≡ false = ne-eqb (c .«output_elements») 65535 (λ z. omega (arith, z, w .outputs)) in
-    rw (ins, outs) (go (eqb kind 2) (eqb kind 4))
+    rw (ins, outs) (go (isInput kind) (isOutput kind))
   where
     go : (a b : Bool) → ((a && false) || (b && false)) ≡ false
     go true true = refl

@@ -26,7 +26,7 @@ use Rattle.calls.specs.declared.Figure.the-variants.{Nothing, Opened, Co
 use Rattle.calls.specs.declared.Rise.{Rise}
 use Rattle.calls.specs.Forms.{letter, lettersRow, rowOf}
 use Rattle.calls.specs.Numbers.{endsCall, EndsCall, payload, many-pairs}
-use Rattle.calls.specs.Record.{implies, emptyCall, openedCall, isCall, complete, allowed, notAllowed, atLimit, counting, marked, ends, afterFrame}
+use Rattle.calls.specs.Record.{implies, emptyCall, openedCall, isCall, complete, allowed, notAllowed, isInput, isOutput, atLimit, counting, marked, ends, afterFrame}
 use Rattle.calls.specs.Slots.{slot, firstSlot, holds, Own, none, one, recordAt, ownOf, full}
 use Rattle.calls.specs.Judge.{rightSide, payloadOf, Verdict, stop, opens, goes, invokeVerdict, callVerdict, otherVerdict, verdictOf, judgeOf, releaseVerdict, judgeRelease}
 use Rattle.calls.specs.Step.{receive, release}
@@ -145,9 +145,9 @@ module _ (form : ℕ) (before : Elements) (h : List ℕ) (c : Call) (m : ℕ) (w
       let a = eqb (c .«input_elements») 65535 in
       let b = eqb (c .«output_elements») 65535 in
       ⊎-elim
-      (λ p. rw (eqb-true kind 2 (and-left (eqb kind 2) a p)) (inputs (sym (w .inputElements) ∙ eqb-true (c .«input_elements») 65535 (and-right (eqb kind 2) a p))))
-      (λ p. rw (eqb-true kind 4 (and-left (eqb kind 4) b p)) (outputs (sym (w .outputElements) ∙ eqb-true (c .«output_elements») 65535 (and-right (eqb kind 4) b p))))
-      (or-cases (eqb kind 2 && a) (eqb kind 4 && b) t)
+      (λ p. rw (eqb-true kind 2 (and-left (isInput kind) a p)) (inputs (sym (w .inputElements) ∙ eqb-true (c .«input_elements») 65535 (and-right (isInput kind) a p))))
+      (λ p. rw (eqb-true kind 4 (and-left (isOutput kind) b p)) (outputs (sym (w .outputElements) ∙ eqb-true (c .«output_elements») 65535 (and-right (isOutput kind) b p))))
+      (or-cases (isInput kind && a) (isOutput kind && b) t)
 
   limits : {kind : ℕ} → TooMany before h kind → atLimit kind c ≡ true
   limits (inputs e) = or-left (eqb (c .«input_elements») 65535) false (eq-eqb (c .«input_elements») 65535 (w .inputElements ∙ e))
@@ -163,8 +163,8 @@ module _ (form : ℕ) (before : Elements) (h : List ℕ) (c : Call) (m : ℕ) (w
           inputClosed = or-comm (c .«input_closed») (eqb kind 3) ∙ ap (λ (b : Bool). eqb kind 3 || b) (w .inputClosed);
           outputClosed = or-comm (c .«output_closed») (eqb kind 5) ∙ ap (λ (b : Bool). eqb kind 5 || b) (w .outputClosed);
           isCancelled = or-comm (c .cancelled) (eqb kind 8) ∙ ap (λ (b : Bool). eqb kind 8 || b) (w .isCancelled);
-          inputElements = counting-since (eqb kind 2) (before .inputs) (c .«input_elements») (times 2 h) (w .inputElements);
-          outputElements = counting-since (eqb kind 4) (before .outputs) (c .«output_elements») (times 4 h) (w .outputElements);
+          inputElements = counting-since (isInput kind) (before .inputs) (c .«input_elements») (times 2 h) (w .inputElements);
+          outputElements = counting-since (isOutput kind) (before .outputs) (c .«output_elements») (times 4 h) (w .outputElements);
           noError = rw p (w .noError);
         }
 

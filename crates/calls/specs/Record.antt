@@ -46,9 +46,16 @@ allowed row kind c =
 abbrev pub notAllowed : ℕ → Call → ℕ
 notAllowed kind c = cond (c .cancelled && (leb 4 kind && leb kind 7)) 16 14
 
--- The element limit: an element of this kind, 2 IN_STREAM or 4 OUT_STREAM, would be one above 65,535.
+-- The elements of the two streams: 2 IN_STREAM, 4 OUT_STREAM.
+abbrev pub isInput : ℕ → Bool
+isInput kind = eqb kind 2
+
+abbrev pub isOutput : ℕ → Bool
+isOutput kind = eqb kind 4
+
+-- The element limit: an element of this kind would be one above 65,535.
 abbrev pub atLimit : ℕ → Call → Bool
-atLimit kind c = (eqb kind 2 && eqb (c .«input_elements») 65535) || (eqb kind 4 && eqb (c .«output_elements») 65535)
+atLimit kind c = (isInput kind && eqb (c .«input_elements») 65535) || (isOutput kind && eqb (c .«output_elements») 65535)
 
 -- One more, where one is counted.
 abbrev pub counting : Bool → ℕ → ℕ
@@ -65,8 +72,8 @@ marked kind c =
       «input_closed» = c .«input_closed» || eqb kind 3;
       «output_closed» = c .«output_closed» || eqb kind 5;
       cancelled = c .cancelled || eqb kind 8;
-      «input_elements» = counting (eqb kind 2) (c .«input_elements»);
-      «output_elements» = counting (eqb kind 4) (c .«output_elements»);
+      «input_elements» = counting (isInput kind) (c .«input_elements»);
+      «output_elements» = counting (isOutput kind) (c .«output_elements»);
     }
 
 -- An open call's record with this cancelled mark, and every other member as it was.

@@ -29,10 +29,9 @@ use Rattle.calls.proofs.Limits.{FewIn, few-stays, few-released}
 use Rattle.line.specs.Answer.{Line, line, stopped}
 use Rattle.line.specs.Receive.{received}
 use Rattle.line.specs.Release.{ReleaseLine, releaseLine, releaseAnswer, released}
-use Rattle.line.specs.Claims.{rowFor}
 use Rattle.line.specs.Run.{Event, input, release, State, stateAfter, runFrom}
 use Rattle.line.proofs.Kept.{holds, same-length, same-rows, release-holds, release-length, release-rows}
-use Rattle.line.proofs.Answers.{refused-untouched as sheet-kept, refused-rows as rows-kept, rows-alike}
+use Rattle.line.proofs.Answers.{refused-untouched as sheet-kept, refused-rows as rows-kept}
 use Rattle.line.proofs.Records.{refused-kept}
 use Rattle.line.proofs.Releases.{refused-kept as release-kept, refused-rows as release-rows-kept}
 use Rattle.exports.specs.Cells.{stored}
@@ -417,8 +416,7 @@ module _ (cells schema : List ℕ) (side : ℕ) (bytes sheet tallies : List ℕ)
         rw e (sheet-kept schema side bytes sheet rows l other .same),
         λ spares.
             let spared : endsCall (received schema side bytes sheet rows l .answer .number) ≡ false = rw e at spares in
-            let same : answer .tallies ≡ rows =
-            rows-alike (answer .tallies) rows rows-many (λ m. ap (λ (a : Line). rowFor (a .tallies) m) e ∙ rows-kept schema side bytes sheet rows l other spared m) in (
+            let same : answer .tallies ≡ rows = ap (λ (a : Line). a .tallies) e ∙ rows-kept schema side bytes sheet rows l other spared in (
               after-is t ∙ ap (λ (x : List Call). stored cells (cellsOf x)) (refused-kept schema side bytes sheet rows l other spared) ∙ cells-kept cells (are-calls-iff cells .0 t),
               ap (rowCells tallies) same ∙ rows-same tallies,
             ),
@@ -538,8 +536,7 @@ module _ (cells schema : List ℕ) (id : ℕ) (tallies : List ℕ) where
       let l = callsOf cells in
       let e = release-judged t in
       let other : released schema l id lent .answer .number ≡ 0 → ⊥ = rw e at z in
-      let same : reply .tallies ≡ lent =
-      rows-alike (reply .tallies) lent left-many (λ m. ap (λ (a : ReleaseLine). rowFor (a .tallies) m) e ∙ release-rows-kept schema l id lent other m) in (
+      let same : reply .tallies ≡ lent = ap (λ (a : ReleaseLine). a .tallies) e ∙ release-rows-kept schema l id lent other in (
         left-is t ∙ ap (λ (x : List Call). stored cells (cellsOf x)) (release-kept schema l id lent other) ∙ cells-kept cells (are-calls-iff cells .0 t),
         ap (rowCells tallies) same ∙ rows-same tallies,
       ))

@@ -1,4 +1,4 @@
--- Worked examples over bytes: the index of 01's worked record, look-ups in it, and bytes that are no index.
+-- Worked examples: rows put in order; over bytes, an index of two rows, bytes that are an index and bytes that are none, and look-ups.
 -- Assumes nothing.
 use mathlib.Core.Path.{_≡_, refl}
 use mathlib.Core.Bool.{true, false}
@@ -46,10 +46,28 @@ turned = take 16 (drop 16 two) ++ (take 16 two ++ drop 32 two)
 abbrev twice : List ℕ
 twice = take 16 two ++ (take 16 two ++ drop 32 two)
 
--- an index; an index without rows; nothing; a byte too few; a byte too many; no trailer; another place, count, layout number; rows out of order, and alike
+-- a row of small numbers, and a trailer of so many rows
+abbrev line : (correlation place answer : ℕ) → List ℕ
+line c p a = c ∷ 0 ∷ 0 ∷ 0 ∷ 0 ∷ 0 ∷ 0 ∷ 0 ∷ p ∷ 0 ∷ 0 ∷ 0 ∷ a ∷ 0 ∷ 0 ∷ 0 ∷ []
+
+abbrev end : (count : ℕ) → List ℕ
+end count = 0 ∷ 0 ∷ 0 ∷ 0 ∷ count ∷ 0 ∷ 0 ∷ 0 ∷ 31 ∷ 0 ∷ 0 ∷ 0 ∷ 1 ∷ 0 ∷ 0 ∷ 0 ∷ []
+
+-- two calls whose entries came by turns: in order, and in the record's order
+abbrev calls : List ℕ
+calls = line 7 29 0 ++ (line 7 87 26 ++ (line 9 0 0 ++ (line 9 58 11 ++ end 4)))
+
+abbrev mixed : List ℕ
+mixed = line 9 0 0 ++ (line 7 29 0 ++ (line 9 58 11 ++ (line 7 87 26 ++ end 4)))
+
+-- an index; an index without rows; of one row; of two calls; the same by turns; nothing; a byte too few; a byte too many; no trailer; another place, count,
+-- layout number; rows out of order, and alike
 pub indices : map isIndex
     (two
-    ∷ (0 ∷ 0 ∷ 0 ∷ 0 ∷ 0 ∷ 0 ∷ 0 ∷ 0 ∷ 31 ∷ 0 ∷ 0 ∷ 0 ∷ 1 ∷ 0 ∷ 0 ∷ 0 ∷ [])
+    ∷ end 0
+    ∷ (line 7 29 0 ++ end 1)
+    ∷ calls
+    ∷ mixed
     ∷ []
     ∷ take 47 two
     ∷ (0 ∷ two)
@@ -61,7 +79,7 @@ pub indices : map isIndex
     ∷ turned
     ∷ twice
     ∷ [])
-    ≡ true ∷ true ∷ false ∷ false ∷ false ∷ false ∷ false ∷ false ∷ false ∷ false ∷ false ∷ false ∷ []
+    ≡ true ∷ true ∷ true ∷ true ∷ false ∷ false ∷ false ∷ false ∷ false ∷ false ∷ false ∷ false ∷ false ∷ false ∷ false ∷ []
 unfolding little.little rowsIn isShaped isRising isIndex
 indices = refl
 
@@ -71,6 +89,14 @@ found =
     112 ∷ 108 ∷ 97 ∷ 99 ∷ 101 ∷ 32 ∷ 97 ∷ 110 ∷ 115 ∷ 119 ∷ 101 ∷ 114 ∷ 10 ∷
     48 ∷ 32 ∷ 48 ∷ 10 ∷
     51 ∷ 48 ∷ 48 ∷ 32 ∷ 49 ∷ 49 ∷ 10 ∷
+    115 ∷ 116 ∷ 111 ∷ 112 ∷ 112 ∷ 101 ∷ 100 ∷ 32 ∷ 48 ∷ 10 ∷ []
+
+-- place answer; 29 0; 87 26; stopped 0
+abbrev seven : List ℕ
+seven =
+    112 ∷ 108 ∷ 97 ∷ 99 ∷ 101 ∷ 32 ∷ 97 ∷ 110 ∷ 115 ∷ 119 ∷ 101 ∷ 114 ∷ 10 ∷
+    50 ∷ 57 ∷ 32 ∷ 48 ∷ 10 ∷
+    56 ∷ 55 ∷ 32 ∷ 50 ∷ 54 ∷ 10 ∷
     115 ∷ 116 ∷ 111 ∷ 112 ∷ 112 ∷ 101 ∷ 100 ∷ 32 ∷ 48 ∷ 10 ∷ []
 
 -- place answer; stopped N, in two digits
@@ -85,17 +111,21 @@ nothing = 112 ∷ 108 ∷ 97 ∷ 99 ∷ 101 ∷ 32 ∷ 97 ∷ 110 ∷ 115 ∷ 11
 abbrev fill : ℕ → List ℕ
 fill n = replicate n 165
 
--- call 9, with a byte to spare and with one too few; call 8, which has no rows; a record of another length; bytes that are no index, for a record of another
--- length too; the refusal where it does not fit
+-- call 9, with a byte to spare and with one too few; call 8, which has no rows; one of two calls; an index without rows; a record of another length; bytes
+-- that are no index, for a record of another length too; the refusal where it does not fit
 pub look-ups : look.lookUp two (fill 31) 9 (fill 35)
     ∷ look.lookUp two (fill 31) 9 (fill 33)
     ∷ look.lookUp two (fill 31) 8 (fill 23)
+    ∷ look.lookUp calls (fill 31) 7 (fill 34)
+    ∷ look.lookUp (end 0) (fill 31) 7 (fill 23)
     ∷ look.lookUp two (fill 30) 9 (fill 24)
     ∷ look.lookUp turned (fill 30) 9 (fill 24)
     ∷ look.lookUp turned (fill 31) 9 (fill 23)
     ∷ []
     ≡ look.outcome (Printed 0 34) (found ++ (165 ∷ []))
     ∷ look.outcome (Refused 52) (fill 33)
+    ∷ look.outcome (Printed 0 23) nothing
+    ∷ look.outcome (Printed 0 34) seven
     ∷ look.outcome (Printed 0 23) nothing
     ∷ look.outcome (Printed 66 24) (refused 54 54)
     ∷ look.outcome (Printed 65 24) (refused 54 53)

@@ -19,7 +19,7 @@ use Rattle.schema.specs.declared.Checked.the-variants.{Good, Refused as Faulty}
 use Rattle.schema.specs.File.{tableOf}
 use Rattle.schema.specs.Check.{checked, IsGood}
 use Rattle.schema.proofs.Listed.{listed as schema-listed, listed-bounds}
-use Rattle.schema.proofs.Bools.{cases, clash}
+use Rattle.schema.proofs.Bools.{cases, clash, is-false}
 use Rattle.frame.specs.declared.Header.{Header}
 use Rattle.frame.specs.declared.FrameRead.the-variants.{Frame}
 use Rattle.frame.specs.Frame.{frameOf}
@@ -32,7 +32,7 @@ use Rattle.line.specs.Run.{freshTallies}
 use Rattle.line.proofs.Listed.{listed}
 use Rattle.replay.specs.Run.{sheet, freshCalls, answerTo, headerIn, Entry, entryOf, Run, runOf}
 use Rattle.replay.specs.Runs.{Runs, at-end, halting, answering}
-use Rattle.replay.proofs.Turns.{used-some, listed-frame}
+use Rattle.replay.proofs.Turns.{listed-frame}
 use Rattle.replay.proofs.Replays as replay
 use Rattle.index.specs.declared.Indexing.{Indexing}
 use Rattle.index.specs.declared.Indexing.the-variants.{Made, Refused}
@@ -40,13 +40,47 @@ use Rattle.index.specs.declared.Finding.the-variants.{Printed, Refused a
 use Rattle.index.specs.Row.{Row, rowOf, rowsOf, insert, ordered, Rising, no-row, ofCall}
 use Rattle.index.specs.Index.{indexBytes, rowsFor, Outcome, outcome, indexInto, makeIndex}
 use Rattle.index.specs.IsIndex.{Fits, AllFit, none-left, one-fits, IsIndex, rowsIn, countIn, sizeIn, isIndex}
-use Rattle.index.specs.Text.{textOf}
-use Rattle.index.specs.Claims.{Accepted, Refuses, bad-table, too-long, no-room, Judges, right, other-record, no-index}
+use Rattle.index.specs.Text.{heading, lineText, linesText, stoppedText, textOf, callLines, callText}
+use Rattle.index.specs.Claims.{Has, Accepted, Refuses, bad-table, too-long, no-room, Judges, right, other-record, no-index, Finds, prints, no-space}
 use Rattle.index.specs.LookUp as look
-use Rattle.index.proofs.Orders.{Below, none-below, one-below, below-more, Later, ordered-rising, ordered-has, ordered-length, call-ordered, by-call}
+use Rattle.index.proofs.Orders.{Below, none-below, one-below, below-more, Later, ordered-rising, ordered-has, ordered-length, call-ordered, by-call, call-rising}
 use Rattle.index.proofs.Orders.{call-is, call-not, call-none, by-first, insert-here, insert-later, insert-last, ordered-none, ordered-one}
 use Rattle.index.proofs.Readings.{Reads, index-reads, reads-index, index-long}
 use Rattle.index.proofs.Turns.{run-later, run-below, run-short, table-refused, record-refused, record-indexed}
+
+-- ---- rows and entries
+
+-- an entry's row has its three numbers
+row-had : {c p n : ℕ} (es : List Entry) → List·Memᴰ (record { correlation = c; place = p; answer = n }) (rowsOf es) → Has es c p n
+row-had [] m = elim m [ ]
+row-had {c = c} {p = p} {n = n} (e ∷ es) m =
+    ⊎-elim
+    (λ k.
+    record {
+      entry = e;
+      there = List·Memᴰ·head refl;
+      correlation-is = sym (ap (λ (r : Row). r .correlation) k);
+      place-is = sym (ap (λ (r : Row). r .place) k);
+      answer-is = sym (ap (λ (r : Row). r .answer) k);
+    })
+    (λ k.
+    let w = row-had {c = c} {p = p} {n = n} es k in
+    record { entry = w .entry; there = List·Memᴰ·tail (w .there); correlation-is = w .correlation-is; place-is = w .place-is; answer-is = w .answer-is })
+    (List·Memᴰ·cases-cons m)
+
+row-there : (e : Entry) (es : List Entry) → List·Memᴰ e es → List·Memᴰ (rowOf e) (rowsOf es)
+row-there e [] m = elim m [ ]
+row-there e (x ∷ es) m = ⊎-elim (λ k. List·Memᴰ·head (ap rowOf k)) (λ k. List·Memᴰ·tail (row-there e es k)) (List·Memᴰ·cases-cons m)
+
+row-has : {c p n : ℕ} {es : List Entry} → Has es c p n → List·Memᴰ (record { correlation = c; place = p; answer = n }) (rowsOf es)
+row-has {c = c} {p = p} {n = n} {es = es} w =
+    let same : rowOf (w .entry) ≡ record { correlation = c; place = p; answer = n } =
+    λ i. record { correlation = (w .correlation-is) i; place = (w .place-is) i; answer = (w .answer-is) i } in
+    subst (λ (r : Row). List·Memᴰ r (rowsOf es)) same (row-there (w .entry) es (w .there))
+
+row-each : (es : List Entry) → length (rowsOf es) ≡ length es
+row-each [] = refl
+row-each (e ∷ es) = ap suc (row-each es)
 
 -- ---- the rows of an index
 
@@ -63,17 +97,18 @@ module _ (schema entries : List ℕ) where
   unfolding rowsFor
   rows-rising = ordered-rising [] run 0 no-row none-below later
 
-  -- "it covers exactly the entries the listing prints": a row is there exactly where its entry is in the record's run, and each entry has one.
-  pub rows-cover : (r : Row) → List·Memᴰ r (rowsFor schema entries) ↔ List·Memᴰ r run
+  -- "it covers exactly the entries the listing prints": a row with this correlation, place and answer is there exactly where an entry of the record's run
+  -- has them, and there are as many rows as entries.
+  pub rows-cover : (c p n : ℕ) → List·Memᴰ (record { correlation = c; place = p; answer = n }) (rowsFor schema entries) ↔ Has (runOf schema entries .entries) c p n
   unfolding rowsFor
-  rows-cover r = (
-    λ w. ⊎-elim (λ m. elim m [ ]) (λ m. m) (ordered-has [] run .0 w),
-    λ w. ordered-has [] run .1 (inr w),
+  rows-cover c p n = (
+    λ w. ⊎-elim (λ m. elim m [ ]) (λ m. row-had (runOf schema entries .entries) m) (ordered-has [] run .0 w),
+    λ w. ordered-has [] run .1 (inr (row-has w)),
   )
 
-  pub rows-many : length (rowsFor schema entries) ≡ length run
+  pub rows-many : length (rowsFor schema entries) ≡ length (runOf schema entries .entries)
   unfolding rowsFor
-  rows-many = ordered-length [] run ∙ omega arith
+  rows-many = ordered-length [] run ∙ omega (arith, row-each (runOf schema entries .entries))
 
   -- The rows of one call are those of its entries, in the record's order.
   pub call-rows : (c : ℕ) → ofCall c (rowsFor schema entries) ≡ ofCall c run
@@ -111,6 +146,10 @@ call-has c r rows = (only rows, has rows)
         (λ e. on (sym (call-not c s rows e)) (has rows (m, w .1))))
         (List·Memᴰ·cases-cons (w .0))
 
+-- They rise strictly, too: with one correlation, by place.
+pub call-rises : (c : ℕ) (schema entries : List ℕ) → Rising (ofCall c (rowsFor schema entries))
+call-rises c schema entries = call-rising c (rowsFor schema entries) (rows-rising schema entries)
+
 -- ---- an index that was made
 
 -- a number of an answer has 32 bits
@@ -138,12 +177,9 @@ small-correlation (frame {h = h} {«package» = a} {service = b} {method = m} {c
     subst (λ (x : ℕ). x < 2 ^ 64) (c8 .value) (little-below c 8 four (omega (arith, c8 .width)))
 
 header-small : (s : List ℕ) (side : ℕ) (bytes : List ℕ) (l : List Call) → (answerTo s side bytes l .used ≡ 0 → ⊥) → Bytes bytes → headerIn (frameOf bytes) .correlation < 2 ^ 64
-unfolding headerIn
 header-small s side bytes l z b =
-    let f = listed-frame s side bytes l z in
-    let w = read-is-frame bytes (f .1 .1 .1) in
-    let head : headerIn (frameOf bytes) ≡ f .0 = ap headerIn (f .1 .1 .1) in
-    subst (λ (h : Header). h .correlation < 2 ^ 64) (sym head) (small-correlation (w .is) (bytes-parts bytes (w .frame) (w .rest) (w .split) b .0))
+    let w = read-is-frame bytes (listed-frame s side bytes l z .1 .1) in
+    small-correlation (w .is) (bytes-parts bytes (w .frame) (w .rest) (w .split) b .0)
 
 number-small : (s : List ℕ) (side : ℕ) (bytes : List ℕ) (l : List Call) → answerTo s side bytes l .number < 2 ^ 32
 unfolding answerTo receivedFresh
@@ -158,7 +194,7 @@ run-fit (halting e) b w = none-left
 run-fit {s} {p} (answering {side = side} {bytes = bytes} {l = l} e k) b (one-below h w) =
     let a = answerTo s side bytes l in
     one-fits
-    (record { correlation = header-small s side bytes l (λ z. used-some (a .used) _ e z) (bytes-tail side bytes b); place = h; answer = number-small s side bytes l })
+    (record { correlation = header-small s side bytes l (e .uses) (bytes-tail side bytes b); place = h; answer = number-small s side bytes l })
     (run-fit k (bytes-drop bytes (a .used) (bytes-tail side bytes b)) w)
 
 fit-insert : (r : Row) {rows : List Row} → Fits r → AllFit rows → AllFit (insert r rows)
@@ -288,18 +324,18 @@ module _ (schema entries out : List ℕ) where
 -- ---- the look-up
 
 -- "Refusals: 65 index shape or order, 66 record of another length, 65 first": of any bytes a look-up either accepts an index whose rows rise strictly, for
--- a record of that length, or gives 66 or 65.
-pub judged : (index : List ℕ) (size : ℕ) → Bytes index → Judges index size (look.verdict index size) (rowsIn (countIn index) index)
-unfolding look.verdict
+-- a record of that length, or gives 66 or 65 and looks at no row.
+pub judged : (index : List ℕ) (size : ℕ) → Bytes index → Judges index size (look.verdict index size) (rowsIn (look.looked index size) index)
+unfolding look.verdict look.looked rowsIn
 judged index size b =
-    let rows = rowsIn (countIn index) index in
-    let told : (n : ℕ) → look.verdict index size ≡ n → Judges index size n rows → Judges index size (look.verdict index size) rows =
-    λ n v w. subst (λ (k : ℕ). Judges index size k rows) (sym v) w in
+    let told : (n : ℕ) → look.verdict index size ≡ n → Judges index size n (rowsIn (cond (eqb n 0) (countIn index) 0) index)
+    → Judges index size (look.verdict index size) (rowsIn (look.looked index size) index) =
+    λ n v w. subst (λ (k : ℕ). Judges index size k (rowsIn (cond (eqb k 0) (countIn index) 0) index)) (sym v) w in
     ⊎-elim
     (λ (e : isIndex index ≡ true).
     let w = reads-index index b e in
     ⊎-elim
-    (λ (f : eqb (sizeIn index) size ≡ true). told 0 (rw (e, f)) (right (subst (IsIndex index rows) (eqb-true (sizeIn index) size f) w)))
+    (λ (f : eqb (sizeIn index) size ≡ true). told 0 (rw (e, f)) (right (subst (IsIndex index (rowsIn (countIn index) index)) (eqb-true (sizeIn index) size f) w)))
     (λ (f : eqb (sizeIn index) size ≡ false). told 66 (rw (e, f)) (other-record w (λ q. eqb-false (sizeIn index) size f q)))
     (cases (eqb (sizeIn index) size)))
     (λ (e : isIndex index ≡ false). told 65 (rw e) (no-index (λ rows n w. clash (isIndex index) (index-reads w .passes) e)))
@@ -322,23 +358,12 @@ module _ (index : List ℕ) (size c : ℕ) where
       let v : look.verdict index size ≡ 66 = rw (r .passes, ne-eqb (sizeIn index) size (λ q. h (sym (r .size-is) ∙ q))) in
       (v, rw v)
 
-  pub none-printed : isIndex index ≡ false → (look.verdict index size ≡ 65) × (look.lookText index size c ≡ textOf [] 65)
+  pub none-printed : Bytes index → ((rows : List Row) (n : ℕ) → IsIndex index rows n → ⊥) → (look.verdict index size ≡ 65) × (look.lookText index size c ≡ textOf [] 65)
   unfolding look.verdict look.looked look.lookText rowsIn ofCall
-  none-printed e = let v : look.verdict index size ≡ 65 = rw e in (v, rw v)
-
--- An index made from a record is accepted for it, and the look-up of a call prints the rows of its entries in the record's order.
-pub call-found : (schema entries out : List ℕ) {n : ℕ} {after : List ℕ} (c : ℕ) → Bytes entries → makeIndex schema entries out ≡ outcome (Made n) after
-    → (look.verdict (take n after) (length entries) ≡ 0)
-    × (look.lookText (take n after) (length entries) c ≡ textOf (ofCall c (rowsOf (runOf schema entries .entries))) 0)
-call-found schema entries out {n} {after} c b e =
-    let a = made-iff schema entries out n after .0 e in
-    let rows = rowsFor schema entries in
-    let front : take n after ≡ indexBytes rows (length entries) =
-    ap (take n) (a .after-is) ∙ take-at (indexBytes rows (length entries)) (drop n out) n (index-long rows (length entries) ∙ sym (a .size)) in
-    let w = rows-printed (indexBytes rows (length entries)) (length entries) c (made-index schema entries b (a .small)) in (
-      ap (λ (s : List ℕ). look.verdict s (length entries)) front ∙ w .0,
-      ap (λ (s : List ℕ). look.lookText s (length entries) c) front ∙ w .1 ∙ ap (λ (l : List Row). textOf l 0) (call-rows schema entries c),
-    )
+  none-printed b none =
+      let e : isIndex index ≡ false = is-false (isIndex index) (λ t. none (rowsIn (countIn index) index) (sizeIn index) (reads-index index b t)) in
+      let v : look.verdict index size ≡ 65 = rw e in
+      (v, rw v)
 
 -- What a look-up answers and leaves: the text at the start of the output where it fits, or 52.
 pub look-up-fits : (index entries : List ℕ) (c : ℕ) (out : List ℕ) → let text = look.lookText index (length entries) c in length text ≤ length out
@@ -350,6 +375,60 @@ pub look-up-full : (index entries : List ℕ) (c : ℕ) (out : List ℕ) → len
     → look.lookUp index entries c out ≡ look.outcome (Unprinted 52) out
 unfolding look.lookUp look.put
 look-up-full index entries c out h = rw (lt-ltb (length out) (length (look.lookText index (length entries) c)) h)
+
+-- So for any index, record, correlation and output: the lines of exactly the call's rows of an index that is accepted, or none, and last the verdict.
+pub looked-up : (index entries : List ℕ) (c : ℕ) (out : List ℕ) → Bytes index → Finds index (length entries) c out (look.lookUp index entries c out)
+unfolding look.lookText
+looked-up index entries c out b =
+    let size = length entries in
+    let text = look.lookText index size c in
+    let w = judged index size b in
+    elim (decLe (length text) (length out)) [
+      | yes h ↦ subst (Finds index size c out) (sym (look-up-fits index entries c out h)) (prints text w refl h)
+      | no h ↦ subst (Finds index size c out) (sym (look-up-full index entries c out (omega arith))) (no-space w (omega arith))
+    ]
+
+-- ---- made and looked up
+
+-- the lines of a call's rows are those of its entries
+call-lines : (c : ℕ) (es : List Entry) → linesText (ofCall c (rowsOf es)) ≡ callLines c es
+unfolding linesText callLines ofCall
+call-lines c [] = refl
+call-lines c (e ∷ es) =
+    ⊎-elim
+    (λ (t : eqb (e .header .correlation) c ≡ true). rw t (ap (λ (u : List ℕ). lineText (e .place) (e .answer .number) ++ u) (call-lines c es)))
+    (λ (t : eqb (e .header .correlation) c ≡ false). rw t (call-lines c es))
+    (cases (eqb (e .header .correlation) c))
+
+-- An index made from a record is accepted for it, and the text of a call is the place and the answer of exactly the entries of that correlation in the
+-- record's run, in order.
+pub call-text : (schema entries out : List ℕ) {n : ℕ} {after : List ℕ} → makeIndex schema entries out ≡ outcome (Made n) after → Bytes entries → (c : ℕ)
+    → (look.verdict (take n after) (length entries) ≡ 0) × (look.lookText (take n after) (length entries) c ≡ callText c (runOf schema entries .entries))
+unfolding textOf callText
+call-text schema entries out {n} {after} e b c =
+    let a = made-iff schema entries out n after .0 e in
+    let rows = rowsFor schema entries in
+    let size = length entries in
+    let front : take n after ≡ indexBytes rows size = ap (take n) (a .after-is) ∙ take-at (indexBytes rows size) (drop n out) n (index-long rows size ∙ sym (a .size)) in
+    let w = rows-printed (indexBytes rows size) size c (made-index schema entries b (a .small)) in (
+      ap (λ (s : List ℕ). look.verdict s size) front ∙ w .0,
+      ap (λ (s : List ℕ). look.lookText s size c) front
+          ∙ w .1
+          ∙ ap (λ (l : List Row). textOf l 0) (call-rows schema entries c)
+          ∙ ap (λ (u : List ℕ). heading ++ u ++ stoppedText 0) (call-lines c (runOf schema entries .entries)),
+    )
+
+-- Both entries in turn: what is made from a record, looked up with the record, prints this text where it fits.
+pub call-found : (schema entries out : List ℕ) {n : ℕ} {after : List ℕ} → makeIndex schema entries out ≡ outcome (Made n) after → Bytes entries
+    → (c : ℕ) (page : List ℕ) → let text = callText c (runOf schema entries .entries) in length text ≤ length page
+    → look.lookUp (take n after) entries c page ≡ look.outcome (Printed 0 (length text)) (text ++ drop (length text) page)
+call-found schema entries out {n} {after} e b c page h =
+    let w = call-text schema entries out e b c in
+    let text = w .1 in
+    look-up-fits (take n after) entries c page (subst (λ (u : List ℕ). length u ≤ length page) (sym text) h)
+    ∙ λ i. look.outcome (Printed (w .0 i) (length (text i))) (text i ++ drop (length (text i)) page)
+
+-- ---- numbers
 
 -- No refusal has the number of what is made.
 pub refused-above : (schema entries out : List ℕ) {number place : ℕ} → makeIndex schema entries out .answer ≡ Refused number place → 1 ≤ number

@@ -11,10 +11,10 @@ use lib.Seq.{take-all, take-take, take-add, take-suc, take-at, drop-at, drop-con
 use Rattle.wire.specs.Little.{bytes, written}
 use Rattle.wire.proofs.Numbers.{length-bytes, sets-written}
 use Rattle.frame.proofs.Writes.{sets-append}
-use Rattle.index.specs.Row.{Row, insert, Before, lower, earlier, Rising, no-row, one-row, next-row}
+use Rattle.index.specs.Row.{Row, insert, Rising, no-row, one-row, next-row}
 use Rattle.index.specs.Index.{rowBytes, rowsBytes, trailer, indexBytes}
-use Rattle.index.specs.Cells.{second, cellsOf, cellsBytes, Inserted, isAfter, indexCells}
-use Rattle.index.proofs.Orders.{insert-here, insert-later, insert-last, Below, none-below, one-below}
+use Rattle.index.specs.Cells.{second, cellsOf, cellsBytes, Inserted, isAfter, withTrailer}
+use Rattle.index.proofs.Orders.{insert-here, insert-later, insert-last, before-le, Below, none-below, one-below}
 
 -- ---- cells as bytes
 
@@ -75,8 +75,8 @@ trailer-bytes count size h =
     ap₂ (λ (a : List ℕ) (b : List ℕ). a ++ b) (halves 0 count (omega arith)) (append-nil (bytes 8 (second size 1)) ∙ halves size 1 h)
 
 -- The cells of an index are stored as its bytes.
-pub index-bytes : {p : ℕ} {rows : List Row} (size : ℕ) → p ≤ 4294967296 → Below p rows → size < 4294967296 → cellsBytes (indexCells rows size) ≡ indexBytes rows size
-unfolding indexCells indexBytes
+pub index-bytes : {p : ℕ} {rows : List Row} (size : ℕ) → p ≤ 4294967296 → Below p rows → size < 4294967296 → cellsBytes (withTrailer rows size) ≡ indexBytes rows size
+unfolding withTrailer indexBytes
 index-bytes {p} {rows} size h w k =
     bytes-join (cellsOf rows) (second 0 (length rows) ∷ second size 1 ∷ [])
     ∙ ap₂ (λ (a : List ℕ) (b : List ℕ). a ++ b) (rows-bytes h w) (trailer-bytes (length rows) size k)
@@ -133,10 +133,6 @@ insert-cells r (s ∷ rows) (suc k) h greater less =
     ap cellsOf (insert-later r s rows (less 0 (omega arith)))
     ∙ ap (λ (t : List ℕ). s .correlation ∷ second (s .place) (s .answer) ∷ t) (insert-cells r rows k (omega arith) above under)
     ∙ ap (λ (j : ℕ). take j (cellsOf (s ∷ rows)) ++ (r .correlation ∷ second (r .place) (r .answer) ∷ drop j (cellsOf (s ∷ rows)))) (sym (double k))
-
-before-le : {a b : Row} → Before a b → a .correlation ≤ b .correlation
-before-le (lower h) = omega arith
-before-le (earlier e h) = omega arith
 
 -- correlations never fall
 first-least : {a : Row} {rows : List Row} → Rising (a ∷ rows) → (j : ℕ) → j < length (a ∷ rows) → a .correlation ≤ getD (cellsOf (a ∷ rows)) (2 * j) 0

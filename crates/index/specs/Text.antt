@@ -1,9 +1,12 @@
 -- The text of a look-up, as ASCII codes. Each line ends in one LF (10); its words have single blanks (32) between.
 -- Assumes nothing.
+use mathlib.Core.Bool.{cond}
 use mathlib.Core.List.{List, [], _∷_, _++_}
 use Prim.Native.Nat.{ℕ}
+use lib.Dec.{eqb}
 use Rattle.text.specs.Decimal.{decimal}
 use Rattle.text.specs.Put.{field}
+use Rattle.replay.specs.Run.{Entry}
 use Rattle.index.specs.Row.{Row}
 
 -- place answer
@@ -25,3 +28,14 @@ stoppedText number = (115 ∷ 116 ∷ 111 ∷ 112 ∷ 112 ∷ 101 ∷ 100 ∷ []
 -- the whole text: heading, the rows, and last `stopped` with 0 or a refusal's number
 unfoldable pub textOf : List Row → (number : ℕ) → List ℕ
 textOf rows number = heading ++ linesText rows ++ stoppedText number
+
+-- ---- the same by a record's entries, beside the index
+
+-- a line for each entry of one correlation, in order: its place and the number of its answer
+unfoldable pub callLines : (correlation : ℕ) → List Entry → List ℕ
+callLines c [] = []
+callLines c (e ∷ es) = cond (eqb (e .header .correlation) c) (lineText (e .place) (e .answer .number) ++ callLines c es) (callLines c es)
+
+-- the whole text of a look-up that finds these
+unfoldable pub callText : (correlation : ℕ) → List Entry → List ℕ
+callText c es = heading ++ callLines c es ++ stoppedText 0

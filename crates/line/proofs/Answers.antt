@@ -42,7 +42,7 @@ use Rattle.line.specs.Planning.{frameFrom}
 use Rattle.line.specs.Receive.{answered, frameSettled, frameLine, received}
 use Rattle.line.specs.Claims.{Front, Shows, Nothing, rowFor, Alike, tables, frameFault, needsMore, Keeping, elementLimit, tallyFull, rowsMiscounted, sheetSmall, KeptWhole}
 use Rattle.line.proofs.Ways.{front-is, Early, schema, calls, rows, frame, early, Way, stops, judges, ways, stops-early, judged}
-use Rattle.line.proofs.Rows.{unraised}
+use Rattle.line.proofs.Rows.{unraised, rows-alike}
 use Rattle.line.proofs.Kept.{frameRise, holds-row, same-rows}
 use Rattle.line.proofs.Records.{front-once, refused-kept}
 use Rattle.line.proofs.Payloads.{Untouched, refused-read, unread, tallied-untouched, tallied-same}
@@ -132,16 +132,6 @@ module _ (s payload sheet : List ℕ) (size : ℕ) (ts : List Tally) (l : List C
       refused-bare s payload sheet size ts l r (getD ts (r .row) noTally) J z
 
 -- ---- what is kept
-
--- rows alike one by one are the same
-pub rows-alike : (xs ys : List Tally) → length xs ≡ length ys → ((m : ℕ) → rowFor xs m ≡ rowFor ys m) → xs ≡ ys
-rows-alike [] [] n h = refl
-rows-alike [] (y ∷ ys) n h = absurd (omega arith)
-rows-alike (x ∷ xs) [] n h = absurd (omega arith)
-rows-alike (x ∷ xs) (y ∷ ys) n h =
-    let one : x ≡ y = h 0 in
-    let more = rows-alike xs ys (omega arith) (λ m. h (suc m)) in
-    λ i. (one i) ∷ (more i)
 
 keeping : {n : ℕ} → Keeping n → (n ≡ 0 → ⊥) × (endsCall n ≡ false) × (usesFrame n ≡ false)
 unfolding endsCall usesFrame
@@ -239,10 +229,11 @@ module _ (s : List ℕ) (side : ℕ) (bytes sheet : List ℕ) (ts : List Tally) 
 
   -- A refusal that is no payload refusal changes no tally row: 8 to 19 and 30 raise nothing.
   pub refused-rows : let a = received s side bytes sheet ts l in (a .answer .number ≡ 0 → ⊥) → endsCall (a .answer .number) ≡ false
-      → (m : ℕ) → rowFor (a .tallies) m ≡ rowFor ts m
-  refused-rows z k m =
-      holds-row s side bytes sheet ts l m (λ n _ t. (n ≡ 0 → ⊥) → endsCall n ≡ false → t ≡ rowFor ts m)
-      (λ n q e z k. refl) (λ f w r reading z k. unraised m (frameRise s f l) _ (rowFor ts m) z k) z k
+      → a .tallies ≡ ts
+  refused-rows z k =
+      rows-alike (received s side bytes sheet ts l .tallies) ts (same-rows s side bytes sheet ts l)
+      (λ m. holds-row s side bytes sheet ts l m (λ n _ t. (n ≡ 0 → ⊥) → endsCall n ≡ false → t ≡ rowFor ts m)
+      (λ n q e z k. refl) (λ f w r reading z k. unraised m (frameRise s f l) _ (rowFor ts m) z k) z k)
 
   -- 17, 18, 19 and 30 change nothing and use no bytes.
   pub kept-whole : let a = received s side bytes sheet ts l in Keeping (a .answer .number) → KeptWhole sheet ts l a
@@ -252,7 +243,7 @@ module _ (s : List ℕ) (side : ℕ) (bytes sheet : List ℕ) (ts : List Tally) 
         used = used-by-number ∙ rw (k .2);
         nothing = refused-untouched (k .0);
         slots = refused-kept s side bytes sheet ts l (k .0) (k .1);
-        tallies = rows-alike (received s side bytes sheet ts l .tallies) ts (same-rows s side bytes sheet ts l) (refused-rows (k .0) (k .1));
+        tallies = refused-rows (k .0) (k .1);
       }
 
   -- An INVOKE that is refused, for its payload or before, counts nowhere: every row is as it was.

@@ -31,8 +31,8 @@ use Rattle.calls.proofs.Rises.{release-rise-by}
 use Rattle.line.specs.Release.{ReleaseLine, releaseAnswer, released}
 use Rattle.line.specs.Claims.{Ready, Unready, schemaFault, callsBad, rowsWrong, rowFor, ReleaseReply, releaseReply}
 use Rattle.line.proofs.Ways.{Early, schema, calls, rows, frame, unready-early, releasedNumber, ReleaseWay, unready, releases, release-ways, release-stops, release-judged}
-use Rattle.line.proofs.Rows.{unraised}
-use Rattle.line.proofs.Kept.{release-holds, release-holds-row}
+use Rattle.line.proofs.Rows.{unraised, rows-alike}
+use Rattle.line.proofs.Kept.{release-holds, release-holds-row, release-rows}
 
 early-number : {n q : ℕ} → Early n q → n ≡ 0 → ⊥
 early-number (schema a b e) z = omega arith
@@ -72,10 +72,11 @@ module _ (s : List ℕ) (l : List Call) (id : ℕ) (ts : List Tally) where
   pub refused-kept : (number ≡ 0 → ⊥) → slots ≡ l
   refused-kept = release-holds s l id ts (λ n l′. (n ≡ 0 → ⊥) → l′ ≡ l) (λ n q e z. refl) (λ g t n k. calls.release-same id n l k)
 
-  pub refused-rows : (number ≡ 0 → ⊥) → (m : ℕ) → rowFor (released s l id ts .tallies) m ≡ rowFor ts m
-  refused-rows z m =
-      release-holds-row s l id ts m (λ n _ t. (n ≡ 0 → ⊥) → t ≡ rowFor ts m) (λ n q e z. refl)
-      (λ w n k z. unraised m (releaseRise l (judgeRelease id l)) (release id n l .number) (rowFor ts m) z (rw (calls.release-answered id n l) (spared n k (ownOf id l)))) z
+  pub refused-rows : (number ≡ 0 → ⊥) → released s l id ts .tallies ≡ ts
+  refused-rows z =
+      rows-alike (released s l id ts .tallies) ts (release-rows s l id ts)
+      (λ m. release-holds-row s l id ts m (λ n _ t. (n ≡ 0 → ⊥) → t ≡ rowFor ts m) (λ n q e z. refl)
+      (λ w n k z. unraised m (releaseRise l (judgeRelease id l)) (release id n l .number) (rowFor ts m) z (rw (calls.release-answered id n l) (spared n k (ownOf id l)))) z)
 
   -- A released call has ended.
   pub released-ends : number ≡ 0 → ownOf id slots ≡ none

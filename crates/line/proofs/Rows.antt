@@ -71,6 +71,16 @@ unraised m r n t z k = rw (ne-eqb n 0 z, k) (go (eqb (r .row) m))
     go true = refl
     go false = refl
 
+-- rows alike one by one are the same
+pub rows-alike : (xs ys : List Tally) → length xs ≡ length ys → ((m : ℕ) → rowFor xs m ≡ rowFor ys m) → xs ≡ ys
+rows-alike [] [] n h = refl
+rows-alike [] (y ∷ ys) n h = absurd (omega arith)
+rows-alike (x ∷ xs) [] n h = absurd (omega arith)
+rows-alike (x ∷ xs) (y ∷ ys) n h =
+    let one : x ≡ y = h 0 in
+    let more = rows-alike xs ys (omega arith) (λ m. h (suc m)) in
+    λ i. (one i) ∷ (more i)
+
 -- ---- fresh rows
 
 fresh-rows : (n m : ℕ) → rowFor (replicate n noTally) m ≡ noTally

@@ -685,7 +685,9 @@ module _ (s : List ℕ) (g : IsGood s) (start : State) (past : ℕ → Past) (st
       unchanged = refused-kept s (i .side) (i .bytes) (i .sheet) (rowsAfter es) (callsAfter es) (λ z. omega (arith, number, z)) (rw number (call-keeps 16 (lit≤ tt) (lit≤ tt)))
 
       rows-unchanged : (k : ℕ) → rowFor (a .tallies) k ≡ rowFor (rowsAfter es) k
-      rows-unchanged k = refused-rows s (i .side) (i .bytes) (i .sheet) (rowsAfter es) (callsAfter es) (λ z. omega (arith, number, z)) (rw number (call-keeps 16 (lit≤ tt) (lit≤ tt))) k
+      rows-unchanged k =
+          ap (λ (x : List Tally). rowFor x k)
+          (refused-rows s (i .side) (i .bytes) (i .sheet) (rowsAfter es) (callsAfter es) (λ z. omega (arith, number, z)) (rw number (call-keeps 16 (lit≤ tt) (lit≤ tt))))
 
   -- ERROR of a cancelled call is accepted and ends it, unless its tally is full.
   pub error-ends-cancelled : (es : List Event) (i : Input) (f : Frame) (w : Front (i .side) (i .bytes) f) (m : ℕ) (b : Elements) (h : List ℕ)

@@ -1,8 +1,10 @@
--- 01's worked example: the record by the file of table T, and its whole output; and a record in which a RESPONSE crosses a CANCEL.
+-- 01's worked example: the record by the file of table T, its whole output and its index; a record in which a RESPONSE crosses a CANCEL; and records at
+-- which a listing stops early.
 -- Assumes nothing.
 use mathlib.Core.Path.{_≡_, refl}
 use mathlib.Core.List.{List, [], _∷_, _++_}
 use Prim.Native.Nat.{ℕ}
+use lib.ListN.{take, drop}
 use lib.Count.{onesIn}
 use Rattle.wire.specs.Little as little
 use Rattle.wire.specs.Varuint as varuint
@@ -100,6 +102,36 @@ pub crossing : listing.listing example.file crossed ≡ crossedOutput
 unfolding listed
 crossing = refl
 
+-- INVOKE 9 from the server, which is the wrong side and an entry; and the same from X (88), which is no side and no entry.
+abbrev pub unsided : List ℕ
+unsided = (83 ∷ take 28 (drop 1 entries)) ++ (88 ∷ take 28 (drop 1 entries))
+
+-- 1 S 1 9 8 0 0 0; stopped 8 left 29
+abbrev pub unsidedOutput : List ℕ
+unsidedOutput =
+    text.heading ++
+    (49 ∷ 32 ∷ 83 ∷ 32 ∷ 49 ∷ 32 ∷ 57 ∷ 32 ∷ 56 ∷ 32 ∷ 48 ∷ 32 ∷ 48 ∷ 32 ∷ 48 ∷ 10 ∷
+    115 ∷ 116 ∷ 111 ∷ 112 ∷ 112 ∷ 101 ∷ 100 ∷ 32 ∷ 56 ∷ 32 ∷ 108 ∷ 101 ∷ 102 ∷ 116 ∷ 32 ∷ 50 ∷ 57 ∷ 10 ∷ [])
+
+pub unsiding : listing.listing example.file unsided ≡ unsidedOutput
+unfolding listed
+unsiding = refl
+
+-- the first entry of 01's record, and the second without its last byte
+abbrev pub cut : List ℕ
+cut = take 59 entries
+
+-- 1 C 1 9 0 0 2 1; stopped 1 left 30
+abbrev pub cutOutput : List ℕ
+cutOutput =
+    text.heading ++
+    (49 ∷ 32 ∷ 67 ∷ 32 ∷ 49 ∷ 32 ∷ 57 ∷ 32 ∷ 48 ∷ 32 ∷ 48 ∷ 32 ∷ 50 ∷ 32 ∷ 49 ∷ 10 ∷
+    115 ∷ 116 ∷ 111 ∷ 112 ∷ 112 ∷ 101 ∷ 100 ∷ 32 ∷ 49 ∷ 32 ∷ 108 ∷ 101 ∷ 102 ∷ 116 ∷ 32 ∷ 51 ∷ 48 ∷ 10 ∷ [])
+
+pub cutting : listing.listing example.file cut ≡ cutOutput
+unfolding listed
+cutting = refl
+
 -- the rows of 01's worked record: two calls, three entries and two
 pub worked-rows : index.rowsFor example.file entries
     ≡ record { correlation = 9; place = 0; answer = 0 }
@@ -110,3 +142,21 @@ pub worked-rows : index.rowsFor example.file entries
     ∷ []
 unfolding listed rows.insert rows.ordered index.rowsFor
 worked-rows = refl
+
+-- two calls by turns: INVOKE 10, INVOKE 9, RESPONSE 10 with P5, RESPONSE 9
+abbrev pub interleaved : List ℕ
+interleaved = take 29 (drop 91 entries) ++ (take 29 entries ++ (drop 120 entries ++ take 31 (drop 29 entries)))
+
+pub interleaved-rows : index.rowsFor example.file interleaved
+    ≡ record { correlation = 9; place = 29; answer = 0 }
+    ∷ record { correlation = 9; place = 92; answer = 0 }
+    ∷ record { correlation = 10; place = 0; answer = 0 }
+    ∷ record { correlation = 10; place = 58; answer = 26 }
+    ∷ []
+unfolding listed rows.insert rows.ordered index.rowsFor
+interleaved-rows = refl
+
+-- no entry, and one: a cut frame alone; the entry from the wrong side
+pub few-rows : (index.rowsFor example.file (take 28 entries) ≡ []) × (index.rowsFor example.file unsided ≡ record { correlation = 9; place = 0; answer = 8 } ∷ [])
+unfolding listed rows.insert rows.ordered index.rowsFor
+few-rows = (refl, refl)

@@ -8,15 +8,15 @@ use Prim.Native.Nat.{ℕ, zero, suc, _+_, _*_, _-_, _≤_, _<_}
 use native.Mathlib.Omega.{arith}
 use lib.ListN.{length, take, drop, getD, length-drop, drop-of-length-le}
 use lib.Seq.{drop-cons, drop-drop, getD-drop, take-all}
-use Rattle.schema.proofs.Bools.{cases}
+use Rattle.schema.proofs.Bools.{cases, clash}
 use Rattle.frame.specs.Frame.{frameOf}
 use Rattle.calls.specs.declared.Call.{Call}
 use Rattle.calls.specs.declared.CallTable.{CallTable}
 use Rattle.calls.specs.Slots.{freshTable}
 use Rattle.line.specs.declared.Received.{Received}
 use Rattle.replay.specs.Run.{freshCalls, answerTo, headerIn, stops, Entry, entryOf, Run, halted, onward, runFrom, runOf}
-use Rattle.replay.specs.Runs.{Runs, at-end, halting, answering, Stands}
-use Rattle.replay.proofs.Turns.{used-bounds, used-some}
+use Rattle.replay.specs.Runs.{IsEntry, Runs, at-end, halting, answering, Stands}
+use Rattle.replay.proofs.Turns.{used-bounds, listed-frame, goes-on-iff, stops-there}
 
 -- ---- one turn
 
@@ -51,21 +51,21 @@ run-is s (suc k) place [] l h = subst (Runs s place [] l) (sym (run-end s (suc k
 run-is s (suc k) place (side ∷ bytes) l h =
     let a = answerTo s side bytes l in
     ⊎-elim
-    (λ e. subst (Runs s place (side ∷ bytes) l) (sym (run-stop s k place side bytes l e)) (halting e))
+    (λ e. subst (Runs s place (side ∷ bytes) l) (sym (run-stop s k place side bytes l e)) (halting (λ w. clash _ e (goes-on-iff s side bytes l .1 w))))
     (λ e.
     subst (Runs s place (side ∷ bytes) l) (sym (run-turn s k place side bytes l e))
-    (answering e (run-is s k (place + 1 + a .used) (drop (a .used) bytes) (a .table .slots) (omega (arith, h, after-shorter (a .used) bytes)))))
+    (answering (goes-on-iff s side bytes l .0 e) (run-is s k (place + 1 + a .used) (drop (a .used) bytes) (a .table .slots) (omega (arith, h, after-shorter (a .used) bytes)))))
     (cases (stops side (a .number) (a .used)))
 
 -- There is no other.
 pub one-run : {s : List ℕ} {place : ℕ} {left : List ℕ} {l : List Call} {r : Run} → Runs s place left l r → (k : ℕ) → length left ≤ k → runFrom s k place left l ≡ r
 one-run {s} {place} {left} {l} at-end k h = run-end s k place l
 one-run (halting e) zero h = absurd (omega arith)
-one-run {s} {place} (halting {side = side} {bytes = bytes} {l = l} e) (suc k) h = run-stop s k place side bytes l e
+one-run {s} {place} (halting {side = side} {bytes = bytes} {l = l} e) (suc k) h = run-stop s k place side bytes l (stops-there s side bytes l e)
 one-run (answering e w) zero h = absurd (omega arith)
 one-run {s} {place} (answering {side = side} {bytes = bytes} {l = l} e w) (suc k) h =
     let a = answerTo s side bytes l in
-    run-turn s k place side bytes l e
+    run-turn s k place side bytes l (goes-on-iff s side bytes l .1 e)
     ∙ ap (onward (entryOf place side bytes a)) (one-run w k (omega (arith, h, after-shorter (a .used) bytes)))
 
 -- As many entries as bytes are enough: any greater number gives the same run.
@@ -83,13 +83,18 @@ run-iff s entries r = (λ e. subst (Runs s 0 entries freshCalls) e (run-is s (le
 after-first : (entries : List ℕ) (p b : ℕ) (bytes : List ℕ) → b ∷ bytes ≡ drop p entries → bytes ≡ drop (p + 1) entries
 after-first entries p b bytes e = ap (drop 1) e ∙ drop-drop 1 p entries
 
-stands-here : (entries : List ℕ) (p side : ℕ) (bytes : List ℕ) (a : Received) → side ∷ bytes ≡ drop p entries → Stands entries (entryOf p side bytes a)
-stands-here entries p side bytes a e =
+stands-here : (s entries : List ℕ) (p side : ℕ) (bytes : List ℕ) (l : List Call) → side ∷ bytes ≡ drop p entries → IsEntry side (answerTo s side bytes l)
+    → Stands entries (entryOf p side bytes (answerTo s side bytes l))
+stands-here s entries p side bytes l e w =
     let none : p + 0 ≡ p = omega arith in
+    let f = listed-frame s side bytes l (w .uses) in
     record {
       inside = omega (arith, ap length e, length-drop p entries);
       side = sym (ap (λ (l : List ℕ). getD l 0 0) e ∙ getD-drop p entries 0 0 ∙ ap (λ (k : ℕ). getD entries k 0) none);
-      header = ap (λ (l : List ℕ). headerIn (frameOf l)) (sym (after-first entries p side bytes e));
+      is = w;
+      start = f .0;
+      size = f .1 .0;
+      frame = ap frameOf (sym (after-first entries p side bytes e)) ∙ f .1 .1;
     }
 
 run-stands : (entries : List ℕ) {s : List ℕ} {p : ℕ} {left : List ℕ} {l : List Call} {r : Run} → Runs s p left l r → left ≡ drop p entries
@@ -100,7 +105,7 @@ run-stands entries {s} {p} (answering {side = side} {bytes = bytes} {l = l} h w)
     let a = answerTo s side bytes l in
     let rest : drop (a .used) bytes ≡ drop (p + 1 + a .used) entries = ap (drop (a .used)) (after-first entries p side bytes is) ∙ drop-drop (a .used) (p + 1) entries in
     ⊎-elim
-    (λ k. subst (Stands entries) (sym k) (stands-here entries p side bytes a is))
+    (λ k. subst (Stands entries) (sym k) (stands-here s entries p side bytes l is h))
     (λ k. run-stands entries w rest e k)
     (List·Memᴰ·cases-cons m)
 
@@ -144,7 +149,7 @@ module _ (s entries : List ℕ) (at : ℕ) (l : List Call) (h : at < length entr
 
   pub entry-bounds : stops side (r .number) (r .used) ≡ false → (26 ≤ r .used) × (at + 1 + r .used ≤ length entries)
   entry-bounds e =
-      let b = used-bounds s side bytes l (λ z. used-some (r .used) _ e (ap (λ (x : Received). x .used) is ∙ z)) in
+      let b = used-bounds s side bytes l (goes-on-iff s side bytes l .0 (ap (λ (x : Received). stops side (x .number) (x .used)) (sym is) ∙ e) .uses) in
       let n : length bytes ≡ length entries - (at + 1) = ap length tail ∙ length-drop (at + 1) entries in
       let u : r .used ≡ answerTo s side bytes l .used = ap (λ (x : Received). x .used) is in
       (omega (arith, b .0, u), omega (arith, b .1, u, n))

@@ -8,7 +8,7 @@ use lib.Dec.{eqb}
 use borrow.Author.Tests.{eqb-false}
 use Rattle.schema.proofs.Bools.{or-false}
 use Rattle.calls.specs.declared.Call.{Call}
-use Rattle.calls.specs.Record.{atLimit}
+use Rattle.calls.specs.Record.{isInput, isOutput, atLimit}
 use Rattle.calls.proofs.Call.mark.Statement.{statement}
 use Rattle.calls.proofs.Call.mark.Tie as tie
 
@@ -18,16 +18,16 @@ counted false n h e = λ _. absurd (false≢true e)
 
 module _ (kind : ℕ) (c : Call) (few : atLimit kind c ≡ false) where
   abbrev input : Bool
-  input = eqb kind 2 && eqb (c .«input_elements») 65535
+  input = isInput kind && eqb (c .«input_elements») 65535
 
   abbrev output : Bool
-  output = eqb kind 4 && eqb (c .«output_elements») 65535
+  output = isOutput kind && eqb (c .«output_elements») 65535
 
-  inputs : eqb kind 2 ≡ true → c .«input_elements» ≡ 65535 → ⊥
-  inputs = counted (eqb kind 2) (c .«input_elements») (or-false input output few .0)
+  inputs : isInput kind ≡ true → c .«input_elements» ≡ 65535 → ⊥
+  inputs = counted (isInput kind) (c .«input_elements») (or-false input output few .0)
 
-  outputs : eqb kind 4 ≡ true → c .«output_elements» ≡ 65535 → ⊥
-  outputs = counted (eqb kind 4) (c .«output_elements») (or-false input output few .1)
+  outputs : isOutput kind ≡ true → c .«output_elements» ≡ 65535 → ⊥
+  outputs = counted (isOutput kind) (c .«output_elements») (or-false input output few .1)
 
 more-requires : tie.Need-more-requires
 more-requires c κs = λ t.

@@ -12,9 +12,6 @@ use Rattle.index.specs.IsIndex.{rowsIn}
 use Rattle.index.proofs.Shapes.{rising-first, rising-turn, rising-fault, rising-end}
 use Rattle.index.proofs.judge.is_rising.Statement.{statement}
 use Rattle.index.proofs.judge.is_rising.Tie as tie
-use Rattle.index.proofs.judge.is_rising.Reads as reads
-use Rattle.index.proofs.judge.is_rising.Lts as lts
-use Rattle.index.proofs.judge.is_before.Reads as is-before-reads
 
 abbrev Inv-loop : tie.InvT-loop
 Inv-loop index n i₀ i = (i ≤ n) × (isRising (rowsIn (n - i) (drop (16 * i) index)) ≡ isRising (rowsIn n index))
@@ -22,45 +19,21 @@ Inv-loop index n i₀ i = (i ≤ n) × (isRising (rowsIn (n - i) (drop (16 * i) 
 abbrev μ-loop : tie.MeasureT-loop
 μ-loop index n i₀ i = n - i
 
--- src/judge.rt:47:5
 loop-holds : tie.Need-loop-holds Inv-loop μ-loop
 loop-holds c = let a = c .before .args in (omega arith, rising-first (a .n) (now (a .index)))
 
--- src/judge.rt:47:11
-add-loop : tie.Need-add-loop Inv-loop μ-loop
-add-loop c = omega arith
-
--- src/judge.rt:48:30
-mul-is-before : tie.Need-mul-is-before Inv-loop μ-loop
-mul-is-before c = omega arith
-
--- src/judge.rt:48:13
-is-before-requires : tie.Need-is-before-requires Inv-loop μ-loop
-is-before-requires c κs = omega arith
-
--- src/judge.rt:49:13
 returns : tie.Need-returns Inv-loop μ-loop
 returns c =
     let l = c .before .before .before .loop in
     let a = c .before .before .before .before .before .args in
     rising-fault (a .n) (l .i) (now (a .index)) (l .inv .1) (c .before .before .loop-test .taken) (c .before .is-before .result) (c .before .is-before .ensures) (not-true _ (c .if1 .taken))
 
--- src/judge.rt:51:9
-add-i : tie.Need-add-i Inv-loop μ-loop
-add-i c = omega arith
-
--- src/judge.rt:47:5
-loop-less : tie.Need-loop-less Inv-loop μ-loop
-loop-less c = omega arith
-
--- src/judge.rt:47:5
 loop-again : tie.Need-loop-again Inv-loop μ-loop
 loop-again c =
     let l = c .before .before .before .loop in
     let a = c .before .before .before .before .before .args in
     (omega arith, rising-turn (a .n) (l .i) (now (a .index)) (l .inv .1) (c .before .before .loop-test .taken) (c .before .is-before .result) (c .before .is-before .ensures) (not-false _ (c .if1 .left)))
 
--- src/judge.rt:42:1
 returns-2 : tie.Need-returns-2 Inv-loop μ-loop
 returns-2 c =
     let l = c .before .loop in
@@ -74,11 +47,11 @@ is-rising-spec =
     Inv-loop
     μ-loop
     loop-holds
-    add-loop
-    mul-is-before
-    is-before-requires
+    (λ c. omega arith)
+    (λ c. omega arith)
+    (λ c κs. omega arith)
     returns
-    add-i
-    loop-less
+    (λ c. omega arith)
+    (λ c. omega arith)
     loop-again
     returns-2)

@@ -10,10 +10,6 @@ use lib.ListN.{length}
 use Rattle.index.proofs.Prints.{Rest, rest-first, rest-end, rest-other, rest-line}
 use Rattle.index.proofs.print.put_rows.Statement.{statement}
 use Rattle.index.proofs.print.put_rows.Tie as tie
-use Rattle.index.proofs.print.put_rows.Reads as reads
-use Rattle.index.proofs.print.put_rows.Lts as lts
-use Rattle.index.proofs.print.put_row.Reads as put-row-reads
-use Rattle.wire.proofs.little.number.Reads as number-reads
 
 abbrev Inv-loop : tie.InvT-loop
 Inv-loop index n correlation out₀ start pos₀ i₀ out pos i = (i ≤ n) × (length out ≡ length out₀) × (pos ≤ 13 + 42 * i) × Rest index n correlation out₀ start out pos i
@@ -21,31 +17,15 @@ Inv-loop index n correlation out₀ start pos₀ i₀ out pos i = (i ≤ n) × (
 abbrev μ-loop : tie.MeasureT-loop
 μ-loop index n correlation out₀ start pos₀ i₀ out pos i = n - i
 
--- src/print.rt:36:5
 loop-holds : tie.Need-loop-holds Inv-loop μ-loop
 loop-holds c = (omega arith, refl, omega arith, rest-first _ _ _ _ _)
 
--- src/print.rt:37:18
-mul-at : tie.Need-mul-at Inv-loop μ-loop
-mul-at c = omega arith
-
--- src/print.rt:38:12
 number-requires : tie.Need-number-requires Inv-loop μ-loop
 number-requires c κs = (omega arith, omega arith)
 
--- src/print.rt:39:13
 put-row-requires : tie.Need-put-row-requires Inv-loop μ-loop
 put-row-requires c κs = (omega arith, omega arith)
 
--- src/print.rt:41:9
-add-i : tie.Need-add-i Inv-loop μ-loop
-add-i c = omega arith
-
--- src/print.rt:36:5
-loop-less : tie.Need-loop-less Inv-loop μ-loop
-loop-less c = omega arith
-
--- src/print.rt:36:5
 loop-again : tie.Need-loop-again Inv-loop μ-loop
 loop-again c =
     let l = c .before .before .before .loop in
@@ -68,11 +48,9 @@ loop-again c =
     ))
     (c .if1 .came)
 
--- src/print.rt:29:1
 same-length : tie.Need-same-length Inv-loop μ-loop
 same-length c = c .before .loop .inv .1
 
--- src/print.rt:29:1
 returns : tie.Need-returns Inv-loop μ-loop
 returns c =
     let l = c .before .loop in
@@ -88,11 +66,11 @@ put-rows-spec =
     Inv-loop
     μ-loop
     loop-holds
-    mul-at
+    (λ c. omega arith)
     number-requires
     put-row-requires
-    add-i
-    loop-less
+    (λ c. omega arith)
+    (λ c. omega arith)
     loop-again
     same-length
     returns)
