@@ -1,7 +1,7 @@
 -- Laws of the lent reader, over the answers at its position (`Items.antt`'s `varuint-fair`, `number-fair`, `span-fair`).
 -- Assumes nothing.
 use mathlib.Core.Path.{_≡_, refl, ap}
-use mathlib.Core.List.{List, []}
+use mathlib.Core.List.{List}
 use mathlib.Core.Bool.{not, _||_}
 use mathlib.Core.Logic.{_⊎_, inl, inr}
 use Prim.Native.Nat.{ℕ, _+_, _-_, _≤_}
@@ -14,11 +14,11 @@ use Rattle.wire.specs.Little.{little}
 use Rattle.wire.proofs.Cases.{differ}
 use Rattle.schema.specs.Table.{scalar, width}
 use Rattle.value.specs.Answer.{Cursor, Answer, refused, seen, Reader, andThen, check, cursorAt, block}
-use Rattle.value.specs.Read.{Own, plain, parts, own}
+use Rattle.value.specs.Read.{plain, own}
 use Rattle.cursor.specs.declared.Reader.{Reader as Lent}
 use Rattle.cursor.specs.declared.item.Number.the-variants as Number
 use Rattle.cursor.specs.declared.item.Span.the-variants as Span
-use Rattle.cursor.specs.Item.{Content, numberOf, numberStep, spanStep, varuintAt, spanAt, Fair, cut, malformed, past}
+use Rattle.cursor.specs.Item.{Content, contentOf, numberOf, numberStep, spanStep, varuintAt, spanAt, Fair, cut, malformed, past}
 use Rattle.cursor.specs.Lent.{standing}
 use Rattle.cursor.proofs.Items.{step-seen, whole-span}
 
@@ -73,14 +73,10 @@ module _ (p : List ℕ) (from : ℕ) where
   span-by-turns v e h = ap (spanStep from) (whole-span p from (varuintAt p from) refl v e h)
 
 -- The number of a scalar's width is that of the scalar's content.
-abbrev leafBytes : Own → List ℕ
-leafBytes (plain x) = x
-leafBytes (parts start head) = []
-
-pub scalar-number : (kind : ℕ) (c : Cursor) → (kind ≡ 1 → ⊥) → numberOf (width kind) c ≡ andThen (own (scalar kind) c) (λ o c. seen (little (leafBytes o)) c)
+pub scalar-number : (kind : ℕ) (c : Cursor) → (kind ≡ 1 → ⊥) → numberOf (width kind) c ≡ andThen (own (scalar kind) c) (λ o c. seen (little (contentOf o)) c)
 unfolding numberOf andThen check
 scalar-number kind c k = go (block (width kind) c)
   where
-    go : (a : Answer (List ℕ)) → andThen a (λ x c. seen (little x) c) ≡ andThen (andThen a (λ x c′. andThen (check (not (eqb kind 1) || ltb (little x) 2) 22 (c .at) c′) (λ _ c. seen (plain x) c))) (λ o c. seen (little (leafBytes o)) c)
+    go : (a : Answer (List ℕ)) → andThen a (λ x c. seen (little x) c) ≡ andThen (andThen a (λ x c′. andThen (check (not (eqb kind 1) || ltb (little x) 2) 22 (c .at) c′) (λ _ c. seen (plain x) c))) (λ o c. seen (little (contentOf o)) c)
     go (refused n q) = refl
     go (seen x c′) = rw (ne-eqb kind 1 k)

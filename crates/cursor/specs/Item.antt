@@ -1,6 +1,6 @@
 -- The items of a payload, each by a reader of the crate `value`, and the steps that the code answers with.
 -- Assumes nothing.
-use mathlib.Core.List.{List}
+use mathlib.Core.List.{List, []}
 use mathlib.Core.Bool.{Bool, not, _||_}
 use Prim.Native.Nat.{ℕ, _-_, _≤_, _<_}
 use lib.Dec.{eqb}
@@ -79,6 +79,11 @@ checked good place x c = andThen (check good 23 place c) (λ _ c. seen (plain x)
 
 abbrev pub judged : (payload : List ℕ) (kind : ℕ) → Content → Reader Own
 judged p kind s c = checked (not (eqb kind 12) || utf8 (bytesIn p s)) (s .place) (bytesIn p s) c
+
+-- The content of a leaf. (A leaf has no parts.)
+abbrev pub contentOf : Own → List ℕ
+contentOf (plain x) = x
+contentOf (parts start head) = []
 
 -- Where a leaf's content stands, by its end, or its refusal. (A string has no parts.)
 abbrev pub textSpan : Answer Own → Span

@@ -1,53 +1,32 @@
 -- The numbers of the reader's answers: 0 is a frame, 1 asks for more, 2 to 7 are refusals. A frame that was read lies within the bytes and its limits.
 -- Assumes nothing.
-use mathlib.Core.Path.{_≡_, refl, sym, ap, subst, _∙_}
-use mathlib.Core.Bool.{Bool, cond}
+use mathlib.Core.Path.{_≡_, refl, ap}
 use mathlib.Core.List.{List}
 use Prim.Native.Nat.{ℕ, _+_, _≤_}
 use native.Mathlib.Omega.{arith}
-use lib.Dec.{leb, lit≤}
+use lib.Dec.{lit≤}
 use lib.ListN.{length, length-append}
-use Rattle.wire.specs.declared.varuint.VarUInt.{VarUInt}
-use Rattle.wire.specs.declared.varuint.VarUInt.the-variants.{Number, Cut, Malformed}
-use Rattle.wire.specs.Varuint.{varuint}
-use Rattle.wire.proofs.Cases.{cond-case}
 use Rattle.frame.specs.declared.Header.{Header}
 use Rattle.frame.specs.declared.FrameRead.{FrameRead}
 use Rattle.frame.specs.declared.FrameRead.the-variants.{More, Frame, Refused}
-use Rattle.frame.specs.Frame.{check, payloadOf, frameOf, readNumber, readUsed}
-use Rattle.frame.specs.Places.{headerAt}
+use Rattle.frame.specs.Frame.{frameOf, readNumber, readUsed}
 use Rattle.frame.specs.IsFrame.{IsFrame, frame}
-use Rattle.frame.proofs.Places.{field, by-places}
+use Rattle.frame.specs.Faults.{Faulty, magic, version, kind, flags, spare-group, tenth-byte, too-long}
 use Rattle.frame.proofs.Frames.{read-is-frame}
+use Rattle.frame.proofs.Faults.{refused-iff}
 
 -- a refusal has one of the reader's numbers
-Listed : FrameRead → Type 0
-Listed More = Unit {0}
-Listed (Frame h place n) = Unit {0}
-Listed (Refused number) = (2 ≤ number) × (number ≤ 7)
-
-field-listed : (s : List ℕ) (e : ℕ) (right : Bool) (number : ℕ) (next : FrameRead) → 2 ≤ number → number ≤ 7 → Listed next → Listed (field s e right number next)
-unfolding field Listed
-field-listed s e right number next low high h =
-    cond-case Listed (leb e (length s)) (check right number next) More (λ _. cond-case Listed right next (Refused number) (λ _. h) (λ _. (low, high))) (λ _. tt)
-
-payload-listed : (end : ℕ) (h : Header) (v : VarUInt) → Listed (payloadOf end h v)
-unfolding payloadOf Listed
-payload-listed end h Cut = tt
-payload-listed end h Malformed = (lit≤ tt, lit≤ tt)
-payload-listed end h (Number n place) =
-    cond-case Listed (leb n 16384) (cond (leb (place + n) end) (Frame h place n) More) (Refused 7)
-    (λ _. cond-case Listed (leb (place + n) end) (Frame h place n) More (λ _. tt) (λ _. tt)) (λ _. (lit≤ tt, lit≤ tt))
-
 pub refused-numbers : (s : List ℕ) {number : ℕ} → frameOf s ≡ Refused number → (2 ≤ number) × (number ≤ 7)
-unfolding Listed
-refused-numbers s e =
-    subst Listed (sym (by-places s) ∙ e)
-    (field-listed s 2 _ 2 _ (lit≤ tt) (lit≤ tt)
-    (field-listed s 3 _ 3 _ (lit≤ tt) (lit≤ tt)
-    (field-listed s 4 _ 4 _ (lit≤ tt) (lit≤ tt)
-    (field-listed s 5 _ 5 _ (lit≤ tt) (lit≤ tt)
-    (cond-case Listed (leb 25 (length s)) (payloadOf (length s) (headerAt s) (varuint s 25)) More (λ _. payload-listed (length s) (headerAt s) (varuint s 25)) (λ _. tt))))))
+refused-numbers s {number = n} e = by-fault (refused-iff s n .0 e .faulty)
+  where
+    by-fault : {f : List ℕ} {n : ℕ} → Faulty f n → (2 ≤ n) × (n ≤ 7)
+    by-fault (magic w) = (lit≤ tt, lit≤ tt)
+    by-fault (version w) = (lit≤ tt, lit≤ tt)
+    by-fault (kind w) = (lit≤ tt, lit≤ tt)
+    by-fault (flags w d) = (lit≤ tt, lit≤ tt)
+    by-fault (spare-group n x w g two last) = (lit≤ tt, lit≤ tt)
+    by-fault (tenth-byte x w e above) = (lit≤ tt, lit≤ tt)
+    by-fault (too-long n x w spells l) = (lit≤ tt, lit≤ tt)
 
 pub record Bounds (s : List ℕ) (h : Header) (place n : ℕ) : Type 0 where
   pub least : 1 ≤ h .kind

@@ -31,7 +31,7 @@ whole-reads : (n : ℕ) (b t : List ℕ) → length b ≡ n → (next : List ℕ
 unfolding whole
 whole-reads n b t e next = rw (length-append b t, le-leb n (length b + length t) (omega arith), take-at b t n e, drop-at b t n e)
 
-byte-number : (x : ℕ) → little (x ∷ []) ≡ x
+pub byte-number : (x : ℕ) → little (x ∷ []) ≡ x
 unfolding little
 byte-number x = omega arith
 
@@ -66,7 +66,7 @@ fields-length : (k : ℕ) {x y z u : ℕ} {p s m c : List ℕ} (r : List ℕ) �
     → length (0xAF ∷ 0x01 ∷ 0x01 ∷ k ∷ 0x00 ∷ (p ++ (s ++ (m ++ (c ++ r))))) ≡ 25 + length r
 fields-length k r P S M C = simp (length-append, P .width, S .width, M .width, C .width) (omega arith)
 
-payload-whole : (end : ℕ) (h : Header) (n place : ℕ) → n ≤ 16384 → place + n ≤ end → payloadOf end h (Number n place) ≡ Frame h place n
+pub payload-whole : (end : ℕ) (h : Header) (n place : ℕ) → n ≤ 16384 → place + n ≤ end → payloadOf end h (Number n place) ≡ Frame h place n
 unfolding payloadOf
 payload-whole end h n place l e = rw (le-leb n 16384 l, le-leb (place + n) end e)
 
@@ -107,7 +107,7 @@ unfolding payloadOf
 payload-frame end h Cut e = absurd (not-more e)
 payload-frame end h Malformed e = absurd (not-refused e)
 payload-frame end h (Number m at) {h′ = h′} {place = place} {n = n} e =
-    let small = chosen (leb m 16384) (cond (leb (at + m) end) (Frame h at m) More) (Refused 7) not-refused e in
+    let small = chosen (leb m 16384) (cond (leb (at + m) end) (Frame h at m) More) (Refused _) not-refused e in
     let inside = chosen (leb (at + m) end) (Frame h at m) More not-more (small .1) in
     let same : Frame h at m ≡ Frame h′ place n = inside .1 in
     let size : m ≡ n = cc same in

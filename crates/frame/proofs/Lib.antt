@@ -4,6 +4,7 @@ pub mod Writes
 pub mod Settled
 pub mod Frames
 pub mod Theorems
+pub mod Faults
 pub mod Answers
 pub mod ReadBack
 pub mod Numbers

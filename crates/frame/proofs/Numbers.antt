@@ -12,9 +12,11 @@ use Rattle.frame.specs.declared.FrameWritten.{FrameWritten}
 use Rattle.frame.specs.declared.FrameWritten.the-variants.{Written, Refused as Unframed}
 use Rattle.frame.specs.Frame.{frameOf}
 use Rattle.frame.specs.IsFrame.{Starts}
-use Rattle.frame.specs.Numbers.{Numbers, numbers}
+use Rattle.frame.specs.Faults.{FrameFault, CutFrame}
+use Rattle.frame.specs.Numbers.{Numbers, noFrame, numbers}
 use Rattle.frame.specs.Written.{writtenOf, writeNumber, writeLength, Accepted, Unwritten, kind, long, full}
 use Rattle.frame.proofs.Theorems.{read-iff-frame}
+use Rattle.frame.proofs.Faults.{refused-iff, more-iff}
 use Rattle.frame.proofs.Answers.{refused-numbers}
 use Rattle.frame.proofs.ReadBack as writer
 
@@ -31,17 +33,17 @@ module _ (s : List ℕ) where
       go (Frame h′ place′ n′) e f = e ∙ cc (ap (λ (x : Numbers). x .header) f, ap (λ (x : Numbers). x .place) f, ap (λ (x : Numbers). x .size) f)
       go (Refused number) e f = absurd (omega (arith, refused-numbers s e, ap (λ (x : Numbers). x .number) f))
 
-  -- 1 exactly where more bytes are needed, and any other number exactly for that refusal, 2 to 7.
-  pub one-iff-more : (numbers (frameOf s) .number ≡ 1) ↔ (frameOf s ≡ More)
-  one-iff-more = (go (frameOf s) refl, λ e. ap (λ (r : FrameRead). numbers r .number) e)
+  -- 1 and zeros exactly where the bytes are cut, and any other number and zeros exactly where they start with the field at fault that has it, 2 to 7.
+  pub one-iff-cut : (numbers (frameOf s) ≡ noFrame 1) ↔ CutFrame s
+  one-iff-cut = (λ e. more-iff s .0 (go (frameOf s) refl (ap (λ (x : Numbers). x .number) e)), λ w. ap numbers (more-iff s .1 w))
     where
       go : (r : FrameRead) → frameOf s ≡ r → numbers r .number ≡ 1 → frameOf s ≡ More
       go More e f = e
       go (Frame h place n) e f = absurd (omega arith)
       go (Refused number) e f = absurd (omega (arith, refused-numbers s e, f))
 
-  pub number-iff-refused : (number : ℕ) → 1 < number → (numbers (frameOf s) .number ≡ number) ↔ (frameOf s ≡ Refused number)
-  number-iff-refused number h = (go (frameOf s) refl, λ e. ap (λ (r : FrameRead). numbers r .number) e)
+  pub number-iff-fault : (number : ℕ) → 1 < number → (numbers (frameOf s) ≡ noFrame number) ↔ FrameFault s number
+  number-iff-fault number h = (λ e. refused-iff s number .0 (go (frameOf s) refl (ap (λ (x : Numbers). x .number) e)), λ w. ap numbers (refused-iff s number .1 w))
     where
       go : (r : FrameRead) → frameOf s ≡ r → numbers r .number ≡ number → frameOf s ≡ Refused number
       go More e f = absurd (omega arith)

@@ -54,14 +54,15 @@ module _ (s t : List ℕ) where
   unfolding payloadOf
   payload-before h Cut = more
   payload-before h Malformed = same
-  payload-before h (Number n place) = tested (leb n 16384)
+  payload-before h (Number n place) = tested (leb n 16384) _
     where
-      tested : (b : Bool) → Before (check b 7 (cond (leb (place + n) (length s)) (Frame h place n) More)) (check b 7 (cond (leb (place + n) (length (s ++ t))) (Frame h place n) More))
-      tested true = elim (decLe (place + n) (length s)) [
+      tested : (b : Bool) (k : ℕ)
+          → Before (check b k (cond (leb (place + n) (length s)) (Frame h place n) More)) (check b k (cond (leb (place + n) (length (s ++ t))) (Frame h place n) More))
+      tested true k = elim (decLe (place + n) (length s)) [
         | yes l ↦ rw (le-leb (place + n) (length s) l, le-leb (place + n) (length (s ++ t)) (omega (arith, longer))) same
         | no l ↦ rw (lt-leb (place + n) (length s) (omega arith)) more
       ]
-      tested false = same
+      tested false k = same
 
   header-same : 25 ≤ length s → headerAt (s ++ t) ≡ headerAt s
   header-same h =

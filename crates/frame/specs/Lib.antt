@@ -2,4 +2,5 @@ pub mod Frame
 pub mod Places
 pub mod Written
 pub mod IsFrame
+pub mod Faults
 pub mod Numbers

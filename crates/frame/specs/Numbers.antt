@@ -17,7 +17,11 @@ pub record Numbers : Type 0 where
   pub size : ℕ
   pub used : ℕ
 
+-- Without a frame: the number, and zeros.
+abbrev pub noFrame : (number : ℕ) → Numbers
+noFrame number = record { number = number; header = noHeader; place = 0; size = 0; used = 0 }
+
 abbrev pub numbers : FrameRead → Numbers
-numbers More = record { number = 1; header = noHeader; place = 0; size = 0; used = 0 }
+numbers More = noFrame 1
 numbers (Frame h place n) = record { number = 0; header = h; place = place; size = n; used = place + n }
-numbers (Refused number) = record { number = number; header = noHeader; place = 0; size = 0; used = 0 }
+numbers (Refused number) = noFrame number

@@ -1,6 +1,6 @@
 -- What each answer tells: bytes used by its number, the calls open, what a refusal and an ERROR leave, and that bytes after the frame change nothing.
 -- Assumes nothing.
-use mathlib.Core.Path.{_≡_, refl, sym, ap, _∙_}
+use mathlib.Core.Path.{_≡_, refl, sym, _∙_}
 use mathlib.Core.Logic.{_⊎_, inl, inr, ⊎-elim}
 use mathlib.Core.Bool.{Bool, true, false, cond}
 use mathlib.Core.List.{List, [], _∷_, _++_}
@@ -16,6 +16,7 @@ use Rattle.wire.proofs.Cases.{differ}
 use Rattle.frame.specs.declared.FrameRead.the-variants.{More, Frame as Whole, Refused}
 use Rattle.frame.specs.Frame.{frameOf, readUsed}
 use Rattle.frame.proofs.Answers.{read-bounds}
+use Rattle.frame.proofs.Faults.{refused-iff, more-iff}
 use Rattle.frame.proofs.Theorems.{followed}
 use Rattle.calls.specs.declared.Call.{Call}
 use Rattle.calls.specs.declared.Tally.{Tally}
@@ -27,13 +28,12 @@ use Rattle.calls.specs.declared.Judged.the-variants.{Stop, Opens, Goes}
 use Rattle.calls.specs.Numbers.{endsCall, usesFrame, UsesFrame, accepted, call, dropped, refused, refused-pairs}
 use Rattle.calls.specs.declared.Rise.{Rise}
 use Rattle.calls.specs.declared.Figure.the-variants.{Nothing as NoFigure}
-use Rattle.calls.specs.Counting.{noTally, riseOf, figureBy, raised, rowAfter}
+use Rattle.calls.specs.Counting.{noTally, riseOf, figureBy, raised}
 use Rattle.calls.specs.Slots.{countOpen}
 use Rattle.calls.specs.Judge.{judgeOf}
 use Rattle.calls.specs.Step.{stepOf, dueOf}
 use Rattle.calls.proofs.Used.{uses-iff}
 use Rattle.calls.proofs.Apart.{error-unread}
-use Rattle.calls.proofs.Rises.{no-figure}
 use Rattle.calls.proofs.Judgement.{judged-goes}
 use Rattle.value.specs.declared.Row.{Row}
 use Rattle.reader.specs.Entry.{Outcome}
@@ -218,8 +218,8 @@ module _ (s : List ℕ) (side : ℕ) (bytes sheet : List ℕ) (ts : List Tally) 
     where
       go : {x : Line} → Way s side bytes sheet ts l x → received s side (bytes ++ rest) sheet ts l ≡ x
       go (stops (tables e)) = stops-early s side (bytes ++ rest) sheet ts l (tables e)
-      go (stops (frameFault n r e)) = let bad : Refused n ≡ Whole (w .header) (w .place) (w .size) = sym e ∙ w .whole in differ cc
-      go (stops (needsMore r e)) = let bad : More ≡ Whole (w .header) (w .place) (w .size) = sym e ∙ w .whole in differ cc
+      go (stops (frameFault {n} r e)) = let bad : Refused n ≡ Whole (w .header) (w .place) (w .size) = sym (refused-iff bytes n .1 e) ∙ w .whole in differ cc
+      go (stops (needsMore r e)) = let bad : More ≡ Whole (w .header) (w .place) (w .size) = sym (more-iff bytes .1 e) ∙ w .whole in differ cc
       go (judges h place n r e) =
           let b = read-bounds bytes e in
           let start : place ≤ length bytes = omega arith in

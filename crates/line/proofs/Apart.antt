@@ -125,13 +125,13 @@ module _ (sheet₁ sheet₂ : List ℕ) (ts₁ ts₂ : List Tally) (l₁ l₂ : 
           }
 
       unready-too : {n q : ℕ} → Unready s l₁ (length ts₁) n q → Unready s l₂ (length ts₂) n q
-      unready-too (schemaFault n q e) = schemaFault n q e
+      unready-too (schemaFault e) = schemaFault e
       unready-too (callsBad g b) = callsBad g (λ x. b (good-clauses T l₁ (w .good ∙ good-test T l₂ x)))
       unready-too (rowsWrong g x n) = rowsWrong g (good-clauses T l₂ (sym (w .good) ∙ good-test T l₁ x)) (λ e. n (w .rows ∙ e))
 
       pub stops-too : {n q : ℕ} → Stops s bytes l₁ (length ts₁) n q → Stops s bytes l₂ (length ts₂) n q
       stops-too (tables e) = tables (unready-too e)
-      stops-too (frameFault n r e) = frameFault n (ready-too r) e
+      stops-too (frameFault r e) = frameFault (ready-too r) e
       stops-too (needsMore r e) = needsMore (ready-too r) e
 
       -- The open count aside, the answer depends on the schema table, on whether the call table is good, on the frame, its side, the sheet's room, its own

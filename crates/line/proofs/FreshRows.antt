@@ -40,8 +40,8 @@ use Rattle.line.specs.declared.Next.the-variants.{Stop, Settle}
 use Rattle.line.specs.Answer.{Line, payloadRead, numberIn, tallied, answerOf, usedOf}
 use Rattle.line.specs.Planning.{planOf}
 use Rattle.line.specs.Receive.{frameSettled, settled, received}
-use Rattle.line.specs.Claims.{Front, Ready, Keeps, limit, tally, fewRows, rowFor}
-use Rattle.line.specs.Run.{Input, input, frameHeard, numberOf, runFrom, heardFrom, freshTallies, freshState}
+use Rattle.line.specs.Claims.{Front, Keeps, limit, tally, fewRows, rowFor}
+use Rattle.line.specs.Run.{Input, input, frameHeard, numberOf, runFrom, heardFrom, callsAfter, rowsAfter, answerAfter, freshTallies, freshState}
 use Rattle.line.specs.Fresh.{FreshLine, freshLine, receivedFresh, inputs, freshRun}
 use Rattle.line.proofs.Rows.{fresh-row}
 use Rattle.line.proofs.Lent.{fresh-long}
@@ -171,12 +171,6 @@ module _ (s : List ℕ) (g : IsGood s) where
   abbrev T : Table
   T = tableOf s
 
-  abbrev callsAfter : List Input → List Call
-  callsAfter is = runFrom s (freshState T) (inputs is) .calls
-
-  abbrev rowsAfter : List Input → List Tally
-  rowsAfter is = runFrom s (freshState T) (inputs is) .tallies
-
   small-figure : (es : List Heard) (m : ℕ) → length es < 4294967295 → Unfull (figures T m es)
   small-figure es m h x = ne-eqb (figureIn (figures T m es) x) 4294967295 (λ z. omega (arith, z, h, most x))
     where
@@ -190,21 +184,21 @@ module _ (s : List ℕ) (g : IsGood s) where
 
   -- After fewer than 4294967295 frames from a fresh start the next one has the same answer and sheet with the rows of that run as with fresh ones.
   pub fresh-answers : (is : List Input) → length is < 4294967295 → (i : Input) →
-      let x = received s (i .side) (i .bytes) (i .sheet) (rowsAfter is) (callsAfter is) in
-      freshLine (x .answer) (x .sheet) ≡ receivedFresh s (i .side) (i .bytes) (i .sheet) (callsAfter is)
+      let x = answerAfter s (freshState T) (inputs is) i in
+      freshLine (x .answer) (x .sheet) ≡ receivedFresh s (i .side) (i .bytes) (i .sheet) (callsAfter s (freshState T) (inputs is))
   unfolding receivedFresh
   fresh-answers is h i =
       let n = length (T .methods) in
-      let l = callsAfter is in
-      let long : length (rowsAfter is) ≡ n = run-rows s (freshState T) (inputs is) ∙ fresh-long T in
+      let l = callsAfter s (freshState T) (inputs is) in
+      let long : length (rowsAfter s (freshState T) (inputs is)) ≡ n = run-rows s (freshState T) (inputs is) ∙ fresh-long T in
       let es = heardFrom s (freshState T) (inputs is) in
-      let here = unfull-answer s (i .bytes) (i .sheet) l (i .side) n (rowsAfter is) long
+      let here = unfull-answer s (i .bytes) (i .sheet) l (i .side) n (rowsAfter s (freshState T) (inputs is)) long
       (λ m. subst Unfull (sym (rows-follow s g (inputs is) m)) (small-figure es m (omega (arith, h, heard-most s is)))) in
       let there = unfull-answer s (i .bytes) (i .sheet) l (i .side) n (freshTallies T) (fresh-long T) (λ m. subst Unfull (sym (fresh-row T m)) zero-full) in
       λ j. freshLine ((here .0 ∙ sym (there .0)) j) ((here .1 ∙ sym (there .1)) j)
 
   -- So a record of fewer than 2^32 entries leaves the same calls.
-  pub fresh-calls : (is : List Input) → length is < 4294967296 → callsAfter is ≡ freshRun s is (freshTable .slots)
+  pub fresh-calls : (is : List Input) → length is < 4294967296 → callsAfter s (freshState T) (inputs is) ≡ freshRun s is (freshTable .slots)
   unfolding runFrom freshRun
   fresh-calls [] h = refl
   fresh-calls (i ∷ is) h =

@@ -7,14 +7,12 @@ use mathlib.Core.Bool.{true, false, cond}
 use mathlib.Core.List.{List}
 use Prim.Native.Nat.{ℕ, _+_, _<_}
 use lib.Dec.{eqb}
-use lib.ListN.{length, take, drop, set, length-set}
-use Rattle.schema.specs.Table.{Table}
+use lib.ListN.{length, take, drop, length-set}
 use Rattle.schema.specs.File.{tableOf}
 use Rattle.schema.specs.Check.{IsGood}
 use Rattle.calls.specs.declared.Call.{Call}
 use Rattle.calls.specs.declared.Frame.{Frame}
 use Rattle.calls.specs.declared.Payload.{Payload}
-use Rattle.calls.specs.declared.Judged.{Judged}
 use Rattle.calls.specs.declared.Tally.{Tally}
 use Rattle.calls.specs.declared.Figure.{Figure}
 use Rattle.calls.specs.declared.Rise.{Rise}
@@ -22,7 +20,7 @@ use Rattle.calls.specs.Numbers.{endsCall}
 use Rattle.calls.specs.Slots.{goodTable}
 use Rattle.calls.specs.Judge.{judgeOf, judgeRelease}
 use Rattle.calls.specs.Step.{numberOf, stepOf, dueOf, receive, release}
-use Rattle.calls.specs.Counting.{noRise, riseOf, releaseRise, figureBy, raised, rowAfter}
+use Rattle.calls.specs.Counting.{noRise, releaseRise, figureBy, raised, rowAfter}
 use Rattle.calls.proofs.Goodness.{good-test}
 use Rattle.calls.proofs.Kept.{test-stays, stays-long, release-test, release-long}
 use Rattle.calls.proofs.Rises.{figure-answered, release-figure, Known, frame-known, release-known}
@@ -30,9 +28,9 @@ use Rattle.line.specs.Answer.{Line, stopped, payloadRead, numberIn, tall
 use Rattle.line.specs.Planning.{frameFrom}
 pub use Rattle.line.specs.Receive.{frameRise}
 use Rattle.line.specs.Receive.{frameSettled, frameLine, received}
-use Rattle.line.specs.Release.{ReleaseLine, releaseAnswer, steppedAnswer, released}
+use Rattle.line.specs.Release.{ReleaseLine, releaseAnswer, released}
 use Rattle.line.specs.Claims.{Front, Ready, Unready, Stops, rowFor}
-use Rattle.line.proofs.Ways.{front-of, Way, stops, judges, ways, releasedNumber, releasedRow, number-spares, ReleaseWay, unready, releases, release-ways}
+use Rattle.line.proofs.Ways.{front-of, Way, stops, judges, ways, releasedNumber, number-spares, ReleaseWay, unready, releases, release-ways}
 use Rattle.line.proofs.Rows.{rowsWith, rows-with}
 
 -- the number of a payload by what it holds, 18 where the figure that would rise is full
@@ -138,7 +136,7 @@ module _ (s : List ℕ) (l : List Call) (id : ℕ) (ts : List Tally) where
 
   -- What holds of the number, the records and the row of method m where it stops at a fault of the tables, and of every release that is judged.
   pub release-holds-row : (m : ℕ) (P : ℕ → List Call → Tally → Type 0) → ((n q : ℕ) → Unready s l (length ts) n q → P n l (rowFor ts m))
-      → (Ready s l (length ts) → (n : ℕ) → endsCall n ≡ false → let x = release id n l in P (x .number) (x .table .slots) (rowAfter m releasing (x .number) (rowFor ts m)))
+      → (Ready s l (length ts) → (n : ℕ) → endsCall n ≡ false → let x = release id n l in P (x .number) (x .table .slots) (rowAfter m (releaseRise l (judgeRelease id l)) (x .number) (rowFor ts m)))
       → let a = released s l id ts in P (a .answer .number) (a .answer .table .slots) (rowFor (a .tallies) m)
   release-holds-row m P stop step = go (release-ways s l id ts)
     where

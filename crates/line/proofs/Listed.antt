@@ -1,13 +1,13 @@
 -- Every answer has one of 01's numbers for a frame, with its place. The payload of a frame is read as a struct type of the good table, and it is not too
 -- long, so that neither 46 nor 7 comes from it. Assumes nothing.
-use mathlib.Core.Path.{_≡_, refl, sym, ap, subst}
+use mathlib.Core.Path.{_≡_, refl, sym, ap, subst, _∙_}
 use mathlib.Core.Bool.{Bool, true, false, cond, _&&_}
 use mathlib.Core.List.{List}
-use mathlib.Core.Logic.{_⊎_, inl, inr, ⊎-elim}
-use Prim.Native.Nat.{ℕ, _+_, _≤_}
+use mathlib.Core.Logic.{_↔_, _⊎_, inl, inr, ⊎-elim}
+use Prim.Native.Nat.{ℕ, _+_, _≤_, _<_}
 use native.Mathlib.Omega.{arith}
 use lib.Dec.{eqb, leb, ltb, lit≤}
-use lib.ListN.{length, take, drop, getD, length-take}
+use lib.ListN.{length, take, drop, length-take}
 use borrow.Author.Tests.{le-leb, ltb-true, ltb-false}
 use Rattle.wire.proofs.Cases.{cond-case}
 use Rattle.schema.specs.declared.Found.{Found}
@@ -17,6 +17,7 @@ use Rattle.schema.specs.File.{tableOf}
 use Rattle.schema.specs.Check.{methodRow, named, findMethod, IsGood}
 use Rattle.schema.proofs.Bools.{cases}
 use Rattle.schema.proofs.Goods.{good-table}
+use Rattle.schema.proofs.Faults.{refused-iff as schema-refused}
 use Rattle.schema.proofs.Listed.{listed as schema-listed, listed-bounds}
 use Rattle.schema.proofs.Shapes.{shape-struct}
 use Rattle.frame.specs.declared.Header.{Header}
@@ -34,7 +35,7 @@ use Rattle.calls.specs.Forms.{rowOf}
 use Rattle.calls.specs.Numbers.{UsesFrame, accepted as zero-used, call as call-used, dropped, refused as value-used, refused-pairs}
 use Rattle.calls.specs.Record.{emptyCall, allowed, notAllowed, atLimit, afterFrame}
 use Rattle.calls.specs.declared.Rise.{Rise}
-use Rattle.calls.specs.Counting.{noTally, riseOf, releaseRise, figureBy, fullAt}
+use Rattle.calls.specs.Counting.{riseOf, releaseRise, figureBy, fullAt}
 use Rattle.calls.specs.Slots.{Own, none, one, ownOf, full}
 use Rattle.calls.specs.Judge.{rightSide, payloadOf, releaseVerdict, judgeOf, judgeRelease, Verdict, stop, opens, goes, invokeVerdict, otherVerdict, verdictOf}
 use Rattle.calls.specs.Step.{stepOf, dueOf, release}
@@ -56,9 +57,11 @@ use Rattle.line.specs.Answer.{Line, stopped, payloadRead, numberIn, tall
 use Rattle.line.specs.Planning.{frameFrom}
 use Rattle.line.specs.Receive.{answered, frameSettled, frameLine, received}
 use Rattle.line.specs.Release.{ReleaseLine, releaseAnswer, released}
+use Rattle.line.specs.Claims as claims
 use Rattle.line.specs.Claims.{Listed, accepted, frame, call, value as fault, pairs, payload, shape as formed, row}
-use Rattle.line.specs.Claims.{Keeps, limit, tally, fewRows, rowFor, Ready, Unready, schemaFault, callsBad, rowsWrong, ReleaseListed, released as released-call, notOpen, notCancelled, fullTally, unready}
-use Rattle.line.proofs.Ways.{Early, schema, calls, rows, frame as framed, unready-early, early, Way, stops, judges, ways, judged, releasedRow, releasedNumber, ReleaseWay, unready as faulty, releases, release-ways}
+use Rattle.line.specs.Claims.{Stopping, ofFrame, ofCalls, ofRows, ofSchema, Keeps, limit, tally, fewRows, rowFor, Ready, Unready, schemaFault, callsBad, rowsWrong}
+use Rattle.line.specs.Claims.{ReleaseListed, released as released-call, notOpen, notCancelled, fullTally, unready}
+use Rattle.line.proofs.Ways.{Early, schema, calls, rows, frame as framed, unready-early, early, Way, stops, judges, ways, stops-early, judged, releasedRow, releasedNumber, ReleaseWay, unready as faulty, releases, release-ways, release-stops}
 
 -- ---- the payload
 
@@ -224,6 +227,50 @@ used-or-kept s side bytes sheet ts l {h} {place} {n} w e =
     (by-number s (frameFrom side h) (take n (drop place bytes)) (place + n) sheet ts l
     (frame-listed s (frameFrom side h) (take n (drop place bytes)) (place + n) sheet ts l w small .1))
 
+-- a judged frame has none of the numbers that come before it is judged
+abbrev Between : ℕ → Type 0
+Between n = (0 < n) × (8 ≤ n → 14 < n) × (20 ≤ n → 31 < n) × ((16 ≤ n) × (n ≤ 18) → ⊥)
+
+stopping-between : {n : ℕ} → Stopping n → Between n
+stopping-between (ofFrame low high) = (omega arith, λ h. omega arith, λ h. omega arith, λ (a, b). omega arith)
+stopping-between ofCalls = (omega arith, λ h. omega arith, λ h. omega arith, λ (a, b). omega arith)
+stopping-between ofRows = (omega arith, λ h. omega arith, λ h. omega arith, λ (a, b). omega arith)
+stopping-between (ofSchema low) = (omega arith, λ h. omega arith, λ h. omega arith, λ (a, b). omega arith)
+
+none-used : {m : ℕ} → UsesFrame m → {n : ℕ} → m ≡ n → Stopping n → ⊥
+none-used zero-used e w = omega (arith, stopping-between w .0, e)
+none-used (call-used low high) e w = omega (arith, stopping-between w .1 (omega (arith, low, e)), high, e)
+none-used dropped e w = stopping-between w .3 (omega (arith, e), omega (arith, e))
+none-used (value-used low high) e w = omega (arith, stopping-between w .2 (omega (arith, low, e)), high, e)
+none-used refused-pairs e w = omega (arith, stopping-between w .2 (omega (arith, e)), e)
+
+none-kept : {kind : ℕ} {own : Own} {ts : List Tally} {m : ℕ} → Keeps kind own ts m → {n : ℕ} → m ≡ n → Stopping n → ⊥
+none-kept (limit c o t) e w = stopping-between w .3 (omega (arith, e), omega (arith, e))
+none-kept (tally m x f) e w = stopping-between w .3 (omega (arith, e), omega (arith, e))
+none-kept fewRows e w = omega (arith, stopping-between w .2 (omega (arith, e)), e)
+
+stop-told : (l : List Call) (n q : ℕ) → (stopped l n q .number ≡ n) × (stopped l n q .place ≡ q)
+unfolding stopped
+stop-told l n q = (refl, refl)
+
+-- The answer has one of the numbers that come before a frame is judged, at a place, exactly for that reason.
+pub stopped-iff : (s : List ℕ) (side : ℕ) (bytes sheet : List ℕ) (ts : List Tally) (l : List Call) (n q : ℕ) → Stopping n
+    → let a = received s side bytes sheet ts l .answer in ((a .number ≡ n) × (a .place ≡ q)) ↔ claims.Stops s bytes l (length ts) n q
+stopped-iff s side bytes sheet ts l n q w = (λ (e, e′). go (ways s side bytes sheet ts l) e e′, back)
+  where
+    go : {x : Line} → Way s side bytes sheet ts l x → x .answer .number ≡ n → x .answer .place ≡ q → claims.Stops s bytes l (length ts) n q
+    go (stops {n = m} {q = p} v) e e′ =
+        let told = stop-told l m p in
+        subst (claims.Stops s bytes l (length ts) n) (sym (told .1) ∙ e′)
+        (subst (λ (k : ℕ). claims.Stops s bytes l (length ts) k p) (sym (told .0) ∙ e) v)
+    go (judges h place k r e₀) e e′ =
+        let small : length (take k (drop place bytes)) ≤ 16384 = simp length-take (omega (arith, read-bounds bytes e₀ .small)) in
+        let judging = frame-listed s (frameFrom side h) (take k (drop place bytes)) (place + k) sheet ts l r small in
+        absurd (⊎-elim (λ u. none-used u e w) (λ v. none-kept v e w) (judging .1))
+
+    back : claims.Stops s bytes l (length ts) n q → let a = received s side bytes sheet ts l .answer in (a .number ≡ n) × (a .place ≡ q)
+    back v = let told = stop-told l n q in rw (stops-early s side bytes sheet ts l v) told
+
 -- ---- a release
 
 answer-listed : (l : List Call) {n q : ℕ} → Early n q → (n ≡ 15) ⊎ ((n ≡ 19) ⊎ (40 ≤ n)) → ReleaseListed (releaseAnswer n q l .number) (releaseAnswer n q l .place)
@@ -233,7 +280,7 @@ answer-listed l w side = unready side (stop-listed l w)
 unready-number : (s : List ℕ) (l : List Call) (k : ℕ) {n q : ℕ} → Unready s l k n q → (n ≡ 15) ⊎ ((n ≡ 19) ⊎ (40 ≤ n))
 unready-number s l k (callsBad g b) = inl refl
 unready-number s l k (rowsWrong g w n) = inr (inl refl)
-unready-number s l k (schemaFault n q e) = inr (inr (listed-bounds (tableOf s) (schema-listed s n q e) .0))
+unready-number s l k (schemaFault {n} {row} e) = inr (inr (listed-bounds (tableOf s) (schema-listed s n row (schema-refused s n row .1 e)) .0))
 
 -- the number of a release that may be made is 0 or 18
 judged-listed : (n : ℕ) → ReleaseListed n 0 → (own : Own) → ReleaseListed (verdictNumber (releaseVerdict own) n) 0
@@ -258,3 +305,42 @@ release-listed s l id ts = go (release-ways s l id ts)
     go : {x : ReleaseLine} → ReleaseWay s l id ts x → ReleaseListed (x .answer .number) (x .answer .place)
     go (faulty w) = answer-listed l (unready-early s l (length ts) w) (unready-number s l (length ts) w)
     go (releases w) = released-told (release id n l .table .slots) (release id n l .number) (rw (release-answered id n l) (judged-listed n listed-number (ownOf id l)))
+
+-- a release that is judged is 0, 11, 14 or 18
+abbrev JudgedNumber : ℕ → Type 0
+JudgedNumber k = UsesFrame k ⊎ (k ≡ 18)
+
+judged-number : (n : ℕ) → JudgedNumber n → (own : Own) → JudgedNumber (verdictNumber (releaseVerdict own) n)
+judged-number n w none = inl (call-used (lit≤ tt) (lit≤ tt))
+judged-number n w (one c) =
+    cond-case (λ (v : Verdict). JudgedNumber (verdictNumber v n)) (c .cancelled) (goes emptyCall Unread) (stop 14) (λ _. w) (λ _. inl (call-used (lit≤ tt) (lit≤ tt)))
+
+released-number : (s : List ℕ) (l : List Call) (id : ℕ) (ts : List Tally) → JudgedNumber (releasedNumber s l id ts)
+released-number s l id ts =
+    cond-case JudgedNumber (fullAt (releasedRow s l id ts) (figureBy (releaseRise l (judgeRelease id l)) 0)) 18 0 (λ _. inr refl) (λ _. inl zero-used)
+
+release-told : (l : List Call) (n q : ℕ) → (releaseAnswer n q l .number ≡ n) × (releaseAnswer n q l .place ≡ q)
+unfolding releaseAnswer stopped
+release-told l n q = (refl, refl)
+
+-- The answer to a release has one of the numbers that come before the call is judged, at a place, exactly for that fault of the tables.
+pub release-stopped-iff : (s : List ℕ) (l : List Call) (id : ℕ) (ts : List Tally) (n q : ℕ) → Stopping n
+    → let a = released s l id ts .answer in ((a .number ≡ n) × (a .place ≡ q)) ↔ Unready s l (length ts) n q
+release-stopped-iff s l id ts n q w = (λ (e, e′). go (release-ways s l id ts) e e′, back)
+  where
+    go : {x : ReleaseLine} → ReleaseWay s l id ts x → x .answer .number ≡ n → x .answer .place ≡ q → Unready s l (length ts) n q
+    go (faulty {n = m} {q = p} v) e e′ =
+        let told = release-told l m p in
+        subst (Unready s l (length ts) n) (sym (told .1) ∙ e′) (subst (λ (k : ℕ). Unready s l (length ts) k p) (sym (told .0) ∙ e) v)
+    go (releases r) e e′ =
+        let m = releasedNumber s l id ts in
+        let x = release id m l in
+        let number : x .number ≡ n = sym (release-told (x .table .slots) (x .number) 0 .0) ∙ e in
+        absurd (apart (subst JudgedNumber (sym (release-answered id m l)) (judged-number m (released-number s l id ts) (ownOf id l))) number)
+      where
+        apart : {k : ℕ} → JudgedNumber k → k ≡ n → ⊥
+        apart (inl u) z = none-used u z w
+        apart (inr z′) z = stopping-between w .3 (omega (arith, z, z′), omega (arith, z, z′))
+
+    back : Unready s l (length ts) n q → let a = released s l id ts .answer in (a .number ≡ n) × (a .place ≡ q)
+    back v = let told = release-told l n q in rw (release-stops s l id ts v) told

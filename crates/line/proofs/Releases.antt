@@ -134,7 +134,7 @@ module _ (s : List ℕ) (id : ℕ) (l₁ l₂ : List Call) (ts₁ ts₂ : List T
       }
 
   unready-too : {n q : ℕ} → Unready s l₁ (length ts₁) n q → Unready s l₂ (length ts₂) n q
-  unready-too (schemaFault n q e) = schemaFault n q e
+  unready-too (schemaFault e) = schemaFault e
   unready-too (callsBad g b) = callsBad g (λ x. b (good-clauses (tableOf s) l₁ (good ∙ good-test (tableOf s) l₂ x)))
   unready-too (rowsWrong g x n) = rowsWrong g (good-clauses (tableOf s) l₂ (sym good ∙ good-test (tableOf s) l₁ x)) (λ e. n (rows ∙ e))
 

@@ -19,6 +19,7 @@ use Rattle.schema.proofs.Goods.{good-table}
 use Rattle.frame.specs.declared.FrameRead.{FrameRead}
 use Rattle.frame.specs.declared.FrameRead.the-variants.{More, Frame as Whole, Refused}
 use Rattle.frame.specs.Frame.{frameOf, readUsed}
+use Rattle.frame.proofs.Faults.{refused-iff, more-iff}
 use Rattle.calls.specs.declared.Call.{Call}
 use Rattle.calls.specs.declared.Frame.{Frame}
 use Rattle.calls.specs.declared.Tally.{Tally}
@@ -45,6 +46,8 @@ use Rattle.calls.specs.Apart.{verdict, verdictNumber, verdictReleaseRise, Cause
 use Rattle.calls.specs.Figures.{eventAs, methodIn}
 use Rattle.calls.specs.Order.{cancelled, Elements, Past, closed, since, Lawful, Heard, after, pastOf, Ruling, refused, comes, Ruled, Crosses, methodNamed, same, dropped, Releases, Reflects, nothing, call, PastIn}
 use Rattle.calls.proofs.Goodness.{fresh-good, good-clauses, good-test}
+use Rattle.calls.specs.Limits.{FewIn}
+use Rattle.calls.proofs.Limits.{few-stays, few-released, few-wide, few-fresh}
 use Rattle.calls.proofs.Apart.{judged-by, full-is, release-answered, cancelled-freed as step-freed}
 use Rattle.calls.proofs.Rises.{no-figure, release-rise-by}
 use Rattle.calls.proofs.Counted.{full-iff, full-not}
@@ -59,9 +62,9 @@ use Rattle.line.specs.Planning.{frameFrom}
 use Rattle.line.specs.Receive.{answered as answeredBy, frameSettled, frameLine, received}
 use Rattle.line.specs.Release.{ReleaseLine, releaseAnswer, released}
 use Rattle.line.specs.Claims.{Front, payloadIn, Ready, rowFor, Stops, frameFault, needsMore, Nothing}
-use Rattle.line.specs.Order.{Said, said, saidBy, Answered, stops, value, empty, surplus, error, HasRoom, Counted, fullTally, rises, ByRules, ReleasedAs, refusedRelease, fullRelease, releasedNow, Stands}
-use Rattle.line.specs.Run.{Input, Event, input, release, State, stateAfter, numberOf, Happens, frame, releases, frameHeard, heardIn, runFrom, heardFrom, freshTallies}
-use Rattle.line.proofs.Kept.{frameRise, readingOf, stop-holds, frame-holds, stays-good, same-length, same-rows, release-good, release-length, release-rows}
+use Rattle.line.specs.Order.{Said, said, saidBy, Answered, stops, value, empty, surplus, error, Counted, fullTally, rises, ByRules, ReleasedAs, refusedRelease, fullRelease, releasedNow, Stands}
+use Rattle.line.specs.Run.{Input, Event, input, release, State, stateAfter, numberOf, Happens, frame, releases, frameHeard, heardIn, runFrom, heardFrom, callsAfter, rowsAfter, answerAfter, fullAfter, pastIn, RoomAfter, freshTallies, freshState}
+use Rattle.line.proofs.Kept.{frameRise, readingOf, stop-holds, frame-holds, holds as holds-after, stays-good, same-length, same-rows, release-holds, release-good, release-length, release-rows}
 use Rattle.line.proofs.Records.{front-once, others-kept, freed as frame-freed, refused-kept}
 use Rattle.line.proofs.Answers.{used-by-number, refused-untouched, refused-rows}
 use Rattle.line.proofs.Releases.{others-kept as release-others, freed as release-freed}
@@ -98,6 +101,20 @@ pub run-rows : (s : List ℕ) (st : State) (es : List Event) → length (runFrom
 unfolding runFrom
 run-rows s st [] = refl
 run-rows s st (e ∷ es) = event-rows s e (runFrom s st es) ∙ run-rows s st es
+
+-- No record counts more than 65,535 elements either way after a history where none does at its start, as from a fresh one.
+event-few : (s : List ℕ) (e : Event) (st : State) → FewIn 65535 (st .calls) → FewIn 65535 (stateAfter s e st .calls)
+event-few s (input i) st h =
+    holds-after s (i .side) (i .bytes) (i .sheet) (st .tallies) (st .calls) (λ _ l. FewIn 65535 l) (λ n q e. h) (λ f w g t r. few-stays (tableOf s) f r (st .calls) h)
+event-few s (release id) st h = release-holds s (st .calls) id (st .tallies) (λ _ l. FewIn 65535 l) (λ n q e. h) (λ g t n k. few-released id n (st .calls) h)
+
+pub run-few : (s : List ℕ) (st : State) → FewIn 65535 (st .calls) → (es : List Event) → FewIn 65535 (callsAfter s st es)
+unfolding runFrom
+run-few s st h [] = h
+run-few s st h (e ∷ es) = event-few s e (runFrom s st es) (run-few s st h es)
+
+pub fresh-few : (T : Table) → FewIn 65535 (freshState T .calls)
+fresh-few T = few-wide 0 65535 (freshTable .slots) (lit≤ tt) few-fresh
 
 -- A slot is freed only by a payload refusal, the completion of the call, ERROR, or the release of a cancelled call, each its own.
 pub freed : (s : List ℕ) (st : State) (e : Event) (i : ℕ) → slot (st .calls) i .«open» ≡ true → slot (stateAfter s e st .calls) i .«open» ≡ false
@@ -485,103 +502,89 @@ module _ (s : List ℕ) (g : IsGood s) (start : State) (past : ℕ → Past) (st
   abbrev T : Table
   T = tableOf s
 
-  -- The calls after a history, and the past of an identifier by what was answered in it.
-  abbrev callsAfter : List Event → List Call
-  callsAfter es = runFrom s start es .calls
+  pub calls-good : (es : List Event) → GoodTable T (callsAfter s start es)
+  calls-good es = good-clauses T (callsAfter s start es) (run-good s start (good-test T (start .calls) (st .good)) es)
 
-  abbrev rowsAfter : List Event → List Tally
-  rowsAfter es = runFrom s start es .tallies
-
-  abbrev pastIn : List Event → (correlation : ℕ) → Past
-  pastIn es id = pastOf T id (past id) (heardFrom s start es)
-
-  pub calls-good : (es : List Event) → GoodTable T (callsAfter es)
-  calls-good es = good-clauses T (callsAfter es) (run-good s start (good-test T (start .calls) (st .good)) es)
-
-  pub rows-right : (es : List Event) → length (rowsAfter es) ≡ length (T .methods)
+  pub rows-right : (es : List Event) → length (rowsAfter s start es) ≡ length (T .methods)
   rows-right es = run-rows s start es ∙ st .rows
 
-  pub ready-after : (es : List Event) → Ready s (callsAfter es) (length (rowsAfter es))
+  pub ready-after : (es : List Event) → Ready s (callsAfter s start es) (length (rowsAfter s start es))
   ready-after es = record { schemaGood = g; callsGood = calls-good es; rowsRight = rows-right es }
 
   -- one event more: the past of its identifier changes, the others stay
-  module _ (es : List Event) (id : ℕ) (ih : (k : ℕ) → Reflects (pastIn es k) (ownOf k (callsAfter es))) where
+  module _ (es : List Event) (id : ℕ) (ih : (k : ℕ) → Reflects (pastIn s start past es k) (ownOf k (callsAfter s start es))) where
     after-own : (x : calls.Event) (n : ℕ) (l′ : List Call)
-        → Reflects (after T (record { event = x; number = n }) (pastIn es (calls.identifier x))) (ownOf (calls.identifier x) l′)
-        → ((id ≡ calls.identifier x → ⊥) → ownOf id l′ ≡ ownOf id (callsAfter es))
+        → Reflects (after T (record { event = x; number = n }) (pastIn s start past es (calls.identifier x))) (ownOf (calls.identifier x) l′)
+        → ((id ≡ calls.identifier x → ⊥) → ownOf id l′ ≡ ownOf id (callsAfter s start es))
         → Reflects (pastOf T id (past id) (record { event = x; number = n } ∷ heardFrom s start es)) (ownOf id l′)
     unfolding pastOf
     after-own x n l′ own others =
         let hd : Heard = record { event = x; number = n } in
         ⊎-elim
-        (λ q. rw q (subst (λ (k : ℕ). Reflects (after T hd (pastIn es k)) (ownOf k l′)) (eqb-true (calls.identifier x) id q) own))
+        (λ q. rw q (subst (λ (k : ℕ). Reflects (after T hd (pastIn s start past es k)) (ownOf k l′)) (eqb-true (calls.identifier x) id q) own))
         (λ q. rw q (rw (others (λ z. eqb-false (calls.identifier x) id q (sym z))) (ih id)))
         (cases (eqb (calls.identifier x) id))
 
-    input-more : (i : Input) → let a = received s (i .side) (i .bytes) (i .sheet) (rowsAfter es) (callsAfter es) in
+    input-more : (i : Input) → let a = answerAfter s start es i in
         Reflects (pastOf T id (past id) (frameHeard (i .side) (frameOf (i .bytes)) (a .answer .number) (heardFrom s start es))) (ownOf id (a .answer .table .slots))
     input-more i = go (frameOf (i .bytes)) refl
       where
         a : Line
-        a = received s (i .side) (i .bytes) (i .sheet) (rowsAfter es) (callsAfter es)
+        a = answerAfter s start es i
 
-        same : (n : ℕ) → Stops s (i .bytes) (callsAfter es) (length (rowsAfter es)) n 0 → Reflects (pastIn es id) (ownOf id (a .answer .table .slots))
+        same : (n : ℕ) → Stops s (i .bytes) (callsAfter s start es) (length (rowsAfter s start es)) n 0 → Reflects (pastIn s start past es id) (ownOf id (a .answer .table .slots))
         same n e =
-            rw (stops-early s (i .side) (i .bytes) (i .sheet) (rowsAfter es) (callsAfter es) e)
-            (stop-holds (λ _ l′. Reflects (pastIn es id) (ownOf id l′)) (callsAfter es) n 0 (ih id))
+            rw (stops-early s (i .side) (i .bytes) (i .sheet) (rowsAfter s start es) (callsAfter s start es) e)
+            (stop-holds (λ _ l′. Reflects (pastIn s start past es id) (ownOf id l′)) (callsAfter s start es) n 0 (ih id))
 
         go : (v : FrameRead) → frameOf (i .bytes) ≡ v
             → Reflects (pastOf T id (past id) (frameHeard (i .side) v (a .answer .number) (heardFrom s start es))) (ownOf id (a .answer .table .slots))
-        go More e = same 1 (needsMore (ready-after es) e)
-        go (Refused n) e = same n (frameFault n (ready-after es) e)
+        go More e = same 1 (needsMore (ready-after es) (more-iff (i .bytes) .0 e))
+        go (Refused n) e = same n (frameFault (ready-after es) (refused-iff (i .bytes) n .0 e))
         go (Whole h place n) e =
             let f = frameFrom (i .side) h in
             let w = front-of (i .side) (i .bytes) h place n e in
             after-own (calls.frame f) (a .answer .number) (a .answer .table .slots)
-            (front-reflects s g (callsAfter es) (rowsAfter es) (calls-good es) (rows-right es) (i .side) (i .bytes) (i .sheet) f w (pastIn es (f .correlation)) (ih (f .correlation)))
-            (λ z. others-kept s (i .side) (i .bytes) (i .sheet) (rowsAfter es) (callsAfter es) id (λ x v q. z (q ∙ ap (λ (y : Frame). y .correlation) (front-once v w))))
+            (front-reflects s g (callsAfter s start es) (rowsAfter s start es) (calls-good es) (rows-right es) (i .side) (i .bytes) (i .sheet) f w (pastIn s start past es (f .correlation)) (ih (f .correlation)))
+            (λ z. others-kept s (i .side) (i .bytes) (i .sheet) (rowsAfter s start es) (callsAfter s start es) id (λ x v q. z (q ∙ ap (λ (y : Frame). y .correlation) (front-once v w))))
 
     one-more : (e : Event) → Reflects (pastOf T id (past id) (heardIn e (numberOf s e (runFrom s start es)) (heardFrom s start es))) (ownOf id (stateAfter s e (runFrom s start es) .calls))
     one-more (input i) = input-more i
     one-more (release k) =
-        let a = released s (callsAfter es) k (rowsAfter es) .answer in
+        let a = released s (callsAfter s start es) k (rowsAfter s start es) .answer in
         after-own (calls.release k) (a .number) (a .table .slots)
-        (own-released s g (callsAfter es) (rowsAfter es) (calls-good es) (rows-right es) k (pastIn es k) (ih k)) (release-others s (callsAfter es) k (rowsAfter es) id)
+        (own-released s g (callsAfter s start es) (rowsAfter s start es) (calls-good es) (rows-right es) k (pastIn s start past es k) (ih k)) (release-others s (callsAfter s start es) k (rowsAfter s start es) id)
 
   -- The record of each identifier reflects the kinds that were accepted for its call.
-  pub reflected : (es : List Event) (id : ℕ) → Reflects (pastIn es id) (ownOf id (callsAfter es))
+  pub reflected : (es : List Event) (id : ℕ) → Reflects (pastIn s start past es id) (ownOf id (callsAfter s start es))
   unfolding runFrom heardFrom pastOf
   reflected [] id = st .reflects id
   reflected (e ∷ es) id = one-more es id (reflected es) e
 
   -- The answer to the next frame is the one by the rules, and no other: number, place, rows, tail, comparisons and sheet.
   pub by-order : (es : List Event) (i : Input) (f : Frame) (w : Front (i .side) (i .bytes) f) (x : Said) →
-      (said (received s (i .side) (i .bytes) (i .sheet) (rowsAfter es) (callsAfter es)) ≡ x)
-      ↔ ByRules s (payloadIn w) (i .sheet) f (eqb (countOpen (callsAfter es)) 128) (pastIn es (f .correlation)) (rowsAfter es) x
+      (said (answerAfter s start es i) ≡ x)
+      ↔ ByRules s (payloadIn w) (i .sheet) f (fullAfter s start es) (pastIn s start past es (f .correlation)) (rowsAfter s start es) x
   by-order es i f w x =
-      front-rules s g (callsAfter es) (rowsAfter es) (calls-good es) (rows-right es) (i .side) (i .bytes) (i .sheet) f w (pastIn es (f .correlation)) (reflected es (f .correlation))
+      front-rules s g (callsAfter s start es) (rowsAfter s start es) (calls-good es) (rows-right es) (i .side) (i .bytes) (i .sheet) f w (pastIn s start past es (f .correlation)) (reflected es (f .correlation))
       (run-long s start es ∙ st .slots) x
 
   -- The answer to a release is the one by the rules, and no other.
-  pub release-by-order : (es : List Event) (id n : ℕ) → (released s (callsAfter es) id (rowsAfter es) .answer .number ≡ n) ↔ ReleasedAs (rowsAfter es) (pastIn es id) n
-  release-by-order es id n = release-rules s g (callsAfter es) (rowsAfter es) (calls-good es) (rows-right es) id (pastIn es id) (reflected es id) n
-
-  -- The figure that the frame raises with this answer is not full.
-  abbrev Spacious : List Event → Frame → (number : ℕ) → Type 0
-  Spacious es f n = HasRoom T f (pastIn es (f .correlation)) (rowsAfter es) n
+  pub release-by-order : (es : List Event) (id n : ℕ) → (released s (callsAfter s start es) id (rowsAfter s start es) .answer .number ≡ n) ↔ ReleasedAs (rowsAfter s start es) (pastIn s start past es id) n
+  release-by-order es id n = release-rules s g (callsAfter s start es) (rowsAfter s start es) (calls-good es) (rows-right es) id (pastIn s start past es id) (reflected es id) n
 
   -- Where nothing belongs, a frame that may come is accepted exactly without a payload, and else refused with 29 at place 0, unless the tally that this raises is full.
   pub nothing-belongs : (es : List Event) (i : Input) (f : Frame) (w : Front (i .side) (i .bytes) f)
-      → (payloadIn w ≡ [] → Spacious es f 0) → ((payloadIn w ≡ [] → ⊥) → Spacious es f 29) →
-      Ruled T f (eqb (countOpen (callsAfter es)) 128) (pastIn es (f .correlation)) (comes Empty) →
-      let a = received s (i .side) (i .bytes) (i .sheet) (rowsAfter es) (callsAfter es) .answer in
+      → (payloadIn w ≡ [] → RoomAfter s start past es f 0) → ((payloadIn w ≡ [] → ⊥) → RoomAfter s start past es f 29) →
+      Ruled T f (fullAfter s start es) (pastIn s start past es (f .correlation)) (comes Empty) →
+      let a = answerAfter s start es i .answer in
       ((a .number ≡ 0) ↔ (payloadIn w ≡ [])) × ((payloadIn w ≡ [] → ⊥) → (a .number ≡ 29) × (a .place ≡ 0))
   nothing-belongs es i f w room0 room29 r = ((accepted, empty-accepted), surplus-refused)
     where
       a : Line
-      a = received s (i .side) (i .bytes) (i .sheet) (rowsAfter es) (callsAfter es)
+      a = answerAfter s start es i
 
-      says : {x : Said} → Answered s (payloadIn w) (i .sheet) (comes Empty) x → Spacious es f (x .numbers .number) → said a ≡ x
+      says : {x : Said} → Answered s (payloadIn w) (i .sheet) (comes Empty) x → RoomAfter s start past es f (x .numbers .number) → said a ≡ x
       says {x} e room =
           by-order es i f w x .1
           (record { ruling = comes Empty; ruled = r; payloadSaid = x; answered = e; counted = rises room })
@@ -603,8 +606,8 @@ module _ (s : List ℕ) (g : IsGood s) (start : State) (past : ℕ → Past) (st
 
   -- a frame that the rules refuse
   refused-by : (es : List Event) (i : Input) (f : Frame) (w : Front (i .side) (i .bytes) f) (n : ℕ) → 8 ≤ n → n ≤ 17
-      → Ruled T f (eqb (countOpen (callsAfter es)) 128) (pastIn es (f .correlation)) (refused n)
-      → said (received s (i .side) (i .bytes) (i .sheet) (rowsAfter es) (callsAfter es)) ≡ saidBy (outcome (Failed n 0) (i .sheet))
+      → Ruled T f (fullAfter s start es) (pastIn s start past es (f .correlation)) (refused n)
+      → said (answerAfter s start es i) ≡ saidBy (outcome (Failed n 0) (i .sheet))
   refused-by es i f w n low high r =
       by-order es i f w (saidBy (outcome (Failed n 0) (i .sheet))) .1
       (record {
@@ -612,29 +615,29 @@ module _ (s : List ℕ) (g : IsGood s) (start : State) (past : ℕ → Past) (st
         ruled = r;
         payloadSaid = saidBy (outcome (Failed n 0) (i .sheet));
         answered = stops n;
-        counted = rises (λ k q. let past = pastIn es (f .correlation) in
-            full-not (rowFor (rowsAfter es) k) (eventAs T (calls.frame f) n past) (call-raises T f past (rowFor (rowsAfter es) k) n low high));
+        counted = rises (λ k q. let past = pastIn s start past es (f .correlation) in
+            full-not (rowFor (rowsAfter s start es) k) (eventAs T (calls.frame f) n past) (call-raises T f past (rowFor (rowsAfter s start es) k) n low high));
       })
 
   -- INVOKE of a known method on an open call's identifier, cancelled or not, is 10.
   pub invoke-open : (es : List Event) (i : Input) (f : Frame) (w : Front (i .side) (i .bytes) f) (m n : ℕ) (b : Elements) (h : List ℕ)
-      → pastIn es (f .correlation) ≡ since m b h → f .side ≡ 67 → f .kind ≡ 1 → methodNamed T f ≡ At n
-      → received s (i .side) (i .bytes) (i .sheet) (rowsAfter es) (callsAfter es) .answer .number ≡ 10
+      → pastIn s start past es (f .correlation) ≡ since m b h → f .side ≡ 67 → f .kind ≡ 1 → methodNamed T f ≡ At n
+      → answerAfter s start es i .answer .number ≡ 10
   invoke-open es i f w m n b h e side kind known =
       ap (λ (y : Said). y .numbers .number) (refused-by es i f w 10 (lit≤ tt) (lit≤ tt) (rw e (rules.already m n b h (rw (side, kind)) kind known)))
 
   -- A client frame of a cancelled call (IN_STREAM, IN_CLOSE, CANCEL) is 12 where its identifiers are not the call's, and else 14.
   pub client-late : (es : List Event) (i : Input) (f : Frame) (w : Front (i .side) (i .bytes) f) (m : ℕ) (b : Elements) (h : List ℕ)
-      → pastIn es (f .correlation) ≡ since m b h → rules.cancelled h ≡ true → f .side ≡ 67 → holds (f .kind) (2 ∷ 3 ∷ 8 ∷ []) ≡ true
-      → let a = received s (i .side) (i .bytes) (i .sheet) (rowsAfter es) (callsAfter es) .answer in
+      → pastIn s start past es (f .correlation) ≡ since m b h → rules.cancelled h ≡ true → f .side ≡ 67 → holds (f .kind) (2 ∷ 3 ∷ 8 ∷ []) ≡ true
+      → let a = answerAfter s start es i .answer in
       (same T f m ≡ false → a .number ≡ 12) × (same T f m ≡ true → a .number ≡ 14)
   client-late es i f w m b h e late side kinds = (
     λ other. told 12 (lit≤ tt) (lit≤ tt) (rw e (rules.differ m b h sent noInvoke other)),
     λ own. told 14 (lit≤ tt) (lit≤ tt) (rw e (rules.notNow m b h sent noInvoke own (may-not late noError) (λ x. clash (rightSide 83 (f .kind)) (x .fromServer) client))),
   )
     where
-      told : (n : ℕ) → 8 ≤ n → n ≤ 17 → Ruled T f (eqb (countOpen (callsAfter es)) 128) (pastIn es (f .correlation)) (refused n)
-          → received s (i .side) (i .bytes) (i .sheet) (rowsAfter es) (callsAfter es) .answer .number ≡ n
+      told : (n : ℕ) → 8 ≤ n → n ≤ 17 → Ruled T f (fullAfter s start es) (pastIn s start past es (f .correlation)) (refused n)
+          → answerAfter s start es i .answer .number ≡ n
       told n low high r = ap (λ (y : Said). y .numbers .number) (refused-by es i f w n low high r)
 
       sent : rightSide (f .side) (f .kind) ≡ true
@@ -651,14 +654,14 @@ module _ (s : List ℕ) (g : IsGood s) (start : State) (past : ℕ → Past) (st
 
   -- The server's frames of a cancelled call, ERROR aside, are dropped, payload unread, with answer 16 and all bytes used; nothing is changed.
   pub crossing-dropped : (es : List Event) (i : Input) (f : Frame) (w : Front (i .side) (i .bytes) f) (m : ℕ) (b : Elements) (h : List ℕ)
-      → pastIn es (f .correlation) ≡ since m b h → rightSide (f .side) (f .kind) ≡ true → same T f m ≡ true → Crosses h (f .kind)
-      → let a = received s (i .side) (i .bytes) (i .sheet) (rowsAfter es) (callsAfter es) in
-      (a .answer .number ≡ 16) × (a .answer .place ≡ 0) × (a .answer .used ≡ w .place + w .size) × Nothing (i .sheet) a × (a .answer .table .slots ≡ callsAfter es)
-      × ((k : ℕ) → rowFor (a .tallies) k ≡ rowFor (rowsAfter es) k)
+      → pastIn s start past es (f .correlation) ≡ since m b h → rightSide (f .side) (f .kind) ≡ true → same T f m ≡ true → Crosses h (f .kind)
+      → let a = answerAfter s start es i in
+      (a .answer .number ≡ 16) × (a .answer .place ≡ 0) × (a .answer .used ≡ w .place + w .size) × Nothing (i .sheet) a × (a .answer .table .slots ≡ callsAfter s start es)
+      × ((k : ℕ) → rowFor (a .tallies) k ≡ rowFor (rowsAfter s start es) k)
   crossing-dropped es i f w m b h e side ids x = (number, place, used, untouched, unchanged, rows-unchanged)
     where
       a : Line
-      a = received s (i .side) (i .bytes) (i .sheet) (rowsAfter es) (callsAfter es)
+      a = answerAfter s start es i
 
       told : said a ≡ saidBy (outcome (Failed 16 0) (i .sheet))
       told = refused-by es i f w 16 (lit≤ tt) (lit≤ tt) (rw e (dropped m b h side ids x))
@@ -674,35 +677,35 @@ module _ (s : List ℕ) (g : IsGood s) (start : State) (past : ℕ → Past) (st
 
       used : a .answer .used ≡ w .place + w .size
       used =
-          used-by-number s (i .side) (i .bytes) (i .sheet) (rowsAfter es) (callsAfter es)
+          used-by-number s (i .side) (i .bytes) (i .sheet) (rowsAfter s start es) (callsAfter s start es)
           ∙ ap (λ (n : ℕ). usedOf n (readUsed (frameOf (i .bytes)))) number
           ∙ rw (sixteen, w .whole)
 
       untouched : Nothing (i .sheet) a
-      untouched = refused-untouched s (i .side) (i .bytes) (i .sheet) (rowsAfter es) (callsAfter es) (λ z. omega (arith, number, z))
+      untouched = refused-untouched s (i .side) (i .bytes) (i .sheet) (rowsAfter s start es) (callsAfter s start es) (λ z. omega (arith, number, z))
 
-      unchanged : a .answer .table .slots ≡ callsAfter es
-      unchanged = refused-kept s (i .side) (i .bytes) (i .sheet) (rowsAfter es) (callsAfter es) (λ z. omega (arith, number, z)) (rw number (call-keeps 16 (lit≤ tt) (lit≤ tt)))
+      unchanged : a .answer .table .slots ≡ callsAfter s start es
+      unchanged = refused-kept s (i .side) (i .bytes) (i .sheet) (rowsAfter s start es) (callsAfter s start es) (λ z. omega (arith, number, z)) (rw number (call-keeps 16 (lit≤ tt) (lit≤ tt)))
 
-      rows-unchanged : (k : ℕ) → rowFor (a .tallies) k ≡ rowFor (rowsAfter es) k
+      rows-unchanged : (k : ℕ) → rowFor (a .tallies) k ≡ rowFor (rowsAfter s start es) k
       rows-unchanged k =
           ap (λ (x : List Tally). rowFor x k)
-          (refused-rows s (i .side) (i .bytes) (i .sheet) (rowsAfter es) (callsAfter es) (λ z. omega (arith, number, z)) (rw number (call-keeps 16 (lit≤ tt) (lit≤ tt))))
+          (refused-rows s (i .side) (i .bytes) (i .sheet) (rowsAfter s start es) (callsAfter s start es) (λ z. omega (arith, number, z)) (rw number (call-keeps 16 (lit≤ tt) (lit≤ tt))))
 
   -- ERROR of a cancelled call is accepted and ends it, unless its tally is full.
   pub error-ends-cancelled : (es : List Event) (i : Input) (f : Frame) (w : Front (i .side) (i .bytes) f) (m : ℕ) (b : Elements) (h : List ℕ)
-      → pastIn es (f .correlation) ≡ since m b h → Spacious es f 0 → f .side ≡ 83 → f .kind ≡ 7 → same T f m ≡ true
-      → let a = received s (i .side) (i .bytes) (i .sheet) (rowsAfter es) (callsAfter es) in (a .answer .number ≡ 0) × (ownOf (f .correlation) (a .answer .table .slots) ≡ none)
+      → pastIn s start past es (f .correlation) ≡ since m b h → RoomAfter s start past es f 0 → f .side ≡ 83 → f .kind ≡ 7 → same T f m ≡ true
+      → let a = answerAfter s start es i in (a .answer .number ≡ 0) × (ownOf (f .correlation) (a .answer .table .slots) ≡ none)
   error-ends-cancelled es i f w m b h e spacious side kind ids = (number, ended)
     where
       a : Line
-      a = received s (i .side) (i .bytes) (i .sheet) (rowsAfter es) (callsAfter es)
+      a = answerAfter s start es i
 
       few : {k : ℕ} → rules.TooMany b h k → k ≡ 7 → ⊥
       few (rules.inputs q) z = omega arith
       few (rules.outputs q) z = omega arith
 
-      comes-now : Ruled T f (eqb (countOpen (callsAfter es)) 128) (since m b h) (comes Unread)
+      comes-now : Ruled T f (fullAfter s start es) (since m b h) (comes Unread)
       comes-now =
           rules.goes m b h Unread (rw (side, kind)) (λ z. omega arith) ids (rw kind rules.error) (λ x. few x kind) (rw kind belongs.error)
 
@@ -718,14 +721,14 @@ module _ (s : List ℕ) (g : IsGood s) (start : State) (past : ℕ → Past) (st
             counted = rises spacious;
           }))
 
-      closes : after T (record { event = calls.frame f; number = a .answer .number }) (pastIn es (f .correlation)) ≡ closed
+      closes : after T (record { event = calls.frame f; number = a .answer .number }) (pastIn s start past es (f .correlation)) ≡ closed
       closes = rw (number, e, kind)
 
       ended : ownOf (f .correlation) (a .answer .table .slots) ≡ none
       ended =
           no-record
           (subst (λ (p : Past). Reflects p (ownOf (f .correlation) (a .answer .table .slots))) closes
-          (front-reflects s g (callsAfter es) (rowsAfter es) (calls-good es) (rows-right es) (i .side) (i .bytes) (i .sheet) f w (pastIn es (f .correlation)) (reflected es (f .correlation))))
+          (front-reflects s g (callsAfter s start es) (rowsAfter s start es) (calls-good es) (rows-right es) (i .side) (i .bytes) (i .sheet) f w (pastIn s start past es (f .correlation)) (reflected es (f .correlation))))
         where
           no-record : {own : Own} → Reflects closed own → own ≡ none
           no-record nothing = refl

@@ -3,9 +3,9 @@
 -- Assumes nothing.
 use mathlib.Core.Path.{_≡_, refl, sym, ap, subst, _∙_}
 use mathlib.Core.Logic.{_⊎_, inl, inr, ⊎-elim}
-use mathlib.Core.Bool.{Bool, true, false, cond}
+use mathlib.Core.Bool.{cond}
 use mathlib.Core.List.{List, [], _∷_}
-use Prim.Native.Nat.{ℕ, zero, suc, _+_}
+use Prim.Native.Nat.{ℕ, _+_}
 use native.Mathlib.Omega.{arith}
 use lib.Dec.{eqb}
 use lib.ListN.{length, take, drop}
@@ -16,16 +16,17 @@ use Rattle.schema.specs.declared.Found.the-variants.{At, Missing}
 use Rattle.schema.specs.Table.{Table}
 use Rattle.schema.specs.File.{tableOf}
 use Rattle.schema.specs.Check.{IsGood, findMethod, methodRow}
+use Rattle.schema.proofs.Faults.{refused-iff as schema-refused}
 use Rattle.schema.proofs.Goods.{good-table}
 use Rattle.frame.specs.declared.Header.{Header}
 use Rattle.frame.specs.declared.FrameRead.{FrameRead}
 use Rattle.frame.specs.declared.FrameRead.the-variants.{More, Frame as Whole, Refused}
 use Rattle.frame.specs.Frame.{frameOf}
+use Rattle.frame.proofs.Faults.{refused-iff, more-iff}
 use Rattle.calls.specs.declared.Call.{Call}
 use Rattle.calls.specs.declared.Frame.{Frame}
 use Rattle.calls.specs.declared.Tally.{Tally}
 use Rattle.calls.specs.declared.Figure.{Figure}
-use Rattle.calls.specs.declared.Figure.the-variants.{Nothing}
 use Rattle.calls.specs.declared.Rise.{Rise}
 use Rattle.calls.specs.Numbers.{endsCall}
 use Rattle.calls.specs.declared.Payload.the-variants.{Unread}
@@ -33,7 +34,7 @@ use Rattle.calls.specs.Record.{emptyCall}
 use Rattle.calls.specs.Slots.{Own, none, one, ownOf, full}
 use Rattle.calls.specs.Judge.{Verdict, stop, goes, releaseVerdict, judgeRelease}
 use Rattle.calls.specs.Step as calls-step
-use Rattle.calls.specs.Counting.{noTally, noRise, releaseRise, figureBy, raised}
+use Rattle.calls.specs.Counting.{noRise, releaseRise, figureBy, raised}
 use Rattle.calls.specs.Apart.{verdictReleaseRise}
 use Rattle.calls.specs.Event as calls
 use Rattle.calls.specs.Order.{Elements, noElements, times, over, Past, closed, since, Heard, opened, continued, accepted, after, pastOf, Reflects, nothing, call}
@@ -47,7 +48,7 @@ use Rattle.line.specs.Planning.{frameFrom}
 use Rattle.line.specs.Receive.{received}
 use Rattle.line.specs.Release.{released}
 use Rattle.line.specs.Claims.{Front, payloadIn, Ready, Unready, schemaFault, callsBad, rowsWrong, frameFault, needsMore, rowFor, About, Reply, Alike, CountedSince, counts}
-use Rattle.line.specs.Run.{Input, Event, input, release, State, stateAfter, numberOf, frameHeard, runFrom, heardFrom, freshTallies, freshState}
+use Rattle.line.specs.Run.{Input, Event, input, release, State, stateAfter, frameHeard, runFrom, heardFrom, callsAfter, rowsAfter, freshState}
 use Rattle.line.proofs.Ways.{front-of, Way, stops, judges, ways, stops-early, judged}
 use Rattle.line.proofs.Rows.{none-raised, fresh-row}
 use Rattle.line.proofs.Kept.{frameRise, frame-row, holds-row, release-holds-row}
@@ -82,7 +83,7 @@ opened-balance s es m =
 -- ---- the figures
 
 unready-never : (s : List ℕ) (l : List Call) (k : ℕ) {n q : ℕ} → Ready s l k → Unready s l k n q → ⊥
-unready-never s l k r (schemaFault n q e) = let bad = sym (r .schemaGood) ∙ e in differ cc
+unready-never s l k r (schemaFault {n} {row} e) = let bad = sym (r .schemaGood) ∙ schema-refused s n row .1 e in differ cc
 unready-never s l k r (callsBad g b) = b (r .callsGood)
 unready-never s l k r (rowsWrong g w n) = n (r .rowsRight)
 
@@ -94,14 +95,14 @@ module _ (s : List ℕ) (g : IsGood s) where
   start = freshState T
 
   abbrev Follows : List Event → ℕ → Type 0
-  Follows es m = rowFor (runFrom s start es .tallies) m ≡ figures T m (heardFrom s start es)
+  Follows es m = rowFor (rowsAfter s start es) m ≡ figures T m (heardFrom s start es)
 
   module _ (es : List Event) (m : ℕ) (ih : Follows es m) where
     abbrev l : List Call
-    l = runFrom s start es .calls
+    l = callsAfter s start es
 
     abbrev ts : List Tally
-    ts = runFrom s start es .tallies
+    ts = rowsAfter s start es
 
     abbrev heard : List Heard
     heard = heardFrom s start es
@@ -122,8 +123,8 @@ module _ (s : List ℕ) (g : IsGood s) where
         ready = ready-after s g start (λ _. closed) (fresh-stands T) es
 
         go : (v : FrameRead) → frameOf (i .bytes) ≡ v → rowFor (a .tallies) m ≡ figures T m (frameHeard (i .side) v (a .answer .number) heard)
-        go More e = ap (λ (x : Line). rowFor (x .tallies) m) (stops-early s (i .side) (i .bytes) (i .sheet) ts l (needsMore ready e)) ∙ ih
-        go (Refused n) e = ap (λ (x : Line). rowFor (x .tallies) m) (stops-early s (i .side) (i .bytes) (i .sheet) ts l (frameFault n ready e)) ∙ ih
+        go More e = ap (λ (x : Line). rowFor (x .tallies) m) (stops-early s (i .side) (i .bytes) (i .sheet) ts l (needsMore ready (more-iff (i .bytes) .0 e))) ∙ ih
+        go (Refused n) e = ap (λ (x : Line). rowFor (x .tallies) m) (stops-early s (i .side) (i .bytes) (i .sheet) ts l (frameFault ready (refused-iff (i .bytes) n .0 e))) ∙ ih
         go (Whole h place n) e =
             let f = frameFrom (i .side) h in
             let w = front-of (i .side) (i .bytes) h place n e in
@@ -144,17 +145,17 @@ module _ (s : List ℕ) (g : IsGood s) where
         (release-rises-as T (good-table s g) l (w .callsGood) id (pastOf T id closed heard) (reflected s g start (λ _. closed) (fresh-stands T) es id) n k))
 
   -- After any history from a fresh start under one schema table, each tally row is the figures of that history.
-  pub rows-follow : (es : List Event) (m : ℕ) → Follows es m
+  pub rows-follow : (es : List Event) (m : ℕ) → rowFor (rowsAfter s (freshState T) es) m ≡ figures T m (heardFrom s (freshState T) es)
   unfolding runFrom heardFrom
   rows-follow [] m = fresh-row T m ∙ sym (no-figures T m)
   rows-follow (input i ∷ es) m = input-follows es m (rows-follow es m) i
   rows-follow (release id ∷ es) m = release-follows es m (rows-follow es m) id
 
   -- So the figures themselves are in balance with the calls now open.
-  pub figures-balance : (es : List Event) (m : ℕ) → let h = heardFrom s start es in
-      counted T m 1 h ≡ counted T m 2 h + counted T m 3 h + counted T m 4 h + counted T m 5 h + openOf m (runFrom s start es .calls)
+  pub figures-balance : (es : List Event) (m : ℕ) → let h = heardFrom s (freshState T) es in
+      counted T m 1 h ≡ counted T m 2 h + counted T m 3 h + counted T m 4 h + counted T m 5 h + openOf m (callsAfter s (freshState T) es)
   figures-balance es m =
-      subst (λ (t : Tally). t .opened ≡ t .completed + t .errored + t .cancelled + t .failed + openOf m (runFrom s start es .calls)) (rows-follow es m)
+      subst (λ (t : Tally). t .opened ≡ t .completed + t .errored + t .cancelled + t .failed + openOf m (callsAfter s start es)) (rows-follow es m)
       (opened-balance s es m)
 
 -- ---- the elements of a call

@@ -2,7 +2,7 @@
 -- methods. The same of a release.
 -- Assumes nothing.
 use mathlib.Core.Path.{_≡_, refl, sym, ap, subst, _∙_}
-use mathlib.Core.Bool.{true, false, cond}
+use mathlib.Core.Bool.{false, cond}
 use mathlib.Core.List.{List, [], _∷_}
 use Prim.Native.Nat.{ℕ, zero, suc, _+_, _-_, _≤_, _<_}
 use native.Mathlib.Omega.{arith}
@@ -16,12 +16,14 @@ use Rattle.schema.specs.Table.{Table}
 use Rattle.schema.specs.File.{tableOf}
 use Rattle.schema.specs.Check.{checked}
 use Rattle.schema.proofs.Bools.{clash, is-false}
+use Rattle.schema.proofs.Faults.{refused-iff as schema-refused}
 use Rattle.schema.proofs.Listed.{listed, listed-bounds}
 use Rattle.frame.specs.declared.Header.{Header}
 use Rattle.frame.specs.declared.FrameRead.{FrameRead}
 use Rattle.frame.specs.declared.FrameRead.the-variants.{More, Frame as Whole, Refused}
 use Rattle.frame.specs.Frame.{frameOf}
 use Rattle.frame.proofs.Answers.{refused-numbers}
+use Rattle.frame.proofs.Faults.{refused-iff, more-iff}
 use Rattle.calls.specs.declared.Call.{Call}
 use Rattle.calls.specs.declared.Frame.{Frame}
 use Rattle.calls.specs.declared.Tally.{Tally}
@@ -83,13 +85,13 @@ pub data Early : (number place : ℕ) → Type 0 where
 
 module _ (s : List ℕ) (l : List Call) (k : ℕ) where
   pub unready-early : {n q : ℕ} → Unready s l k n q → Early n q
-  unready-early (schemaFault n q e) = let w = listed-bounds (tableOf s) (listed s n q e) in schema (w .0) (w .1) (w .2)
+  unready-early (schemaFault {n} {row} e) = let w = listed-bounds (tableOf s) (listed s n row (schema-refused s n row .1 e)) in schema (w .0) (w .1) (w .2)
   unready-early (callsBad g b) = calls
   unready-early (rowsWrong g w n) = rows
 
   pub early : (bytes : List ℕ) {n q : ℕ} → Stops s bytes l k n q → Early n q
   early bytes (tables e) = unready-early e
-  early bytes (frameFault n w e) = let r = refused-numbers bytes e in frame {n = n} (omega arith) (r .1)
+  early bytes (frameFault {n} w e) = let r = refused-numbers bytes (refused-iff bytes n .1 e) in frame {n = n} (omega arith) (r .1)
   early bytes (needsMore w e) = frame (lit≤ tt) (lit≤ tt)
 
   -- a plan over the tables
@@ -107,10 +109,10 @@ module _ (s : List ℕ) (l : List Call) (k : ℕ) where
           (λ q. h (record { schemaGood = e; callsGood = good-clauses T l t; rowsRight = eqb-true k (length (T .methods)) q }))
           (λ q. f 19 0 (rowsWrong e (good-clauses T l t) (eqb-false k (length (T .methods)) q))))
           (λ b. f 15 0 (callsBad e (not-good s l b)))
-      go (Faulty n q) e = f n q (schemaFault n q e)
+      go (Faulty n q) e = f n q (schemaFault (schema-refused s n q .0 e))
 
   tables-stop : {A : Type 0} (stop : ℕ → ℕ → A) (next : A) {n q : ℕ} → Unready s l k n q → onTables s l k stop next ≡ stop n q
-  tables-stop stop next (schemaFault n q e) = rw e
+  tables-stop stop next (schemaFault {n} {row} e) = rw (schema-refused s n row .1 e)
   tables-stop stop next (callsBad g b) = rw (g, is-false (goodTable (tableOf s) l) (λ t. b (good-clauses (tableOf s) l t)))
   tables-stop stop next (rowsWrong g w n) = rw (g, good-test (tableOf s) l w, ne-eqb k (length (tableOf s .methods)) n)
 
@@ -147,8 +149,8 @@ module _ (s : List ℕ) (side : ℕ) (bytes sheet : List ℕ) (ts : List Tally) 
     where
       go : (v : FrameRead) → frameOf bytes ≡ v →
           Way (lineOf (onFrame v (λ number. stopPlan number 0) (λ h place n. framePlan T (frameFrom side h) l place (place + n))))
-      go More e = subst Way (sym (stop-line 1 0)) (stops (needsMore w e))
-      go (Refused n) e = subst Way (sym (stop-line n 0)) (stops (frameFault n w e))
+      go More e = subst Way (sym (stop-line 1 0)) (stops (needsMore w (more-iff bytes .0 e)))
+      go (Refused n) e = subst Way (sym (stop-line n 0)) (stops (frameFault w (refused-iff bytes n .0 e)))
       go (Whole h place n) e = subst Way (sym (frame-line (frameFrom side h) place n)) (judges h place n w e)
 
   pub ways : Way (received s side bytes sheet ts l)
@@ -160,8 +162,8 @@ module _ (s : List ℕ) (side : ℕ) (bytes sheet : List ℕ) (ts : List Tally) 
   plan-stops : {n q : ℕ} → Stops s bytes l k n q → planOf s side bytes k l ≡ stopPlan n q
   unfolding planOf bytesPlan
   plan-stops (tables e) = tables-stop s l k stopPlan (bytesPlan T side bytes l) e
-  plan-stops (frameFault n w e) = tables-go s l k stopPlan (bytesPlan T side bytes l) w ∙ rw e
-  plan-stops (needsMore w e) = tables-go s l k stopPlan (bytesPlan T side bytes l) w ∙ rw e
+  plan-stops (frameFault {n} w e) = tables-go s l k stopPlan (bytesPlan T side bytes l) w ∙ rw (refused-iff bytes n .1 e)
+  plan-stops (needsMore w e) = tables-go s l k stopPlan (bytesPlan T side bytes l) w ∙ rw (more-iff bytes .1 e)
 
   -- Such an answer has this number and place, and nothing else: no bytes used, no rows, no tail, and the calls, the sheet and the tally rows as they were.
   pub stops-early : {n q : ℕ} → Stops s bytes l k n q → received s side bytes sheet ts l ≡ line (stopped l n q) sheet ts

@@ -7,13 +7,14 @@ use mathlib.Core.Logic.{_⊎_}
 use Prim.Native.Nat.{ℕ, _≤_}
 use lib.ListN.{length, take, drop, getD}
 use Rattle.schema.specs.declared.Found.the-variants.{At}
-use Rattle.schema.specs.declared.Checked.the-variants.{Refused as Faulty}
 use Rattle.schema.specs.Table.{Table}
 use Rattle.schema.specs.File.{tableOf}
-use Rattle.schema.specs.Check.{checked, IsGood}
+use Rattle.schema.specs.Check.{IsGood}
+use Rattle.schema.specs.Faults.{TableFault}
 use Rattle.frame.specs.declared.Header.{Header}
-use Rattle.frame.specs.declared.FrameRead.the-variants.{More, Frame as Whole, Refused}
+use Rattle.frame.specs.declared.FrameRead.the-variants.{Frame as Whole}
 use Rattle.frame.specs.Frame.{frameOf}
+use Rattle.frame.specs.Faults.{FrameFault, CutFrame}
 use Rattle.calls.specs.declared.Call.{Call}
 use Rattle.calls.specs.declared.Frame.{Frame}
 use Rattle.calls.specs.declared.Tally.{Tally}
@@ -60,15 +61,22 @@ pub record Ready (schema : List ℕ) (l : List Call) (rows : ℕ) : Type 0 where
 
 -- A fault of the tables, with its number and place, in the papers' order: of the schema table; a call table that is not good; a wrong number of tally rows.
 pub data Unready (schema : List ℕ) (l : List Call) (rows : ℕ) : (number place : ℕ) → Type 0 where
-  schemaFault : (n row : ℕ) → checked schema ≡ Faulty n row → Unready schema l rows n row
+  schemaFault : {n row : ℕ} → TableFault schema n row → Unready schema l rows n row
   callsBad : IsGood schema → (GoodTable (tableOf schema) l → ⊥) → Unready schema l rows 15 0
   rowsWrong : IsGood schema → GoodTable (tableOf schema) l → (rows ≡ length (tableOf schema .methods) → ⊥) → Unready schema l rows 19 0
 
--- Why an answer comes before a frame is judged, in the papers' order: a fault of the tables; a fault of the frame itself; more bytes needed.
+-- Why an answer comes before a frame is judged, in the papers' order: a fault of the tables; a field of the frame itself at fault; a frame that is cut.
 pub data Stops (schema bytes : List ℕ) (l : List Call) (rows : ℕ) : (number place : ℕ) → Type 0 where
   tables : {n row : ℕ} → Unready schema l rows n row → Stops schema bytes l rows n row
-  frameFault : (n : ℕ) → Ready schema l rows → frameOf bytes ≡ Refused n → Stops schema bytes l rows n 0
-  needsMore : Ready schema l rows → frameOf bytes ≡ More → Stops schema bytes l rows 1 0
+  frameFault : {n : ℕ} → Ready schema l rows → FrameFault bytes n → Stops schema bytes l rows n 0
+  needsMore : Ready schema l rows → CutFrame bytes → Stops schema bytes l rows 1 0
+
+-- The numbers of such an answer: 1 to 7 for the frame itself, 15 and 19, and from 40 on those of the schema file.
+pub data Stopping : (number : ℕ) → Type 0 where
+  ofFrame : {n : ℕ} → 1 ≤ n → n ≤ 7 → Stopping n
+  ofCalls : Stopping 15
+  ofRows : Stopping 19
+  ofSchema : {n : ℕ} → 40 ≤ n → Stopping n
 
 -- The answer without the calls.
 pub record Reply : Type 0 where

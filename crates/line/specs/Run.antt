@@ -1,23 +1,28 @@
 -- A history of events from a call table and tally rows: frames that come in and releases; and what was heard in it.
 -- Assumes nothing.
+use mathlib.Core.Bool.{Bool}
 use mathlib.Core.List.{List, [], _∷_}
 use Prim.Native.Nat.{ℕ}
+use lib.Dec.{eqb}
 use lib.ListN.{length, replicate}
 use Rattle.schema.specs.Table.{Table}
+use Rattle.schema.specs.File.{tableOf}
 use Rattle.frame.specs.declared.FrameRead.{FrameRead}
 use Rattle.frame.specs.declared.FrameRead.the-variants.{More, Frame as Whole, Refused}
 use Rattle.frame.specs.Frame.{frameOf}
 use Rattle.calls.specs.declared.Call.{Call}
 use Rattle.calls.specs.declared.Frame.{Frame}
 use Rattle.calls.specs.declared.Tally.{Tally}
-use Rattle.calls.specs.Slots.{freshTable}
+use Rattle.calls.specs.Slots.{freshTable, countOpen}
 use Rattle.calls.specs.Counting.{noTally}
 use Rattle.calls.specs.Event as calls
-use Rattle.calls.specs.Order.{Heard}
+use Rattle.calls.specs.Order.{Past, Heard, pastOf}
+use Rattle.line.specs.Answer.{Line}
 use Rattle.line.specs.Planning.{frameFrom}
 use Rattle.line.specs.Receive.{received}
 use Rattle.line.specs.Release.{released}
 use Rattle.line.specs.Claims.{Front}
+use Rattle.line.specs.Order.{HasRoom}
 
 -- What comes in: a side, bytes, and the sheet that is lent.
 pub record Input : Type 0 where
@@ -75,6 +80,28 @@ runFrom schema st (e ∷ es) = stateAfter schema e (runFrom schema st es)
 unfoldable pub heardFrom : (schema : List ℕ) → State → List Event → List Heard
 heardFrom schema st [] = []
 heardFrom schema st (e ∷ es) = heardIn e (numberOf schema e (runFrom schema st es)) (heardFrom schema st es)
+
+-- The calls and the tally rows after it, and the answer to the frame that comes next.
+abbrev pub callsAfter : (schema : List ℕ) → State → List Event → List Call
+callsAfter schema st es = runFrom schema st es .calls
+
+abbrev pub rowsAfter : (schema : List ℕ) → State → List Event → List Tally
+rowsAfter schema st es = runFrom schema st es .tallies
+
+abbrev pub answerAfter : (schema : List ℕ) → State → List Event → Input → Line
+answerAfter schema st es i = received schema (i .side) (i .bytes) (i .sheet) (rowsAfter schema st es) (callsAfter schema st es)
+
+-- Whether 128 calls are open after it.
+abbrev pub fullAfter : (schema : List ℕ) → State → List Event → Bool
+fullAfter schema st es = eqb (countOpen (callsAfter schema st es)) 128
+
+-- The past of an identifier after it, by what was answered in it; `past` has the pasts at its start.
+abbrev pub pastIn : (schema : List ℕ) → State → (past : ℕ → Past) → List Event → (correlation : ℕ) → Past
+pastIn schema st past es id = pastOf (tableOf schema) id (past id) (heardFrom schema st es)
+
+-- After it the figure that a frame would raise with this number is not full.
+abbrev pub RoomAfter : (schema : List ℕ) → State → (past : ℕ → Past) → List Event → Frame → (number : ℕ) → Type 0
+RoomAfter schema st past es f n = HasRoom (tableOf schema) f (pastIn schema st past es (f .correlation)) (rowsAfter schema st es) n
 
 -- A fresh start under a schema table: no calls, and a row of noughts for each method.
 unfoldable pub freshTallies : Table → List Tally

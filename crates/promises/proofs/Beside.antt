@@ -18,8 +18,8 @@ use Rattle.schema.specs.File.{tableOf}
 use Rattle.schema.specs.Check.{checked, IsGood}
 use Rattle.schema.specs.Extend.{Widens, widened, extension}
 use Rattle.schema.proofs.Bools.{cases}
+use Rattle.schema.proofs.Faults.{refused-iff as schema-refused}
 use Rattle.schema.proofs.Goods.{good-table}
-use Rattle.schema.proofs.Listed as files
 use Rattle.schema.proofs.Extending.{widens-iff, widens-same}
 use Rattle.value.specs.declared.Row.{Row}
 use Rattle.value.specs.Value.{Tree, Value, value, size}
@@ -46,6 +46,7 @@ use Rattle.writer.specs.Entry.{fileOutcome}
 use Rattle.promises.specs.Claims.{shapes, firstRows, ReadsAs}
 use Rattle.promises.specs.Beside.{ReadsBeside, NewBeside, Unextended, RefusedBeside, by-ours, by-theirs, no-extension, by-payload}
 use Rattle.promises.proofs.Entries.{shown-rows, rows-back, shown-rest, shown-length, accepted-from, refused-from, read-by, read-faulty, shown-from}
+use Rattle.promises.proofs.Refusals.{file-numbers}
 use Rattle.promises.proofs.Reading as alone
 use Rattle.promises.proofs.ReadBack.{written-spelled, read-back}
 use Rattle.promises.proofs.Extension as extending
@@ -103,8 +104,8 @@ module _ (ours theirs : List ℕ) (ty : ℕ) (payload sheet : List ℕ) where
           at 47 0 (told _ (unextended good good′ not-so)) (no-extension good good′ not-so)
 
       go : (c c′ : Checked) → checked ours ≡ c → checked theirs ≡ c′ → RefusedBeside ours theirs ty payload (room sheet) n q × (after ≡ sheet)
-      go (Faulty m p) c′ k k′ = at m p (told _ (ours-first m p k)) (by-ours k)
-      go Good (Faulty m p) k k′ = at m p (told _ (theirs-next k m p k′)) (by-theirs k k′)
+      go (Faulty m p) c′ k k′ = at m p (told _ (ours-first m p k)) (by-ours (schema-refused ours m p .0 k))
+      go Good (Faulty m p) k k′ = at m p (told _ (theirs-next k m p k′)) (by-theirs k (schema-refused theirs m p .0 k′))
       go Good Good k k′ = both k k′ _ refl
 
   -- Only by good files, of which theirs extends ours but for the bitmaps, is anything shown.
@@ -140,14 +141,14 @@ payload-number S S′ t payload rows (too-few-rows fs st h) = (omega arith, omeg
 
 module _ (ours theirs : List ℕ) (ty : ℕ) (payload sheet : List ℕ) where
   only-unextended : {n q : ℕ} → RefusedBeside ours theirs ty payload (room sheet) n q → n ≡ 47 → Unextended ours theirs
-  only-unextended (by-ours {n} {q} k) e = absurd (omega (arith, files.listed-bounds (tableOf ours) (files.listed ours n q k)))
-  only-unextended (by-theirs {n} {q} good k) e = absurd (omega (arith, files.listed-bounds (tableOf theirs) (files.listed theirs n q k)))
+  only-unextended (by-ours {n} {q} k) e = absurd (omega (arith, file-numbers ours n q k))
+  only-unextended (by-theirs {n} {q} good k) e = absurd (omega (arith, file-numbers theirs n q k))
   only-unextended (no-extension good good′ h) e = (good, good′, h)
   only-unextended (by-payload good good′ x l) e = let z = payload-number _ _ ty payload (room sheet) l in absurd (omega arith)
 
   number-of : {n q : ℕ} → RefusedBeside ours theirs ty payload (room sheet) n q → (7 ≤ n) × (n ≤ 47)
-  number-of (by-ours {n} {q} k) = let b = files.listed-bounds (tableOf ours) (files.listed ours n q k) in omega arith
-  number-of (by-theirs {n} {q} good k) = let b = files.listed-bounds (tableOf theirs) (files.listed theirs n q k) in omega arith
+  number-of (by-ours {n} {q} k) = let b = file-numbers ours n q k in omega arith
+  number-of (by-theirs {n} {q} good k) = let b = file-numbers theirs n q k in omega arith
   number-of (no-extension good good′ h) = omega arith
   number-of (by-payload good good′ x l) = let z = payload-number _ _ ty payload (room sheet) l in omega arith
 

@@ -17,6 +17,7 @@ use Rattle.schema.specs.Table.{Shape, struct}
 use Rattle.schema.specs.File.{tableOf}
 use Rattle.schema.specs.Check.{checked, IsGood}
 use Rattle.schema.specs.Extend.{extension}
+use Rattle.schema.proofs.Faults.{refused-iff as schema-refused}
 use Rattle.schema.proofs.Goods.{good-table}
 use Rattle.value.specs.declared.Row.{Row}
 use Rattle.value.specs.Value.{Value, size}
@@ -94,7 +95,7 @@ module _ (s : List ℕ) (ty : ℕ) (sheet B : List ℕ) (place n : ℕ) (out : L
 
   refuses : (k q : ℕ) (out′ : List ℕ) → (out′ ≡ out) × ForwardReason s ty (rowsOf sheet) B place n (length out) k q
       → forwardOutcome s ty sheet B place n out ≡ writer.outcome (Refused k q) out′
-  refuses k q out′ (same, inl bad) = rw same (table-first k q bad)
+  refuses k q out′ (same, inl bad) = rw same (table-first k q (schema-refused s k q .1 bad))
   refuses k q out′ (same, inr (good, r)) =
       rw same (forward-by good ∙ ap (writer.outcomeOf out) (forward.refused-iff (tableOf s) ty (rowsOf sheet) B place n (length out) (good-table s good) k q .1 r))
 
@@ -106,7 +107,7 @@ module _ (s : List ℕ) (ty : ℕ) (sheet B : List ℕ) (place n : ℕ) (out : L
   refused-iff k q out′ = (
     λ e.
         let (same, why) = refused-apart (checked s) (forward (tableOf s) ty (rowsOf sheet) B place n (length out)) out k q out′ e in
-        (same, ⊎-elim (λ bad. inl bad) (λ (good, r). inr (good, forward.refused-iff (tableOf s) ty (rowsOf sheet) B place n (length out) (good-table s good) k q .0 r)) why),
+        (same, ⊎-elim (λ bad. inl (schema-refused s k q .0 bad)) (λ (good, r). inr (good, forward.refused-iff (tableOf s) ty (rowsOf sheet) B place n (length out) (good-table s good) k q .0 r)) why),
     refuses k q out′,
   )
 

@@ -13,6 +13,8 @@ use Rattle.schema.specs.declared.Checked.the-variants.{Good, Refused as Faulty}
 use Rattle.schema.specs.Table.{struct}
 use Rattle.schema.specs.File.{tableOf}
 use Rattle.schema.specs.Check.{checked, IsGood}
+use Rattle.schema.specs.Faults.{TableFault}
+use Rattle.schema.proofs.Faults.{refused-iff as schema-refused}
 use Rattle.schema.proofs.Goods.{good-table}
 use Rattle.schema.proofs.Listed as file
 use Rattle.value.specs.Read.{refusal, read}
@@ -38,11 +40,11 @@ module _ (s : List ℕ) (ty : ℕ) (payload sheet : List ℕ) where
       → (after ≡ sheet) × ReadReason s ty payload (room sheet) n q
   unfolding payloadOutcome
   refused-by Good good n q after e = let (r, same) = refused-from sheet (read (tableOf s) ty payload (room sheet)) n q after e in (same, inr (good, iff good n q .0 r))
-  refused-by (Faulty m p) bad n q after e = (cc, inl (bad ∙ cc))
+  refused-by (Faulty m p) bad n q after e = (cc, inl (schema-refused s n q .0 (bad ∙ cc)))
 
   refuses : (n q : ℕ) (after : List ℕ) → (after ≡ sheet) × ReadReason s ty payload (room sheet) n q → readOutcome s ty payload sheet ≡ outcome (Refused n q) after
   unfolding readOutcome
-  refuses n q after (same, inl bad) = rw (same, bad)
+  refuses n q after (same, inl bad) = rw (same, schema-refused s n q .1 bad)
   refuses n q after (same, inr (good, r)) = rw same (read-by s ty payload sheet good ∙ ap (outcomeOf sheet) (iff good n q .1 r))
 
   -- The reader refuses with a number at a place exactly for its reason: the schema file's own refusal, or what stands at that place of the payload and
@@ -66,7 +68,7 @@ after-free s good ty fs u x rest n st f w more sheet longer short =
 module _ (s : List ℕ) (ty : ℕ) (sheet B out : List ℕ) where
   unwrites : (n q : ℕ) (out′ : List ℕ) → (out′ ≡ out) × WriteReason s ty (rowsOf sheet) B (length out) n q → writer.fileOutcome s ty sheet B out ≡ writer.outcome (Unwritten n q) out′
   unfolding writer.fileOutcome
-  unwrites n q out′ (same, inl bad) = rw (same, bad)
+  unwrites n q out′ (same, inl bad) = rw (same, schema-refused s n q .1 bad)
   unwrites n q out′ (same, inr (good, r)) =
       rw same (write-by s ty sheet B out good ∙ ap (writer.outcomeOf out) (value.write-refused-iff (tableOf s) (good-table s good) ty (rowsOf sheet) B (length out) n q .1 r))
 
@@ -77,14 +79,17 @@ module _ (s : List ℕ) (ty : ℕ) (sheet B out : List ℕ) where
   write-refused-iff n q out′ = (
     λ e.
         let (same, why) = unwritten-from s ty sheet B out n q out′ e in
-        (same, ⊎-elim (λ bad. inl bad) (λ (good, r). inr (good, value.write-refused-iff (tableOf s) (good-table s good) ty (rowsOf sheet) B (length out) n q .0 r)) why),
+        (same, ⊎-elim (λ bad. inl (schema-refused s n q .0 bad)) (λ (good, r). inr (good, value.write-refused-iff (tableOf s) (good-table s good) ty (rowsOf sheet) B (length out) n q .0 r)) why),
     unwrites n q out′,
   )
 
 -- ---- no refusal has the number 0
 
-pub file-above : (s : List ℕ) (n q : ℕ) → checked s ≡ Faulty n q → 0 < n
-file-above s n q e = omega (arith, file.listed-bounds (tableOf s) (file.listed s n q e) .0)
+pub file-numbers : (s : List ℕ) (n q : ℕ) → TableFault s n q → (40 ≤ n) × (n ≤ 44)
+file-numbers s n q w = let b = file.listed-bounds (tableOf s) (file.listed s n q (schema-refused s n q .1 w)) in (b .0, b .1)
+
+pub file-above : (s : List ℕ) (n q : ℕ) → TableFault s n q → 0 < n
+file-above s n q w = omega (arith, file-numbers s n q w .0)
 
 pub read-refused-above : (s : List ℕ) (ty : ℕ) (payload sheet : List ℕ) (n q : ℕ) (after : List ℕ) → readOutcome s ty payload sheet ≡ outcome (Refused n q) after → 0 < n
 read-refused-above s ty payload sheet n q after e =

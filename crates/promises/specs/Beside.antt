@@ -4,9 +4,9 @@ use mathlib.Core.Path.{_≡_}
 use mathlib.Core.List.{List}
 use Prim.Native.Nat.{ℕ, _*_, _≤_, _<_}
 use lib.ListN.{length, drop}
-use Rattle.schema.specs.declared.Checked.the-variants.{Refused as Faulty}
 use Rattle.schema.specs.File.{tableOf}
-use Rattle.schema.specs.Check.{checked, IsGood}
+use Rattle.schema.specs.Check.{IsGood}
+use Rattle.schema.specs.Faults.{TableFault}
 use Rattle.schema.specs.Extend.{Widens}
 use Rattle.value.specs.Value.{Value, size}
 use Rattle.value.specs.Comparisons.{comparisons}
@@ -43,8 +43,8 @@ module _ (ours theirs : List ℕ) (ty : ℕ) (payload : List ℕ) where
   -- The list of the refusals, with so many rows lent: 40 to 44 for ours, then for theirs; 47 where theirs does not extend ours, bitmaps aside; then those
   -- of the payload.
   pub data RefusedBeside (rows : ℕ) : (number place : ℕ) → Type 0 where
-    by-ours : {n q : ℕ} → checked ours ≡ Faulty n q → RefusedBeside rows n q
-    by-theirs : {n q : ℕ} → IsGood ours → checked theirs ≡ Faulty n q → RefusedBeside rows n q
+    by-ours : {n q : ℕ} → TableFault ours n q → RefusedBeside rows n q
+    by-theirs : {n q : ℕ} → IsGood ours → TableFault theirs n q → RefusedBeside rows n q
     no-extension : IsGood ours → IsGood theirs → (Widens (tableOf ours) (tableOf theirs) → ⊥) → RefusedBeside rows 47 0
     by-payload : {n q : ℕ} → IsGood ours → IsGood theirs → Widens (tableOf ours) (tableOf theirs)
         → ListedBeside (shapes ours) (shapes theirs) ty payload rows n q → RefusedBeside rows n q

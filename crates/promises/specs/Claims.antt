@@ -9,10 +9,10 @@ use mathlib.Core.Bool.{false}
 use Prim.Native.Nat.{ℕ, _*_, _≤_, _<_}
 use lib.ListN.{length, take, drop}
 use Rattle.schema.specs.declared.Field.{Field}
-use Rattle.schema.specs.declared.Checked.the-variants.{Refused as Faulty}
 use Rattle.schema.specs.Table.{Shape, shape}
 use Rattle.schema.specs.File.{tableOf}
-use Rattle.schema.specs.Check.{checked, IsGood}
+use Rattle.schema.specs.Check.{IsGood}
+use Rattle.schema.specs.Faults.{TableFault}
 use Rattle.value.specs.declared.Row.{Row}
 use Rattle.value.specs.Value.{Tree, Value, value, size}
 use Rattle.value.specs.Comparisons.{comparisons}
@@ -56,17 +56,17 @@ AnswersAs schema ty fs payload sheet v place n =
 
 -- ---- refusals
 
--- The schema file is refused with the number at the place; or it is good, and the payload has this reason, with room for so many rows.
+-- The schema file has this fault; or it is good, and the payload has this reason, with room for so many rows.
 abbrev pub ReadReason : (schema : List ℕ) (ty : ℕ) (payload : List ℕ) (space number place : ℕ) → Type 0
-ReadReason schema ty payload space n q = (checked schema ≡ Faulty n q) ⊎ (IsGood schema × Reason (shapes schema) ty payload space n q)
+ReadReason schema ty payload space n q = TableFault schema n q ⊎ (IsGood schema × Reason (shapes schema) ty payload space n q)
 
 -- The same for the rows of a sheet over bytes, with room for so many bytes.
 abbrev pub WriteReason : (schema : List ℕ) (ty : ℕ) → List Row → (bytes : List ℕ) (space number place : ℕ) → Type 0
-WriteReason schema ty rs bytes space n q = (checked schema ≡ Faulty n q) ⊎ (IsGood schema × SheetReason (shapes schema) ty rs bytes space n q)
+WriteReason schema ty rs bytes space n q = TableFault schema n q ⊎ (IsGood schema × SheetReason (shapes schema) ty rs bytes space n q)
 
 -- The same for such rows with a tail of m bytes at a place of those bytes.
 abbrev pub ForwardReason : (schema : List ℕ) (ty : ℕ) → List Row → (bytes : List ℕ) (place m space number row : ℕ) → Type 0
-ForwardReason schema ty rs bytes place m space n q = (checked schema ≡ Faulty n q) ⊎ (IsGood schema × ForwardListed (shapes schema) ty rs bytes place m space n q)
+ForwardReason schema ty rs bytes place m space n q = TableFault schema n q ⊎ (IsGood schema × ForwardListed (shapes schema) ty rs bytes place m space n q)
 
 -- ---- an old file and a new one that extends it: a root of type ty has the fields fs in the old one and fs ++ gs in the new one
 

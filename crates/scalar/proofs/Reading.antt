@@ -14,12 +14,12 @@ use Rattle.wire.proofs.Utf8s.{utf8-is}
 use Rattle.schema.specs.declared.Field.{Field}
 use Rattle.schema.specs.Table.{Table, Shape, unknown, scalar, text, array, map, struct, shape}
 use Rattle.value.specs.declared.Row.{Row}
-use Rattle.value.specs.Answer.{refused, cursorAt}
+use Rattle.value.specs.Answer.{Cursor, refused, seen, cursorAt}
 use Rattle.value.specs.Value.{Tree, tip, branch, Forest, stop, plus}
 use Rattle.value.specs.Read.{Item, plan, onStruct, rootStruct, rootOf}
 use Rattle.value.specs.Write.{span}
 use Rattle.value.specs.Fits.{LeafFits, AllFit, Fits, RootFits}
-use Rattle.value.proofs.Answers.{Seen, nothing, seen-map}
+use Rattle.value.proofs.Answers.{Seen, nothing, seen-map, seen-end}
 use Rattle.value.proofs.Sound.{asked}
 use Rattle.value.proofs.Placed.{root-placed}
 use Rattle.scalar.specs.declared.Answer.{Answer as Told}
@@ -109,7 +109,7 @@ module _ (S : ℕ → Shape) (B : List ℕ) where
       go (map _ _) = nothing
 
 -- Of a payload that is accepted by the table, each leaf's row over the payload is handed out, and shows the leaf's content.
-pub leaves-shown : (T : Table) (t : ℕ) (payload : List ℕ)
-    → Seen (λ tree c. EachLeaf (λ r x. Shows payload (shape T (r .ty)) r x (scalarOf T r payload)) tree) (rootOf (shape T) t payload)
+pub leaves-shown : (T : Table) (t : ℕ) (payload : List ℕ) (tree : Tree) (c : Cursor) → rootOf (shape T) t payload ≡ seen tree c
+    → EachLeaf (λ r x. Shows payload (shape T (r .ty)) r x (scalarOf T r payload)) tree
 unfolding scalarOf
-leaves-shown T t payload = read-shown (shape T) payload t
+leaves-shown T t payload tree c e = seen-end (read-shown (shape T) payload t) e

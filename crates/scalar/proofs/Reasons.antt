@@ -18,6 +18,7 @@ use Rattle.schema.specs.Table.{Shape, unknown, scalar, text, array, map, struct
 use Rattle.schema.specs.File.{tableOf}
 use Rattle.schema.specs.Check.{checked, IsGood}
 use Rattle.schema.proofs.Bools.{is-false}
+use Rattle.schema.proofs.Faults.{refused-iff as schema-refused}
 use Rattle.value.specs.declared.Row.{Row}
 use Rattle.value.specs.Write.{span, inside}
 use Rattle.value.specs.SheetReasons.{RowFault, scalar-unfit, scalar-outside, no-bool, text-unfit, text-outside, no-string, many-pairs, bits, struct-unfit}
@@ -133,11 +134,11 @@ module _ (schema : List ℕ) (r : Row) (bytes : List ℕ) where
     where
       go : (v : Checked) → checked schema ≡ v → afterTable v (byShape (shape (tableOf schema) (r .ty)) r bytes) ≡ Refused n q → Reason schema bytes r n q
       go check.Good good e = shape-reason (shape (tableOf schema) (r .ty)) n q good refl e
-      go (check.Refused m p) bad e = file {n = n} {q = q} (bad ∙ cc)
+      go (check.Refused m p) bad e = file {n = n} {q = q} (schema-refused schema n q .0 (bad ∙ cc))
 
   refuse : (n q : ℕ) → Reason schema bytes r n q → scalarBy schema r bytes ≡ Refused n q
   unfolding scalarBy scalarOf
-  refuse n q (file bad) = rw bad
+  refuse n q (file bad) = rw (schema-refused schema n q .1 bad)
   refuse n q (no-leaf good h) = rw good (unleaf-refused bytes (shape (tableOf schema) (r .ty)) r h)
   refuse n q (faulty good h f) = rw good (fault-refused bytes (shape (tableOf schema) (r .ty)) (r .ty) (r .place) (r .length) (r .count) n h f)
 

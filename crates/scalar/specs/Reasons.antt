@@ -1,14 +1,13 @@
 -- Why a row that is handed out is refused, with the places.
 -- Assumes nothing.
-use mathlib.Core.Path.{_≡_}
 use mathlib.Core.List.{List}
 use mathlib.Core.Bool.{cond}
 use Prim.Native.Nat.{ℕ}
 use lib.Dec.{leb}
-use Rattle.schema.specs.declared.Checked.the-variants as check
 use Rattle.schema.specs.Table.{Shape, unknown, scalar, text, array, map, struct, shape}
 use Rattle.schema.specs.File.{tableOf}
-use Rattle.schema.specs.Check.{checked, IsGood}
+use Rattle.schema.specs.Check.{IsGood}
+use Rattle.schema.specs.Faults.{TableFault}
 use Rattle.value.specs.declared.Row.{Row}
 use Rattle.value.specs.SheetReasons.{RowFault}
 
@@ -25,9 +24,9 @@ Leaf (struct _) = ⊥
 abbrev pub faultPlace : (number place : ℕ) → ℕ
 faultPlace n p = cond (leb 50 n) 0 p
 
--- The row over the bytes: the schema file's own refusal; 50 for a type that is no leaf; or what is wrong with a leaf's row, as for the writer.
+-- The row over the bytes: the schema file's fault; 50 for a type that is no leaf; or what is wrong with a leaf's row, as for the writer.
 pub data Reason (schema bytes : List ℕ) (r : Row) : (number place : ℕ) → Type 0 where
-  file : {n q : ℕ} → checked schema ≡ check.Refused n q → Reason schema bytes r n q
+  file : {n q : ℕ} → TableFault schema n q → Reason schema bytes r n q
   no-leaf : IsGood schema → (Leaf (shape (tableOf schema) (r .ty)) → ⊥) → Reason schema bytes r 50 0
   faulty : {n : ℕ} → IsGood schema → Leaf (shape (tableOf schema) (r .ty)) → RowFault bytes (shape (tableOf schema) (r .ty)) (r .place) (r .length) (r .count) n
       → Reason schema bytes r n (faultPlace n (r .place))

@@ -16,6 +16,7 @@ use Rattle.schema.specs.declared.Checked.the-variants.{Refused as Faulty}
 use Rattle.schema.specs.Table.{rowAt}
 use Rattle.schema.specs.File.{tableOf}
 use Rattle.schema.specs.Check.{checked, IsGood}
+use Rattle.schema.proofs.Faults.{refused-iff as schema-refused}
 use Rattle.schema.proofs.Goods.{good-table, kind-within}
 use Rattle.frame.specs.declared.Header.{Header}
 use Rattle.frame.specs.Frame.{knownKind}
@@ -229,7 +230,7 @@ module _ (h : Header) (s : List ℕ) (ty : ℕ) (cells B out : List ℕ) where
     too-small _ p (frame.full low high small l) e = (bounds-known (h .kind) low high, l)
 
     because-refused : {n q : ℕ} → Because n q → frameOutcome h s ty cells B out ≡ outcome (Refused n q) out
-    because-refused (table n q e) = faulty n q e
+    because-refused (table n q e) = faulty n q (schema-refused s n q .1 e)
     because-refused (kind good w) = other-kind good w
     because-refused (value low high some n q e) =
         ⊎-elim (faulty n q)
@@ -245,7 +246,7 @@ module _ (h : Header) (s : List ℕ) (ty : ℕ) (cells B out : List ℕ) where
     unfolding frameOutcome
     refused-because {n} {q} {out′} e =
         let (same, why) = refused-apart (checked s) (valueFrame h s ty cells B (length out)) out n q out′ e in
-        (⊎-elim (table n q) (λ (good, w). because good w) why, same)
+        (⊎-elim (λ bad. table n q (schema-refused s n q .0 bad)) (λ (good, w). because good w) why, same)
 
     -- It refuses exactly for these reasons, which stand in no order, and leaves the output as it was.
     pub refused-iff-unwritten : (n q : ℕ) (out′ : List ℕ)

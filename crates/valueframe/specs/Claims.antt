@@ -4,8 +4,8 @@ use mathlib.Core.Path.{_≡_}
 use mathlib.Core.List.{List, []}
 use Prim.Native.Nat.{ℕ, _≤_, _<_}
 use lib.ListN.{length, take}
-use Rattle.schema.specs.declared.Checked.the-variants.{Refused as Faulty}
-use Rattle.schema.specs.Check.{checked, IsGood}
+use Rattle.schema.specs.Check.{IsGood}
+use Rattle.schema.specs.Faults.{TableFault}
 use Rattle.frame.specs.declared.Header.{Header}
 use Rattle.frame.specs.declared.FrameWritten.the-variants.{Written as Framed, Refused as Unframed}
 use Rattle.frame.specs.Written.{writtenOf, outputOf}
@@ -27,7 +27,7 @@ pub record InTurn (h : Header) (schema : List ℕ) (ty : ℕ) (cells B mid out :
 -- Why a value is not written as a frame, with number and place, without an order of tests: the file's fault; a kind that there is not; what the entry
 -- `write` refuses; a row that is left over without a value; an output that is too small for the whole frame.
 pub data Unwritten (h : Header) (schema : List ℕ) (ty : ℕ) (cells B mid : List ℕ) (room : ℕ) : (number place : ℕ) → Type 0 where
-  table : (n q : ℕ) → checked schema ≡ Faulty n q → Unwritten h schema ty cells B mid room n q
+  table : (n q : ℕ) → TableFault schema n q → Unwritten h schema ty cells B mid room n q
   kind : IsGood schema → ((1 ≤ h .kind) × (h .kind ≤ 8) → ⊥) → Unwritten h schema ty cells B mid room 4 0
   value : 1 ≤ h .kind → h .kind ≤ 8 → (ty ≡ 4294967295 → ⊥) → (n q : ℕ) → fileOutcome schema ty cells B mid ≡ outcome (Refused n q) mid
       → Unwritten h schema ty cells B mid room n q
