@@ -1,3 +1,4 @@
 pub mod Entries
 pub mod InTurn
 pub mod Examples
+pub mod Kept

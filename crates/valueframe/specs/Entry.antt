@@ -28,6 +28,10 @@ abbrev pub framed : Header → Writing → Writing
 framed h (refusal n q) = refusal n q
 framed h (written p) = written (frameBytes h p)
 
+-- The frame of a payload in an output, where that has room for it.
+abbrev pub frameIn : Header → (out : List ℕ) → Writing → Outcome
+frameIn h out w = outcomeOf out (within (length out) (framed h w))
+
 -- The kind, the payload, and then the room for the whole frame.
 unfoldable pub valueFrame : Header → (schema : List ℕ) (ty : ℕ) (cells B : List ℕ) (room : ℕ) → Writing
 valueFrame h schema ty cells B room = cond (knownKind (h .kind)) (within room (framed h (payloadFor schema ty cells B))) (refusal 4 0)

@@ -1,3 +1,4 @@
 pub mod Entry
 pub mod Claims
 pub mod Cases
+pub mod Part

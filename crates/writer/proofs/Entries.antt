@@ -98,8 +98,8 @@ payload-struct s good ty cells B r is e = elim (ℕ-discrete (r .kind) 16) [
     never e = differ cc
 
 -- what is refused stands nowhere
-pub front-refused : (memory : List ℕ) {w : Writing} {n q : ℕ} → w ≡ refusal n q → Fronts w memory
-front-refused memory e bs is room = let f = sym e ∙ is in differ cc
+pub front-refused : (memory after : List ℕ) {w : Writing} {n q : ℕ} → w ≡ refusal n q → Fronts w memory after
+front-refused memory after e bs is room = let f = sym e ∙ is in differ cc
 
 -- ---- the two walks
 
@@ -154,16 +154,15 @@ module _ (s : List ℕ) (ty : ℕ) (cells B : List ℕ) (fs : List Field) (is : 
           ap lengthOf (shown .1) ∙ rw a (ap Written n)
 
     -- what it has put stands at the output's front, where it fits there
-    pub payload-front : length o′ ≡ length o → Fronts (payloadBy s ty cells B) o′
-    payload-front long = go r (walked .same)
+    pub payload-front : Fronts (payloadBy s ty cells B) o o′
+    payload-front = go r (walked .same)
       where
-        go : (r : Walk) → endOf cells r o′ ≡ emit (shape (tableOf s)) ty (showRoot (shape (tableOf s)) B ty fs (rowsAt cells 0)) 0 o → Fronts (payloadBy s ty cells B) o′
+        go : (r : Walk) → endOf cells r o′ ≡ emit (shape (tableOf s)) ty (showRoot (shape (tableOf s)) B ty fs (rowsAt cells 0)) 0 o → Fronts (payloadBy s ty cells B) o o′
         go (Past row pos) e bs is room =
             let (tree, read, _, puts) = emit-done (shape (tableOf s)) ty _ (rowsAt cells row) pos o o′ e in
             let own : encode (shape (tableOf s)) (value tree) ty ≡ bs = fitted-same 16384 _ bs (sym (payload-by (seen tree (rowsAt cells row)) read) ∙ is) .0 in
-            let whole : o′ ≡ bs ++ drop (length bs) o = puts ∙ ap (put o 0) own ∙ put-whole o bs (omega arith) in
-            ap (take (length bs)) whole ∙ take-at bs (drop (length bs) o) (length bs) refl
-        go (Stopped k q) e bs is room = front-refused o′ (payload-by (refused k q) (emit-stopped (shape (tableOf s)) ty _ k q o e)) bs is room
+            puts ∙ ap (put o 0) own ∙ put-whole o bs (omega arith)
+        go (Stopped k q) e bs is room = front-refused o o′ (payload-by (refused k q) (emit-stopped (shape (tableOf s)) ty _ k q o e)) bs is room
 
   -- The second writes what was measured, into an output of its length.
   module _ {n : ℕ} (measured : lengthOf (payloadBy s ty cells B) ≡ Written n) where
@@ -221,11 +220,12 @@ module _ (s : List ℕ) (ty : ℕ) (cells B out : List ℕ) where
       rw (← size) (rw a at (entry-by is))
 
   -- it is copied from memory that has it at its front
-  pub entry-copied : (n : ℕ) → lengthOf (payloadBy s ty cells B) ≡ Written n → n ≤ length out → (memory : List ℕ) → n ≤ length memory → Fronts (payloadBy s ty cells B) memory
-      → {r : ℕ} {out′ : List ℕ} → PutAt out 0 (span memory 0 n) r out′ → outcome (Written n) out′ ≡ sheetOutcome s ty cells B out
-  entry-copied n e l memory room front {r} {out′} p =
+  pub entry-copied : (n : ℕ) → lengthOf (payloadBy s ty cells B) ≡ Written n → n ≤ length out → (before memory : List ℕ) → n ≤ length memory → length memory ≡ length before
+      → Fronts (payloadBy s ty cells B) before memory → {r : ℕ} {out′ : List ℕ} → PutAt out 0 (span memory 0 n) r out′
+      → outcome (Written n) out′ ≡ sheetOutcome s ty cells B out
+  entry-copied n e l before memory room same front {r} {out′} p =
       let (bs, is, size) = length-written (payloadBy s ty cells B) e in
-      let held : span memory 0 n ≡ bs = ap (λ (k : ℕ). take k memory) (sym size) ∙ front bs is (omega arith) in
+      let held : span memory 0 n ≡ bs = ap (take n) (front bs is (omega arith)) ∙ take-at bs (drop (length bs) before) n size in
       let whole : out′ ≡ bs ++ drop n out = p .holds ∙ ap (put out 0) held ∙ put-whole out bs (omega arith) ∙ ap (λ (k : ℕ). bs ++ drop k out) size in
       ap (outcome (Written n)) whole ∙ entry-written n e l bs is
 

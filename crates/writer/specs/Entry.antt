@@ -5,7 +5,7 @@ use mathlib.Core.List.{List, _++_}
 use mathlib.Core.Bool.{cond}
 use Prim.Native.Nat.{ℕ, _≤_}
 use lib.Dec.{leb}
-use lib.ListN.{length, take, drop}
+use lib.ListN.{length, drop}
 use Rattle.schema.specs.declared.Checked.{Checked}
 use Rattle.schema.specs.declared.Checked.the-variants.{Good, Refused as TableRefused}
 use Rattle.schema.specs.File.{tableOf}
@@ -33,9 +33,9 @@ abbrev pub lengthOf : value.Writing → Writing
 lengthOf (value.refusal n q) = Refused n q
 lengthOf (value.written bs) = Written (length bs)
 
--- It stands at the front of memory, where it fits there.
-abbrev pub Fronts : value.Writing → (memory : List ℕ) → Type 0
-Fronts w memory = (bs : List ℕ) → w ≡ value.written bs → length bs ≤ length memory → take (length bs) memory ≡ bs
+-- It stands at the front of memory, where it fits there, and past it nothing changes.
+abbrev pub Fronts : value.Writing → (memory after : List ℕ) → Type 0
+Fronts w memory after = (bs : List ℕ) → w ≡ value.written bs → length bs ≤ length memory → after ≡ bs ++ drop (length bs) memory
 
 -- It, where it fits into the room for the output.
 abbrev pub within : (room : ℕ) → value.Writing → value.Writing

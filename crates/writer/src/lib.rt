@@ -24,10 +24,10 @@ pub enum Writing {
 
 // The length of the payload that the sheet's rows over the source make as a struct of type ty by a good table; or the refusal, which leaves out the
 // output's room. One walk judges, measures and writes: where the payload fits into the scratch memory, it stands at its front.
-fn make(s: &[u8], ty: u32, sheet: &[u32], source: &[u8], scratch: &mut [u8]) -> Writing
+pub fn make(s: &[u8], ty: u32, sheet: &[u32], source: &[u8], scratch: &mut [u8]) -> Writing
     requires { ⌜ IsGood (now s) × (length (now scratch) ≤ 16384) ⌝ }
     ensures { λ r. ⌜ r ≡ lengthOf (payloadBy (now (s .entry)) ty (now (sheet .entry)) (now (source .entry))) ⌝ }
-    ensures { λ _. ⌜ Fronts (payloadBy (now (s .entry)) ty (now (sheet .entry)) (now (source .entry))) (now (scratch .exit)) ⌝ }
+    ensures { λ _. ⌜ Fronts (payloadBy (now (s .entry)) ty (now (sheet .entry)) (now (source .entry))) (now (scratch .entry)) (now (scratch .exit)) ⌝ }
 {
     let t = type_row(s, ty as usize);
     if t.kind != 16 {
@@ -57,15 +57,6 @@ fn make(s: &[u8], ty: u32, sheet: &[u32], source: &[u8], scratch: &mut [u8]) -> 
             Writing::Written { length: pos }
         }
     }
-}
-
-// The same with no memory to write into.
-pub fn measure(s: &[u8], ty: u32, sheet: &[u32], source: &[u8]) -> Writing
-    requires { ⌜ IsGood (now s) ⌝ }
-    ensures { λ r. ⌜ r ≡ lengthOf (payloadBy (now (s .entry)) ty (now (sheet .entry)) (now (source .entry))) ⌝ }
-{
-    let mut none = [0u8; 1];
-    make(s, ty, sheet, source, &mut none[..0])
 }
 
 // Writes a payload that was measured into an output of its length.

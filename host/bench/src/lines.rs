@@ -339,10 +339,14 @@ pub fn salvage(record: &Record) -> (Times, usize, usize) {
 }
 
 /// One write for a whole frame, beside the library's value writer and frame
-/// writer in turn.
-pub fn value_frame(sample: &Sample) -> [f64; 2] {
+/// writer in turn. `said`: the root's row has the payload's length, as a sheet
+/// that was read has; otherwise 0, since no writer goes by it.
+pub fn value_frame(sample: &Sample, said: bool) -> [f64; 2] {
     let (schema, payload) = (&sample.schema[..], &sample.payload[..]);
-    let (ty, sheet) = (sample.type_number, sheet_of(sample));
+    let (ty, mut sheet) = (sample.type_number, sheet_of(sample));
+    if !said {
+        sheet[2] = 0;
+    }
     let expected = samples::frame(1, 9, payload);
     let (mut one, mut two) = (vec![0; expected.len()], vec![0; expected.len()]);
     let mut between = vec![0; MAX_PAYLOAD];

@@ -179,12 +179,17 @@ impl Lines {
     fn in_turn(&self) {
         let table = Table::new(WRITES);
         for sample in &samples::payloads() {
-            if IN_TURN.contains(&sample.name) && self.wanted(&format!("in turn, {}", sample.name)) {
-                let [once, turns] = lines::value_frame(sample);
-                let ratio = once / turns;
-                let (once, turns) = (show(once), show(turns));
-                let line = format!("| {} | {once} | {turns} | {ratio:.2} |", sample.name);
-                table.print(&line);
+            if !IN_TURN.contains(&sample.name) {
+                continue;
+            }
+            for (said, more) in [(true, ""), (false, ", no length in the root's row")] {
+                let input = format!("{}{more}", sample.name);
+                if self.wanted(&format!("in turn, {input}")) {
+                    let [once, turns] = lines::value_frame(sample, said);
+                    let ratio = once / turns;
+                    let (once, turns) = (show(once), show(turns));
+                    table.print(&format!("| {input} | {once} | {turns} | {ratio:.2} |"));
+                }
             }
         }
     }

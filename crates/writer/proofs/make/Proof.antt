@@ -23,7 +23,7 @@ make-spec =
     let pre = c .before .before .before .before .before .before .before .pre in
     let args = c .before .before .before .before .before .before .before .args in
     let none = payload-other (args .s .now) (pre .0) (args .ty) (args .sheet .now) (args .source .now) _ (c .before .before .type-row .ensures) (c .if1 .taken) in
-    (sym (ap lengthOf none), front-refused _ none))
+    (sym (ap lengthOf none), front-refused _ _ none))
     -- cast-root
     (λ c. search needs)
     -- cast-root-2
@@ -57,7 +57,7 @@ make-spec =
     let is = shape-struct T (args .ty) _ (type-row .ensures) (if1 .left) in
     let fs = fieldsFrom T (type-row .result .a) (type-row .result .b) in
     let long = payload-long (args .s .now) (args .ty) (args .sheet .now) (args .source .now) fs is _ _ _ (root .ensures) _ _ (c .before .before .pos .given .1) (c .if2 .taken) in
-    (sym (ap lengthOf long), front-refused _ long))
+    (sym (ap lengthOf long), front-refused _ _ long))
     -- same-length-2
     (λ c. search needs)
     -- returns-3
@@ -71,7 +71,7 @@ make-spec =
     let is = shape-struct T (args .ty) _ (type-row .ensures) (if1 .left) in
     let fs = fieldsFrom T (type-row .result .a) (type-row .result .b) in
     let none = payload-refused (args .s .now) (args .ty) (args .sheet .now) (args .source .now) fs is _ _ _ (root .ensures) _ _ (c .before .number .given .1) in
-    (sym (ap lengthOf none), front-refused _ none))
+    (sym (ap lengthOf none), front-refused _ _ none))
     -- same-length-3
     (λ c. search needs)
     -- returns-4
@@ -85,5 +85,5 @@ make-spec =
     let is = shape-struct T (args .ty) _ (type-row .ensures) (if1 .left) in
     let fs = fieldsFrom T (type-row .result .a) (type-row .result .b) in (
       sym (payload-length (args .s .now) (args .ty) (args .sheet .now) (args .source .now) fs is _ _ _ (root .ensures) _ _ (c .before .before .pos .given .1) (c .if2 .left)),
-      payload-front (args .s .now) (args .ty) (args .sheet .now) (args .source .now) fs is _ _ _ (root .ensures) (root .kept .1 .1 .1 .0),
+      payload-front (args .s .now) (args .ty) (args .sheet .now) (args .source .now) fs is _ _ _ (root .ensures),
     )))

@@ -74,4 +74,4 @@ write-through-spec =
     let if2 = c .before .before .before .before .before .if2 in
     let args = farther .before .args in
     let size = sym (make .ensures .0) ∙ length .given .1 in
-    entry-copied (args .s .now) (args .ty) (args .sheet .now) (args .source .now) (args .out .now) _ size (if1 .left) _ (if2 .left) (make .ensures .1) (c .before .before .put-span .ensures)))
+    entry-copied (args .s .now) (args .ty) (args .sheet .now) (args .source .now) (args .out .now) _ size (if1 .left) _ _ (if2 .left) (make .kept .1 .1 .1 .1 .0) (make .ensures .1) (c .before .before .put-span .ensures)))
