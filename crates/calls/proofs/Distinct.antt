@@ -11,6 +11,7 @@ use lib.Dec.{eqb}
 use borrow.Author.Tests.{eqb-true}
 use Rattle.calls.specs.Slots.{holds, distinct}
 use Rattle.schema.proofs.Bools.{clash}
+use Rattle.schema.proofs.Flags.{set-kept}
 
 abbrev bits : List Bool → ℕ → Bool
 bits seen x = getD seen (x % 1024) false
@@ -18,14 +19,6 @@ bits seen x = getD seen (x % 1024) false
 abbrev Seen : List Bool → List ℕ → Type 0
 Seen seen [] = Unit {0}
 Seen seen (x ∷ xs) = (bits seen x ≡ true) × Seen seen xs
-
--- a bit that is set stays set
-set-kept : (seen : List Bool) (i j : ℕ) → getD seen j false ≡ true → getD (set seen i true) j false ≡ true
-set-kept [] i j h = h
-set-kept (b ∷ bs) zero zero h = refl
-set-kept (b ∷ bs) zero (suc j) h = h
-set-kept (b ∷ bs) (suc i) zero h = h
-set-kept (b ∷ bs) (suc i) (suc j) h = set-kept bs i j h
 
 seen-kept : (seen : List Bool) (i : ℕ) (xs : List ℕ) → Seen seen xs → Seen (set seen i true) xs
 seen-kept seen i [] s = tt

@@ -1,7 +1,7 @@
 -- What a good file's check has shown.
 -- Assumes nothing.
 use mathlib.Core.Path.{_≡_, refl, sym, ap, _∙_}
-use mathlib.Core.Bool.{Bool, true, false, cond, _&&_, _||_}
+use mathlib.Core.Bool.{Bool, true, false, not, cond, _&&_, _||_}
 use mathlib.Core.List.{List}
 use Prim.Native.Nat.{ℕ}
 use lib.Dec.{leb, ltb, eqb}
@@ -17,7 +17,7 @@ use Rattle.schema.specs.declared.Checked.{Checked}
 use Rattle.schema.specs.declared.Checked.the-variants.{Good, Refused}
 use Rattle.schema.specs.Table.{Table, rowAt}
 use Rattle.schema.specs.File.{shaped, layoutOf, tableOf, Laid}
-use Rattle.schema.specs.Check.{plainRow, arrayRow, mapRow, structRow, goodRow, field, goodField, methodRow, letter, formed, findAmong, isMissing, goodMethod, small, fault, badRow, badField, badMethod, checked, checkedTable, IsGood}
+use Rattle.schema.specs.Check.{lowest, plainRow, arrayRow, mapRow, structRow, goodRow, field, goodField, methodRow, letter, formed, findAmong, isMissing, goodMethod, small, fault, badRow, badField, badMethod, checked, checkedTable, IsGood}
 use Rattle.schema.proofs.Files.{laid-types, laid-fields, laid-methods}
 
 no-fault : (n i : ℕ) → Refused n i ≡ Good → ⊥
@@ -89,6 +89,14 @@ module _ (T : Table) where
       let found : f ≡ findAmong T i (methodRow T i .«package») (methodRow T i .service) (methodRow T i .method) =
       q ∙ ap (λ (x : Method). findAmong T i (x .«package») (x .service) (x .method)) p in
       λ j. formed T (p j) && isMissing (found j)
+
+-- the lowest method at fault, of n counted from i
+abbrev pub firstBad : Table → ℕ → ℕ → Found
+firstBad T i n = lowest (λ j. not (goodMethod T j)) i n
+
+pub methods-whole : (s : List ℕ) (l : Layout) → Laid s l → firstBad (tableOf s) 0 (l .methods) ≡ badMethod (tableOf s)
+unfolding badMethod
+methods-whole s l h = ap (λ (n : ℕ). firstBad (tableOf s) 0 n) (laid-methods s l h)
 
 -- ---- the verdict, from what was found
 

@@ -11,5 +11,6 @@ pub mod Widths
 pub mod Numbers
 pub mod Shapes
 pub mod Methods
+pub mod Flags
 pub mod Extensions
 pub mod Extending

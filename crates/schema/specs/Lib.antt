@@ -2,6 +2,7 @@
 pub mod Table
 pub mod File
 pub mod Check
+pub mod Flags
 pub mod Listed
 pub mod Good
 pub mod Faults

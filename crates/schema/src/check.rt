@@ -11,9 +11,11 @@ use crate::rows::find_among;
 use crate::rows::method_row;
 use crate::rows::row;
 ghost use mathlib.Core.Path.{_≡_};
+ghost use mathlib.Core.Bool.{not, _||_};
 ghost use Prim.Native.Nat.{_≤_};
 ghost use Rattle.schema.specs.File.{Laid, tableOf};
-ghost use Rattle.schema.specs.Check.{plainRow, arrayRow, mapRow, structRow, goodRow, goodField, letter, formed, isMissing, goodMethod, badRow, badField, badMethod, checkedTable, checked};
+ghost use Rattle.schema.specs.Check.{plainRow, arrayRow, mapRow, structRow, goodRow, goodField, letter, formed, findAmong, isMissing, goodMethod, badRow, badField, badMethod, checkedTable, checked};
+ghost use Rattle.schema.specs.Flags.{flagOf};
 
 fn is_plain(r: TypeRow) -> bool
     ensures { λ x. ⌜ x ≡ plainRow r ⌝ }
@@ -127,7 +129,8 @@ fn bad_field(s: &[u8], l: Layout) -> Found
     Found::Missing
 }
 
-fn bad_method(s: &[u8], l: Layout) -> Found
+// The lowest method at fault, each compared with all before it.
+fn bad_of_few(s: &[u8], l: Layout) -> Found
     requires { ⌜ Laid (now s) l ⌝ }
     ensures { λ x. ⌜ x ≡ badMethod (tableOf (now (s .entry))) ⌝ }
 {
@@ -139,6 +142,58 @@ fn bad_method(s: &[u8], l: Layout) -> Found
         i += 1;
     }
     Found::Missing
+}
+
+// The flag of three identifiers, one of 4,096: those of ordinary tables have different ones.
+fn flag_of(package: u32, service: u32, method: u32) -> usize
+    ensures { λ r. ⌜ r ≡ flagOf «package» service method ⌝ }
+{
+    let p = (package as u64) * 4233791273 % 4294967296;
+    let q = (service as u64) * 3546581957 % 4294967296;
+    let r = (method as u64) * 2745211177 % 4294967296;
+    ((p + q + r) / 1048576 % 4096) as usize
+}
+
+// None of the first i methods has the identifiers of m. They are looked through only if one of them may have.
+fn is_new(s: &[u8], l: Layout, i: usize, m: Method, possible: bool) -> bool
+    requires { ⌜ Laid (now s) l × (i ≤ l .methods) ⌝ }
+    ensures { λ x. ⌜ x ≡ (not possible || isMissing (findAmong (tableOf (now (s .entry))) i (m .«package») (m .service) (m .method))) ⌝ }
+{
+    if possible {
+        is_missing(find_among(s, l, i, m.package, m.service, m.method))
+    } else {
+        true
+    }
+}
+
+// The same, where a method is compared with those before it only if one of them has its flag.
+fn bad_of_many(s: &[u8], l: Layout) -> Found
+    requires { ⌜ Laid (now s) l ⌝ }
+    ensures { λ x. ⌜ x ≡ badMethod (tableOf (now (s .entry))) ⌝ }
+{
+    let mut seen = [false; 4096];
+    let mut i = 0;
+    while i < l.methods {
+        let m = method_row(s, l, i);
+        let flag = flag_of(m.package, m.service, m.method);
+        if !(is_formed(s, l, m) & is_new(s, l, i, m, seen[flag])) {
+            return Found::At(i);
+        }
+        seen[flag] = true;
+        i += 1;
+    }
+    Found::Missing
+}
+
+fn bad_method(s: &[u8], l: Layout) -> Found
+    requires { ⌜ Laid (now s) l ⌝ }
+    ensures { λ x. ⌜ x ≡ badMethod (tableOf (now (s .entry))) ⌝ }
+{
+    if l.methods <= 12 {
+        bad_of_few(s, l)
+    } else {
+        bad_of_many(s, l)
+    }
 }
 
 // The counts, then the rows.

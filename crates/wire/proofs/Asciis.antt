@@ -10,10 +10,11 @@ use native.Mathlib.Omega.{arith}
 use borrow.Author.Tests.{eq-eqb, ne-eqb, le-leb, lt-leb, not-false}
 use lib.Bits.{bitAnd, and-comm, and-shifted, and-block}
 use lib.Dec.{T, eqb, leb, lit<}
-use lib.ListN.{length, getD, take, drop}
-use lib.Seq.{slice, drop-cons}
+use lib.ListN.{length, getD, take, drop, length-drop}
+use lib.Seq.{slice, drop-cons, length-take-le}
 use Rattle.wire.specs.Little.{little, Bytes}
 use Rattle.wire.specs.Utf8.{rows, rowAt, In, matches, isChar, utf8, ascii}
+use Rattle.wire.proofs.Numbers.{bytes-drop, bytes-take}
 use Rattle.wire.proofs.Utf8s.{and-both, both-and, row-mem, run-char, part-pass}
 
 -- ---- the top bits of n bytes, as one number
@@ -39,7 +40,7 @@ zero-sum zero y = rw (zero-add y) (sym (and-true (eqb y 0)))
 zero-sum (suc x) y = rw (ne-eqb (suc x * 2 ^ 8 + y) 0 (λ e. omega arith), ne-eqb (suc x) 0 (λ e. omega arith)) (sym (and-false (eqb y 0)))
 
 -- none of them is set exactly when the bytes are ASCII
-pub tops-ascii : (n : ℕ) (s : List ℕ) → Bytes s → length s ≡ n → eqb (bitAnd (little s) (tops n)) 0 ≡ ascii s
+tops-ascii : (n : ℕ) (s : List ℕ) → Bytes s → length s ≡ n → eqb (bitAnd (little s) (tops n)) 0 ≡ ascii s
 unfolding little ascii
 tops-ascii n [] h e = refl
 tops-ascii zero (b ∷ s) h e = absurd (omega arith)
@@ -50,6 +51,12 @@ tops-ascii (suc n) (b ∷ s) h e =
     ∙ zero-sum (bitAnd (little s) (tops n)) (bitAnd b 128)
     ∙ ap₂ _&&_ (top-bit b (h 0)) (tops-ascii n s (λ i. h (suc i)) (suc-inj e))
 
+-- the same of n bytes at a place, read as the number x
+pub tops-at : (n : ℕ) (s : List ℕ) (at x : ℕ) → Bytes s → at + n ≤ length s → x ≡ little (take n (drop at s)) → eqb (bitAnd x (tops n)) 0 ≡ ascii (take n (drop at s))
+tops-at n s at x h l e =
+    ap (λ (y : ℕ). eqb (bitAnd y (tops n)) 0) e
+    ∙ tops-ascii n (take n (drop at s)) (bytes-take n (drop at s) (bytes-drop s at h)) (length-take-le n (drop at s) (rw length-drop (omega arith)))
+
 -- ---- a part of ASCII in front is passed
 
 ascii-skip : (c s : List ℕ) → T (ascii c) → utf8 (c ++ s) ≡ utf8 s
@@ -59,11 +66,16 @@ ascii-skip (b ∷ c) s t =
     let both = and-both (isChar (rowAt 0) (b ∷ [])) (ascii c) t in
     run-char (rowAt 0) (b ∷ []) (c ++ s) (row-mem 0 (rowAt 0) (lit< tt) refl) (both .0) ∙ ascii-skip c s (both .1)
 
--- a word that the test r found to be ASCII
+-- k bytes that the test r found to be ASCII
+pub ascii-pass : (k : ℕ) (s : List ℕ) (i next to : ℕ) (r : Bool) → next ≡ i + k → next ≤ to → r ≡ ascii (take k (drop i s)) → not r ≡ false
+    → utf8 (slice next to s) ≡ utf8 (slice i to s)
+ascii-pass k s i next to r e l is t =
+    ap (λ (j : ℕ). utf8 (slice j to s)) e ∙ part-pass s i k to (omega arith) (λ u. ascii-skip (take k (drop i s)) u (subst T (sym (not-false r t) ∙ is) tt))
+
+-- a word
 pub word-pass : (s : List ℕ) (i next to : ℕ) (r : Bool) → next ≡ i + 8 → next ≤ to → r ≡ ascii (take 8 (drop i s)) → not r ≡ false
     → utf8 (slice next to s) ≡ utf8 (slice i to s)
-word-pass s i next to r e l is t =
-    ap (λ (j : ℕ). utf8 (slice j to s)) e ∙ part-pass s i 8 to (omega arith) (λ u. ascii-skip (take 8 (drop i s)) u (subst T (sym (not-false r t) ∙ is) tt))
+word-pass = ascii-pass 8
 
 -- and a byte
 pub byte-pass : (s : List ℕ) (i to : ℕ) → i < to → to ≤ length s → In (rowAt 0 .1) (getD s i 0) ≡ true → utf8 (slice (i + 1) to s) ≡ utf8 (slice i to s)

@@ -6,4 +6,5 @@ pub mod Examples
 pub mod Cases
 pub mod Unicodes
 pub mod Asciis
+pub mod Pairs
 pub mod Table

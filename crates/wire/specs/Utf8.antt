@@ -102,3 +102,9 @@ rowAt k = let no = range 0 0 in getD rows k (row 0 no no no no)
 unfoldable pub ascii : List ℕ → Bool
 ascii [] = true
 ascii (b ∷ s) = isChar (rowAt 0) (b ∷ []) && ascii s
+
+-- whether s has only characters of the row UTF8-2
+unfoldable pub pairs : List ℕ → Bool
+pairs [] = true
+pairs (b ∷ []) = false
+pairs (b ∷ c ∷ s) = isChar (rowAt 1) (b ∷ c ∷ []) && pairs s

@@ -6,7 +6,7 @@ ghost use mathlib.Core.List.{[], _∷_, List·Memᴰ};
 ghost use Prim.Native.Nat.{_+_, _<_, _≤_};
 ghost use lib.ListN.{length, take, drop};
 ghost use lib.Seq.{slice};
-ghost use Rattle.wire.specs.Utf8.{rows, rowAt, In, isChar, leadOf, next, utf8, ascii};
+ghost use Rattle.wire.specs.Utf8.{rows, rowAt, In, isChar, leadOf, next, utf8, ascii, pairs};
 
 // A range of bytes: the lowest and the highest.
 pub struct Range(pub u8, pub u8);
@@ -120,6 +120,28 @@ fn ascii_word(s: &[u8], at: usize) -> bool
     number(s, at, 8) & 0x8080_8080_8080_8080 == 0
 }
 
+// The same of four bytes.
+fn ascii_half(s: &[u8], at: usize) -> bool
+    requires { ⌜ at + 4 ≤ length (now s) ⌝ }
+    ensures { λ r. ⌜ r ≡ ascii (take 4 (drop at (now (s .entry)))) ⌝ }
+{
+    number(s, at, 4) & 0x8080_8080 == 0
+}
+
+// Past four characters of one byte; where there are fewer, at the same place.
+fn skip_half(s: &[u8], from: usize, to: usize) -> usize
+    requires { ⌜ (from ≤ to) × (to ≤ length (now s)) ⌝ }
+    ensures { λ r. ⌜ ((from ≤ r) × (r ≤ to)) × (utf8 (slice r to (now (s .entry))) ≡ utf8 (slice from to (now (s .entry)))) ⌝ }
+{
+    if to - from < 4 {
+        return from;
+    }
+    if !ascii_half(s, from) {
+        return from;
+    }
+    from + 4
+}
+
 // From a place on, past words of eight characters of one byte.
 fn skip_words(s: &[u8], from: usize, to: usize) -> usize
     requires { ⌜ (from ≤ to) × (to ≤ length (now s)) ⌝ }
@@ -135,13 +157,13 @@ fn skip_words(s: &[u8], from: usize, to: usize) -> usize
     i
 }
 
-// The same by blocks of four words, for long strings.
+// The same by blocks of eight words, for long strings.
 fn skip_blocks(s: &[u8], from: usize, to: usize) -> usize
     requires { ⌜ (from ≤ to) × (to ≤ length (now s)) ⌝ }
     ensures { λ r. ⌜ ((from ≤ r) × (r ≤ to)) × (utf8 (slice r to (now (s .entry))) ≡ utf8 (slice from to (now (s .entry)))) ⌝ }
 {
     let mut i = from;
-    while 32 <= to - i {
+    while 64 <= to - i {
         if !ascii_word(s, i) {
             return i;
         }
@@ -154,7 +176,45 @@ fn skip_blocks(s: &[u8], from: usize, to: usize) -> usize
         if !ascii_word(s, i + 24) {
             return i;
         }
-        i += 32;
+        if !ascii_word(s, i + 32) {
+            return i;
+        }
+        if !ascii_word(s, i + 40) {
+            return i;
+        }
+        if !ascii_word(s, i + 48) {
+            return i;
+        }
+        if !ascii_word(s, i + 56) {
+            return i;
+        }
+        i += 64;
+    }
+    i
+}
+
+// Whether the eight bytes from at are four characters of the row UTF8-2. The first mask tells leads and tails apart; the sum carries where a lead is not too low.
+fn pair_word(s: &[u8], at: usize) -> bool
+    requires { ⌜ at + 8 ≤ length (now s) ⌝ }
+    ensures { λ r. ⌜ r ≡ pairs (take 8 (drop at (now (s .entry)))) ⌝ }
+{
+    let w = number(s, at, 8);
+    let low = (w & 0x001E_001E_001E_001E) + 0x007E_007E_007E_007E;
+    (w & 0xC0E0_C0E0_C0E0_C0E0 == 0x80C0_80C0_80C0_80C0)
+        & (low & 0x0080_0080_0080_0080 == 0x0080_0080_0080_0080)
+}
+
+// From a place on, past words of four characters of the row UTF8-2.
+fn skip_pair_words(s: &[u8], from: usize, to: usize) -> usize
+    requires { ⌜ (from ≤ to) × (to ≤ length (now s)) ⌝ }
+    ensures { λ r. ⌜ ((from ≤ r) × (r ≤ to)) × (utf8 (slice r to (now (s .entry))) ≡ utf8 (slice from to (now (s .entry)))) ⌝ }
+{
+    let mut i = from;
+    while 8 <= to - i {
+        if !pair_word(s, i) {
+            return i;
+        }
+        i += 8;
     }
     i
 }
@@ -165,7 +225,7 @@ fn skip_pairs(s: &[u8], from: usize, to: usize) -> usize
     ensures { λ r. ⌜ ((from ≤ r) × (r ≤ to)) × (utf8 (slice r to (now (s .entry))) ≡ utf8 (slice from to (now (s .entry)))) ⌝ }
 {
     let row = UTF8_2;
-    let mut i = from;
+    let mut i = skip_pair_words(s, from, to);
     while 2 <= to - i {
         if !(within(row.1, s[i]) & within(row.2, s[i + 1])) {
             return i;
@@ -187,15 +247,30 @@ fn skip_run(s: &[u8], from: usize, to: usize) -> usize
     skip_row(s, from, to, row_of(s[from]))
 }
 
-// Whether the bytes from `from` up to `to` are UTF-8: run by run of characters of one row, those of one byte by blocks.
-pub fn valid(s: &[u8], from: usize, to: usize) -> bool
+// From a place on, past characters of one byte.
+fn skip_ascii(s: &[u8], from: usize, to: usize) -> usize
+    requires { ⌜ (from ≤ to) × (to ≤ length (now s)) ⌝ }
+    ensures { λ r. ⌜ ((from ≤ r) × (r ≤ to)) × (utf8 (slice r to (now (s .entry))) ≡ utf8 (slice from to (now (s .entry)))) ⌝ }
+{
+    let mut i = skip_half(s, skip_words(s, skip_blocks(s, from, to), to), to);
+    while i < to {
+        if !within(UTF8_1.1, s[i]) {
+            return i;
+        }
+        i += 1;
+    }
+    i
+}
+
+// Whether the bytes from `from` up to `to` are UTF-8: run by run of characters of one row, those of one byte by words.
+fn valid_runs(s: &[u8], from: usize, to: usize) -> bool
     requires { ⌜ (from ≤ to) × (to ≤ length (now s)) ⌝ }
     ensures { λ r. ⌜ r ≡ utf8 (slice from to (now (s .entry))) ⌝ }
 {
     let mut i = from;
     while i < to {
         if within(UTF8_1.1, s[i]) {
-            i = skip_words(s, skip_blocks(s, i + 1, to), to);
+            i = skip_words(s, i + 1, to);
         } else {
             let end = skip_run(s, i, to);
             if end == i {
@@ -205,4 +280,12 @@ pub fn valid(s: &[u8], from: usize, to: usize) -> bool
         }
     }
     true
+}
+
+// Whether the bytes from `from` up to `to` are UTF-8. Most are ASCII to the end, which asks for no more than the first loop.
+pub fn valid(s: &[u8], from: usize, to: usize) -> bool
+    requires { ⌜ (from ≤ to) × (to ≤ length (now s)) ⌝ }
+    ensures { λ r. ⌜ r ≡ utf8 (slice from to (now (s .entry))) ⌝ }
+{
+    valid_runs(s, skip_ascii(s, from, to), to)
 }

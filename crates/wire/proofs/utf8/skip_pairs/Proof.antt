@@ -1,6 +1,6 @@
 -- `wire::utf8::skip_pairs` meets its contract: each pair passed is a character of the row UTF8-2.
 -- Assumes nothing.
-use mathlib.Core.Path.{_≡_, refl, _∙_}
+use mathlib.Core.Path.{_≡_, _∙_}
 use Prim.Native.Nat.{_-_, _≤_}
 use native.Mathlib.Omega.{arith}
 use borrow.Author.Needs.{needs}
@@ -22,7 +22,7 @@ loop-again c =
     let one = c .before .before .before .within in
     let two = c .before .within2 in
     let l = c .before .before .before .before .before .before in
-    let a = l .before .before .args in
+    let a = l .before .before .before .args in
     (omega arith, pair-pass (a .s .now) (l .loop .i) (a .to) (one .result) (two .result) (omega arith) (omega arith) (one .ensures) (two .ensures) (c .if1 .left) ∙ l .loop .inv .1)
 
 pub skip-pairs-spec : {M : Type 1} → statement M
@@ -31,7 +31,8 @@ skip-pairs-spec =
     (tie.spec
     Inv-loop
     μ-loop
-    (λ c. (omega arith, refl))
+    (λ c κs. search needs)
+    (λ c. c .skip-pair-words .ensures)
     (λ c. search needs)
     (λ c. search needs)
     (λ c κs. search needs)

@@ -1,0 +1,15 @@
+-- `wire::utf8::ascii_half` meets its contract: the mask holds the top bits of four bytes.
+-- Assumes nothing.
+use native.Mathlib.Omega.{arith}
+use borrow.Author.Needs.{needs}
+use Rattle.wire.proofs.Asciis.{tops-at}
+use Rattle.wire.proofs.utf8.ascii_half.Statement.{statement}
+use Rattle.wire.proofs.utf8.ascii_half.Tie as tie
+
+returns : tie.Need-returns
+returns c =
+    let a = c .before .before .args in
+    tops-at 4 (a .s .now) (a .at) (c .number .result) (λ i. omega (arith, c .before .shared-slice-known .given i)) (omega arith) (c .number .ensures)
+
+pub ascii-half-spec : {M : Type 1} → statement M
+ascii-half-spec = tie.close (tie.spec (λ c κs. search needs) returns)
