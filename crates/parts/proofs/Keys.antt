@@ -17,7 +17,7 @@ use Rattle.value.specs.Read.{same, among}
 use Rattle.value.specs.Write.{span}
 use Rattle.value.proofs.Spans.{length-span}
 use Rattle.value.proofs.Keys.{same-not, lengths-differ}
-use Rattle.parts.specs.Keys.{mixed, words, digest, holds, whereIs, keyAt, keysIn, Kept}
+use Rattle.parts.specs.Keys.{mixed, words, digest, holds, whereIs, keyAt, keysIn, largest, Kept}
 
 -- ---- contents
 
@@ -124,6 +124,21 @@ module _ (B keys x : List ℕ) where
       let d : false ≡ same x (keyAt B keys n) = digests-differ x (keyAt B keys n) (λ q. eqb-false (getD keys n 0) (digest x) (w .1) (all n (omega arith) .1 refl ∙ q)) in
       rw (sym d) (unheld n (λ j l. all j (omega arith)) (w .0))
 
+  -- nor is one whose digest is above theirs
+  holds-none : (d m : ℕ) → ((j : ℕ) → j < m → getD keys j 0 < d) → holds keys m d ≡ false
+  unfolding holds
+  holds-none d zero low = refl
+  holds-none d (suc m) low = let l = low m (omega arith) in rw (holds-none d m (λ j k. low j (omega arith)), ne-eqb (getD keys m 0) d (λ e. absurd (omega arith)))
+
+  pub unheld-above : (n d : ℕ) → Kept B keys true n → d ≡ digest x → largest keys < d → false ≡ among x (keysIn B keys n)
+  unheld-above n d all is h = unheld n all (rw (← is) (holds-none d n (λ j l. let low = all j l .2 refl in omega arith)))
+
+  -- where nothing is judged, it is known not to be among them
+  pub unheld-either : (judge : Bool) (n d : ℕ) → Kept B keys judge n → (judge ≡ true → d ≡ digest x) → (judge ≡ false → among x (keysIn B keys n) ≡ false)
+      → largest keys < d → false ≡ among x (keysIn B keys n)
+  unheld-either true n d all is new h = unheld-above n d all (is refl) h
+  unheld-either false n d all is new h = sym (new refl)
+
   kept-step : (j : ℕ) → 0 < j → (same x (keyAt B keys (j - 1)) || among x (keysIn B keys (j - 1))) ≡ among x (keysIn B keys j)
   unfolding keysIn
   kept-step zero h = absurd (omega arith)
@@ -146,13 +161,22 @@ unfolding keysIn
 keys-none B keys = refl
 
 -- a key more is kept at i, with its digest: those before stay
-module _ (B keys : List ℕ) (i p n d : ℕ) (room : i < length keys / 2) (short : n < 4294967296) where
+module _ (B keys : List ℕ) (i p n d : ℕ) (room : i + 1 < length keys / 2) (short : n < 4294967296) where
   abbrev after : List ℕ
   after = set (set keys (length keys / 2 + i) (p * 4294967296 + n)) i d
 
+  -- with the digest as the largest
+  abbrev raised : List ℕ
+  raised = set after (length keys / 2 - 1) d
+
+  length-after : length after ≡ length keys
+  length-after = length-set (set keys (length keys / 2 + i) (p * 4294967296 + n)) i d ∙ length-set keys (length keys / 2 + i) (p * 4294967296 + n)
+
   half-after : length after / 2 ≡ length keys / 2
-  half-after =
-      ap (λ (k : ℕ). k / 2) (length-set (set keys (length keys / 2 + i) (p * 4294967296 + n)) i d ∙ length-set keys (length keys / 2 + i) (p * 4294967296 + n))
+  half-after = ap (λ (k : ℕ). k / 2) length-after
+
+  half-raised : length raised / 2 ≡ length keys / 2
+  half-raised = ap (λ (k : ℕ). k / 2) (length-set after (length keys / 2 - 1) d) ∙ half-after
 
   pub room-after : i ≤ length after / 2
   room-after = rw half-after (omega arith)
@@ -169,16 +193,39 @@ module _ (B keys : List ℕ) (i p n d : ℕ) (room : i < length keys / 2) (short
       ∙ getD-set-other (set keys (length keys / 2 + i) (p * 4294967296 + n)) i (length keys / 2 + i) d 0 (omega arith)
       ∙ getD-set-same keys (length keys / 2 + i) (p * 4294967296 + n) 0 (omega arith)
 
+  where-raised : (j : ℕ) → whereIs raised j ≡ whereIs after j
+  where-raised j =
+      ap (λ (k : ℕ). getD raised (k + j) 0) half-raised
+      ∙ getD-set-other after (length keys / 2 - 1) (length keys / 2 + j) d 0 (omega arith)
+      ∙ sym (ap (λ (k : ℕ). getD after (k + j) 0) half-after)
+
   digest-before : (j : ℕ) → j < i → getD after j 0 ≡ getD keys j 0
   digest-before j l =
       getD-set-other (set keys (length keys / 2 + i) (p * 4294967296 + n)) i j d 0 (omega arith)
       ∙ getD-set-other keys (length keys / 2 + i) j (p * 4294967296 + n) 0 (omega arith)
+
+  digest-raised : (j : ℕ) → j < i + 1 → getD raised j 0 ≡ getD after j 0
+  digest-raised j l = getD-set-other after (length keys / 2 - 1) j d 0 (omega arith)
 
   pub room-there : i < length (set keys (length keys / 2 + i) (p * 4294967296 + n))
   room-there = rw (length-set keys (length keys / 2 + i) (p * 4294967296 + n)) (omega arith)
 
   digest-last : getD after i 0 ≡ d
   digest-last = getD-set-same (set keys (length keys / 2 + i) (p * 4294967296 + n)) i d 0 room-there
+
+  pub largest-cell : length keys / 2 - 1 < length after
+  largest-cell = rw length-after (omega arith)
+
+  pub largest-at : getD after (length keys / 2 - 1) 0 ≡ largest keys
+  largest-at =
+      getD-set-other (set keys (length keys / 2 + i) (p * 4294967296 + n)) i (length keys / 2 - 1) d 0 (omega arith)
+      ∙ getD-set-other keys (length keys / 2 + i) (length keys / 2 - 1) (p * 4294967296 + n) 0 (omega arith)
+
+  largest-after : largest after ≡ largest keys
+  largest-after = ap (λ (k : ℕ). getD after (k - 1) 0) half-after ∙ largest-at
+
+  largest-raised : largest raised ≡ d
+  largest-raised = ap (λ (k : ℕ). getD raised (k - 1) 0) half-raised ∙ getD-set-same after (length keys / 2 - 1) d 0 largest-cell
 
   place-is : (p * 4294967296 + n) / 4294967296 ≡ p
   place-is = omega arith
@@ -195,17 +242,50 @@ module _ (B keys : List ℕ) (i p n d : ℕ) (room : i < length keys / 2) (short
   unfolding keysIn
   keys-more = let e : i + 1 ≡ suc i = omega arith in rw (e, where-last, place-is, length-is, keys-same i (omega arith))
 
+  keys-raised : (m : ℕ) → keysIn B raised m ≡ keysIn B after m
+  unfolding keysIn
+  keys-raised zero = refl
+  keys-raised (suc m) = rw (where-raised m, keys-raised m)
+
+  pub raised-more : keysIn B raised (i + 1) ≡ span B p n ∷ keysIn B keys i
+  raised-more = keys-raised (i + 1) ∙ keys-more
+
   module _ (judge : Bool) (before : Kept B keys judge i) where
     pub kept-same : Kept B after judge i
-    kept-same j l = rw (where-before j l, digest-before j l) (before j l)
+    kept-same j l = rw (where-before j l, digest-before j l, largest-after) (before j l)
 
-    kept-last : p + n ≤ length B → (judge ≡ true → d ≡ digest (span B p n)) → (whereIs after i / 4294967296 + whereIs after i % 4294967296 ≤ length B) × (judge ≡ true → getD after i 0 ≡ digest (keyAt B after i))
-    kept-last h is = rw (where-last, digest-last, place-is, length-is) (h, is)
+    kept-last : p + n ≤ length B → (judge ≡ true → d ≡ digest (span B p n)) → (judge ≡ true → d ≤ largest keys)
+        → (whereIs after i / 4294967296 + whereIs after i % 4294967296 ≤ length B) × (judge ≡ true → getD after i 0 ≡ digest (keyAt B after i))
+        × (judge ≡ true → getD after i 0 ≤ largest after)
+    kept-last h is low = rw (where-last, digest-last, largest-after, place-is, length-is) (h, is, low)
 
-    pub kept-more : p + n ≤ length B → (judge ≡ true → d ≡ digest (span B p n)) → Kept B after judge (i + 1)
-    kept-more h is j l =
+    -- where the largest digest is not below it
+    pub kept-more : p + n ≤ length B → (judge ≡ true → d ≡ digest (span B p n)) → (judge ≡ true → d ≤ largest keys) → Kept B after judge (i + 1)
+    kept-more h is low j l =
         let m : j ≤ i = omega arith in
         ⊎-elim
-        (λ q. rw q (kept-last h is))
+        (λ q. rw q (kept-last h is low))
         (λ q. kept-same j q)
         (eq-or-lt-of-le m)
+
+    -- where it is the largest
+    module _ (above : largest keys < d) where
+      raised-last : p + n ≤ length B → (judge ≡ true → d ≡ digest (span B p n))
+          → (whereIs raised i / 4294967296 + whereIs raised i % 4294967296 ≤ length B) × (judge ≡ true → getD raised i 0 ≡ digest (keyAt B raised i))
+          × (judge ≡ true → getD raised i 0 ≤ largest raised)
+      raised-last h is = rw (where-raised i, digest-raised i (omega arith), largest-raised, where-last, digest-last, place-is, length-is) (h, is, λ _. omega arith)
+
+      raised-before : (j : ℕ) → j < i
+          → (whereIs raised j / 4294967296 + whereIs raised j % 4294967296 ≤ length B) × (judge ≡ true → getD raised j 0 ≡ digest (keyAt B raised j))
+          × (judge ≡ true → getD raised j 0 ≤ largest raised)
+      raised-before j q =
+          let b = before j q in
+          rw (where-raised j, digest-raised j (omega arith), largest-raised, where-before j q, digest-before j q) (b .0, b .1, λ t. let low = b .2 t in omega arith)
+
+      pub kept-raised : p + n ≤ length B → (judge ≡ true → d ≡ digest (span B p n)) → Kept B raised judge (i + 1)
+      kept-raised h is j l =
+          let m : j ≤ i = omega arith in
+          ⊎-elim
+          (λ q. rw q (raised-last h is))
+          (λ q. raised-before j q)
+          (eq-or-lt-of-le m)

@@ -1,9 +1,10 @@
--- The keys of a map while its pairs are walked, in one list of numbers: the first half has their digests, the second half where they stand.
+-- The keys of a map while its pairs are walked, in one list of numbers: the first half has their digests, and last their largest; the second half where
+-- they stand.
 -- Assumes nothing.
 use mathlib.Core.Path.{_≡_}
 use mathlib.Core.Bool.{Bool, true, false, _||_}
 use mathlib.Core.List.{List, [], _∷_}
-use Prim.Native.Nat.{ℕ, zero, suc, _+_, _*_, _/_, _%_, _^_, _≤_, _<_}
+use Prim.Native.Nat.{ℕ, zero, suc, _+_, _-_, _*_, _/_, _%_, _^_, _≤_, _<_}
 use lib.Dec.{eqb}
 use lib.ListN.{length, getD, take, drop}
 use Rattle.wire.specs.Little.{little}
@@ -40,10 +41,15 @@ unfoldable pub keysIn : (B keys : List ℕ) → ℕ → List (List ℕ)
 keysIn B keys zero = []
 keysIn B keys (suc n) = keyAt B keys n ∷ keysIn B keys n
 
--- Each of them lies in B, and where keys are judged its digest is at hand.
+-- The number that no digest is above.
+abbrev pub largest : List ℕ → ℕ
+largest keys = getD keys (length keys / 2 - 1) 0
+
+-- Each of them lies in B, and where keys are judged its digest is at hand, and not above the largest.
 abbrev pub Kept : (B keys : List ℕ) (judge : Bool) → ℕ → Type 0
 Kept B keys judge n =
     (j : ℕ) →
     j < n →
     (whereIs keys j / 4294967296 + whereIs keys j % 4294967296 ≤ length B)
     × (judge ≡ true → getD keys j 0 ≡ digest (keyAt B keys j))
+    × (judge ≡ true → getD keys j 0 ≤ largest keys)

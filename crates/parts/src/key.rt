@@ -1,4 +1,5 @@
-// The keys of a map, kept while its pairs are walked: their digests in the first half of a slice of numbers, where they stand in the second.
+// The keys of a map, kept while its pairs are walked: their digests in the first half of a slice of numbers, where they stand in the second. The last
+// cell of the first half has the largest digest, so that keys whose digests rise need no search.
 use std::num::wrapping_add_usize;
 use wire::little::number;
 ghost use mathlib.Core.Path.{_≡_};
@@ -115,7 +116,7 @@ pub fn is_repeated(
     n: usize,
     judge: bool,
 ) -> bool
-    requires { ⌜ (i < length (now keys) / 2) × (place < 4294967296) × (n < 4294967296) × (place + n ≤ length (now s)) × Kept (now s) (now keys) judge i ⌝ }
+    requires { ⌜ (i + 1 < length (now keys) / 2) × (place < 4294967296) × (n < 4294967296) × (place + n ≤ length (now s)) × Kept (now s) (now keys) judge i ⌝ }
     requires { ⌜ (judge ≡ false → among (span (now s) place n) (keysIn (now s) (now keys) i) ≡ false) ⌝ }
     ensures { λ r. ⌜
         (r ≡ among (span (now (s .entry)) place n) (keysIn (now (s .entry)) (now (keys .entry)) i))
@@ -126,5 +127,9 @@ pub fn is_repeated(
     let d = digest_of(s, place, n, judge);
     keys[half + i] = place * 4294967296 + n;
     keys[i] = d;
+    if keys[half - 1] < d {
+        keys[half - 1] = d;
+        return false;
+    }
     is_among(s, keys, i, place, n, d, judge)
 }

@@ -2,11 +2,12 @@
 -- Assumes nothing.
 use mathlib.Core.Path.{_≡_, refl, sym, ap, _∙_}
 use mathlib.Core.Bool.{Bool, true, false}
-use mathlib.Core.List.{List, [], _++_}
-use Prim.Native.Nat.{ℕ, _+_, _-_, _/_, _≤_, _<_}
+use mathlib.Core.List.{List}
+use Prim.Native.Nat.{ℕ, _+_, _-_, _*_, _≤_, _<_}
 use native.Mathlib.Omega.{arith}
 use borrow.Author.Tests.{le-leb, lt-leb}
 use lib.ListN.{length, length-drop}
+use lib.Seq.{paste}
 use Rattle.wire.proofs.Cases.{differ}
 use Rattle.schema.specs.declared.TypeRow.{TypeRow}
 use Rattle.schema.specs.declared.Checked.{Checked}
@@ -16,14 +17,13 @@ use Rattle.schema.specs.File.{tableOf}
 use Rattle.schema.specs.Check.{checked, IsGood}
 use Rattle.schema.specs.Extend.{widened}
 use Rattle.schema.proofs.Goods.{good-table}
-use Rattle.value.specs.Answer.{Answer, refused, seen, cursorAt, Accepted}
+use Rattle.value.specs.Answer.{Cursor, Answer, refused, seen, cursorAt, Accepted}
 use Rattle.value.specs.Value.{Tree}
 use Rattle.value.specs.Read as value
 use Rattle.value.specs.Beside.{shownRows}
 use Rattle.value.proofs.Statements.{comparisons-within}
 use Rattle.parts.specs.Shape.{shapeIn, fieldsFrom}
 use Rattle.parts.proofs.Tables.{shape-struct, no-struct}
-use Rattle.parts.proofs.Walks.{nothing-before}
 use Rattle.reader.specs.declared.Reading.the-variants.{Shown, Refused}
 use Rattle.reader.specs.declared.walk.Walk.{Walk}
 use Rattle.reader.specs.declared.walk.Walk.the-variants.{Past, Refused as Stop}
@@ -31,7 +31,7 @@ use Rattle.reader.specs.Sheet.{putRows, shownIn}
 use Rattle.reader.specs.Walk.{Told, told, firstFields, done, stopped, walkOf, endOf, rootIn, Walked}
 use Rattle.reader.specs.Entry.{Outcome, outcome, readingIn, outcomeOf, room, payloadOutcome, byTable, readOutcome, numbers, numberIn}
 use Rattle.reader.specs.Beside.{shownOutcome, besidePayload, besideOutcome}
-use Rattle.reader.proofs.Sheets.{rows-shown}
+use Rattle.reader.proofs.Sheets.{rows-shown, rows-copied}
 
 -- ---- a payload, of which each struct is shown as far as its fields are known
 
@@ -60,13 +60,13 @@ module _ (known s : List ℕ) (ty : ℕ) (p sheet : List ℕ) (r : TypeRow) (is 
       unfolding shownOutcome
       entry-root = rw (shape-struct (tableOf s) ty r is k, le-leb (length p) 16384 small)
 
-      -- the first walk, over no cells, leaves m, and m joined to the sheet is the sheet
-      module _ (m : List ℕ) (none : length m ≡ 0) where
-        stop : (o : Answer Tree) (n q : ℕ) → stopped n q ≡ walkOf tell o 0 0 [] → outcome (Refused n q) sheet ≡ answer o
+      -- the first walk, over cells of its own, leaves m of them
+      module _ (few m : List ℕ) where
+        stop : (o : Answer Tree) (n q : ℕ) → stopped n q ≡ walkOf tell o 0 0 few → outcome (Refused n q) sheet ≡ answer o
         stop (seen tree c) n q e = differ cc
         stop (refused n′ q′) n q e = cc
 
-        full : (o : Answer Tree) (due next row : ℕ) → done (cursorAt p next) due row m ≡ walkOf tell o 0 0 [] → room sheet < row
+        full : (o : Answer Tree) (due next row : ℕ) → done (cursorAt p next) due row m ≡ walkOf tell o 0 0 few → room sheet < row
             → outcome (Refused 30 0) sheet ≡ answer o
         unfolding told
         full (seen tree c) due next row e h =
@@ -74,57 +74,74 @@ module _ (known s : List ℕ) (ty : ℕ) (p sheet : List ℕ) (r : TypeRow) (is 
             rw (lt-leb (length (tell tree .rows)) (room sheet) (omega arith))
         full (refused n q) due next row e h = differ cc
 
-        fits : (o : Answer Tree) (due next row : ℕ) → done (cursorAt p next) due row m ≡ walkOf tell o 0 0 [] → row ≤ room sheet → 0 ≡ numberIn (answer o)
+        fits : (o : Answer Tree) (due next row : ℕ) → done (cursorAt p next) due row m ≡ walkOf tell o 0 0 few → row ≤ room sheet → 0 ≡ numberIn (answer o)
         unfolding told
         fits (seen tree c) due next row e h =
             let f : row ≡ 0 + length (tell tree .rows) = cc in
             rw (le-leb (length (tell tree .rows)) (room sheet) (omega arith))
         fits (refused n q) due next row e h = differ cc
 
-        shown : (o : Answer Tree) (due next row : ℕ) (w : Walk) (after : List ℕ) → done (cursorAt p next) due row m ≡ walkOf tell o 0 0 [] → row ≤ room sheet
-            → endOf p w after ≡ walkOf tell o 0 0 sheet → outcome (Shown row next (length p - next) due) after ≡ answer o
+        -- what stands in the sheet is told by the rows that were written into it
+        told-in : (tree : Tree) (c : Cursor) (due next row : ℕ) (after : List ℕ) → done (cursorAt p next) due row m ≡ walkOf tell (seen tree c) 0 0 few
+            → row ≤ room sheet → after ≡ shownIn sheet (tell tree .rows) → outcome (Shown row next (length p - next) due) after ≡ answer (seen tree c)
         unfolding told
-        shown (seen tree c) due next row (Past d a b) after e h g =
+        told-in tree c due next row after e h after-is =
             let f : row ≡ 0 + length (tell tree .rows) = cc in
             let row-is : row ≡ length (tell tree .rows) = omega arith in
             let d-is : due ≡ 0 + tell tree .due = cc in
             let due-is : due ≡ tell tree .due = omega arith in
             let c-is : cursorAt p next ≡ c = cc in
-            let put : after ≡ putRows sheet 0 (tell tree .rows) = cc in
-            let after-is : after ≡ shownIn sheet (tell tree .rows) = put ∙ rows-shown sheet (tell tree .rows) (omega arith) in
             rw (le-leb (length (tell tree .rows)) (room sheet) (omega arith), ← c-is, length-drop, row-is, due-is, after-is)
+
+        shown : (o : Answer Tree) (due next row : ℕ) (w : Walk) (after : List ℕ) → done (cursorAt p next) due row m ≡ walkOf tell o 0 0 few → row ≤ room sheet
+            → endOf p w after ≡ walkOf tell o 0 0 sheet → outcome (Shown row next (length p - next) due) after ≡ answer o
+        shown (seen tree c) due next row (Past d a b) after e h g =
+            let f : row ≡ 0 + length (tell tree .rows) = cc in
+            let put : after ≡ putRows sheet 0 (tell tree .rows) = cc in
+            told-in tree c due next row after e h (put ∙ rows-shown sheet (tell tree .rows) (omega arith))
         shown (seen tree c) due next row (Stop a b) after e h g = differ cc
         shown (refused n q) due next row w after e h g = differ cc
 
-        pub entry-refused : (n q : ℕ) → Walked p 1 tell root 0 [] (Stop n q) m → outcome (Refused n q) (m ++ sheet) ≡ shownOutcome known s ty p sheet
-        entry-refused n q w = rw (nothing-before m sheet none, ← entry-root) (stop root n q (w .same))
+        copied : (o : Answer Tree) (due next row : ℕ) → done (cursorAt p next) due row m ≡ walkOf tell o 0 0 few → row ≤ room sheet → row ≤ room few
+            → outcome (Shown row next (length p - next) due) (paste sheet 0 m (4 * row)) ≡ answer o
+        copied (seen tree c) due next row e h g =
+            let f : row ≡ 0 + length (tell tree .rows) = cc in
+            let row-is : row ≡ length (tell tree .rows) = omega arith in
+            let put : m ≡ putRows few 0 (tell tree .rows) = cc in
+            told-in tree c due next row (paste sheet 0 m (4 * row)) e h (rw (put, row-is) (rows-copied few sheet (tell tree .rows) (omega arith)))
+        copied (refused n q) due next row e h g = differ cc
 
-        module _ (due next row : ℕ) (w : Walked p 1 tell root 0 [] (Past due next row) m) where
+        pub entry-refused : (n q : ℕ) → Walked p 1 tell root 0 few (Stop n q) m → outcome (Refused n q) sheet ≡ shownOutcome known s ty p sheet
+        entry-refused n q w = rw (← entry-root) (stop root n q (w .same))
+
+        module _ (due next row : ℕ) (w : Walked p 1 tell root 0 few (Past due next row) m) where
           -- the second walk is known to accept
           pub entry-judged : Accepted root
           entry-judged = go root (w .same)
             where
-              go : (o : Answer Tree) → done (cursorAt p next) due row m ≡ walkOf tell o 0 0 [] → Accepted o
+              go : (o : Answer Tree) → done (cursorAt p next) due row m ≡ walkOf tell o 0 0 few → Accepted o
               go (seen tree c) e = tt
               go (refused n q) e = differ cc
 
-          pub entry-full : length (m ++ sheet) / 4 < row → outcome (Refused 30 0) (m ++ sheet) ≡ shownOutcome known s ty p sheet
-          entry-full h =
-              rw (nothing-before m sheet none, ← entry-root) (full root due next row (w .same) (rw (nothing-before m sheet none) at h))
+          pub entry-full : room sheet < row → outcome (Refused 30 0) sheet ≡ shownOutcome known s ty p sheet
+          entry-full h = rw (← entry-root) (full root due next row (w .same) h)
 
           -- the number alone, without the second walk
           pub entry-short : room sheet < row → 30 ≡ numberIn (shownOutcome known s ty p sheet)
-          entry-short h = ap numberIn (entry-full (rw (nothing-before m sheet none) h))
+          entry-short h = ap numberIn (entry-full h)
 
           pub entry-fits : row ≤ room sheet → 0 ≡ numberIn (shownOutcome known s ty p sheet)
           entry-fits h = rw (← entry-root) (fits root due next row (w .same) h)
 
+          -- few rows, copied from the first walk's cells
+          pub entry-copied : row ≤ room sheet → row ≤ room few
+              → outcome (Shown row next (length p - next) due) (paste sheet 0 m (4 * row)) ≡ shownOutcome known s ty p sheet
+          entry-copied h g = rw (← entry-root) (copied root due next row (w .same) h g)
+
           -- what the second walk has written
-          pub entry-shown : (v : Walk) (after : List ℕ) → row ≤ length (m ++ sheet) / 4 → Walked p 1 tell root 0 (m ++ sheet) v after
+          pub entry-shown : (v : Walk) (after : List ℕ) → row ≤ room sheet → Walked p 1 tell root 0 sheet v after
               → outcome (Shown row next (length p - next) due) after ≡ shownOutcome known s ty p sheet
-          entry-shown v after h again =
-              let wide = nothing-before m sheet none in
-              rw (← entry-root) (shown root due next row v after (w .same) (rw wide at h) (rw wide at (again .same)))
+          entry-shown v after h again = rw (← entry-root) (shown root due next row v after (w .same) h (again .same))
 
 -- ---- any table
 

@@ -9,7 +9,7 @@ use native.Mathlib.Decide.{decLe}
 use borrow.Author.Tests.{le-leb, lt-leb}
 use native.Mathlib.Numerals.{add-one, add-two, add-three}
 use lib.ListN.{length, set, take, drop, length-set, take-append-drop}
-use lib.Seq.{set-set, set-comm, sets-eq, length-take-le, take-append-le, take-take, drop-at}
+use lib.Seq.{set-set, set-comm, sets-eq, length-take-le, take-append-le, take-take, take-at, drop-at, paste}
 use Rattle.value.specs.declared.Row.{Row}
 use Rattle.value.specs.Sheet.{cellsOf}
 use Rattle.reader.specs.Sheet.{put4, putRow, putRows, shownIn}
@@ -152,3 +152,15 @@ pub rows-shown : (l : List ℕ) (rs : List Row) → 4 * length rs ≤ length l �
 rows-shown l rs h =
     let e : 0 + length rs ≡ length rs = omega arith in
     rows-paste l 0 rs (omega arith) ∙ rw e
+
+length-cells : (rs : List Row) → length (cellsOf rs) ≡ 4 * length rs
+unfolding cellsOf
+length-cells [] = refl
+length-cells (r ∷ rs) = let ih = length-cells rs in omega arith
+
+-- Rows that fit into another sheet, copied from there.
+pub rows-copied : (few l : List ℕ) (rs : List Row) → 4 * length rs ≤ length few → paste l 0 (putRows few 0 rs) (4 * length rs) ≡ shownIn l rs
+rows-copied few l rs h =
+    let long : length (cellsOf rs) ≡ 4 * length rs = length-cells rs in
+    let e : 0 + 4 * length rs ≡ 4 * length rs = omega arith in
+    rw (rows-shown few rs h, take-at (cellsOf rs) (drop (4 * length rs) few) (4 * length rs) long, e)

@@ -11,7 +11,7 @@ ghost use Rattle.parts.specs.Keys.{keysIn, Kept};
 
 // Whether the n bytes at a place are the content of one of the first i keys; they are kept as the next. Where nothing is judged, they are known to be new.
 pub fn is_again(s: &[u8], keys: &mut [usize], i: usize, place: usize, n: usize, judge: bool) -> bool
-    requires { ⌜ (place < 4294967296) × (n < 4294967296) × (place + n ≤ length (now s)) × (judge ≡ true → (i < length (now keys) / 2) × Kept (now s) (now keys) true i) ⌝ }
+    requires { ⌜ (place < 4294967296) × (n < 4294967296) × (place + n ≤ length (now s)) × (judge ≡ true → (i + 1 < length (now keys) / 2) × Kept (now s) (now keys) true i) ⌝ }
     ensures { λ r. ⌜ (judge ≡ false → r ≡ false) ⌝ }
     ensures { λ r. ⌜ (judge ≡ true → r ≡ among (span (now (s .entry)) place n) (keysIn (now (s .entry)) (now (keys .entry)) i)) ⌝ }
     ensures { λ _. ⌜ (judge ≡ true → keysIn (now (s .entry)) (now (keys .exit)) (i + 1) ≡ span (now (s .entry)) place n ∷ keysIn (now (s .entry)) (now (keys .entry)) i) ⌝ }

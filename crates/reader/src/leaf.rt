@@ -69,6 +69,33 @@ pub fn read_count(p: &[u8], at: usize, least: usize) -> Count
     }
 }
 
+// The byte at a place.
+fn byte_at(s: &[u8], i: usize) -> usize
+    requires { ⌜ i < length (now s) ⌝ }
+    ensures { λ r. ⌜ r ≡ getD (now (s .entry)) i 0 ⌝ }
+{
+    s[i] as usize
+}
+
+// The count of a map, whose pairs take at least two bytes each. Up to 64 it is a single byte, which is answered at once.
+pub fn map_count(p: &[u8], at: usize) -> Count
+    requires { ⌜ length (now p) ≤ 16384 ⌝ }
+    ensures { λ r. ⌜ Counted (now (p .entry)) at 2 (count 2 (cursorAt (now (p .entry)) at)) r ⌝ }
+{
+    if at < p.len() {
+        let n = byte_at(p, at);
+        if n <= 64 {
+            if 2 * n <= p.len() - at - 1 {
+                return Count::Is {
+                    n: n,
+                    start: at + 1,
+                };
+            }
+        }
+    }
+    read_count(p, at, 2)
+}
+
 // A scalar's content.
 fn scalar(p: &[u8], kind: usize, at: usize) -> Span
     requires { ⌜ (at ≤ length (now p)) × (0 < kind) × (kind < 12) ⌝ }
@@ -148,14 +175,6 @@ pub fn ones_in(x: u64) -> usize
     ensures { λ r. ⌜ (r ≡ ones x) × (r ≤ 64) ⌝ }
 {
     u64::count_ones(x) as usize
-}
-
-// The byte at a place.
-fn byte_at(s: &[u8], i: usize) -> usize
-    requires { ⌜ i < length (now s) ⌝ }
-    ensures { λ r. ⌜ r ≡ getD (now (s .entry)) i 0 ⌝ }
-{
-    s[i] as usize
 }
 
 // How many fields of a type are shown.

@@ -5,6 +5,7 @@ pub mod leaf;
 pub mod sheet;
 pub mod walk;
 
+use crate::sheet::copy_cells;
 use crate::walk::Walk;
 use crate::walk::root;
 use schema::Checked;
@@ -30,7 +31,8 @@ pub enum Reading {
 }
 
 // Reads a payload as a struct of type ty by a good table, and shows the first fields of each struct, as many as `shown` has for its type:
-// first a walk that judges and writes nothing, then, where all rows have room, one that writes.
+// first a walk that judges, and writes what it can of the rows into a small sheet of its own. Few rows are copied from there; where they are many, and
+// all have room, a second walk writes them.
 fn read_shown(
     shown: &[u8; 256],
     schema: &[u8],
@@ -56,7 +58,8 @@ fn read_shown(
     }
     let first = t.a as usize;
     let n = t.b as usize;
-    match root(shown, schema, payload, &mut sheet[..0], ty, first, n, true) {
+    let mut few = [0u32; 128];
+    match root(shown, schema, payload, &mut few, ty, first, n, true) {
         Walk::Refused { number, place } => Reading::Refused { number, place },
         Walk::Past { due, next, row } => {
             if sheet.len() / 4 < row {
@@ -65,7 +68,11 @@ fn read_shown(
                     place: 0,
                 };
             }
-            root(shown, schema, payload, sheet, ty, first, n, false);
+            if row <= 32 {
+                copy_cells(sheet, &few, 4 * row);
+            } else {
+                root(shown, schema, payload, sheet, ty, first, n, false);
+            }
             Reading::Shown {
                 rows: row,
                 tail_place: next,

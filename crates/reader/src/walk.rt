@@ -7,6 +7,7 @@ use crate::leaf::Count;
 use crate::leaf::Head;
 use crate::leaf::Span;
 use crate::leaf::content;
+use crate::leaf::map_count;
 use crate::leaf::ones_in;
 use crate::leaf::presence;
 use crate::leaf::read_count;
@@ -14,6 +15,7 @@ use crate::leaf::shown_of;
 use crate::sheet::put_row;
 use schema::TypeRow;
 use schema::access::field;
+use schema::access::known_row;
 use schema::access::type_row;
 use wire::bitmap::low_bits;
 ghost use mathlib.Core.Path.{_≡_};
@@ -201,7 +203,7 @@ fn mapping(
     requires { ⌜ (0 < rowAt (tableOf (now s)) key .kind) × (rowAt (tableOf (now s)) key .kind < 14) × (0 < rowAt (tableOf (now s)) val .kind) ⌝ }
     ensures { λ r. ⌜ Valued (now (shown .entry)) (now (s .entry)) (now (p .entry)) (suc depth) ty at row (now (sheet .entry)) r (now (sheet .exit)) ⌝ }
 {
-    match read_count(p, at, 2) {
+    match map_count(p, at) {
         Count::Not { number } => Walk::Refused { number, place: at },
         Count::Is { n, start } => {
             if 64 < n {
@@ -237,7 +239,7 @@ fn mapping(
                 );
             }
             if n <= 8 {
-                let mut keys = [0usize; 16];
+                let mut keys = [0usize; 18];
                 return pairs(
                     shown,
                     s,
@@ -291,7 +293,7 @@ fn many(
     requires { ⌜ (0 < rowAt (tableOf (now s)) key .kind) × (rowAt (tableOf (now s)) key .kind < 14) × (0 < rowAt (tableOf (now s)) val .kind) × (0 < n) × (n ≤ 64) ⌝ }
     ensures { λ r. ⌜ Held (now (shown .entry)) (now (s .entry)) (now (p .entry)) depth ty (map key val) start n start row (now (sheet .entry)) r (now (sheet .exit)) ⌝ }
 {
-    let mut keys = [0usize; 128];
+    let mut keys = [0usize; 130];
     pairs(
         shown,
         s,
@@ -327,11 +329,11 @@ fn pairs(
 ) -> Walk
     requires { ⌜ Ready (now s) (now p) start (row + 1) judge (wholeIn (now s) (now p) depth ty (map key val) start n start) ⌝ }
     requires { ⌜ (0 < rowAt (tableOf (now s)) key .kind) × (rowAt (tableOf (now s)) key .kind < 14) × (0 < rowAt (tableOf (now s)) val .kind) × (0 < n) × (n ≤ 64) ⌝ }
-    requires { ⌜ (judge ≡ true → n ≤ length (now keys) / 2) ⌝ }
+    requires { ⌜ (judge ≡ true → n < length (now keys) / 2) ⌝ }
     ensures { λ r. ⌜ Held (now (shown .entry)) (now (s .entry)) (now (p .entry)) depth ty (map key val) start n start row (now (sheet .entry)) r (now (sheet .exit)) ⌝ }
 {
-    let k = type_row(s, key as usize);
-    let v = type_row(s, val as usize);
+    let k = known_row(s, key as usize);
+    let v = known_row(s, val as usize);
     let mut i = 0;
     let mut here = start;
     let mut below = row + 1;

@@ -4,11 +4,13 @@ use crate::Found;
 use crate::Method;
 use crate::TypeRow;
 use crate::file::layout_of;
+use crate::file::type_at;
 use crate::rows::field_row;
 use crate::rows::find_among;
 use crate::rows::method_row;
 use crate::rows::row;
 ghost use mathlib.Core.Path.{_≡_};
+ghost use Prim.Native.Nat.{_<_};
 ghost use lib.ListN.{length};
 ghost use Rattle.schema.specs.Table.{rowAt};
 ghost use Rattle.schema.specs.File.{tableOf};
@@ -27,6 +29,14 @@ pub fn type_row(s: &[u8], t: usize) -> TypeRow
     ensures { λ r. ⌜ r ≡ rowAt (tableOf (now (s .entry))) t ⌝ }
 {
     row(s, layout_of(s), t)
+}
+
+// The row of a type that the table has, found without the layout.
+pub fn known_row(s: &[u8], t: usize) -> TypeRow
+    requires { ⌜ IsGood (now s) × (0 < rowAt (tableOf (now s)) t .kind) ⌝ }
+    ensures { λ r. ⌜ r ≡ rowAt (tableOf (now (s .entry))) t ⌝ }
+{
+    type_at(s, 12 * t)
 }
 
 pub fn field(s: &[u8], i: usize) -> Field

@@ -248,7 +248,7 @@ fn mapping(
                 };
             }
             if count <= 8 {
-                let mut keys = [0usize; 16];
+                let mut keys = [0usize; 18];
                 return pairs(
                     s,
                     sheet,
@@ -299,7 +299,7 @@ fn many(
     requires { ⌜ (0 < rowAt (tableOf (now s)) key .kind) × (rowAt (tableOf (now s)) key .kind < 14) × (0 < rowAt (tableOf (now s)) val .kind) × (n ≤ 64) ⌝ }
     ensures { λ r. ⌜ Walked (now (sheet .entry)) (itemsEnd (now (s .entry)) (now (source .entry)) (now (sheet .entry)) depth [] (pairs n key val) start pos (now (out .entry))) r (now (out .exit)) ⌝ }
 {
-    let mut keys = [0usize; 128];
+    let mut keys = [0usize; 130];
     pairs(
         s,
         sheet,
@@ -332,7 +332,7 @@ fn pairs(
     judge: bool,
 ) -> Walk
     requires { ⌜ Ready (now s) (now sheet) (now out) start pos judge (itemsIn (now s) (now source) (now sheet) depth [] (pairs n key val) start) ⌝ }
-    requires { ⌜ (0 < rowAt (tableOf (now s)) key .kind) × (rowAt (tableOf (now s)) key .kind < 14) × (0 < rowAt (tableOf (now s)) val .kind) × (n ≤ length (now keys) / 2) × (n ≤ 64) ⌝ }
+    requires { ⌜ (0 < rowAt (tableOf (now s)) key .kind) × (rowAt (tableOf (now s)) key .kind < 14) × (0 < rowAt (tableOf (now s)) val .kind) × (n < length (now keys) / 2) × (n ≤ 64) ⌝ }
     ensures { λ r. ⌜ Walked (now (sheet .entry)) (itemsEnd (now (s .entry)) (now (source .entry)) (now (sheet .entry)) depth [] (pairs n key val) start pos (now (out .entry))) r (now (out .exit)) ⌝ }
 {
     let k = type_row(s, key as usize);

@@ -45,7 +45,7 @@ returns-3 c =
     let a = test .before .before .before .before .before .before .before .args in
     let t = test .before .before .before .type-row in
     entry-fits (a .shown .now) (a .schema .now) (a .ty) (a .payload .now) (a .sheet .now) (t .result) (t .ensures) (test .before .if1 .left) (test .if2 .left)
-    _ (root .root .kept .1 .1 .1 .0) _ _ _ (was (root .root .ensures) (c .before .before .row .given .1)) (c .if3 .taken)
+    _ _ _ _ _ (was (root .root .ensures) (c .before .before .row .given .1)) (c .if3 .taken)
 
 returns-4 : tie.Need-returns-4
 returns-4 c =
@@ -55,7 +55,7 @@ returns-4 c =
     let t = test .before .before .before .type-row in
     ap numberIn
     (entry-refused (a .shown .now) (a .schema .now) (a .ty) (a .payload .now) (a .sheet .now) (t .result) (t .ensures) (test .before .if1 .left) (test .if2 .left)
-    _ (root .root .kept .1 .1 .1 .0) _ _ (was (root .root .ensures) (c .before .number .given .1)))
+    _ _ _ _ (was (root .root .ensures) (c .before .number .given .1)))
 
 returns-5 : tie.Need-returns-5
 returns-5 c =
@@ -64,7 +64,7 @@ returns-5 c =
     let a = test .before .before .before .before .before .before .before .args in
     let t = test .before .before .before .type-row in
     entry-short (a .shown .now) (a .schema .now) (a .ty) (a .payload .now) (a .sheet .now) (t .result) (t .ensures) (test .before .if1 .left) (test .if2 .left)
-    _ (root .root .kept .1 .1 .1 .0) _ _ _ (was (root .root .ensures) (c .before .before .row .given .1)) (c .if3 .left)
+    _ _ _ _ _ (was (root .root .ensures) (c .before .before .row .given .1)) (c .if3 .left)
 
 pub judge-shown-spec : {M : Type 1} → statement M
 judge-shown-spec =

@@ -1,13 +1,14 @@
--- `parts::key::is_repeated` meets its contract.
+-- `parts::key::is_repeated` meets its contract: a digest above the largest is new, and any other is looked for.
 -- Assumes nothing.
 use borrow.Author.Needs.{needs}
-use mathlib.Core.Path.{ap, _∙_}
-use mathlib.Core.List.{List}
-use Prim.Native.Nat.{ℕ}
+use mathlib.Core.Path.{_≡_, sym, ap, subst, _∙_}
+use mathlib.Core.Bool.{true}
+use Prim.Native.Nat.{ℕ, _≤_, _<_}
 use native.Mathlib.Omega.{arith}
 use Rattle.value.specs.Read.{among}
 use Rattle.value.specs.Write.{span}
-use Rattle.parts.proofs.Keys.{room-there, room-after, keys-same, keys-more, kept-same, kept-more}
+use Rattle.parts.specs.Keys.{largest}
+use Rattle.parts.proofs.Keys as keys-of
 use Rattle.parts.proofs.key.is_repeated.Statement.{statement}
 use Rattle.parts.proofs.key.is_repeated.Tie as tie
 
@@ -31,40 +32,73 @@ is-repeated-spec =
     (λ c. search needs)
     -- slice-write-keys-2
     (λ c.
-    let args = c .before .before .before .args in
+    let a = c .before .before .before .args in
     let asked = c .before .before .before .pre in
-    room-there (args .s .now) (args .keys .now) (args .i) (args .place) (args .n) 0 (asked .0 .0) (asked .0 .2))
-    -- is-among-requires
-    (λ c κs.
-    let args = c .before .before .before .before .args in
+    keys-of.room-there (a .s .now) (a .keys .now) (a .i) (a .place) (a .n) 0 (asked .0 .0) (asked .0 .2))
+    -- sub-if1
+    (λ c. search needs)
+    -- mul-if1
+    (λ c. search needs)
+    -- slice-read-if1
+    (λ c.
+    let a = c .before .before .before .before .args in
     let asked = c .before .before .before .before .pre in
-    let B = args .s .now in
-    let keys = args .keys .now in
-    let d = c .before .digest-of .result in
-    let room = asked .0 .0 in
-    let short = asked .0 .2 in
-    let stay = keys-same B keys (args .i) (args .place) (args .n) d room short (args .i) (omega arith) in (
-      (
-        room-after B keys (args .i) (args .place) (args .n) d room short,
-        asked .0 .3,
-        kept-same B keys (args .i) (args .place) (args .n) d room short (args .judge) (asked .0 .4),
-      ),
-      (c .before .digest-of .ensures, λ j. ap (among (span B (args .place) (args .n))) stay ∙ asked .1 j),
-    ))
+    keys-of.largest-cell (a .s .now) (a .keys .now) (a .i) (a .place) (a .n) _ (asked .0 .0) (asked .0 .2))
+    -- sub-keys
+    (λ c. search needs)
+    -- mul-keys-4
+    (λ c. search needs)
+    -- slice-write-keys-3
+    (λ c.
+    let a = c .before .before .before .before .before .args in
+    let asked = c .before .before .before .before .before .pre in
+    keys-of.largest-cell (a .s .now) (a .keys .now) (a .i) (a .place) (a .n) _ (asked .0 .0) (asked .0 .2))
     -- same-length
     (λ c. search needs)
     -- returns
     (λ c.
-    let args = c .before .before .before .before .before .args in
+    let a = c .before .before .before .before .before .args in
     let asked = c .before .before .before .before .before .pre in
-    let B = args .s .now in
-    let keys = args .keys .now in
+    let B = a .s .now in
     let digest-of = c .before .before .digest-of in
     let d = digest-of .result in
     let room = asked .0 .0 in
     let short = asked .0 .2 in
-    let stay = keys-same B keys (args .i) (args .place) (args .n) d room short (args .i) (omega arith) in (
-      c .is-among .ensures ∙ ap (among (span B (args .place) (args .n))) stay,
-      keys-more B keys (args .i) (args .place) (args .n) d room short,
-      kept-more B keys (args .i) (args .place) (args .n) d room short (args .judge) (asked .0 .4) (asked .0 .3) (digest-of .ensures),
+    let above : largest (a .keys .now) < d = subst (λ (k : ℕ). k < d) (keys-of.largest-at B (a .keys .now) (a .i) (a .place) (a .n) d room short) (c .if1 .taken) in (
+      keys-of.unheld-either B (a .keys .now) (span B (a .place) (a .n)) (a .judge) (a .i) d (asked .0 .4) (digest-of .ensures) (asked .1) above,
+      keys-of.raised-more B (a .keys .now) (a .i) (a .place) (a .n) d room short,
+      keys-of.kept-raised B (a .keys .now) (a .i) (a .place) (a .n) d room short (a .judge) (asked .0 .4) above (asked .0 .3) (digest-of .ensures),
+    ))
+    -- is-among-requires
+    (λ c κs.
+    let a = c .before .before .before .before .before .before .args in
+    let asked = c .before .before .before .before .before .before .pre in
+    let B = a .s .now in
+    let d = c .before .before .before .digest-of .result in
+    let room = asked .0 .0 in
+    let short = asked .0 .2 in
+    let stay = keys-of.keys-same B (a .keys .now) (a .i) (a .place) (a .n) d room short (a .i) (omega arith) in (
+      (
+        keys-of.room-after B (a .keys .now) (a .i) (a .place) (a .n) d room short,
+        asked .0 .3,
+        keys-of.kept-same B (a .keys .now) (a .i) (a .place) (a .n) d room short (a .judge) (asked .0 .4),
+      ),
+      (c .before .before .before .digest-of .ensures, λ j. ap (among (span B (a .place) (a .n))) stay ∙ asked .1 j),
+    ))
+    -- same-length-2
+    (λ c. search needs)
+    -- returns-2
+    (λ c.
+    let a = c .before .before .before .before .before .before .before .args in
+    let asked = c .before .before .before .before .before .before .before .pre in
+    let B = a .s .now in
+    let digest-of = c .before .before .before .before .digest-of in
+    let d = digest-of .result in
+    let room = asked .0 .0 in
+    let short = asked .0 .2 in
+    let stay = keys-of.keys-same B (a .keys .now) (a .i) (a .place) (a .n) d room short (a .i) (omega arith) in
+    let low : d ≤ largest (a .keys .now) = subst (λ (k : ℕ). d ≤ k) (keys-of.largest-at B (a .keys .now) (a .i) (a .place) (a .n) d room short) (c .before .before .if1 .left) in (
+      c .is-among .ensures ∙ ap (among (span B (a .place) (a .n))) stay,
+      keys-of.keys-more B (a .keys .now) (a .i) (a .place) (a .n) d room short,
+      keys-of.kept-more B (a .keys .now) (a .i) (a .place) (a .n) d room short (a .judge) (asked .0 .4) (asked .0 .3) (digest-of .ensures) (λ _. low),
     )))

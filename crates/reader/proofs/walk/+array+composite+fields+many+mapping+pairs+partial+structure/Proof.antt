@@ -62,11 +62,13 @@ use Rattle.reader.proofs.keys.is_again.Reads as is-again-reads
 use Rattle.reader.proofs.leaf.content.Reads as content-reads
 use Rattle.reader.proofs.leaf.ones_in.Reads as ones-in-reads
 use Rattle.reader.proofs.leaf.presence.Reads as presence-reads
+use Rattle.reader.proofs.leaf.map_count.Reads as map-count-reads
 use Rattle.reader.proofs.leaf.read_count.Reads as read-count-reads
 use Rattle.reader.proofs.leaf.shown_of.Reads as shown-of-reads
 use Rattle.reader.proofs.sheet.put_row.Reads as put-row-reads
 use Rattle.reader.proofs.walk.leaves.Reads as leaves-reads
 use Rattle.schema.proofs.access.field.Reads as field-reads
+use Rattle.schema.proofs.access.known_row.Reads as known-row-reads
 use Rattle.schema.proofs.access.type_row.Reads as type-row-reads
 use Rattle.wire.proofs.bitmap.low_bits.Reads as low-bits-reads
 use Rattle.reader.proofs.walk.+array+composite+fields+many+mapping+pairs+partial+structure.{statement}
@@ -811,12 +813,12 @@ many-spec t =
     (λ c. c .before .before .before .pairs .ensures)
 
 abbrev mapping-calls : ℕ → mapping-lts.Claims
-mapping-calls t = (read-count-reads.Asked, read-count-reads.Learnt, put-row-reads.Asked, put-row-reads.Learnt, pairs-below t, pairs.Post, many-below t, many.Post)
+mapping-calls t = (map-count-reads.Asked, map-count-reads.Learnt, put-row-reads.Asked, put-row-reads.Learnt, pairs-below t, pairs.Post, many-below t, many.Post)
 
 mapping-spec : {M : Type 1} (t : ℕ) → mapping-lts.Closed (mapping-calls t) (mapping-at t) mapping.Post M
 mapping-spec t =
     mapping-lts.spec (mapping-calls t) (mapping-at t) mapping.Post
-    -- read-count-requires
+    -- map-count-requires
     (λ c κs. search needs)
     -- enum-known-number
     (λ c. search needs)
@@ -829,7 +831,7 @@ mapping-spec t =
     let T = tableOf (args .s .now) in
     let S = shape T in
     let p = args .p .now in
-    let read = c .before .before .before .before .read-count .ensures in
+    let read = c .before .before .before .before .map-count .ensures in
     let counted = c .before .before .n in
     let n = counted .given .0 .0 in
     let start = counted .given .0 .1 .0 in
@@ -841,7 +843,7 @@ mapping-spec t =
     let T = tableOf (args .s .now) in
     let S = shape T in
     let p = args .p .now in
-    let read = c .before .before .before .before .before .before .read-count .ensures in
+    let read = c .before .before .before .before .before .before .map-count .ensures in
     let counted = c .before .before .before .before .n in
     let n = counted .given .0 .0 in
     let start = counted .given .0 .1 .0 in
@@ -863,7 +865,7 @@ mapping-spec t =
     let R = firstFields (args .shown .now) S in
     let P = parse S (args .depth) in
     let p = args .p .now in
-    let read = back .read-count .ensures in
+    let read = back .map-count .ensures in
     let counted = c .before .before .before .before .before .before .before .n in
     let n = counted .given .0 .0 in
     let start = counted .given .0 .1 .0 in
@@ -886,7 +888,7 @@ mapping-spec t =
     let T = tableOf (args .s .now) in
     let S = shape T in
     let p = args .p .now in
-    let read = c .before .before .before .before .before .before .before .before .read-count .ensures in
+    let read = c .before .before .before .before .before .before .before .before .map-count .ensures in
     let counted = c .before .before .before .before .before .before .n in
     let n = counted .given .0 .0 in
     let start = counted .given .0 .1 .0 in
@@ -913,7 +915,7 @@ mapping-spec t =
     let R = firstFields (args .shown .now) S in
     let P = parse S (args .depth) in
     let p = args .p .now in
-    let read = back .before .before .before .read-count .ensures in
+    let read = back .before .before .before .map-count .ensures in
     let counted = back .before .n in
     let n = counted .given .0 .0 in
     let start = counted .given .0 .1 .0 in
@@ -930,7 +932,7 @@ mapping-spec t =
     let T = tableOf (args .s .now) in
     let S = shape T in
     let p = args .p .now in
-    let read = back .read-count .ensures in
+    let read = back .map-count .ensures in
     let counted = c .before .before .before .before .before .before .before .n in
     let n = counted .given .0 .0 in
     let start = counted .given .0 .1 .0 in
@@ -957,7 +959,7 @@ mapping-spec t =
     let R = firstFields (args .shown .now) S in
     let P = parse S (args .depth) in
     let p = args .p .now in
-    let read = back .before .before .before .before .read-count .ensures in
+    let read = back .before .before .before .before .map-count .ensures in
     let counted = back .before .before .n in
     let n = counted .given .0 .0 in
     let start = counted .given .0 .1 .0 in
@@ -971,7 +973,7 @@ mapping-spec t =
     let T = tableOf (args .s .now) in
     let S = shape T in
     let p = args .p .now in
-    let read = c .before .before .before .before .before .before .before .before .read-count .ensures in
+    let read = c .before .before .before .before .before .before .before .before .map-count .ensures in
     let counted = c .before .before .before .before .before .before .n in
     let n = counted .given .0 .0 in
     let start = counted .given .0 .1 .0 in
@@ -994,7 +996,7 @@ mapping-spec t =
     let S = shape T in
     let p = args .p .now in
     as-refused _ _ _
-    (map-refused S (args .depth) (args .ty) p (args .at) (args .key) (args .val) (asked .1 .0 .1) _ (c .before .before .before .read-count .ensures) _ (c .before .number .given .1)))
+    (map-refused S (args .depth) (args .ty) p (args .at) (args .key) (args .val) (asked .1 .0 .1) _ (c .before .before .before .map-count .ensures) _ (c .before .number .given .1)))
     -- same-length-4
     (λ c. c .before .before .many .kept .1 .1 .1 .0)
     -- returns-6
@@ -1007,7 +1009,7 @@ mapping-spec t =
     let R = firstFields (args .shown .now) S in
     let P = parse S (args .depth) in
     let p = args .p .now in
-    let read = back .before .before .read-count .ensures in
+    let read = back .before .before .map-count .ensures in
     let counted = back .n in
     let n = counted .given .0 .0 in
     let start = counted .given .0 .1 .0 in
@@ -1017,8 +1019,8 @@ mapping-spec t =
 
 abbrev pairs-calls : ℕ → pairs-lts.Claims
 pairs-calls t = (
-  type-row-reads.Asked,
-  type-row-reads.Learnt,
+  known-row-reads.Asked,
+  known-row-reads.Learnt,
   content-reads.Asked,
   content-reads.Learnt,
   is-again-reads.Asked,
@@ -1034,10 +1036,10 @@ pairs-spec t =
     pairs-lts.spec (pairs-calls t) (pairs-at t) pairs.Post
     pairs-Inv-loop
     pairs-μ-loop
-    -- type-row-requires
-    (λ c κs. c .before .before .before .before .pre .1 .0 .good)
-    -- type-row-requires-2
-    (λ c κs. c .before .before .before .before .before .pre .1 .0 .good)
+    -- known-row-requires
+    (λ c κs. let asked = c .before .before .before .before .pre .1 in (asked .0 .good, asked .1 .0 .0))
+    -- known-row-requires-2
+    (λ c κs. let asked = c .before .before .before .before .before .pre .1 in (asked .0 .good, asked .1 .0 .2))
     -- add-below
     (λ c. let pre = c .before .before .before .before .before .before .pre .1 .0 in omega arith)
     -- loop-holds
@@ -1095,7 +1097,7 @@ pairs-spec t =
     let here = cursorAt p (loop .here) in
     let some = c .before .before .loop-test .taken in
     let d0 = c .before .if1 .left in
-    let k = c .before .before .before .before .before .type-row in
+    let k = c .before .before .before .before .before .known-row in
     let kind = leafShape (k .result .kind) in
     let is = shape-leaf T (args .key) (k .result) (k .ensures) (rw (k .ensures) (asked .1 .1 .0 .0)) (rw (k .ensures) (asked .1 .1 .0 .1)) in
     let left : args .judge ≡ false → Accepted (walk P (inv .0) (pairs (args .n - loop .i) (args .key) (args .val)) here) =
@@ -1132,7 +1134,7 @@ pairs-spec t =
     let here = cursorAt p (loop .here) in
     let some = c .before .before .before .before .before .before .loop-test .taken in
     let d0 = c .before .before .before .before .before .if1 .left in
-    let k = back .type-row in
+    let k = back .known-row in
     let kind = leafShape (k .result .kind) in
     let is = shape-leaf T (args .key) (k .result) (k .ensures) (rw (k .ensures) (asked .1 .1 .0 .0)) (rw (k .ensures) (asked .1 .1 .0 .1)) in
     let failed = leaf-failed S (args .depth) (args .key) kind is d0 p (loop .here) _ (c .before .before .before .content .ensures) _ _ (c .before .place .given .1) in
@@ -1151,7 +1153,7 @@ pairs-spec t =
     let loop = c .before .before .before .before .before .before .before .before .loop in
     let some = c .before .before .before .before .before .before .before .loop-test .taken in
     let d0 = c .before .before .before .before .before .before .if1 .left in
-    let k = back .before .type-row in
+    let k = back .before .known-row in
     let kind = leafShape (k .result .kind) in
     let is = shape-leaf T (args .key) (k .result) (k .ensures) (rw (k .ensures) (asked .1 .1 .0 .0)) (rw (k .ensures) (asked .1 .1 .0 .1)) in
     let span = c .before .before .from in
@@ -1170,7 +1172,7 @@ pairs-spec t =
     let inv = loop .inv in
     let some = c .before .before .before .before .before .before .before .loop-test .taken in
     let d0 = c .before .before .before .before .before .before .if1 .left in
-    let k = back .before .type-row in
+    let k = back .before .known-row in
     let kind = leafShape (k .result .kind) in
     let is = shape-leaf T (args .key) (k .result) (k .ensures) (rw (k .ensures) (asked .1 .1 .0 .0)) (rw (k .ensures) (asked .1 .1 .0 .1)) in
     let span = c .before .before .from in
@@ -1203,7 +1205,7 @@ pairs-spec t =
     let here = cursorAt p (loop .here) in
     let some = back .before .before .loop-test .taken in
     let d0 = back .before .if1 .left in
-    let k = back .before .before .before .before .before .type-row in
+    let k = back .before .before .before .before .before .known-row in
     let kind = leafShape (k .result .kind) in
     let is = shape-leaf T (args .key) (k .result) (k .ensures) (rw (k .ensures) (asked .1 .1 .0 .0)) (rw (k .ensures) (asked .1 .1 .0 .1)) in
     let span = c .before .before .before .before .before .before .from in
@@ -1229,7 +1231,7 @@ pairs-spec t =
     let loop = back .before .before .before .before .loop in
     let some = back .before .before .before .loop-test .taken in
     let d0 = back .before .before .if1 .left in
-    let k = back .before .before .before .before .before .before .type-row in
+    let k = back .before .before .before .before .before .before .known-row in
     let kind = leafShape (k .result .kind) in
     let is = shape-leaf T (args .key) (k .result) (k .ensures) (rw (k .ensures) (asked .1 .1 .0 .0)) (rw (k .ensures) (asked .1 .1 .0 .1)) in
     let span = c .before .before .before .before .before .before .before .from in
@@ -1248,7 +1250,7 @@ pairs-spec t =
     let loop = back .before .before .before .before .loop in
     let some = back .before .before .before .loop-test .taken in
     let d0 = back .before .before .if1 .left in
-    let k = back .before .before .before .before .before .before .type-row in
+    let k = back .before .before .before .before .before .before .known-row in
     let kind = leafShape (k .result .kind) in
     let is = shape-leaf T (args .key) (k .result) (k .ensures) (rw (k .ensures) (asked .1 .1 .0 .0)) (rw (k .ensures) (asked .1 .1 .0 .1)) in
     let span = c .before .before .before .before .before .before .before .from in
@@ -1280,7 +1282,7 @@ pairs-spec t =
     let here = cursorAt p (loop .here) in
     let some = farther .loop-test .taken in
     let d0 = back .before .before .before .before .before .before .before .before .if1 .left in
-    let k = farther .before .before .before .type-row in
+    let k = farther .before .before .before .known-row in
     let kind = leafShape (k .result .kind) in
     let is = shape-leaf T (args .key) (k .result) (k .ensures) (rw (k .ensures) (asked .1 .1 .0 .0)) (rw (k .ensures) (asked .1 .1 .0 .1)) in
     let left : args .judge ≡ false → Accepted (walk P (inv .0) (pairs (args .n - loop .i) (args .key) (args .val)) here) =
@@ -1310,7 +1312,7 @@ pairs-spec t =
               deeper (λ k. Accepted (parse S k (args .val) (cursorAt p to))) (args .depth) d0
               (pair-value-accepted R S P p (args .key) (args .val) (args .n) (loop .i) (inv .0) (loop .here) some from to read new (loop .sum) (loop .below) (loop .sheet) _ (put .ensures) (left j));
         },
-        farther .before .before .type-row2 .ensures,
+        farther .before .before .known-row2 .ensures,
         c .before .if3 .taken,
       ),
     ))
@@ -1343,7 +1345,7 @@ pairs-spec t =
     let here = cursorAt p (loop .here) in
     let some = farther .before .before .before .before .before .before .loop-test .taken in
     let d0 = farther .before .before .before .before .before .if1 .left in
-    let k = farthest .type-row in
+    let k = farthest .known-row in
     let kind = leafShape (k .result .kind) in
     let is = shape-leaf T (args .key) (k .result) (k .ensures) (rw (k .ensures) (asked .1 .1 .0 .0)) (rw (k .ensures) (asked .1 .1 .0 .1)) in
     let left : args .judge ≡ false → Accepted (walk P (inv .0) (pairs (args .n - loop .i) (args .key) (args .val)) here) =
@@ -1382,7 +1384,7 @@ pairs-spec t =
     let inv = loop .inv in
     let some = farther .before .before .before .before .before .before .loop-test .taken in
     let d0 = farther .before .before .before .before .before .if1 .left in
-    let k = farthest .type-row in
+    let k = farthest .known-row in
     let kind = leafShape (k .result .kind) in
     let is = shape-leaf T (args .key) (k .result) (k .ensures) (rw (k .ensures) (asked .1 .1 .0 .0)) (rw (k .ensures) (asked .1 .1 .0 .1)) in
     let span = farther .before .from in
@@ -1409,7 +1411,7 @@ pairs-spec t =
     let here = cursorAt p (loop .here) in
     let some = farther .loop-test .taken in
     let d0 = back .before .before .before .before .before .before .before .before .if1 .left in
-    let k = farther .before .before .before .type-row in
+    let k = farther .before .before .before .known-row in
     let kind = leafShape (k .result .kind) in
     let is = shape-leaf T (args .key) (k .result) (k .ensures) (rw (k .ensures) (asked .1 .1 .0 .0)) (rw (k .ensures) (asked .1 .1 .0 .1)) in
     let left : args .judge ≡ false → Accepted (walk P (inv .0) (pairs (args .n - loop .i) (args .key) (args .val)) here) =
@@ -1427,7 +1429,7 @@ pairs-spec t =
     pair-new R S P p (args .key) (args .val) (args .n) (loop .i) (inv .0) (loop .here) some from to read (args .judge) _ left
     (λ j. again .1 .0 j ∙ ap (among (part p from to)) (sym (inv .8 j .0))) (c .before .before .before .before .before .before .before .if2 .left) in
     let put = c .before .before .before .before .before .put-row in
-    let v = farther .before .before .type-row2 in
+    let v = farther .before .before .known-row2 in
     let vkind = leafShape (v .result .kind) in
     let vis = shape-leaf T (args .val) (v .result) (v .ensures) (rw (v .ensures) (asked .1 .1 .0 .2)) (omega (arith, c .before .if3 .left)) in (
       asked .1 .0 .small,
@@ -1468,7 +1470,7 @@ pairs-spec t =
     let here = cursorAt p (loop .here) in
     let some = farther .before .before .before .before .loop-test .taken in
     let d0 = farther .before .before .before .if1 .left in
-    let k = farther .before .before .before .before .before .before .before .type-row in
+    let k = farther .before .before .before .before .before .before .before .known-row in
     let kind = leafShape (k .result .kind) in
     let is = shape-leaf T (args .key) (k .result) (k .ensures) (rw (k .ensures) (asked .1 .1 .0 .0)) (rw (k .ensures) (asked .1 .1 .0 .1)) in
     let left : args .judge ≡ false → Accepted (walk P (inv .0) (pairs (args .n - loop .i) (args .key) (args .val)) here) =
@@ -1486,7 +1488,7 @@ pairs-spec t =
     pair-new R S P p (args .key) (args .val) (args .n) (loop .i) (inv .0) (loop .here) some from to read (args .judge) _ left
     (λ j. again .1 .0 j ∙ ap (among (part p from to)) (sym (inv .8 j .0))) (back .before .before .if2 .left) in
     let put = back .put-row in
-    let v = farther .before .before .before .before .before .before .type-row2 in
+    let v = farther .before .before .before .before .before .before .known-row2 in
     let vkind = leafShape (v .result .kind) in
     let vis = shape-leaf T (args .val) (v .result) (v .ensures) (rw (v .ensures) (asked .1 .1 .0 .2)) (omega (arith, c .before .before .before .before .before .if3 .left)) in
     let failed = leaf-failed S (args .depth) (args .val) vkind vis d0 p to _ (c .before .before .before .content2 .ensures) _ _ (c .before .place2 .given .1) in
@@ -1514,14 +1516,14 @@ pairs-spec t =
     let loop = farther .before .before .before .before .before .before .loop in
     let some = farther .before .before .before .before .before .loop-test .taken in
     let d0 = farther .before .before .before .before .if1 .left in
-    let k = farther .before .before .before .before .before .before .before .before .type-row in
+    let k = farther .before .before .before .before .before .before .before .before .known-row in
     let kind = leafShape (k .result .kind) in
     let is = shape-leaf T (args .key) (k .result) (k .ensures) (rw (k .ensures) (asked .1 .1 .0 .0)) (rw (k .ensures) (asked .1 .1 .0 .1)) in
     let span = farther .from in
     let from = span .given .0 .0 in
     let to = span .given .0 .1 .0 in
     let i = leaf-in S (args .depth) (args .key) kind is d0 p (loop .here) _ (farther .before .before .content .ensures) from to (span .given .1) in
-    let v = farther .before .before .before .before .before .before .before .type-row2 in
+    let v = farther .before .before .before .before .before .before .before .known-row2 in
     let vkind = leafShape (v .result .kind) in
     let vis = shape-leaf T (args .val) (v .result) (v .ensures) (rw (v .ensures) (asked .1 .1 .0 .2)) (omega (arith, c .before .before .before .before .before .before .if3 .left)) in
     let vspan = c .before .before .from2 in
@@ -1539,14 +1541,14 @@ pairs-spec t =
     let loop = farther .before .before .before .before .before .before .loop in
     let some = farther .before .before .before .before .before .loop-test .taken in
     let d0 = farther .before .before .before .before .if1 .left in
-    let k = farther .before .before .before .before .before .before .before .before .type-row in
+    let k = farther .before .before .before .before .before .before .before .before .known-row in
     let kind = leafShape (k .result .kind) in
     let is = shape-leaf T (args .key) (k .result) (k .ensures) (rw (k .ensures) (asked .1 .1 .0 .0)) (rw (k .ensures) (asked .1 .1 .0 .1)) in
     let span = farther .from in
     let from = span .given .0 .0 in
     let to = span .given .0 .1 .0 in
     let i = leaf-in S (args .depth) (args .key) kind is d0 p (loop .here) _ (farther .before .before .content .ensures) from to (span .given .1) in
-    let v = farther .before .before .before .before .before .before .before .type-row2 in
+    let v = farther .before .before .before .before .before .before .before .known-row2 in
     let vkind = leafShape (v .result .kind) in
     let vis = shape-leaf T (args .val) (v .result) (v .ensures) (rw (v .ensures) (asked .1 .1 .0 .2)) (omega (arith, c .before .before .before .before .before .before .if3 .left)) in
     let vspan = c .before .before .from2 in
@@ -1584,7 +1586,7 @@ pairs-spec t =
     let here = cursorAt p (loop .here) in
     let some = back .before .before .before .before .before .before .before .before .loop-test .taken in
     let d0 = back .before .before .before .before .before .before .before .if1 .left in
-    let k = farther .before .before .type-row in
+    let k = farther .before .before .known-row in
     let kind = leafShape (k .result .kind) in
     let is = shape-leaf T (args .key) (k .result) (k .ensures) (rw (k .ensures) (asked .1 .1 .0 .0)) (rw (k .ensures) (asked .1 .1 .0 .1)) in
     let left : args .judge ≡ false → Accepted (walk P (inv .0) (pairs (args .n - loop .i) (args .key) (args .val)) here) =
@@ -1610,7 +1612,7 @@ pairs-spec t =
     (renamed (ap (λ (k : ℕ). parse S k (args .val) (cursorAt p to)) (deep (args .depth) d0)) (was (w .2 .ensures) (w .6 .given .1)))
     _ _ _ _ (w .9) (w .11) (w .10) (w .8))
     (λ w.
-    let v = farther .before .type-row2 in
+    let v = farther .before .known-row2 in
     let vis = shape-leaf T (args .val) (v .result) (v .ensures) (rw (v .ensures) (asked .1 .1 .0 .2)) (omega (arith, w .0 .left)) in
     let vspan = w .4 .given in
     pair-turn R S P p (args .key) (args .val) (args .n) (loop .i) (inv .0) (loop .here) some from to read new (loop .sum) (loop .below) (loop .sheet) _ (put .ensures) _ _ _ _
