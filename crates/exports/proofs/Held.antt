@@ -168,7 +168,7 @@ front-back (c ∷ cs) rest h =
     let more = later (c .correlation) (c .method) (marksOf c) (cellsOf cs ++ rest) 0 (length cs) ∙ front-back cs rest (λ i. h (suc i)) in
     λ k. (one k) ∷ (more k)
 
-cells-long : (l : List Call) → length (cellsOf l) ≡ 3 * length l
+pub cells-long : (l : List Call) → length (cellsOf l) ≡ 3 * length l
 unfolding cellsOf
 cells-long [] = refl
 cells-long (c ∷ cs) = let e = cells-long cs in omega arith
@@ -176,7 +176,7 @@ cells-long (c ∷ cs) = let e = cells-long cs in omega arith
 stored-long : (cells values : List ℕ) → length (stored cells values) ≡ length cells
 stored-long cells values = ap length (sym (sets-stored cells values)) ∙ length-sets cells 0 values
 
-stored-whole : (cells values : List ℕ) → length values ≤ length cells → stored cells values ≡ values ++ drop (length values) cells
+pub stored-whole : (cells values : List ℕ) → length values ≤ length cells → stored cells values ≡ values ++ drop (length values) cells
 unfolding stored
 stored-whole cells values h = rw (take-all (length cells) values h)
 

@@ -2,6 +2,9 @@
 pub mod Stores
 pub mod Bits
 pub mod Tables
+pub mod Remainders
+pub mod Slots
+pub mod Plans
 pub mod Tallies
 pub mod Judged
 pub mod Held

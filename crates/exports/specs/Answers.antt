@@ -33,8 +33,9 @@ use Rattle.salvage.specs.declared.Salvaging.{Salvaging}
 use Rattle.salvage.specs.Salvage.{salvageEntries, salvageBytes, salvageSpans}
 use Rattle.calls.specs.declared.Call.{Call}
 use Rattle.calls.specs.declared.Tally.{Tally}
+use Rattle.calls.specs.Step.{stepOf}
 use Rattle.line.specs.declared.Received.{Received}
-use Rattle.line.specs.Answer.{Line, line, stopped}
+use Rattle.line.specs.Answer.{Line, line, stopped, answerOf}
 use Rattle.line.specs.declared.Plan.{Plan}
 use Rattle.line.specs.Planning.{stopPlan}
 use Rattle.line.specs.Receive.{received}
@@ -44,6 +45,7 @@ use Rattle.scalar.specs.declared.Scalar.{Scalar}
 use Rattle.scalar.specs.declared.Scalar.the-variants.{Truth, Signed, Unsigned, Float32, Float64, Span}
 use Rattle.scalar.specs.declared.Answer.{Answer}
 use Rattle.scalar.specs.declared.Answer.the-variants.{Is, Refused}
+use Rattle.exports.specs.declared.Done.{Done}
 use Rattle.exports.specs.Cells.{stored}
 use Rattle.exports.specs.Records.{callsOf, cellsOf, areCalls, rowsOf}
 
@@ -194,6 +196,10 @@ judgement known schema side bytes sheet ts l =
 -- One frame against the call table and the tally rows that these cells hold. Cells that are no call table are refused as one that is not good.
 abbrev pub receiving : (table schema : List ℕ) (side : ℕ) (bytes sheet tallies : List ℕ) → Line
 receiving table schema side bytes sheet tallies = judgement (areCalls table) schema side bytes sheet (rowsOf tallies) (callsOf table)
+
+-- A plan settled up to the call table, as an answer over the call table l.
+abbrev pub answerIn : Done → List Call → Received
+answerIn d l = answerOf (d .size) (stepOf (d .judged) (numbers (d .reading) .number) l) (d .reading)
 
 -- The cells afterwards: those of the next table; cells that are no call table stay as they are.
 abbrev pub callCells : (table : List ℕ) → List Call → List ℕ

@@ -1,12 +1,23 @@
 // The call table in cells that the caller lends, three a record.
+use crate::apart::distinct;
 use crate::cells::put;
 use calls::Call;
 use calls::CallTable;
+use calls::forms::row_of;
+use calls::record::EMPTY;
+use schema::Found;
+use schema::access::method;
+use schema::access::method_count;
 ghost use mathlib.Core.Path.{_≡_};
-ghost use mathlib.Core.Bool.{cond};
+ghost use mathlib.Core.Bool.{cond, _&&_};
 ghost use Prim.Native.Nat.{_*_, _≤_, _<_};
+ghost use lib.Dec.{ltb};
 ghost use lib.ListN.{getD};
 ghost use lib.Seq.{sets};
+ghost use Rattle.schema.specs.File.{tableOf};
+ghost use Rattle.schema.specs.Check.{IsGood};
+ghost use Rattle.calls.specs.Record.{isCall, isFree};
+ghost use Rattle.calls.specs.Slots.{slot, goodCall, goodTable, firstSlot, countOpen};
 ghost use Rattle.exports.specs.Cells.{stored};
 ghost use Rattle.exports.specs.Records.{callOf, callAt, callsOf, marksOf, recordCells, cellsOf, plain, areCalls};
 ghost use Rattle.exports.specs.Answers.{callCells};
@@ -81,6 +92,154 @@ pub fn load(cells: &[u64]) -> CallTable
     table
 }
 
+// The record at a slot, and an empty one past the last.
+pub fn slot_at(cells: &[u64], i: usize) -> Call
+    ensures { λ r. ⌜ r ≡ slot (callsOf (now (cells .entry))) i ⌝ }
+{
+    if i < 128 { call_at(cells, i) } else { EMPTY }
+}
+
+// A record is good by a good schema table. One that is free and one that is no more than open are told at a glance.
+fn is_good(s: &[u8], id: u64, method: u64, marks: u64) -> bool
+    requires { ⌜ IsGood (now s) ⌝ }
+    ensures { λ r. ⌜ r ≡ (plain method marks && goodCall (tableOf (now (s .entry))) (callOf id method marks)) ⌝ }
+{
+    if (id == 0) & ((method == 0) & (marks == 0)) {
+        return true;
+    }
+    if marks == 1 {
+        return method < (method_count(s) as u64);
+    }
+    is_plain(method, marks) & is_good_call(s, call_of(id, method, marks))
+}
+
+fn is_good_call(s: &[u8], call: Call) -> bool
+    requires { ⌜ IsGood (now s) ⌝ }
+    ensures { λ r. ⌜ r ≡ goodCall (tableOf (now (s .entry))) call ⌝ }
+{
+    if call.open {
+        let m = method(s, call.method as usize);
+        call.is_good_open(method_count(s), row_of(m.form))
+    } else {
+        call.is_zero()
+    }
+}
+
+// The cells are a call table that is good by a good schema table. The open correlations are copied out once and compared there.
+pub fn are_good(cells: &[u64], s: &[u8]) -> bool
+    requires { ⌜ IsGood (now s) ⌝ }
+    ensures { λ r. ⌜ r ≡ (areCalls (now (cells .entry)) && goodTable (tableOf (now (s .entry))) (callsOf (now (cells .entry)))) ⌝ }
+{
+    if cells.len() < 384 {
+        return false;
+    }
+    let mut ids = [0u64; 128];
+    let mut n: usize = 0;
+    let mut i: usize = 0;
+    while i < 128 {
+        let id = cells[3 * i];
+        let marks = cells[3 * i + 2];
+        if !is_good(s, id, cells[3 * i + 1], marks) {
+            return false;
+        }
+        if marks % 2 == 1 {
+            ids[n] = id;
+            n += 1;
+        }
+        i += 1;
+    }
+    distinct(&ids[..n])
+}
+
+// The record at a slot is that of an open call.
+fn is_open(cells: &[u64], i: usize) -> bool
+    requires { ⌜ i < 128 ⌝ }
+    ensures { λ r. ⌜ r ≡ callAt (now (cells .entry)) i .«open» ⌝ }
+{
+    cell(cells, 3 * i + 2) % 2 == 1
+}
+
+// The same under this correlation.
+fn is_call(cells: &[u64], i: usize, id: u64) -> bool
+    requires { ⌜ i < 128 ⌝ }
+    ensures { λ r. ⌜ r ≡ isCall id (callAt (now (cells .entry)) i) ⌝ }
+{
+    is_open(cells, i) & (cell(cells, 3 * i) == id)
+}
+
+// The slot of the open call with this correlation.
+fn find_in(cells: &[u64], id: u64) -> Found
+    ensures { λ r. ⌜ r ≡ firstSlot (isCall id) 0 (callsOf (now (cells .entry))) ⌝ }
+{
+    let mut i: usize = 0;
+    while i < 128 {
+        if is_call(cells, i, id) {
+            return Found::At(i);
+        }
+        i += 1;
+    }
+    Found::Missing
+}
+
+// The same. In the cells of a whole table none is missing, and the loop over them needs no such test.
+pub fn find(cells: &[u64], id: u64) -> Found
+    ensures { λ r. ⌜ r ≡ firstSlot (isCall id) 0 (callsOf (now (cells .entry))) ⌝ }
+{
+    if 384 <= cells.len() {
+        return find_in(&cells[..384], id);
+    }
+    find_in(cells, id)
+}
+
+// The lowest free slot.
+fn free_slot_in(cells: &[u64]) -> Found
+    ensures { λ r. ⌜ r ≡ firstSlot isFree 0 (callsOf (now (cells .entry))) ⌝ }
+{
+    let mut i: usize = 0;
+    while i < 128 {
+        if !is_open(cells, i) {
+            return Found::At(i);
+        }
+        i += 1;
+    }
+    Found::Missing
+}
+
+// The same. In the cells of a whole table none is missing, and the loop over them needs no such test.
+pub fn free_slot(cells: &[u64]) -> Found
+    ensures { λ r. ⌜ r ≡ firstSlot isFree 0 (callsOf (now (cells .entry))) ⌝ }
+{
+    if 384 <= cells.len() {
+        return free_slot_in(&cells[..384]);
+    }
+    free_slot_in(cells)
+}
+
+// How many calls are open.
+fn open_count_in(cells: &[u64]) -> usize
+    ensures { λ r. ⌜ (r ≡ countOpen (callsOf (now (cells .entry)))) × (r ≤ 128) ⌝ }
+{
+    let mut n: usize = 0;
+    let mut i: usize = 0;
+    while i < 128 {
+        if is_open(cells, i) {
+            n += 1;
+        }
+        i += 1;
+    }
+    n
+}
+
+// The same. In the cells of a whole table none is missing, and the loop over them needs no such test.
+pub fn open_count(cells: &[u64]) -> usize
+    ensures { λ r. ⌜ (r ≡ countOpen (callsOf (now (cells .entry)))) × (r ≤ 128) ⌝ }
+{
+    if 384 <= cells.len() {
+        return open_count_in(&cells[..384]);
+    }
+    open_count_in(cells)
+}
+
 fn mark(b: bool) -> u64
     ensures { λ r. ⌜ (r ≡ cond b 1 0) × (r ≤ 1) ⌝ }
 {
@@ -117,6 +276,15 @@ pub fn save(cells: &mut [u64], table: CallTable)
     while i < 128 {
         put_call(cells, i, table.slots[i]);
         i += 1;
+    }
+}
+
+// A record put at a slot; past the last nothing changes.
+pub fn put_slot(cells: &mut [u64], i: usize, call: Call)
+    ensures { λ _. ⌜ now (cells .exit) ≡ cond (ltb i 128) (sets (now (cells .entry)) (3 * i) (recordCells call)) (now (cells .entry)) ⌝ }
+{
+    if i < 128 {
+        put_call(cells, i, call);
     }
 }
 

@@ -3,6 +3,8 @@ pub mod Leaves
 pub mod Heads
 pub mod Steps
 pub mod Composites
+pub mod Flats
+pub mod Turns
 pub mod Partials
 pub mod Roots
 pub mod Besides

@@ -2,5 +2,6 @@
 pub mod Sheet
 pub mod Leaf
 pub mod Walk
+pub mod Flat
 pub mod Entry
 pub mod Beside

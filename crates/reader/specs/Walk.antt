@@ -100,10 +100,6 @@ abbrev pub Held : (known s p : List ℕ) (depth ty : ℕ) → Shape → (place h
 Held known s p depth ty sh place head at row sheet r after =
     Walked p at (heldIn known s sh head) (wholeIn s p depth ty sh place head at) row sheet r after
 
--- The same, whatever is known: no struct is in it.
-abbrev pub HeldLeaves : (s p : List ℕ) (depth ty : ℕ) → Shape → (place head at row : ℕ) (sheet : List ℕ) → Walk → (after : List ℕ) → Type 0
-HeldLeaves s p depth ty sh place head at row sheet r after = (known : List ℕ) → Held known s p depth ty sh place head at row sheet r after
-
 -- A struct of the fields fs from its bits on, with its row as it is shown.
 abbrev pub Shown : (known s p : List ℕ) (depth ty : ℕ) → List Field → (place head at row : ℕ) (sheet : List ℕ) → Walk → (after : List ℕ) → Type 0
 Shown known s p depth ty fs place head at row sheet r after =

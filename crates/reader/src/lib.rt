@@ -1,5 +1,6 @@
 // The payload reader: values of a schema table's types, shown as rows of a sheet.
 pub mod beside;
+pub mod flat;
 pub mod keys;
 pub mod leaf;
 pub mod sheet;

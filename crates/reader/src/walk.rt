@@ -2,6 +2,8 @@
 // They read the payload p by the schema table s and write a row for each value, from `row` on, where the sheet has it.
 // Of a struct of type ty the first shown[ty] fields are shown: the others are read, and have no rows.
 // A walk that does not judge trusts that the same walk has been judged: it skips the tests that would read contents again.
+use crate::flat::elements;
+use crate::flat::is_flat;
 use crate::keys::is_again;
 use crate::leaf::Count;
 use crate::leaf::Head;
@@ -26,7 +28,7 @@ ghost use Rattle.schema.specs.Table.{rowAt, array, map, struct};
 ghost use Rattle.schema.specs.File.{tableOf};
 ghost use Rattle.value.specs.Read.{present};
 ghost use Rattle.parts.specs.Shape.{fieldsFrom, shapeIn};
-ghost use Rattle.reader.specs.Walk.{valueIn, wholeIn, rootIn, Valued, Held, HeldLeaves, Shown, Rooted, Ready};
+ghost use Rattle.reader.specs.Walk.{valueIn, wholeIn, rootIn, Valued, Held, Shown, Rooted, Ready};
 
 // The place and the row after what was read, and the key comparisons due in it; or a refusal.
 // The narrow number comes first: two wide ones side by side would be moved as one, and wait for both.
@@ -101,7 +103,10 @@ fn array(
             let t = type_row(s, elem as usize);
             let kind = t.kind;
             if kind < 14 {
-                return leaves(s, p, sheet, ty, elem, n, start, depth, row, judge);
+                return elements(s, p, sheet, ty, elem, n, start, depth, row, judge);
+            }
+            if is_flat(shown, s, elem, depth) {
+                return elements(s, p, sheet, ty, elem, n, start, depth, row, judge);
             }
             let mut left = n;
             let mut here = start;
@@ -133,55 +138,6 @@ fn array(
                 row: below,
             }
         }
-    }
-}
-
-// The n elements of an array from a place on that are scalars, strings or bytes.
-fn leaves(
-    s: &[u8],
-    p: &[u8],
-    sheet: &mut [u32],
-    ty: u32,
-    elem: u32,
-    n: usize,
-    start: usize,
-    depth: usize,
-    row: usize,
-    judge: bool,
-) -> Walk
-    requires { ⌜ Ready (now s) (now p) start (row + 1) judge (wholeIn (now s) (now p) depth ty (array elem) start n start) ⌝ }
-    requires { ⌜ (0 < rowAt (tableOf (now s)) elem .kind) × (rowAt (tableOf (now s)) elem .kind < 14) × (n ≤ 16384) ⌝ }
-    ensures { λ r. ⌜ HeldLeaves (now (s .entry)) (now (p .entry)) depth ty (array elem) start n start row (now (sheet .entry)) r (now (sheet .exit)) ⌝ }
-{
-    let t = type_row(s, elem as usize);
-    let kind = t.kind as usize;
-    let mut left = n;
-    let mut here = start;
-    let mut below = row + 1;
-    while 0 < left {
-        if depth == 0 {
-            return Walk::Refused {
-                number: 28,
-                place: here,
-            };
-        }
-        match content(p, kind, here, judge) {
-            Span::Bad { number, place } => {
-                return Walk::Refused { number, place };
-            }
-            Span::At { from, to } => {
-                put_row(sheet, below, elem, from, to - from, 0);
-                here = to;
-                below = below + 1;
-            }
-        }
-        left = left - 1;
-    }
-    put_row(sheet, row, ty, start, here - start, n);
-    Walk::Past {
-        due: 0,
-        next: here,
-        row: below,
     }
 }
 

@@ -1,37 +1,54 @@
--- `exports::receive::arf_receive` meets its contract. Assumes nothing.
-use mathlib.Core.Path.{refl, ap, _∙_}
+-- `exports::receive::arf_receive` meets its contract: the judgement, the record that it changes, and the numbers told.
+-- Assumes nothing.
+use mathlib.Core.Path.{ap, _∙_}
+use denote.Ref.{now}
 use borrow.Author.Needs.{needs}
 use Rattle.line.specs.declared.Received.{Received}
-use Rattle.exports.specs.Records.{rowsOf, rowCells}
-use Rattle.exports.specs.Answers.{judgement, callCells, receivedCells}
-use Rattle.exports.proofs.Stores.{told}
+use Rattle.exports.specs.Cells.{stored}
+use Rattle.exports.specs.Answers.{callCells, receivedCells}
+use Rattle.exports.proofs.Plans.{answer-number, answer-cells, answer-table}
 use Rattle.exports.proofs.receive.arf_receive.Statement.{statement}
 use Rattle.exports.proofs.receive.arf_receive.Tie as tie
 
-keep-requires : tie.Need-keep-requires
-keep-requires c κs =
-    let at-judge = c .before .before .before .before .before .before .before .before .before .before .before in
-    at-judge .before .before .before .before .before .are-calls .ensures
-
 returns : tie.Need-returns
 returns c =
-    let at-keep = c .before .before in
-    let at-store = at-keep .before .before .before .before in
-    let at-judge = at-store .before .before .before .before .before .before .before .before in
-    let at-load = at-judge .before .before .before in
-    let at-known = at-load .before .before in
-    let a = at-known .before .before .before .before .before .before .before .before .args in
-    let known = at-known .are-calls .ensures in
-    let slots = at-load .load .ensures in
-    let sheet = a .sheet .now in
-    let tallies = a .tallies .now in
-    let e = at-judge .judge .ensures in
-    let answer = e .0 ∙ (λ i. judgement (known i) (a .schema .now) (a .side) (a .bytes .now) sheet (rowsOf tallies) (slots i) .answer) in
-    let sheet-is = e .1 .0 ∙ (λ i. judgement (known i) (a .schema .now) (a .side) (a .bytes .now) sheet (rowsOf tallies) (slots i) .sheet) in
-    let rows-are = e .1 .1 ∙ (λ i. rowCells tallies (judgement (known i) (a .schema .now) (a .side) (a .bytes .now) sheet (rowsOf tallies) (slots i) .tallies)) in
-    let table = at-keep .keep .ensures ∙ ap (λ (r : Received). callCells (a .table .now) (r .table .slots)) answer in
-    let told-so = told (λ (r : Received). r .number) receivedCells (a .answer .now) answer refl refl (at-store .store .ensures) in
-    (told-so .0, (table, (sheet-is, (rows-are, told-so .1))))
+    let at-judge = c .before .before .before .before .before .before .before .before .before .before .before .before .before .before .before .before .before .before .before .before in
+    let a = at-judge .before .before .before .before .before .before .before .before .before .before .args in
+    let cells = now (a .table) in
+    let judge = at-judge .judge-cells in
+    let d = judge .result in
+    let e = judge .ensures in
+    let payload = c .before .before .before .before .before .before .before .before .before .before .before .before .before .before .before .number-of in
+    let number = c .before .before .before .before .before .before .before .before .before .before .before .before .before .before .number-after in
+    let change = c .before .before .before .before .before .before .before .before .before .before .before .before .before .change-of in
+    let used = c .before .before .before .before .before .before .before .before .before .before .before .before .used-of in
+    let calls = c .before .before .before .before .before .before .before .before .before .before .open-after in
+    let J = d .judged in
+    let reading = d .reading in
+    let size = d .size in
+    let slot = change .result .slot in
+    let call = change .result .call in
+    let told =
+    answer-cells cells J reading size (payload .result) (number .result) slot (calls .result) (used .result) call
+    (payload .ensures) (number .ensures) (change .ensures) (used .ensures) (calls .ensures) in
+    let table =
+    answer-table cells J reading size (payload .result) (number .result) slot (calls .result) (used .result) call
+    (payload .ensures) (number .ensures) (change .ensures) (e .1 .1 .1) in
+    let first =
+    answer-number cells J reading size (payload .result) (number .result) slot (calls .result) (used .result) call
+    (payload .ensures) (number .ensures) (change .ensures) in (
+      first ∙ ap (λ (r : Received). r .number) (e .0),
+      (
+        c .before .before .put-slot .ensures ∙ table ∙ ap (λ (r : Received). callCells cells (r .table .slots)) (e .0),
+        (
+          e .1 .0,
+          (
+            e .1 .1 .0,
+            c .before .before .before .before .before .before .store .ensures ∙ ap (stored (now (a .answer))) (c .before .before .before .before .before .before .before .before .before .received-cells .ensures ∙ told ∙ ap receivedCells (e .0)),
+          ),
+        ),
+      ),
+    )
 
 pub arf-receive-spec : {M : Type 1} → statement M
 arf-receive-spec =
@@ -40,9 +57,13 @@ arf-receive-spec =
     (λ c κs. search needs)
     (λ c κs. search needs)
     (λ c κs. search needs)
+    (λ c κs. search needs)
+    (λ c κs. search needs)
+    (λ c κs. search needs)
+    (λ c κs. search needs)
     (λ c. search needs)
     (λ c κs. search needs)
-    keep-requires
+    (λ c κs. search needs)
     (λ c. search needs)
     (λ c. search needs)
     (λ c. search needs)

@@ -24,6 +24,7 @@ use Rattle.reader.proofs.Composites.{element-past, element-stop, elemen
 use Rattle.reader.proofs.Composites.{pair-key-accepted, pair-key-stop, pair-new, pair-old, pair-again, pair-value-accepted, pair-value-stop, Paired, pair-turn}
 use Rattle.reader.proofs.Composites.{own-due, few-pairs, pairs-first}
 use Rattle.reader.proofs.Partials.{mine-count, fields-accepted, fields-stop, others-accepted, others-stop, others-past}
+use Rattle.reader.proofs.Turns.{flat-leaf, leaf-shown}
 use Rattle.parts.specs.Shape.{leafShape, fieldsFrom}
 use Rattle.parts.specs.Keys.{keysIn, Kept}
 use Rattle.parts.proofs.Keys.{keys-none}
@@ -66,7 +67,8 @@ use Rattle.reader.proofs.leaf.map_count.Reads as map-count-reads
 use Rattle.reader.proofs.leaf.read_count.Reads as read-count-reads
 use Rattle.reader.proofs.leaf.shown_of.Reads as shown-of-reads
 use Rattle.reader.proofs.sheet.put_row.Reads as put-row-reads
-use Rattle.reader.proofs.walk.leaves.Reads as leaves-reads
+use Rattle.reader.proofs.flat.elements.Reads as elements-reads
+use Rattle.reader.proofs.flat.is_flat.Reads as is-flat-reads
 use Rattle.schema.proofs.access.field.Reads as field-reads
 use Rattle.schema.proofs.access.known_row.Reads as known-row-reads
 use Rattle.schema.proofs.access.type_row.Reads as type-row-reads
@@ -180,8 +182,10 @@ array-calls t = (
   read-count-reads.Learnt,
   type-row-reads.Asked,
   type-row-reads.Learnt,
-  leaves-reads.Asked,
-  leaves-reads.Learnt,
+  elements-reads.Asked,
+  elements-reads.Learnt,
+  is-flat-reads.Asked,
+  is-flat-reads.Learnt,
   composite-below t,
   composite.Post,
   put-row-reads.Asked,
@@ -201,7 +205,7 @@ array-spec t =
     (λ c. search needs)
     -- type-row-requires
     (λ c κs. c .before .before .before .before .before .before .before .pre .1 .0 .good)
-    -- leaves-requires
+    -- elements-requires
     (λ c κs.
     let args = c .before .before .before .before .before .before .before .before .before .before .args in
     let asked = c .before .before .before .before .before .before .before .before .before .before .pre in
@@ -213,13 +217,15 @@ array-spec t =
     let n = counted .given .0 .0 in
     let start = counted .given .0 .1 .0 in
     let w = count-in S (args .depth) (args .ty) p (args .at) 1 _ read n start (counted .given .1) in
+    let t = c .before .before .type-row in
     let pre = asked .1 .0 in
     let whole = array-whole S (args .depth) (args .ty) p (args .at) (args .elem) (asked .1 .1) _ read n start (counted .given .1) in (
       record { good = pre .good; small = pre .small; inside = omega arith; behind = omega arith; judged = λ j. rw whole at (pre .judged j) },
-      (asked .1 .2, rw (c .before .before .type-row .ensures) at (c .before .if1 .taken), omega arith),
+      flat-leaf _ (args .depth) (args .elem) (t .result) (t .ensures) (rw (t .ensures) (asked .1 .2)) (c .before .if1 .taken),
+      omega arith,
     ))
     -- same-length
-    (λ c. c .before .before .leaves .kept .1 .1 .0)
+    (λ c. c .before .before .elements .kept .1 .1 .0)
     -- returns
     (λ c.
     let back = c .before .before .before .before .before .before .before .before .before in
@@ -230,40 +236,80 @@ array-spec t =
     let R = firstFields (args .shown .now) S in
     let P = parse S (args .depth) in
     let p = args .p .now in
-    let read = back .read-count .ensures in
+    let t = c .before .before .before .before .before .type-row in
+    let read = c .before .before .before .before .before .before .before .before .before .read-count .ensures in
     let counted = c .before .before .before .before .before .before .before .n in
     let n = counted .given .0 .0 in
     let start = counted .given .0 .1 .0 in
     array-valued S (args .depth) (args .ty) p (args .at) (args .elem) (asked .1 .1) _ read R (first-of (args .shown .now) S (args .ty) (asked .1 .1)) n start (counted .given .1) _
-    (c .before .before .leaves .ensures (args .shown .now)))
-    -- add-below
-    (λ c. let pre = c .before .before .before .before .before .before .before .before .before .pre .1 .0 in omega arith)
-    -- loop-holds
-    (λ c.
-    let args = c .before .before .before .before .before .before .before .before .before .args in
-    let asked = c .before .before .before .before .before .before .before .before .before .pre in
+    (c .before .before .elements .ensures R (leaf-shown (args .s .now) (args .depth) (args .elem) (t .result) (t .ensures) (rw (t .ensures) (asked .1 .2)) (c .before .before .before .before .if1 .taken) (args .shown .now))))
+    -- is-flat-requires
+    (λ c κs. c .before .before .before .before .before .before .before .before .before .pre .1 .0 .good)
+    -- elements-requires-2
+    (λ c κs.
+    let args = c .before .before .before .before .before .before .before .before .before .before .before .before .args in
+    let asked = c .before .before .before .before .before .before .before .before .before .before .before .before .pre in
     let T = tableOf (args .s .now) in
     let S = shape T in
     let p = args .p .now in
-    let read = c .before .before .before .before .before .read-count .ensures in
-    let counted = c .before .before .before .n in
+    let read = c .before .before .before .before .before .before .before .before .read-count .ensures in
+    let counted = c .before .before .before .before .before .before .n in
     let n = counted .given .0 .0 in
     let start = counted .given .0 .1 .0 in
     let w = count-in S (args .depth) (args .ty) p (args .at) 1 _ read n start (counted .given .1) in
-    let pre = asked .1 .0 in (refl, omega arith, omega arith, omega arith, refl))
+    let pre = asked .1 .0 in
+    let whole = array-whole S (args .depth) (args .ty) p (args .at) (args .elem) (asked .1 .1) _ read n start (counted .given .1) in (
+      record { good = pre .good; small = pre .small; inside = omega arith; behind = omega arith; judged = λ j. rw whole at (pre .judged j) },
+      c .before .before .is-flat .ensures (c .before .if2 .taken) .0,
+      omega arith,
+    ))
     -- same-length-2
-    (λ c. c .before .before .loop .inv .4)
+    (λ c. c .before .before .elements2 .kept .1 .1 .0)
     -- returns-2
     (λ c.
-    let args = c .before .before .before .before .before .before .before .before .before .before .before .before .args in
-    let asked = c .before .before .before .before .before .before .before .before .before .before .before .before .pre in
+    let back = c .before .before .before .before .before .before .before .before .before in
+    let args = back .before .before .before .before .before .before .args in
+    let asked = back .before .before .before .before .before .before .pre in
     let T = tableOf (args .s .now) in
     let S = shape T in
     let R = firstFields (args .shown .now) S in
     let P = parse S (args .depth) in
     let p = args .p .now in
-    let read = c .before .before .before .before .before .before .before .before .read-count .ensures in
-    let counted = c .before .before .before .before .before .before .n in
+    let read = c .before .before .before .before .before .before .before .before .before .before .before .read-count .ensures in
+    let counted = c .before .before .before .before .before .before .before .before .before .n in
+    let n = counted .given .0 .0 in
+    let start = counted .given .0 .1 .0 in
+    array-valued S (args .depth) (args .ty) p (args .at) (args .elem) (asked .1 .1) _ read R (first-of (args .shown .now) S (args .ty) (asked .1 .1)) n start (counted .given .1) _
+    (c .before .before .elements2 .ensures R (c .before .before .before .before .before .is-flat .ensures (c .before .before .before .before .if2 .taken) .1)))
+    -- add-below
+    (λ c. let pre = c .before .before .before .before .before .before .before .before .before .before .before .pre .1 .0 in omega arith)
+    -- loop-holds
+    (λ c.
+    let args = c .before .before .before .before .before .before .before .before .before .before .before .args in
+    let asked = c .before .before .before .before .before .before .before .before .before .before .before .pre in
+    let T = tableOf (args .s .now) in
+    let S = shape T in
+    let p = args .p .now in
+    let read = c .before .before .before .before .before .before .before .read-count .ensures in
+    let counted = c .before .before .before .before .before .n in
+    let n = counted .given .0 .0 in
+    let start = counted .given .0 .1 .0 in
+    let w = count-in S (args .depth) (args .ty) p (args .at) 1 _ read n start (counted .given .1) in
+    let pre = asked .1 .0 in (refl, omega arith, omega arith, omega arith, refl))
+    -- same-length-3
+    (λ c. c .before .before .loop .inv .4)
+    -- returns-3
+    (λ c.
+    let back = c .before .before .before .before .before .before .before .before .before in
+    let args = back .before .before .before .before .before .args in
+    let asked = back .before .before .before .before .before .pre in
+    let T = tableOf (args .s .now) in
+    let S = shape T in
+    let R = firstFields (args .shown .now) S in
+    let P = parse S (args .depth) in
+    let p = args .p .now in
+    let read = c .before .before .before .before .before .before .before .before .before .before .read-count .ensures in
+    let counted = c .before .before .before .before .before .before .before .before .n in
     let n = counted .given .0 .0 in
     let start = counted .given .0 .1 .0 in
     let loop = c .before .before .loop in
@@ -272,21 +318,21 @@ array-spec t =
     array-valued S (args .depth) (args .ty) p (args .at) (args .elem) (asked .1 .1) _ read R (first-of (args .shown .now) S (args .ty) (asked .1 .1)) n start (counted .given .1) _
     (composite-stop R S P (array (args .elem)) (args .ty) start n (cursorAt p start) (args .row) (args .sheet .now) p start _ _ _
     (element-stop R S P (args .elem) (loop .left) (c .before .loop-test .taken) here (loop .sum) (loop .below) (loop .sheet) _ _
-    (stop-at (told R S (args .elem)) _ (loop .below) (loop .sheet) _ _ (parse-deep S (args .depth) (args .elem) here (c .if2 .taken))) ∙ inv .0)))
+    (stop-at (told R S (args .elem)) _ (loop .below) (loop .sheet) _ _ (parse-deep S (args .depth) (args .elem) here (c .if3 .taken))) ∙ inv .0)))
     -- sub-composite
     (λ c. search needs)
     -- composite-requires
     (λ c κs.
     let back = c .before .before .before .before .before .before .before .before .before in
-    let args = back .before .before .before .before .args in
-    let asked = back .before .before .before .before .pre in
+    let args = back .before .before .before .before .before .before .args in
+    let asked = back .before .before .before .before .before .before .pre in
     let T = tableOf (args .s .now) in
     let S = shape T in
     let R = firstFields (args .shown .now) S in
     let P = parse S (args .depth) in
     let p = args .p .now in
-    let read = back .read-count .ensures in
-    let counted = c .before .before .before .before .before .before .before .n in
+    let read = c .before .before .before .before .before .before .before .before .before .before .before .read-count .ensures in
+    let counted = c .before .before .before .before .before .before .before .before .before .n in
     let n = counted .given .0 .0 in
     let start = counted .given .0 .1 .0 in
     let loop = c .before .before .before .loop in
@@ -303,39 +349,39 @@ array-spec t =
           inside = inv .1;
           behind = inv .2;
           judged = λ j.
-              deeper (λ k. Accepted (parse S k (args .elem) here)) (args .depth) (c .before .if2 .left)
+              deeper (λ k. Accepted (parse S k (args .elem) here)) (args .depth) (c .before .if3 .left)
               (element-accepted R S P (args .elem) (loop .left) (c .before .before .loop-test .taken) here (loop .sum) (loop .below) (loop .sheet)
               (rest-accepted R S P (array (args .elem)) (args .ty) start n (cursorAt p start) (args .row) (args .sheet .now)
               (walk P [] items here) items (loop .sum) (loop .below) (loop .sheet) (inv .0) (rw whole at (pre .judged j))));
         },
-        c .before .before .before .before .before .type-row .ensures,
-        c .before .before .before .before .if1 .left,
+        c .before .before .before .before .before .before .before .type-row .ensures,
+        c .before .before .before .before .before .before .if1 .left,
       ),
     ))
     -- enum-known-number-2
     (λ c. search needs)
-    -- same-length-3
+    -- same-length-4
     (λ c. c .before .before .before .before .before .composite .kept .1 .1 .1 .0 ∙ c .before .before .before .before .before .before .before .before .before .loop .inv .4)
-    -- returns-3
+    -- returns-4
     (λ c.
     let back = c .before .before .before .before .before .before .before .before .before in
     let farther = back .before .before .before .before .before .before .before .before .before in
-    let args = farther .before .args in
-    let asked = farther .before .pre in
+    let args = farther .before .before .before .args in
+    let asked = farther .before .before .before .pre in
     let T = tableOf (args .s .now) in
     let S = shape T in
     let R = firstFields (args .shown .now) S in
     let P = parse S (args .depth) in
     let p = args .p .now in
-    let read = back .before .before .before .before .before .before .read-count .ensures in
-    let counted = back .before .before .before .before .n in
+    let read = back .before .before .before .before .before .before .before .before .read-count .ensures in
+    let counted = back .before .before .before .before .before .before .n in
     let n = counted .given .0 .0 in
     let start = counted .given .0 .1 .0 in
-    let loop = back .loop in
+    let loop = c .before .before .before .before .before .before .before .before .before .loop in
     let inv = loop .inv in
     let here = cursorAt p (loop .here) in
     let w =
-    renamed (ap (λ (k : ℕ). parse S k (args .elem) here) (deep (args .depth) (c .before .before .before .before .before .before .before .if2 .left)))
+    renamed (ap (λ (k : ℕ). parse S k (args .elem) here) (deep (args .depth) (c .before .before .before .before .before .before .before .if3 .left)))
     (was (c .before .before .before .before .before .composite .ensures) (c .before .number2 .given .1)) in
     array-valued S (args .depth) (args .ty) p (args .at) (args .elem) (asked .1 .1) _ read R (first-of (args .shown .now) S (args .ty) (asked .1 .1)) n start (counted .given .1) _
     (composite-stop R S P (array (args .elem)) (args .ty) start n (cursorAt p start) (args .row) (args .sheet .now) p start _ _ _
@@ -346,8 +392,8 @@ array-spec t =
     (λ c.
     let back = c .before .before .before .before .before .before .before .before .before in
     let farther = back .before .before .before .before .before .before .before .before .before in
-    let pre = farther .before .pre .1 .0 in
-    let inv = back .loop .inv in
+    let pre = farther .before .before .before .pre .1 .0 in
+    let inv = c .before .before .before .before .before .before .before .before .before .loop .inv in
     let w = was (c .before .before .before .before .before .composite .ensures) (c .before .due .given .1) .within in omega (arith, inv .3, w .2, w .0, pre .small))
     -- sub-left
     (λ c. search needs)
@@ -357,18 +403,18 @@ array-spec t =
     (λ c.
     let back = c .before .before .before .before .before .before .before .before .before in
     let farther = back .before .before .before .before .before .before .before .before .before in
-    let args = farther .before .args in
-    let asked = farther .before .pre in
+    let args = farther .before .before .before .args in
+    let asked = farther .before .before .before .pre in
     let T = tableOf (args .s .now) in
     let S = shape T in
     let R = firstFields (args .shown .now) S in
     let P = parse S (args .depth) in
     let p = args .p .now in
-    let loop = back .loop in
+    let loop = c .before .before .before .before .before .before .before .before .before .loop in
     let inv = loop .inv in
     let here = cursorAt p (loop .here) in
     let w =
-    renamed (ap (λ (k : ℕ). parse S k (args .elem) here) (deep (args .depth) (c .before .before .before .before .before .before .before .if2 .left)))
+    renamed (ap (λ (k : ℕ). parse S k (args .elem) here) (deep (args .depth) (c .before .before .before .before .before .before .before .if3 .left)))
     (was (c .before .before .before .before .before .composite .ensures) (c .before .due .given .1)) in (
       sym (element-past R S P (args .elem) (loop .left) (c .before .before .before .before .before .before .before .before .loop-test .taken) here (loop .sum) (loop .below) (loop .sheet) _ _ _ _ (w .same)) ∙ inv .0,
       w .within .0,
@@ -380,19 +426,20 @@ array-spec t =
     (λ c. omega arith)
     -- put-row-requires
     (λ c κs.
-    let args = c .before .before .before .before .before .before .before .before .before .before .before .before .args in
-    let asked = c .before .before .before .before .before .before .before .before .before .before .before .before .pre in
+    let back = c .before .before .before .before .before .before .before .before .before in
+    let args = back .before .before .before .before .before .args in
+    let asked = back .before .before .before .before .before .pre in
     let T = tableOf (args .s .now) in
     let S = shape T in
     let p = args .p .now in
-    let read = c .before .before .before .before .before .before .before .before .read-count .ensures in
-    let counted = c .before .before .before .before .before .before .n in
+    let read = c .before .before .before .before .before .before .before .before .before .before .read-count .ensures in
+    let counted = c .before .before .before .before .before .before .before .before .n in
     let n = counted .given .0 .0 in
     let start = counted .given .0 .1 .0 in
     let w = count-in S (args .depth) (args .ty) p (args .at) 1 _ read n start (counted .given .1) in
     let pre = asked .1 .0 in
     let inv = c .before .before .loop .inv in omega arith)
-    -- returns-4
+    -- returns-5
     (λ c.
     let args = c .before .before .before .before .before .before .before .args in
     let asked = c .before .before .before .before .before .before .before .pre in
@@ -401,20 +448,20 @@ array-spec t =
     let p = args .p .now in
     as-refused _ _ _
     (array-refused S (args .depth) (args .ty) p (args .at) (args .elem) (asked .1 .1) _ (c .before .before .before .read-count .ensures) _ (c .before .number .given .1)))
-    -- same-length-4
+    -- same-length-5
     (λ c. c .before .before .put-row .kept .0 ∙ c .before .before .before .before .before .loop .inv .4)
-    -- returns-5
+    -- returns-6
     (λ c.
     let back = c .before .before .before .before .before .before .before .before .before in
-    let args = back .before .before .before .before .before .before .args in
-    let asked = back .before .before .before .before .before .before .pre in
+    let args = back .before .before .before .before .before .before .before .before .args in
+    let asked = back .before .before .before .before .before .before .before .before .pre in
     let T = tableOf (args .s .now) in
     let S = shape T in
     let R = firstFields (args .shown .now) S in
     let P = parse S (args .depth) in
     let p = args .p .now in
-    let read = back .before .before .read-count .ensures in
-    let counted = back .n in
+    let read = back .before .before .before .before .read-count .ensures in
+    let counted = c .before .before .before .before .before .before .before .before .before .before .before .n in
     let n = counted .given .0 .0 in
     let start = counted .given .0 .1 .0 in
     let loop = c .before .before .before .before .before .loop in

@@ -1,12 +1,12 @@
--- `reader::walk::leaves` meets its contract. The invariant: what is left of the elements gives the same end, whatever is known.
+-- `reader::flat::leaves` meets its contract. The invariant: what is left of the elements gives the same end, whatever is shown.
 -- Assumes nothing.
 use borrow.Author.Needs.{needs}
 use mathlib.Core.Path.{_≡_, refl, sym, _∙_}
-use mathlib.Core.List.{List, []}
+use mathlib.Core.List.{[]}
 use Prim.Native.Nat.{ℕ, _+_, _-_, _≤_, _<_}
 use native.Mathlib.Omega.{arith}
 use lib.ListN.{length, replicate}
-use Rattle.schema.specs.Table.{array, shape}
+use Rattle.schema.specs.Table.{Shape, array, shape}
 use Rattle.schema.specs.File.{tableOf}
 use Rattle.value.specs.Answer.{cursorAt, Accepted}
 use Rattle.value.specs.Read.{plainItem, walk, parse}
@@ -14,16 +14,17 @@ use Rattle.parts.specs.Shape.{leafShape}
 use Rattle.parts.proofs.Tables.{shape-leaf}
 use Rattle.parts.proofs.Items.{elements-none}
 use Rattle.parts.proofs.Walks.{deeper}
-use Rattle.reader.specs.Walk.{firstFields, told}
-use Rattle.reader.proofs.Steps.{aheadIn, stop-at, composite-past, composite-stop, rest-accepted, own-accepted, parse-deep, leaf-failed, leaf-in, leaf-past}
+use Rattle.reader.specs.Walk.{told}
+use Rattle.reader.proofs.Steps.{stop-at, composite-past, composite-stop, rest-accepted, own-accepted, parse-deep, leaf-failed, leaf-in, leaf-past}
 use Rattle.reader.proofs.Composites.{element-past, element-stop, element-accepted}
-use Rattle.reader.proofs.walk.leaves.Statement.{statement}
-use Rattle.reader.proofs.walk.leaves.Tie as tie
+use Rattle.reader.proofs.Turns.{aheadBy}
+use Rattle.reader.proofs.flat.leaves.Statement.{statement}
+use Rattle.reader.proofs.flat.leaves.Tie as tie
 
 abbrev Inv-loop : tie.InvT-loop
 Inv-loop s p sheet₀ ty elem n start depth row judge kind left₀ here₀ below₀ sheet left here below =
-    ((known : List ℕ)
-    → aheadIn known s p depth [] (replicate left (plainItem elem)) here 0 below sheet ≡ aheadIn known s p depth [] (replicate n (plainItem elem)) start 0 (row + 1) sheet₀)
+    ((R : ℕ → Shape)
+    → aheadBy R s p depth (replicate left (plainItem elem)) here 0 below sheet ≡ aheadBy R s p depth (replicate n (plainItem elem)) start 0 (row + 1) sheet₀)
     × (here ≤ length p) × (below ≤ here) × (start ≤ here) × (length sheet ≡ length sheet₀)
 
 abbrev μ-loop : tie.MeasureT-loop
@@ -42,7 +43,7 @@ leaves-spec =
     -- add-below
     (λ c. let pre = c .before .before .before .before .before .pre .0 in omega arith)
     -- loop-holds
-    (λ c. let pre = c .before .before .before .before .before .pre .0 in (λ known. refl, pre .inside, pre .behind, omega arith, refl))
+    (λ c. let pre = c .before .before .before .before .before .pre .0 in (λ R. refl, pre .inside, pre .behind, omega arith, refl))
     -- same-length
     (λ c. c .before .before .loop .inv .4)
     -- returns
@@ -52,11 +53,10 @@ leaves-spec =
     let S = shape (tableOf (args .s .now)) in
     let P = parse S (args .depth) in
     let here = cursorAt (args .p .now) (loop .here) in
-    λ known.
-    let R = firstFields known S in
+    λ R.
     composite-stop R S P (array (args .elem)) (args .ty) (args .start) (args .n) _ (args .row) (args .sheet .now) _ _ _ _ _
     (element-stop R S P (args .elem) (loop .left) (c .before .loop-test .taken) here 0 (loop .below) (loop .sheet) _ _
-    (stop-at (told R S (args .elem)) _ (loop .below) (loop .sheet) _ _ (parse-deep S (args .depth) (args .elem) here (c .if1 .taken))) ∙ loop .inv .0 known))
+    (stop-at (told R S (args .elem)) _ (loop .below) (loop .sheet) _ _ (parse-deep S (args .depth) (args .elem) here (c .if1 .taken))) ∙ loop .inv .0 R))
     -- content-requires
     (λ c κs.
     let asked = c .before .before .before .before .before .before .before .before .pre in
@@ -65,7 +65,6 @@ leaves-spec =
     let args = c .before .before .before .before .before .before .before .before .args in
     let T = tableOf (args .s .now) in
     let S = shape T in
-    let R = firstFields [] S in
     let P = parse S (args .depth) in
     let p = args .p .now in
     let here = cursorAt p (loop .here) in
@@ -78,10 +77,10 @@ leaves-spec =
       λ j.
           own-accepted S (args .depth - 1) (args .elem) here (leafShape (t .result .kind)) (shape-leaf T (args .elem) (t .result) (t .ensures) some leaf)
           (deeper (λ k. Accepted (parse S k (args .elem) here)) (args .depth) (c .if1 .left)
-          (element-accepted R S P (args .elem) (loop .left) (c .before .loop-test .taken) here 0 (loop .below) (loop .sheet)
-          (rest-accepted R S P (array (args .elem)) (args .ty) (args .start) (args .n) (cursorAt p (args .start)) (args .row) (args .sheet .now)
+          (element-accepted S S P (args .elem) (loop .left) (c .before .loop-test .taken) here 0 (loop .below) (loop .sheet)
+          (rest-accepted S S P (array (args .elem)) (args .ty) (args .start) (args .n) (cursorAt p (args .start)) (args .row) (args .sheet .now)
           (walk P [] (replicate (loop .left) (plainItem (args .elem))) here) (replicate (loop .left) (plainItem (args .elem))) 0 (loop .below) (loop .sheet)
-          (loop .inv .0 []) (asked .0 .judged j)))),
+          (loop .inv .0 S) (asked .0 .judged j)))),
     ))
     -- enum-known-place
     (λ c. search needs)
@@ -89,21 +88,21 @@ leaves-spec =
     (λ c. c .before .before .before .before .before .before .loop .inv .4)
     -- returns-2
     (λ c.
-    let args = c .before .before .before .before .before .before .before .before .before .before .before .before .args in
+    let back = c .before .before .before .before .before .before .before .before .before in
+    let args = back .before .before .before .args in
     let loop = c .before .before .before .before .before .before .loop in
     let t = c .before .before .before .before .before .before .before .before .type-row in
-    let asked = c .before .before .before .before .before .before .before .before .before .before .before .before .pre in
+    let asked = back .before .before .before .pre in
     let T = tableOf (args .s .now) in
     let S = shape T in
     let P = parse S (args .depth) in
     let p = args .p .now in
     let is = shape-leaf T (args .elem) (t .result) (t .ensures) (rw (t .ensures) (asked .1 .0)) (rw (t .ensures) (asked .1 .1)) in
     let failed = leaf-failed S (args .depth) (args .elem) (leafShape (t .result .kind)) is (c .before .before .before .before .if1 .left) p (loop .here) _ (c .before .before .before .content .ensures) _ _ (c .before .place .given .1) in
-    λ known.
-    let R = firstFields known S in
+    λ R.
     composite-stop R S P (array (args .elem)) (args .ty) (args .start) (args .n) _ (args .row) (args .sheet .now) _ _ _ _ _
     (element-stop R S P (args .elem) (loop .left) (c .before .before .before .before .before .loop-test .taken) (cursorAt p (loop .here)) 0 (loop .below) (loop .sheet) _ _
-    (stop-at (told R S (args .elem)) _ (loop .below) (loop .sheet) _ _ failed) ∙ loop .inv .0 known))
+    (stop-at (told R S (args .elem)) _ (loop .below) (loop .sheet) _ _ failed) ∙ loop .inv .0 R))
     -- enum-known-from
     (λ c. search needs)
     -- sub-put-row
@@ -156,11 +155,10 @@ leaves-spec =
     let read = c .before .before .before .before .before .before .before .content .ensures in
     let some = c .before .before .before .before .before .before .before .before .if1 .left in
     let i = leaf-in S (args .depth) (args .elem) kind is some p (loop .here) _ read (span .given .0 .0) (span .given .0 .1 .0) (span .given .1) in (
-      λ known.
-          let R = firstFields known S in
+      λ R.
           let w =
           leaf-past S (args .depth) (args .elem) kind is some p (loop .here) _ read (span .given .0 .0) (span .given .0 .1 .0) (span .given .1) R (loop .below) (loop .sheet) _ (inv .2) (put .ensures) in
-          sym (element-past R S (parse S (args .depth)) (args .elem) (loop .left) (back .loop-test .taken) (cursorAt p (loop .here)) 0 (loop .below) (loop .sheet) _ _ _ _ (w .same)) ∙ inv .0 known,
+          sym (element-past R S (parse S (args .depth)) (args .elem) (loop .left) (back .loop-test .taken) (cursorAt p (loop .here)) 0 (loop .below) (loop .sheet) _ _ _ _ (w .same)) ∙ inv .0 R,
       i .1,
       omega arith,
       omega arith,
@@ -174,12 +172,13 @@ leaves-spec =
     (λ c. c .before .before .put-row2 .kept .0 ∙ c .before .before .before .before .before .loop .inv .4)
     -- returns-3
     (λ c.
+    let back = c .before .before .before .before .before .before .before .before .before in
     let loop = c .before .before .before .before .before .loop in
-    let args = c .before .before .before .before .before .before .before .before .before .before .before .args in
+    let args = back .before .before .args in
     let S = shape (tableOf (args .s .now)) in
     let p = args .p .now in
     let inv = loop .inv in
-    λ known.
-    composite-past (firstFields known S) S (parse S (args .depth)) (array (args .elem)) (args .ty) (args .start) (args .n) (cursorAt p (args .start)) (args .row) (args .sheet .now)
+    λ R.
+    composite-past R S (parse S (args .depth)) (array (args .elem)) (args .ty) (args .start) (args .n) (cursorAt p (args .start)) (args .row) (args .sheet .now)
     p (args .start) (loop .here) 0 0 (loop .below) (loop .sheet) _ [] (replicate (loop .left) (plainItem (args .elem)))
-    (elements-none (args .elem) (loop .left) (c .before .before .before .before .loop-test .left)) (inv .0 known) refl (c .before .before .put-row2 .ensures) (inv .1) (inv .2) (omega (arith, inv .3))))
+    (elements-none (args .elem) (loop .left) (c .before .before .before .before .loop-test .left)) (inv .0 R) refl (c .before .before .put-row2 .ensures) (inv .1) (inv .2) (omega (arith, inv .3))))

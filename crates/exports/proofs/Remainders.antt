@@ -1,0 +1,107 @@
+-- The loop that tests whether the numbers of a list differ, from its end on. A table of booleans says which remainders the numbers passed have,
+-- and a number whose remainder is not among them is none of those passed. Assumes nothing.
+use mathlib.Core.Path.{_≡_, refl, sym, _∙_, ap, subst}
+use mathlib.Core.Bool.{Bool, true, false, not, _&&_, _||_}
+use mathlib.Core.List.{List, [], _∷_}
+use Prim.Native.Nat.{ℕ, zero, suc, _-_, _%_, _<_, _≤_}
+use native.Mathlib.Omega.{arith}
+use lib.ListN.{length, getD, take, drop, set, length-set, length-drop, drop-of-length-le}
+use lib.Seq.{take-all, drop-nil, drop-cons, getD-set-same}
+use lib.Dec.{eqb}
+use borrow.Author.Tests.{eqb-true}
+use Rattle.calls.specs.Slots.{holds, distinct}
+use Rattle.schema.proofs.Bools.{clash}
+
+abbrev bits : List Bool → ℕ → Bool
+bits seen x = getD seen (x % 1021) false
+
+abbrev Seen : List Bool → List ℕ → Type 0
+Seen seen [] = Unit {0}
+Seen seen (x ∷ xs) = (bits seen x ≡ true) × Seen seen xs
+
+-- a bit that is set stays set
+set-kept : (seen : List Bool) (i j : ℕ) → getD seen j false ≡ true → getD (set seen i true) j false ≡ true
+set-kept [] i j h = h
+set-kept (b ∷ bs) zero zero h = refl
+set-kept (b ∷ bs) zero (suc j) h = h
+set-kept (b ∷ bs) (suc i) zero h = h
+set-kept (b ∷ bs) (suc i) (suc j) h = set-kept bs i j h
+
+seen-kept : (seen : List Bool) (i : ℕ) (xs : List ℕ) → Seen seen xs → Seen (set seen i true) xs
+seen-kept seen i [] s = tt
+seen-kept seen i (x ∷ xs) s = (set-kept seen i (x % 1021) (s .0), seen-kept seen i xs (s .1))
+
+-- looking through the list only where the bits are seen makes no difference
+module _ (seen : List Bool) (x : ℕ) where
+  unseen : (xs : List ℕ) → Seen seen xs → bits seen x ≡ false → holds x xs ≡ false
+  unseen [] s q = refl
+  unseen (y ∷ ys) s q = go (eqb y x) refl (unseen ys (s .1) q)
+    where
+      go : (b : Bool) → eqb y x ≡ b → holds x ys ≡ false → (b || holds x ys) ≡ false
+      go true e ih = clash (bits seen x) (subst (λ (n : ℕ). bits seen n ≡ true) (eqb-true y x e) (s .0)) q
+      go false e ih = ih
+
+  looked : (xs : List ℕ) → Seen seen xs → (bits seen x && holds x xs) ≡ holds x xs
+  looked xs s = go (bits seen x) refl
+    where
+      go : (b : Bool) → bits seen x ≡ b → (b && holds x xs) ≡ holds x xs
+      go true e = refl
+      go false e = sym (unseen xs s e)
+
+drop-false : (l : List ℕ) (i : ℕ) → distinct (drop i l) ≡ false → distinct l ≡ false
+drop-false [] i h = rw (drop-nil i) at h
+drop-false (x ∷ xs) zero h = h
+drop-false (x ∷ xs) (suc i) h = go (not (holds x xs)) (drop-false xs i h)
+  where
+    go : (b : Bool) → distinct xs ≡ false → (b && distinct xs) ≡ false
+    go true e = e
+    go false e = refl
+
+-- ---- the loop: the numbers from place i on differ, and their bits are seen
+pub record Apart (l : List ℕ) (seen : List Bool) (i : ℕ) : Type 0 where
+  pub differ : distinct (drop i l) ≡ true
+  pub seenBits : Seen seen (drop i l)
+  pub within : i ≤ length l
+  pub wide : length seen ≡ 1024
+
+pub apart-none : (l : List ℕ) (seen : List Bool) → length seen ≡ 1024 → Apart l seen (length l)
+apart-none l seen h =
+    let e = drop-of-length-le l {i = length l} (omega arith) in
+    record { differ = rw e; seenBits = rw e tt; within = omega arith; wide = h }
+
+pub apart-all : (l : List ℕ) (seen : List Bool) (i : ℕ) → Apart l seen i → i ≤ 0 → true ≡ distinct l
+apart-all l seen i a h =
+    let z : i ≡ 0 = omega arith in
+    sym (subst (λ (n : ℕ). distinct (drop n l) ≡ true) z (a .differ))
+
+module _ (l : List ℕ) (seen : List Bool) (i : ℕ) (a : Apart l seen i) (h : 0 < i) where
+  abbrev x : ℕ
+  x = getD l (i - 1) 0
+
+  -- the number is among the later ones, as the code asks it: the part runs to the end of the list
+  abbrev again : Bool
+  again = bits seen x && holds x (take (length l - i) (drop i l))
+
+  again-holds : again ≡ holds x (drop i l)
+  again-holds =
+      ap (λ (r : List ℕ). bits seen x && holds x r) (take-all (length l - i) (drop i l) (omega (arith, length-drop i l)))
+      ∙ looked seen x (drop i l) (a .seenBits)
+
+  before : drop (i - 1) l ≡ x ∷ drop i l
+  before =
+      let k : suc (i - 1) ≡ i = omega arith in
+      let m : i - 1 < length l = omega (arith, a .within) in
+      drop-cons l (i - 1) 0 m ∙ ap (λ (n : ℕ). x ∷ drop n l) k
+
+  pub apart-here : again ≡ true → false ≡ distinct l
+  apart-here t = sym (drop-false l (i - 1) (rw (before, sym again-holds ∙ t)))
+
+  pub apart-next : again ≡ false → Apart l (set seen (x % 1021) true) (i - 1)
+  apart-next t =
+      let w : x % 1021 < length seen = omega (arith, a .wide) in
+      record {
+        differ = rw (before, sym again-holds ∙ t) (a .differ);
+        seenBits = rw before (getD-set-same seen (x % 1021) true false w, seen-kept seen (x % 1021) (drop i l) (a .seenBits));
+        within = omega (arith, a .within);
+        wide = length-set seen (x % 1021) true ∙ a .wide;
+      }

@@ -1,0 +1,56 @@
+-- `exports::apart::distinct` meets its contract. The loop's invariant: the numbers from place i on differ, and their remainders are seen.
+-- Assumes nothing.
+use mathlib.Core.Path.{refl, sym, _∙_}
+use mathlib.Core.Bool.{false}
+use native.Mathlib.Omega.{arith}
+use lib.ListN.{replicate}
+use borrow.Author.Needs.{needs}
+use Rattle.exports.proofs.Remainders.{Apart, apart-none, apart-all, apart-here, apart-next}
+use Rattle.exports.proofs.apart.distinct.Statement.{statement}
+use Rattle.exports.proofs.apart.distinct.Tie as tie
+
+abbrev Inv-loop : tie.InvT-loop
+Inv-loop ids seen₀ i₀ seen i = Apart ids seen i
+
+abbrev μ-loop : tie.MeasureT-loop
+μ-loop ids seen₀ i₀ seen i = i
+
+loop-holds : tie.Need-loop-holds Inv-loop μ-loop
+loop-holds c = apart-none (c .before .args .ids .now) (replicate 1024 false) refl
+
+returns : tie.Need-returns Inv-loop μ-loop
+returns c =
+    let l = c .before .before .before .before .before .loop in
+    apart-here (c .before .before .before .before .before .before .before .args .ids .now) (l .seen) (l .i) (l .inv) (omega arith) (sym (c .before .holds-where .ensures) ∙ c .if1 .taken)
+
+loop-again : tie.Need-loop-again Inv-loop μ-loop
+loop-again c =
+    let l = c .before .before .before .before .before .loop in
+    apart-next (c .before .before .before .before .before .before .before .args .ids .now) (l .seen) (l .i) (l .inv) (omega arith) (sym (c .before .holds-where .ensures) ∙ c .if1 .left)
+
+returns-2 : tie.Need-returns-2 Inv-loop μ-loop
+returns-2 c =
+    let l = c .before .loop in
+    apart-all (c .before .before .before .args .ids .now) (l .seen) (l .i) (l .inv) (omega arith)
+
+pub distinct-spec : {M : Type 1} → statement M
+distinct-spec =
+    tie.close
+    (tie.spec
+    Inv-loop
+    μ-loop
+    loop-holds
+    (λ c. search needs)
+    (λ c. search needs)
+    (λ c. search needs)
+    (λ c. search needs)
+    (λ c. search needs)
+    (λ c. search needs)
+    (λ c. search needs)
+    (λ c. search needs)
+    (λ c κs. search needs)
+    returns
+    (λ c. search needs)
+    (λ c. search needs)
+    loop-again
+    returns-2)

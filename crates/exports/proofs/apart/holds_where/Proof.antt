@@ -1,0 +1,11 @@
+-- `exports::apart::holds_where` meets its contract.
+-- Assumes nothing.
+use borrow.Author.Needs.{needs}
+use Rattle.exports.proofs.apart.holds_where.Statement.{statement}
+use Rattle.exports.proofs.apart.holds_where.Tie as tie
+
+returns : tie.Need-returns
+returns c = rw (c .before .if1 .taken, c .holds .ensures)
+
+pub holds-where-spec : {M : Type 1} → statement M
+holds-where-spec = tie.close (tie.spec (λ c κs. search needs) returns (λ c. search needs))

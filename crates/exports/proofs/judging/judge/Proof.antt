@@ -1,0 +1,31 @@
+-- `exports::judging::judge` meets its contract: 8, then INVOKE or another kind.
+-- Assumes nothing.
+use mathlib.Core.Path.{sym, _∙_}
+use borrow.Author.Tests.{not-true, not-false, eq-eqb, ne-eqb}
+use borrow.Author.Needs.{needs}
+use Rattle.calls.specs.Judge.{verdictOf, judgeOf}
+use Rattle.exports.proofs.judging.judge.Statement.{statement}
+use Rattle.exports.proofs.judging.judge.Tie as tie
+
+returns : tie.Need-returns
+unfolding judgeOf verdictOf
+returns c = rw (sym (c .before .right-side .ensures) ∙ not-true _ (c .if1 .taken))
+
+returns-2 : tie.Need-returns-2
+unfolding judgeOf verdictOf
+returns-2 c = rw (sym (c .before .before .before .before .right-side .ensures) ∙ not-false _ (c .before .before .before .if1 .left), eq-eqb _ 1 (c .before .if2 .taken)) (c .judge-invoke .ensures)
+
+returns-3 : tie.Need-returns-3
+unfolding judgeOf verdictOf
+returns-3 c = rw (sym (c .before .before .before .before .right-side .ensures) ∙ not-false _ (c .before .before .before .if1 .left), ne-eqb _ 1 (c .before .if2 .left)) (c .judge-other .ensures)
+
+pub judge-spec : {M : Type 1} → statement M
+judge-spec =
+    tie.close
+    (tie.spec
+    (λ c κs. search needs)
+    returns
+    (λ c κs. search needs)
+    (λ c κs. search needs)
+    returns-2
+    returns-3)

@@ -1,0 +1,62 @@
+-- `exports::receive::judge_cells` meets its contract: a plan settled with the row that it asks for, which is put back into its cells.
+-- Assumes nothing.
+use mathlib.Core.Path.{sym, ap, _∙_}
+use denote.Ref.{now}
+use borrow.Author.Needs.{needs}
+use Rattle.schema.specs.Check.{checked}
+use Rattle.calls.specs.declared.Tally.{Tally}
+use Rattle.calls.specs.Step.{stepOf}
+use Rattle.reader.specs.Entry.{numbers}
+use Rattle.line.specs.declared.Settled.{Settled}
+use Rattle.line.specs.Answer.{Line, answerOf}
+use Rattle.line.specs.Planning.{planOf}
+use Rattle.line.specs.Receive.{settled}
+use Rattle.exports.specs.Records.{callsOf, areCalls, rowsOf, rowCells}
+use Rattle.exports.proofs.Tallies.{rows-long}
+use Rattle.exports.proofs.Judged.{judged-line}
+use Rattle.exports.proofs.Plans.{refused-stops}
+use Rattle.exports.proofs.receive.judge_cells.Statement.{statement}
+use Rattle.exports.proofs.receive.judge_cells.Tie as tie
+
+settle-requires : tie.Need-settle-requires
+settle-requires c κs = c .before .before .before .plan .ensures .1
+
+returns : tie.Need-returns
+returns c =
+    let put = c .before .before in
+    let at-settle = c .before .before .before .before .before .before .before in
+    let row = c .before .before .before .before .before .before .before .before .before in
+    let plan = c .before .before .before .before .before .before .before .before .before .before .before in
+    let a = c .before .before .before .before .before .before .before .before .before .before .before .before .before .before .before .before .before .args in
+    let s = now (a .schema) in
+    let cells = now (a .table) in
+    let bytes = now (a .bytes) in
+    let sheet = now (a .sheet) in
+    let tallies = now (a .tallies) in
+    let l = callsOf cells in
+    let p = plan .plan .result in
+    let d = at-settle .settle .result in
+    let x : Settled = record { row = d .row; answer = answerOf (d .size) (stepOf (d .judged) (numbers (d .reading) .number) l) (d .reading) } in
+    let is = at-settle .settle .ensures .0 l ∙ ap (λ (t : Tally). settled s bytes sheet l t (p .next)) (row .row-in .ensures) in
+    let e = judged-line s (a .side) bytes sheet (rowsOf tallies) l (areCalls cells) _ p (sym (rows-long tallies)) (plan .plan .ensures .0) x _ is in (
+      ap (λ (y : Line). y .answer) e,
+      (
+        ap (λ (y : Line). y .sheet) e,
+        (
+          put .put-row .ensures ∙ ap (λ (y : Line). rowCells tallies (y .tallies)) e,
+          refused-stops (areCalls cells) _ p (checked s) (d .judged) (plan .plan .ensures .0) (at-settle .settle .ensures .1),
+        ),
+      ),
+    )
+
+pub judge-cells-spec : {M : Type 1} → statement M
+judge-cells-spec =
+    tie.close
+    (tie.spec
+    (λ c κs. search needs)
+    (λ c κs. search needs)
+    settle-requires
+    (λ c κs. search needs)
+    (λ c. search needs)
+    (λ c. search needs)
+    returns)

@@ -1,0 +1,17 @@
+-- `exports::records::is_open` meets its contract.
+-- Assumes nothing.
+use mathlib.Core.Path.{_≡_, ap}
+use mathlib.Core.Bool.{Bool}
+use Prim.Native.Nat.{ℕ, _%_}
+use lib.Dec.{eqb}
+use borrow.Author.Needs.{needs}
+use Rattle.exports.specs.Records.{callOf}
+use Rattle.exports.proofs.records.is_open.Statement.{statement}
+use Rattle.exports.proofs.records.is_open.Tie as tie
+
+returns : tie.Need-returns
+unfolding callOf
+returns c = ap (λ (n : ℕ). eqb (n % 2) 1) (c .cell .ensures)
+
+pub is-open-spec : {M : Type 1} → statement M
+is-open-spec = tie.close (tie.spec (λ c. search needs) (λ c. search needs) (λ c κs. search needs) returns)

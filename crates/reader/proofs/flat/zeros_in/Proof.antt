@@ -1,0 +1,16 @@
+-- `reader::flat::zeros_in` meets its contract.
+-- Assumes nothing.
+use mathlib.Core.Path.{refl}
+use native.Mathlib.Omega.{arith}
+use lib.Count.{trailing-le}
+use Rattle.reader.proofs.flat.zeros_in.Statement.{statement}
+use Rattle.reader.proofs.flat.zeros_in.Tie as tie
+
+pub zeros-in-spec : {M : Type 1} → statement M
+zeros-in-spec =
+    tie.close
+    (tie.spec
+    -- cast-result
+    (λ c. record { fits = omega (arith, trailing-le 64 (c .args .bits)) })
+    -- returns
+    (λ c. (refl, trailing-le 64 (c .args .bits))))
