@@ -7,7 +7,7 @@ use Prim.Native.Nat.{ℕ}
 use lib.ListN.{take, drop, replicate}
 use Rattle.wire.specs.Little as little
 use Rattle.text.specs.Decimal as decimal
-use Rattle.text.specs.Put as put
+use Rattle.text.specs.Text as texts
 use Rattle.index.specs.declared.Finding.the-variants.{Printed, Refused}
 use Rattle.index.specs.Row.{Row, insert, ordered, isRising, ofCall}
 use Rattle.index.specs.Index.{rowsBytes, indexBytes}
@@ -131,5 +131,5 @@ pub look-ups : look.lookUp two (fill 31) 9 (fill 35)
     ∷ look.outcome (Printed 65 24) (refused 54 53)
     ∷ look.outcome (Refused 52) (fill 23)
     ∷ []
-unfolding little.little decimal.digits decimal.decimal put.field rowsIn isShaped isRising isIndex ofCall lineText linesText stoppedText textOf look.verdict look.looked look.lookText look.put look.lookUp
+unfolding little.little decimal.digits decimal.decimal texts.field rowsIn isShaped isRising isIndex ofCall lineText linesText stoppedText textOf look.verdict look.looked look.lookText look.put look.lookUp
 look-ups = refl

@@ -10,7 +10,7 @@ use lib.ListN.{length, take, drop}
 use lib.Seq.{drop-drop}
 use Rattle.wire.specs.Little.{little}
 use Rattle.text.specs.Decimal.{decimal}
-use Rattle.text.specs.Put.{field, Added}
+use Rattle.text.specs.Text.{field, Added}
 use Rattle.text.proofs.Texts.{added-then, added-none, text-length, text-whole}
 use Rattle.index.specs.declared.Finding.the-variants.{Printed, Refused}
 use Rattle.index.specs.Row.{Row, ofCall}

@@ -5,7 +5,7 @@ use mathlib.Core.List.{List, [], _∷_, _++_}
 use Prim.Native.Nat.{ℕ}
 use lib.Dec.{eqb}
 use Rattle.text.specs.Decimal.{decimal}
-use Rattle.text.specs.Put.{field}
+use Rattle.text.specs.Text.{field}
 use Rattle.replay.specs.Run.{Entry}
 use Rattle.index.specs.Row.{Row}
 

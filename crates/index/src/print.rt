@@ -9,7 +9,7 @@ use wire::little::u32_at;
 ghost use mathlib.Core.Path.{_≡_};
 ghost use Prim.Native.Nat.{_+_, _*_, _≤_, _<_};
 ghost use lib.ListN.{length, drop};
-ghost use Rattle.text.specs.Put.{Added};
+ghost use Rattle.text.specs.Text.{Added};
 ghost use Rattle.index.specs.Row.{ofCall};
 ghost use Rattle.index.specs.IsIndex.{rowAt, rowsIn};
 ghost use Rattle.index.specs.Text.{lineText, linesText, stoppedText, textOf};

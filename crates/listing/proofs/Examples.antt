@@ -30,7 +30,7 @@ use Rattle.line.specs.Receive as receive
 use Rattle.line.specs.Run as run
 use Rattle.line.specs.Fresh as fresh
 use Rattle.text.specs.Decimal as decimal
-use Rattle.text.specs.Put as put
+use Rattle.text.specs.Text as texts
 use Rattle.replay.specs.Run as replay
 use Rattle.index.specs.Row as rows
 use Rattle.index.specs.Index as index
@@ -66,7 +66,7 @@ unfolding little.little varuint.front varuint.groups utf8.run utf8.next utf8.lea
     answer.block answer.varUInt value.rows value.value read.present read.count read.complete read.bitmap read.walk read.parse read.ending
     read.rootStruct read.read entry.payloadOutcome counting.riseOf counting.figureBy counting.raised line.stopped line.payloadRead
     planning.bytesPlan planning.planOf receive.frameSettled receive.settled receive.received run.freshTallies fresh.receivedFresh
-    decimal.digits decimal.decimal put.field replay.freshCalls replay.answerTo replay.headerIn replay.runFrom replay.runOf
+    decimal.digits decimal.decimal texts.field replay.freshCalls replay.answerTo replay.headerIn replay.runFrom replay.runOf
     text.lineStart text.lineText text.stoppedText listing.runLines listing.runText listing.listing
 listed r = listing.listing example.file r
 

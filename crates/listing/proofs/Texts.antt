@@ -5,7 +5,7 @@ use Prim.Native.Nat.{ℕ}
 use Rattle.frame.specs.declared.Header.{Header}
 use Rattle.line.specs.declared.Received.{Received}
 use Rattle.text.specs.Decimal.{decimal}
-use Rattle.text.specs.Put.{field, Added}
+use Rattle.text.specs.Text.{field, Added}
 use Rattle.text.proofs.Texts.{added-then}
 use Rattle.listing.specs.Text.{lineStart, lineText, stoppedText}
 

@@ -11,7 +11,7 @@ use Rattle.schema.specs.declared.Checked.{Checked}
 use Rattle.schema.specs.declared.Checked.the-variants.{Good, Refused as Faulty}
 use Rattle.schema.specs.Check.{checked}
 use Rattle.schema.proofs.Bools.{cases, clash, or-right}
-use Rattle.text.specs.Put.{Added}
+use Rattle.text.specs.Text.{Added}
 use Rattle.text.proofs.Texts.{added-then}
 use Rattle.replay.specs.Run.{runOf}
 use Rattle.listing.specs.Text.{heading, stoppedText}

@@ -5,7 +5,7 @@ use Prim.Native.Nat.{ℕ}
 use Rattle.frame.specs.declared.Header.{Header}
 use Rattle.line.specs.declared.Received.{Received}
 use Rattle.text.specs.Decimal.{decimal}
-use Rattle.text.specs.Put.{field}
+use Rattle.text.specs.Text.{field}
 
 -- frame side kind call answer place rows open
 abbrev pub heading : List ℕ

@@ -6,7 +6,7 @@ use replay::stops;
 ghost use mathlib.Core.Path.{_≡_};
 ghost use Prim.Native.Nat.{_≤_};
 ghost use lib.ListN.{length};
-ghost use Rattle.text.specs.Put.{Added};
+ghost use Rattle.text.specs.Text.{Added};
 ghost use Rattle.replay.specs.Run.{runOf};
 ghost use Rattle.listing.specs.Listing.{runText};
 

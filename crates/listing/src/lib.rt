@@ -7,7 +7,7 @@ ghost use mathlib.Core.Path.{_≡_};
 ghost use mathlib.Core.List.{_++_};
 ghost use Prim.Native.Nat.{_≤_};
 ghost use lib.ListN.{length, take, drop};
-ghost use Rattle.text.specs.Put.{Added};
+ghost use Rattle.text.specs.Text.{Added};
 ghost use Rattle.listing.specs.Listing.{listing};
 
 // Any listing has fewer bytes: a line has at most 149, and its entry at least 27 of the record's 65,536.

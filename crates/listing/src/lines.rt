@@ -9,7 +9,7 @@ use text::put_word;
 ghost use mathlib.Core.Path.{_≡_};
 ghost use Prim.Native.Nat.{_+_, _≤_};
 ghost use Rattle.frame.specs.Frame.{frameOf};
-ghost use Rattle.text.specs.Put.{Added};
+ghost use Rattle.text.specs.Text.{Added};
 ghost use Rattle.replay.specs.Run.{headerIn};
 ghost use Rattle.listing.specs.Text.{heading, lineStart, lineText, stoppedText};
 

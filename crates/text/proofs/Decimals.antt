@@ -9,7 +9,7 @@ use native.Mathlib.Decide.{decLe}
 use borrow.Author.Tests.{lt-ltb, le-ltb}
 use lib.ListN.{length, getD, length-append}
 use Rattle.text.specs.Decimal.{digits, decimal, valueOf, Digits, IsDecimal}
-use Rattle.text.specs.Put.{Added}
+use Rattle.text.specs.Text.{Added}
 use Rattle.text.proofs.Texts.{added-then}
 
 -- ---- one digit more

@@ -7,7 +7,7 @@ use native.Mathlib.Omega.{arith}
 use lib.ListN.{length, set, getD, take, drop, length-append}
 use lib.Seq.{set-out, take-suc, take-all, length-take-le, sets, length-sets, sets-eq}
 use Rattle.text.specs.Decimal.{decimal}
-use Rattle.text.specs.Put.{field, Added}
+use Rattle.text.specs.Text.{field, Added}
 
 sets-append : (out : List ℕ) (pos : ℕ) (a b : List ℕ) → sets out pos (a ++ b) ≡ sets (sets out pos a) (pos + length a) b
 sets-append out pos [] b = let e : pos + 0 ≡ pos = omega arith in rw e
@@ -45,7 +45,7 @@ module _ (out word : List ℕ) (pos i : ℕ) {at : ℕ} {mid : List ℕ} (f : Ad
   pub word-done : length word ≤ i → Added out pos word at mid
   word-done h = rw (take-all i word h) at f
 
--- ---- a number after a blank
+-- ---- a field
 
 pub added-field : (n : ℕ) {out mid after : List ℕ} {pos at next : ℕ} → Added out pos (32 ∷ []) at mid → Added mid at (decimal n) next after → Added out pos (field n) next after
 unfolding field

@@ -1,3 +1,5 @@
--- Text in a lent buffer: numbers in decimal, and texts stored one after the other.
+-- Texts as ASCII codes: literals, numbers in decimal, lines of a page; and a text in a lent buffer.
+pub mod Codes
 pub mod Decimal
-pub mod Put
+pub mod Text
+pub mod Page

@@ -116,48 +116,46 @@ module _ (w : Writing) (start end : ℕ) (out part′ : List ℕ) (within : star
             ∙ ap (λ (x : List ℕ). p ++ x) (sym (drop-append-le (length p) part rest (omega (arith, size, fits))) ∙ ap (drop (length p)) (take-append-drop (end - start) (drop start out)) ∙ drop-drop (length p) start out),
       )
 
--- ---- the frame in that output
+  -- ---- the frame in that output
+  module _ (h : Header) (same : length part′ ≡ length part) where
+    abbrev first : List ℕ
+    first = putMid start (end - start) out part′
 
-module _ (h : Header) (w : Writing) (start end : ℕ) (out part′ : List ℕ) (within : start ≤ end) (inside : end ≤ length out)
-    (after : part′ ≡ partAfter w start (take (end - start) (drop start out))) (same : length part′ ≡ length (take (end - start) (drop start out))) where
-  abbrev first : List ℕ
-  first = putMid start (end - start) out part′
+    long : length first ≡ length out
+    long = same-len-mid start (end - start) out part′ same
 
-  long : length first ≡ length out
-  long = same-len-mid start (end - start) out part′ same
+    pub keep-refused : (n q : ℕ) → lengthOf w ≡ Refused n q → outcome (Refused n q) first ≡ frameIn h out w
+    keep-refused n q e =
+        ap (outcome (Refused n q)) (output-same (refused-elsewhere (lengthOf w) start (end - start) e)) ∙ in-refused h out w n q e
 
-  pub keep-refused : (n q : ℕ) → lengthOf w ≡ Refused n q → outcome (Refused n q) first ≡ frameIn h out w
-  keep-refused n q e =
-      ap (outcome (Refused n q)) (output-same w start end out part′ within inside after (refused-elsewhere (lengthOf w) start (end - start) e)) ∙ in-refused h out w n q e
+    module _ (n place : ℕ) (e : lengthOf w ≡ Written n) (at : place ≡ 25 + length (varuintBytes n)) where
+      pub keep-full : length first < place + n → outcome (Refused 52 0) first ≡ frameIn h out w
+      keep-full full =
+          let l : length out < place + n = subst (λ (k : ℕ). k < place + n) long full in
+          let small : length out < 25 + length (varuintBytes n) + n = rw (← at) l in
+          ap (outcome (Refused 52 0)) (output-same (output-small n e small)) ∙ in-room h out w n place e at l
 
-  module _ (n place : ℕ) (e : lengthOf w ≡ Written n) (at : place ≡ 25 + length (varuintBytes n)) where
-    pub keep-full : length first < place + n → outcome (Refused 52 0) first ≡ frameIn h out w
-    keep-full full =
-        let l : length out < place + n = subst (λ (k : ℕ). k < place + n) long full in
-        let small : length out < 25 + length (varuintBytes n) + n = rw (← at) l in
-        ap (outcome (Refused 52 0)) (output-same w start end out part′ within inside after (output-small w start end out part′ within inside after n e small)) ∙ in-room h out w n place e at l
+      module _ (fits : place + n ≤ length first) (mid : List ℕ) (front : mid ≡ little.written first 0 (frontBytes h n)) where
+        room : place + n ≤ length out
+        room = subst (λ (k : ℕ). place + n ≤ k) long fits
 
-    module _ (fits : place + n ≤ length first) (mid : List ℕ) (front : mid ≡ little.written first 0 (frontBytes h n)) where
-      room : place + n ≤ length out
-      room = subst (λ (k : ℕ). place + n ≤ k) long fits
+        pub keep-elsewhere : belongs (lengthOf w) start (end - start) ≡ false → (p : List ℕ) → w ≡ written p
+            → outcome (Written (place + n)) (putMid place ((place + n) - place) mid p) ≡ frameIn h out w
+        keep-elsewhere b p is =
+            let size : length p ≡ n = written-length is e in
+            let unchanged = output-same b in
+            let at′ : place ≡ 25 + length (varuintBytes (length p)) = rw size at in
+            let front′ : mid ≡ little.written out 0 (frontBytes h (length p)) = rw size (front ∙ ap (λ (x : List ℕ). little.written x 0 (frontBytes h n)) unchanged) in
+            let framed : putMid place ((place + n) - place) mid p ≡ frameBytes h p ++ drop (place + n) out = rw (← size) (behind-front h out p place at′ (rw size room) mid front′) in
+            in-written h out w n place e at room p is _ framed
 
-      pub keep-elsewhere : belongs (lengthOf w) start (end - start) ≡ false → (p : List ℕ) → w ≡ written p
-          → outcome (Written (place + n)) (putMid place ((place + n) - place) mid p) ≡ frameIn h out w
-      keep-elsewhere b p is =
-          let size : length p ≡ n = written-length is e in
-          let unchanged = output-same w start end out part′ within inside after b in
-          let at′ : place ≡ 25 + length (varuintBytes (length p)) = rw size at in
-          let front′ : mid ≡ little.written out 0 (frontBytes h (length p)) = rw size (front ∙ ap (λ (x : List ℕ). little.written x 0 (frontBytes h n)) unchanged) in
-          let framed : putMid place ((place + n) - place) mid p ≡ frameBytes h p ++ drop (place + n) out = rw (← size) (behind-front h out p place at′ (rw size room) mid front′) in
-          in-written h out w n place e at room p is _ framed
-
-      pub keep-there : belongs (lengthOf w) start (end - start) ≡ true → outcome (Written (place + n)) mid ≡ frameIn h out w
-      keep-there b =
-          let (p, is, size) = length-written w e in
-          let (at₁, there) = output-there w start end out part′ within inside after p is b in
-          let at′ : place ≡ 25 + length (varuintBytes (length p)) = rw size at in
-          let there′ : drop place first ≡ p ++ drop (place + length p) out = subst (λ (k : ℕ). drop k first ≡ p ++ drop (k + length p) out) (sym (at′ ∙ at₁)) there in
-          let front′ : mid ≡ little.written first 0 (frontBytes h (length p)) = rw size front in
-          let framed : mid ≡ frameBytes h p ++ drop (place + n) out =
-          subst (λ (k : ℕ). mid ≡ frameBytes h p ++ drop (place + k) out) size (before-payload h out p place at′ first mid front′ there′) in
-          in-written h out w n place e at room p is mid framed
+        pub keep-there : belongs (lengthOf w) start (end - start) ≡ true → outcome (Written (place + n)) mid ≡ frameIn h out w
+        keep-there b =
+            let (p, is, size) = length-written w e in
+            let (at₁, there) = output-there p is b in
+            let at′ : place ≡ 25 + length (varuintBytes (length p)) = rw size at in
+            let there′ : drop place first ≡ p ++ drop (place + length p) out = subst (λ (k : ℕ). drop k first ≡ p ++ drop (k + length p) out) (sym (at′ ∙ at₁)) there in
+            let front′ : mid ≡ little.written first 0 (frontBytes h (length p)) = rw size front in
+            let framed : mid ≡ frameBytes h p ++ drop (place + n) out =
+            subst (λ (k : ℕ). mid ≡ frameBytes h p ++ drop (place + k) out) size (before-payload h out p place at′ first mid front′ there′) in
+            in-written h out w n place e at room p is mid framed

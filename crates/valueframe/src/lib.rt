@@ -46,18 +46,18 @@ fn guess_of(sheet: &[u32]) -> Guess
     ensures { λ r. ⌜ r .kept ≤ 16384 ⌝ }
 {
     let cells = sheet.len();
-    let most = most_for(cells);
+    let kept = most_for(cells);
     if 4 <= cells {
         let n = wide(sheet[2]);
         if cells / 4 <= n {
-            if n <= most {
-                return Guess { length: n, kept: n };
+            if n <= 16384 {
+                return Guess { length: n, kept };
             }
         }
     }
     Guess {
         length: cells / 2,
-        kept: most,
+        kept,
     }
 }
 

@@ -1,15 +1,15 @@
 -- Characters of the row UTF8-2: laws of `pairs` of `specs/Utf8.antt`, over any number of pairs of bytes.
 -- Assumes nothing.
 use mathlib.Core.Path.{_≡_, refl, sym, ap, ap₂, subst, _∙_}
-use mathlib.Core.Bool.{Bool, true, false, _&&_, not, and-true}
+use mathlib.Core.Bool.{Bool, true, false, _&&_, not}
 use mathlib.Core.List.{List, [], _∷_, _++_}
-use Prim.Native.Nat.{ℕ, zero, suc, _+_, _-_, _*_, _/_, _%_, _^_, _<_, _≤_}
+use Prim.Native.Nat.{ℕ, zero, suc, _+_, _*_, _/_, _%_, _^_, _<_, _≤_}
 use native.Mathlib.Nat.{zero-add, mod-eq-of-lt}
 use native.Mathlib.Omega.{arith}
 use borrow.Author.Tests.{eq-eqb, not-false}
 use lib.Bits.{bitAnd, and-le-r, and-zero-r, and-block, and-high}
 use lib.Dec.{T, eqb, leb, lit<, eqb→eq, le→leb}
-use lib.ListN.{length, getD, take, drop}
+use lib.ListN.{length, take, drop}
 use lib.Seq.{slice}
 use Rattle.wire.specs.Little.{little, Bytes}
 use Rattle.wire.specs.Utf8.{rows, rowAt, In, matches, isChar, utf8, pairs}

@@ -6,8 +6,9 @@
 //! lengths are those of memory that is there; what is lent as `&mut` is nobody
 //! else's during the call, and the library keeps no pointer.
 //!
-//! Nothing holds these declarations to the Rattle source: they repeat its
-//! parameters in order, and the tests below and `compare` look at the answers.
+//! The declarations repeat the parameters of the Rattle source in order, to
+//! which `tools/check-header` holds them; the tests below and `compare` look at
+//! the answers.
 
 use crate::Tally;
 
@@ -351,6 +352,13 @@ pub fn scalar(schema: &[u8], row: [u32; 4], bytes: &[u8], answer: &mut [u64]) ->
     }
 }
 
+/// The cells of an answer, each loaded by itself: a load of two at once would
+/// wait for the stores of both, which is most of the time of a short call.
+pub fn one_by_one<const N: usize>(cells: &[u64; N]) -> [u64; N] {
+    // SAFETY: each place is a cell of the array.
+    core::array::from_fn(|i| unsafe { core::ptr::read_volatile(&cells[i]) })
+}
+
 /// Stores kind, package, service, method, correlation, and the payload's place
 /// and length.
 pub fn read_frame(bytes: &[u8], answer: &mut [u64]) -> u32 {
@@ -439,7 +447,7 @@ pub fn tally_cells(tallies: &mut [Tally]) -> &mut [u32] {
     // SAFETY: a row is laid out as in C and has five numbers of 32 bits and no
     // other byte, so the rows are as many cells, and any cells are rows; they
     // are lent on as long as the rows are.
-    unsafe { std::slice::from_raw_parts_mut(tallies.as_mut_ptr().cast(), cells) }
+    unsafe { core::slice::from_raw_parts_mut(tallies.as_mut_ptr().cast(), cells) }
 }
 
 /// Stores the place, the bytes used, the rows, the tail's place and length, the
@@ -564,6 +572,8 @@ pub fn release(
 #[cfg(test)]
 mod tests {
     use super::*;
+    use std::vec;
+    use std::vec::Vec;
 
     const FILL: u64 = 0xA5A5_A5A5_A5A5_A5A5;
 

@@ -1,6 +1,8 @@
 //! An index beside a record: where the entries of each call stand.
 
-use crate::{answer, ffi, Refusal};
+use crate::refusal::answer;
+use crate::{ffi, Reason, Refusal};
+use core::slice::ChunksExact;
 
 /// Makes the index of a record at the front of the output, and gives its length.
 /// It has a row for each entry that the listing of the record prints: the
@@ -41,40 +43,78 @@ pub fn make_index(schema: &[u8], record: &[u8], out: &mut [u8]) -> Result<usize,
     answer(number, cells[0], cells[1] as usize)
 }
 
-/// An entry of a record, by a row of its index.
+/// A row of an index: an entry of the call that was asked for.
 #[derive(Clone, Copy, Debug, PartialEq, Eq)]
-pub struct Entry {
-    /// Where the entry's side byte stands in the record.
+pub struct IndexRow {
+    /// Where the entry's side byte stands in the record, as [`entry_at`] takes
+    /// it.
+    ///
+    /// [`entry_at`]: crate::entry_at
     pub place: usize,
     /// The number of the answer to its frame.
     pub answer: u32,
 }
 
-/// The entries of one call, in the record's order.
+/// The rows of one call in an index, in the record's order; see [`look_up`].
 #[derive(Clone, Debug)]
-pub struct Entries {
-    entries: std::vec::IntoIter<Entry>,
+pub struct IndexRows<'i> {
+    rows: ChunksExact<'i, u8>,
 }
 
-impl Iterator for Entries {
-    type Item = Entry;
+/// The bytes of a row.
+const ROW: usize = 16;
 
-    fn next(&mut self) -> Option<Entry> {
-        self.entries.next()
+/// A row's correlation, place and answer.
+fn numbers(row: &[u8]) -> (u64, u32, u32) {
+    let word = |i: usize| {
+        let bytes = row.get(4 * i..).and_then(|rest| rest.first_chunk());
+        bytes.map_or(0, |&bytes| u32::from_le_bytes(bytes))
+    };
+    let correlation = u64::from(word(0)) | u64::from(word(1)) << 32;
+    (correlation, word(2), word(3))
+}
+
+impl<'i> IndexRows<'i> {
+    /// The rows of one call in an index that is right, where they stand
+    /// together.
+    fn of_call(index: &'i [u8], correlation: u64) -> IndexRows<'i> {
+        let rows = &index[..index.len().saturating_sub(ROW)];
+        let below = |row: &&[u8]| numbers(row).0 < correlation;
+        let not_above = |row: &&[u8]| numbers(row).0 <= correlation;
+        let start = rows.chunks_exact(ROW).take_while(below).count();
+        let end = rows.chunks_exact(ROW).take_while(not_above).count();
+        IndexRows {
+            rows: rows[ROW * start..ROW * end].chunks_exact(ROW),
+        }
+    }
+}
+
+impl Iterator for IndexRows<'_> {
+    type Item = IndexRow;
+
+    fn next(&mut self) -> Option<IndexRow> {
+        let (_, place, answer) = numbers(self.rows.next()?);
+        Some(IndexRow {
+            place: place as usize,
+            answer,
+        })
     }
 
     fn size_hint(&self) -> (usize, Option<usize>) {
-        self.entries.size_hint()
+        self.rows.size_hint()
     }
 }
 
-impl ExactSizeIterator for Entries {}
+impl ExactSizeIterator for IndexRows<'_> {}
 
-/// The entries of one call, by the index of the record. Of the record only the
-/// length is looked at.
+impl core::iter::FusedIterator for IndexRows<'_> {}
+
+/// The rows of one call in the index of a record. Of the record only the length
+/// is looked at.
 ///
 /// The refusals: 65 for bytes that are no index, 66 for a record of another
-/// length than the index tells.
+/// length than the index tells. The proved entry gives that verdict; the rows of
+/// an index that is right are taken as they stand.
 ///
 /// ```
 /// let schema = [0, 0, 0, 0, 0, 0, 0, 0, 0, 0, 0, 0, 1, 0, 0, 0];
@@ -87,40 +127,37 @@ impl ExactSizeIterator for Entries {}
 /// let length = arf::make_index(&schema, &record, &mut index).unwrap();
 /// index.truncate(length);
 ///
-/// let entries: Vec<arf::Entry> = arf::look_up(&index, &record, 6).unwrap().collect();
-/// assert_eq!(entries, [arf::Entry { place: 27, answer: 9 }]);
+/// let rows: Vec<arf::IndexRow> = arf::look_up(&index, &record, 6).unwrap().collect();
+/// assert_eq!(rows, [arf::IndexRow { place: 27, answer: 9 }]);
+/// let entry = arf::entry_at(&record, rows[0].place).unwrap();
+/// assert_eq!(entry.header.correlation, 6);
+///
 /// assert_eq!(arf::look_up(&index, &record, 7).unwrap().len(), 0);
 /// assert_eq!(arf::look_up(&index, &record[1..], 6).unwrap_err().number, 66);
 /// assert_eq!(arf::look_up(&index[1..], &record, 6).unwrap_err().number, 65);
 /// ```
-pub fn look_up(index: &[u8], record: &[u8], correlation: u64) -> Result<Entries, Refusal> {
-    let mut text = vec![0; LINES + LONGEST * (index.len() / 16)];
-    let found = look_up_text(index, record, correlation, &mut text);
-    found.outcome?;
-    let text = String::from_utf8_lossy(&text[..found.length]);
-    let entry = |line: &str| {
-        let (place, answer) = line.split_once(' ')?;
-        Some(Entry {
-            place: place.parse().ok()?,
-            answer: answer.parse().ok()?,
-        })
-    };
-    // The heading and the last line have words in them.
-    let entries: Vec<Entry> = text.lines().filter_map(entry).collect();
-    Ok(Entries {
-        entries: entries.into_iter(),
-    })
+pub fn look_up<'i>(
+    index: &'i [u8],
+    record: &[u8],
+    correlation: u64,
+) -> Result<IndexRows<'i>, Refusal> {
+    // There is room for the text of 65 and 66. Where a longer one has none, the
+    // index is right.
+    let found = look_up_text(index, record, correlation, &mut [0; REFUSED]);
+    match found.outcome {
+        Err(refusal) if refusal.reason() != Some(Reason::OutputTooShort) => Err(refusal),
+        _ => Ok(IndexRows::of_call(index, correlation)),
+    }
 }
 
-/// The bytes of the heading and of the last line of a text.
-const LINES: usize = 24;
-
-/// The bytes of the longest line between them.
-const LONGEST: usize = 22;
+/// The bytes of the text of a refusal: a heading, and `stopped` with a number of
+/// two digits.
+const REFUSED: usize = 24;
 
 /// The answer to a look-up of a text.
 #[derive(Clone, Copy, Debug, PartialEq, Eq)]
 pub struct LookUp {
+    /// Whether there is such an index, and room for the text.
     pub outcome: Result<(), Refusal>,
     /// The bytes of the text; it stands there for 65 and 66 too, and says so.
     pub length: usize,
@@ -128,7 +165,8 @@ pub struct LookUp {
 
 /// Writes what [`look_up`] finds as text to the front of the output: a heading,
 /// a line with place and answer for each entry, and a line that says how it
-/// stopped. Where there is no room for it (52), the output stays as it was.
+/// stopped. Where there is no room for it (52), the output stays as it was; 24
+/// bytes, and 22 for each row of the index, are room for any text.
 ///
 /// ```
 /// // An index of no rows, for an empty record.

@@ -15,6 +15,21 @@ pub const MAX_FIELDS: usize = 2_048;
 /// See [`MAX_TYPES`].
 pub const MAX_METHODS: usize = 256;
 
+/// The most fields of one struct.
+pub const MAX_STRUCT_FIELDS: usize = 64;
+
+/// The most bytes of a good schema file: its rows, and a trailer of 16 bytes.
+///
+/// ```
+/// let rows = 12 * arf::MAX_TYPES + 8 * arf::MAX_FIELDS + 32 * arf::MAX_METHODS;
+/// assert_eq!(arf::MAX_SCHEMA, rows + 16);
+/// ```
+pub const MAX_SCHEMA: usize = 27_664;
+
+/// The cells that are enough to show any payload: each of its values takes a
+/// byte at least, and a row has four cells.
+pub const MAX_SHEET: usize = 4 * MAX_PAYLOAD;
+
 /// The type number that stands for no value: [`write_value_frame`] writes an
 /// empty payload for it. No table has a type of this number.
 ///
@@ -51,7 +66,8 @@ pub const MAX_PAIRS: usize = 64;
 /// ```
 pub const MAX_COMPARISONS: usize = 258_048;
 
-/// The most bytes of a record; the salvage of a longer one is refused with 45.
+/// The most bytes of a record; the salvage and the index of a longer one are
+/// refused with 45.
 pub const MAX_RECORD: usize = 65_536;
 
 /// The cells that are enough to list the spans of any record: between two spans
@@ -86,9 +102,9 @@ pub const MAX_ELEMENTS: u16 = 65_535;
 /// [`make_index`]: crate::make_index
 pub const INDEX_STACK: usize = 256 * 1024;
 
-/// The stack in bytes that a thread needs for any call but [`make_index`]: 64 KiB, which leaves the
-/// caller some of it, since `tools/stack` measures 60 KiB at most. With less
-/// stack than a call needs, the system ends the process.
+/// The stack in bytes that a thread needs for any call but [`make_index`]: 64
+/// KiB, which leaves the caller some of it, since `tools/stack` measures 60 KiB
+/// at most. With less stack than a call needs, the system ends the process.
 ///
 /// [`make_index`]: crate::make_index
 ///

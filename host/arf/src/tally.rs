@@ -1,17 +1,28 @@
 //! What became of the calls of each method.
 
-use crate::{check_table, Refusal};
-
 /// The tally row of one method. A slice of them, one row for each method of the
-/// schema table in its order, is lent to [`CallTable::receive`] and
+/// schema file in its order, is lent to [`CallTable::receive`] and
 /// [`CallTable::release`], which raise at most one figure of one row by one.
+/// [`Calls`] has rows of its own.
 ///
 /// Over any run from a fresh call table and rows of zeros, under one schema
 /// table, `opened` is the sum of the other four and of the calls of that method
 /// that are open now.
 ///
+/// ```
+/// // A schema file with no type and one method that neither takes nor gives a value.
+/// let none = u32::MAX;
+/// let words = [1, 2, 3, 0, none, none, none, none, 0, 0, 32, 1];
+/// let bytes: Vec<u8> = words.iter().flat_map(|word| word.to_le_bytes()).collect();
+/// let schema = arf::Schema::new(&bytes)?;
+/// let tallies = vec![arf::Tally::default(); schema.methods().len()];
+/// assert_eq!(tallies.len(), 1);
+/// # Ok::<(), arf::Refusal>(())
+/// ```
+///
 /// [`CallTable::receive`]: crate::CallTable::receive
 /// [`CallTable::release`]: crate::CallTable::release
+/// [`Calls`]: crate::Calls
 #[derive(Clone, Copy, Debug, Default, PartialEq, Eq, Hash)]
 #[repr(C)]
 pub struct Tally {
@@ -30,25 +41,14 @@ pub struct Tally {
 }
 
 impl Tally {
-    /// Rows of zeros, one for each method of a schema table.
-    ///
-    /// ```
-    /// // A table of nothing has no method.
-    /// let empty = [0, 0, 0, 0, 0, 0, 0, 0, 0, 0, 0, 0, 1, 0, 0, 0];
-    /// assert_eq!(arf::Tally::fresh(&empty), Ok(Vec::new()));
-    /// assert_eq!(arf::Tally::fresh(&[]).unwrap_err().number, 40);
-    /// ```
-    pub fn fresh(schema: &[u8]) -> Result<Vec<Tally>, Refusal> {
-        check_table(schema)?;
-        // A good table ends in the places of its fields, its methods and its
-        // trailer, and a method has 32 bytes.
-        let [.., a, b, c, d, _, _, _, _, _, _, _, _] = *schema else {
-            return Ok(Vec::new());
-        };
-        let methods = u32::from_le_bytes([a, b, c, d]) as usize;
-        let rows = (schema.len() - 16).saturating_sub(methods) / 32;
-        Ok(vec![Tally::default(); rows])
-    }
+    /// A row of zeros.
+    pub const ZERO: Tally = Tally {
+        opened: 0,
+        completed: 0,
+        errored: 0,
+        cancelled: 0,
+        failed: 0,
+    };
 
     /// How many calls have ended.
     pub fn ended(&self) -> u64 {
@@ -79,7 +79,7 @@ impl Tally {
         };
         *self = Tally {
             opened: open,
-            ..Tally::default()
+            ..Tally::ZERO
         };
         Some(taken)
     }

@@ -1,6 +1,6 @@
 //! What a host does with the record of examples/ that releases a call.
 
-use arf::{CallTable, Outcome, Tally};
+use arf::{CallTable, Outcome, Schema, Tally};
 
 /// The entries of a record: a side byte and a frame each.
 fn entries(mut record: &[u8]) -> Vec<(u8, &[u8])> {
@@ -22,7 +22,8 @@ fn answers(release_before: Option<usize>) -> (Vec<(u32, usize)>, Vec<Tally>) {
     let schema = include_bytes!("../../../examples/carrier.schema");
     let record = include_bytes!("../../../examples/released.record");
     let (mut table, mut sheet) = (CallTable::fresh(), [0; 64]);
-    let mut tallies = Tally::fresh(schema).expect("the schema is good");
+    let methods = Schema::new(schema).expect("the schema is good").methods();
+    let mut tallies = vec![Tally::ZERO; methods.len()];
     let judge = |(at, (side, frame)): (usize, (u8, &[u8]))| {
         if release_before == Some(at + 1) {
             assert_eq!(table.release(schema, 5, &mut tallies).outcome, Ok(()));

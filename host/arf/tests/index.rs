@@ -3,7 +3,7 @@
 use std::fs;
 use std::path::Path;
 
-use arf::{Entry, FrameRead};
+use arf::{FrameRead, IndexRow};
 
 fn example(name: &str) -> Vec<u8> {
     let folder = Path::new(env!("CARGO_MANIFEST_DIR")).join("../../examples");
@@ -11,7 +11,7 @@ fn example(name: &str) -> Vec<u8> {
 }
 
 /// The correlation, the place and the answer of each entry that a listing prints.
-fn listed(record: &[u8], listing: &str) -> Vec<(u64, Entry)> {
+fn listed(record: &[u8], listing: &str) -> Vec<(u64, IndexRow)> {
     let mut place = 0;
     let lines = listing.lines().skip(1);
     let lines = lines.take_while(|line| !line.starts_with("stopped"));
@@ -26,7 +26,7 @@ fn listed(record: &[u8], listing: &str) -> Vec<(u64, Entry)> {
             panic!("no whole frame at {place}");
         };
         assert_eq!(words[3], header.correlation.to_string());
-        let entry = Entry {
+        let entry = IndexRow {
             place,
             answer: words[4].parse().unwrap(),
         };
@@ -49,7 +49,7 @@ fn an_index_has_the_entries_that_the_listing_prints() {
         index.truncate(length);
         for correlation in 0..20 {
             let of_call = listed.iter().filter(|(call, _)| *call == correlation);
-            let expected: Vec<Entry> = of_call.map(|(_, entry)| *entry).collect();
+            let expected: Vec<IndexRow> = of_call.map(|(_, entry)| *entry).collect();
             let found = arf::look_up(&index, &record, correlation).unwrap();
             assert_eq!(found.len(), expected.len());
             assert_eq!(found.collect::<Vec<_>>(), expected, "{name} {correlation}");

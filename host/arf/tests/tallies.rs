@@ -1,6 +1,6 @@
 //! How many receipts a call has had, and what became of the calls of a method.
 
-use arf::{Call, CallTable, Header, Outcome, Tally, MAX_ELEMENTS, SLOTS};
+use arf::{Call, CallTable, Header, Outcome, Schema, Tally, MAX_ELEMENTS, SLOTS};
 
 /// uint8, a struct with one such field, a method that takes and gives it, and
 /// one that streams it both ways.
@@ -25,7 +25,8 @@ struct Line {
 impl Line {
     fn fresh() -> Line {
         let schema = schema();
-        let tallies = Tally::fresh(&schema).unwrap();
+        let methods = Schema::new(&schema).unwrap().methods().len();
+        let tallies = vec![Tally::ZERO; methods];
         Line {
             schema,
             table: CallTable::fresh(),
@@ -179,7 +180,7 @@ fn tally_rows_are_as_many_as_methods() {
         assert_eq!(released.outcome.unwrap_err().number, 19);
         assert_eq!(
             refusal.to_string(),
-            "19 at 0: there is not one tally row for each method"
+            "19 at 0: the number of tally rows is not that of the methods"
         );
     }
 }

@@ -271,7 +271,10 @@ pub fn receive(arrival: &Arrival) -> Times {
     let mut sheets = [const { Vec::new() }; 3].map(|_: Vec<u32>| vec![0; CELLS]);
     let [ours, middle, theirs] = &mut sheets;
     let (mut first, mut second, mut third) = (table, quick, other);
-    let mut rows = arf::Tally::fresh(schema).expect("the schema is good");
+    let methods = arf::Schema::new(schema)
+        .expect("the schema is good")
+        .methods();
+    let mut rows = vec![arf::Tally::ZERO; methods.len()];
     let mut quick_rows = vec![fast::Tally::default(); rows.len()];
     let mut their_rows = reference::tallies::fresh(schema);
     let received = first.receive(schema, b'C', bytes, ours, &mut rows);

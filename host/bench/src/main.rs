@@ -111,6 +111,13 @@ impl Lines {
         self.line(table, "table check", "2 types, 256 methods", || {
             lines::check_table(&methods)
         });
+        let scattered = samples::table_of_scattered_methods(256);
+        self.line(
+            table,
+            "table check",
+            "2 types, 256 methods, identifiers in no order",
+            || lines::check_table(&scattered),
+        );
         let payloads = samples::payloads();
         for sample in &payloads {
             self.line(table, "read", sample.name, || lines::read(sample));

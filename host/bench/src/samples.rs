@@ -54,13 +54,38 @@ pub fn table_of_types(types: usize) -> Vec<u8> {
 /// A good table of one struct and so many methods, which differ in their last
 /// identifier.
 pub fn table_of_methods(methods: usize) -> Vec<u8> {
+    table_of_names((0..methods as u32).map(|method| [1, 2, method]))
+}
+
+/// The same, with identifiers in no order.
+pub fn table_of_scattered_methods(methods: usize) -> Vec<u8> {
+    let mut state = 1u64;
+    let mut next = || {
+        state = state
+            .wrapping_mul(6_364_136_223_846_793_005)
+            .wrapping_add(1);
+        (state >> 32) as u32
+    };
+    table_of_names((0..methods).map(|_| [next(), next(), next()]))
+}
+
+/// A good table of one struct and methods with these identifiers.
+fn table_of_names(names: impl Iterator<Item = [u32; 3]>) -> Vec<u8> {
     let mut table = Table::default();
     let byte = table.add_type(UINT8, 0, 0);
     let small = table.add_struct(&[[byte, 0]]);
-    for method in 0..methods as u32 {
-        table
-            .methods
-            .push([1, 2, method, 12, small, small, u32::MAX, u32::MAX]);
+    for [package, service, method] in names {
+        let row = [
+            package,
+            service,
+            method,
+            12,
+            small,
+            small,
+            u32::MAX,
+            u32::MAX,
+        ];
+        table.methods.push(row);
     }
     table.bytes()
 }
@@ -354,6 +379,10 @@ pub fn payloads() -> Vec<Sample> {
         string("long string, two-byte characters", "é"),
         string("long string, three-byte characters", "水"),
         string("long string, four-byte characters", "🚰"),
+        string(
+            "long string, German text",
+            "Zur alten Mühle, schöne Grüße, ",
+        ),
         nested_arrays(),
         optional_fields(),
         maps("64-pair maps, uint32 keys", 64, WORD, UINT32, |index| {

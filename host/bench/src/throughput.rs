@@ -74,7 +74,10 @@ fn list(record: &[u8], mut receive: impl FnMut(u8, &[u8]) -> Entry) -> String {
 
 fn list_by_library(schema: &[u8], record: &[u8], sheet: &mut [u32]) -> String {
     let mut table = arf::CallTable::fresh();
-    let mut tallies = arf::Tally::fresh(schema).expect("the schema is good");
+    let methods = arf::Schema::new(schema)
+        .expect("the schema is good")
+        .methods();
+    let mut tallies = vec![arf::Tally::ZERO; methods.len()];
     list(record, |side, bytes| {
         let received = table.receive(schema, side, bytes, sheet, &mut tallies);
         let (answer, place, rows) = match received.outcome {

@@ -230,9 +230,10 @@ const TALLY_FILL: arf::Tally = arf::Tally {
 impl Line {
     /// A new connection; tallies only where the schema table is good.
     fn fresh(schema: &[u8]) -> Line {
+        let methods = arf::Schema::new(schema).map_or(0, |schema| schema.methods().len());
         Line {
             table: arf::CallTable::fresh(),
-            tallies: arf::Tally::fresh(schema).unwrap_or_default(),
+            tallies: vec![arf::Tally::ZERO; methods],
         }
     }
 

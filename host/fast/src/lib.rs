@@ -7,6 +7,8 @@
 //! measured against this crate.
 
 #![forbid(unsafe_code)]
+// The forms that were measured.
+#![allow(clippy::int_plus_one, clippy::manual_div_ceil)]
 
 mod bytes;
 mod calls;

@@ -355,8 +355,11 @@ fn closes_that_complete_and_closes_that_fail() {
     }
 }
 
-/// The connections, frames and figures of each way in which a tally rises.
-fn rises() -> Vec<(Line, Kind, u32, &'static [u8], Figure, u32)> {
+/// A connection, a frame's kind, method and payload, the figure and the answer.
+type Raise = (Line, Kind, u32, &'static [u8], Figure, u32);
+
+/// Each way in which a tally rises.
+fn rises() -> Vec<Raise> {
     let cancelled = Call {
         method: 12,
         cancelled: true,

@@ -51,8 +51,8 @@ write-keeping-spec =
     let part = put .before .before .before .part-for in
     let w = payloadBy (args .s .now) (args .ty) (args .sheet .now) (args .source .now) in
     let size = sym (put .put-first .ensures .0) ∙ c .before .before .before .answer2 .given .1 in
-    keep-full (args .header) w (part .result .start) (part .result .end) (args .out .now) _
-    (part .ensures .0) (part .ensures .1) (put .put-first .ensures .1) (put .put-first .kept .1 .1 .1 .1 .1 .1 .0) _ _ size (c .before .payload-place .ensures .0) (c .if1 .taken))
+    keep-full w (part .result .start) (part .result .end) (args .out .now) _
+    (part .ensures .0) (part .ensures .1) (put .put-first .ensures .1) (args .header) (put .put-first .kept .1 .1 .1 .1 .1 .1 .0) _ _ size (c .before .payload-place .ensures .0) (c .if1 .taken))
     -- write-front-requires
     (λ c κs. search needs)
     -- sub-is-there
@@ -81,8 +81,8 @@ write-keeping-spec =
     let args = put .before .before .before .before .before .before .before .before .before .args in
     let part = put .before .before .before .part-for in
     let w = payloadBy (args .s .now) (args .ty) (args .sheet .now) (args .source .now) in
-    keep-refused (args .header) w (part .result .start) (part .result .end) (args .out .now) _
-    (part .ensures .0) (part .ensures .1) (put .put-first .ensures .1) (put .put-first .kept .1 .1 .1 .1 .1 .1 .0) _ _ (sym (put .put-first .ensures .0) ∙ c .before .answer .given .1))
+    keep-refused w (part .result .start) (part .result .end) (args .out .now) _
+    (part .ensures .0) (part .ensures .1) (put .put-first .ensures .1) (args .header) (put .put-first .kept .1 .1 .1 .1 .1 .1 .0) _ _ (sym (put .put-first .ensures .0) ∙ c .before .answer .given .1))
     -- same-length-5
     (λ c. search needs)
     -- same-length-6
@@ -97,8 +97,8 @@ write-keeping-spec =
     let size = sym (put .put-first .ensures .0) ∙ tested .before .before .before .answer2 .given .1 in
     let other = ap (λ (a : code.Writing). belongs a (part .result .start) (part .result .end - part .result .start)) size
     ∙ sym (c .before .before .before .before .before .is-there .ensures) ∙ not-true _ (c .before .before .before .before .if2 .taken) in
-    keep-elsewhere (args .header) w (part .result .start) (part .result .end) (args .out .now) _
-    (part .ensures .0) (part .ensures .1) (put .put-first .ensures .1) (put .put-first .kept .1 .1 .1 .1 .1 .1 .0)
+    keep-elsewhere w (part .result .start) (part .result .end) (args .out .now) _
+    (part .ensures .0) (part .ensures .1) (put .put-first .ensures .1) (args .header) (put .put-first .kept .1 .1 .1 .1 .1 .1 .0)
     _ _ size (tested .before .payload-place .ensures .0) (tested .if1 .left) _ (c .before .before .before .before .before .before .before .before .write-front .ensures) other _ (c .before .before .put-payload .ensures))
     -- same-length-7
     (λ c. search needs)
@@ -112,6 +112,6 @@ write-keeping-spec =
     let w = payloadBy (args .s .now) (args .ty) (args .sheet .now) (args .source .now) in
     let size = sym (put .put-first .ensures .0) ∙ c .before .before .before .before .before .before .before .before .before .answer2 .given .1 in
     let there = ap (λ (a : code.Writing). belongs a (part .result .start) (part .result .end - part .result .start)) size ∙ sym (c .before .is-there .ensures) ∙ not-false _ (c .if2 .left) in
-    keep-there (args .header) w (part .result .start) (part .result .end) (args .out .now) _
-    (part .ensures .0) (part .ensures .1) (put .put-first .ensures .1) (put .put-first .kept .1 .1 .1 .1 .1 .1 .0)
+    keep-there w (part .result .start) (part .result .end) (args .out .now) _
+    (part .ensures .0) (part .ensures .1) (put .put-first .ensures .1) (args .header) (put .put-first .kept .1 .1 .1 .1 .1 .1 .0)
     _ _ size (c .before .before .before .before .before .before .before .payload-place .ensures .0) (c .before .before .before .before .before .before .if1 .left) _ (c .before .before .before .before .write-front .ensures) there))

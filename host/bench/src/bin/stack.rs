@@ -135,7 +135,10 @@ fn run(entry: &str, nest: &Nest, kib: usize) -> u32 {
     let invoke = frame(1, 1_000, payload);
     let record = [b"C", &invoke[..]].concat();
     let mut table = Box::new(open_calls());
-    let mut tallies = arf::Tally::fresh(schema).expect("the schema is good");
+    let methods = arf::Schema::new(schema)
+        .expect("the schema is good")
+        .methods();
+    let mut tallies = vec![arf::Tally::ZERO; methods.len()];
     match entry {
         "read" => on_thread(kib, || number(arf::read(schema, ty, payload, &mut sheet))),
         "beside" => on_thread(kib, || {

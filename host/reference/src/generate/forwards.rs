@@ -82,6 +82,7 @@ pub fn without_bits(rng: &mut Rng, data: &mut Vec<u8>, unknown: usize) -> Option
 
 /// A tail that ends beyond the bytes, by one, by far, or past 32 bits, whether
 /// it suits the bits or not (51).
+#[allow(clippy::ptr_arg)] // a `TailMaker` like the others
 pub fn outside(rng: &mut Rng, data: &mut Vec<u8>, unknown: usize) -> Option<Tail> {
     let end = data.len();
     let place = rng.below(end + 1);
@@ -99,6 +100,7 @@ pub fn outside(rng: &mut Rng, data: &mut Vec<u8>, unknown: usize) -> Option<Tail
 }
 
 /// An empty tail beyond the bytes (51).
+#[allow(clippy::ptr_arg)] // a `TailMaker` like the others
 pub fn empty_beyond(rng: &mut Rng, data: &mut Vec<u8>, _: usize) -> Option<Tail> {
     let end = data.len();
     Some(tail(

@@ -6,7 +6,7 @@ use native.Mathlib.Omega.{arith}
 use borrow.Author.Needs.{needs}
 use denote.Ref.{now}
 use lib.ListN.{length}
-use Rattle.text.specs.Put.{Added}
+use Rattle.text.specs.Text.{Added}
 use Rattle.replay.specs.Run.{runOf}
 use Rattle.replay.proofs.Replays.{tail-of, entry-bounds}
 use Rattle.listing.specs.Listing.{runText}

@@ -1,5 +1,5 @@
 -- `schema::check::is_new` meets its contract. Assumes nothing.
-use mathlib.Core.Path.{_∙_, sym}
+use mathlib.Core.Path.{sym}
 use borrow.Author.Needs.{needs}
 use Rattle.schema.proofs.check.is_new.Statement.{statement}
 use Rattle.schema.proofs.check.is_new.Tie as tie

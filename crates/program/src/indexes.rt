@@ -1,0 +1,54 @@
+// The index of a record: index SCHEMA RECORD INDEX. Writes it to a new file, and says in words how many entries it covers.
+use crate::print::LONGEST;
+use crate::print::MOST;
+use crate::print::is_over;
+use crate::told;
+use index::Indexing;
+
+// The most bytes of an index.
+const INDEX: usize = 38848;
+
+// Says how many entries an index of so many bytes covers: each has a row of 16 bytes, and the trailer as many.
+fn tell(length: usize) {
+    let mut entries = 0;
+    if 16 <= length {
+        entries = length / 16 - 1;
+    }
+    told::indexed(entries, length);
+}
+
+// Writes an index to the new file that the fourth argument names.
+fn save(index: &[u8], whole: &mut bool) {
+    let mut path = io::buffer();
+    let n = files::name(b"arf", 4, &mut path, whole);
+    if *whole {
+        files::save(b"arf", &path[..n], index, whole);
+    }
+}
+
+// Makes, saves and tells.
+fn make(schema: &[u8], record: &[u8]) {
+    let mut out = [0u8; INDEX];
+    match arf::make_index(schema, record, &mut out) {
+        Indexing::Refused { number, place } => told::refused(number, place),
+        Indexing::Made { length } => {
+            let n = files::front(length, &out);
+            let mut whole = true;
+            save(&out[..n], &mut whole);
+            if whole {
+                tell(length);
+            }
+        }
+    }
+}
+
+pub fn index() {
+    let mut schema = [0u8; MOST];
+    let mut record = [0u8; LONGEST];
+    let mut whole = true;
+    let n = files::read(b"arf", 2, &mut schema, &mut whole);
+    let m = files::read(b"arf", 3, &mut record, &mut whole);
+    if whole && !is_over(n, b"the schema file") {
+        make(&schema[..n], &record[..m]);
+    }
+}

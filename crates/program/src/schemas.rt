@@ -1,0 +1,35 @@
+// Schema files, and numbers in words: check SCHEMA, extends OLD NEW, explain NUMBER.
+use crate::print::LONGEST;
+use crate::print::print;
+
+pub fn check() {
+    let mut schema = [0u8; LONGEST];
+    let mut whole = true;
+    let n = files::read(b"arf", 2, &mut schema, &mut whole);
+    if whole {
+        let mut out = [0u8; words::MOST];
+        let length = words::check(&schema[..n], &mut out);
+        print(&out[..length]);
+    }
+}
+
+pub fn extends() {
+    let mut old = [0u8; LONGEST];
+    let mut new = [0u8; LONGEST];
+    let mut whole = true;
+    let n = files::read(b"arf", 2, &mut old, &mut whole);
+    let m = files::read(b"arf", 3, &mut new, &mut whole);
+    if whole {
+        let mut out = [0u8; words::MOST];
+        let length = words::extends(&old[..n], &new[..m], &mut out);
+        print(&out[..length]);
+    }
+}
+
+pub fn explain() {
+    let mut word = io::buffer();
+    let n = os::arg(2, &mut word);
+    let mut out = [0u8; words::MOST];
+    let length = words::explain(&word[..n], &mut out);
+    print(&out[..length]);
+}

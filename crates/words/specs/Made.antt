@@ -1,0 +1,29 @@
+-- What the verbs salvage and index say of the files that they have made, as ASCII codes. Each line ends in one LF.
+-- Assumes nothing.
+use mathlib.Core.Bool.{cond}
+use mathlib.Core.List.{List, _++_}
+use Prim.Native.Nat.{ℕ}
+use lib.Dec.{eqb}
+use Rattle.text.specs.Codes.{codes}
+use Rattle.text.specs.Decimal.{decimal}
+
+-- A number of things, with the word for one or that for any other number.
+unfoldable pub counted : (n : ℕ) (one many : List ℕ) → List ℕ
+counted n one many = decimal n ++ cond (eqb n 1) one many
+
+-- kept 6 entries, 305 bytes; left out 2 spans
+unfoldable pub keptText : (entries bytes spans : ℕ) → List ℕ
+keptText entries bytes spans =
+    codes "kept "
+    ++ counted entries (codes " entry, ") (codes " entries, ")
+    ++ counted bytes (codes " byte; left out ") (codes " bytes; left out ")
+    ++ counted spans (codes " span\n") (codes " spans\n")
+
+-- left out 99 bytes from place 101 on
+unfoldable pub leftText : (place bytes : ℕ) → List ℕ
+leftText place bytes =
+    codes "left out " ++ counted bytes (codes " byte from place ") (codes " bytes from place ") ++ decimal place ++ codes " on\n"
+
+-- indexed 9 entries, 160 bytes
+unfoldable pub indexedText : (entries bytes : ℕ) → List ℕ
+indexedText entries bytes = codes "indexed " ++ counted entries (codes " entry, ") (codes " entries, ") ++ counted bytes (codes " byte\n") (codes " bytes\n")
