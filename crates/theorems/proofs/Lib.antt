@@ -1,0 +1,13 @@
+pub mod Demand1
+pub mod Demand2
+pub mod Demand3
+pub mod Request01
+pub mod Request03
+pub mod Request05
+pub mod Request06
+pub mod Request07
+pub mod Request08
+pub mod Request09
+pub mod Request10
+pub mod Request11
+pub mod Request12
