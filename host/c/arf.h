@@ -281,9 +281,10 @@ uint32_t arf_look_up(const uint8_t *index, size_t index_n, const uint8_t *record
  * accepted, 4 input closed, 8 output closed, 16 cancelled, and the stream elements accepted, 32 for
  * each of the input and 2,097,152 for each of the output. All cells are 0 at the start, and those
  * of a free slot are. The table is the library's to change: the host keeps it from one call to the
- * next, one for each connection. With fewer cells, or with a number in them that is none of a
- * record's, the answer is 15, after 40 to 44, and the cells stay as they were; cells after the last
- * record are never touched.
+ * next, one for each connection. Frames of both sides go through it in their order, those too that
+ * the host itself sends: else the answer to an INVOKE of its own is 11. With fewer cells, or with a
+ * number in them that is none of a record's, the answer is 15, after 40 to 44, and the cells stay
+ * as they were; cells after the last record are never touched.
  *
  * Tallies are ARF_TALLY_CELLS cells for each method of the schema (arf_method_count), in its
  * order: calls opened, completed, errored, cancelled, failed on payload. All are 0 at the start,

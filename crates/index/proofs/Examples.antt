@@ -18,9 +18,9 @@ use Rattle.index.specs.LookUp as look
 abbrev row : (correlation place answer : ℕ) → Row
 row c p a = record { correlation = c; place = p; answer = a }
 
--- rows in the record's order, of three calls, and the same in the index's
-pub in-order : ordered [] (row 9 0 0 ∷ row 7 29 0 ∷ row 9 60 11 ∷ row 300 91 0 ∷ row 7 120 26 ∷ [])
-    ≡ row 7 29 0 ∷ row 7 120 26 ∷ row 9 0 0 ∷ row 9 60 11 ∷ row 300 91 0 ∷ []
+-- rows in the record's order, of four calls, one with correlation 2^63, and the same in the index's
+pub in-order : ordered [] (row 9 0 0 ∷ row 7 29 0 ∷ row 9223372036854775808 58 0 ∷ row 9 87 11 ∷ row 300 116 0 ∷ row 7 145 26 ∷ [])
+    ≡ row 7 29 0 ∷ row 7 145 26 ∷ row 9 0 0 ∷ row 9 87 11 ∷ row 300 116 0 ∷ row 9223372036854775808 58 0 ∷ []
 unfolding insert ordered
 in-order = refl
 
@@ -60,13 +60,25 @@ calls = line 7 29 0 ++ (line 7 87 26 ++ (line 9 0 0 ++ (line 9 58 11 ++ end 4)))
 abbrev mixed : List ℕ
 mixed = line 9 0 0 ++ (line 7 29 0 ++ (line 9 58 11 ++ (line 7 87 26 ++ end 4)))
 
--- an index; an index without rows; of one row; of two calls; the same by turns; nothing; a byte too few; a byte too many; no trailer; another place, count,
--- layout number; rows out of order, and alike
+-- a row with correlation 2^63; with it after a lower one, in order, and before
+abbrev top : List ℕ
+top = 0 ∷ 0 ∷ 0 ∷ 0 ∷ 0 ∷ 0 ∷ 0 ∷ 0x80 ∷ 0 ∷ 0 ∷ 0 ∷ 0 ∷ 0 ∷ 0 ∷ 0 ∷ 0 ∷ []
+
+abbrev high : List ℕ
+high = line 7 29 0 ++ (top ++ end 2)
+
+abbrev sunk : List ℕ
+sunk = top ++ (line 7 29 0 ++ end 2)
+
+-- an index; an index without rows; of one row; of two calls; of a call with correlation 2^63 last, and first; two calls by turns; nothing; a byte too few;
+-- a byte too many; no trailer; another place, count, layout number; rows out of order, and alike
 pub indices : map isIndex
     (two
     ∷ end 0
     ∷ (line 7 29 0 ++ end 1)
     ∷ calls
+    ∷ high
+    ∷ sunk
     ∷ mixed
     ∷ []
     ∷ take 47 two
@@ -79,7 +91,7 @@ pub indices : map isIndex
     ∷ turned
     ∷ twice
     ∷ [])
-    ≡ true ∷ true ∷ true ∷ true ∷ false ∷ false ∷ false ∷ false ∷ false ∷ false ∷ false ∷ false ∷ false ∷ false ∷ false ∷ []
+    ≡ true ∷ true ∷ true ∷ true ∷ true ∷ false ∷ false ∷ false ∷ false ∷ false ∷ false ∷ false ∷ false ∷ false ∷ false ∷ false ∷ false ∷ []
 unfolding little.little rowsIn isShaped isRising isIndex
 indices = refl
 
@@ -99,6 +111,10 @@ seven =
     56 ∷ 55 ∷ 32 ∷ 50 ∷ 54 ∷ 10 ∷
     115 ∷ 116 ∷ 111 ∷ 112 ∷ 112 ∷ 101 ∷ 100 ∷ 32 ∷ 48 ∷ 10 ∷ []
 
+-- place answer; 0 0; stopped 0
+abbrev first : List ℕ
+first = take 17 found ++ drop 24 found
+
 -- place answer; stopped N, in two digits
 abbrev refused : (tens ones : ℕ) → List ℕ
 refused tens ones =
@@ -111,12 +127,13 @@ nothing = 112 ∷ 108 ∷ 97 ∷ 99 ∷ 101 ∷ 32 ∷ 97 ∷ 110 ∷ 115 ∷ 11
 abbrev fill : ℕ → List ℕ
 fill n = replicate n 165
 
--- call 9, with a byte to spare and with one too few; call 8, which has no rows; one of two calls; an index without rows; a record of another length; bytes
--- that are no index, for a record of another length too; the refusal where it does not fit
+-- call 9, with a byte to spare and with one too few; call 8, which has no rows; one of two calls; call 2^63; an index without rows; a record of another
+-- length; bytes that are no index, for a record of another length too; the refusal where it does not fit
 pub look-ups : look.lookUp two (fill 31) 9 (fill 35)
     ∷ look.lookUp two (fill 31) 9 (fill 33)
     ∷ look.lookUp two (fill 31) 8 (fill 23)
     ∷ look.lookUp calls (fill 31) 7 (fill 34)
+    ∷ look.lookUp high (fill 31) 9223372036854775808 (fill 27)
     ∷ look.lookUp (end 0) (fill 31) 7 (fill 23)
     ∷ look.lookUp two (fill 30) 9 (fill 24)
     ∷ look.lookUp turned (fill 30) 9 (fill 24)
@@ -126,6 +143,7 @@ pub look-ups : look.lookUp two (fill 31) 9 (fill 35)
     ∷ look.outcome (Refused 52) (fill 33)
     ∷ look.outcome (Printed 0 23) nothing
     ∷ look.outcome (Printed 0 34) seven
+    ∷ look.outcome (Printed 0 27) first
     ∷ look.outcome (Printed 0 23) nothing
     ∷ look.outcome (Printed 66 24) (refused 54 54)
     ∷ look.outcome (Printed 65 24) (refused 54 53)

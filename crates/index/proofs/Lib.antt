@@ -6,3 +6,4 @@ pub mod Prints
 pub mod Readings
 pub mod Statements
 pub mod Examples
+pub mod Numbers

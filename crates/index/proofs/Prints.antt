@@ -1,7 +1,7 @@
 -- The text of a look-up, in the code's own terms.
 -- Assumes nothing.
 use mathlib.Core.Path.{_≡_, refl, sym, ap, subst, _∙_}
-use mathlib.Core.Bool.{true, false}
+use mathlib.Core.Bool.{Bool, true, false}
 use mathlib.Core.List.{List, [], _∷_, _++_}
 use Prim.Native.Nat.{ℕ, zero, suc, _+_, _*_, _-_, _≤_, _<_}
 use native.Mathlib.Omega.{arith}
@@ -13,7 +13,7 @@ use Rattle.text.specs.Decimal.{decimal}
 use Rattle.text.specs.Text.{field, Added}
 use Rattle.text.proofs.Texts.{added-then, added-none, text-length, text-whole}
 use Rattle.index.specs.declared.Finding.the-variants.{Printed, Refused}
-use Rattle.index.specs.Row.{Row, ofCall}
+use Rattle.index.specs.Row.{Row, isOf, ofCall}
 use Rattle.index.specs.IsIndex.{rowAt, rowsIn}
 use Rattle.index.specs.Text.{heading, lineText, linesText, stoppedText, textOf}
 use Rattle.index.specs.LookUp.{verdict, looked, lookText, outcome, put, lookUp}
@@ -70,18 +70,25 @@ module _ (s : List ℕ) (n c : ℕ) (out₀ : List ℕ) (start : ℕ) where
       abbrev row : Row
       row = rowAt (drop (16 * i) s)
 
-      pub rest-other : (x ≡ c → ⊥) → Rest s n c out₀ start out pos (i + 1)
+      -- whether the row is one of the call, by the number that was read
+      abbrev Is : Bool → Type 0
+      Is b = isOf c (record { correlation = x; place = row .place; answer = row .answer }) ≡ b
+
+      there : {b : Bool} → Is b → isOf c row ≡ b
+      there {b} e = subst (λ (k : ℕ). isOf c (record { correlation = k; place = row .place; answer = row .answer }) ≡ b) is e
+
+      pub rest-other : Is false → Rest s n c out₀ start out pos (i + 1)
       rest-other e =
           let same : restLines s n c i ≡ restLines s n c (i + 1) =
           ap (λ (rows : List Row). linesText (ofCall c rows)) (rows-on n i s h)
-          ∙ ap linesText (call-not c row (rowsIn (n - (i + 1)) (drop (16 * (i + 1)) s)) (λ k. e (is ∙ k))) in
+          ∙ ap linesText (call-not c row (rowsIn (n - (i + 1)) (drop (16 * (i + 1)) s)) (there e)) in
           record { ends = λ next after f. w .ends next after (subst (λ (t : List ℕ). Added out pos t next after) (sym same) f) }
 
-      pub rest-line : x ≡ c → (mid : List ℕ) (p : ℕ) → Added out pos (lineText (row .place) (row .answer)) p mid → Rest s n c out₀ start mid p (i + 1)
+      pub rest-line : Is true → (mid : List ℕ) (p : ℕ) → Added out pos (lineText (row .place) (row .answer)) p mid → Rest s n c out₀ start mid p (i + 1)
       rest-line e mid p f =
           let left : restLines s n c i ≡ lineText (row .place) (row .answer) ++ restLines s n c (i + 1) =
           ap (λ (rows : List Row). linesText (ofCall c rows)) (rows-on n i s h)
-          ∙ ap linesText (call-is c row (rowsIn (n - (i + 1)) (drop (16 * (i + 1)) s)) (sym is ∙ e))
+          ∙ ap linesText (call-is c row (rowsIn (n - (i + 1)) (drop (16 * (i + 1)) s)) (there e))
           ∙ lines-one row (ofCall c (rowsIn (n - (i + 1)) (drop (16 * (i + 1)) s))) in
           record { ends = λ next after g. w .ends next after (subst (λ (t : List ℕ). Added out pos t next after) (sym left) (added-then f g)) }
 

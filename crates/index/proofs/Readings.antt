@@ -15,7 +15,7 @@ use Rattle.wire.specs.Little.{Bytes, little, bytes}
 use Rattle.wire.proofs.Numbers.{bytes-drop, bytes-take, length-bytes, little-bytes, bytes-little, little-lt}
 use Rattle.index.specs.Row.{Row, Before, lower, earlier, Rising, no-row, one-row, next-row, isBefore, isRising}
 use Rattle.index.specs.Index.{rowBytes, rowsBytes, trailer, indexBytes}
-use Rattle.index.specs.IsIndex.{rowAt, rowsIn, countIn, trailerCell, sizeIn, isShaped, isIndex, Fits, AllFit, none-left, one-fits, IsIndex}
+use Rattle.index.specs.IsIndex.{rowAt, rowsIn, countIn, trailerCell, sizeIn, isShaped, isIndex, Reads, Fits, AllFit, none-left, one-fits, IsIndex}
 use Rattle.index.proofs.Shapes.{shape-long, shape-even, shape-cells, shape-count, rows-inside}
 
 -- ---- the order
@@ -127,12 +127,7 @@ four-back count size h g =
       layout = ap (λ (u : List ℕ). little (take 4 u)) r ∙ last;
     }
 
--- What an index is read as: its rows, and the record's length.
-pub record Reads (s : List ℕ) (rows : List Row) (size : ℕ) : Type 0 where
-  pub passes : isIndex s ≡ true
-  pub rows-are : rowsIn (countIn s) s ≡ rows
-  pub size-is : sizeIn s ≡ size
-
+-- An index passes, and is read as its rows and the record's length.
 pub index-reads : {s : List ℕ} {rows : List Row} {size : ℕ} → IsIndex s rows size → Reads s rows size
 unfolding isIndex isShaped indexBytes
 index-reads {s} {rows} {size} w =

@@ -12,7 +12,7 @@ use lib.Seq.{drop-drop}
 use Rattle.schema.proofs.Bools.{and-left, and-right}
 use Rattle.wire.specs.Little.{little}
 use Rattle.index.specs.Row.{Row, isBefore, isRising}
-use Rattle.index.specs.IsIndex.{rowAt, rowsIn, countIn, trailerCell, sizeIn, isShaped, isIndex}
+use Rattle.index.specs.IsIndex.{rowAt, rowsIn, countIn, trailerCell, sizeIn, isShaped, isOrdered, isIndex}
 use Rattle.index.specs.LookUp.{verdict, looked}
 
 -- ---- the shape
@@ -137,14 +137,14 @@ module _ (s : List ℕ) (size : ℕ) where
   judged-shape e = refused-index (rw e)
 
   module _ (shape : isShaped s ≡ true) where
-    pub judged-order : (n : ℕ) → n ≡ countIn s → isRising (rowsIn n s) ≡ false → (number rows : ℕ) → number ≡ 65 → rows ≡ 0 → JudgedAs s size number rows
+    pub judged-order : isOrdered s ≡ false → (number rows : ℕ) → number ≡ 65 → rows ≡ 0 → JudgedAs s size number rows
     unfolding isIndex
-    judged-order n is e = refused-index (ap (λ (b : Bool). b && isRising (rowsIn (countIn s) s)) shape ∙ ap (λ (k : ℕ). isRising (rowsIn k s)) (sym is) ∙ e)
+    judged-order e = refused-index (ap (λ (b : Bool). b && isOrdered s) shape ∙ e)
 
-    module _ (n : ℕ) (is : n ≡ countIn s) (rising : isRising (rowsIn n s) ≡ true) where
+    module _ (order : isOrdered s ≡ true) where
       accepted-index : isIndex s ≡ true
       unfolding isIndex
-      accepted-index = ap (λ (b : Bool). b && isRising (rowsIn (countIn s) s)) shape ∙ ap (λ (k : ℕ). isRising (rowsIn k s)) (sym is) ∙ rising
+      accepted-index = ap (λ (b : Bool). b && isOrdered s) shape ∙ order
 
       pub judged-size : (x : ℕ) → x ≡ little (take 4 (drop (length s - 16 + 8) s)) → (x ≡ size → ⊥) → (number rows : ℕ) → number ≡ 66 → rows ≡ 0 → JudgedAs s size number rows
       unfolding verdict looked
@@ -157,9 +157,9 @@ module _ (s : List ℕ) (size : ℕ) where
             few = omega arith;
           }
 
-      pub judged-right : (x : ℕ) → x ≡ little (take 4 (drop (length s - 16 + 8) s)) → x ≡ size → n < 4294967296 → JudgedAs s size 0 n
+      pub judged-right : (x : ℕ) → x ≡ little (take 4 (drop (length s - 16 + 8) s)) → x ≡ size → (n : ℕ) → n ≡ countIn s → n < 4294967296 → JudgedAs s size 0 n
       unfolding verdict looked
-      judged-right x e h few =
+      judged-right x e h n is few =
           let v : verdict s size ≡ 0 = rw (accepted-index, eq-eqb (sizeIn s) size (sym (cell-read 8 x s e) ∙ h)) in
           record {
             number-is = sym v;

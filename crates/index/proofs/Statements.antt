@@ -18,6 +18,7 @@ use Rattle.schema.specs.declared.Checked.{Checked}
 use Rattle.schema.specs.declared.Checked.the-variants.{Good, Refused as Faulty}
 use Rattle.schema.specs.File.{tableOf}
 use Rattle.schema.specs.Check.{checked, IsGood}
+use Rattle.schema.proofs.Faults.{refused-iff as schema-refused}
 use Rattle.schema.proofs.Listed.{listed as schema-listed, listed-bounds}
 use Rattle.schema.proofs.Bools.{cases, clash, is-false}
 use Rattle.frame.specs.declared.Header.{Header}
@@ -44,8 +45,8 @@ use Rattle.index.specs.Text.{heading, lineText, linesText, stoppedText, 
 use Rattle.index.specs.Claims.{Has, Accepted, Refuses, bad-table, too-long, no-room, Judges, right, other-record, no-index, Finds, prints, no-space}
 use Rattle.index.specs.LookUp as look
 use Rattle.index.proofs.Orders.{Below, none-below, one-below, below-more, Later, ordered-rising, ordered-has, ordered-length, call-ordered, by-call, call-rising}
-use Rattle.index.proofs.Orders.{call-is, call-not, call-none, by-first, insert-here, insert-later, insert-last, ordered-none, ordered-one}
-use Rattle.index.proofs.Readings.{Reads, index-reads, reads-index, index-long}
+use Rattle.index.proofs.Orders.{call-is, call-not, call-none, of-call-iff, by-first, insert-here, insert-later, insert-last, ordered-none, ordered-one}
+use Rattle.index.proofs.Readings.{index-reads, reads-index, index-long}
 use Rattle.index.proofs.Turns.{run-later, run-below, run-short, table-refused, record-refused, record-indexed}
 
 -- ---- rows and entries
@@ -130,7 +131,7 @@ call-has c r rows = (only rows, has rows)
         by-call c s
         (λ e.
         ⊎-elim
-        (λ k. (List·Memᴰ·head k, ap (λ (x : Row). x .correlation) k ∙ e))
+        (λ k. (List·Memᴰ·head k, ap (λ (x : Row). x .correlation) k ∙ of-call-iff c s .0 e))
         (λ m. let below = only rows m in (List·Memᴰ·tail (below .0), below .1))
         (List·Memᴰ·cases-cons (on (call-is c s rows e) w)))
         (λ e. let below = only rows (on (call-not c s rows e) w) in (List·Memᴰ·tail (below .0), below .1))
@@ -139,7 +140,7 @@ call-has c r rows = (only rows, has rows)
     has [] w = absurd (List·Memᴰ·not-nil (w .0))
     has (s ∷ rows) w =
         ⊎-elim
-        (λ k. on (sym (call-is c s rows (sym (ap (λ (x : Row). x .correlation) k) ∙ w .1))) (List·Memᴰ·head k))
+        (λ k. on (sym (call-is c s rows (of-call-iff c s .1 (sym (ap (λ (x : Row). x .correlation) k) ∙ w .1)))) (List·Memᴰ·head k))
         (λ m.
         by-call c s
         (λ e. on (sym (call-is c s rows e)) (List·Memᴰ·tail (has rows (m, w .1))))
@@ -309,13 +310,13 @@ module _ (schema entries out : List ℕ) where
       refused-for : makeIndex schema entries out ≡ outcome (Refused number place) after → Refuses schema entries out number place × (after ≡ out)
       refused-for =
           ways schema entries out (λ o. o ≡ outcome (Refused number place) after → Refuses schema entries out number place × (after ≡ out))
-          (λ k q e. told (bad-table e))
+          (λ k q e. told (bad-table (schema-refused schema k q .0 e)))
           (λ g l. told (too-long g l))
           (λ g l h. told (no-room g l h))
           (λ g l h e. not-made (sym e))
 
       for-refused : {n q : ℕ} → Refuses schema entries out n q → makeIndex schema entries out ≡ outcome (Refused n q) out
-      for-refused (bad-table {number = n} {place = q} e) = sym (table-refused schema entries out (Faulty n q) (sym e) refl)
+      for-refused (bad-table {number = n} {place = q} f) = sym (table-refused schema entries out (Faulty n q) (sym (schema-refused schema n q .1 f)) refl)
       for-refused (too-long g l) = sym (record-refused schema entries out Good (sym g) refl l)
       for-refused (no-room g l h) =
           sym (record-indexed schema entries out Good (sym g) refl l)
@@ -388,6 +389,32 @@ looked-up index entries c out b =
       | no h ↦ subst (Finds index size c out) (sym (look-up-full index entries c out (omega arith))) (no-space w (omega arith))
     ]
 
+-- what was judged is the verdict, and gives the text
+judged-text : (index : List ℕ) (size c : ℕ) {number : ℕ} {rows : List Row} → Bytes index → Judges index size number rows
+    → (look.verdict index size ≡ number) × (look.lookText index size c ≡ textOf (ofCall c rows) number)
+judged-text index size c b (right w) = rows-printed index size c w
+judged-text index size c b (other-record w h) =
+    let (v, t) = other-printed index size c w h in
+    (v, t ∙ ap (λ (l : List Row). textOf l 66) (sym (call-none c)))
+judged-text index size c b (no-index none) =
+    let (v, t) = none-printed index size c b none in
+    (v, t ∙ ap (λ (l : List Row). textOf l 65) (sym (call-none c)))
+
+-- It answers and leaves nothing else.
+pub looked-up-iff : (index entries : List ℕ) (c : ℕ) (out : List ℕ) → Bytes index → (o : look.Outcome)
+    → (look.lookUp index entries c out ≡ o) ↔ Finds index (length entries) c out o
+looked-up-iff index entries c out b o = (λ e. subst (Finds index (length entries) c out) e (looked-up index entries c out b), found)
+  where
+    found : {o : look.Outcome} → Finds index (length entries) c out o → look.lookUp index entries c out ≡ o
+    found (prints text j e h) =
+        let (v, t) = judged-text index (length entries) c b j in
+        let same = t ∙ sym e in
+        look-up-fits index entries c out (subst (λ (u : List ℕ). length u ≤ length out) (sym same) h)
+        ∙ λ i. look.outcome (Printed (v i) (length (same i))) (same i ++ drop (length (same i)) out)
+    found (no-space j h) =
+        let (v, t) = judged-text index (length entries) c b j in
+        look-up-full index entries c out (subst (λ (u : List ℕ). length out < length u) (sym t) h)
+
 -- ---- made and looked up
 
 -- the lines of a call's rows are those of its entries
@@ -436,7 +463,7 @@ refused-above schema entries out {number} {place} e =
     of-fault (refused-iff schema entries out number place (makeIndex schema entries out .out) .0 (λ i. outcome (e i) (makeIndex schema entries out .out)) .0)
   where
     of-fault : {n q : ℕ} → Refuses schema entries out n q → 1 ≤ n
-    of-fault (bad-table {number = n} {place = q} f) = omega (arith, listed-bounds (tableOf schema) (schema-listed schema n q f) .0)
+    of-fault (bad-table {number = n} {place = q} f) = omega (arith, listed-bounds (tableOf schema) (schema-listed schema n q (schema-refused schema n q .1 f)) .0)
     of-fault (too-long g l) = omega arith
     of-fault (no-room g l h) = omega arith
 

@@ -4,8 +4,8 @@ use mathlib.Core.Path.{_≡_}
 use mathlib.Core.List.{List, [], _++_, List·Memᴰ}
 use Prim.Native.Nat.{ℕ, _+_, _*_, _≤_, _<_}
 use lib.ListN.{length, drop}
-use Rattle.schema.specs.declared.Checked.the-variants.{Refused as Faulty}
-use Rattle.schema.specs.Check.{checked, IsGood}
+use Rattle.schema.specs.Check.{IsGood}
+use Rattle.schema.specs.Faults.{TableFault}
 use Rattle.replay.specs.Run.{Entry}
 use Rattle.index.specs.declared.Finding.the-variants.{Printed, Refused}
 use Rattle.index.specs.Row.{Row, ofCall}
@@ -30,9 +30,9 @@ pub record Accepted (schema entries out : List ℕ) (n : ℕ) (after : List ℕ)
   pub fits : n ≤ length out
   pub after-is : after ≡ indexBytes (rowsFor schema entries) (length entries) ++ drop n out
 
--- What is refused: a schema table that is not good; a record that is too long; an output that is too small.
+-- What is refused: a schema table for its fault; a record that is too long; an output that is too small.
 pub data Refuses (schema entries out : List ℕ) : (number place : ℕ) → Type 0 where
-  bad-table : {number place : ℕ} → checked schema ≡ Faulty number place → Refuses schema entries out number place
+  bad-table : {number place : ℕ} → TableFault schema number place → Refuses schema entries out number place
   too-long : IsGood schema → 65536 < length entries → Refuses schema entries out 45 0
   no-room : IsGood schema → length entries ≤ 65536 → length out < 16 * length (rowsFor schema entries) + 16 → Refuses schema entries out 52 0
 

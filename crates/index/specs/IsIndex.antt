@@ -1,6 +1,6 @@
 -- Which bytes are an index: the test by which a look-up judges them, and apart from it a relation. Assumes nothing.
 use mathlib.Core.Path.{_≡_}
-use mathlib.Core.Bool.{Bool, _&&_}
+use mathlib.Core.Bool.{Bool, true, _&&_}
 use mathlib.Core.List.{List, [], _∷_}
 use Prim.Native.Nat.{ℕ, zero, suc, _+_, _-_, _*_, _/_, _%_, _^_, _≤_, _<_}
 use lib.Dec.{eqb, leb}
@@ -33,13 +33,22 @@ unfoldable pub isShaped : List ℕ → Bool
 isShaped s =
     leb 16 (length s) && (eqb (length s % 16) 0 && (eqb (trailerCell 0 s) 0 && (eqb (trailerCell 4 s) (countIn s) && eqb (trailerCell 12 s) 1)))
 
--- strictly rising rows, too
+-- strictly rising rows before the trailer
+abbrev pub isOrdered : List ℕ → Bool
+isOrdered s = isRising (rowsIn (countIn s) s)
+
 unfoldable pub isIndex : List ℕ → Bool
-isIndex s = isShaped s && isRising (rowsIn (countIn s) s)
+isIndex s = isShaped s && isOrdered s
 
 -- the length of the record that it was made of
 abbrev pub sizeIn : List ℕ → ℕ
 sizeIn s = trailerCell 8 s
+
+-- The bytes pass, and are read as these rows, for a record of so many bytes.
+pub record Reads (s : List ℕ) (rows : List Row) (size : ℕ) : Type 0 where
+  pub passes : isIndex s ≡ true
+  pub rows-are : rowsIn (countIn s) s ≡ rows
+  pub size-is : sizeIn s ≡ size
 
 -- ---- the relation
 

@@ -5,7 +5,7 @@ ghost use mathlib.Core.Path.{_≡_};
 ghost use Prim.Native.Nat.{_+_, _*_, _≤_, _<_};
 ghost use lib.ListN.{length, drop};
 ghost use Rattle.index.specs.Row.{isBefore, isRising};
-ghost use Rattle.index.specs.IsIndex.{rowAt, rowsIn, isShaped};
+ghost use Rattle.index.specs.IsIndex.{rowAt, rowsIn, isShaped, isOrdered};
 ghost use Rattle.index.specs.LookUp.{verdict, looked};
 
 // What follows `stopped`, and how many rows are looked at: none at a refusal.
@@ -53,6 +53,14 @@ fn is_rising(index: &[u8], n: usize) -> bool
     true
 }
 
+// Whether the rows before the trailer do.
+fn is_ordered(index: &[u8]) -> bool
+    requires { ⌜ 16 ≤ length (now index) ⌝ }
+    ensures { λ r. ⌜ r ≡ isOrdered (now (index .entry)) ⌝ }
+{
+    is_rising(index, (index.len() - 16) / 16)
+}
+
 fn refused(number: u32) -> Judged
     ensures { λ r. ⌜ (r .number ≡ number) × (r .rows ≡ 0) ⌝ }
 {
@@ -67,11 +75,11 @@ pub fn judge(index: &[u8], size: usize) -> Judged
     if !is_shaped(index) {
         return refused(65);
     }
-    let end = index.len() - 16;
-    let rows = u32_at(index, end + 4) as usize;
-    if !is_rising(index, rows) {
+    if !is_ordered(index) {
         return refused(65);
     }
+    let end = index.len() - 16;
+    let rows = u32_at(index, end + 4) as usize;
     if u32_at(index, end + 8) as usize != size {
         return refused(66);
     }

@@ -35,7 +35,8 @@ fn put_rows(index: &[u8], n: usize, correlation: u64, out: &mut [u8], start: usi
     let mut i = 0;
     while i < n {
         let at = 16 * i;
-        if number(index, at, 8) == correlation {
+        let same = number(index, at, 8) == correlation;
+        if same {
             pos = put_row(index, at, out, pos);
         }
         i += 1;

@@ -14,8 +14,7 @@ use Rattle.replay.specs.Runs.{Stands as replay-Stands, Runs}
 use Rattle.replay.specs.Lent.{lentRun}
 use Rattle.index.specs.Row.{Rising, Row as index-Row, isRising, ofCall}
 use Rattle.index.specs.Index.{rowsFor, makeIndex, outcome as index-outcome, indexBytes}
-use Rattle.index.specs.IsIndex.{IsIndex, rowsIn, isIndex}
-use Rattle.index.proofs.Readings.{Reads}
+use Rattle.index.specs.IsIndex.{IsIndex, rowsIn, isIndex, Reads}
 use Rattle.index.specs.Claims.{Has, Finds, Judges, Accepted as index-Accepted, Refuses as index-Refuses}
 use Rattle.index.specs.LookUp.{lookUp, verdict, lookText, looked, outcome as look-up-outcome}
 use Rattle.index.specs.Text.{textOf, callText}

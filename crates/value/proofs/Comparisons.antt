@@ -26,7 +26,7 @@ use Rattle.value.proofs.Answers.{seen-end}
 use Rattle.value.proofs.Bits.{present-gain}
 use Rattle.value.proofs.Complete.{head-takes, takes, length-pairs}
 use Rattle.value.proofs.Root.{Unkeyed, present-unkeyed}
-use Rattle.value.proofs.Maps.{pair-keys}
+use Rattle.value.proofs.Pairs.{pair-keys}
 use Rattle.value.proofs.Placed.{On, parse-placed, root-placed}
 use Rattle.value.proofs.TwoTables.{Below, plan-below}
 

@@ -243,6 +243,10 @@ faults =
     ∷ case 5 (0x02 ∷ 0x02 ∷ 0x01 ∷ 0x61 ∷ 0x05 ∷ 0x81 ∷ 0x00 ∷ 0x61 ∷ []) 9 (refusal 21 5)
     ∷ case 5 (0x02 ∷ 0x02 ∷ 0x01 ∷ 0x61 ∷ 0x05 ∷ 0x01 ∷ 0x62 ∷ 0x06 ∷ []) 9
     (accepted (row 5 0 8 1 ∷ row 3 2 6 2 ∷ row 2 3 1 0 ∷ row 1 4 1 0 ∷ row 2 6 1 0 ∷ row 1 7 1 0 ∷ []) 8 0 1)
+    -- Keys of nine bytes that differ in the last of them alone, and that are the same.
+    ∷ case 5 (0x02 ∷ 0x02 ∷ 0x09 ∷ (replicate 8 0x61 ++ (0x62 ∷ 0x05 ∷ 0x09 ∷ (replicate 8 0x61 ++ (0x63 ∷ 0x06 ∷ []))))) 9
+    (accepted (row 5 0 24 1 ∷ row 3 2 22 2 ∷ row 2 3 9 0 ∷ row 1 12 1 0 ∷ row 2 14 9 0 ∷ row 1 23 1 0 ∷ []) 24 0 1)
+    ∷ case 5 (0x02 ∷ 0x02 ∷ 0x09 ∷ (replicate 9 0x61 ++ (0x05 ∷ 0x09 ∷ (replicate 9 0x61 ++ (0x06 ∷ []))))) 9 (refusal 24 13)
     -- The tail: a byte for each unknown bit, which is not read. Surplus bytes without one.
     ∷ case 5 (0xC0 ∷ 0x09 ∷ []) 9 (refusal 20 1)
     ∷ case 5 (0xC0 ∷ 0x80 ∷ 0x00 ∷ []) 9 (accepted (row 5 0 1 0 ∷ []) 1 2 0)
@@ -395,6 +399,10 @@ sheets =
     ∷ sheet 4 (row 4 0 2 2 ∷ row 3 2 0 0 ∷ []) (0x01 ∷ 0x00 ∷ []) 9 (unwritten 50 0)
     -- A key that was there before, though the row of its value is missing.
     ∷ sheet 7 (row 7 0 0 2 ∷ row 5 1 1 0 ∷ row 6 0 0 2 ∷ row 1 2 1 0 ∷ row 5 1 1 0 ∷ row 1 2 1 0 ∷ []) (0x03 ∷ 0x00 ∷ 0x61 ∷ []) 9 (unwritten 24 5)
+    -- Keys of nine bytes that differ in the last of them alone.
+    ∷ sheet 7 (row 7 0 0 2 ∷ row 5 1 1 0 ∷ row 6 0 0 2 ∷ row 1 2 9 0 ∷ row 5 1 1 0 ∷ row 1 3 9 0 ∷ row 5 1 1 0 ∷ [])
+    (0x03 ∷ 0x00 ∷ (replicate 9 0x61 ++ (0x62 ∷ []))) 25
+    (written (0x03 ∷ 0x00 ∷ 0x02 ∷ 0x09 ∷ (replicate 9 0x61 ++ (0x00 ∷ 0x09 ∷ (replicate 8 0x61 ++ (0x62 ∷ 0x00 ∷ []))))))
     -- 64 pairs are allowed. 65 are refused at the map's row: after 50 for its type, and before the first key's row, a missing one or one that is too deep.
     ∷ sheet 7 (row 7 0 0 2 ∷ row 5 1 1 0 ∷ row 6 0 0 64 ∷ keyRows 64 2) (0x03 ∷ 0x00 ∷ rising 64 0) 195 (written (0x03 ∷ 0x00 ∷ 0x40 ∷ pairBytes 64 0))
     ∷ sheet 7 (row 7 0 0 2 ∷ row 5 1 1 0 ∷ row 6 0 0 65 ∷ keyRows 65 2) (0x03 ∷ 0x00 ∷ rising 65 0) 198 (unwritten 31 2)

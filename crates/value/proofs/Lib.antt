@@ -9,6 +9,7 @@ pub mod Complete
 pub mod Many
 pub mod Encode
 pub mod Root
+pub mod Pairs
 pub mod Maps
 pub mod Comparisons
 pub mod Fields

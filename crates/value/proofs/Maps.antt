@@ -1,33 +1,17 @@
 -- The maps in a value that bytes spell or rows show: their keys differ, and they have 64 pairs at most.
 -- Assumes nothing.
-use mathlib.Core.Path.{_≡_, refl, sym, ap, subst, _∙_}
+use mathlib.Core.Path.{_≡_, subst}
 use mathlib.Core.List.{List, [], _∷_}
-use Prim.Native.Nat.{ℕ, zero, suc, _*_, _<_}
-use native.Mathlib.Omega.{arith}
-use lib.ListN.{length, getD}
+use Prim.Native.Nat.{ℕ, zero, suc}
 use Rattle.wire.proofs.Cases.{differ}
 use Rattle.schema.specs.declared.Field.{Field}
 use Rattle.schema.specs.Table.{Shape, map, struct}
 use Rattle.value.specs.declared.Row.{Row}
-use Rattle.value.specs.Value.{Tree, tip, branch, Forest, stop, plus, Value, leaf, node, Values, none, some, value, values, content}
-use Rattle.value.specs.Read.{Item, pairs, plan}
-use Rattle.value.specs.Spell.{AllSpell, WholeSpells, Spells, RootSpells, keysOf, EachMap, EachIn, nth, Differ, KeysDiffer, Few, MapsSmall}
+use Rattle.value.specs.Value.{Tree, tip, branch, Forest, stop, plus, Value, leaf, node, Values, none, some, value, values}
+use Rattle.value.specs.Read.{Item, plan}
+use Rattle.value.specs.Spell.{AllSpell, WholeSpells, Spells, RootSpells, EachMap, EachIn, Differ, KeysDiffer, Few, MapsSmall}
 use Rattle.value.specs.Fits.{AllFit, WholeFits, Fits, RootFits, Shows}
-
--- The keys of n pairs are every other value.
-pub pair-keys : (P : ℕ → Value → List ℕ → Type 0) (n k w : ℕ) (vs : Values) (u : List ℕ) → AllSpell P (pairs n k w) vs u
-    → (length (keysOf (pairs n k w) vs) ≡ n) × ((i : ℕ) → i < n → getD (keysOf (pairs n k w) vs) i [] ≡ content (nth vs (2 * i)))
-pair-keys P zero k w vs u q = (refl, λ i h. absurd (omega arith))
-pair-keys P (suc n) k w none u q = absurd q
-pair-keys P (suc n) k w (some a none) u q = absurd (q .4)
-pair-keys P (suc n) k w (some a (some b vs)) u q = let r = pair-keys P n k w vs (q .4 .1) (q .4 .4) in (ap suc (r .0), at (r .1))
-  where
-    at : ((i : ℕ) → i < n → getD (keysOf (pairs n k w) vs) i [] ≡ content (nth vs (2 * i)))
-        → (i : ℕ) → i < suc n → getD (content a ∷ keysOf (pairs n k w) vs) i [] ≡ content (nth (some a (some b vs)) (2 * i))
-    at f zero h = refl
-    at f (suc i) h =
-        let e : 2 * suc i ≡ suc (suc (2 * i)) = omega arith in
-        rw e (f i (omega arith))
+use Rattle.value.proofs.Pairs.{apart-differ}
 
 module _ (Q : (n : ℕ) → Values → Type 0) (S : ℕ → Shape) where
   -- Values that bytes spell.
@@ -84,9 +68,7 @@ module _ (S : ℕ → Shape) (t : ℕ) (fs : List Field) (st : S t ≡ struct fs
   root-differs = root-each Differ S apart t fs st
     where
       apart : (d k w n : ℕ) (vs : Values) (u : List ℕ) → WholeSpells (Spells S d) (map k w) (node n vs) u → Differ n vs
-      apart d k w n vs u q =
-          let r = pair-keys (Spells S d) n k w vs (q .1) (q .4) in
-          λ i j l m e. q .5 i j l (rw (r .0) m) (r .1 i (omega arith) ∙ ap content e ∙ sym (r .1 j m))
+      apart d k w n vs u q = apart-differ (Spells S d) n k w vs (q .1) (q .4) (q .5)
 
   -- Each map in a payload's value, and in a value that a sheet shows, has 64 pairs at most.
   pub root-small : (v : Value) (p z : List ℕ) → RootSpells S fs v p z → MapsSmall S v t

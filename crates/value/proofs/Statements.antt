@@ -16,20 +16,20 @@ use Rattle.schema.specs.declared.Field.{Field}
 use Rattle.schema.specs.Table.{Table, array, map, struct, shape, bitmapBytes}
 use Rattle.value.specs.declared.Row.{Row}
 use Rattle.value.specs.Answer.{Cursor, CursorOf, refused, seen, cursorAt}
-use Rattle.value.specs.Value.{Tree, Value, node, Values, value, depth}
+use Rattle.value.specs.Value.{Tree, branch, Forest, Value, node, Values, value, values, content, depth}
 use Rattle.value.specs.Comparisons.{due, mapDue, comparisons, rowsDue, pairsAmong}
 use Rattle.value.specs.Read.{Item, plainItem, present, plan, complete, rootBits, knownBits, unknownBits, parse, rootStruct, refusal, accepted, read}
-use Rattle.value.specs.Spell.{BitmapSpells, AllSpell, keysOf, Spells, TailFits, RootSpells, KeysDiffer, MapsSmall, encode}
+use Rattle.value.specs.Spell.{BitmapSpells, AllSpell, keysOf, Spells, TailFits, RootSpells, Differ, KeysDiffer, MapsSmall, encode}
 use Rattle.schema.specs.Check.{noField}
 use Rattle.schema.specs.Good.{GoodTable}
 use Rattle.schema.specs.Extend.{Extends}
-use Rattle.schema.proofs.Shapes.{shape-known}
+use Rattle.schema.proofs.Shapes.{KeyShape, within, shape-known}
 use Rattle.value.proofs.Shapes.{Solid, good-solid, Extension, good-extension}
 use Rattle.value.specs.Write.{refusal as refused-write, written, show, write}
-use Rattle.value.specs.Fits.{Shows, told, used}
+use Rattle.value.specs.Fits.{AllFit, Fits, Shows, told, used}
 use Rattle.value.specs.Added.{carries, inner, firstAdded, NoneAdded}
-use Rattle.value.specs.Reasons.{RootFault, Reason, faulty, Settles}
-use Rattle.value.specs.SheetReasons.{SheetReason}
+use Rattle.value.specs.Reasons.{Due, Holds, KeyAmong, RootFault, Reason, faulty, Settles}
+use Rattle.value.specs.SheetReasons.{RowDue, SheetReason}
 use Rattle.value.specs.Listed.{ReadNumber, WriteNumber}
 use Rattle.value.specs.Claims.{setBits, Rightful, ReadAs, Delimited, Writes, ByOld}
 use Rattle.value.proofs.Answers.{reads-end, yields-end, seen-end}
@@ -42,6 +42,7 @@ use Rattle.value.proofs.Complete.{takes, parse-complete}
 use Rattle.value.proofs.Many as many
 use Rattle.value.proofs.Encode.{spelled-encoding, encoded, root-encoding}
 use Rattle.value.proofs.Root.{root-sound, root-complete, root-tail}
+use Rattle.value.proofs.Pairs as pairs
 use Rattle.value.proofs.Maps as maps
 use Rattle.value.proofs.Comparisons as compared
 use Rattle.value.proofs.Telling as telling
@@ -136,6 +137,43 @@ module _ (T : Table) (good : GoodTable T) (t : ℕ) where
   pub own-due : (d h : ℕ) (vs : Values) (u : List ℕ) → Spells (shape T) d t (node h vs) u
       → mapDue (shape T t) h ≡ pairsAmong (length (keysOf (plan (shape T t) h) vs))
   own-due d h vs u q = compared.own-due (shape T) d t h vs u q
+
+  -- ---- maps, by their pairs
+
+  module _ (k w : ℕ) (is-map : shape T t ≡ map k w) where
+    key : KeyShape (shape T k)
+    key = (rw is-map at (within T good t)) .2
+
+    -- Bytes spell a map exactly when they are its count, 64 at most, and then keys and values by turns, no two keys the same value.
+    pub map-iff : (d n : ℕ) (vs : Values) (u : List ℕ) → Spells (shape T) (suc d) t (node n vs) u
+        ↔ ((x : List ℕ) × (y : List ℕ) × (u ≡ x ++ y) × Spelled n x × (n ≤ 64) × AllSpell (Spells (shape T) d) (plan (map k w) n) vs y × Differ n vs)
+    map-iff = pairs.map-iff (shape T) k key t w is-map
+
+    -- So keys that differ are never refused: with anything after it, such a map is read, up to its end.
+    pub differing-keys-read : (d n : ℕ) (vs : Values) (x y rest : List ℕ) (at : ℕ) → Spelled n x → n ≤ 64
+        → AllSpell (Spells (shape T) d) (plan (map k w) n) vs y → Differ n vs
+        → (tree : Tree) × (end : Cursor) × (parse (shape T) (suc d) t (record { left = (x ++ y) ++ rest; at = at }) ≡ seen tree end)
+        × (value tree ≡ node n vs)
+        × (end .left ≡ rest)
+    differing-keys-read d n vs x y rest at s few q differs =
+        read-iff-spelled (suc d) (node n vs) rest _ .1 (x ++ y, refl, map-iff d n vs (x ++ y) .1 (x, y, refl, s, few, q, differs))
+
+    -- Rows show a map exactly when the first is of its type and has its count, 64 at most, and keys and values follow by turns, no two keys the same value.
+    pub map-shown-iff : (B : List ℕ) (d n : ℕ) (r : Row) (ts : Forest) → Fits (shape T) B (suc d) t (branch r n ts)
+        ↔ ((r .ty ≡ t) × (r .count ≡ n) × (n ≤ 64) × AllFit (Fits (shape T) B d) (plan (map k w) n) ts × Differ n (values ts))
+    map-shown-iff = pairs.map-shown-iff (shape T) k key t w is-map
+
+    -- The reason of 24, an earlier key with the content of the later one, is that one of the m pairs before it has the same value as its key: in bytes, and
+    -- in rows.
+    pub repeated-iff : {d : ℕ} {u y left : List ℕ} {i : Item} {earlier : List (List ℕ)} (q : Due (shape T) d (shape T t) u y left i earlier) → i .key ≡ true
+        → (v : Value) (x : List ℕ) → Spells (shape T) d (i .type) v x
+        → (m : ℕ) × (length (q .before) ≡ 2 * m) × (Holds earlier (content v) ↔ KeyAmong m (q .shown) v)
+    repeated-iff = pairs.repeated-iff (shape T) k key t w is-map
+
+    pub row-repeated-iff : (B : List ℕ) {d : ℕ} {r : Row} {ts : Forest} {i : Item} {earlier : List (List ℕ)} (q : RowDue B (shape T) d t r ts i earlier)
+        → i .key ≡ true → (tree : Tree) → Fits (shape T) B d (i .type) tree
+        → (m : ℕ) × (length (q .before) ≡ 2 * m) × (Holds earlier (content (value tree)) ↔ KeyAmong m (values ts) (value tree))
+    row-repeated-iff = pairs.row-repeated-iff (shape T) k key t w is-map
 
   -- ---- maps of more than 64 pairs
 

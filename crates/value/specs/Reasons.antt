@@ -15,7 +15,7 @@ use Rattle.schema.specs.Check.{noField}
 use Rattle.value.specs.Value.{Value, Values, content, size}
 use Rattle.value.specs.Plan.{Item, plan}
 use Rattle.value.specs.Read.{knownBits, unknownBits}
-use Rattle.value.specs.Spell.{BitmapSpells, HeadSpells, AllSpell, keysOf, Apart, Spells, RootSpells}
+use Rattle.value.specs.Spell.{BitmapSpells, HeadSpells, AllSpell, keysOf, Apart, Spells, RootSpells, nth}
 
 -- ---- own bytes
 
@@ -76,6 +76,10 @@ pub record Due (S : ℕ → Shape) (d : ℕ) (s : Shape) (u y left : List ℕ) (
 -- The content is one of the keys.
 abbrev pub Holds : List (List ℕ) → List ℕ → Type 0
 Holds keys x = (j : ℕ) × (j < length keys) × (getD keys j [] ≡ x)
+
+-- The value is the key of one of the first m pairs.
+abbrev pub KeyAmong : (m : ℕ) → Values → Value → Type 0
+KeyAmong m vs v = (j : ℕ) × (j < m) × (nth vs (2 * j) ≡ v)
 
 -- The faulty bytes x in a value of type t, with d levels of depth allowed, after the bytes u of the same value and before the bytes `rest`: no level is
 -- left; its own bytes are faulty; an item that it holds is; or such an item is a key, whole, and equal to an earlier one.

@@ -10,6 +10,10 @@ use core::ops::Range;
 /// The calls of one connection under one schema, with a tally row for each
 /// method.
 ///
+/// Frames of both sides go through it, in their order: those that come, and
+/// those that the host itself sends. A client that did not hand over its own
+/// INVOKE gets 11 for the answer to it.
+///
 /// [`receive`](Calls::receive) judges the first frame of the bytes at hand and
 /// says what to do next. A loop over a byte stream, whole:
 ///
