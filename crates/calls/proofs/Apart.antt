@@ -1,5 +1,5 @@
 -- Calls kept apart: the judgement of a frame depends on its own call's record and, for INVOKE, on whether a slot is free, that of a release on the
--- record alone; the own record afterwards follows from that; other records are unchanged; and what frees a slot. Assumes nothing.
+-- record alone; the own record afterwards follows from that; other records are unchanged; and what frees a slot.
 use mathlib.Core.Path.{_≡_, refl, sym, _∙_, ap, subst}
 use mathlib.Core.Logic.{_⊎_, inl, inr, ⊎-elim}
 use mathlib.Core.Bool.{Bool, true, false, not, cond, _&&_, _||_}

@@ -1,5 +1,4 @@
 -- What the step takes a payload for is what belongs there, for a good method; and only one thing belongs.
--- Assumes nothing.
 use mathlib.Core.Path.{_≡_, refl, sym, _∙_}
 use mathlib.Core.Bool.{Bool, true, false, cond}
 use mathlib.Core.List.{List}

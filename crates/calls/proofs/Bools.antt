@@ -1,5 +1,4 @@
 -- Laws of `implies`.
--- Assumes nothing.
 use mathlib.Core.Path.{_≡_, refl}
 use mathlib.Core.Bool.{Bool, true, false}
 use Rattle.schema.proofs.Bools.{clash}

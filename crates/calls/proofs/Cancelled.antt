@@ -1,5 +1,4 @@
 -- A cancelled call: what CANCEL changes in its record, what is answered to its frames kind by kind, and that the mark may stand in any open record.
--- Assumes nothing.
 use mathlib.Core.Path.{_≡_, refl}
 use mathlib.Core.Bool.{Bool, true, false, not, _&&_, _||_}
 use mathlib.Core.List.{[], _∷_, map as each}

@@ -1,5 +1,4 @@
 -- The row of a method follows the figures of the history: one event more. The test of a full figure says what `Full` says.
--- Assumes nothing.
 use mathlib.Core.Path.{_≡_, refl, sym, _∙_, ap}
 use mathlib.Core.Logic.{_↔_, ⊎-elim}
 use mathlib.Core.Bool.{Bool, true, false, cond, _&&_}

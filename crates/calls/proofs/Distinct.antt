@@ -1,5 +1,5 @@
 -- The loop that tests whether the numbers of a list differ, from its end on. A table of booleans says which last ten bits the numbers passed have,
--- and a number whose bits are not among them is none of those passed. Assumes nothing.
+-- and a number whose bits are not among them is none of those passed.
 use mathlib.Core.Path.{_≡_, refl, sym, _∙_, ap, subst}
 use mathlib.Core.Bool.{Bool, true, false, not, _&&_, _||_}
 use mathlib.Core.List.{List, [], _∷_}

@@ -1,5 +1,4 @@
 -- The goodness test passes exactly for the tables that are good by the clauses of 01; the fresh table is good.
--- Assumes nothing.
 use mathlib.Core.Path.{_≡_, refl, sym, ap, subst}
 use mathlib.Core.Logic.{⊎-elim}
 use mathlib.Core.Bool.{Bool, true, false, not, cond, _&&_, _||_}

@@ -1,5 +1,4 @@
 -- What a judgement tells: a frame that opens a call, a frame that goes to an open one, and a release.
--- Assumes nothing.
 use mathlib.Core.Path.{_≡_, refl, sym, _∙_, ap, subst}
 use mathlib.Core.Bool.{Bool, true, false, cond}
 use mathlib.Core.List.{List}

@@ -1,5 +1,4 @@
 -- A step keeps a good table good, and its number of slots: of a frame and of a release, by what their judgements have in common.
--- Assumes nothing.
 use mathlib.Core.Path.{_≡_, refl, sym, _∙_, ap, subst}
 use mathlib.Core.Logic.{_⊎_, inl, inr, ⊎-elim}
 use mathlib.Core.Bool.{Bool, true, false, not, cond, _&&_, _||_}

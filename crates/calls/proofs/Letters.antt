@@ -1,5 +1,4 @@
 -- Table 1 is the draft's by the letters of the form: one test over all sixteen rows.
--- Assumes nothing.
 use mathlib.Core.Path.{_≡_, refl}
 use mathlib.Core.Bool.{Bool, true, false}
 use mathlib.Core.List.{List, [], _∷_}

@@ -1,5 +1,4 @@
 -- No record ever counts more than 65,535 elements either way, and each step counts one more at most.
--- Assumes nothing.
 use mathlib.Core.Path.{_≡_, refl, sym, subst}
 use mathlib.Core.Bool.{Bool, true, false, cond, _&&_, _||_}
 use mathlib.Core.List.{List, [], _∷_}

@@ -1,5 +1,4 @@
 -- The order rules say one thing of a frame: what each rule decides, it decides alone.
--- Assumes nothing.
 use mathlib.Core.Path.{_≡_, refl, sym, _∙_, ap, subst}
 use mathlib.Core.Bool.{Bool, true, false}
 use mathlib.Core.List.{List}

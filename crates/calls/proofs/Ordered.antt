@@ -1,5 +1,4 @@
 -- The order of a call's frames: where the record's marks reflect the kinds accepted, a frame is ruled by them, and its record reflects them afterwards.
--- Assumes nothing.
 use mathlib.Core.Path.{_≡_, refl, sym, _∙_, ap, subst}
 use mathlib.Core.Logic.{_⊎_, inl, inr, ⊎-elim}
 use mathlib.Core.Bool.{Bool, true, false, not, cond, _&&_, _||_}

@@ -1,5 +1,5 @@
 -- An open call's record is good exactly where its marks are those of kinds accepted in an order that the rules allow. So each identifier of a good table
--- has a past that the table reflects. Assumes nothing.
+-- has a past that the table reflects.
 use mathlib.Core.Path.{_≡_, refl, sym, _∙_}
 use mathlib.Core.Logic.{_↔_}
 use mathlib.Core.Bool.{Bool, true, false, cond, _&&_, _||_}

@@ -1,5 +1,4 @@
 -- What a frame's payload holds is a struct type of a good schema table, or nothing, or not read.
--- Assumes nothing.
 use mathlib.Core.Path.{_≡_, refl}
 use mathlib.Core.Logic.{⊎-elim}
 use native.Mathlib.Omega.{arith}

@@ -1,5 +1,4 @@
 -- What a judged frame or release raises, by the own record alone; and that the calls of a method open now follow what rises.
--- Assumes nothing.
 use mathlib.Core.Path.{_≡_, refl, sym, _∙_, ap, subst}
 use mathlib.Core.Logic.{_⊎_, inl, inr, ⊎-elim}
 use mathlib.Core.Bool.{Bool, true, false, cond, _&&_}

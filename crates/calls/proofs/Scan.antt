@@ -1,5 +1,5 @@
 -- One turn of a loop over a list, for every definition that recurses on it: the rest at i is the element at i before the rest at i + 1.
--- And what a loop has shown that looks for the first record that passes, or for a number. Assumes nothing.
+-- And what a loop has shown that looks for the first record that passes, or for a number.
 use mathlib.Core.Path.{_≡_, refl, sym, _∙_}
 use mathlib.Core.Bool.{Bool, true, false, _||_}
 use mathlib.Core.List.{List, [], _∷_, _++_, append-assoc, append-nil}

@@ -1,5 +1,4 @@
 -- Laws of the slots: what a search found, and the record at a slot after one is changed.
--- Assumes nothing.
 use mathlib.Core.Path.{_≡_, refl, ap, subst}
 use mathlib.Core.Logic.{⊎-elim}
 use mathlib.Core.Bool.{Bool, true, false, cond}

@@ -1,5 +1,4 @@
 -- The two tests of a number answer for exactly the numbers that 01 lists.
--- Assumes nothing.
 use mathlib.Core.Path.{_≡_, refl}
 use mathlib.Core.Logic.{_↔_, ⊎-elim}
 use mathlib.Core.Bool.{true, false, _&&_, _||_}

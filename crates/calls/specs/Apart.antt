@@ -1,5 +1,4 @@
 -- Calls kept apart: the answer and the own record afterwards by the judgement without a slot; and what frees a slot.
--- Assumes nothing.
 use mathlib.Core.Path.{_≡_}
 use Prim.Native.Nat.{ℕ}
 use mathlib.Core.Bool.{true, cond}

@@ -1,5 +1,4 @@
 -- What belongs in a frame's payload, kind by kind, by the letters of the method's form.
--- Assumes nothing.
 use mathlib.Core.Path.{_≡_}
 use mathlib.Core.Bool.{true, false}
 use Prim.Native.Nat.{ℕ}

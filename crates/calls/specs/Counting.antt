@@ -1,5 +1,4 @@
 -- Tally rows: which figure of which row a judged frame or release raises, when that figure is full, and the row afterwards.
--- Assumes nothing.
 use Prim.Native.Nat.{ℕ, _+_}
 use mathlib.Core.Bool.{Bool, cond}
 use mathlib.Core.List.{List}

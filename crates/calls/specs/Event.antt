@@ -1,5 +1,4 @@
 -- What happens to the calls of a connection: a frame comes, or the owner releases a call.
--- Assumes nothing.
 use Prim.Native.Nat.{ℕ}
 use Rattle.calls.specs.declared.Frame.{Frame}
 

@@ -1,5 +1,4 @@
 -- The figures of a method, by the history of what was heard: accepted frames, releases and payload refusals. They ask no record.
--- Assumes nothing.
 use mathlib.Core.Path.{_≡_}
 use mathlib.Core.Bool.{Bool, true, false, cond, _&&_}
 use mathlib.Core.List.{List, [], _∷_}

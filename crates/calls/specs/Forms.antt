@@ -1,5 +1,4 @@
 -- Table 1 of the draft, the streaming kinds that each form allows, and the letters of a form.
--- Assumes nothing.
 use Prim.Native.Nat.{ℕ, _/_, _%_}
 use mathlib.Core.Bool.{Bool, true, false}
 use mathlib.Core.List.{List, [], _∷_}

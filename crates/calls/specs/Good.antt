@@ -1,5 +1,4 @@
 -- When a call table is good, a field for each clause of 01's sentence.
--- Assumes nothing.
 use mathlib.Core.Path.{_≡_}
 use mathlib.Core.Bool.{true, false}
 use mathlib.Core.List.{List}

@@ -1,6 +1,5 @@
 -- A frame judged before its payload is read: 8; INVOKE 9, 10, 13; the others 11, 12, 14 or 16, 17. And what its payload holds.
 -- The judgement is a function of the frame, of its own call's record and, for INVOKE, of whether 128 calls are open; the slot is added last.
--- Assumes nothing.
 use Prim.Native.Nat.{ℕ}
 use mathlib.Core.Bool.{Bool, true, false, cond, _&&_, _||_}
 use mathlib.Core.List.{List}

@@ -1,5 +1,4 @@
 -- Records that count few elements.
--- Assumes nothing.
 use mathlib.Core.List.{List}
 use Prim.Native.Nat.{ℕ, _≤_}
 use Rattle.calls.specs.declared.Call.{Call}

@@ -1,5 +1,4 @@
 -- What the number that is answered to a frame means for its call and for its bytes. Definitions and laws ask these two tests and no range of numbers.
--- Assumes nothing.
 use Prim.Native.Nat.{ℕ, _≤_}
 use mathlib.Core.Bool.{Bool, _&&_, _||_}
 use lib.Dec.{eqb, leb}

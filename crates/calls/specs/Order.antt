@@ -1,6 +1,5 @@
 -- The order of a call's frames as a relation on the kinds accepted for it since its INVOKE, without its record; the stream elements that these count;
 -- and what both say of a frame and of a release.
--- Assumes nothing.
 use mathlib.Core.Path.{_≡_}
 use mathlib.Core.Bool.{Bool, true, false, cond, _&&_, _||_}
 use mathlib.Core.List.{List, [], _∷_}

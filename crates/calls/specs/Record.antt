@@ -1,5 +1,5 @@
 -- The record of a call: when it is free, what is allowed, what an accepted frame changes, when it is complete and when it is good.
--- All that depends on the members of a record stands here. Assumes nothing.
+-- All that depends on the members of a record stands here.
 use Prim.Native.Nat.{ℕ, _+_}
 use mathlib.Core.Bool.{Bool, true, false, not, cond, _&&_, _||_}
 use lib.Dec.{eqb, ltb, leb}

@@ -1,5 +1,4 @@
 -- The call table as a list of 128 records: searches, the count of open calls, and the test whether it is good.
--- Assumes nothing.
 use Prim.Native.Nat.{ℕ, suc}
 use mathlib.Core.Bool.{Bool, true, false, not, cond, _&&_, _||_}
 use mathlib.Core.List.{List, [], _∷_}

@@ -1,5 +1,4 @@
 -- The step of the call table on a judged frame, by the number that its payload's reading gave.
--- Assumes nothing.
 use Prim.Native.Nat.{ℕ}
 use mathlib.Core.Bool.{cond}
 use mathlib.Core.List.{List}

@@ -1,5 +1,4 @@
 -- A number up to a list's length counts some of its elements.
--- Assumes nothing.
 use mathlib.Core.Path.{_≡_, sym}
 use mathlib.Core.List.{List}
 use Prim.Native.Nat.{ℕ, _≤_}

@@ -1,5 +1,4 @@
 -- A float that equals itself is no NaN.
--- Assumes nothing.
 use mathlib.Core.Path.{_≡_, sym, subst}
 use mathlib.Core.Bool.{true, not}
 use lib.Dec.{T}

@@ -1,5 +1,4 @@
 -- Laws of the lent reader, over the answers at its position (`Items.antt`'s `varuint-fair`, `number-fair`, `span-fair`).
--- Assumes nothing.
 use mathlib.Core.Path.{_≡_, refl, ap}
 use mathlib.Core.List.{List}
 use mathlib.Core.Bool.{not, _||_}

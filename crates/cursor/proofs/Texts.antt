@@ -1,5 +1,4 @@
 -- Strings and bytes: the payload reader's rule for them, by the span.
--- Assumes nothing.
 use mathlib.Core.Path.{_≡_, refl, sym, ap, _∙_}
 use mathlib.Core.List.{List, _++_}
 use mathlib.Core.Bool.{Bool, true, false, not, _||_}

@@ -1,5 +1,4 @@
 -- The items of a payload, each by a reader of the crate `value`, and the steps that the code answers with.
--- Assumes nothing.
 use mathlib.Core.List.{List, []}
 use mathlib.Core.Bool.{Bool, not, _||_}
 use Prim.Native.Nat.{ℕ, _-_, _≤_, _<_}

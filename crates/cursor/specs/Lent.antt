@@ -1,5 +1,4 @@
 -- A lent reader: what stands at its position, and the reader after a step.
--- Assumes nothing.
 use mathlib.Core.List.{List}
 use Prim.Native.Nat.{ℕ}
 use denote.Ref.{now}

@@ -1,5 +1,4 @@
 -- The bits of a signed number and of a float, by the tests that the code makes.
--- Assumes nothing.
 use mathlib.Core.Path.{_≡_, refl}
 use mathlib.Core.Bool.{Bool, true, false, cond}
 use Prim.Native.Nat.{_-_}

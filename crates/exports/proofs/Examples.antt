@@ -1,5 +1,4 @@
 -- The marks of a record in cells and its elements, each alone; and tally rows in cells.
--- Assumes nothing.
 use mathlib.Core.Path.{_≡_, refl}
 use mathlib.Core.Bool.{Bool, true, false}
 use mathlib.Core.List.{List, [], _∷_, map as each}

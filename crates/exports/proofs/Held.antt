@@ -1,5 +1,4 @@
 -- A call table and tally rows survive being stored and read back, so that a history over lent cells is the history of the table and the rows themselves.
--- Assumes nothing.
 use mathlib.Core.Path.{_≡_, refl, sym, ap, subst, _∙_}
 use mathlib.Core.Logic.{_↔_, ⊎-elim}
 use mathlib.Core.Bool.{Bool, true, false, cond, _&&_}

@@ -1,5 +1,4 @@
 -- A plan settled with the row that it asks for, by whether the cells are a call table.
--- Assumes nothing.
 use mathlib.Core.Path.{_≡_, refl, sym, ap, _∙_}
 use mathlib.Core.Bool.{Bool, true, false, cond}
 use mathlib.Core.List.{List}

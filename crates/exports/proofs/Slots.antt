@@ -1,5 +1,4 @@
 -- The slots of the call table in cells: the record at each, searches, the count of open calls, and the loop that tests whether the table is good.
--- Assumes nothing.
 use mathlib.Core.Path.{_≡_, refl, sym, ap, subst, _∙_}
 use mathlib.Core.Bool.{Bool, true, false, cond, _&&_, _||_}
 use mathlib.Core.List.{List, [], _∷_}

@@ -1,5 +1,4 @@
 -- The number and the cells of an answer determine it, where no refusal has the number of what is accepted; and so it is for the entries.
--- Assumes nothing.
 use mathlib.Core.Path.{_≡_, refl, ap, subst}
 use mathlib.Core.Bool.{Bool, true, false, cond}
 use mathlib.Core.List.{List, _++_}

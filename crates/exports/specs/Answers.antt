@@ -1,5 +1,4 @@
 -- The numbers that each answer is stored as beside 01's number, case by case; 0 where 01 gives no value.
--- Assumes nothing.
 use mathlib.Core.Bool.{Bool, cond}
 use mathlib.Core.List.{List, [], _∷_}
 use Prim.Native.Nat.{ℕ, suc, _-_, _^_}

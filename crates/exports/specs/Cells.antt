@@ -1,5 +1,4 @@
 -- The cells that a caller lends for the numbers of an answer.
--- Assumes nothing.
 use mathlib.Core.List.{List, _++_}
 use Prim.Native.Nat.{ℕ}
 use lib.ListN.{length, take, drop}

@@ -1,5 +1,4 @@
 -- The call table and the tally rows as cells that a caller lends; a record of the table has three, for the correlation, the method number and the marks with the elements.
--- Assumes nothing.
 use mathlib.Core.Bool.{Bool, true, cond, _&&_}
 use mathlib.Core.List.{List, [], _∷_}
 use Prim.Native.Nat.{ℕ, zero, suc, _+_, _*_, _/_, _%_, _≤_, _<_}

@@ -1,5 +1,4 @@
 -- The call table and the tally rows over a history of frames and releases, kept from event to event in cells that the caller lends.
--- Assumes nothing.
 use mathlib.Core.List.{List, [], _∷_}
 use Prim.Native.Nat.{ℕ, _<_}
 use Rattle.calls.specs.declared.Call.{Call}

@@ -1,5 +1,5 @@
 -- An answer from its number and its cells, as a program in another language reads it back. 0 is the number of what is accepted, 1 of a frame that needs
--- more bytes; any other is a refusal's. Assumes nothing.
+-- more bytes; any other is a refusal's.
 use mathlib.Core.Bool.{cond}
 use mathlib.Core.List.{List}
 use Prim.Native.Nat.{ℕ, zero, suc, _^_}

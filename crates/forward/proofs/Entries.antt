@@ -1,5 +1,4 @@
 -- Laws of the entries: what each of their returns shows of the whole forwarding.
--- Assumes nothing.
 use mathlib.Core.Path.{_≡_, refl, sym, ap, ap₂, _∙_}
 use mathlib.Core.Logic.{⊎-elim}
 use mathlib.Core.Bool.{Bool, true, false, cond}

@@ -1,5 +1,4 @@
 -- The worked cases hold, over the bytes of T's file and of one with two presence bytes; and a file that is no table is refused before all else.
--- Assumes nothing.
 use mathlib.Core.Path.{_≡_, refl, ap₂, _∙_}
 use mathlib.Core.List.{List, [], _∷_, map}
 use Prim.Native.Nat.{ℕ}

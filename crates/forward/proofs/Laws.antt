@@ -1,5 +1,4 @@
 -- Laws of what is forwarded: the tail, the root's presence bytes, and the bytes joined.
--- Assumes nothing.
 use mathlib.Core.Path.{_≡_, refl, sym, ap, ap₂, subst, _∙_}
 use mathlib.Core.Logic.{⊎-elim}
 use mathlib.Core.List.{List, _∷_, _++_, append-nil}

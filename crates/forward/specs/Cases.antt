@@ -1,6 +1,5 @@
 -- Worked cases over schema files: a type, a sheet's cells, their bytes, a tail's place and length and the output, with the answer. Each refusal stands where
 -- those after it would come too.
--- Assumes nothing.
 use mathlib.Core.Path.{_≡_}
 use mathlib.Core.List.{List, [], _∷_, _++_, map}
 use Prim.Native.Nat.{ℕ, _+_}

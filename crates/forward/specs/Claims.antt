@@ -1,5 +1,4 @@
 -- When a sheet is forwarded and to what bytes, apart from the function that computes them.
--- Assumes nothing.
 use mathlib.Core.Path.{_≡_}
 use mathlib.Core.List.{List, _∷_}
 use Prim.Native.Nat.{ℕ, _+_, _≤_, _<_}

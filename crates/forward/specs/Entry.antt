@@ -1,5 +1,4 @@
 -- What the entries answer: the plain writer's kind of outcome.
--- Assumes nothing.
 use mathlib.Core.List.{List}
 use Prim.Native.Nat.{ℕ}
 use lib.ListN.{length}

@@ -1,5 +1,4 @@
 -- The forwarding writer: the plain writer's bytes, with the root's unknown bits kept and a tail copied after the known fields.
--- Assumes nothing.
 use mathlib.Core.List.{List, [], _∷_, _++_}
 use mathlib.Core.Bool.{Bool, not, _&&_, _||_, cond}
 use Prim.Native.Nat.{ℕ, _+_}

@@ -1,5 +1,4 @@
 -- The numbers of the reader's answers: 0 is a frame, 1 asks for more, 2 to 7 are refusals. A frame that was read lies within the bytes and its limits.
--- Assumes nothing.
 use mathlib.Core.Path.{_≡_, refl, ap}
 use mathlib.Core.List.{List}
 use Prim.Native.Nat.{ℕ, _+_, _≤_}

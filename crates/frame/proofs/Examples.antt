@@ -1,5 +1,4 @@
 -- Worked examples: INVOKE 9 with the payload 01 07, of method 1, 2, 3, byte by byte; the first fault of a frame's start; and faults of the length.
--- Assumes nothing.
 use mathlib.Core.Path.{_≡_, refl}
 use mathlib.Core.List.{List, [], _∷_, _++_, map}
 use Prim.Native.Nat.{ℕ}

@@ -1,5 +1,4 @@
 -- Bytes are refused exactly for the field at fault, whatever follows it, and ask for more exactly where they are cut.
--- Assumes nothing.
 use mathlib.Core.Path.{_≡_, refl, sym, ap, subst, _∙_}
 use mathlib.Core.Logic.{_↔_, inl, inr, ⊎-elim}
 use mathlib.Core.Bool.{Bool, true, false}

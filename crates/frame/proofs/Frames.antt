@@ -1,5 +1,4 @@
 -- The reader's function and the relation agree: what is read as a frame is a frame, and every frame is read.
--- Assumes nothing.
 use mathlib.Core.Path.{_≡_, refl, sym, ap, subst, _∙_}
 use mathlib.Core.Bool.{Bool, true, cond}
 use mathlib.Core.List.{List, [], _∷_, _++_, append-assoc}

@@ -1,5 +1,4 @@
 -- The frame reader and the frame writer in 01's numbers.
--- Assumes nothing.
 use mathlib.Core.Path.{_≡_, refl, ap, _∙_}
 use mathlib.Core.Logic.{_↔_}
 use mathlib.Core.List.{List}

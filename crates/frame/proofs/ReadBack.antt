@@ -1,5 +1,4 @@
 -- What the frame writer writes is a frame, and is read back as the same header and payload. A frame that is read is written again to the same bytes.
--- Assumes nothing.
 use mathlib.Core.Path.{_≡_, refl, sym, ap, ap₂, subst, _∙_}
 use mathlib.Core.Logic.{_↔_}
 use mathlib.Core.Bool.{Bool, true, false, cond}

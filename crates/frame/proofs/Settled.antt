@@ -1,5 +1,4 @@
 -- Bytes after those that were judged change nothing: an answer other than `More` stays.
--- Assumes nothing.
 use mathlib.Core.Path.{_≡_, refl, sym, ap, _∙_}
 use mathlib.Core.Bool.{Bool, true, false, cond}
 use mathlib.Core.List.{List, _++_}

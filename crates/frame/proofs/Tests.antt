@@ -1,5 +1,4 @@
 -- What a test of a frame's fields that was passed says.
--- Assumes nothing.
 use mathlib.Core.Path.{_≡_}
 use mathlib.Core.Bool.{true, and-eq-true-iff}
 use mathlib.Core.List.{List}

@@ -1,5 +1,4 @@
 -- What holds of frames: the reader accepts exactly them, in one way; a proper prefix asks for more; what follows changes nothing.
--- Assumes nothing.
 use mathlib.Core.Path.{_≡_, refl, sym, ap, _∙_}
 use mathlib.Core.Logic.{_↔_}
 use mathlib.Core.List.{List, [], _∷_, _++_, append-assoc}

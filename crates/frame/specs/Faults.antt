@@ -1,5 +1,4 @@
 -- Why bytes are not read as a frame: the first field that is at fault, with all before it right; or where they are cut. No reader is mentioned.
--- Assumes nothing.
 use mathlib.Core.Path.{_≡_}
 use mathlib.Core.List.{List, [], _∷_, _++_}
 use Prim.Native.Nat.{ℕ, _≤_, _<_}

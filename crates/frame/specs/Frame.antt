@@ -1,5 +1,4 @@
 -- What reading a frame finds, field by field in wire order: a field is judged once it is whole. And what each answer stands for.
--- Assumes nothing.
 use Prim.Native.Nat.{ℕ, _+_}
 use mathlib.Core.Bool.{Bool, _&&_, cond}
 use mathlib.Core.List.{List}

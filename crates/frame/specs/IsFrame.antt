@@ -1,5 +1,4 @@
 -- Frames as a relation, beside the reader's function: which bytes are a frame with a given header and payload.
--- Assumes nothing.
 use mathlib.Core.Path.{_≡_}
 use mathlib.Core.List.{List, _∷_, _++_}
 use Prim.Native.Nat.{ℕ, _+_, _^_, _<_, _≤_}

@@ -1,5 +1,4 @@
 -- The numbers and values that come back for each case of the frame reader's answer.
--- Assumes nothing.
 use Prim.Native.Nat.{ℕ, _+_}
 use Rattle.frame.specs.declared.Header.{Header}
 use Rattle.frame.specs.declared.FrameRead.{FrameRead}

@@ -1,5 +1,4 @@
 -- The header by the places of its fields, as the code finds it, and what the code makes of its judgement.
--- Assumes nothing.
 use Prim.Native.Nat.{ℕ, zero, suc}
 use mathlib.Core.List.{List}
 use lib.ListN.{take, drop}

@@ -1,5 +1,4 @@
 -- What the frame writer writes, and what its answers stand for.
--- Assumes nothing.
 use mathlib.Core.Path.{_≡_}
 use Prim.Native.Nat.{ℕ, _-_, _≤_, _<_}
 use mathlib.Core.Bool.{cond}

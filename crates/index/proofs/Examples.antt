@@ -1,5 +1,4 @@
 -- Worked examples: rows put in order; over bytes, an index of two rows, bytes that are an index and bytes that are none, and look-ups.
--- Assumes nothing.
 use mathlib.Core.Path.{_≡_, refl}
 use mathlib.Core.Bool.{true, false}
 use mathlib.Core.List.{List, [], _∷_, _++_, map}

@@ -1,5 +1,4 @@
 -- The answers of making an index and of a look-up in their numbers.
--- Assumes nothing.
 use mathlib.Core.Path.{_≡_, refl, ap, subst, _∙_}
 use mathlib.Core.Logic.{_↔_}
 use mathlib.Core.List.{List}

@@ -1,5 +1,4 @@
 -- The test and the relation agree: bytes are taken for an index exactly where they are the bytes of rows that rise strictly, with their trailer.
--- Assumes nothing.
 use mathlib.Core.Path.{_≡_, refl, sym, ap, ap₂, subst, _∙_}
 use mathlib.Core.Bool.{Bool, true, false, _&&_}
 use mathlib.Core.List.{List, [], _∷_, _++_, append-assoc}

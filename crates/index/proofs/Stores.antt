@@ -1,5 +1,4 @@
 -- Laws of cells: rows as cells, cells as bytes, and one row inserted among cells.
--- Assumes nothing.
 use mathlib.Core.Path.{_≡_, refl, sym, ap, ap₂, subst, _∙_}
 use mathlib.Core.Bool.{true, false}
 use mathlib.Core.List.{List, [], _∷_, _++_, append-assoc, append-nil}

@@ -1,5 +1,4 @@
 -- Which entries an index has rows for; what making an index answers, and what a look-up judges, prints and answers, all without an order of tests.
--- Assumes nothing.
 use mathlib.Core.Path.{_≡_}
 use mathlib.Core.List.{List, [], _++_, List·Memᴰ}
 use Prim.Native.Nat.{ℕ, _+_, _*_, _≤_, _<_}

@@ -1,4 +1,4 @@
--- Which bytes are an index: the test by which a look-up judges them, and apart from it a relation. Assumes nothing.
+-- Which bytes are an index: the test by which a look-up judges them, and apart from it a relation.
 use mathlib.Core.Path.{_≡_}
 use mathlib.Core.Bool.{Bool, true, _&&_}
 use mathlib.Core.List.{List, [], _∷_}

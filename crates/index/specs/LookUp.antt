@@ -1,4 +1,4 @@
--- What a look-up prints and answers: 65 for bytes that are no index, then 66 for a record of another length; else the rows of the call. Assumes nothing.
+-- What a look-up prints and answers: 65 for bytes that are no index, then 66 for a record of another length; else the rows of the call.
 use mathlib.Core.Bool.{cond}
 use mathlib.Core.List.{List, _++_}
 use Prim.Native.Nat.{ℕ}

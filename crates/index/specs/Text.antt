@@ -1,5 +1,4 @@
 -- The text of a look-up, as ASCII codes. Each line ends in one LF (10); its words have single blanks (32) between.
--- Assumes nothing.
 use mathlib.Core.Bool.{cond}
 use mathlib.Core.List.{List, [], _∷_, _++_}
 use Prim.Native.Nat.{ℕ}

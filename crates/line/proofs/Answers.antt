@@ -1,5 +1,4 @@
 -- What each answer tells: bytes used by its number, the calls open, what a refusal and an ERROR leave, and that bytes after the frame change nothing.
--- Assumes nothing.
 use mathlib.Core.Path.{_≡_, refl, sym, _∙_}
 use mathlib.Core.Logic.{_⊎_, inl, inr, ⊎-elim}
 use mathlib.Core.Bool.{Bool, true, false, cond}

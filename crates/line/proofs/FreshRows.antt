@@ -1,5 +1,4 @@
 -- Frames with fresh tally rows: the laws that a run of a record needs, and that such a run answers what a run with lent rows answers.
--- Assumes nothing.
 use mathlib.Core.Path.{_≡_, refl, sym, ap, subst, _∙_}
 use mathlib.Core.Logic.{_⊎_, inl, inr, ⊎-elim}
 use mathlib.Core.Bool.{Bool, true, false, cond}

@@ -1,6 +1,5 @@
 -- A whole frame is a step of the call table and of one tally row, and any other answer changes neither: what holds of both holds of every answer. So a good
 -- table stays good. The same of a release.
--- Assumes nothing.
 use mathlib.Core.Path.{_≡_, refl, sym, ap, subst, _∙_}
 use mathlib.Core.Logic.{_⊎_, inl, inr, ⊎-elim}
 use mathlib.Core.Bool.{true, false, cond}

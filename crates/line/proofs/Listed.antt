@@ -1,5 +1,5 @@
 -- Every answer has one of 01's numbers for a frame, with its place. The payload of a frame is read as a struct type of the good table, and it is not too
--- long, so that neither 46 nor 7 comes from it. Assumes nothing.
+-- long, so that neither 46 nor 7 comes from it.
 use mathlib.Core.Path.{_≡_, refl, sym, ap, subst, _∙_}
 use mathlib.Core.Bool.{Bool, true, false, cond, _&&_}
 use mathlib.Core.List.{List}

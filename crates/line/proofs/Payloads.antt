@@ -1,5 +1,4 @@
 -- The payload's reading: what a sheet shows afterwards, what a refusal leaves, and that it depends on the sheet's room alone.
--- Assumes nothing.
 use mathlib.Core.Path.{_≡_, refl, sym, ap, _∙_}
 use mathlib.Core.Logic.{_⊎_, ⊎-elim}
 use mathlib.Core.Bool.{Bool, true, false, cond}

@@ -1,5 +1,4 @@
 -- The records of the calls after a frame: its own, the others, what frees a slot, and what changes no call.
--- Assumes nothing.
 use mathlib.Core.Path.{_≡_, refl, sym, ap, subst, _∙_}
 use mathlib.Core.Logic.{_⊎_, inl, inr, ⊎-elim}
 use mathlib.Core.Bool.{true, false}

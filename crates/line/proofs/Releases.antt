@@ -1,5 +1,4 @@
 -- A release: what its answer depends on, the records and the tally rows afterwards, and what it frees.
--- Assumes nothing.
 use mathlib.Core.Path.{_≡_, refl, sym, ap, _∙_}
 use mathlib.Core.Logic.{⊎-elim}
 use mathlib.Core.Bool.{Bool, true, false, cond}

@@ -1,5 +1,4 @@
 -- The tally rows after a frame and after a release: one row is raised, as the calls' laws say, and the others stay.
--- Assumes nothing.
 use mathlib.Core.Path.{_≡_, refl, sym, ap, subst, _∙_}
 use mathlib.Core.Logic.{_⊎_, ⊎-elim}
 use mathlib.Core.Bool.{Bool, true, false, cond}

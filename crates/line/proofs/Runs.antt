@@ -1,5 +1,5 @@
 -- Histories of frames and releases from any good call table and tally rows: it stays good, each record reflects what was answered to its call's events, and
--- the answer to a frame and to a release is the one by the rules. Assumes nothing.
+-- the answer to a frame and to a release is the one by the rules.
 use mathlib.Core.Path.{_≡_, refl, sym, _∙_, ap, subst}
 use mathlib.Core.Logic.{_↔_, _⊎_, inl, inr, ⊎-elim}
 use mathlib.Core.Bool.{Bool, true, false, cond, _||_}

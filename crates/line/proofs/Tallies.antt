@@ -1,6 +1,5 @@
 -- The tally rows of a history: from a fresh start each row is the figures of what was heard, opened is the other four and the calls of that method now open,
 -- and a call's counts are the elements accepted since its INVOKE; and that a frame touches the row of its call's method alone.
--- Assumes nothing.
 use mathlib.Core.Path.{_≡_, refl, sym, ap, subst, _∙_}
 use mathlib.Core.Logic.{_⊎_, inl, inr, ⊎-elim}
 use mathlib.Core.Bool.{cond}

@@ -1,6 +1,5 @@
 -- The two ways of an answer: it stops before a frame is judged, or it judges the whole frame at the front under good tables, with as many tally rows as
 -- methods. The same of a release.
--- Assumes nothing.
 use mathlib.Core.Path.{_≡_, refl, sym, ap, subst, _∙_}
 use mathlib.Core.Bool.{false, cond}
 use mathlib.Core.List.{List, [], _∷_}

@@ -1,5 +1,4 @@
 -- The answer to a frame: its numbers by the step of the call table and the reading of the payload.
--- Assumes nothing.
 use Prim.Native.Nat.{ℕ}
 use mathlib.Core.Bool.{cond}
 use mathlib.Core.List.{List}

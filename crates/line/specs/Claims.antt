@@ -1,5 +1,4 @@
 -- What the theorems about a whole frame speak of.
--- Assumes nothing.
 use mathlib.Core.Path.{_≡_}
 use mathlib.Core.Bool.{true}
 use mathlib.Core.List.{List}

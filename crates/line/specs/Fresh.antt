@@ -1,5 +1,4 @@
 -- One frame with fresh tally rows, and the run of a record that keeps none.
--- Assumes nothing.
 use mathlib.Core.List.{List, [], _∷_}
 use Prim.Native.Nat.{ℕ}
 use Rattle.schema.specs.File.{tableOf}

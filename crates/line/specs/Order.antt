@@ -1,5 +1,4 @@
 -- The answer to a frame and to a release by the rules: by the past of its call, by what belongs in its payload, and by the tally row of its method.
--- Assumes nothing.
 use mathlib.Core.Path.{_≡_}
 use mathlib.Core.Bool.{Bool, true, false}
 use mathlib.Core.List.{List, []}

@@ -1,5 +1,5 @@
 -- The whole judgement of a frame in the papers' order: a plan (40 to 44, 15, 19, 2 to 7, 1, 8 to 14, 16, 17), its payload (20 to 31), and last the tally
--- that would rise (18). Assumes nothing.
+-- that would rise (18).
 use mathlib.Core.Path.{_≡_}
 use Prim.Native.Nat.{ℕ, _-_}
 use mathlib.Core.List.{List}

@@ -1,5 +1,4 @@
 -- A history of events from a call table and tally rows: frames that come in and releases; and what was heard in it.
--- Assumes nothing.
 use mathlib.Core.Bool.{Bool}
 use mathlib.Core.List.{List, [], _∷_}
 use Prim.Native.Nat.{ℕ}

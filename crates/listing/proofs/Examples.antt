@@ -1,6 +1,5 @@
 -- 01's worked example: the record by the file of table T, its whole output and its index; a record in which a RESPONSE crosses a CANCEL; and records at
 -- which a listing stops early.
--- Assumes nothing.
 use mathlib.Core.Path.{_≡_, refl}
 use mathlib.Core.List.{List, [], _∷_, _++_}
 use Prim.Native.Nat.{ℕ}

@@ -1,5 +1,4 @@
 -- The index of a record covers exactly the entries that its listing prints, with their answers, and a look-up prints those of one call.
--- Assumes nothing.
 use mathlib.Core.Path.{_≡_}
 use mathlib.Core.List.{List, _++_, List·Memᴰ}
 use mathlib.Core.Logic.{_↔_}

@@ -1,5 +1,4 @@
 -- The listing of whole entries prints a line for each, in order; and so does that of a salvaged copy, for the entries that were kept.
--- Assumes nothing.
 use mathlib.Core.Path.{_≡_, refl, sym, ap, ap₂, subst, _∙_}
 use mathlib.Core.Bool.{Bool, true, false, _&&_}
 use mathlib.Core.List.{List, [], _∷_, _++_}

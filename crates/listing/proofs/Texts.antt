@@ -1,5 +1,4 @@
 -- Laws of the lines of a listing, word by word.
--- Assumes nothing.
 use mathlib.Core.List.{List, [], _∷_}
 use Prim.Native.Nat.{ℕ}
 use Rattle.frame.specs.declared.Header.{Header}

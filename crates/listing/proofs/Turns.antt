@@ -1,5 +1,4 @@
 -- Laws of the listing's entries: each turn of the listing, by the run that it prints.
--- Assumes nothing.
 use mathlib.Core.Path.{_≡_, refl, sym, ap, subst, _∙_}
 use mathlib.Core.Bool.{Bool, true, false}
 use mathlib.Core.List.{List, [], _∷_, _++_, append-assoc}

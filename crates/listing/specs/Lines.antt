@@ -1,5 +1,4 @@
 -- The text of a listing by its entries, one line each.
--- Assumes nothing.
 use mathlib.Core.Path.{_≡_}
 use mathlib.Core.Bool.{cond}
 use mathlib.Core.List.{List, [], _∷_, _++_}

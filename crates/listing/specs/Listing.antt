@@ -1,5 +1,5 @@
 -- The listing of a record (entries: the byte C or S, then a frame) by a schema file, in 01's order: the heading; 45; the schema's faults; the entries of
--- the record's run from the fresh call table. Assumes nothing.
+-- the record's run from the fresh call table.
 use mathlib.Core.Bool.{Bool, cond, _||_}
 use mathlib.Core.List.{List, [], _∷_, _++_}
 use Prim.Native.Nat.{ℕ, _+_}

@@ -1,5 +1,4 @@
 -- The lines of a listing, as ASCII codes. Each ends in one LF (10); its words have single blanks (32) between.
--- Assumes nothing.
 use mathlib.Core.List.{List, [], _∷_, _++_}
 use Prim.Native.Nat.{ℕ}
 use Rattle.frame.specs.declared.Header.{Header}

@@ -1,5 +1,4 @@
 -- Laws of the items that a composite holds, read one after the other, from bytes or from rows.
--- Assumes nothing.
 use mathlib.Core.Path.{_≡_, refl, ap}
 use mathlib.Core.Bool.{true, false, not}
 use mathlib.Core.List.{List, [], _∷_}

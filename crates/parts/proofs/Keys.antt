@@ -1,5 +1,4 @@
 -- Laws of map keys: contents byte by byte, their digests, and the keys kept.
--- Assumes nothing.
 use mathlib.Core.Path.{_≡_, refl, sym, ap, _∙_}
 use mathlib.Core.Logic.{⊎-elim}
 use mathlib.Core.List.{List, [], _∷_}

@@ -1,5 +1,4 @@
 -- Laws of a struct's presence bits: the test for required fields, the fields present, and how many bits are set.
--- Assumes nothing.
 use mathlib.Core.Path.{_≡_, sym, ap, _∙_}
 use mathlib.Core.Bool.{Bool, true, false, not, _&&_, _||_}
 use mathlib.Core.List.{List, [], _∷_}

@@ -1,5 +1,4 @@
 -- Laws of a good table: what the walkers need of its rows, and the shape of each kind.
--- Assumes nothing.
 use mathlib.Core.Path.{_≡_, refl, sym, ap, _∙_}
 use mathlib.Core.Logic.{⊎-elim}
 use mathlib.Core.List.{List}

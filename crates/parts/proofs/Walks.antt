@@ -1,5 +1,4 @@
 -- Laws of both walks: a depth that is not yet used up, and lent memory of no cells.
--- Assumes nothing.
 use mathlib.Core.Path.{_≡_, refl}
 use mathlib.Core.List.{List, [], _∷_, _++_}
 use Prim.Native.Nat.{ℕ, suc, _-_}

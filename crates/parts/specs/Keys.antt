@@ -1,6 +1,5 @@
 -- The keys of a map while its pairs are walked, in one list of numbers: the first half has their digests, and last their largest; the second half where
 -- they stand.
--- Assumes nothing.
 use mathlib.Core.Path.{_≡_}
 use mathlib.Core.Bool.{Bool, true, false, _||_}
 use mathlib.Core.List.{List, [], _∷_}

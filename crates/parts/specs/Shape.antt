@@ -1,5 +1,4 @@
 -- Shapes as a walk meets them, by the numbers of a type row: the fields of a struct, and the shape of a leaf.
--- Assumes nothing.
 use mathlib.Core.Bool.{cond}
 use mathlib.Core.List.{List}
 use Prim.Native.Nat.{ℕ}

@@ -1,5 +1,4 @@
 -- Request 2026-08: what the reader with the writer's file beside ours answers and leaves in the sheet.
--- Assumes nothing.
 use mathlib.Core.Path.{_≡_, refl, sym, ap, _∙_, subst}
 use mathlib.Core.Logic.{_⊎_, inl, inr, ⊎-elim, _↔_}
 use mathlib.Core.List.{List, [], _∷_, _++_}

@@ -1,6 +1,5 @@
 -- The worked cases of reading with the writer's file beside ours, over files as bytes: the receipt inside a batch answer, a carrier's file that widens
 -- a bitmap and adds a map, a bitmap that has grown in the root, and files that do not extend ours.
--- Assumes nothing.
 use mathlib.Core.Path.{_≡_, refl, sym, ap, ap₂, _∙_}
 use mathlib.Core.List.{List, [], _∷_, map}
 use mathlib.Core.Bool.{true, false, cond}

@@ -1,6 +1,5 @@
 -- The worked pair of schema files: 01's table T, and T with an optional uint8 added to the struct inside the answer's array, or to the answer itself;
 -- P1 to P10 over the bytes of T's file; and a relay by T's file.
--- Assumes nothing.
 use mathlib.Core.Path.{_≡_, refl, ap, ap₂, _∙_}
 use mathlib.Core.List.{List, [], _∷_, map}
 use Prim.Native.Nat.{ℕ, _≤_}

@@ -1,5 +1,4 @@
 -- Demand 3: what the readers by an old schema file and by a new one that extends it answer to each other's payloads.
--- Assumes nothing.
 use mathlib.Core.Path.{_≡_, refl, sym, ap, _∙_, subst}
 use mathlib.Core.List.{List, [], _++_, append-assoc}
 use mathlib.Core.Option.{Option, none, some}

@@ -1,6 +1,5 @@
 -- 02, 2026-11: what `forward` writes. What `read` accepts is forwarded by the same table to the same bytes, so that a relay by an old table harms nothing
 -- that a new writer wrote.
--- Assumes nothing.
 use mathlib.Core.Path.{_≡_, refl, sym, ap, _∙_, subst}
 use mathlib.Core.Logic.{inl, inr, ⊎-elim, _↔_}
 use mathlib.Core.List.{List, [], _++_}

@@ -1,5 +1,4 @@
 -- What `read_beside`, `write`, `forward` and `write_value_frame` answer, in 01's numbers, with the sheet or the output afterwards.
--- Assumes nothing.
 use mathlib.Core.Path.{_≡_, refl, ap}
 use mathlib.Core.Logic.{_↔_}
 use mathlib.Core.List.{List, _++_}

@@ -1,5 +1,4 @@
 -- Demand 2, the reader: what `read` answers and leaves in the sheet.
--- Assumes nothing.
 use mathlib.Core.Path.{_≡_, refl, sym, ap, ap₂, _∙_}
 use mathlib.Core.Logic.{_↔_}
 use mathlib.Core.List.{List}

@@ -1,5 +1,4 @@
 -- The refusals of `read` and `write`, each beside its reason.
--- Assumes nothing.
 use mathlib.Core.Path.{_≡_, refl, ap, _∙_}
 use mathlib.Core.Logic.{inl, inr, ⊎-elim, _↔_}
 use mathlib.Core.List.{List, _++_}

@@ -1,5 +1,4 @@
 -- Request 2026-06: what `write_value_frame` writes is read back, by `read_frame` with `read`, and by `receive`.
--- Assumes nothing.
 use mathlib.Core.Path.{_≡_, refl, sym, ap, subst, _∙_}
 use mathlib.Core.List.{List, _++_}
 use Prim.Native.Nat.{ℕ, _+_, _-_, _/_, _≤_}

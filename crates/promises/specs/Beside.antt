@@ -1,5 +1,4 @@
 -- What the theorems claim of the answers of the entry that reads with the writer's file beside ours, which its contract fixes by `besideOutcome`.
--- Assumes nothing.
 use mathlib.Core.Path.{_≡_}
 use mathlib.Core.List.{List}
 use Prim.Native.Nat.{ℕ, _*_, _≤_, _<_}

@@ -1,6 +1,5 @@
 -- Worked cases: what `read`, and the reader with the writer's file beside ours, answer to some payloads, in 01's numbers, and every cell of the sheet
 -- afterwards, with the files that they need beside T's; and a relay, entry by entry.
--- Assumes nothing.
 use mathlib.Core.Path.{_≡_}
 use mathlib.Core.List.{List, [], _∷_, _++_, map}
 use Prim.Native.Nat.{ℕ, zero, suc, _+_, _*_}

@@ -1,6 +1,5 @@
 -- What the theorems of proofs/ claim of the answers of the entries `read`, `write` and `forward`, which their contracts fix by `readOutcome`, `fileOutcome`
 -- and `forwardOutcome`.
--- Assumes nothing.
 use mathlib.Core.Path.{_≡_}
 use mathlib.Core.Logic.{_⊎_, _↔_}
 use mathlib.Core.List.{List, [], _++_}

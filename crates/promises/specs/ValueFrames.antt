@@ -1,5 +1,4 @@
 -- What is claimed of a frame that `write_value_frame` wrote, beside the sheet that it was handed.
--- Assumes nothing.
 use mathlib.Core.Path.{_≡_}
 use mathlib.Core.List.{List, []}
 use Prim.Native.Nat.{ℕ}

@@ -1,5 +1,4 @@
 -- Laws of what is known of each type: the numbers of fields that a table has, and trees that are shown by them.
--- Assumes nothing.
 use mathlib.Core.Path.{_≡_, refl, sym, ap, _∙_}
 use mathlib.Core.Bool.{Bool, true, false, cond, true≢false}
 use mathlib.Core.List.{List}

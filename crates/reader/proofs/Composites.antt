@@ -1,5 +1,4 @@
 -- Laws of the walkers of arrays, maps and structs: their heads, and the turns of their loops.
--- Assumes nothing.
 use mathlib.Core.Path.{_≡_, refl, sym, ap, _∙_}
 use mathlib.Core.Bool.{Bool, true, false, false≢true}
 use mathlib.Core.List.{List, [], _∷_}

@@ -1,5 +1,4 @@
 -- Laws of values that hold nothing but scalars, strings and bytes: the bits that are required, the next bit that is set, and a struct's bitmap.
--- Assumes nothing.
 use mathlib.Core.Path.{_≡_, refl, sym, ap, _∙_}
 use mathlib.Core.Bool.{Bool, true, false, _&&_, _||_, cond}
 use mathlib.Core.List.{List, [], _∷_}

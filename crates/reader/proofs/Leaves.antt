@@ -1,5 +1,4 @@
 -- Laws of the leaves: what each of their returns shows of the reading in the crate `value`.
--- Assumes nothing.
 use mathlib.Core.Path.{_≡_, sym, ap, _∙_}
 use mathlib.Core.Bool.{true, false, not, _||_}
 use mathlib.Core.List.{List, []}

@@ -1,5 +1,4 @@
 -- Laws of a struct of which only the first fields are shown: its first fields are walked as those of any struct, then the added ones, of which no row is written.
--- Assumes nothing.
 use mathlib.Core.Path.{_≡_, refl, sym, ap, _∙_}
 use mathlib.Core.List.{List, [], _∷_, _++_}
 use Prim.Native.Nat.{ℕ, _+_, _-_, _*_, _/_, _%_, _^_, _≤_}

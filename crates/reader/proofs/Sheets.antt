@@ -1,5 +1,4 @@
 -- Laws of the sheet: rows at different places commute, rows written one run after another are the runs joined, and rows that fit are shown.
--- Assumes nothing.
 use mathlib.Core.Path.{_≡_, refl, sym, ap, _∙_}
 use mathlib.Core.Logic.{_≢_}
 use mathlib.Core.List.{List, [], _∷_, _++_, append-assoc, append-nil}

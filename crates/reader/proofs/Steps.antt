@@ -1,5 +1,4 @@
 -- Laws of the walkers: what one step of a walk does to its end. What is read by the shapes S is shown by the shapes R.
--- Assumes nothing.
 use mathlib.Core.Path.{_≡_, refl, sym, ap, _∙_}
 use mathlib.Core.Bool.{true, false}
 use mathlib.Core.List.{List, [], _∷_}

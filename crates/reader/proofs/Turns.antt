@@ -1,5 +1,4 @@
 -- Laws of the loops over elements and fields that are scalars, strings or bytes: what is left gives the same end.
--- Assumes nothing.
 use mathlib.Core.Path.{_≡_, refl, sym, ap, _∙_}
 use mathlib.Core.Bool.{Bool, true, false, cond}
 use mathlib.Core.List.{List, []}

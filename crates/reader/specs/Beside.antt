@@ -1,5 +1,4 @@
 -- What the entry that reads with the writer's table beside ours answers.
--- Assumes nothing.
 use mathlib.Core.Path.{_≡_}
 use mathlib.Core.Bool.{cond}
 use mathlib.Core.List.{List}

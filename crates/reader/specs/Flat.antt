@@ -1,5 +1,4 @@
 -- Types whose values hold nothing but scalars, strings and bytes, as the loop over an array of such values needs them.
--- Assumes nothing.
 use mathlib.Core.Path.{_≡_}
 use mathlib.Core.Bool.{cond}
 use mathlib.Core.List.{List}

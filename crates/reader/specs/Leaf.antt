@@ -1,5 +1,4 @@
 -- What the leaves of the reader answer: a count, a content, a bitmap.
--- Assumes nothing.
 use mathlib.Core.Path.{_≡_}
 use mathlib.Core.List.{List}
 use Prim.Native.Nat.{ℕ, _+_, _-_, _*_, _^_, _≤_, _<_}

@@ -1,5 +1,4 @@
 -- The sheet (01's term) as a list of cells: rows of four, of which only whole ones count.
--- Assumes nothing.
 use mathlib.Core.Bool.{cond}
 use mathlib.Core.List.{List, [], _∷_, _++_}
 use Prim.Native.Nat.{ℕ, _+_, _*_}

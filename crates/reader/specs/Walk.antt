@@ -1,5 +1,4 @@
 -- What a walker answers: the reading of the crate `value`, with the rows that are shown of it written into the sheet.
--- Assumes nothing.
 use mathlib.Core.Path.{_≡_}
 use mathlib.Core.Bool.{Bool, false}
 use mathlib.Core.List.{List, [], _∷_}

@@ -1,5 +1,4 @@
 -- The test and the relation agree: the test gives a length exactly where an entry of that length starts.
--- Assumes nothing.
 use mathlib.Core.Path.{_≡_, refl, sym, ap, subst, _∙_}
 use mathlib.Core.Logic.{_↔_, ⊎-elim}
 use mathlib.Core.Bool.{Bool, true, false, cond}

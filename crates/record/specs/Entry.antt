@@ -1,5 +1,5 @@
 -- The entry that starts at the front of some bytes: a side byte, C or S, and then a whole frame that passes 2 to 7. Nothing is asked of a schema, nor
--- whether the side suits the frame's kind. Assumes nothing.
+-- whether the side suits the frame's kind.
 use Prim.Native.Nat.{ℕ, _+_}
 use mathlib.Core.Bool.{Bool, cond, _||_}
 use mathlib.Core.List.{List, [], _∷_}

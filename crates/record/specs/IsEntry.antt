@@ -1,5 +1,4 @@
 -- Entries as a relation, beside the test: which bytes are an entry, where one starts, and a record that is whole entries one after the other.
--- Assumes nothing.
 use mathlib.Core.Path.{_≡_}
 use mathlib.Core.List.{List, [], _∷_, _++_}
 use Prim.Native.Nat.{ℕ}

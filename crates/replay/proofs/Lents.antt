@@ -1,5 +1,4 @@
 -- A run with fresh tally rows for each entry is the run with rows that are lent once and carried along.
--- Assumes nothing.
 use mathlib.Core.Path.{_≡_, refl, ap, _∙_}
 use mathlib.Core.Bool.{cond}
 use mathlib.Core.List.{List, [], _∷_}

@@ -1,5 +1,4 @@
 -- Laws of a run: the header of an entry, what its answer depends on, and the bytes that it uses.
--- Assumes nothing.
 use mathlib.Core.Path.{_≡_, refl, sym, ap, _∙_}
 use mathlib.Core.Bool.{Bool, true, false, cond, not, _&&_, _||_}
 use mathlib.Core.List.{List}

@@ -1,5 +1,4 @@
 -- The same run by whoever lends tally rows and carries them along: the paper's fresh tallies, counted from entry to entry.
--- Assumes nothing.
 use mathlib.Core.Bool.{cond}
 use mathlib.Core.List.{List, [], _∷_}
 use Prim.Native.Nat.{ℕ, zero, suc, _+_}

@@ -1,5 +1,5 @@
 -- The run of a record (entries: the byte C or S, then a frame) by a schema file: the entries in turn from the fresh call table, each with its answer, and
--- where the run stopped. Assumes nothing.
+-- where the run stopped.
 use mathlib.Core.Bool.{Bool, cond, not, _&&_, _||_}
 use mathlib.Core.List.{List, [], _∷_}
 use Prim.Native.Nat.{ℕ, zero, suc, _+_}

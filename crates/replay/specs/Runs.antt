@@ -1,5 +1,4 @@
 -- Runs as a relation, beside the function and without a bound on the number of entries; and what an entry of a run has in the record.
--- Assumes nothing.
 use mathlib.Core.Path.{_≡_}
 use mathlib.Core.List.{List, [], _∷_}
 use mathlib.Core.Logic.{_⊎_}

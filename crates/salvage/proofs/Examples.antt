@@ -1,5 +1,4 @@
 -- Worked examples over bytes: the pieces of torn records, and what the entry answers and leaves in both buffers.
--- Assumes nothing.
 use mathlib.Core.Path.{_≡_, refl}
 use mathlib.Core.List.{List, [], _∷_, _++_, map}
 use Prim.Native.Nat.{ℕ}

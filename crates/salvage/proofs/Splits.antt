@@ -1,5 +1,4 @@
 -- Laws of the pieces: how far it goes forward, the first piece, and one piece after the other.
--- Assumes nothing.
 use mathlib.Core.Path.{_≡_, refl, sym, ap, subst, _∙_}
 use mathlib.Core.Logic.{⊎-elim}
 use mathlib.Core.List.{List, [], _∷_, _++_}

@@ -1,5 +1,4 @@
 -- What a salvage promises: about covers of a record, and about the entry's answers and both buffers.
--- Assumes nothing.
 use mathlib.Core.Path.{_≡_, refl, sym, ap, subst, _∙_}
 use mathlib.Core.Logic.{_↔_}
 use mathlib.Core.List.{List, [], _∷_, _++_, map, append-assoc}

@@ -1,5 +1,4 @@
 -- Covers of a record as a relation, beside the function that finds the pieces; and what a salvage answers, without an order of tests.
--- Assumes nothing.
 use mathlib.Core.Path.{_≡_}
 use mathlib.Core.List.{List, [], _∷_, _++_}
 use Prim.Native.Nat.{ℕ, _+_, _*_, _≤_, _<_}

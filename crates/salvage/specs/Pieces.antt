@@ -1,5 +1,5 @@
 -- The pieces of a torn record, in order: entries that are kept, and between them the spans that are left out. From the first place where no entry
--- starts it goes forward to the next place where one does. Assumes nothing.
+-- starts it goes forward to the next place where one does.
 use Prim.Native.Nat.{ℕ, zero, suc, _+_}
 use mathlib.Core.Bool.{Bool, true, false, cond}
 use mathlib.Core.List.{List, [], _∷_, _++_}

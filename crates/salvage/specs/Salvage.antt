@@ -1,5 +1,4 @@
 -- What a salvage answers and leaves in the lent buffers: 45, 52 for the copy, 53 for the list, in this order; a refusal leaves both as they were.
--- Assumes nothing.
 use Prim.Native.Nat.{ℕ}
 use mathlib.Core.Bool.{cond}
 use mathlib.Core.List.{List, _++_}

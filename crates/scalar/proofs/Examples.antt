@@ -1,5 +1,4 @@
 -- Rows of each kind over their bytes, and each refusal, computed.
--- Assumes nothing.
 use mathlib.Core.Path.{_≡_, refl}
 use mathlib.Core.Bool.{true, false}
 use mathlib.Core.List.{List, [], _∷_, map}

@@ -1,5 +1,4 @@
 -- Equal identities come from equal contents: what is handed out for a scalar determines its bytes, and floats are equal when their bits are.
--- Assumes nothing.
 use mathlib.Core.Path.{_≡_, refl, sym, ap, ap₂, _∙_}
 use mathlib.Core.Bool.{Bool, true, false, cond}
 use mathlib.Core.List.{List}

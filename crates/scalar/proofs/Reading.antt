@@ -1,5 +1,4 @@
 -- The rows that are handed out are those that fit their bytes, and each leaf of an accepted payload is among them.
--- Assumes nothing.
 use mathlib.Core.Path.{_≡_, refl, sym, subst}
 use mathlib.Core.Bool.{Bool, true, false, cond}
 use mathlib.Core.List.{List, [], _∷_}

@@ -1,5 +1,4 @@
 -- A signed number by its sign: below zero, -1 less the number; else the number itself.
--- Assumes nothing.
 use mathlib.Core.Path.{_≡_, refl, ap}
 use mathlib.Core.Bool.{true, false}
 use Prim.Native.Nat.{suc}

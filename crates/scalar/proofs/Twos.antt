@@ -1,5 +1,4 @@
 -- Two's complement: a number in the range of its width, and the same number modulo the power of the width.
--- Assumes nothing.
 use mathlib.Core.Path.{_≡_, ap}
 use mathlib.Core.List.{List}
 use Prim.Native.Nat.{ℕ, zero, suc, _+_, _-_, _*_, _^_, _≤_, _<_}

@@ -1,5 +1,4 @@
 -- What the reader's rows hand out: each leaf's row over the payload shows the leaf's content.
--- Assumes nothing.
 use mathlib.Core.Path.{_≡_}
 use mathlib.Core.List.{List}
 use Prim.Native.Nat.{ℕ}

@@ -1,5 +1,4 @@
 -- Which whole number two's complement gives.
--- Assumes nothing.
 use mathlib.Core.Path.{_≡_}
 use Prim.Native.Nat.{ℕ, _*_}
 use lib.IntN.{ℤ, pos, negℤ, _+ℤ_}

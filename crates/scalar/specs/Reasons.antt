@@ -1,5 +1,4 @@
 -- Why a row that is handed out is refused, with the places.
--- Assumes nothing.
 use mathlib.Core.List.{List}
 use mathlib.Core.Bool.{cond}
 use Prim.Native.Nat.{ℕ}

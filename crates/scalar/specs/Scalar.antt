@@ -1,5 +1,4 @@
 -- One row of a sheet over its bytes as a value: the tests in order, and the value of a content by its kind.
--- Assumes nothing.
 use mathlib.Core.Path.{_≡_}
 use mathlib.Core.List.{List}
 use mathlib.Core.Bool.{Bool, not, _||_, cond}

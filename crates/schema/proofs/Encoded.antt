@@ -1,5 +1,4 @@
 -- A schema file has its shape exactly where it is the file of a table, and then it is the file of the table that is read from it.
--- Assumes nothing.
 use mathlib.Core.Path.{_≡_, refl, sym, ap, ap₂, subst, _∙_}
 use mathlib.Core.Logic.{_↔_}
 use mathlib.Core.List.{List, [], _∷_, _++_, append-nil, append-assoc}

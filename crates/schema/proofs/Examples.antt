@@ -1,5 +1,4 @@
 -- The worked example's table T: its file passes the check and holds its rows; damaged files and their refusals; the empty table; and tables that extend others.
--- Assumes nothing.
 use mathlib.Core.Path.{_≡_, refl}
 use mathlib.Core.List.{List, [], _∷_, _++_, map}
 use Prim.Native.Nat.{ℕ, zero, suc, _+_, _*_}

@@ -1,5 +1,4 @@
 -- The test of extension decides the relation, for good tables; and what a table that extends another gives for each of its type numbers.
--- Assumes nothing.
 use mathlib.Core.Path.{_≡_, refl, sym, ap, _∙_}
 use mathlib.Core.Logic.{⊎-elim, _↔_}
 use mathlib.Core.Bool.{Bool, true, false, cond, _&&_}

@@ -1,5 +1,4 @@
 -- A schema file is refused exactly for what is wrong with it, where all that comes before is good.
--- Assumes nothing.
 use mathlib.Core.Path.{_≡_, refl, sym, ap, subst, _∙_}
 use mathlib.Core.Logic.{⊎-elim, _↔_}
 use mathlib.Core.Bool.{Bool, true, false, _&&_}

@@ -1,5 +1,4 @@
 -- Laws of a file of the right shape: its layout fills it, and its rows by number.
--- Assumes nothing.
 use mathlib.Core.Path.{_≡_, refl, sym, ap, _∙_}
 use mathlib.Core.Bool.{true, false, _&&_}
 use mathlib.Core.List.{List}

@@ -1,5 +1,4 @@
 -- Flags of methods that were seen: a method whose flag is not set shares its identifiers with none of them.
--- Assumes nothing.
 use mathlib.Core.Path.{_≡_, refl, sym, ap, subst, _∙_}
 use mathlib.Core.Logic.{⊎-elim}
 use mathlib.Core.Bool.{Bool, true, false, not, _&&_, _||_}

@@ -1,5 +1,4 @@
 -- The refusals of a schema file are those that 01 lists.
--- Assumes nothing.
 use mathlib.Core.Path.{_≡_}
 use mathlib.Core.List.{List}
 use Prim.Native.Nat.{ℕ, _≤_, _<_}

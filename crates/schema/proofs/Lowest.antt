@@ -1,5 +1,4 @@
 -- The lowest number that passes a test: one turn of a loop that looks for it, and what it means that there is one or none.
--- Assumes nothing.
 use mathlib.Core.Path.{_≡_, refl, sym, ap, _∙_}
 use mathlib.Core.Logic.{⊎-elim, _↔_}
 use mathlib.Core.Bool.{Bool, true, false, not, cond}

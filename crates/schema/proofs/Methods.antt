@@ -1,5 +1,4 @@
 -- A method found by its identifiers, and the types of a good table's methods.
--- Assumes nothing.
 use mathlib.Core.Path.{_≡_, refl, sym, ap, _∙_}
 use mathlib.Core.Logic.{⊎-elim}
 use mathlib.Core.Bool.{true, false}

@@ -1,5 +1,4 @@
 -- What a type number of a good table stands for: its shape by the kind of its row, and that what a shape names is in the table.
--- Assumes nothing.
 use mathlib.Core.Path.{_≡_, refl, sym, ap, _∙_}
 use mathlib.Core.Logic.{⊎-elim}
 use Prim.Native.Nat.{ℕ, zero, suc, _+_, _≤_, _<_}

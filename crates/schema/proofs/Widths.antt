@@ -1,5 +1,4 @@
 -- The width of each scalar kind is that of its bits, and a bitmap has the fewest bytes that hold a bit for each field.
--- Assumes nothing.
 use mathlib.Core.Path.{_≡_, refl, subst}
 use mathlib.Core.Logic.{_↔_}
 use Prim.Native.Nat.{ℕ, zero, suc, _*_, _≤_}

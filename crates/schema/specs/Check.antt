@@ -1,5 +1,4 @@
 -- The judgement of a schema table: of each type row, field and method, and of the whole file with its first fault.
--- Assumes nothing.
 use mathlib.Core.Path.{_≡_}
 use mathlib.Core.Bool.{Bool, true, false, cond, not, _&&_, _||_}
 use mathlib.Core.List.{List}

@@ -1,5 +1,4 @@
 -- A schema file as it is made from a table: the numbers of each entry in order, four bytes each with the lowest first, and the trailer. Nothing is read back.
--- Assumes nothing.
 use mathlib.Core.List.{List, [], _∷_, _++_}
 use Prim.Native.Nat.{ℕ, _+_}
 use lib.ListN.{length}

@@ -1,5 +1,4 @@
 -- When a table extends another: the relation as its sentence is written, the test that decides it for good tables, and the entry's answer.
--- Assumes nothing.
 use mathlib.Core.Path.{_≡_}
 use mathlib.Core.Bool.{Bool, false, cond, not, _&&_, _||_}
 use mathlib.Core.List.{List, _++_}

@@ -1,5 +1,4 @@
 -- Why a schema file is refused: what is wrong with it, where all that comes before is good. No test and no function of the check is mentioned.
--- Assumes nothing.
 use mathlib.Core.Path.{_≡_}
 use mathlib.Core.List.{List}
 use Prim.Native.Nat.{ℕ, _+_, _*_, _≤_, _<_}

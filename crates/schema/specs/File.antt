@@ -1,5 +1,4 @@
 -- A schema file as bytes: types from 0 on, fields, methods, and a trailer of four numbers that points back. All numbers are little-endian and have 32 bits.
--- Assumes nothing.
 use mathlib.Core.Path.{_≡_}
 use mathlib.Core.Bool.{Bool, true, cond, _&&_}
 use mathlib.Core.List.{List, [], _∷_}

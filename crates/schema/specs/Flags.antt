@@ -1,5 +1,4 @@
 -- The flag of a method's identifiers. The check of many methods sets it, and where it is not set no earlier method has these identifiers.
--- Assumes nothing.
 use Prim.Native.Nat.{ℕ, _+_, _*_, _/_, _%_}
 
 -- One of 4,096.

@@ -1,5 +1,4 @@
 -- What a good schema file is, a field for each sentence, with no order of tests.
--- Assumes nothing.
 use mathlib.Core.Path.{_≡_}
 use mathlib.Core.Logic.{_⊎_}
 use mathlib.Core.List.{List}

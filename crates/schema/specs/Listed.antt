@@ -1,5 +1,4 @@
 -- 01's numbers for a schema file that is not good, with their places.
--- Assumes nothing.
 use Prim.Native.Nat.{ℕ, _<_}
 use lib.ListN.{length}
 use Rattle.schema.specs.Table.{Table}

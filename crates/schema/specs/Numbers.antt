@@ -1,5 +1,4 @@
 -- The numbers that come back for each case of the answers of the table check and of the extension test.
--- Assumes nothing.
 use Prim.Native.Nat.{ℕ}
 use Rattle.schema.specs.declared.Checked.{Checked}
 use Rattle.schema.specs.declared.Checked.the-variants.{Good, Refused}

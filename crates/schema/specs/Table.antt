@@ -1,5 +1,4 @@
 -- The schema table as lists of rows, and what a type number stands for.
--- Assumes nothing.
 use mathlib.Core.List.{List, [], _∷_}
 use Prim.Native.Nat.{ℕ, _+_, _/_}
 use lib.ListN.{length, take, drop, getD}

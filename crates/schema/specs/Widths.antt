@@ -1,5 +1,4 @@
 -- 01's scalar kinds, each with its bits, and the whole bytes of a bitmap: apart from the list and the sum that compute them.
--- Assumes nothing.
 use Prim.Native.Nat.{ℕ, _*_, _≤_}
 
 -- A bool has a byte.

@@ -1,5 +1,5 @@
 -- Laws of decimal numbers: how the digits of n follow from those of n / 10, that there are at most 20 where n has 64 bits, and that the text is n in
--- decimal. Assumes nothing.
+-- decimal.
 use mathlib.Core.Path.{_≡_, refl, sym, ap, subst, _∙_}
 use mathlib.Core.List.{List, [], _∷_, _++_}
 use Prim.Native.Nat.{ℕ, zero, suc, _+_, _*_, _-_, _/_, _%_, _^_, _≤_, _<_}

@@ -1,5 +1,4 @@
 -- Laws of a page's lines: each turn of the code that looks for a line and puts it, and that a page of single lines has just these.
--- Assumes nothing.
 use mathlib.Core.Path.{_≡_, refl, sym, ap, subst, _∙_}
 use mathlib.Core.Bool.{Bool, true, false, cond, not, _&&_, false≢true}
 use mathlib.Core.List.{List, [], _∷_, _++_}

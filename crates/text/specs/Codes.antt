@@ -1,5 +1,4 @@
 -- A quoted text as the list of its characters' codes.
--- Assumes nothing.
 use mathlib.Core.List.{List, [], _∷_}
 use Prim.Native.Nat.{ℕ}
 use Prim.Native.Char.{code}

@@ -1,5 +1,4 @@
 -- Numbers in decimal, as ASCII codes; and what it means that a text is a number in decimal.
--- Assumes nothing.
 use mathlib.Core.Path.{_≡_}
 use mathlib.Core.Bool.{cond}
 use mathlib.Core.List.{List, [], _∷_, _++_}

@@ -1,5 +1,4 @@
 -- The lines of a page, each ended by one LF (10). A line's number counts from 0.
--- Assumes nothing.
 use mathlib.Core.Bool.{Bool, true, cond, not, _&&_}
 use mathlib.Core.List.{List, [], _∷_, _++_}
 use Prim.Native.Nat.{ℕ, zero, suc}

@@ -1,5 +1,4 @@
 -- Laws of readers: what holds of an answer that may accept, and of one that does.
--- Assumes nothing.
 use mathlib.Core.Path.{_≡_, refl, _∙_}
 use mathlib.Core.List.{List, [], _++_, append-assoc}
 use mathlib.Core.Bool.{Bool, true, false}

@@ -1,5 +1,4 @@
 -- The theorems about payloads read by the writer's table and shown by ours. The other files prove them.
--- Assumes nothing.
 use mathlib.Core.Path.{_≡_, refl}
 use mathlib.Core.Logic.{_⊎_, _↔_}
 use mathlib.Core.List.{List, [], _++_, map as each}

@@ -1,5 +1,4 @@
 -- Presence bits: the fields present in a longer struct, and how many bits are set.
--- Assumes nothing.
 use mathlib.Core.Path.{_≡_, refl, sym, ap, _∙_}
 use mathlib.Core.Logic.{_↔_}
 use mathlib.Core.List.{List, [], _∷_, _++_}

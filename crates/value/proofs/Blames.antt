@@ -1,5 +1,4 @@
 -- Laws of readers that refuse: what stands at the place of a refusal, and what before it.
--- Assumes nothing.
 use mathlib.Core.Path.{_≡_, refl, _∙_}
 use mathlib.Core.List.{List, [], _++_, append-assoc}
 use mathlib.Core.Bool.{Bool, true, false}

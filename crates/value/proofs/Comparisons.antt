@@ -1,5 +1,4 @@
 -- Laws of the comparisons due: their number, the same from rows, a bound by the bytes, and the same by a table that extends another.
--- Assumes nothing.
 use mathlib.Core.Path.{_≡_, refl, sym, ap, ap₂, _∙_}
 use mathlib.Core.List.{List, [], _∷_, _++_}
 use mathlib.Core.Bool.{Bool, true, false, cond}

@@ -1,5 +1,4 @@
 -- The levels of depth that a value is allowed are as many as its depth at least.
--- Assumes nothing.
 use mathlib.Core.Path.{refl}
 use mathlib.Core.List.{List, [], _∷_, _++_}
 use Prim.Native.Nat.{ℕ, zero, suc, _≤_}

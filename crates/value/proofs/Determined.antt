@@ -1,5 +1,4 @@
 -- A payload determines its rows: trees that fit it and delimit its bytes are the same, and an accepted payload has such a tree.
--- Assumes nothing.
 use mathlib.Core.Path.{_≡_, refl, sym, ap, ap₂, subst, _∙_}
 use mathlib.Core.List.{List, [], _∷_, _++_}
 use Prim.Native.Nat.{ℕ, zero, suc, _+_, _-_, _≤_, zero-le}

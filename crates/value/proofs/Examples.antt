@@ -1,5 +1,4 @@
 -- The worked examples of 01, cases of each refusal, and pairs of tables, computed from the definitions.
--- Assumes nothing.
 use mathlib.Core.Path.{_≡_, refl}
 use mathlib.Core.List.{List, [], _∷_, _++_, map}
 use Prim.Native.Nat.{ℕ, zero, suc, _+_}

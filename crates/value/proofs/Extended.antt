@@ -1,5 +1,4 @@
 -- A payload that a new table's rules allow, read by an old table that the new one extends; and the other way round.
--- Assumes nothing.
 use mathlib.Core.Path.{_≡_, refl, sym, ap, ap₂, _∙_}
 use mathlib.Core.Logic.{_↔_}
 use mathlib.Core.List.{List, [], _∷_, _++_, append-nil, append-assoc}

@@ -1,5 +1,4 @@
 -- Which fields a bitmap asks for and which it shows, by the bits of its number; and how many of its bits are unknown.
--- Assumes nothing.
 use mathlib.Core.Path.{_≡_, refl, sym, ap, ap₂, _∙_}
 use mathlib.Core.Logic.{_⊎_, inl, inr, ⊎-elim}
 use mathlib.Core.List.{List, [], _∷_, _++_, map}

@@ -1,5 +1,4 @@
 -- The writer's answer depends only on what of each row it uses.
--- Assumes nothing.
 use mathlib.Core.Path.{_≡_, refl, sym, ap, _∙_}
 use mathlib.Core.List.{List, [], _∷_, map as each}
 use mathlib.Core.Bool.{Bool, true, false}

@@ -1,5 +1,4 @@
 -- A map's count on its own: when it is refused with 20 and when with 31, whatever the keys are and whatever stands after it.
--- Assumes nothing.
 use mathlib.Core.Path.{_≡_, refl, _∙_}
 use mathlib.Core.Bool.{false}
 use mathlib.Core.List.{List, _∷_, _++_}

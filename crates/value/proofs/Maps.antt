@@ -1,5 +1,4 @@
 -- The maps in a value that bytes spell or rows show: their keys differ, and they have 64 pairs at most.
--- Assumes nothing.
 use mathlib.Core.Path.{_≡_, subst}
 use mathlib.Core.List.{List, [], _∷_}
 use Prim.Native.Nat.{ℕ, zero, suc}

@@ -1,6 +1,5 @@
 -- For the walkers' code, which is lent the number of fields that ours knows of each struct: the shapes so narrowed, and the items of two plans read one
 -- after the other.
--- Assumes nothing.
 use mathlib.Core.Path.{_≡_, refl, sym, ap, _∙_}
 use mathlib.Core.List.{List, [], _∷_, _++_}
 use Prim.Native.Nat.{ℕ, _≤_, _<_}

@@ -1,5 +1,4 @@
 -- The numbers of the refusals. A value's are 20 to 28 and 31: no type of a good table leads to another number.
--- Assumes nothing.
 use mathlib.Core.Path.{_≡_}
 use mathlib.Core.List.{List}
 use Prim.Native.Nat.{ℕ, _<_}

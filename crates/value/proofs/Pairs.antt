@@ -1,5 +1,4 @@
 -- A map by its pairs: no two of its keys have the same content exactly where no two are the same value, by the types that keys have in a good table.
--- Assumes nothing.
 use mathlib.Core.Path.{_≡_, refl, sym, ap, subst, _∙_}
 use mathlib.Core.Logic.{_↔_}
 use mathlib.Core.List.{List, [], _∷_, _++_, head-eq-of-cons-eq, tail-eq-of-cons-eq}

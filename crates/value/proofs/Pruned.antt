@@ -1,5 +1,4 @@
 -- Laws of a tree without its added fields: its value, its rows and what they show, and that a tree without any stays as it is.
--- Assumes nothing.
 use mathlib.Core.Path.{_≡_, refl, sym, ap, _∙_}
 use mathlib.Core.List.{List, [], _∷_, _++_, append-nil}
 use Prim.Native.Nat.{ℕ, _+_, _-_, _*_, _%_, _^_, _≤_, _<_}

@@ -1,5 +1,4 @@
 -- What the root readers by an old table and by a table that extends it say of the same payload.
--- Assumes nothing.
 use mathlib.Core.Path.{_≡_, refl, ap, _∙_}
 use mathlib.Core.List.{List, [], _∷_, _++_, append-nil}
 use mathlib.Core.Option.{Option, none, some}

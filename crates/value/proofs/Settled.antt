@@ -1,5 +1,4 @@
 -- What follows the faulty bytes does not matter, where the number is 21 to 26, 28 or 31 and there is as much of it or more.
--- Assumes nothing.
 use mathlib.Core.Logic.{inl, inr}
 use mathlib.Core.List.{List, [], _++_}
 use Prim.Native.Nat.{ℕ, _≤_}

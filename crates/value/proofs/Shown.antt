@@ -1,5 +1,4 @@
 -- The writer accepts exactly the rows of the trees that fit the bytes.
--- Assumes nothing.
 use mathlib.Core.Path.{_≡_, refl, sym, ap, _∙_}
 use mathlib.Core.List.{List, [], _∷_, _++_, append-nil, append-assoc}
 use mathlib.Core.Bool.{Bool, true, _&&_, and-eq-true-iff}

@@ -1,5 +1,4 @@
 -- Laws of a span of bytes: its length, the bytes as code lends them, and the byte of a bool.
--- Assumes nothing.
 use mathlib.Core.Path.{_≡_, sym, ap, _∙_}
 use mathlib.Core.List.{List, [], _∷_}
 use Prim.Native.Nat.{ℕ, zero, suc, _+_, _≤_}

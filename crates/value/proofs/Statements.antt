@@ -1,5 +1,4 @@
 -- The theorems about values, of tables. The other files prove them.
--- Assumes nothing.
 use mathlib.Core.Path.{_≡_, refl, sym, ap, _∙_, subst}
 use mathlib.Core.Logic.{_⊎_, _↔_}
 use mathlib.Core.List.{List, [], _∷_, _++_, append-nil, map as each}

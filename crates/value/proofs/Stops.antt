@@ -1,5 +1,4 @@
 -- The items of a plan one after the other, from bytes or from rows: where the walk over them is refused, an item due there is at fault, and the other way round.
--- Assumes nothing.
 use mathlib.Core.Path.{_≡_, refl, sym, ap, _∙_}
 use mathlib.Core.Logic.{_⊎_, inl, inr, ⊎-elim}
 use mathlib.Core.List.{List, [], _∷_, _++_, append-assoc}

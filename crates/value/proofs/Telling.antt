@@ -1,5 +1,4 @@
 -- What the rows tell determines the value.
--- Assumes nothing.
 use mathlib.Core.Path.{_≡_, refl, sym, ap, _∙_}
 use mathlib.Core.List.{List, [], _∷_, _++_, map as each, map-append, append-assoc}
 use Prim.Native.Nat.{ℕ, zero, suc, _+_}

@@ -1,5 +1,4 @@
 -- What a reader by an old table and a reader by a table that extends it say of the same bytes, for inner values.
--- Assumes nothing.
 use mathlib.Core.Path.{_≡_, refl}
 use mathlib.Core.List.{List, [], _∷_, _++_}
 use mathlib.Core.Option.{Option, none, some}

@@ -1,6 +1,5 @@
 -- What an old table knows of a value that the rules of an extending table allow: which structs carry added fields, and what is left without them.
 -- No reader is mentioned. S are the shapes of the old table, so a field is added where its number is beyond the fields of S.
--- Assumes nothing.
 use mathlib.Core.Path.{_≡_}
 use mathlib.Core.List.{List, [], _∷_, _++_}
 use mathlib.Core.Option.{Option, none, some}

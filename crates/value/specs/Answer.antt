@@ -1,5 +1,4 @@
 -- Readers: functions from a cursor to a refusal, or to what was read and the cursor after it. They read the bytes of a payload, or the rows of a sheet.
--- Assumes nothing.
 use mathlib.Core.List.{List}
 use mathlib.Core.Bool.{Bool, true, false}
 use Prim.Native.Nat.{ℕ, _+_, _-_}

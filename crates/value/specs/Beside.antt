@@ -1,5 +1,4 @@
 -- Reading with the writer's table beside ours: the payload is read wholly by theirs, the shapes S′, and shown by ours, the shapes S.
--- Assumes nothing.
 use mathlib.Core.Path.{_≡_}
 use mathlib.Core.List.{List, [], _∷_, _++_}
 use Prim.Native.Nat.{ℕ, _+_, _≤_, _<_}

@@ -1,5 +1,4 @@
 -- What the theorems of proofs/Statements.antt claim of the reader's and the writer's answers.
--- Assumes nothing.
 use mathlib.Core.Path.{_≡_}
 use mathlib.Core.List.{List, [], _∷_, _++_}
 use mathlib.Core.Option.{Option, none, some}

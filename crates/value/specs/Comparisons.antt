@@ -1,5 +1,4 @@
 -- How many key comparisons are due in a value: each later key against each earlier key of its map, over all maps in it. No reader is mentioned.
--- Assumes nothing.
 use mathlib.Core.List.{List, [], _∷_}
 use mathlib.Core.Bool.{cond}
 use Prim.Native.Nat.{ℕ, zero, suc, _+_}

@@ -1,5 +1,4 @@
 -- What the place and the length of each row delimit: where the bytes of each value stand in a payload B. No reader is mentioned.
--- Assumes nothing.
 use mathlib.Core.Path.{_≡_}
 use mathlib.Core.List.{List, [], _∷_}
 use Prim.Native.Nat.{ℕ, zero, suc, _+_, _-_, _≤_}

@@ -1,5 +1,4 @@
 -- When the rows of a sheet over its bytes show a value, whatever the order of the refusals; and what of a row the writer uses.
--- Assumes nothing.
 use mathlib.Core.Path.{_≡_}
 use mathlib.Core.List.{List, [], _∷_}
 use mathlib.Core.Bool.{true}

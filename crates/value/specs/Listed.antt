@@ -1,5 +1,4 @@
 -- 01's numbers for a payload that is refused and for a sheet that is. `Reasons` and `SheetReasons` say what each is for.
--- Assumes nothing.
 use Prim.Native.Nat.{ℕ, _≤_}
 
 -- The numbers of a value's fault.

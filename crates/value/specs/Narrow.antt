@@ -1,5 +1,4 @@
 -- Shapes with the first fields of a struct alone, as many as a table knows.
--- Assumes nothing.
 use Prim.Native.Nat.{ℕ}
 use lib.ListN.{length, take}
 use Rattle.schema.specs.Table.{Shape, unknown, scalar, text, array, map, struct}

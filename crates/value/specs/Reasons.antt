@@ -1,5 +1,4 @@
 -- Why a payload is refused: what stands at the place of the refusal, and what stands before it. No reader is mentioned.
--- Assumes nothing.
 use mathlib.Core.Path.{_≡_}
 use mathlib.Core.Logic.{_⊎_}
 use mathlib.Core.List.{List, [], _∷_, _++_}

@@ -1,5 +1,4 @@
 -- The sheet (01's term): rows of four cells each.
--- Assumes nothing.
 use mathlib.Core.List.{List, [], _∷_}
 use Prim.Native.Nat.{ℕ, _+_, _*_}
 use lib.ListN.{getD}

@@ -1,5 +1,4 @@
 -- Why a sheet is refused: what the row that the refusal names shows, and what the rows before it show. No reader is mentioned.
--- Assumes nothing.
 use mathlib.Core.Path.{_≡_}
 use mathlib.Core.Logic.{_⊎_}
 use mathlib.Core.List.{List, [], _∷_, _++_}

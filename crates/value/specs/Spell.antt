@@ -1,5 +1,4 @@
 -- What bytes spell a value, as a relation; and the encoding, which the writer writes and which is the one spelling of a value.
--- Assumes nothing.
 use mathlib.Core.Path.{_≡_}
 use mathlib.Core.List.{List, [], _∷_, _++_}
 use mathlib.Core.Bool.{true}

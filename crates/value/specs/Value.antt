@@ -1,5 +1,4 @@
 -- Values, and values with the places that they were read from.
--- Assumes nothing.
 use mathlib.Core.List.{List, [], _∷_, _++_}
 use Prim.Native.Nat.{ℕ, _+_, max}
 use Rattle.value.specs.declared.Row.{Row}

@@ -1,5 +1,4 @@
 -- The writer: the rows of a sheet over its bytes are read as a value, or refused; the value is then encoded.
--- Assumes nothing.
 use mathlib.Core.List.{List, [], _∷_}
 use mathlib.Core.Bool.{Bool, not, _&&_, _||_, cond}
 use Prim.Native.Nat.{ℕ, zero, suc, _+_, _^_}

@@ -1,5 +1,4 @@
 -- The one write is the value writer and then the frame writer: it accepts exactly where the two do with room enough between them, and gives their bytes.
--- Assumes nothing.
 use mathlib.Core.Path.{_≡_, refl, sym, ap, subst, _∙_}
 use mathlib.Core.Logic.{_⊎_, _↔_, ⊎-elim}
 use mathlib.Core.Bool.{Bool, true, false, cond}

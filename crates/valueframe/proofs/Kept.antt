@@ -1,5 +1,4 @@
 -- Laws of the part of the output into which the payload is written first: what stands there afterwards, and that what was kept comes back.
--- Assumes nothing.
 use mathlib.Core.Path.{_≡_, refl, sym, ap, subst, _∙_}
 use mathlib.Core.Logic.{⊎-elim}
 use mathlib.Core.Bool.{true, false, false≢true, _&&_}

@@ -1,6 +1,5 @@
 -- Worked cases over 01's table T: a frame, a header's kind, a type, a sheet, its bytes and the output's length, with the answer. Each refusal stands where
 -- those after it would come too.
--- Assumes nothing.
 use mathlib.Core.List.{List, [], _∷_, _++_}
 use Prim.Native.Nat.{ℕ, _+_}
 use lib.ListN.{replicate}

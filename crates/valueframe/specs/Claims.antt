@@ -1,5 +1,4 @@
 -- What the theorems of proofs/ claim: the one write beside the value writer and then the frame writer. mid is the buffer between the two.
--- Assumes nothing.
 use mathlib.Core.Path.{_≡_}
 use mathlib.Core.List.{List, []}
 use Prim.Native.Nat.{ℕ, _≤_, _<_}

@@ -1,5 +1,4 @@
 -- What the entry answers, in the request's order: the table's refusals, 4, 46, the value writer's in its order, 7, 52.
--- Assumes nothing.
 use mathlib.Core.Bool.{cond}
 use mathlib.Core.List.{List, [], _∷_}
 use Prim.Native.Nat.{ℕ}

@@ -1,5 +1,4 @@
 -- The part of the output into which a payload is written first, while what stood there is kept.
--- Assumes nothing.
 use mathlib.Core.Bool.{Bool, false, cond, _&&_}
 use mathlib.Core.List.{List, _++_}
 use Prim.Native.Nat.{ℕ, _+_}

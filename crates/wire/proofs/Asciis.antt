@@ -1,5 +1,4 @@
 -- Characters of the row UTF8-1: laws of `ascii` of `specs/Utf8.antt`, over any number of bytes.
--- Assumes nothing.
 use mathlib.Core.Path.{_≡_, refl, sym, ap, ap₂, subst, _∙_}
 use mathlib.Core.Bool.{Bool, true, false, _&&_, not, and-true, and-false}
 use mathlib.Core.List.{List, [], _∷_, _++_}

@@ -1,5 +1,4 @@
 -- Characters of the row UTF8-2: laws of `pairs` of `specs/Utf8.antt`, over any number of pairs of bytes.
--- Assumes nothing.
 use mathlib.Core.Path.{_≡_, refl, sym, ap, ap₂, subst, _∙_}
 use mathlib.Core.Bool.{Bool, true, false, _&&_, not}
 use mathlib.Core.List.{List, [], _∷_, _++_}

@@ -1,6 +1,5 @@
 -- The two statements of UTF-8 agree: bytes are UTF-8 by the table's rows exactly when they are scalar values, encoded.
 -- The characters of a row are an interval of numbers, and the rows' intervals are the scalar values: that is a test, computed over the table.
--- Assumes nothing.
 use mathlib.Core.Path.{_≡_, refl, sym, ap, ap₂, subst, _∙_}
 use mathlib.Core.Bool.{Bool, true, false, _&&_, _||_}
 use mathlib.Core.Logic.{_⊎_, inl, inr, ⊎-elim, _↔_}

@@ -1,5 +1,4 @@
 -- Laws of `specs/Utf8.antt`.
--- Assumes nothing.
 use mathlib.Core.Path.{_≡_, refl, sym, ap, ap₂, subst, _∙_}
 use mathlib.Core.Bool.{Bool, true, false, _&&_, not, and-true, and-false, and-assoc, cond}
 use mathlib.Core.Logic.{⊎-elim, _↔_}

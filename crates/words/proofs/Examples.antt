@@ -1,5 +1,4 @@
 -- The tables of texts, held to the numbers; and worked texts, whole.
--- Assumes nothing.
 use mathlib.Core.Path.{_≡_, refl}
 use mathlib.Core.Bool.{true}
 use mathlib.Core.List.{List, [], _∷_}

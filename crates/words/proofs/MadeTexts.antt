@@ -1,5 +1,4 @@
 -- What is said of files that were made, put part by part, as the code puts it; and worked texts.
--- Assumes nothing.
 use mathlib.Core.Path.{_≡_, refl}
 use mathlib.Core.List.{List, _++_}
 use Prim.Native.Nat.{ℕ}

@@ -1,5 +1,4 @@
 -- Laws of a number read: each turn of the code that reads it, and that just the decimal texts of numbers of 64 bits, leading zeros aside, are read.
--- Assumes nothing.
 use mathlib.Core.Path.{_≡_, refl, sym, ap, _∙_}
 use mathlib.Core.Bool.{Bool, true, false, _&&_}
 use mathlib.Core.List.{List, [], _∷_}

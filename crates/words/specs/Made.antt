@@ -1,5 +1,4 @@
 -- What the verbs salvage and index say of the files that they have made, as ASCII codes. Each line ends in one LF.
--- Assumes nothing.
 use mathlib.Core.Bool.{cond}
 use mathlib.Core.List.{List, _++_}
 use Prim.Native.Nat.{ℕ}

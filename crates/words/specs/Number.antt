@@ -1,4 +1,4 @@
--- A number in decimal, read from ASCII codes. Assumes nothing.
+-- A number in decimal, read from ASCII codes.
 use mathlib.Core.Bool.{Bool, cond, _&&_}
 use mathlib.Core.List.{List, [], _∷_}
 use Prim.Native.Nat.{ℕ, _+_, _*_, _-_}

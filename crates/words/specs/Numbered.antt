@@ -1,4 +1,4 @@
--- What the tables of texts are held to, apart from the code that looks a number up in them. Assumes nothing.
+-- What the tables of texts are held to, apart from the code that looks a number up in them.
 use mathlib.Core.Bool.{Bool, true, cond, _&&_, _||_}
 use mathlib.Core.List.{List, [], _∷_, _++_}
 use Prim.Native.Nat.{ℕ, suc}

@@ -1,5 +1,4 @@
 -- The numbers that come back, in words: a text for each number from 0 on, and an empty one for a number that means nothing.
--- Assumes nothing.
 use mathlib.Core.List.{List, [], _∷_}
 use Prim.Native.String.{String}
 

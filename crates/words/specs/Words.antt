@@ -1,5 +1,4 @@
 -- The texts of the verbs check, extends and explain, as ASCII codes. Each line ends in one LF.
--- Assumes nothing.
 use mathlib.Core.Bool.{cond}
 use mathlib.Core.List.{List, [], _∷_, _++_}
 use Prim.Native.Nat.{ℕ}

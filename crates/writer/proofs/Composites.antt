@@ -1,5 +1,4 @@
 -- Laws of the walkers: a value of each shape by its row, and the turns of the loops over what it holds.
--- Assumes nothing.
 use mathlib.Core.Path.{_≡_, refl, sym, ap, subst, _∙_}
 use mathlib.Core.Bool.{true, false}
 use mathlib.Core.List.{List, [], _∷_}

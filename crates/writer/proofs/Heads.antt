@@ -1,5 +1,4 @@
 -- Laws of a struct's presence bits: what each return of `presence` shows.
--- Assumes nothing.
 use mathlib.Core.Path.{_≡_}
 use mathlib.Core.Bool.{true, false}
 use mathlib.Core.List.{List}

@@ -1,5 +1,4 @@
 -- Laws of the leaves: what each of their returns shows of the crate `value`'s reading of a row.
--- Assumes nothing.
 use mathlib.Core.Path.{_≡_, refl, sym, ap, _∙_}
 use mathlib.Core.Bool.{true, false, not, _&&_, _||_}
 use mathlib.Core.List.{List}

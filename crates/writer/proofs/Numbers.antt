@@ -1,5 +1,4 @@
 -- The writers' answers are known by their numbers.
--- Assumes nothing.
 use mathlib.Core.Path.{_≡_, refl, ap}
 use mathlib.Core.Logic.{_↔_}
 use mathlib.Core.List.{List}

@@ -1,5 +1,4 @@
 -- The answers of the entries, taken apart: what is written, and what is refused.
--- Assumes nothing.
 use mathlib.Core.Path.{_≡_, refl, ap, _∙_}
 use mathlib.Core.Logic.{_⊎_, inl, inr}
 use mathlib.Core.List.{List, _++_}

@@ -1,5 +1,4 @@
 -- Laws of the root: its row, its known fields, and that no row is left over; and of the two walks over a whole sheet.
--- Assumes nothing.
 use mathlib.Core.Path.{_≡_, refl, sym, ap, _∙_}
 use mathlib.Core.Bool.{true, false}
 use mathlib.Core.List.{List, []}

@@ -1,5 +1,4 @@
 -- Laws of the walkers: what one step of a walk does to its end.
--- Assumes nothing.
 use mathlib.Core.Path.{_≡_, refl, _∙_}
 use mathlib.Core.Bool.{Bool, true, false}
 use mathlib.Core.List.{List, [], _∷_, _++_}

@@ -1,5 +1,4 @@
 -- The encoding of a value as a walk puts it into the output: row by row, each value's bytes after those before it.
--- Assumes nothing.
 use mathlib.Core.Path.{_≡_}
 use mathlib.Core.Bool.{cond}
 use mathlib.Core.List.{List, [], _∷_}

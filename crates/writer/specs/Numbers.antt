@@ -1,5 +1,4 @@
 -- The numbers that come back for each case of the writers' answer: number, place and the length written.
--- Assumes nothing.
 use Prim.Native.Nat.{ℕ}
 use mathlib.Core.List.{List}
 use Rattle.writer.specs.declared.Writing.{Writing}

@@ -1,5 +1,4 @@
 -- What a walker answers: what the crate `value` says the rows show, with its encoding put into the output.
--- Assumes nothing.
 use mathlib.Core.Path.{_≡_}
 use mathlib.Core.Bool.{Bool, false}
 use mathlib.Core.List.{List}

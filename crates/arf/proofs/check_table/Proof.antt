@@ -1,4 +1,4 @@
--- `arf::check_table` meets its contract: it is that of the function called. Assumes nothing.
+-- `arf::check_table` meets its contract: it is that of the function called.
 use borrow.Author.Needs.{needs}
 use Rattle.arf.proofs.check_table.Statement.{statement}
 use Rattle.arf.proofs.check_table.Tie as tie

@@ -1,4 +1,4 @@
--- `arf::extends` meets its contract: it is that of the function called. Assumes nothing.
+-- `arf::extends` meets its contract: it is that of the function called.
 use borrow.Author.Needs.{needs}
 use Rattle.arf.proofs.extends.Statement.{statement}
 use Rattle.arf.proofs.extends.Tie as tie

@@ -1,4 +1,4 @@
--- `arf::forward` meets its contract: it is that of the function called. Assumes nothing.
+-- `arf::forward` meets its contract: it is that of the function called.
 use borrow.Author.Needs.{needs}
 use Rattle.arf.proofs.forward.Statement.{statement}
 use Rattle.arf.proofs.forward.Tie as tie

@@ -1,4 +1,4 @@
--- `arf::fresh` meets its contract: it is that of the function called. Assumes nothing.
+-- `arf::fresh` meets its contract: it is that of the function called.
 use borrow.Author.Needs.{needs}
 use Rattle.arf.proofs.fresh.Statement.{statement}
 use Rattle.arf.proofs.fresh.Tie as tie

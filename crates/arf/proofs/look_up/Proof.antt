@@ -1,4 +1,4 @@
--- `arf::look_up` meets its contract: it is that of the function called. Assumes nothing.
+-- `arf::look_up` meets its contract: it is that of the function called.
 use borrow.Author.Needs.{needs}
 use Rattle.arf.proofs.look_up.Statement.{statement}
 use Rattle.arf.proofs.look_up.Tie as tie

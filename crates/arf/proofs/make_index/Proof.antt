@@ -1,4 +1,4 @@
--- `arf::make_index` meets its contract: it is that of the function called. Assumes nothing.
+-- `arf::make_index` meets its contract: it is that of the function called.
 use borrow.Author.Needs.{needs}
 use Rattle.arf.proofs.make_index.Statement.{statement}
 use Rattle.arf.proofs.make_index.Tie as tie

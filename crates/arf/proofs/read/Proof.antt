@@ -1,4 +1,4 @@
--- `arf::read` meets its contract: it is that of the function called. Assumes nothing.
+-- `arf::read` meets its contract: it is that of the function called.
 use borrow.Author.Needs.{needs}
 use Rattle.arf.proofs.read.Statement.{statement}
 use Rattle.arf.proofs.read.Tie as tie

@@ -1,4 +1,4 @@
--- `arf::read_frame` meets its contract: it is that of the function called. Assumes nothing.
+-- `arf::read_frame` meets its contract: it is that of the function called.
 use borrow.Author.Needs.{needs}
 use Rattle.arf.proofs.read_frame.Statement.{statement}
 use Rattle.arf.proofs.read_frame.Tie as tie

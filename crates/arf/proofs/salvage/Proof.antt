@@ -1,4 +1,4 @@
--- `arf::salvage` meets its contract: it is that of the function called. Assumes nothing.
+-- `arf::salvage` meets its contract: it is that of the function called.
 use borrow.Author.Needs.{needs}
 use Rattle.arf.proofs.salvage.Statement.{statement}
 use Rattle.arf.proofs.salvage.Tie as tie

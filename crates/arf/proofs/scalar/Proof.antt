@@ -1,4 +1,4 @@
--- `arf::scalar` meets its contract: it is that of the function called. Assumes nothing.
+-- `arf::scalar` meets its contract: it is that of the function called.
 use borrow.Author.Needs.{needs}
 use Rattle.arf.proofs.scalar.Statement.{statement}
 use Rattle.arf.proofs.scalar.Tie as tie

@@ -1,4 +1,4 @@
--- `arf::write` meets its contract: it is that of the function called. Assumes nothing.
+-- `arf::write` meets its contract: it is that of the function called.
 use borrow.Author.Needs.{needs}
 use Rattle.arf.proofs.write.Statement.{statement}
 use Rattle.arf.proofs.write.Tie as tie

@@ -1,4 +1,4 @@
--- `arf::write_value_frame` meets its contract: it is that of the function called. Assumes nothing.
+-- `arf::write_value_frame` meets its contract: it is that of the function called.
 use borrow.Author.Needs.{needs}
 use Rattle.arf.proofs.write_value_frame.Statement.{statement}
 use Rattle.arf.proofs.write_value_frame.Tie as tie

@@ -1,5 +1,4 @@
 -- `cases::main` is safe and ends: the measure is the number of turns that are left.
--- Assumes nothing.
 use native.Mathlib.Omega.{arith}
 use Rattle.cases.proofs.main.Statement.{statement}
 use Rattle.cases.proofs.main.Tie as tie

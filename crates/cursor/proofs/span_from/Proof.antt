@@ -1,6 +1,5 @@
 -- `cursor::span_from` meets its contract: a walk of its MIR, by hand.
 -- The reader that `new` returns is laid in a local, and lent by `&mut` to `span`, for a lifetime that is made within the payload's; it is taken back once that is over. All that the proof knows of `new` and of `span` is that each meets its contract.
--- Assumes nothing.
 use mathlib.Core.Path.{_≡_, refl, _∙_}
 use Prim.Native.Nat.{ℕ, _<_, _^_}
 use mathlib.Core.List.{List, [], _∷_}

@@ -1,5 +1,4 @@
 -- `cursor::text_from` meets its contract.
--- Assumes nothing.
 use native.Mathlib.Omega.{arith}
 use borrow.Author.Needs.{needs}
 use Rattle.cursor.proofs.Texts.{text-none, span-inside, text-bad, text-good}

@@ -1,5 +1,4 @@
 -- `files::fill` answers no more than its buffer holds: each turn fills some of what is left.
--- Assumes nothing.
 use mathlib.Core.Path.{_≡_, refl, sym, _∙_}
 use Prim.Native.Nat.{_+_, _-_, _≤_}
 use native.Mathlib.Omega.{arith}

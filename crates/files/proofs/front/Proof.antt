@@ -1,4 +1,4 @@
--- `files::front` answers no more than the buffer has. Assumes nothing.
+-- `files::front` answers no more than the buffer has.
 use native.Mathlib.Omega.{arith}
 use borrow.Author.Needs.{needs}
 use Rattle.io.proofs.Counting.{counts}

@@ -1,5 +1,4 @@
 -- `forward::forward` meets its contract.
--- Assumes nothing.
 use mathlib.Core.Path.{sym, _∙_}
 use Rattle.forward.proofs.Entries.{file-refused, file-good}
 use borrow.Author.Needs.{needs}

@@ -1,5 +1,4 @@
 -- `forward::forward_sheet` meets its contract.
--- Assumes nothing.
 use mathlib.Core.Path.{sym}
 use mathlib.Core.Bool.{false≢true}
 use native.Mathlib.Omega.{arith}

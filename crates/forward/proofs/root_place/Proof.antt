@@ -1,5 +1,4 @@
 -- `forward::root_place` meets its contract.
--- Assumes nothing.
 use mathlib.Core.Path.{_∙_}
 use Rattle.forward.proofs.Entries.{place-none, place-first}
 use borrow.Author.Needs.{needs}

@@ -1,5 +1,4 @@
 -- `forward::unknown_at` meets its contract.
--- Assumes nothing.
 use native.Mathlib.Omega.{arith}
 use Rattle.forward.proofs.Entries.{unknown-is}
 use borrow.Author.Needs.{needs}

@@ -1,5 +1,4 @@
 -- `frame::byte` meets its contract: one byte is its own number.
--- Assumes nothing.
 use mathlib.Core.Path.{sym}
 use native.Mathlib.Omega.{arith}
 use borrow.Author.Needs.{needs}

@@ -1,5 +1,4 @@
 -- `frame::copy` meets its contract: the bytes still to be copied, stored, give what all of them give.
--- Assumes nothing.
 use mathlib.Core.Path.{_≡_, refl, _∙_}
 use mathlib.Core.List.{List}
 use Prim.Native.Nat.{ℕ, suc, _+_, _-_, _≤_, _<_}

@@ -1,5 +1,4 @@
 -- `frame::header_at` meets its contract: each field is what its leaf read.
--- Assumes nothing.
 use borrow.Author.Needs.{needs}
 use Rattle.frame.proofs.header_at.Statement.{statement}
 use Rattle.frame.proofs.header_at.Tie as tie

@@ -1,5 +1,4 @@
 -- `frame::judge_header` meets its contract: field by field, what is left to be judged gives the answer to the whole.
--- Assumes nothing.
 use mathlib.Core.Path.{_≡_, sym, ap, _∙_}
 use native.Mathlib.Omega.{arith}
 use borrow.Author.Needs.{needs}

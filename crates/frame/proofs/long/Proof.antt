@@ -1,5 +1,4 @@
 -- `frame::long` meets its contract: the two halves are the number.
--- Assumes nothing.
 use mathlib.Core.Path.{sym}
 use native.Mathlib.Omega.{arith}
 use borrow.Author.Needs.{needs}

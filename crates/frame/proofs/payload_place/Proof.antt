@@ -1,5 +1,4 @@
 -- `frame::payload_place` meets its contract: a VarUInt has ten bytes at most.
--- Assumes nothing.
 use mathlib.Core.Path.{ap}
 use Prim.Native.Nat.{ℕ, _+_, _≤_}
 use native.Mathlib.Omega.{arith}

@@ -1,5 +1,4 @@
 -- `frame::read_frame` meets its contract: the header's judgement leaves the answer to the payload, or is the answer.
--- Assumes nothing.
 use mathlib.Core.Path.{_≡_, refl, sym, _∙_}
 use Prim.Native.Nat.{ℕ, zero, suc}
 use borrow.Author.Needs.{needs}

@@ -1,5 +1,4 @@
 -- `frame::read_payload` meets its contract: what the length was picks the case, and the tests pick the answer.
--- Assumes nothing.
 use mathlib.Core.Path.{_≡_, sym, ap, _∙_}
 use Prim.Native.Nat.{_+_, _≤_}
 use native.Mathlib.Omega.{arith}

@@ -1,5 +1,4 @@
 -- `frame::write_frame` meets its contract: the tests pick the answer, and the front and the payload are the output.
--- Assumes nothing.
 use mathlib.Core.Path.{_≡_, refl, sym, _∙_}
 use mathlib.Core.Bool.{true}
 use Prim.Native.Nat.{_≤_, _+_}

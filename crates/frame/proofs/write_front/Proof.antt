@@ -1,5 +1,4 @@
 -- `frame::write_front` meets its contract: each store follows the one before it.
--- Assumes nothing.
 use borrow.Author.Needs.{needs}
 use Rattle.frame.proofs.Writes.{front-wrote}
 use Rattle.frame.proofs.write_front.Statement.{statement}

@@ -1,5 +1,4 @@
 -- `frame::write_start` meets its contract: five stores in a row.
--- Assumes nothing.
 use mathlib.Core.List.{[], _∷_}
 use native.Mathlib.Omega.{arith}
 use borrow.Author.Needs.{needs}

@@ -1,4 +1,4 @@
--- `index::look_up` meets its contract: the text is measured first, and then put where it fits. Assumes nothing.
+-- `index::look_up` meets its contract: the text is measured first, and then put where it fits.
 use borrow.Author.Needs.{needs}
 use denote.Ref.{now}
 use lib.ListN.{length}

@@ -1,4 +1,4 @@
--- `index::make_index` meets its contract: the table's verdict and the record's length pick the answer. Assumes nothing.
+-- `index::make_index` meets its contract: the table's verdict and the record's length pick the answer.
 use mathlib.Core.Path.{_∙_}
 use borrow.Author.Needs.{needs}
 use denote.Ref.{now}

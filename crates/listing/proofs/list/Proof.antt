@@ -1,5 +1,4 @@
 -- `listing::list` meets its contract: the buffer has room for any listing.
--- Assumes nothing.
 use Prim.Native.Nat.{_≤_}
 use native.Mathlib.Omega.{arith}
 use denote.Ref.{now}

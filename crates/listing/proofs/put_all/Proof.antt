@@ -1,5 +1,4 @@
 -- `listing::put_all` meets its contract: the heading, and then the case of the two lengths and of the schema file's verdict.
--- Assumes nothing.
 use native.Mathlib.Omega.{arith}
 use denote.Ref.{now}
 use borrow.Author.Needs.{needs}

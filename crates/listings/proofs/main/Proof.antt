@@ -1,5 +1,4 @@
 -- `listings::main` is safe and ends: the measure is the number of turns that are left.
--- Assumes nothing.
 use native.Mathlib.Omega.{arith}
 use Rattle.listings.proofs.main.Statement.{statement}
 use Rattle.listings.proofs.main.Tie as tie

@@ -1,5 +1,4 @@
 -- `parts::is_complete` meets its contract. The invariant: the fields not yet looked at decide.
--- Assumes nothing.
 use borrow.Author.Needs.{needs}
 use mathlib.Core.Path.{_≡_, refl, sym, _∙_}
 use Prim.Native.Nat.{_+_, _≤_}

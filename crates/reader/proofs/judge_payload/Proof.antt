@@ -1,5 +1,4 @@
 -- `reader::judge_payload` meets its contract: 64 fields of each struct are all.
--- Assumes nothing.
 use mathlib.Core.Path.{ap, _∙_}
 use lib.ListN.{getD-replicate}
 use Rattle.reader.specs.Entry.{numberIn}

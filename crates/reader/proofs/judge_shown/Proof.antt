@@ -1,5 +1,4 @@
 -- `reader::judge_shown` meets its contract: its walk is the first of `read_shown`, over no cells, and its returns show the same cases.
--- Assumes nothing.
 use mathlib.Core.Path.{sym, ap}
 use mathlib.Core.Bool.{false≢true}
 use native.Mathlib.Omega.{arith}

@@ -1,5 +1,4 @@
 -- `reader::read` meets its contract.
--- Assumes nothing.
 use mathlib.Core.Path.{sym, _∙_}
 use Rattle.reader.proofs.Entries.{entry-table, entry-good}
 use borrow.Author.Needs.{needs}

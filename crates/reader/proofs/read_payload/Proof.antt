@@ -1,5 +1,4 @@
 -- `reader::read_payload` meets its contract: 64 fields of each struct are all.
--- Assumes nothing.
 use mathlib.Core.Path.{_∙_}
 use lib.ListN.{getD-replicate}
 use Rattle.reader.proofs.Besides.{shown-all}

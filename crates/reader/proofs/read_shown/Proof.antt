@@ -1,6 +1,5 @@
 -- `reader::read_shown` meets its contract: each return says which case holds. The first walk writes into cells of its own; few rows are copied from them,
 -- and where there are more the second walk is known to accept.
--- Assumes nothing.
 use mathlib.Core.Path.{sym, ap, _∙_}
 use mathlib.Core.Logic.{⊎-elim}
 use mathlib.Core.Bool.{false≢true}

@@ -1,5 +1,4 @@
 -- `record::entry_length` meets its contract: the side byte, then what the frame reader answers for the bytes after it.
--- Assumes nothing.
 use mathlib.Core.Path.{_≡_, sym, ap, _∙_}
 use Prim.Native.Nat.{_+_, _≤_}
 use native.Mathlib.Omega.{arith}

@@ -1,5 +1,4 @@
 -- `replay::header` meets its contract: what the frame reader answers picks the case.
--- Assumes nothing.
 use denote.Ref.{now}
 use borrow.Author.Needs.{needs}
 use Rattle.replay.proofs.Turns.{header-read, header-more, header-refused}

@@ -1,5 +1,4 @@
 -- `replay::step` meets its contract: what the sheet holds does not show in the answer.
--- Assumes nothing.
 use mathlib.Core.Path.{_≡_, sym, ap, _∙_}
 use Prim.Native.Nat.{ℕ, _/_}
 use denote.Ref.{now}

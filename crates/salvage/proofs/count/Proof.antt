@@ -1,4 +1,4 @@
--- `salvage::count` meets its contract: what was counted and what is left are all. Assumes nothing.
+-- `salvage::count` meets its contract: what was counted and what is left are all.
 use mathlib.Core.Logic.{⊎-elim}
 use Prim.Native.Nat.{_+_, _-_, _≤_, _<_}
 use native.Mathlib.Omega.{arith}

@@ -1,4 +1,4 @@
--- `salvage::put_pieces` meets its contract: what is left of the pieces gives the same end as all of them. Assumes nothing.
+-- `salvage::put_pieces` meets its contract: what is left of the pieces gives the same end as all of them.
 use mathlib.Core.Path.{_≡_, ap, _∙_}
 use mathlib.Core.List.{List}
 use Prim.Native.Nat.{ℕ, _+_, _-_, _≤_, _<_}

@@ -1,4 +1,4 @@
--- `salvage::put_span` meets its contract. Assumes nothing.
+-- `salvage::put_span` meets its contract.
 use mathlib.Core.Path.{_≡_, ap}
 use Prim.Native.Nat.{ℕ, suc, _+_}
 use native.Mathlib.Omega.{arith}

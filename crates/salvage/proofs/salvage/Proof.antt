@@ -1,5 +1,4 @@
 -- `salvage::salvage` meets its contract: the tests pick the answer, and the pieces fill the buffers.
--- Assumes nothing.
 use mathlib.Core.Path.{_∙_}
 use native.Mathlib.Omega.{arith}
 use Prim.Native.Nat.{_≤_}

@@ -1,5 +1,4 @@
 -- `text::put_decimal` meets its contract: the digits of n / 10, then the last one. The measure is n.
--- Assumes nothing.
 use Prim.Native.Nat.{ℕ, _<_}
 use native.Mathlib.Omega.{arith}
 use borrow.Author.Needs.{needs}

@@ -1,5 +1,4 @@
 -- `text::put_byte` meets its contract, whether the buffer has a place for the byte or not.
--- Assumes nothing.
 use borrow.Author.Needs.{needs}
 use mathlib.Core.Path.{refl}
 use mathlib.Core.Logic.{⊎-elim}

@@ -1,5 +1,4 @@
 -- `text::put_field` meets its contract.
--- Assumes nothing.
 use native.Mathlib.Omega.{arith}
 use Rattle.text.proofs.Texts.{added-field}
 use borrow.Author.Needs.{needs}

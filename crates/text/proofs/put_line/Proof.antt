@@ -1,5 +1,4 @@
 -- `text::put_line` puts the line that `line_start` finds.
--- Assumes nothing.
 use mathlib.Core.Path.{subst}
 use mathlib.Core.List.{List}
 use Prim.Native.Nat.{ℕ}

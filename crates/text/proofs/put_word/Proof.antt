@@ -1,5 +1,4 @@
 -- `text::put_word` meets its contract: the bytes passed are stored.
--- Assumes nothing.
 use mathlib.Core.Path.{_≡_, refl}
 use Prim.Native.Nat.{_+_, _-_, _≤_}
 use native.Mathlib.Omega.{arith}

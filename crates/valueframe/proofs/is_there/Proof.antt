@@ -1,5 +1,4 @@
 -- `valueframe::is_there` meets its contract.
--- Assumes nothing.
 use mathlib.Core.Path.{sym}
 use Rattle.valueframe.proofs.Kept.{refused-elsewhere, there-tested}
 use borrow.Author.Needs.{needs}

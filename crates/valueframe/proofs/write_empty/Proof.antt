@@ -1,5 +1,4 @@
 -- `valueframe::write_empty` meets its contract.
--- Assumes nothing.
 use mathlib.Core.Path.{ap}
 use native.Mathlib.Omega.{arith}
 use Rattle.value.specs.Sheet.{rowsOf}

@@ -1,5 +1,4 @@
 -- `valueframe::write_frame` meets its contract.
--- Assumes nothing.
 use mathlib.Core.Path.{sym, _∙_}
 use borrow.Author.Tests.{not-true, not-false}
 use Rattle.frame.proofs.Tests.{known-bounds}

@@ -1,5 +1,4 @@
 -- `valueframe::write_value_frame` meets its contract.
--- Assumes nothing.
 use mathlib.Core.Path.{sym, _∙_}
 use Rattle.valueframe.proofs.Entries.{file-refused, file-good}
 use borrow.Author.Needs.{needs}

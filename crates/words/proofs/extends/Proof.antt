@@ -1,5 +1,4 @@
 -- `words::extends` meets its contract: the buffer has room for any of its texts.
--- Assumes nothing.
 use Prim.Native.Nat.{_≤_}
 use native.Mathlib.Omega.{arith}
 use denote.Ref.{now}

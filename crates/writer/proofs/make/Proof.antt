@@ -1,5 +1,4 @@
 -- `writer::make` meets its contract.
--- Assumes nothing.
 use mathlib.Core.Path.{sym, ap}
 use mathlib.Core.Bool.{false≢true}
 use native.Mathlib.Omega.{arith}

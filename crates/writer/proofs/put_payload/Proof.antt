@@ -1,5 +1,4 @@
 -- `writer::put_payload` meets its contract.
--- Assumes nothing.
 use mathlib.Core.Path.{refl}
 use native.Mathlib.Omega.{arith}
 use Rattle.schema.specs.File.{tableOf}

@@ -1,5 +1,4 @@
 -- `writer::write` meets its contract.
--- Assumes nothing.
 use mathlib.Core.Path.{sym, _∙_}
 use Rattle.writer.proofs.Entries.{file-refused, file-good}
 use borrow.Author.Needs.{needs}

@@ -1,5 +1,4 @@
 -- `writer::write_through` meets its contract.
--- Assumes nothing.
 use mathlib.Core.Path.{sym, ap, _∙_}
 use lib.Seq.{length-take-le}
 use Rattle.writer.specs.declared.Writing.the-variants.{Written}

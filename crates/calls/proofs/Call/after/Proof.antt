@@ -1,5 +1,4 @@
 -- `Call::after` meets its contract, by the mark and the test of completeness.
--- Assumes nothing.
 use mathlib.Core.Path.{_∙_, ap}
 use borrow.Author.Needs.{needs}
 use Rattle.calls.specs.Record.{complete}

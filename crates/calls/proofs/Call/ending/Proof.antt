@@ -1,5 +1,4 @@
 -- `Call::ending` meets its contract: the tests pick the case.
--- Assumes nothing.
 use Rattle.calls.proofs.Call.ending.Statement.{statement}
 use Rattle.calls.proofs.Call.ending.Tie as tie
 

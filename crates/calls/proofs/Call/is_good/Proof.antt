@@ -1,5 +1,4 @@
 -- `Call::is_good` meets its contract, by whether the record is open.
--- Assumes nothing.
 use borrow.Author.Needs.{needs}
 use Rattle.calls.specs.Slots.{goodCall}
 use Rattle.calls.proofs.Call.is_good.Statement.{statement}

@@ -1,5 +1,4 @@
 -- `Call::is_good_open` meets its contract, by the test of completeness.
--- Assumes nothing.
 use borrow.Author.Needs.{needs}
 use Rattle.calls.proofs.Call.is_good_open.Statement.{statement}
 use Rattle.calls.proofs.Call.is_good_open.Tie as tie

@@ -1,5 +1,4 @@
 -- `Call::judge` meets its contract: 12, then 14 or 16, then 17, then the next record and the payload.
--- Assumes nothing.
 use mathlib.Core.Path.{_≡_, sym, _∙_, ap}
 use mathlib.Core.Bool.{false}
 use Prim.Native.Nat.{ℕ}

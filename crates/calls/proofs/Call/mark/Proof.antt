@@ -1,5 +1,4 @@
 -- `Call::mark` meets its contract: an element is counted below the limit alone.
--- Assumes nothing.
 use mathlib.Core.Path.{_≡_}
 use mathlib.Core.Bool.{Bool, true, false, _&&_, _||_, false≢true}
 use Prim.Native.Nat.{ℕ}

@@ -1,5 +1,4 @@
 -- `Call::not_allowed` meets its contract: the test picks the case.
--- Assumes nothing.
 use Rattle.calls.proofs.Call.not_allowed.Statement.{statement}
 use Rattle.calls.proofs.Call.not_allowed.Tie as tie
 

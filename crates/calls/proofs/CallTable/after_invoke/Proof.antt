@@ -1,5 +1,4 @@
 -- `CallTable::after_invoke` meets its contract, by the payload's number.
--- Assumes nothing.
 use borrow.Author.Tests.{eq-eqb, ne-eqb}
 use borrow.Author.Needs.{needs}
 use Rattle.calls.proofs.CallTable.after_invoke.Statement.{statement}

@@ -1,5 +1,4 @@
 -- `CallTable::after_other` meets its contract, by the payload's number.
--- Assumes nothing.
 use mathlib.Core.Path.{sym, _∙_}
 use borrow.Author.Tests.{eq-eqb, ne-eqb}
 use borrow.Author.Needs.{needs}

@@ -1,5 +1,4 @@
 -- `CallTable::at` meets its contract: past the last slot the definition has the empty record too.
--- Assumes nothing.
 use mathlib.Core.Path.{_≡_, sym}
 use native.Mathlib.Omega.{arith}
 use lib.ListN.{length, List·getD-eq-default}

@@ -1,5 +1,4 @@
 -- `CallTable::free_slot` meets its contract. The loop's invariant: the first record that passes is the first of the rest.
--- Assumes nothing.
 use mathlib.Core.Path.{_≡_, refl, sym, _∙_}
 use Prim.Native.Nat.{_≤_, _-_}
 use native.Mathlib.Omega.{arith}

@@ -1,5 +1,4 @@
 -- `CallTable::is_good` meets its contract. The loop's invariant: the records passed are good, and ids holds the correlations of the open ones.
--- Assumes nothing.
 use mathlib.Core.Path.{_≡_, sym, _∙_}
 use mathlib.Core.Logic.{⊎-elim}
 use Prim.Native.Nat.{_≤_, _-_}

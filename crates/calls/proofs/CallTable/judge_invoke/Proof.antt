@@ -1,5 +1,4 @@
 -- `CallTable::judge_invoke` meets its contract. A method's number fits, since a good table has few.
--- Assumes nothing.
 use mathlib.Core.Path.{sym, _∙_}
 use native.Mathlib.Omega.{arith}
 use denote.Ref.{now}

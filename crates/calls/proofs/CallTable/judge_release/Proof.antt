@@ -1,5 +1,4 @@
 -- `CallTable::judge_release` meets its contract: 11, then 14, then the own call's slot is zeroed.
--- Assumes nothing.
 use mathlib.Core.Path.{sym, _∙_, ap}
 use borrow.Author.Needs.{needs}
 use Rattle.calls.specs.declared.Call.{Call}

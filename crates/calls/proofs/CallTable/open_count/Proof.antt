@@ -1,5 +1,4 @@
 -- `CallTable::open_count` meets its contract. The loop's invariant: the count so far and that of the rest make the whole.
--- Assumes nothing.
 use mathlib.Core.Path.{_≡_, ap}
 use mathlib.Core.Logic.{⊎-elim}
 use Prim.Native.Nat.{_≤_, _-_, _+_}

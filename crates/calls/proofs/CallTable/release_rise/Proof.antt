@@ -1,5 +1,4 @@
 -- `CallTable::release_rise` meets its contract, case by case of the judgement.
--- Assumes nothing.
 use borrow.Author.Needs.{needs}
 use Rattle.calls.specs.Counting.{releaseRise}
 use Rattle.calls.proofs.CallTable.release_rise.Statement.{statement}

@@ -1,5 +1,4 @@
 -- `CallTable::step` meets its contract, case by case of the judgement.
--- Assumes nothing.
 use borrow.Author.Needs.{needs}
 use Rattle.calls.specs.Step.{stepOf}
 use Rattle.calls.proofs.CallTable.step.Statement.{statement}

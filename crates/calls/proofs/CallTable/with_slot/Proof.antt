@@ -1,5 +1,4 @@
 -- `CallTable::with_slot` meets its contract: past the last slot nothing is set.
--- Assumes nothing.
 use mathlib.Core.Path.{_≡_}
 use native.Mathlib.Omega.{arith}
 use lib.ListN.{length}

@@ -1,5 +1,4 @@
 -- `Rise::figure` meets its contract: the number picks the case.
--- Assumes nothing.
 use mathlib.Core.Path.{sym, _∙_}
 use borrow.Author.Tests.{eq-eqb, ne-eqb}
 use borrow.Author.Needs.{needs}

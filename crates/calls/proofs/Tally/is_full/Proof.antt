@@ -1,5 +1,4 @@
 -- `Tally::is_full` meets its contract, by the figure.
--- Assumes nothing.
 use borrow.Author.Needs.{needs}
 use Rattle.calls.proofs.Tally.is_full.Statement.{statement}
 use Rattle.calls.proofs.Tally.is_full.Tie as tie

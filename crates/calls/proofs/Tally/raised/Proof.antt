@@ -1,5 +1,4 @@
 -- `Tally::raised` meets its contract: a figure that is not full has room for one more.
--- Assumes nothing.
 use mathlib.Core.Path.{_≡_, subst}
 use mathlib.Core.Bool.{false}
 use native.Mathlib.Omega.{arith}

@@ -1,5 +1,4 @@
 -- `forms::row_in` meets its contract: past the table's end the definition has the same empty row.
--- Assumes nothing.
 use mathlib.Core.Path.{sym}
 use lib.ListN.{List·getD-eq-default}
 use borrow.Author.Needs.{needs}

@@ -1,4 +1,4 @@
--- `calls::forms::row_of` meets its contract: the constant table is Table 1. Assumes nothing.
+-- `calls::forms::row_of` meets its contract: the constant table is Table 1.
 use mathlib.Core.Path.{refl}
 use Rattle.calls.proofs.forms.row_of.Statement.{statement}
 use Rattle.calls.proofs.forms.row_of.Tie as tie

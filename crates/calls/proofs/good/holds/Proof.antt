@@ -1,5 +1,4 @@
 -- `good::holds` meets its contract. The loop's invariant: what was found, or what the rest holds, is what the slice holds.
--- Assumes nothing.
 use mathlib.Core.Path.{_≡_, refl}
 use mathlib.Core.Bool.{_||_}
 use Prim.Native.Nat.{_≤_, _-_}

@@ -1,5 +1,4 @@
 -- `good::holds_where` meets its contract.
--- Assumes nothing.
 use borrow.Author.Needs.{needs}
 use Rattle.calls.proofs.good.holds_where.Statement.{statement}
 use Rattle.calls.proofs.good.holds_where.Tie as tie

@@ -1,5 +1,4 @@
 -- `judge::of_type` meets its contract.
--- Assumes nothing.
 use borrow.Author.Tests.{eq-eqb, ne-eqb}
 use Rattle.calls.proofs.judge.of_type.Statement.{statement}
 use Rattle.calls.proofs.judge.of_type.Tie as tie

@@ -1,5 +1,4 @@
 -- `judge::payload_of` meets its contract, kind by kind.
--- Assumes nothing.
 use borrow.Author.Tests.{ne-eqb}
 use borrow.Author.Needs.{needs}
 use Rattle.calls.specs.Judge.{payloadOf}

@@ -1,5 +1,4 @@
 -- `numbers::ends_call` meets its contract.
--- Assumes nothing.
 use mathlib.Core.Path.{refl}
 use Rattle.calls.specs.Numbers.{endsCall}
 use Rattle.calls.proofs.numbers.ends_call.Statement.{statement}

@@ -1,5 +1,4 @@
 -- `numbers::uses_frame` meets its contract.
--- Assumes nothing.
 use borrow.Author.Needs.{needs}
 use Rattle.calls.specs.Numbers.{usesFrame}
 use Rattle.calls.proofs.numbers.uses_frame.Statement.{statement}

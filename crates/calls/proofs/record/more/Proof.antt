@@ -1,5 +1,4 @@
 -- `record::more` meets its contract: below the limit there is room for one more.
--- Assumes nothing.
 use native.Mathlib.Omega.{arith}
 use borrow.Author.Needs.{needs}
 use Rattle.calls.proofs.record.more.Statement.{statement}

@@ -1,5 +1,4 @@
 -- `cases::input::bytes` answers no more than its buffer holds.
--- Assumes nothing.
 use mathlib.Core.Path.{sym}
 use native.Mathlib.Omega.{arith}
 use borrow.Author.Needs.{needs}

@@ -1,5 +1,4 @@
 -- `cases::input::fill` is safe and ends: the sheet keeps its length, and the measure is what is left of it.
--- Assumes nothing.
 use mathlib.Core.Path.{_≡_, refl}
 use Prim.Native.Nat.{_-_}
 use native.Mathlib.Omega.{arith}

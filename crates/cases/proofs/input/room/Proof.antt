@@ -1,5 +1,4 @@
 -- `cases::input::room` answers no more than the output has.
--- Assumes nothing.
 use mathlib.Core.Path.{refl}
 use native.Mathlib.Omega.{arith}
 use borrow.Author.Needs.{needs}

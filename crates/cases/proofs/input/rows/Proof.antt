@@ -1,5 +1,4 @@
 -- `cases::input::rows` answers no more than the cells are.
--- Assumes nothing.
 use native.Mathlib.Omega.{arith}
 use borrow.Author.Needs.{needs}
 use Rattle.cases.proofs.Counted.{counted}

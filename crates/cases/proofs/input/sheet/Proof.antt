@@ -1,5 +1,4 @@
 -- `cases::input::sheet` answers no more than the sheet has.
--- Assumes nothing.
 use native.Mathlib.Omega.{arith}
 use borrow.Author.Needs.{needs}
 use Rattle.cases.proofs.Counted.{counted}

@@ -1,5 +1,4 @@
 -- `cases::input::within` answers no more than the sheet has.
--- Assumes nothing.
 use mathlib.Core.Path.{refl}
 use native.Mathlib.Omega.{arith}
 use borrow.Author.Needs.{needs}

@@ -1,5 +1,4 @@
 -- `cases::lines::fresh_rows` answers at most 256: a good table has no more methods.
--- Assumes nothing.
 use mathlib.Core.Path.{sym, _∙_}
 use native.Mathlib.Omega.{arith}
 use denote.Ref.{now}

@@ -1,5 +1,4 @@
 -- `cases::lines::run_events` is safe and ends: the rows keep their number, and the measure is the number of events that are left.
--- Assumes nothing.
 use mathlib.Core.Path.{_≡_, refl}
 use native.Mathlib.Omega.{arith}
 use borrow.Author.Needs.{needs}

@@ -1,5 +1,4 @@
 -- `cases::sums::of_bytes` is safe and ends: the measure is what is left of the bytes.
--- Assumes nothing.
 use Prim.Native.Nat.{_-_}
 use native.Mathlib.Omega.{arith}
 use lib.ListN.{length}

@@ -1,5 +1,4 @@
 -- `cases::sums::of_calls` is safe and ends: the measure is the number of records that are left.
--- Assumes nothing.
 use Prim.Native.Nat.{_-_}
 use native.Mathlib.Omega.{arith}
 use Rattle.cases.proofs.sums.of_calls.Statement.{statement}

@@ -1,5 +1,4 @@
 -- `cases::values::bits64` is safe: a float that equals itself is no NaN.
--- Assumes nothing.
 use borrow.Author.Needs.{needs}
 use Rattle.cases.proofs.Floats.{equal-number}
 use Rattle.cases.proofs.values.bits64.Statement.{statement}

@@ -1,5 +1,4 @@
 -- `cases::values::unsigned` is safe. A signed local holds bits: `toZ` reads them, and `ofZ` writes them.
--- Assumes nothing.
 use mathlib.Core.Path.{_≡_}
 use mathlib.Core.Bool.{true, false}
 use Prim.Native.Nat.{ℕ, _^_, _<_}

@@ -1,5 +1,4 @@
 -- `cursor::Reader::left` meets its contract: a walk of its MIR, by hand. The reader is taken apart, and `left_from` is called on the payload and the position. All that the proof knows of `left_from` is that it meets its contract.
--- Assumes nothing.
 use mathlib.Core.Path.{_≡_, refl}
 use Prim.Native.Nat.{ℕ, _-_}
 use mathlib.Core.List.{[], _∷_}

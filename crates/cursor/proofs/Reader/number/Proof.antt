@@ -2,7 +2,6 @@
 -- The borrow is opened, which gives the reader's cell and what the reader owns; `number_at` is called on the payload and the position, and on the width that was passed;
 -- the place that it returned is stored in the cell; and the borrow is shut at the reader that has moved.
 -- All that the proof knows of `number_at` is that it meets its contract.
--- Assumes nothing.
 use mathlib.Core.Path.{_≡_, refl, ap}
 use Prim.Native.Nat.{ℕ}
 use mathlib.Core.List.{List, [], _∷_}

@@ -1,7 +1,6 @@
 -- `cursor::Reader::varuint` meets its contract: a walk of its MIR, by hand.
 -- The borrow is opened, which gives the reader's cell and what the reader owns; `varuint_at` is called on the payload and the position; the place that it returned is stored in the cell; and the borrow is shut at the reader that has moved.
 -- All that the proof knows of `varuint_at` is that it meets its contract.
--- Assumes nothing.
 use mathlib.Core.Path.{_≡_, refl, ap}
 use Prim.Native.Nat.{ℕ}
 use mathlib.Core.List.{List, [], _∷_}

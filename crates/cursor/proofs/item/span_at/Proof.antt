@@ -1,5 +1,4 @@
 -- `cursor::item::span_at` meets its contract.
--- Assumes nothing.
 use mathlib.Core.Path.{sym, ap}
 use native.Mathlib.Omega.{arith}
 use borrow.Author.Needs.{needs}

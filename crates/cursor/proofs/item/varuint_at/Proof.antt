@@ -1,5 +1,4 @@
 -- `cursor::item::varuint_at` meets its contract.
--- Assumes nothing.
 use mathlib.Core.Path.{sym, ap, _∙_}
 use borrow.Author.Needs.{needs}
 use Rattle.cursor.specs.Item.{numberStep}

@@ -1,5 +1,4 @@
 -- `exports::apart::distinct` meets its contract. The loop's invariant: the numbers from place i on differ, and their remainders are seen.
--- Assumes nothing.
 use mathlib.Core.Path.{refl, sym, _∙_}
 use mathlib.Core.Bool.{false}
 use native.Mathlib.Omega.{arith}

@@ -1,5 +1,4 @@
 -- `exports::apart::holds_where` meets its contract.
--- Assumes nothing.
 use borrow.Author.Needs.{needs}
 use Rattle.exports.proofs.apart.holds_where.Statement.{statement}
 use Rattle.exports.proofs.apart.holds_where.Tie as tie

@@ -1,4 +1,4 @@
--- `exports::cells::put` meets its contract. Assumes nothing.
+-- `exports::cells::put` meets its contract.
 use mathlib.Core.Path.{sym}
 use borrow.Author.Needs.{needs}
 use lib.Seq.{set-out}

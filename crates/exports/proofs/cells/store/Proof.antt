@@ -1,5 +1,4 @@
 -- `exports::cells::store` meets its contract: the values still to be stored give what all of them give.
--- Assumes nothing.
 use mathlib.Core.Path.{_≡_, refl, ap, _∙_}
 use Prim.Native.Nat.{_-_, _≤_}
 use native.Mathlib.Omega.{arith}

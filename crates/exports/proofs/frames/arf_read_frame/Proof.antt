@@ -1,4 +1,4 @@
--- `exports::frames::arf_read_frame` meets its contract. Assumes nothing.
+-- `exports::frames::arf_read_frame` meets its contract.
 use borrow.Author.Needs.{needs}
 use Rattle.frame.specs.Frame.{readNumber}
 use Rattle.exports.specs.Answers.{frameCells}

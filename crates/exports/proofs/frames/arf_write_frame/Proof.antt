@@ -1,4 +1,4 @@
--- `exports::frames::arf_write_frame` meets its contract. Assumes nothing.
+-- `exports::frames::arf_write_frame` meets its contract.
 use mathlib.Core.Path.{ap, _∙_}
 use mathlib.Core.List.{[], _∷_}
 use Prim.Native.Nat.{ℕ}

@@ -1,4 +1,4 @@
--- `exports::frames::frame_cells` meets its contract. Assumes nothing.
+-- `exports::frames::frame_cells` meets its contract.
 use mathlib.Core.Path.{sym, ap}
 use borrow.Author.Needs.{needs}
 use Rattle.exports.specs.Answers.{frameCells}

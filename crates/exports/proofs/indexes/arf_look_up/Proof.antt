@@ -1,4 +1,4 @@
--- `exports::indexes::arf_look_up` meets its contract. Assumes nothing.
+-- `exports::indexes::arf_look_up` meets its contract.
 use mathlib.Core.Path.{ap}
 use borrow.Author.Needs.{needs}
 use Rattle.index.specs.LookUp.{Outcome, findNumber}

@@ -1,4 +1,4 @@
--- `exports::indexes::arf_make_index` meets its contract. Assumes nothing.
+-- `exports::indexes::arf_make_index` meets its contract.
 use mathlib.Core.Path.{ap}
 use borrow.Author.Needs.{needs}
 use Rattle.index.specs.Index.{Outcome, indexNumber}

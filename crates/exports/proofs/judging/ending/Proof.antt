@@ -1,5 +1,4 @@
 -- `exports::judging::ending` meets its contract: the tests pick the case.
--- Assumes nothing.
 use Rattle.exports.proofs.judging.ending.Statement.{statement}
 use Rattle.exports.proofs.judging.ending.Tie as tie
 

@@ -1,5 +1,4 @@
 -- `exports::judging::judge` meets its contract: 8, then INVOKE or another kind.
--- Assumes nothing.
 use mathlib.Core.Path.{sym, _∙_}
 use borrow.Author.Tests.{not-true, not-false, eq-eqb, ne-eqb}
 use borrow.Author.Needs.{needs}

@@ -1,5 +1,4 @@
 -- `exports::judging::judge_opening` meets its contract: 10, then 13, then the lowest free slot.
--- Assumes nothing.
 use mathlib.Core.Path.{sym, _∙_}
 use borrow.Author.Needs.{needs}
 use Rattle.calls.specs.Slots.{ownOf, full}

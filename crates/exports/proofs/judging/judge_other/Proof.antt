@@ -1,5 +1,4 @@
 -- `exports::judging::judge_other` meets its contract: 11, or the judgement of the own call.
--- Assumes nothing.
 use mathlib.Core.Path.{sym, _∙_}
 use borrow.Author.Needs.{needs}
 use Rattle.calls.specs.Slots.{ownOf}

@@ -1,5 +1,4 @@
 -- `exports::judging::rise` meets its contract, case by case of the judgement.
--- Assumes nothing.
 use borrow.Author.Needs.{needs}
 use Rattle.calls.specs.Counting.{riseOf}
 use Rattle.exports.proofs.judging.rise.Statement.{statement}

@@ -1,4 +1,4 @@
--- `exports::payloads::arf_read` meets its contract. Assumes nothing.
+-- `exports::payloads::arf_read` meets its contract.
 use mathlib.Core.Path.{ap}
 use borrow.Author.Needs.{needs}
 use Rattle.reader.specs.Entry.{readingIn, sheetIn}

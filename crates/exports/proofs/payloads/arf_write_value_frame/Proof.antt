@@ -1,4 +1,4 @@
--- `exports::payloads::arf_write_value_frame` meets its contract. Assumes nothing.
+-- `exports::payloads::arf_write_value_frame` meets its contract.
 use mathlib.Core.Path.{ap}
 use borrow.Author.Needs.{needs}
 use Rattle.arf.specs.Numbers.{writeNumber}

@@ -1,5 +1,4 @@
 -- `exports::receive::arf_receive` meets its contract: the judgement, the record that it changes, and the numbers told.
--- Assumes nothing.
 use mathlib.Core.Path.{ap, _∙_}
 use denote.Ref.{now}
 use borrow.Author.Needs.{needs}

@@ -1,5 +1,4 @@
 -- `exports::receive::judge_cells` meets its contract: a plan settled with the row that it asks for, which is put back into its cells.
--- Assumes nothing.
 use mathlib.Core.Path.{sym, ap, _∙_}
 use denote.Ref.{now}
 use borrow.Author.Needs.{needs}

@@ -1,5 +1,4 @@
 -- `exports::receive::plan_for` meets its contract: by whether the cells are a call table.
--- Assumes nothing.
 use mathlib.Core.Path.{sym, subst}
 use denote.Ref.{now}
 use borrow.Author.Needs.{needs}

@@ -1,5 +1,4 @@
 -- `exports::receive::received_cells` meets its contract: each case of the reading is the one that was met.
--- Assumes nothing.
 use mathlib.Core.Path.{sym, ap}
 use mathlib.Core.List.{List, [], _∷_}
 use Prim.Native.Nat.{ℕ}

@@ -1,5 +1,4 @@
 -- `exports::receive::refuse` meets its contract, by the verdict on the schema.
--- Assumes nothing.
 use mathlib.Core.Path.{sym, _∙_}
 use borrow.Author.Needs.{needs}
 use Rattle.exports.proofs.receive.refuse.Statement.{statement}

@@ -1,5 +1,4 @@
 -- `exports::records::are_calls` meets its contract: the records still to be judged are plain exactly where all of them are.
--- Assumes nothing.
 use mathlib.Core.Path.{_≡_, refl, sym, _∙_}
 use Prim.Native.Nat.{_-_, _≤_}
 use native.Mathlib.Omega.{arith}

@@ -1,5 +1,4 @@
 -- `exports::records::are_good` meets its contract. The loop's invariant: the records passed are plain and good, and ids holds the correlations of the open ones.
--- Assumes nothing.
 use mathlib.Core.Path.{_≡_, refl, sym, _∙_}
 use mathlib.Core.Logic.{⊎-elim}
 use Prim.Native.Nat.{_≤_, _-_}

@@ -1,4 +1,4 @@
--- `exports::records::call_at` meets its contract. Assumes nothing.
+-- `exports::records::call_at` meets its contract.
 use mathlib.Core.Path.{_≡_, _∙_}
 use borrow.Author.Needs.{needs}
 use Rattle.exports.proofs.records.call_at.Statement.{statement}

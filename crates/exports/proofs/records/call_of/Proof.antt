@@ -1,4 +1,4 @@
--- `exports::records::call_of` meets its contract. Assumes nothing.
+-- `exports::records::call_of` meets its contract.
 use mathlib.Core.Path.{refl}
 use borrow.Author.Needs.{needs}
 use Rattle.exports.specs.Records.{callOf}

@@ -1,5 +1,4 @@
 -- `exports::records::free_slot` meets its contract: the records of a whole table stand in its first 384 cells.
--- Assumes nothing.
 use mathlib.Core.Path.{sym, ap, _∙_}
 use mathlib.Core.List.{List}
 use lib.Seq.{length-take-le}

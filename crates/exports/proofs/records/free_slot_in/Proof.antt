@@ -1,5 +1,4 @@
 -- `exports::records::free_slot_in` meets its contract. The loop's invariant: the first record that passes is the first of the rest.
--- Assumes nothing.
 use mathlib.Core.Path.{_≡_, refl, sym, ap, _∙_}
 use mathlib.Core.Bool.{not}
 use Prim.Native.Nat.{_≤_, _-_}

@@ -1,5 +1,4 @@
 -- `exports::records::is_call` meets its contract.
--- Assumes nothing.
 use mathlib.Core.Path.{_≡_, ap}
 use mathlib.Core.Bool.{_&&_}
 use Prim.Native.Nat.{ℕ}

@@ -1,5 +1,4 @@
 -- `exports::records::is_good` meets its contract: free, no more than open, or any other.
--- Assumes nothing.
 use mathlib.Core.Path.{_≡_, ap, _∙_}
 use mathlib.Core.Bool.{_&&_}
 use native.Mathlib.Omega.{arith}

@@ -1,5 +1,4 @@
 -- `exports::records::is_good_call` meets its contract, by whether the record is open.
--- Assumes nothing.
 use borrow.Author.Needs.{needs}
 use Rattle.calls.specs.Slots.{goodCall}
 use Rattle.exports.proofs.records.is_good_call.Statement.{statement}

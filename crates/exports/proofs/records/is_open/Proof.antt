@@ -1,5 +1,4 @@
 -- `exports::records::is_open` meets its contract.
--- Assumes nothing.
 use mathlib.Core.Path.{_≡_, ap}
 use mathlib.Core.Bool.{Bool}
 use Prim.Native.Nat.{ℕ, _%_}

@@ -1,5 +1,4 @@
 -- `exports::records::keep` meets its contract.
--- Assumes nothing.
 use mathlib.Core.Path.{sym, _∙_}
 use borrow.Author.Needs.{needs}
 use Rattle.exports.proofs.records.keep.Statement.{statement}

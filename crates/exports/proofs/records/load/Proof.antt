@@ -1,5 +1,4 @@
 -- `exports::records::load` meets its contract: the records still to be read give the table that all of them give.
--- Assumes nothing.
 use mathlib.Core.Path.{_≡_, refl, sym, ap, _∙_}
 use Prim.Native.Nat.{_-_, _≤_}
 use native.Mathlib.Omega.{arith}

@@ -1,4 +1,4 @@
--- `exports::records::marks_of` meets its contract: each mark counts as its own bit, and the elements stand above them. Assumes nothing.
+-- `exports::records::marks_of` meets its contract: each mark counts as its own bit, and the elements stand above them.
 use Prim.Native.Nat.{_+_, _*_}
 use borrow.Author.Needs.{needs}
 use Rattle.exports.proofs.records.marks_of.Statement.{statement}

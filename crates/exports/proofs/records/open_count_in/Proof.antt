@@ -1,5 +1,4 @@
 -- `exports::records::open_count_in` meets its contract. The loop's invariant: the count so far and that of the rest make the whole.
--- Assumes nothing.
 use mathlib.Core.Path.{_≡_, refl, sym, _∙_}
 use mathlib.Core.Logic.{⊎-elim}
 use Prim.Native.Nat.{_≤_, _-_, _+_}

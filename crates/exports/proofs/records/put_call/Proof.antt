@@ -1,4 +1,4 @@
--- `exports::records::put_call` meets its contract. Assumes nothing.
+-- `exports::records::put_call` meets its contract.
 use mathlib.Core.Path.{ap, _∙_}
 use mathlib.Core.List.{List, [], _∷_}
 use Prim.Native.Nat.{ℕ, _*_}

@@ -1,5 +1,4 @@
 -- `exports::records::put_slot` meets its contract, by whether there is such a slot.
--- Assumes nothing.
 use borrow.Author.Tests.{lt-ltb, le-ltb}
 use borrow.Author.Needs.{needs}
 use Rattle.exports.proofs.records.put_slot.Statement.{statement}

@@ -1,5 +1,4 @@
 -- `exports::records::slot_at` meets its contract: past the last slot the definition has the empty record too.
--- Assumes nothing.
 use mathlib.Core.Path.{sym, _∙_}
 use native.Mathlib.Omega.{arith}
 use lib.ListN.{List·getD-eq-default}

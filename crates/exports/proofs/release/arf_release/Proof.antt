@@ -1,4 +1,4 @@
--- `exports::release::arf_release` meets its contract. Assumes nothing.
+-- `exports::release::arf_release` meets its contract.
 use mathlib.Core.Path.{refl, ap, _∙_}
 use borrow.Author.Needs.{needs}
 use Rattle.line.specs.declared.Released.{Released}

@@ -1,5 +1,4 @@
 -- `exports::release::plan_for` meets its contract: by whether the cells are a call table.
--- Assumes nothing.
 use borrow.Author.Needs.{needs}
 use Rattle.exports.proofs.release.plan_for.Statement.{statement}
 use Rattle.exports.proofs.release.plan_for.Tie as tie

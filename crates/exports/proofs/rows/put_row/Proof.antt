@@ -1,5 +1,4 @@
 -- `exports::rows::put_row` meets its contract, cell after cell.
--- Assumes nothing.
 use native.Mathlib.Omega.{arith}
 use lib.ListN.{length-set}
 use borrow.Author.Needs.{needs}

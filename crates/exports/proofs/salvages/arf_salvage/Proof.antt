@@ -1,4 +1,4 @@
--- `exports::salvages::arf_salvage` meets its contract. Assumes nothing.
+-- `exports::salvages::arf_salvage` meets its contract.
 use mathlib.Core.Path.{ap}
 use borrow.Author.Needs.{needs}
 use Rattle.salvage.specs.Salvage.{Outcome, salvageNumber}

@@ -1,4 +1,4 @@
--- `exports::scalars::arf_scalar` meets its contract. Assumes nothing.
+-- `exports::scalars::arf_scalar` meets its contract.
 use borrow.Author.Needs.{needs}
 use Rattle.scalar.specs.Scalar.{numberOf}
 use Rattle.exports.specs.Answers.{scalarCells}

@@ -1,4 +1,4 @@
--- `exports::scalars::bits32` meets its contract, by the laws over the format. Assumes nothing.
+-- `exports::scalars::bits32` meets its contract, by the laws over the format.
 use lib.Ieee.{binary32}
 use Rattle.exports.proofs.Bits.{no-nan, bits-nan, bits-own}
 use Rattle.exports.proofs.scalars.bits32.Statement.{statement}

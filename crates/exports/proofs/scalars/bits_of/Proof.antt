@@ -1,5 +1,4 @@
 -- `exports::scalars::bits_of` meets its contract. A signed local holds bits: `toZ` reads them, and `ofZ` writes them.
--- Assumes nothing.
 use mathlib.Core.Path.{_≡_}
 use mathlib.Core.Bool.{true}
 use native.Mathlib.Omega.{arith}

@@ -1,5 +1,4 @@
 -- `exports::scalars::scalar_number` meets its contract: each case of the answer is the one that was met.
--- Assumes nothing.
 use mathlib.Core.Path.{sym, ap}
 use borrow.Author.Needs.{needs}
 use Rattle.scalar.specs.Scalar.{numberOf}

@@ -1,5 +1,4 @@
 -- `exports::settling::change_of` meets its contract, case by case of the judgement.
--- Assumes nothing.
 use mathlib.Core.Path.{sym, _∙_}
 use borrow.Author.Needs.{needs}
 use Rattle.exports.proofs.Plans.{changes-stop, changes-opens, changes-lost, changes-goes, changes-ends, changes-none}

@@ -1,5 +1,4 @@
 -- `exports::settling::open_after` meets its contract: the count before, with the new record's mark and without the old one's.
--- Assumes nothing.
 use mathlib.Core.Path.{_≡_}
 use Prim.Native.Nat.{_+_}
 use native.Mathlib.Omega.{arith}

@@ -1,5 +1,4 @@
 -- `exports::settling::settle` meets its contract: what is left to do picks the case.
--- Assumes nothing.
 use mathlib.Core.List.{[]}
 use Prim.Native.Nat.{_≤_}
 use native.Mathlib.Omega.{arith}

@@ -1,5 +1,4 @@
 -- `exports::settling::settle_frame` meets its contract: read and raised, whatever the call table.
--- Assumes nothing.
 use mathlib.Core.Path.{refl}
 use denote.Ref.{now}
 use Rattle.calls.specs.Step.{stepOf}

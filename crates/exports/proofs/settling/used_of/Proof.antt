@@ -1,5 +1,4 @@
 -- `exports::settling::used_of` meets its contract: the test picks the case.
--- Assumes nothing.
 use mathlib.Core.Path.{sym, _∙_}
 use borrow.Author.Needs.{needs}
 use Rattle.exports.proofs.settling.used_of.Statement.{statement}

@@ -1,4 +1,4 @@
--- `exports::table::arf_check_table` meets its contract. Assumes nothing.
+-- `exports::table::arf_check_table` meets its contract.
 use borrow.Author.Needs.{needs}
 use Rattle.arf.specs.Numbers.{checkNumber}
 use Rattle.exports.specs.Answers.{checkCells}

@@ -1,4 +1,4 @@
--- `exports::table::arf_extends` meets its contract. Assumes nothing.
+-- `exports::table::arf_extends` meets its contract.
 use borrow.Author.Needs.{needs}
 use Rattle.arf.specs.Numbers.{extendNumber}
 use Rattle.exports.specs.Answers.{extendCells}

@@ -1,5 +1,4 @@
 -- `exports::table::check_number` meets its contract: each case of the answer is the one that was met.
--- Assumes nothing.
 use mathlib.Core.Path.{sym, ap}
 use borrow.Author.Needs.{needs}
 use Rattle.arf.specs.Numbers.{checkNumber}

@@ -1,4 +1,4 @@
--- `index::judge::is_before` meets its contract. Assumes nothing.
+-- `index::judge::is_before` meets its contract.
 use borrow.Author.Needs.{needs}
 use denote.Ref.{now}
 use Rattle.index.proofs.Shapes.{before-read}

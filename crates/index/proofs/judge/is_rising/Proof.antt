@@ -1,5 +1,4 @@
 -- `index::judge::is_rising` meets its contract: what is left rises exactly where all rows do.
--- Assumes nothing.
 use mathlib.Core.Path.{_≡_, refl}
 use Prim.Native.Nat.{_+_, _*_, _-_, _≤_}
 use native.Mathlib.Omega.{arith}

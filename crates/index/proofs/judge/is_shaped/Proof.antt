@@ -1,4 +1,4 @@
--- `index::judge::is_shaped` meets its contract. Assumes nothing.
+-- `index::judge::is_shaped` meets its contract.
 use native.Mathlib.Omega.{arith}
 use borrow.Author.Needs.{needs}
 use denote.Ref.{now}

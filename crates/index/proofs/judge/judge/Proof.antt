@@ -1,4 +1,4 @@
--- `index::judge::judge` meets its contract: the tests in their order. Assumes nothing.
+-- `index::judge::judge` meets its contract: the tests in their order.
 use mathlib.Core.Path.{_≡_, sym, _∙_}
 use mathlib.Core.Bool.{true}
 use Prim.Native.Nat.{_≤_}

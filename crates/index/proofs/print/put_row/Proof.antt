@@ -1,4 +1,4 @@
--- `index::print::put_row` meets its contract, word by word. Assumes nothing.
+-- `index::print::put_row` meets its contract, word by word.
 use native.Mathlib.Omega.{arith}
 use borrow.Author.Needs.{needs}
 use denote.Ref.{now}

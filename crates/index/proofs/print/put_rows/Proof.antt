@@ -1,5 +1,4 @@
 -- `index::print::put_rows` meets its contract: what is left of the rows gives the same end as all of them.
--- Assumes nothing.
 use mathlib.Core.Path.{_≡_, refl, _∙_}
 use mathlib.Core.Logic.{⊎-elim}
 use Prim.Native.Nat.{_+_, _*_, _-_, _≤_}

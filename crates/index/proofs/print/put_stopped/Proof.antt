@@ -1,4 +1,4 @@
--- `index::print::put_stopped` meets its contract, word by word. Assumes nothing.
+-- `index::print::put_stopped` meets its contract, word by word.
 use borrow.Author.Needs.{needs}
 use Rattle.index.proofs.Prints.{added-stopped}
 use Rattle.index.proofs.print.put_stopped.Statement.{statement}

@@ -1,4 +1,4 @@
--- `index::print::put_text` meets its contract: the heading, the rows, the last line. Assumes nothing.
+-- `index::print::put_text` meets its contract: the heading, the rows, the last line.
 use borrow.Author.Needs.{needs}
 use Rattle.index.proofs.Prints.{added-text}
 use Rattle.index.proofs.print.put_text.Statement.{statement}

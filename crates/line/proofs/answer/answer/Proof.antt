@@ -1,5 +1,4 @@
 -- `line::answer::answer` meets its contract: the step gives number and table, the reading place, rows and tail.
--- Assumes nothing.
 use borrow.Author.Needs.{needs}
 use Rattle.line.proofs.answer.answer.Statement.{statement}
 use Rattle.line.proofs.answer.answer.Tie as tie

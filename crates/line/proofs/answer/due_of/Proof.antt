@@ -1,5 +1,4 @@
 -- `line::answer::due_of` meets its contract: each case hands on what the payload holds.
--- Assumes nothing.
 use borrow.Author.Needs.{needs}
 use Rattle.line.proofs.answer.due_of.Statement.{statement}
 use Rattle.line.proofs.answer.due_of.Tie as tie

@@ -1,5 +1,4 @@
 -- `line::answer::number_of` meets its contract: each case of the answer is the one that was met.
--- Assumes nothing.
 use mathlib.Core.Path.{sym, ap}
 use borrow.Author.Needs.{needs}
 use Rattle.reader.specs.declared.Reading.{Reading}

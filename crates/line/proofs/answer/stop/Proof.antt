@@ -1,5 +1,4 @@
 -- `line::answer::stop` meets its contract: the open calls are counted.
--- Assumes nothing.
 use Rattle.line.specs.Answer.{stopped}
 use borrow.Author.Needs.{needs}
 use Rattle.line.proofs.answer.stop.Statement.{statement}

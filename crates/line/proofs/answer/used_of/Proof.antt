@@ -1,5 +1,4 @@
 -- `line::answer::used_of` meets its contract: the test picks the case.
--- Assumes nothing.
 use mathlib.Core.Path.{sym, _∙_}
 use borrow.Author.Needs.{needs}
 use Rattle.line.proofs.answer.used_of.Statement.{statement}

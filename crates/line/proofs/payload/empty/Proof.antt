@@ -1,5 +1,4 @@
 -- `line::payload::empty` meets its contract: the test picks the case.
--- Assumes nothing.
 use borrow.Author.Tests.{eq-eqb, ne-eqb}
 use borrow.Author.Needs.{needs}
 use Rattle.line.proofs.payload.empty.Statement.{statement}

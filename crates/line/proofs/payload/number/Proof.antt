@@ -1,5 +1,4 @@
 -- `line::payload::number` meets its contract: what the payload holds picks the case.
--- Assumes nothing.
 use borrow.Author.Tests.{eq-eqb, ne-eqb}
 use Rattle.line.specs.Answer.{payloadRead}
 use borrow.Author.Needs.{needs}

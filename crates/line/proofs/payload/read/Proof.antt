@@ -1,5 +1,4 @@
 -- `line::payload::read` meets its contract: what the payload holds picks the case.
--- Assumes nothing.
 use Rattle.line.specs.Answer.{payloadRead}
 use borrow.Author.Needs.{needs}
 use Rattle.line.proofs.payload.read.Statement.{statement}

@@ -1,5 +1,4 @@
 -- `line::payload::read_counted` meets its contract: only where a figure in question is full the payload is judged first.
--- Assumes nothing.
 use mathlib.Core.Path.{_≡_, sym, _∙_, ap}
 use mathlib.Core.Bool.{true, false, _||_}
 use denote.Ref.{now}

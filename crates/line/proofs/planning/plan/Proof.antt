@@ -1,5 +1,4 @@
 -- `line::planning::plan` meets its contract: the verdicts on the two tables and the number of rows pick the case.
--- Assumes nothing.
 use mathlib.Core.Path.{sym, _∙_}
 use denote.Ref.{now}
 use borrow.Author.Needs.{needs}

@@ -1,5 +1,4 @@
 -- `line::planning::plan_bytes` meets its contract: what the frame reader answers picks the case. A frame that was read lies in the bytes.
--- Assumes nothing.
 use mathlib.Core.Path.{sym, _∙_}
 use native.Mathlib.Omega.{arith}
 use denote.Ref.{now}

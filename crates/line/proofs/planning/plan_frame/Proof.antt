@@ -1,5 +1,4 @@
 -- `line::planning::plan_frame` meets its contract: judged, and what it raises.
--- Assumes nothing.
 use denote.Ref.{now}
 use Rattle.schema.specs.File.{tableOf}
 use Rattle.line.proofs.Returns.{judged-frame}

@@ -1,5 +1,4 @@
 -- `line::planning::plan_fresh` meets its contract: the verdicts on the two tables pick the case.
--- Assumes nothing.
 use mathlib.Core.Path.{refl, sym, _∙_}
 use lib.ListN.{length}
 use denote.Ref.{now}

@@ -1,7 +1,6 @@
 -- `line::receive::receive` meets its contract: a walk of its MIR, by hand. Of the functions that it calls it knows only that each meets its contract. The
 -- schema and the bytes are lent twice, to plan and to settle; the sheet goes to the one that settles. Where the plan's row is within the rows the borrow is
 -- opened, the row is taken out, read and stored, and the borrow is closed at the list with the new row in it.
--- Assumes nothing.
 use types.Kit.{group, use0, Item, mean}
 use contract.Monad.{fact, factI}
 use denote.Signature.{shrSliceOf}

@@ -1,5 +1,4 @@
 -- `line::release::release` meets its contract: a walk of its MIR, by hand, as that of `receive`.
--- Assumes nothing.
 use types.Kit.{group, Item, mean}
 use denote.Signature.{shrSliceOf}
 use denote.Slice.{ShrSlice, shr-slice-tells}

@@ -1,5 +1,4 @@
 -- `line::settling::counted` meets its contract: the test picks the case.
--- Assumes nothing.
 use mathlib.Core.Path.{sym, _∙_, ap}
 use Rattle.calls.specs.Counting.{fullAt}
 use borrow.Author.Needs.{needs}

@@ -1,5 +1,4 @@
 -- `line::settling::missed_release` meets its contract: the plan is settled with a row of noughts.
--- Assumes nothing.
 use mathlib.Core.Path.{ap}
 use Rattle.line.specs.declared.SettledRelease.{SettledRelease}
 use borrow.Author.Needs.{needs}

@@ -1,5 +1,4 @@
 -- `line::settling::settle` meets its contract: what is left to do picks the case.
--- Assumes nothing.
 use Prim.Native.Nat.{_≤_}
 use native.Mathlib.Omega.{arith}
 use lib.ListN.{length}

@@ -1,5 +1,4 @@
 -- `line::settling::settle_frame` meets its contract: read, raised, answered.
--- Assumes nothing.
 use denote.Ref.{now}
 use Rattle.line.specs.Answer.{payloadRead}
 use Rattle.line.proofs.Returns.{reading-room, frame-settled}

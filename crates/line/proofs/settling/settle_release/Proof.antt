@@ -1,5 +1,4 @@
 -- `line::settling::settle_release` meets its contract: what is left to do picks the case.
--- Assumes nothing.
 use mathlib.Core.Path.{_∙_, ap}
 use Rattle.calls.specs.Counting.{figureBy, fullAt}
 use Rattle.line.proofs.Returns.{counted-room, release-stop, release-told}

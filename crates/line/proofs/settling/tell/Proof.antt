@@ -1,5 +1,4 @@
 -- `line::settling::tell` meets its contract: the open calls are counted.
--- Assumes nothing.
 use borrow.Author.Needs.{needs}
 use Rattle.line.specs.Release.{releaseAnswer}
 use Rattle.line.proofs.settling.tell.Statement.{statement}

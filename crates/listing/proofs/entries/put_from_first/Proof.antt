@@ -1,5 +1,5 @@
 -- `listing::entries::put_from_first` meets its contract: what is left of the entries gives the same end as all of them. A line takes at most 149 bytes
--- and its entry at least 27, so the place stays small. Assumes nothing.
+-- and its entry at least 27, so the place stays small.
 use mathlib.Core.Path.{_≡_, refl, sym, _∙_}
 use Prim.Native.Nat.{_+_, _*_, _-_, _≤_}
 use native.Mathlib.Omega.{arith}

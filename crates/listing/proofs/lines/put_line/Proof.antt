@@ -1,5 +1,4 @@
 -- `listing::lines::put_line` meets its contract, word by word.
--- Assumes nothing.
 use native.Mathlib.Omega.{arith}
 use Rattle.listing.proofs.Texts.{added-line}
 use borrow.Author.Needs.{needs}

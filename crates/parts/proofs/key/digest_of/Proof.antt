@@ -1,5 +1,4 @@
 -- `parts::key::digest_of` meets its contract. The invariant: the digest of the words passed.
--- Assumes nothing.
 use borrow.Author.Needs.{needs}
 use mathlib.Core.Path.{_≡_, sym, _∙_}
 use mathlib.Core.Bool.{false≢true}

@@ -1,5 +1,4 @@
 -- `parts::key::has_digest` meets its contract. The invariant: what was found among the digests looked at.
--- Assumes nothing.
 use borrow.Author.Needs.{needs}
 use mathlib.Core.Path.{_≡_, _∙_}
 use Prim.Native.Nat.{_-_, _≤_}

@@ -1,5 +1,4 @@
 -- `parts::key::is_among` meets its contract. The invariant: the keys not yet looked at decide.
--- Assumes nothing.
 use borrow.Author.Needs.{needs}
 use mathlib.Core.Path.{_≡_, refl, sym, subst, _∙_}
 use mathlib.Core.Bool.{Bool, false}

@@ -1,5 +1,4 @@
 -- `parts::key::is_repeated` meets its contract: a digest above the largest is new, and any other is looked for.
--- Assumes nothing.
 use borrow.Author.Needs.{needs}
 use mathlib.Core.Path.{_≡_, sym, ap, subst, _∙_}
 use mathlib.Core.Bool.{true}

@@ -1,5 +1,4 @@
 -- `parts::key::is_same` meets its contract. The invariant: what is left of the two spans decides.
--- Assumes nothing.
 use borrow.Author.Needs.{needs}
 use mathlib.Core.Path.{_≡_}
 use Prim.Native.Nat.{_+_, _-_, _≤_}

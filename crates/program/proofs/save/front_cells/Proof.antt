@@ -1,4 +1,4 @@
--- `program::save::front_cells` answers no more than the list has. Assumes nothing.
+-- `program::save::front_cells` answers no more than the list has.
 use native.Mathlib.Omega.{arith}
 use borrow.Author.Needs.{needs}
 use Rattle.io.proofs.Counting.{counts}

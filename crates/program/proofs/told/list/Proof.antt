@@ -1,5 +1,4 @@
 -- `program::told::list` is safe and ends: the measure is what is left of the spans.
--- Assumes nothing.
 use Prim.Native.Nat.{_-_, _/_}
 use native.Mathlib.Omega.{arith}
 use lib.ListN.{length}

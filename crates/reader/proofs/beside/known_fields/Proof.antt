@@ -1,5 +1,4 @@
 -- `reader::beside::known_fields` meets its contract. The invariant: the numbers of the types before i are there.
--- Assumes nothing.
 use borrow.Author.Needs.{needs}
 use mathlib.Core.Path.{_≡_, refl, _∙_}
 use Prim.Native.Nat.{_-_, _≤_}

@@ -1,5 +1,4 @@
 -- `reader::beside::read_beside` meets its contract.
--- Assumes nothing.
 use mathlib.Core.Path.{sym, _∙_}
 use borrow.Author.Tests.{not-true, not-false}
 use Rattle.reader.proofs.Entries.{beside-ours, beside-theirs, beside-other, beside-good}

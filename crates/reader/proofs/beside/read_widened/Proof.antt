@@ -1,5 +1,4 @@
 -- `reader::beside::read_widened` meets its contract.
--- Assumes nothing.
 use mathlib.Core.Path.{_∙_}
 use Rattle.reader.proofs.Besides.{beside-type, beside-shown}
 use borrow.Author.Needs.{needs}

@@ -1,5 +1,4 @@
 -- `reader::flat::are_leaves` meets its contract. The invariant: the fields before i are scalars, strings or bytes.
--- Assumes nothing.
 use borrow.Author.Needs.{needs}
 use mathlib.Core.Bool.{false≢true}
 use Prim.Native.Nat.{_+_, _-_, _≤_}

@@ -1,5 +1,4 @@
 -- `reader::flat::bit_of` meets its contract.
--- Assumes nothing.
 use native.Mathlib.Omega.{arith}
 use borrow.Author.Tests.{eq-eqb, ne-eqb}
 use Rattle.reader.proofs.flat.bit_of.Statement.{statement}

@@ -1,5 +1,4 @@
 -- `reader::flat::element` meets its contract.
--- Assumes nothing.
 use borrow.Author.Needs.{needs}
 use Prim.Native.Nat.{suc}
 use native.Mathlib.Omega.{arith}

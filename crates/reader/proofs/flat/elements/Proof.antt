@@ -1,5 +1,4 @@
 -- `reader::flat::elements` meets its contract. The invariant: what is left of the elements gives the same end, whatever is shown.
--- Assumes nothing.
 use borrow.Author.Needs.{needs}
 use mathlib.Core.Path.{_≡_, refl, sym, ap, _∙_}
 use mathlib.Core.Bool.{false}

@@ -1,5 +1,4 @@
 -- `reader::flat::flat_struct` meets its contract. The invariant: what is left of the fields gives the same end, whatever is known.
--- Assumes nothing.
 use borrow.Author.Needs.{needs}
 use mathlib.Core.Path.{_≡_, sym, _∙_}
 use Prim.Native.Nat.{_+_, _-_, _<_}

@@ -1,5 +1,4 @@
 -- `reader::flat::is_flat` meets its contract.
--- Assumes nothing.
 use borrow.Author.Needs.{needs}
 use mathlib.Core.Bool.{false≢true}
 use Prim.Native.Nat.{_<_}

@@ -1,5 +1,4 @@
 -- `reader::flat::leaves` meets its contract. The invariant: what is left of the elements gives the same end, whatever is shown.
--- Assumes nothing.
 use borrow.Author.Needs.{needs}
 use mathlib.Core.Path.{_≡_, refl, sym, _∙_}
 use mathlib.Core.List.{[]}

@@ -1,5 +1,4 @@
 -- `reader::flat::prepared_of` meets its contract.
--- Assumes nothing.
 use borrow.Author.Needs.{needs}
 use mathlib.Core.Path.{refl}
 use Rattle.schema.proofs.Checks.{good-shaped, good-laid}

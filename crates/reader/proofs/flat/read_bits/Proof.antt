@@ -1,5 +1,4 @@
 -- `reader::flat::read_bits` meets its contract.
--- Assumes nothing.
 use borrow.Author.Needs.{needs}
 use mathlib.Core.Path.{sym, _∙_}
 use Prim.Native.Nat.{_+_, _/_}

@@ -1,5 +1,4 @@
 -- `reader::flat::required_of` meets its contract. The invariant: the bits of the fields from i on.
--- Assumes nothing.
 use mathlib.Core.Path.{_≡_}
 use Prim.Native.Nat.{suc, _+_, _-_, _^_, _≤_, _<_}
 use native.Mathlib.Omega.{arith}

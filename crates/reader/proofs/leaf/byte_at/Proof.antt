@@ -1,5 +1,4 @@
 -- `reader::leaf::byte_at` meets its contract.
--- Assumes nothing.
 use borrow.Author.Needs.{needs}
 use native.Mathlib.Omega.{arith}
 use Rattle.reader.proofs.leaf.byte_at.Statement.{statement}

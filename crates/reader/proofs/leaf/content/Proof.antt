@@ -1,5 +1,4 @@
 -- `reader::leaf::content` meets its contract.
--- Assumes nothing.
 use borrow.Author.Needs.{needs}
 use Rattle.parts.proofs.Tables.{leaf-scalar, leaf-text}
 use Rattle.reader.proofs.leaf.content.Statement.{statement}

@@ -1,5 +1,4 @@
 -- `reader::leaf::map_count` meets its contract: a single byte up to 64 is a count, and any other is read as counts are.
--- Assumes nothing.
 use mathlib.Core.Path.{sym}
 use Prim.Native.Nat.{_+_, _-_, _*_, _≤_}
 use native.Mathlib.Omega.{arith}

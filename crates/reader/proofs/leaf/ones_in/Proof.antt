@@ -1,5 +1,4 @@
 -- `reader::leaf::ones_in` meets its contract.
--- Assumes nothing.
 use mathlib.Core.Path.{refl}
 use native.Mathlib.Omega.{arith}
 use lib.Count.{ones-le}

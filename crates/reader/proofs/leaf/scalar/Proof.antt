@@ -1,5 +1,4 @@
 -- `reader::leaf::scalar` meets its contract.
--- Assumes nothing.
 use mathlib.Core.Logic.{⊎-elim}
 use Prim.Native.Nat.{_+_, _≤_}
 use native.Mathlib.Omega.{arith}

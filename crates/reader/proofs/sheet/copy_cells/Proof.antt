@@ -1,5 +1,4 @@
 -- `reader::sheet::copy_cells` meets its contract: so far the first i cells are copied.
--- Assumes nothing.
 use mathlib.Core.Path.{_≡_, refl, sym, ap, _∙_}
 use Prim.Native.Nat.{ℕ, suc, _+_, _-_, _≤_}
 use native.Mathlib.Omega.{arith}

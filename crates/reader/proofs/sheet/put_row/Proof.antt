@@ -1,5 +1,4 @@
 -- `reader::sheet::put_row` meets its contract.
--- Assumes nothing.
 use mathlib.Core.Path.{sym}
 use native.Mathlib.Omega.{arith}
 use lib.ListN.{length-set}

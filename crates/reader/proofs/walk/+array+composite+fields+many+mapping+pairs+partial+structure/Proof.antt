@@ -1,6 +1,5 @@
 -- The proof of the cycle of walkers. A composite is given the depth of what it holds, so the measure is four times the depth, one more for the fields or pairs
 -- of a composite, two more for a struct's first fields and for many pairs, three more for an array, a map or a struct, and four more for the choice between them.
--- Assumes nothing.
 use borrow.Author.Needs.{needs}
 use mathlib.Core.Path.{_≡_, refl, sym, ap, _∙_}
 use mathlib.Core.Logic.{⊎-elim}

@@ -1,5 +1,4 @@
 -- `reader::walk::root` meets its contract: the fields are those of an inner struct, at depth 2.
--- Assumes nothing.
 use mathlib.Core.Logic.{⊎-elim}
 use native.Mathlib.Omega.{arith}
 use Rattle.schema.specs.Table.{shape}

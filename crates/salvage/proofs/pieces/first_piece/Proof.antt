@@ -1,4 +1,4 @@
--- `salvage::pieces::first_piece` meets its contract. Assumes nothing.
+-- `salvage::pieces::first_piece` meets its contract.
 use borrow.Author.Needs.{needs}
 use denote.Ref.{now}
 use Rattle.salvage.proofs.Turns.{piece-skipped, piece-kept}

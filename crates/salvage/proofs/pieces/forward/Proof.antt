@@ -1,5 +1,4 @@
 -- `salvage::pieces::forward` meets its contract: what is left is as far as it is from the start, less what was passed.
--- Assumes nothing.
 use mathlib.Core.Path.{_≡_}
 use Prim.Native.Nat.{_+_, _-_, _≤_}
 use native.Mathlib.Omega.{arith}

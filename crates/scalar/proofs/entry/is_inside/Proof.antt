@@ -1,4 +1,4 @@
--- `scalar::entry::is_inside` meets its contract: the same test. Assumes nothing.
+-- `scalar::entry::is_inside` meets its contract: the same test.
 use mathlib.Core.Path.{refl}
 use borrow.Author.Needs.{needs}
 use Rattle.scalar.proofs.entry.is_inside.Statement.{statement}

@@ -1,5 +1,4 @@
 -- `scalar::entry::scalar` meets its contract: the table's verdict decides.
--- Assumes nothing.
 use mathlib.Core.Path.{sym, _∙_}
 use Rattle.schema.specs.Check.{IsGood}
 use Rattle.scalar.proofs.Answers.{by-refused, by-good}

@@ -1,5 +1,4 @@
 -- `scalar::entry::scalar_of` meets its contract, by the kind of the row's type.
--- Assumes nothing.
 use mathlib.Core.Path.{_≡_, sym, ap, _∙_}
 use Prim.Native.Nat.{_<_}
 use Rattle.schema.specs.declared.TypeRow.{TypeRow}

@@ -1,5 +1,4 @@
 -- `scalar::entry::text_at` meets its contract, by the tests that led to each answer.
--- Assumes nothing.
 use mathlib.Core.Bool.{true}
 use mathlib.Core.Path.{_≡_, sym, ap, _∙_}
 use native.Mathlib.Omega.{arith}

@@ -1,5 +1,4 @@
 -- `scalar::float::float32` meets its contract, by the laws over the format.
--- Assumes nothing.
 use mathlib.Core.Path.{sym, _∙_}
 use lib.Ieee.{binary32}
 use Rattle.scalar.proofs.Floats.{at-nan, no-nan, zero-by-zero}

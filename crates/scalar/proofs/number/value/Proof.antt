@@ -1,5 +1,4 @@
 -- `scalar::number::value` meets its contract, by the tests that led to each answer.
--- Assumes nothing.
 use mathlib.Core.Path.{_≡_, sym, ap, ap₂, subst, _∙_}
 use mathlib.Core.List.{List}
 use Prim.Native.Nat.{ℕ, _+_, _-_, _*_, _^_, _<_, _≤_}

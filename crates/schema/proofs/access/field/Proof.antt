@@ -1,4 +1,4 @@
--- `schema::access::field` meets its contract: a good file has the shape. Assumes nothing.
+-- `schema::access::field` meets its contract: a good file has the shape.
 use borrow.Author.Needs.{needs}
 use Rattle.schema.proofs.Checks.{good-shaped, good-laid}
 use Rattle.schema.proofs.access.field.Statement.{statement}

@@ -1,4 +1,4 @@
--- `schema::access::find_method` meets its contract: it looks among all methods of the table. Assumes nothing.
+-- `schema::access::find_method` meets its contract: it looks among all methods of the table.
 use mathlib.Core.Path.{ap, _∙_}
 use Prim.Native.Nat.{ℕ}
 use native.Mathlib.Nat.{le-refl}

@@ -1,5 +1,4 @@
 -- `schema::access::known_row` meets its contract: a row past the last has the kind 0, so this one is there.
--- Assumes nothing.
 use mathlib.Core.Path.{_≡_, refl, ap, _∙_}
 use Prim.Native.Nat.{ℕ, _≤_, _<_}
 use native.Mathlib.Omega.{arith}

@@ -1,4 +1,4 @@
--- `schema::access::method_count` meets its contract: a good file has the shape. Assumes nothing.
+-- `schema::access::method_count` meets its contract: a good file has the shape.
 use Rattle.schema.proofs.Checks.{good-shaped, good-laid}
 use Rattle.schema.proofs.Files.{laid-methods}
 use Rattle.schema.proofs.access.method_count.Statement.{statement}

@@ -1,4 +1,4 @@
--- `schema::access::type_count` meets its contract: a good file has the shape. Assumes nothing.
+-- `schema::access::type_count` meets its contract: a good file has the shape.
 use Rattle.schema.proofs.Checks.{good-shaped, good-laid}
 use Rattle.schema.proofs.Files.{laid-types}
 use Rattle.schema.proofs.access.type_count.Statement.{statement}

@@ -1,4 +1,4 @@
--- `schema::access::type_row` meets its contract: a good file has the shape. Assumes nothing.
+-- `schema::access::type_row` meets its contract: a good file has the shape.
 use borrow.Author.Needs.{needs}
 use Rattle.schema.proofs.Checks.{good-shaped, good-laid}
 use Rattle.schema.proofs.access.type_row.Statement.{statement}

@@ -1,5 +1,4 @@
 -- `schema::check::bad_of_few` meets its contract. The invariant: what is left gives the same answer.
--- Assumes nothing.
 use mathlib.Core.Path.{_≡_, _∙_}
 use Prim.Native.Nat.{_≤_, _-_}
 use native.Mathlib.Nat.{sub-zero, le-of-lt}

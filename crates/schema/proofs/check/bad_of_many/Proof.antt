@@ -1,5 +1,4 @@
 -- `schema::check::bad_of_many` meets its contract. The invariant: what is left gives the same answer, and the flags of the methods before are set.
--- Assumes nothing.
 use mathlib.Core.Path.{_≡_, refl, _∙_}
 use mathlib.Core.Bool.{false, _&&_}
 use Prim.Native.Nat.{_≤_, _-_}

@@ -1,4 +1,4 @@
--- `schema::check::check` meets its contract. Assumes nothing.
+-- `schema::check::check` meets its contract.
 use mathlib.Core.Path.{_≡_, sym, _∙_}
 use mathlib.Core.Bool.{true}
 use borrow.Author.Needs.{needs}

@@ -1,4 +1,4 @@
--- `schema::check::check_rows` meets its contract: each return is the verdict from what was found. Assumes nothing.
+-- `schema::check::check_rows` meets its contract: each return is the verdict from what was found.
 use mathlib.Core.Path.{_≡_, sym, _∙_}
 use mathlib.Core.Bool.{true}
 use borrow.Author.Needs.{needs}

@@ -1,4 +1,4 @@
--- `schema::check::field_is_good` meets its contract. Assumes nothing.
+-- `schema::check::field_is_good` meets its contract.
 use borrow.Author.Needs.{needs}
 use Rattle.schema.proofs.Checks.{field-judged}
 use Rattle.schema.proofs.check.field_is_good.Statement.{statement}

@@ -1,4 +1,4 @@
--- `schema::check::flag_of` meets its contract. Assumes nothing.
+-- `schema::check::flag_of` meets its contract.
 use mathlib.Core.Path.{refl}
 use borrow.Author.Needs.{needs}
 use Rattle.schema.specs.Flags.{flagOf}

@@ -1,4 +1,4 @@
--- `schema::check::is_formed` meets its contract: a letter for each type. Assumes nothing.
+-- `schema::check::is_formed` meets its contract: a letter for each type.
 use mathlib.Core.Bool.{_&&_}
 use lib.Dec.{leb}
 use borrow.Author.Needs.{needs}

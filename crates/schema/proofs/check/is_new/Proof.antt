@@ -1,4 +1,4 @@
--- `schema::check::is_new` meets its contract. Assumes nothing.
+-- `schema::check::is_new` meets its contract.
 use mathlib.Core.Path.{sym}
 use borrow.Author.Needs.{needs}
 use Rattle.schema.proofs.check.is_new.Statement.{statement}

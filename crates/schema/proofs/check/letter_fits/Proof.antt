@@ -1,4 +1,4 @@
--- `schema::check::letter_fits` meets its contract. Assumes nothing.
+-- `schema::check::letter_fits` meets its contract.
 use borrow.Author.Needs.{needs}
 use Rattle.schema.specs.File.{tableOf}
 use Rattle.schema.proofs.Checks.{letter-yes, letter-no}

@@ -1,4 +1,4 @@
--- `schema::check::method_is_good` meets its contract. Assumes nothing.
+-- `schema::check::method_is_good` meets its contract.
 use mathlib.Core.Path.{_∙_}
 use mathlib.Core.Bool.{_&&_}
 use borrow.Author.Needs.{needs}

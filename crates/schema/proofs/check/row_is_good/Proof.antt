@@ -1,4 +1,4 @@
--- `schema::check::row_is_good` meets its contract: the tests, where the rows read are the table's. Assumes nothing.
+-- `schema::check::row_is_good` meets its contract: the tests, where the rows read are the table's.
 use mathlib.Core.Path.{_∙_}
 use mathlib.Core.Bool.{_||_}
 use borrow.Author.Needs.{needs}

@@ -1,4 +1,4 @@
--- `schema::extension::extends` meets its contract: the two verdicts, then the test. Assumes nothing.
+-- `schema::extension::extends` meets its contract: the two verdicts, then the test.
 use mathlib.Core.Path.{sym, _∙_}
 use borrow.Author.Needs.{needs}
 use Rattle.schema.specs.Check.{IsGood}

@@ -1,4 +1,4 @@
--- `schema::extension::is_extended` meets its contract. Assumes nothing.
+-- `schema::extension::is_extended` meets its contract.
 use mathlib.Core.Bool.{_&&_}
 use borrow.Author.Needs.{needs}
 use Rattle.schema.specs.Extend.{extended}

@@ -1,4 +1,4 @@
--- `schema::extension::keeps_bitmap` meets its contract. Assumes nothing.
+-- `schema::extension::keeps_bitmap` meets its contract.
 use mathlib.Core.Bool.{not, _||_}
 use lib.Dec.{eqb}
 use borrow.Author.Needs.{needs}

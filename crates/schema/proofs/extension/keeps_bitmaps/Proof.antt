@@ -1,5 +1,4 @@
 -- `schema::extension::keeps_bitmaps` meets its contract. The invariant: what is left gives the same answer.
--- Assumes nothing.
 use mathlib.Core.Path.{_≡_, ap, _∙_}
 use mathlib.Core.Bool.{Bool, not}
 use mathlib.Core.List.{List}

@@ -1,4 +1,4 @@
--- `schema::extension::keeps_field` meets its contract. Assumes nothing.
+-- `schema::extension::keeps_field` meets its contract.
 use mathlib.Core.Path.{_∙_}
 use borrow.Author.Needs.{needs}
 use Rattle.schema.specs.File.{tableOf}

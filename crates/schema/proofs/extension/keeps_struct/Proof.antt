@@ -1,4 +1,4 @@
--- `schema::extension::keeps_struct` meets its contract. Assumes nothing.
+-- `schema::extension::keeps_struct` meets its contract.
 use mathlib.Core.Bool.{_&&_}
 use lib.Dec.{leb}
 use borrow.Author.Needs.{needs}

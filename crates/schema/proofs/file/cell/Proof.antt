@@ -1,4 +1,4 @@
--- `schema::file::cell` meets its contract, which is wire's. Assumes nothing.
+-- `schema::file::cell` meets its contract, which is wire's.
 use borrow.Author.Needs.{needs}
 use Rattle.schema.specs.File.{cell}
 use Rattle.schema.proofs.file.cell.Statement.{statement}

@@ -1,4 +1,4 @@
--- `schema::file::is_shaped` meets its contract: each return is a law of the shape's tests. Assumes nothing.
+-- `schema::file::is_shaped` meets its contract: each return is a law of the shape's tests.
 use borrow.Author.Needs.{needs}
 use Rattle.schema.proofs.Files.{short, crossed, beyond, rest}
 use Rattle.schema.proofs.file.is_shaped.Statement.{statement}

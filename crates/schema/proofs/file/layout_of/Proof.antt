@@ -1,4 +1,4 @@
--- `schema::file::layout_of` meets its contract. Assumes nothing.
+-- `schema::file::layout_of` meets its contract.
 use mathlib.Core.Path.{_≡_}
 use mathlib.Core.List.{List}
 use Prim.Native.Nat.{ℕ, _+_, _-_, _/_}

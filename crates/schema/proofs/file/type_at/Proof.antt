@@ -1,4 +1,4 @@
--- `schema::file::type_at` meets its contract: a cell for each number. Assumes nothing.
+-- `schema::file::type_at` meets its contract: a cell for each number.
 use borrow.Author.Needs.{needs}
 use Rattle.schema.proofs.file.type_at.Statement.{statement}
 use Rattle.schema.proofs.file.type_at.Tie as tie

@@ -1,5 +1,4 @@
 -- `schema::kind::width_of` meets its contract: four bits of the number give the table's width at each kind, by one computed test over the table.
--- Assumes nothing.
 use mathlib.Core.Path.{_≡_}
 use Prim.Native.Nat.{ℕ, _*_, _/_, _%_, _^_, _≤_, _<_}
 use native.Mathlib.Omega.{arith}

@@ -1,5 +1,4 @@
 -- `schema::rows::find_among` meets its contract. The invariant: what is left gives the same answer.
--- Assumes nothing.
 use mathlib.Core.Path.{_≡_, sym, ap, _∙_}
 use mathlib.Core.Bool.{Bool}
 use mathlib.Core.List.{List}

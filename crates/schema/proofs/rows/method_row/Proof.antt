@@ -1,4 +1,4 @@
--- `schema::rows::method_row` meets its contract. Assumes nothing.
+-- `schema::rows::method_row` meets its contract.
 use mathlib.Core.Path.{_∙_}
 use native.Mathlib.Omega.{arith}
 use Rattle.schema.proofs.Files.{reach, laid-method, laid-no-method}

@@ -1,4 +1,4 @@
--- `schema::rows::row` meets its contract. Assumes nothing.
+-- `schema::rows::row` meets its contract.
 use mathlib.Core.Path.{_∙_}
 use native.Mathlib.Omega.{arith}
 use Rattle.schema.proofs.Files.{reach, laid-row, laid-no-row}

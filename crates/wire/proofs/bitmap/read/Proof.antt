@@ -1,5 +1,4 @@
 -- `wire::bitmap::read` meets its contract: the machine's counts of the word are those of the bits.
--- Assumes nothing.
 use mathlib.Core.Path.{_≡_, sym, ap, _∙_}
 use Prim.Native.Nat.{ℕ, _+_, _-_, _*_, _/_, _%_, _^_, _≤_, _<_}
 use native.Mathlib.Nat.{le-refl, mod-lt}

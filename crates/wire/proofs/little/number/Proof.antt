@@ -1,5 +1,4 @@
 -- `wire::little::number` meets its contract. The loop goes from the last byte down to the first: `r` is the number of the bytes passed.
--- Assumes nothing.
 use mathlib.Core.Path.{_≡_, ap, _∙_}
 use mathlib.Core.List.{List}
 use Prim.Native.Nat.{ℕ, suc, _+_, _*_, _-_, _^_, _≤_, _<_}

@@ -1,5 +1,4 @@
 -- `wire::little::store` meets its contract: the bytes still to be stored, stored, give what all of them give.
--- Assumes nothing.
 use mathlib.Core.Path.{_≡_, refl, _∙_}
 use mathlib.Core.List.{List}
 use Prim.Native.Nat.{ℕ, suc, _+_, _-_, _/_, _%_, _≤_, _<_}

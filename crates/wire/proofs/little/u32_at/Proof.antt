@@ -1,5 +1,4 @@
 -- `wire::little::u32_at` meets its contract: four bytes, one after the other.
--- Assumes nothing.
 use mathlib.Core.Path.{_≡_, sym, ap, _∙_}
 use mathlib.Core.List.{List}
 use Prim.Native.Nat.{ℕ, suc, _+_, _*_, _≤_, _<_}

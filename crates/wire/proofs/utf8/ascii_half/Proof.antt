@@ -1,5 +1,4 @@
 -- `wire::utf8::ascii_half` meets its contract: the mask holds the top bits of four bytes.
--- Assumes nothing.
 use native.Mathlib.Omega.{arith}
 use borrow.Author.Needs.{needs}
 use Rattle.wire.proofs.Asciis.{tops-at}

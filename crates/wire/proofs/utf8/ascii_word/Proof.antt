@@ -1,5 +1,4 @@
 -- `wire::utf8::ascii_word` meets its contract: the mask holds the top bits of eight bytes.
--- Assumes nothing.
 use native.Mathlib.Omega.{arith}
 use borrow.Author.Needs.{needs}
 use Rattle.wire.proofs.Asciis.{tops-at}

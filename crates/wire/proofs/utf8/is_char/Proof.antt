@@ -1,5 +1,4 @@
 -- `wire::utf8::is_char` meets its contract: byte by byte, each in its range.
--- Assumes nothing.
 use mathlib.Core.Path.{_≡_, refl, sym, ap, _∙_}
 use mathlib.Core.Bool.{Bool, true, _&&_, and-true}
 use mathlib.Core.List.{List, [], _∷_}

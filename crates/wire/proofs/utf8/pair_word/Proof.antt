@@ -1,5 +1,4 @@
 -- `wire::utf8::pair_word` meets its contract: the masks are the row's test, four times.
--- Assumes nothing.
 use mathlib.Core.Path.{ap, _∙_}
 use mathlib.Core.Bool.{_&&_}
 use Prim.Native.Nat.{ℕ}

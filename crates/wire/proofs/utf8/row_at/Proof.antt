@@ -1,5 +1,4 @@
 -- `wire::utf8::row_at` meets its contract: the table of the code is that of the definition.
--- Assumes nothing.
 use mathlib.Core.Path.{refl}
 use borrow.Author.Needs.{needs}
 use Rattle.wire.specs.Utf8.{rows}

@@ -1,5 +1,4 @@
 -- `wire::utf8::row_of` meets its contract: the rows passed do not have the byte, and `r` is the row at k.
--- Assumes nothing.
 use mathlib.Core.Path.{_≡_, refl, sym, _∙_}
 use mathlib.Core.Bool.{false}
 use Prim.Native.Nat.{_-_, _≤_}

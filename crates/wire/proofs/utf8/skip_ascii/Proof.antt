@@ -1,5 +1,4 @@
 -- `wire::utf8::skip_ascii` meets its contract: each byte passed is a character of the row UTF8-1.
--- Assumes nothing.
 use mathlib.Core.Path.{_≡_, sym, _∙_}
 use Prim.Native.Nat.{_-_, _≤_}
 use native.Mathlib.Omega.{arith}

@@ -1,5 +1,4 @@
 -- `wire::utf8::skip_half` meets its contract: what is passed is ASCII.
--- Assumes nothing.
 use mathlib.Core.Path.{refl}
 use Prim.Native.Nat.{_+_}
 use native.Mathlib.Omega.{arith}

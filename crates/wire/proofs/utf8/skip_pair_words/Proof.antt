@@ -1,5 +1,4 @@
 -- `wire::utf8::skip_pair_words` meets its contract: each word passed is four characters of the row UTF8-2.
--- Assumes nothing.
 use mathlib.Core.Path.{_≡_, refl, _∙_}
 use Prim.Native.Nat.{_-_, _≤_}
 use native.Mathlib.Omega.{arith}

@@ -1,5 +1,4 @@
 -- `wire::utf8::skip_pairs` meets its contract: each pair passed is a character of the row UTF8-2.
--- Assumes nothing.
 use mathlib.Core.Path.{_≡_, _∙_}
 use Prim.Native.Nat.{_-_, _≤_}
 use native.Mathlib.Omega.{arith}

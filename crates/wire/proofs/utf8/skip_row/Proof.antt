@@ -1,5 +1,4 @@
 -- `wire::utf8::skip_row` meets its contract: what is passed are characters of the row.
--- Assumes nothing.
 use mathlib.Core.Path.{_≡_, refl, sym, _∙_}
 use Prim.Native.Nat.{_-_, _≤_}
 use native.Mathlib.Omega.{arith}

@@ -1,5 +1,4 @@
 -- `wire::utf8::skip_run` meets its contract: where the byte's own row has no character, there is none.
--- Assumes nothing.
 use native.Mathlib.Omega.{arith}
 use borrow.Author.Needs.{needs}
 use Rattle.wire.proofs.Utf8s.{row-stops}

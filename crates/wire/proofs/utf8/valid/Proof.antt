@@ -1,5 +1,4 @@
 -- `wire::utf8::valid` meets its contract: what is passed in front changes nothing.
--- Assumes nothing.
 use mathlib.Core.Path.{_∙_}
 use borrow.Author.Needs.{needs}
 use Rattle.wire.proofs.utf8.valid.Statement.{statement}

@@ -1,5 +1,4 @@
 -- `wire::utf8::valid_runs` meets its contract: what the test says of all the bytes is what it says of those left.
--- Assumes nothing.
 use mathlib.Core.Path.{_≡_, refl, sym, ap, _∙_}
 use Prim.Native.Nat.{ℕ, _-_, _≤_}
 use native.Mathlib.Omega.{arith}

@@ -1,5 +1,4 @@
 -- `wire::varuint::read` meets its contract: the first of ten groups, and the others behind it.
--- Assumes nothing.
 use mathlib.Core.Path.{sym, _∙_}
 use native.Mathlib.Omega.{arith}
 use borrow.Author.Needs.{needs}

@@ -1,5 +1,4 @@
 -- `wire::varuint::read_more` meets its contract: `value` holds the groups passed, and the next one weighs `weight`.
--- Assumes nothing.
 use mathlib.Core.Path.{_≡_, refl, sym, ap, _∙_}
 use Prim.Native.Nat.{ℕ, suc, _+_, _-_, _*_, _^_, _≤_, _<_}
 use native.Mathlib.Nat.{pow-le-pow-right, pow-suc, mul-le-mul-right, lt-of-lt-of-le}

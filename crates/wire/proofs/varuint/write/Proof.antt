@@ -1,5 +1,4 @@
 -- `wire::varuint::write` meets its contract: the groups still to be stored, stored, give what all of them give.
--- Assumes nothing.
 use mathlib.Core.Path.{_≡_, refl, _∙_}
 use mathlib.Core.List.{List}
 use Prim.Native.Nat.{ℕ, _+_, _%_, _<_}

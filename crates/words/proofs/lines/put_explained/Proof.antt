@@ -1,5 +1,4 @@
 -- `words::lines::put_explained` meets its contract: a number that means nothing, and one that means something.
--- Assumes nothing.
 use native.Mathlib.Omega.{arith}
 use borrow.Author.Needs.{needs}
 use Rattle.words.proofs.Texts.{explained-unknown, explained-known}

@@ -1,5 +1,4 @@
 -- `words::lines::put_meaning` puts the number's line of the page.
--- Assumes nothing.
 use mathlib.Core.Path.{subst, ap, _∙_}
 use mathlib.Core.List.{List}
 use Prim.Native.Nat.{ℕ}

@@ -1,5 +1,4 @@
 -- `words::made::put_counted` meets its contract: one, or any other number.
--- Assumes nothing.
 use native.Mathlib.Omega.{arith}
 use denote.Ref.{now}
 use borrow.Author.Needs.{needs}

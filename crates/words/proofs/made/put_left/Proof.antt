@@ -1,5 +1,4 @@
 -- `words::made::put_left` meets its contract, word by word.
--- Assumes nothing.
 use native.Mathlib.Omega.{arith}
 use borrow.Author.Needs.{needs}
 use Rattle.text.specs.Codes.{codes}

@@ -1,5 +1,4 @@
 -- `words::number::number_of` reads its word: what is left of it, after the digits that gave n, gives the same number.
--- Assumes nothing.
 use mathlib.Core.Path.{_≡_, refl, sym, _∙_}
 use mathlib.Core.Bool.{true, false}
 use Prim.Native.Nat.{ℕ, _+_, _*_, _-_, _≤_, _<_}

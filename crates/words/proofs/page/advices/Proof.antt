@@ -1,5 +1,4 @@
 -- `words::page::advices` is the page of the definitions' texts, byte by byte.
--- Assumes nothing.
 use mathlib.Core.Path.{refl}
 use Rattle.text.specs.Codes.{codes}
 use Rattle.text.specs.Page.{pageOf}

@@ -1,5 +1,4 @@
 -- `words::verbs::put_check` meets its contract: a file that is too long, a good one, and one with a fault.
--- Assumes nothing.
 use native.Mathlib.Omega.{arith}
 use denote.Ref.{now}
 use borrow.Author.Needs.{needs}

@@ -1,5 +1,4 @@
 -- `words::verbs::put_explain` meets its contract: the number that the word stands for, in words, or none.
--- Assumes nothing.
 use native.Mathlib.Omega.{arith}
 use denote.Ref.{now}
 use borrow.Author.Needs.{needs}

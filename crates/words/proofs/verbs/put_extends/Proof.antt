@@ -1,5 +1,4 @@
 -- `words::verbs::put_extends` meets its contract: a file that is too long, yes, no, and a file with a fault.
--- Assumes nothing.
 use native.Mathlib.Omega.{arith}
 use denote.Ref.{now}
 use borrow.Author.Needs.{needs}

@@ -1,5 +1,4 @@
 -- `words::verbs::put_which` meets its contract: the old file is good, or it is not.
--- Assumes nothing.
 use mathlib.Core.Path.{subst}
 use mathlib.Core.List.{List}
 use native.Mathlib.Omega.{arith}

@@ -1,5 +1,4 @@
 -- `writer::leaf::leaf_row` meets its contract.
--- Assumes nothing.
 use borrow.Author.Tests.{not-true}
 use Rattle.writer.proofs.Leaves.{leaf-missing, row-small, leaf-fine, leaf-bad, leaf-row-in, leaf-known}
 use borrow.Author.Needs.{needs}

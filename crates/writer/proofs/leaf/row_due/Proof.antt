@@ -1,5 +1,4 @@
 -- `writer::leaf::row_due` meets its contract.
--- Assumes nothing.
 use Rattle.writer.proofs.Leaves.{row-missing, row-other, row-found}
 use borrow.Author.Needs.{needs}
 use Rattle.writer.proofs.leaf.row_due.Statement.{statement}

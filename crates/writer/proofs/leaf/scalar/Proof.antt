@@ -1,5 +1,4 @@
 -- `writer::leaf::scalar` meets its contract.
--- Assumes nothing.
 use mathlib.Core.Path.{sym, _∙_}
 use Rattle.writer.proofs.Leaves.{scalar-wide, scalar-counted, scalar-outside, scalar-fine, one-byte, scalar-truth, scalar-other, scalar-bad}
 use borrow.Author.Needs.{needs}

@@ -1,5 +1,4 @@
 -- `writer::put::put_byte` meets its contract.
--- Assumes nothing.
 use Rattle.writer.proofs.Puts.{put-one, put-none}
 use borrow.Author.Needs.{needs}
 use Rattle.writer.proofs.put.put_byte.Statement.{statement}

@@ -1,5 +1,4 @@
 -- `writer::put::put_content` meets its contract.
--- Assumes nothing.
 use Rattle.value.proofs.Spans.{length-span}
 use borrow.Author.Needs.{needs}
 use Rattle.writer.proofs.Puts.{content-put}

@@ -1,5 +1,4 @@
 -- `writer::put::put_length` meets its contract.
--- Assumes nothing.
 use borrow.Author.Needs.{needs}
 use Rattle.writer.proofs.Puts.{length-none, length-some}
 use Rattle.writer.proofs.put.put_length.Statement.{statement}

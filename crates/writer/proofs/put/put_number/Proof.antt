@@ -1,5 +1,4 @@
 -- `writer::put::put_number` meets its contract: the groups still to be put give what all of them give.
--- Assumes nothing.
 use borrow.Author.Needs.{needs}
 use mathlib.Core.Path.{_≡_, refl, _∙_}
 use native.Mathlib.Omega.{arith}

@@ -1,5 +1,4 @@
 -- `writer::put::put_span` meets its contract: the bytes still to be put give what all of them give.
--- Assumes nothing.
 use borrow.Author.Needs.{needs}
 use mathlib.Core.Path.{_≡_, refl, _∙_}
 use Prim.Native.Nat.{_+_, _-_, _≤_}

@@ -1,5 +1,4 @@
 -- `writer::walk::leaves` meets its contract. The invariant: the rows not yet looked at give the same end.
--- Assumes nothing.
 use borrow.Author.Needs.{needs}
 use mathlib.Core.Path.{_≡_, refl, _∙_}
 use mathlib.Core.List.{[]}

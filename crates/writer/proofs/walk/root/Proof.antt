@@ -1,5 +1,4 @@
 -- `writer::walk::root` meets its contract.
--- Assumes nothing.
 use borrow.Author.Needs.{needs}
 use native.Mathlib.Omega.{arith}
 use Rattle.schema.specs.Table.{shape}
