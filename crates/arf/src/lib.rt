@@ -149,7 +149,7 @@ pub fn salvage(record: &[u8], copy: &mut [u8], spans: &mut [u32]) -> Salvaging
 
 // Makes the index of a record by a schema file at the start of the output: 16-byte rows of correlation, place and answer, a row for each entry that the listing
 // prints, strictly rising by correlation and then place, and a trailer. The length of the index, or the refusal's number (the table's, 45, 52) and place,
-// which leaves the output as it was. It runs the record on a sheet of its own, and needs 162 KiB of stack.
+// which leaves the output as it was. It runs the record on a sheet of its own, and needs 160 KiB of stack.
 pub fn make_index(schema: &[u8], record: &[u8], out: &mut [u8]) -> Indexing
     ensures { λ r. ⌜ making.outcome r (now (out .exit)) ≡ making.makeIndex (now (schema .entry)) (now («record» .entry)) (now (out .entry)) ⌝ }
 {
