@@ -53,7 +53,7 @@ abbrev pub callMethod : Table → Frame → Own → Found
 callMethod T f none = cond (eqb (f .kind) 1) (findMethod T (f .«package») (f .service) (f .method)) Missing
 callMethod T f (one c) = cond (eqb (f .kind) 1) (findMethod T (f .«package») (f .service) (f .method)) (At (c .method))
 
--- What it raises in which tally row.
+-- The figure that an event with this verdict raises, and in which tally row.
 abbrev pub verdictRise : (kind : ℕ) → Own → Verdict → Rise
 verdictRise kind own (stop n) = noRise
 verdictRise kind own (opens c due) = record { row = c .method; accepted = Opened; refused = Nothing }

@@ -1,4 +1,4 @@
--- Tally rows: which figure of which row a judged frame or release raises, when that figure is full, and the row afterwards.
+-- Tally rows (02's term), one a method: which figure of which row a judged frame or release raises, when that figure is full, and the row afterwards.
 use Prim.Native.Nat.{ℕ, _+_}
 use mathlib.Core.Bool.{Bool, cond}
 use mathlib.Core.List.{List}

@@ -1,4 +1,4 @@
--- Table 1 of the draft, the streaming kinds that each form allows, and the letters of a form.
+-- Table 1 of the draft, the streaming kinds that each form allows, and the letters of a form (01's terms).
 use Prim.Native.Nat.{ℕ, _/_, _%_}
 use mathlib.Core.Bool.{Bool, true, false}
 use mathlib.Core.List.{List, [], _∷_}

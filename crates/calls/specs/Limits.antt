@@ -9,6 +9,6 @@ pub record Few (most : ℕ) (c : Call) : Type 0 where
   pub inputs : c .«input_elements» ≤ most
   pub outputs : c .«output_elements» ≤ most
 
--- So are those of every slot.
+-- The counts of every slot are at most so many.
 abbrev pub FewIn : (most : ℕ) → List Call → Type 0
 FewIn most l = (i : ℕ) → Few most (slot l i)

@@ -62,7 +62,7 @@ pub data Came (form : ℕ) : List ℕ → Type 0 where
 
 -- ---- stream elements
 
--- The elements accepted each way.
+-- The stream elements (02's term) accepted each way.
 pub record Elements : Type 0 where
   pub inputs : ℕ
   pub outputs : ℕ
@@ -156,12 +156,12 @@ module _ (T : Table) (f : Frame) where
 module _ (T : Table) (f : Frame) (full : Bool) where
   pub data Ruled : Past → Ruling → Type 0 where
     wrongSide : (past : Past) → rightSide (f .side) (f .kind) ≡ false → Ruled past (refused 8)
-    -- INVOKE: 9, 10, 13, payload
+    -- INVOKE: 9, 10, 13, payload.
     unknown : (past : Past) → sent T f → f .kind ≡ 1 → methodNamed T f ≡ Missing → Ruled past (refused 9)
     already : (m n : ℕ) (b : Elements) (h : List ℕ) → sent T f → f .kind ≡ 1 → methodNamed T f ≡ At n → Ruled (since m b h) (refused 10)
     noRoom : (n : ℕ) → sent T f → f .kind ≡ 1 → methodNamed T f ≡ At n → full ≡ true → Ruled closed (refused 13)
     opens : (n : ℕ) (d : Payload) → sent T f → f .kind ≡ 1 → methodNamed T f ≡ At n → full ≡ false → Belongs (methodRow T n) 1 d → Ruled closed (comes d)
-    -- the others: 11, 12, 14 or 16, 17, payload
+    -- The others: 11, 12, 14 or 16, 17, payload.
     notOpen : sent T f → (f .kind ≡ 1 → ⊥) → Ruled closed (refused 11)
     differ : (m : ℕ) (b : Elements) (h : List ℕ) → sent T f → (f .kind ≡ 1 → ⊥) → same T f m ≡ false → Ruled (since m b h) (refused 12)
     notNow : (m : ℕ) (b : Elements) (h : List ℕ) → sent T f → (f .kind ≡ 1 → ⊥) → same T f m ≡ true → (MayCome (methodRow T m .form) h (f .kind) → ⊥)

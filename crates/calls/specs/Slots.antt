@@ -1,4 +1,4 @@
--- The call table as a list of 128 records: searches, the count of open calls, and the test whether it is good.
+-- The call table (01's term) as a list of 128 records, one a slot: searches, the count of open calls, and the test whether it is good.
 use Prim.Native.Nat.{ℕ, suc}
 use mathlib.Core.Bool.{Bool, true, false, not, cond, _&&_, _||_}
 use mathlib.Core.List.{List, [], _∷_}

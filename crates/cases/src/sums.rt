@@ -2,7 +2,7 @@
 
 pub const START: u64 = 14695981039346656037;
 
-// h times the prime 2^40 + 435, modulo 2^64.
+// The sum h times the prime 2^40 + 435, modulo 2^64.
 fn times(h: u64) -> u64 {
     let high = (h / 4294967296 * 435) % 4294967296 * 4294967296;
     let low = h % 4294967296 * 435;

@@ -47,7 +47,7 @@ span = do
     x ← block n
     return (record { place = start .at; size = n })
 
--- The step from a place: what was read, and the place after it; at a refusal its number and place, and the same place again.
+-- The step from a place: what was read, and the place after it; or a refusal's number and place, and the place from which the step began.
 abbrev pub numberStep : ℕ → Answer ℕ → NumberStep
 numberStep from (refused n p) = record { item = Number.Refused n p; next = from }
 numberStep from (seen v c) = record { item = Number.Is v; next = c .at }
@@ -72,7 +72,7 @@ pub data Fair {A : Type 0} (p : List ℕ) (from : ℕ) : Answer A → Type 0 whe
   malformed : Fair p from (refused 21 from)
   past : {a : A} {next : ℕ} → from < next → next ≤ length p → Fair p from (seen a (cursorAt p next))
 
--- A content x at a place, where the test says whether it is right; what a string is right by is its UTF-8.
+-- A content x at a place, refused with 23 where the test fails; for a string the test is that it is UTF-8.
 abbrev pub checked : Bool → (place : ℕ) → List ℕ → Reader Own
 checked good place x c = andThen (check good 23 place c) (λ _ c. seen (plain x) c)
 

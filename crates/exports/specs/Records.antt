@@ -27,7 +27,7 @@ callOf id method marks =
 abbrev pub callAt : List ℕ → ℕ → Call
 callAt cells i = callOf (getD cells (3 * i) 0) (getD cells (3 * i + 1) 0) (getD cells (3 * i + 2) 0)
 
--- n records, from the i-th on.
+-- The n records from the i-th on.
 unfoldable pub callsFrom : List ℕ → (i n : ℕ) → List Call
 callsFrom cells i zero = []
 callsFrom cells i (suc n) = callAt cells i ∷ callsFrom cells (suc i) n

@@ -13,8 +13,8 @@ use Rattle.value.specs.Fits.{Shows}
 use Rattle.value.specs.SheetReasons.{SheetReason}
 use Rattle.forward.specs.Forward.{rootUnknown}
 
--- The refusals of a sheet with a tail of n bytes at a place of B. One that shows no value has the plain writer's, for its reason. For one that does all stand at 0, and each
--- stands where those before it do not: 51 for a tail outside its bytes, 50 for one that does not fit the unknown bits, 7 and 52 for the whole.
+-- The refusals of a sheet with a tail of n bytes at a place of B. One that shows no value has the plain writer's. For one that does, all at 0 and each where
+-- those before it are not: 51 for a tail outside B, 50 for one that does not fit the unknown bits, 7 and 52 for the whole.
 pub data ForwardListed (S : ℕ → Shape) (t : ℕ) (rs : List Row) (B : List ℕ) (place n room : ℕ) : (number at : ℕ) → Type 0 where
   by-rows : {k q : ℕ} → SheetReason S t rs B room k q → ((fs : List Field) (v : Value) → S t ≡ struct fs → Shows S B t fs rs v → ⊥)
       → ForwardListed S t rs B place n room k q

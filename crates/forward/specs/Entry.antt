@@ -1,4 +1,4 @@
--- What the entries answer: the plain writer's kind of outcome.
+-- What the entries answer: a length or a refusal, as the plain writer does, and the output as it is left.
 use mathlib.Core.List.{List}
 use Prim.Native.Nat.{ℕ}
 use lib.ListN.{length}

@@ -1,4 +1,4 @@
--- The forwarding writer: the plain writer's bytes, with the root's unknown bits kept and a tail copied after the known fields.
+-- The forwarding writer (02's term): the plain writer's bytes, with the root's unknown bits kept and a tail copied after the known fields.
 use mathlib.Core.List.{List, [], _∷_, _++_}
 use mathlib.Core.Bool.{Bool, not, _&&_, _||_, cond}
 use Prim.Native.Nat.{ℕ, _+_}
@@ -53,7 +53,7 @@ forward T t rs B place n room =
     onStruct (shape T t) (refusal 46 0)
     (λ fs. forwarding rs B place n room (shape T) t fs (showRoot (shape T) B t fs (record { left = rs; at = 0 })))
 
--- The number of the first fault of the tail and of the whole, with so many bytes before the tail, all at 0; or 0.
+-- The number of the first fault of the tail and of the whole, with `plain` bytes before the tail; 0 where there is none. Each has place 0.
 unfoldable pub faultOf : (size unknown place n plain room : ℕ) → ℕ
 faultOf size unknown place n plain room =
     cond (leb (place + n) size)

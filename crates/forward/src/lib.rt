@@ -89,7 +89,7 @@ fn fault_of(
     0
 }
 
-// Over what the plain writer wrote, up to pos: the presence bytes as they stand at the root's place, and the tail behind.
+// Puts the presence bytes, as they stand at the root's place, over those that the plain writer wrote, and the tail after all that it wrote, at pos.
 fn keep(
     out: &mut [u8],
     pos: usize,

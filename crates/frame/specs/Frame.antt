@@ -12,7 +12,7 @@ use Rattle.frame.specs.declared.Header.{Header}
 use Rattle.frame.specs.declared.FrameRead.{FrameRead}
 use Rattle.frame.specs.declared.FrameRead.the-variants.{More, Frame, Refused}
 
--- the n bytes at the front of s, once they are there, and what is left after them
+-- Goes on with the n bytes at the front of s, once they are there, and with what is left after them.
 unfoldable pub whole : ℕ → List ℕ → (List ℕ → List ℕ → FrameRead) → FrameRead
 whole n s next = cond (leb n (length s)) (next (take n s) (drop n s)) More
 
@@ -24,17 +24,17 @@ check right number next = cond right next (Refused number)
 abbrev pub isMagic : List ℕ → Bool
 isMagic b = eqb (getD b 0 0) 0xAF && eqb (getD b 1 0) 0x01
 
--- the eight kinds
+-- One of the eight kinds.
 abbrev pub knownKind : ℕ → Bool
 knownKind k = leb 1 k && leb k 8
 
--- the payload, from its length on; the bytes end at `end`
+-- The payload, from its length on; the bytes end at `end`.
 unfoldable pub payloadOf : ℕ → Header → VarUInt → FrameRead
 payloadOf end h Cut = More
 payloadOf end h Malformed = Refused 6
 payloadOf end h (Number n place) = check (leb n 16384) 7 (cond (leb (place + n) end) (Frame h place n) More)
 
--- what is read at the front of the bytes: 25 bytes of fields, then the payload's length and the payload
+-- What is read at the front of the bytes: 25 bytes of fields, then the payload's length and the payload.
 unfoldable pub frameOf : List ℕ → FrameRead
 frameOf bytes =
     whole 2 bytes λ magic s. check (isMagic magic) 2
@@ -55,13 +55,13 @@ frameOf bytes =
     })
     (front s 25)))))
 
--- 01's number of an answer
+-- 01's number of an answer.
 abbrev pub readNumber : FrameRead → ℕ
 readNumber More = 1
 readNumber (Frame h place n) = 0
 readNumber (Refused number) = number
 
--- 01's bytes used: the frame's length for a frame
+-- 01's bytes used: the frame's length for a frame.
 abbrev pub readUsed : FrameRead → ℕ
 readUsed More = 0
 readUsed (Frame h place n) = place + n

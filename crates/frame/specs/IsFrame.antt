@@ -7,12 +7,12 @@ use Rattle.wire.specs.Little.{little}
 use Rattle.wire.specs.Varuint.{Spelled}
 use Rattle.frame.specs.declared.Header.{Header}
 
--- the bytes b are n, and hold the number x
+-- The bytes b are n in number, and hold x.
 pub record Holds (n x : ℕ) (b : List ℕ) : Type 0 where
   pub width : length b ≡ n
   pub value : little b ≡ x
 
--- AF 01, version 1, kind, flags 0, package, service and method, correlation, the payload's length as a VarUInt, payload
+-- A frame is AF 01, version 1, kind, flags 0, package, service and method, correlation, the payload's length as a VarUInt, payload.
 pub data IsFrame : (h : Header) (payload frame : List ℕ) → Type 0 where
   frame : {h : Header} {«package» service method correlation payload : List ℕ} (size : List ℕ)
       → 1 ≤ h .kind
@@ -26,7 +26,7 @@ pub data IsFrame : (h : Header) (payload frame : List ℕ) → Type 0 where
       → IsFrame h payload
       (0xAF ∷ 0x01 ∷ 0x01 ∷ h .kind ∷ 0x00 ∷ («package» ++ (service ++ (method ++ (correlation ++ (size ++ payload))))))
 
--- s starts with a frame that has the header h; its payload is its last n bytes, from the place on
+-- The bytes s start with a frame that has the header h; its payload is its last n bytes, from the place on.
 pub record Starts (s : List ℕ) (h : Header) (place n : ℕ) : Type 0 where
   pub payload : List ℕ
   pub frame : List ℕ
@@ -36,7 +36,7 @@ pub record Starts (s : List ℕ) (h : Header) (place n : ℕ) : Type 0 where
   pub size : length payload ≡ n
   pub end : place + n ≡ length frame
 
--- each number fits its field, as the numbers of a `Header` in code do
+-- Each number fits its field, as the numbers of a `Header` in code do.
 pub record Fits (h : Header) : Type 0 where
   pub «package» : h .«package» < 2 ^ 32
   pub service : h .service < 2 ^ 32

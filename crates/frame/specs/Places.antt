@@ -7,7 +7,7 @@ use Rattle.frame.specs.declared.Header.{Header}
 use Rattle.frame.specs.declared.FrameRead.{FrameRead}
 use Rattle.frame.specs.declared.FrameRead.the-variants.{More, Refused}
 
--- the number in the n bytes from at on
+-- The number in the n bytes from `at` on.
 abbrev pub numberAt : List ℕ → ℕ → ℕ → ℕ
 numberAt s at n = little (take n (drop at s))
 
@@ -21,7 +21,7 @@ headerAt s =
       correlation = numberAt s 17 8;
     }
 
--- the answer where the header was judged: 0 leaves it to what follows, 1 asks for more bytes, and any other number refuses
+-- The answer where the header was judged: 0 leaves it to what follows, 1 asks for more bytes, and any other number refuses.
 abbrev pub judged : ℕ → FrameRead → FrameRead
 judged zero next = next
 judged (suc zero) next = More

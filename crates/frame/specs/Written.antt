@@ -13,16 +13,16 @@ use Rattle.frame.specs.declared.FrameWritten.{FrameWritten}
 use Rattle.frame.specs.declared.FrameWritten.the-variants.{Written, Refused}
 use Rattle.frame.specs.Frame.{knownKind, frameOf}
 
--- all before the payload, of which there are n bytes
+-- All before a payload of n bytes.
 unfoldable pub frontBytes : Header → ℕ → List ℕ
 frontBytes h n =
     0xAF ∷ 0x01 ∷ 0x01 ∷ h .kind ∷ 0x00 ∷ (bytes 4 (h .«package») ++ (bytes 4 (h .service) ++ (bytes 4 (h .method) ++ (bytes 8 (h .correlation) ++ varuintBytes n))))
 
--- the whole frame
+-- The whole frame.
 unfoldable pub frameBytes : Header → List ℕ → List ℕ
 frameBytes h p = frontBytes h (length p) ++ p
 
--- the answer, for an output of `room` bytes: 4, 7, 52 in this order
+-- The answer, for an output of `room` bytes: 4, 7, 52 in this order.
 unfoldable pub writtenOf : Header → List ℕ → ℕ → FrameWritten
 writtenOf h p room =
     cond (knownKind (h .kind))
@@ -32,12 +32,12 @@ writtenOf h p room =
     (Refused 7))
     (Refused 4)
 
--- the output afterwards: unchanged past the frame, and at a refusal
+-- The output afterwards: unchanged past the frame, and at a refusal.
 unfoldable pub outputOf : FrameWritten → Header → List ℕ → List ℕ → List ℕ
 outputOf (Written n) h p out = frameBytes h p ++ drop n out
 outputOf (Refused number) h p out = out
 
--- 01's number of an answer, and the length written
+-- 01's number of an answer, and the length written.
 abbrev pub writeNumber : FrameWritten → ℕ
 writeNumber (Written n) = 0
 writeNumber (Refused number) = number
@@ -48,7 +48,7 @@ writeLength (Refused number) = 0
 
 -- ---- the same without an order of tests
 
--- what the writer accepts, with n bytes
+-- What the writer accepts, with n bytes.
 pub record Accepted (h : Header) (p : List ℕ) (room n : ℕ) : Type 0 where
   pub least : 1 ≤ h .kind
   pub most : h .kind ≤ 8
@@ -56,13 +56,13 @@ pub record Accepted (h : Header) (p : List ℕ) (room n : ℕ) : Type 0 where
   pub size : length (frameBytes h p) ≡ n
   pub fits : n ≤ room
 
--- what it refuses: a kind that there is not; a payload that is too long; an output that is too small
+-- What it refuses: a kind that there is not; a payload that is too long; an output that is too small.
 pub data Unwritten (h : Header) (p : List ℕ) (room : ℕ) : (number : ℕ) → Type 0 where
   kind : ((1 ≤ h .kind) × (h .kind ≤ 8) → ⊥) → Unwritten h p room 4
   long : 1 ≤ h .kind → h .kind ≤ 8 → 16384 < length p → Unwritten h p room 7
   full : 1 ≤ h .kind → h .kind ≤ 8 → length p ≤ 16384 → room < length (frameBytes h p) → Unwritten h p room 52
 
--- the frame of n bytes at the front of s is read as this header, and the payload stands at its place
+-- The frame of n bytes at the front of s is read as this header, and the payload stands at its place.
 pub record ReadBack (h : Header) (p s : List ℕ) (n : ℕ) : Type 0 where
   pub reads : frameOf s ≡ Frame h (n - length p) (length p)
   pub payload : take (length p) (drop (n - length p) s) ≡ p

@@ -11,36 +11,36 @@ use Rattle.index.specs.Index.{indexBytes}
 
 -- ---- the test
 
--- the row at the front of the bytes
+-- The row at the front of the bytes.
 abbrev pub rowAt : List ℕ → Row
 rowAt s = record { correlation = little (take 8 s); place = little (take 4 (drop 8 s)); answer = little (take 4 (drop 12 s)) }
 
--- n rows from the front on
+-- The first n rows of the bytes.
 unfoldable pub rowsIn : (n : ℕ) → List ℕ → List Row
 rowsIn zero s = []
 rowsIn (suc n) s = rowAt s ∷ rowsIn n (drop 16 s)
 
--- how many rows stand before the trailer
+-- How many rows stand before the trailer.
 abbrev pub countIn : List ℕ → ℕ
 countIn s = (length s - 16) / 16
 
--- the four numbers of the trailer, which is the last 16 bytes
+-- The number at byte i of the trailer, which is the last 16 bytes.
 abbrev pub trailerCell : (i : ℕ) → List ℕ → ℕ
 trailerCell i s = little (take 4 (drop i (drop (length s - 16) s)))
 
--- whole rows and a trailer, which points to place 0 and has the number of the rows and layout number 1
+-- Whole rows and a trailer, which points to place 0 and has the number of the rows and layout number 1.
 unfoldable pub isShaped : List ℕ → Bool
 isShaped s =
     leb 16 (length s) && (eqb (length s % 16) 0 && (eqb (trailerCell 0 s) 0 && (eqb (trailerCell 4 s) (countIn s) && eqb (trailerCell 12 s) 1)))
 
--- strictly rising rows before the trailer
+-- The rows before the trailer rise strictly.
 abbrev pub isOrdered : List ℕ → Bool
 isOrdered s = isRising (rowsIn (countIn s) s)
 
 unfoldable pub isIndex : List ℕ → Bool
 isIndex s = isShaped s && isOrdered s
 
--- the length of the record that it was made of
+-- The length of the record that it was made of.
 abbrev pub sizeIn : List ℕ → ℕ
 sizeIn s = trailerCell 8 s
 
@@ -52,7 +52,7 @@ pub record Reads (s : List ℕ) (rows : List Row) (size : ℕ) : Type 0 where
 
 -- ---- the relation
 
--- each number has its bytes
+-- Each number fits its bytes.
 pub record Fits (r : Row) : Type 0 where
   pub correlation : r .correlation < 2 ^ 64
   pub place : r .place < 2 ^ 32

@@ -10,19 +10,19 @@ use Rattle.index.specs.Row.{ofCall}
 use Rattle.index.specs.IsIndex.{rowsIn, countIn, isIndex, sizeIn}
 use Rattle.index.specs.Text.{textOf}
 
--- what follows `stopped`, for a record of so many bytes
+-- The number that follows `stopped`, for a record of so many bytes.
 unfoldable pub verdict : (index : List ℕ) (size : ℕ) → ℕ
 verdict index size = cond (isIndex index) (cond (eqb (sizeIn index) size) 0 66) 65
 
--- how many rows are looked at: none at a refusal
+-- How many rows are looked at: none at a refusal.
 unfoldable pub looked : (index : List ℕ) (size : ℕ) → ℕ
 looked index size = cond (eqb (verdict index size) 0) (countIn index) 0
 
--- the text
+-- The text of a look-up.
 unfoldable pub lookText : (index : List ℕ) (size correlation : ℕ) → List ℕ
 lookText index size c = textOf (ofCall c (rowsIn (looked index size) index)) (verdict index size)
 
--- an answer, with the output as it is left
+-- An answer, with the output as it is left.
 pub record Outcome : Type 0 where
   pub answer : Finding
   pub out : List ℕ
@@ -30,7 +30,7 @@ pub record Outcome : Type 0 where
 abbrev pub outcome : Finding → List ℕ → Outcome
 outcome r out = record { answer = r; out = out }
 
--- the text at the start of the output, or 52 where it does not fit
+-- The text at the start of the output, or 52 where it does not fit.
 unfoldable pub put : (number : ℕ) (text out : List ℕ) → Outcome
 put number text out =
     cond (ltb (length out) (length text)) (outcome (Refused 52) out) (outcome (Printed number (length text)) (text ++ drop (length text) out))
@@ -40,7 +40,7 @@ lookUp index entries c out = put (verdict index (length entries)) (lookText inde
 
 -- ---- what the answers stand for
 
--- the number that follows `stopped` in the text, and the text's length; 52 and 0 where the text does not fit
+-- The number that follows `stopped` in the text, and the text's length; 52 and 0 where the text does not fit.
 abbrev pub findNumber : Finding → ℕ
 findNumber (Printed number size) = number
 findNumber (Refused number) = number

@@ -101,13 +101,13 @@ pub record Nothing (sheet : List ℕ) (a : Line) : Type 0 where
 -- 01's numbers for a frame, with their places. A value's fault is placed in the payload, and 42 to 44 name the row; all else has place 0.
 pub data Listed : (number place : ℕ) → Type 0 where
   accepted : Listed 0 0
-  -- more bytes needed; the frame's own faults
+  -- More bytes needed; the frame's own faults.
   frame : {n : ℕ} → 1 ≤ n → n ≤ 7 → Listed n 0
-  -- the side and the call; the call table; a frame that crosses our cancel; the element limit; a full tally; the number of tally rows
+  -- The side and the call; the call table; a frame that crosses our cancel; the element limit; a full tally; the number of tally rows.
   call : {n : ℕ} → 8 ≤ n → n ≤ 19 → Listed n 0
   value : {n : ℕ} (place : ℕ) → 20 ≤ n → n ≤ 28 → Listed n place
   pairs : (place : ℕ) → Listed 31 place
-  -- a payload where none belongs; too few rows
+  -- A payload where none belongs; too few rows.
   payload : {n : ℕ} → 29 ≤ n → n ≤ 30 → Listed n 0
   shape : {n : ℕ} → 40 ≤ n → n ≤ 41 → Listed n 0
   row : {n : ℕ} (place : ℕ) → 42 ≤ n → n ≤ 44 → Listed n place
@@ -137,7 +137,7 @@ pub record KeptWhole (sheet : List ℕ) (ts : List Tally) (l : List Call) (a : L
   pub slots : a .answer .table .slots ≡ l
   pub tallies : a .tallies ≡ ts
 
--- m is the method of the call that the frame at the front is about, by its own record: the call's, or for INVOKE the one that its identifiers name.
+-- The method m is that of the call that the frame at the front is about, by its own record: the call's, or for INVOKE the one that its identifiers name.
 pub record About (T : Table) (side : ℕ) (bytes : List ℕ) (l : List Call) (m : ℕ) : Type 0 where
   pub frame : Frame
   pub front : Front side bytes frame

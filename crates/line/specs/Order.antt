@@ -55,7 +55,7 @@ pub data Counted (T : Table) (f : Frame) (past : Past) (ts : List Tally) (sheet 
       → Counted T f past ts sheet x (saidBy (outcome (Refused 18 0) sheet))
   rises : HasRoom T f past ts (x .numbers .number) → Counted T f past ts sheet x x
 
--- x is the answer by the rules to the frame f with this payload, for this past of its call; `full` says that 128 calls are open.
+-- By the rules x is the answer to the frame f with this payload, for this past of its call; `full` says that 128 calls are open.
 pub record ByRules (schema payload sheet : List ℕ) (f : Frame) (full : Bool) (past : Past) (ts : List Tally) (x : Said) : Type 0 where
   pub ruling : Ruling
   pub ruled : Ruled (tableOf schema) f full past ruling
@@ -63,7 +63,7 @@ pub record ByRules (schema payload sheet : List ℕ) (f : Frame) (full : Bool) (
   pub answered : Answered schema payload sheet ruling payloadSaid
   pub counted : Counted (tableOf schema) f past ts sheet payloadSaid x
 
--- n is the answer by the rules to the release of the call with this past.
+-- By the rules n is the answer to the release of the call with this past.
 pub data ReleasedAs (ts : List Tally) (past : Past) : (number : ℕ) → Type 0 where
   refusedRelease : {n : ℕ} → Releases past n → (n ≡ 0 → ⊥) → ReleasedAs ts past n
   fullRelease : (m : ℕ) (b : Elements) (h : List ℕ) → past ≡ since m b h → Releases past 0 → rowFor ts m .cancelled ≡ 4294967295 → ReleasedAs ts past 18

@@ -1,5 +1,5 @@
--- The release of a cancelled call, in the request's order: the schema table (40 to 44), the call table (15), the number of tally rows (19), the call (11,
--- 14), the tally that would rise (18). It uses no bytes.
+-- The release (02's term) of a cancelled call, in the request's order: the schema table (40 to 44), the call table (15), the number of tally rows (19), the
+-- call (11, 14), the tally that would rise (18). It uses no bytes.
 use Prim.Native.Nat.{ℕ}
 use mathlib.Core.List.{List}
 use lib.ListN.{length, getD, set}

@@ -10,7 +10,7 @@ use Rattle.calls.specs.declared.Call.{Call}
 use Rattle.listing.specs.Text.{lineText, stoppedText}
 use Rattle.replay.specs.Run.{answerTo, headerIn}
 
--- the entries' bytes, one after the other
+-- The entries' bytes, one after the other.
 unfoldable pub joined : List (List ℕ) → List ℕ
 joined [] = []
 joined (e ∷ es) = e ++ joined es

@@ -6,7 +6,7 @@ use Rattle.line.specs.declared.Received.{Received}
 use Rattle.text.specs.Decimal.{decimal}
 use Rattle.text.specs.Text.{field}
 
--- frame side kind call answer place rows open
+-- The heading: frame side kind call answer place rows open.
 abbrev pub heading : List ℕ
 heading =
     102 ∷ 114 ∷ 97 ∷ 109 ∷ 101 ∷ 32 ∷ 115 ∷ 105 ∷ 100 ∷ 101 ∷ 32 ∷ 107 ∷ 105 ∷ 110 ∷ 100 ∷ 32 ∷ 99 ∷ 97 ∷ 108 ∷ 108 ∷ 32 ∷

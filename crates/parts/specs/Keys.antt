@@ -9,16 +9,16 @@ use lib.ListN.{length, getD, take, drop}
 use Rattle.wire.specs.Little.{little}
 use Rattle.value.specs.Write.{span}
 
--- A word goes into a digest.
+-- A digest with one word more.
 abbrev pub mixed : (d w : ℕ) → ℕ
 mixed d w = ((d * 2 ^ 3 % 2 ^ 64 + d) % 2 ^ 64 + w) % 2 ^ 64
 
--- Of the first n words, of eight bytes each.
+-- The digest of the first n words of a content, of eight bytes each.
 unfoldable pub words : List ℕ → ℕ → ℕ
 words x zero = 0
 words x (suc n) = mixed (words x n) (little (take 8 (drop (8 * n) x)))
 
--- A number of a content, quickly compared: its words, and the bytes left.
+-- The digest of a content, a number that is compared first: contents with different digests differ.
 unfoldable pub digest : List ℕ → ℕ
 digest x = mixed (words x (length x / 8)) (little (drop (8 * (length x / 8)) x))
 
@@ -40,11 +40,11 @@ unfoldable pub keysIn : (B keys : List ℕ) → ℕ → List (List ℕ)
 keysIn B keys zero = []
 keysIn B keys (suc n) = keyAt B keys n ∷ keysIn B keys n
 
--- The number that no digest is above.
+-- The largest digest kept: the last cell of the first half.
 abbrev pub largest : List ℕ → ℕ
 largest keys = getD keys (length keys / 2 - 1) 0
 
--- Each of them lies in B, and where keys are judged its digest is at hand, and not above the largest.
+-- Each of the first n keys lies in B; where keys are judged, its digest is kept, and is not above the largest.
 abbrev pub Kept : (B keys : List ℕ) (judge : Bool) → ℕ → Type 0
 Kept B keys judge n =
     (j : ℕ) →

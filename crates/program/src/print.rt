@@ -15,7 +15,7 @@ pub fn print(text: &[u8]) {
     }
 }
 
-// A file of which so many bytes were read has too many. Says so.
+// Whether a file of which so many bytes were read has too many; says so where it has.
 pub fn is_over(n: usize, what: &[u8]) -> bool {
     if n < MOST {
         return false;

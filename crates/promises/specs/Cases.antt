@@ -44,7 +44,7 @@ lent = replicate 30 77
 abbrev pub told : (number place rows tailPlace tailLength : ℕ) → Numbers
 told n q k p l = record { number = n; place = q; rows = k; tailPlace = p; tailLength = l; comparisons = 0 }
 
--- k rows in these cells, with a tail at a place of n bytes; the cells after them stay.
+-- A payload that is shown: k rows in these cells, with a tail at a place of n bytes; the cells after them stay.
 abbrev pub shown : (payload : List ℕ) (k place n : ℕ) (cells : List ℕ) → Case
 shown payload k p n cells = record { payload = payload; told = told 0 0 k p n; cells = cells ++ drop (length cells) lent }
 
@@ -138,7 +138,7 @@ otherForm = 14 ∷ 0 ∷ 0 ∷ 0 ∷ 2 ∷ 0 ∷ 0 ∷ 0 ∷ 4 ∷ 0 ∷ 0 ∷ 0
 abbrev pub four : ℕ → List ℕ
 four x = x ∷ 0 ∷ 0 ∷ 0 ∷ []
 
--- n optional fields of type 0; and the file whose type 0 is uint8 and whose type 1 is a struct of them.
+-- The entries of n optional fields of type 0; and the file whose type 0 is uint8 and whose type 1 is a struct of these fields.
 abbrev pub optionals : ℕ → List ℕ
 optionals zero = []
 optionals (suc n) = four 0 ++ (four 1 ++ optionals n)
@@ -154,7 +154,7 @@ structOf n =
 abbrev pub ofNine : List ℕ
 ofNine = 0x81 ∷ 0x00 ∷ 0x07 ∷ 0x09 ∷ []
 
--- This, and a byte with no bit set: by the file with seven fields alone, and with the one of nine beside it.
+-- What is answered to `ofNine`, and to a byte with no bit set: by the file with seven fields alone, and with the one of nine beside it.
 abbrev pub grownAlone : List Case
 grownAlone = shown ofNine 2 2 2 (1 ∷ 0 ∷ 2 ∷ 1 ∷ 0 ∷ 1 ∷ 1 ∷ 0 ∷ []) ∷ shown (0x00 ∷ []) 1 1 0 (1 ∷ 0 ∷ 1 ∷ 0 ∷ []) ∷ []
 

@@ -70,10 +70,8 @@ ForwardReason schema ty rs bytes place m space n q = TableFault schema n q ⊎ (
 -- ---- an old file and a new one that extends it: a root of type ty has the fields fs in the old one and fs ++ gs in the new one
 
 module _ (old new : List ℕ) (ty : ℕ) (fs gs : List Field) (payload sheet : List ℕ) (v : Value) where
-  -- What the old reader answers where the new rules allow the payload as v: 26 at the place of the first inner struct that carries an added field.
-  -- Without one the payload is the bytes of what is known and then those of the added fields that the root carries. By the old rules it spells the value
-  -- without the added fields and ends in just those bytes, which are the tail; the reader shows that value, or answers 30 where the sheet has too few
-  -- rows for it.
+  -- What the old reader answers where the new rules allow the payload as v: 26 at the first inner struct that carries an added field. Without one it shows v
+  -- without the added fields, or answers 30; the tail is the bytes of the added fields that the root carries.
   abbrev pub OldAnswers : (first : Option ℕ) → Type 0
   OldAnswers (some p) = readOutcome old ty payload sheet ≡ outcome (Refused 26 p) sheet
   OldAnswers none =

@@ -47,9 +47,8 @@ CountedNext schema st past is side h after y x =
 abbrev pub receivedNext : (schema : List ℕ) → State → List Event → (side : ℕ) (bytes after : List ℕ) → Line
 receivedNext schema st is side bytes after = let now = runFrom schema st is in received schema side bytes after (now .tallies) (now .calls)
 
--- `receive` answers such a frame, the first m of the bytes, by its payload: a value that belongs as `read` answers it, an empty payload where nothing
--- belongs with 0, and that of an ERROR, whatever it is, with 0 and without a row; each unless a tally is full. Bytes used are the frame's, or 0, by the
--- number answered.
+-- `receive` answers such a frame, the first m of the bytes: a value that belongs as `read` answers it; with 0 an empty payload where nothing belongs, and any
+-- payload of an ERROR; each unless a tally is full. Bytes used are m or 0, by the number.
 pub record ReceivedBack (schema : List ℕ) (ty : ℕ) (payload after : List ℕ) (st : State) (past : ℕ → Past) (is : List Event) (side : ℕ) (h : Header)
     (m : ℕ) (bytes : List ℕ) : Type 0 where
   pub value : RuledNext schema st past is side h (comes (Struct ty)) → (x : Said) → CountedNext schema st past is side h after (saidBy (readOutcome schema ty payload after)) x

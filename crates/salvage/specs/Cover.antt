@@ -6,13 +6,13 @@ use lib.ListN.{length, drop}
 use Rattle.record.specs.IsEntry.{IsEntry, NoEntry}
 use Rattle.salvage.specs.Pieces.{Piece, keep, skip, entriesIn, copyOf, spanCount, spansOf}
 
--- the pieces do not start with a span
+-- The pieces do not start with a span.
 abbrev pub NoSpan : List Piece → Type 0
 NoSpan [] = Unit {0}
 NoSpan (keep e ∷ ps) = Unit {0}
 NoSpan (skip g ∷ ps) = ⊥
 
--- no entry starts in the span g, which s follows in the record
+-- No entry starts in the span g, after which the record goes on with s.
 abbrev pub NoneIn : (g s : List ℕ) → Type 0
 NoneIn g s = (i : ℕ) → i < length g → NoEntry (drop i (g ++ s))
 

@@ -1,4 +1,4 @@
--- The pieces of a torn record, in order: entries that are kept, and between them the spans that are left out. From the first place where no entry
+-- The pieces of a torn record, in order: entries that are kept, and between them the spans (02's term) that are left out. From the first place where no entry
 -- starts it goes forward to the next place where one does.
 use Prim.Native.Nat.{ℕ, zero, suc, _+_}
 use mathlib.Core.Bool.{Bool, true, false, cond}
@@ -7,7 +7,7 @@ use lib.Dec.{eqb}
 use lib.ListN.{length, take, drop}
 use Rattle.record.specs.Entry.{entryLength}
 
--- an entry that is kept, or a span that is left out, with its bytes
+-- An entry that is kept, or a span that is left out, with its bytes.
 pub data Piece : Type 0 where
   keep : (entry : List ℕ) → Piece
   skip : (span : List ℕ) → Piece
@@ -20,16 +20,16 @@ abbrev pub isKept : Piece → Bool
 isKept (keep e) = true
 isKept (skip g) = false
 
--- how far it is forward to the next place where an entry starts, or to the end
+-- How far it is forward to the next place where an entry starts, or to the end.
 unfoldable pub forward : List ℕ → ℕ
 forward [] = 0
 forward (b ∷ s) = cond (eqb (entryLength (b ∷ s)) 0) (suc (forward s)) 0
 
--- the entry that starts here, or the span up to the next one
+-- The entry that starts here, or the span up to the next one.
 unfoldable pub firstPiece : List ℕ → Piece
 firstPiece s = cond (eqb (entryLength s) 0) (skip (take (forward s) s)) (keep (take (entryLength s) s))
 
--- piece after piece. A piece takes a byte at least, so that a record has at most as many pieces as bytes.
+-- One piece after the other. A piece takes a byte at least, so that a record has at most as many pieces as bytes.
 unfoldable pub pieces : (most : ℕ) → List ℕ → List Piece
 pieces zero s = []
 pieces (suc k) [] = []
@@ -38,32 +38,32 @@ pieces (suc k) (b ∷ s) = let p = firstPiece (b ∷ s) in p ∷ pieces k (drop 
 unfoldable pub piecesOf : List ℕ → List Piece
 piecesOf s = pieces (length s) s
 
--- the bytes of the pieces, one after the other
+-- The bytes of the pieces, one after the other.
 unfoldable pub bytesOf : List Piece → List ℕ
 bytesOf [] = []
 bytesOf (p ∷ ps) = bytesIn p ++ bytesOf ps
 
 -- ---- what is made of them
 
--- the kept entries
+-- The kept entries.
 unfoldable pub entriesIn : List Piece → List (List ℕ)
 entriesIn [] = []
 entriesIn (keep e ∷ ps) = e ∷ entriesIn ps
 entriesIn (skip g ∷ ps) = entriesIn ps
 
--- the copy: the kept entries one after the other
+-- The copy: the kept entries one after the other.
 unfoldable pub copyOf : List Piece → List ℕ
 copyOf [] = []
 copyOf (keep e ∷ ps) = e ++ copyOf ps
 copyOf (skip g ∷ ps) = copyOf ps
 
--- the number of spans left out
+-- The number of spans left out.
 unfoldable pub spanCount : List Piece → ℕ
 spanCount [] = 0
 spanCount (keep e ∷ ps) = spanCount ps
 spanCount (skip g ∷ ps) = suc (spanCount ps)
 
--- the list of the spans, place and length of each; the pieces start at a place of the record
+-- The list of the spans, place and length of each; the pieces start at the place `at` of the record.
 unfoldable pub spansOf : (at : ℕ) → List Piece → List ℕ
 spansOf at [] = []
 spansOf at (keep e ∷ ps) = spansOf (at + length e) ps

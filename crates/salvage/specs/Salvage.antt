@@ -9,7 +9,7 @@ use Rattle.salvage.specs.declared.Salvaging.{Salvaging}
 use Rattle.salvage.specs.declared.Salvaging.the-variants.{Salvaged, Refused}
 use Rattle.salvage.specs.Pieces.{Piece, piecesOf, entriesIn, copyOf, spanCount, spansOf}
 
--- an answer, with the copy and the list as they are left
+-- An answer, with the copy and the list as they are left.
 pub record Outcome : Type 0 where
   pub answer : Salvaging
   pub copy : List ℕ
@@ -18,16 +18,16 @@ pub record Outcome : Type 0 where
 abbrev pub outcome : Salvaging → (copy spans : List ℕ) → Outcome
 outcome r copy spans = record { answer = r; copy = copy; spans = spans }
 
--- the buffer with the items at its start; past them it is as it was
+-- The buffer with the items at its start; past them it is as it was.
 abbrev pub filled : (buffer items : List ℕ) → List ℕ
 filled buffer items = items ++ drop (length items) buffer
 
--- the pieces, copied and listed
+-- The pieces, copied and listed.
 unfoldable pub done : List Piece → (copy spans : List ℕ) → Outcome
 done ps copy spans =
     outcome (Salvaged (length (entriesIn ps)) (length (copyOf ps)) (spanCount ps)) (filled copy (copyOf ps)) (filled spans (spansOf 0 ps))
 
--- any record and any two buffers
+-- The outcome for any record and any two buffers.
 unfoldable pub salvageOf : (torn copy spans : List ℕ) → Outcome
 salvageOf torn copy spans =
     let ps = piecesOf torn in
@@ -38,7 +38,7 @@ salvageOf torn copy spans =
 
 -- ---- what the answers stand for
 
--- the number of an answer; entries kept, bytes copied and spans listed are 0 beside a refusal
+-- The number of an answer; entries kept, bytes copied and spans listed are 0 beside a refusal.
 abbrev pub salvageNumber : Salvaging → ℕ
 salvageNumber (Salvaged entries bytes spans) = 0
 salvageNumber (Refused number) = number

@@ -97,7 +97,7 @@ identity (Float32 f bits) = pos bits
 identity (Float64 f bits) = pos bits
 identity (Span place n) = pos 0
 
--- x is a content of the scalar kind.
+-- The bytes x are a content of the scalar kind.
 pub record Content (kind : ℕ) (x : List ℕ) : Type 0 where
   pub bytes : Bytes x
   pub wide : length x ≡ width kind

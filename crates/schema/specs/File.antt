@@ -68,7 +68,7 @@ layoutOf s =
       «methods_at» = methodsAt s;
     }
 
--- f of 0, 1, .. up to n.
+-- The list of f 0, f 1 and so on, n in all.
 unfoldable pub tabulate : {A : Type 0} → (ℕ → A) → ℕ → List A
 tabulate f zero = []
 tabulate f (suc n) = f 0 ∷ tabulate (λ i. f (suc i)) n

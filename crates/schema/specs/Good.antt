@@ -39,7 +39,7 @@ pub record GoodField (T : Table) (f : Field) : Type 0 where
   pub type : f .ty < length (T .types)
   pub optional : f .optional ≤ 1
 
--- A letter of a form: Y (1) has a struct type, N (0) has 4294967295.
+-- A letter of a form (01's terms): Y (1) has a struct type, N (0) has 4294967295.
 pub record Letter (T : Table) (bit t : ℕ) : Type 0 where
   pub yes : bit ≡ 1 → rowAt T t .kind ≡ 16
   pub no : bit ≡ 0 → t ≡ 4294967295

@@ -11,7 +11,7 @@ unfoldable pub digits : (most n : ℕ) → List ℕ
 digits zero n = []
 digits (suc k) n = cond (ltb n 10) [] (digits k (n / 10)) ++ ((48 + n % 10) ∷ [])
 
--- n in decimal: it never needs more than n + 1 digits.
+-- The number n in decimal: it never needs more than n + 1 digits.
 unfoldable pub decimal : ℕ → List ℕ
 decimal n = digits (suc n) n
 

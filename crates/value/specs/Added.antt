@@ -12,7 +12,7 @@ use Rattle.schema.specs.Table.{Shape, unknown, scalar, text, array, map, struct
 use Rattle.value.specs.Value.{Value, leaf, node, Values, none as empty, some as and, Tree, tip, branch, Forest, stop, plus}
 use Rattle.value.specs.Read.{Item, plan, present, rootBits, knownBits}
 
--- A struct carries an added field when a bit beyond the known fields is set.
+-- A struct carries an added field (01's words) when a bit beyond the known fields is set.
 abbrev pub carries : Shape → (head : ℕ) → Bool
 carries (struct fs) m = leb (2 ^ length fs) m
 carries unknown h = false
@@ -80,7 +80,7 @@ abbrev pub rootCarries : (fs : List Field) → Value → Bool
 rootCarries fs (leaf x) = false
 rootCarries fs (node h vs) = carries (struct fs) h
 
--- Their items by its bits.
+-- The items of the added fields, by the root's bits.
 abbrev pub addedItems : (fs gs : List Field) → Value → List Item
 addedItems fs gs (leaf x) = []
 addedItems fs gs (node h vs) = present gs (h / 2 ^ length fs)
@@ -90,7 +90,7 @@ afterFirst zero vs = vs
 afterFirst (suc k) empty = empty
 afterFirst (suc k) (and v vs) = afterFirst k vs
 
--- Their values: those after the known fields' ones.
+-- The values of the added fields: those after the known fields' ones.
 abbrev pub addedValues : (fs : List Field) → Value → Values
 addedValues fs (leaf x) = empty
 addedValues fs (node h vs) = afterFirst (length (present fs h)) vs

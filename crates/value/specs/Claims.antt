@@ -66,9 +66,8 @@ Writes S t rs B room out =
     × (length out ≤ 16384)
     × (length out ≤ room)
 
--- What a reader by the old shapes S answers where the new ones S′ allow the payload as the value v, a root of type t with the fields fs ++ gs:
--- 26 at the place of the first inner struct that carries an added field; without one the value without the added fields, and the key comparisons due in
--- that. The tail is the bytes of the added fields that the root carries.
+-- What a reader by the old shapes S answers where the new ones S′ allow the payload as v, a root of type t with the fields fs ++ gs: 26 at the first inner
+-- struct that carries an added field; without one the value without the added fields, and as the tail the bytes of those that the root carries.
 abbrev pub ByOld : (S S′ : ℕ → Shape) (t : ℕ) (fs gs : List Field) (payload : List ℕ) (room : ℕ) → Value → Reading → (first : Option ℕ) → Type 0
 ByOld S S′ t fs gs payload room v answer (some p) = answer ≡ refusal 26 p
 ByOld S S′ t fs gs payload room v answer none =

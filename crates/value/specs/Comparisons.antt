@@ -8,12 +8,12 @@ use Rattle.value.specs.declared.Row.{Row}
 use Rattle.value.specs.Value.{Value, leaf, node, Values, none, some}
 use Rattle.value.specs.Plan.{Item, plan}
 
--- Of n keys: none for the first, one for the second, and so on.
+-- The comparisons of n keys: none for the first, one for the second, and so on.
 unfoldable pub due : ℕ → ℕ
 due zero = 0
 due (suc n) = n + due n
 
--- Of a composite's own keys: a map has as many as pairs, no other composite has any.
+-- The comparisons of a composite's own keys: a map has as many keys as pairs, no other composite has any.
 abbrev pub mapDue : Shape → (head : ℕ) → ℕ
 mapDue (map _ _) n = due n
 mapDue (array _) n = 0
@@ -23,7 +23,7 @@ mapDue (scalar _) h = 0
 mapDue (text _) h = 0
 
 module _ (S : ℕ → Shape) where
-  -- In a value of type t, over all the maps in it.
+  -- The comparisons in a value of type t, over all the maps in it.
   unfoldable mutual
     pub comparisons : Value → (t : ℕ) → ℕ
     comparisons (leaf x) t = 0

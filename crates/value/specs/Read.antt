@@ -18,7 +18,7 @@ use Rattle.value.specs.Value.{Tree, tip, branch, Forest, stop, plus, row
 
 -- ---- a value's own bytes
 
--- What they say: a content; or where a composite's place is, and its head.
+-- What a value's own bytes say: a content; or a composite's place, and its head, which is the count or the presence bits.
 pub data Own : Type 0 where
   plain : (content : List ℕ) → Own
   parts : (start head : ℕ) → Own
@@ -124,7 +124,7 @@ parse S (suc d) t = do
 abbrev pub rootBits : List Field → (payload : List ℕ) → ℕ
 rootBits fs payload = little (take (bitmapBytes (length fs)) payload)
 
--- The presence bits of the known fields, and how many bits beyond them are set.
+-- The presence bits of the known fields, and how many unknown bits (01's term), those beyond them, are set.
 abbrev pub knownBits : List Field → ℕ → ℕ
 knownBits fs m = m % 2 ^ length fs
 
@@ -147,7 +147,7 @@ rootStruct S t fs = at λ start. do
 
 -- ---- the whole reader
 
--- The one or the other, for a struct's shape.
+-- What f gives for a struct's fields; `other` for any other shape.
 abbrev pub onStruct : {A : Type 0} → Shape → (other : A) → (List Field → A) → A
 onStruct (struct fs) other f = f fs
 onStruct unknown other f = other

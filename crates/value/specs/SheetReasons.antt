@@ -94,7 +94,7 @@ module _ (B : List ℕ) where
       left-over : {r : Row} {ts : Forest} {x : List Row} → RootRowDue t fs r ts [] → 0 < length x → SheetFault t fs (r ∷ rowsAll ts) x [] 50
 
 -- The rows of a sheet over the bytes B, as type t by the shapes S, with room for so many bytes: 46 for a type that is no struct; faulty rows, of which the
--- first is named, or the number of rows where one is missing; 7 and 52 where the sheet shows a value whose encoding is above 16,384 bytes, or has no room.
+-- first is named, a missing one by the number of rows; 7 and 52 for a value whose encoding is above 16,384 bytes, or has no room.
 pub data SheetReason (S : ℕ → Shape) (t : ℕ) (rs : List Row) (B : List ℕ) (room : ℕ) : (number place : ℕ) → Type 0 where
   no-struct : ((fs : List Field) → S t ≡ struct fs → ⊥) → SheetReason S t rs B room 46 0
   faulty : {n : ℕ} (fs : List Field) (u x rest : List Row) → S t ≡ struct fs → rs ≡ u ++ (x ++ rest) → SheetFault B S t fs u x rest n

@@ -14,7 +14,7 @@ mutual
     none : Values
     some : Value → Values → Values
 
--- The same with a row for each value.
+-- A tree is a value with a row for each of its values.
 mutual
   pub data Tree : Type 0 where
     tip : Row → (content : List ℕ) → Tree
@@ -24,7 +24,7 @@ mutual
     stop : Forest
     plus : Tree → Forest → Forest
 
--- Its rows in wire order, the parent's first.
+-- The rows of a tree in wire order, the parent's first.
 unfoldable mutual
   pub rows : Tree → List Row
   rows (tip r x) = r ∷ []
@@ -34,7 +34,7 @@ unfoldable mutual
   rowsAll stop = []
   rowsAll (plus t ts) = rows t ++ rowsAll ts
 
--- Its value.
+-- The value of a tree.
 unfoldable mutual
   pub value : Tree → Value
   value (tip r x) = leaf x

@@ -5,23 +5,23 @@ use mathlib.Core.List.{List, [], _∷_, _++_}
 use lib.ListN.{take, drop}
 use Rattle.wire.specs.Little.{little}
 
--- the k lowest binary digits of x, lowest first
+-- The k lowest binary digits of x, the lowest first.
 unfoldable pub bits : ℕ → ℕ → List ℕ
 bits zero x = []
 bits (suc k) x = x % 2 ∷ bits k (x / 2)
 
--- those of each byte in turn
+-- The bits of each byte in turn.
 unfoldable pub bitmap : List ℕ → List ℕ
 unfolding bits
 bitmap [] = []
 bitmap (b ∷ s) = bits 8 b ++ bitmap s
 
--- how many are set
+-- How many bits of a list are set.
 unfoldable pub total : List ℕ → ℕ
 total [] = 0
 total (b ∷ l) = b + total l
 
--- what is read of the bitmap s of a struct with n known fields
+-- What is read of the bitmap s of a struct with n known fields: all bits as a number, the known ones of it, how many of these are set, and how many beyond.
 pub record Present (s : List ℕ) (n word known count unknown : ℕ) : Type 0 where
   pub word-is : word ≡ little s
   pub known-is : known ≡ word % 2 ^ n

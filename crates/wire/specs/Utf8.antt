@@ -7,11 +7,11 @@ use lib.ListN.{getD, take, drop}
 use Rattle.wire.specs.declared.utf8.Range.{Range}
 use Rattle.wire.specs.declared.utf8.Row.{Row}
 
--- a range of bytes: the lowest and the highest
+-- A range of bytes: the lowest and the highest.
 abbrev pub range : ℕ → ℕ → Range
 range low high = record { 0 = low; 1 = high }
 
--- a row: how many bytes a character has, and the range of each, the lead byte's first
+-- A row: how many bytes a character has, and the range of each, the lead byte's first.
 abbrev pub row : ℕ → Range → Range → Range → Range → Row
 row n lead second third fourth = record { 0 = n; 1 = lead; 2 = second; 3 = third; 4 = fourth }
 
@@ -19,7 +19,7 @@ row n lead second third fourth = record { 0 = n; 1 = lead; 2 = second; 3 = third
 abbrev pub tail : Range
 tail = range 0x80 0xBF
 
--- no byte is in it
+-- The range that no byte is in.
 abbrev pub empty : Range
 empty = range 0x01 0x00
 
@@ -50,22 +50,22 @@ rows =
 abbrev pub In : Range → ℕ → Bool
 In g b = leb (g .0) b && leb b (g .1)
 
--- the ranges of a row's bytes
+-- The ranges of a row's bytes.
 abbrev pub ranges : Row → List Range
 ranges r = take (r .0) (r .1 ∷ r .2 ∷ r .3 ∷ r .4 ∷ [])
 
--- as many bytes as ranges, each in its own
+-- There are as many bytes as ranges, each in its own.
 unfoldable pub matches : List Range → List ℕ → Bool
 matches [] [] = true
 matches [] (b ∷ c) = false
 matches (g ∷ gs) [] = false
 matches (g ∷ gs) (b ∷ c) = In g b && matches gs c
 
--- c is a character of the row r: a UTF8-char
+-- The bytes c are a character of the row r: a UTF8-char.
 abbrev pub isChar : Row → List ℕ → Bool
 isChar r c = matches (ranges r) c
 
--- s is the characters cs, one after the other: UTF8-octets = *( UTF8-char )
+-- The bytes s are the characters cs, one after the other: UTF8-octets = *( UTF8-char ).
 pub data Split : List (List ℕ) → List ℕ → Type 0 where
   none : Split [] []
   char : (r : Row) (c : List ℕ) (cs : List (List ℕ)) (s : List ℕ) → List·Memᴰ r rows → T (isChar r c) → Split cs s → Split (c ∷ cs) (c ++ s)
@@ -75,7 +75,7 @@ Utf8 s = (cs : List (List ℕ)) × Split cs s
 
 -- ---- the test
 
--- the ranges of the bytes due after the lead byte b, by the first row that has it; where none has it, no byte will do
+-- The ranges of the bytes due after the lead byte b, by the first row that has it; where none has it, no byte will do.
 unfoldable pub leadOf : ℕ → List Row → List Range
 leadOf b [] = empty ∷ []
 leadOf b (r ∷ rs) = cond (In (r .1) b) (drop 1 (ranges r)) (leadOf b rs)
@@ -83,27 +83,27 @@ leadOf b (r ∷ rs) = cond (In (r .1) b) (drop 1 (ranges r)) (leadOf b rs)
 unfoldable pub next : ℕ → List Range
 next b = leadOf b rows
 
--- whether s is bytes in the ranges due, and then characters
+-- Whether s is bytes in the ranges due, and then characters.
 unfoldable pub run : List Range → List ℕ → Bool
 run [] [] = true
 run [] (b ∷ s) = run (next b) s
 run (g ∷ gs) [] = false
 run (g ∷ gs) (b ∷ s) = In g b && run gs s
 
--- whether s is UTF-8
+-- Whether s is UTF-8.
 abbrev pub utf8 : List ℕ → Bool
 utf8 s = run [] s
 
--- the row at a place of the table; past its end, one of no bytes
+-- The row at a place of the table; past its end, one of no bytes.
 abbrev pub rowAt : ℕ → Row
 rowAt k = let no = range 0 0 in getD rows k (row 0 no no no no)
 
--- whether s has only characters of the row UTF8-1
+-- Whether s has only characters of the row UTF8-1.
 unfoldable pub ascii : List ℕ → Bool
 ascii [] = true
 ascii (b ∷ s) = isChar (rowAt 0) (b ∷ []) && ascii s
 
--- whether s has only characters of the row UTF8-2
+-- Whether s has only characters of the row UTF8-2.
 unfoldable pub pairs : List ℕ → Bool
 pairs [] = true
 pairs (b ∷ []) = false

@@ -1,4 +1,4 @@
-// Leaves of the wire codec.
+// What frames and payloads are made of: VarUInts, little-endian numbers, UTF-8 and presence bitmaps.
 pub mod bitmap;
 pub mod little;
 pub mod utf8;

@@ -4,7 +4,7 @@ ghost use Prim.Native.Nat.{_+_, _*_, _^_, _≤_, _<_};
 ghost use lib.ListN.{length, take, drop};
 ghost use Rattle.wire.specs.Little.{little, twos, bytes, written};
 
-// A byte as a wide number. It asks nothing at the call, and gives the byte's bound.
+// A byte as a number of 64 bits, which is below 256.
 pub fn wide(x: u8) -> u64
     ensures { λ r. ⌜ (r ≡ x) × (r < 256) ⌝ }
 {

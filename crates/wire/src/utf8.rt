@@ -52,7 +52,7 @@ fn within(g: Range, b: u8) -> bool
     (g.0 <= b) & (b <= g.1)
 }
 
-// The row at a place of the table. It stands apart from the loop, so that the check follows the nine rows once.
+// The row at a place of the table. It is a function of its own, so that the prover follows the nine rows once.
 fn row_at(k: usize) -> Row
     requires { ⌜ k < 9 ⌝ }
     ensures { λ r. ⌜ r ≡ rowAt k ⌝ }

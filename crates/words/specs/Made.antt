@@ -10,7 +10,7 @@ use Rattle.text.specs.Decimal.{decimal}
 unfoldable pub counted : (n : ℕ) (one many : List ℕ) → List ℕ
 counted n one many = decimal n ++ cond (eqb n 1) one many
 
--- kept 6 entries, 305 bytes; left out 2 spans
+-- As in: kept 6 entries, 305 bytes; left out 2 spans.
 unfoldable pub keptText : (entries bytes spans : ℕ) → List ℕ
 keptText entries bytes spans =
     codes "kept "
@@ -18,11 +18,11 @@ keptText entries bytes spans =
     ++ counted bytes (codes " byte; left out ") (codes " bytes; left out ")
     ++ counted spans (codes " span\n") (codes " spans\n")
 
--- left out 99 bytes from place 101 on
+-- As in: left out 99 bytes from place 101 on.
 unfoldable pub leftText : (place bytes : ℕ) → List ℕ
 leftText place bytes =
     codes "left out " ++ counted bytes (codes " byte from place ") (codes " bytes from place ") ++ decimal place ++ codes " on\n"
 
--- indexed 9 entries, 160 bytes
+-- As in: indexed 9 entries, 160 bytes.
 unfoldable pub indexedText : (entries bytes : ℕ) → List ℕ
 indexedText entries bytes = codes "indexed " ++ counted entries (codes " entry, ") (codes " entries, ") ++ counted bytes (codes " byte\n") (codes " bytes\n")

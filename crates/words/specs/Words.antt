@@ -47,7 +47,7 @@ unknown n = decimal n ++ codes ": no number of this format\n"
 unfoldable pub explained : ℕ → List ℕ
 explained n = cond (eqb (length (meaningOf n)) 0) (unknown n) (meaningOf n ++ (10 ∷ []) ++ adviceOf n ++ (10 ∷ []))
 
--- refused N place P, and the number in words.
+-- A refusal: refused N place P, and the number in words.
 unfoldable pub refusal : (number place : ℕ) → List ℕ
 refusal number place = codes "refused" ++ field number ++ codes " place" ++ field place ++ (10 ∷ []) ++ explained number
 

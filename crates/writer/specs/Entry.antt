@@ -27,16 +27,16 @@ outcomeOf out (value.written bs) = outcome (Written (length bs)) (bs ++ drop (le
 unfoldable pub payloadBy : (schema : List ℕ) (ty : ℕ) (cells B : List ℕ) → value.Writing
 payloadBy schema ty cells B = value.write (tableOf schema) ty (rowsOf cells) B 16384
 
--- Its length.
+-- The length of a payload that was made, or the refusal.
 abbrev pub lengthOf : value.Writing → Writing
 lengthOf (value.refusal n q) = Refused n q
 lengthOf (value.written bs) = Written (length bs)
 
--- It stands at the front of memory, where it fits there, and past it nothing changes.
+-- The payload stands at the front of memory, where it fits there, and past it nothing changes.
 abbrev pub Fronts : value.Writing → (memory after : List ℕ) → Type 0
 Fronts w memory after = (bs : List ℕ) → w ≡ value.written bs → length bs ≤ length memory → after ≡ bs ++ drop (length bs) memory
 
--- It, where it fits into the room for the output.
+-- The payload, where it fits into the room for the output; else 52.
 abbrev pub within : (room : ℕ) → value.Writing → value.Writing
 within room (value.refusal n q) = value.refusal n q
 within room (value.written bs) = cond (leb (length bs) room) (value.written bs) (value.refusal 52 0)
