@@ -26,7 +26,7 @@ pub fn right_side(side: u8, kind: u8) -> bool
         | ((side == 83) & ((4 <= kind) & (kind <= 7)))
 }
 
-// A struct type, or none.
+// What a type number of a method asks for: a value of that struct, or for 4294967295 nothing.
 fn of_type(t: u32) -> Payload
     ensures { λ r. ⌜ r ≡ typed t ⌝ }
 {

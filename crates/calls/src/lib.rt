@@ -63,7 +63,7 @@ pub struct Stepped {
     pub table: CallTable,
 }
 
-// A tally row: how many calls of a method were opened, and how many ended in each way.
+// A tally row (02's term): how many calls of a method were opened, and how many ended in each way.
 pub struct Tally {
     pub opened: u32,
     pub completed: u32,

@@ -96,7 +96,7 @@ impl Call {
             | ((kind == 4) & (self.output_elements == 65535))
     }
 
-    // With the mark of an accepted frame, and a stream element counted.
+    // The record with the mark of an accepted frame, and a stream element counted.
     fn mark(self, kind: u8) -> Call
         requires { ⌜ atLimit kind self ≡ false ⌝ }
         ensures { λ r. ⌜ r ≡ marked kind self ⌝ }

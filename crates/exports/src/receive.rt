@@ -128,9 +128,8 @@ fn received_cells(reading: Reading, used: usize, calls: usize) -> [u64; 7]
     }
 }
 
-// Judges the frame at the front of the bytes, from a side (the byte C or S). table: 128 records of three cells, before and after; with fewer cells, or a
-// number in them that is none of a record's, it is refused with 15. tallies: five cells a method, opened, completed, errored, cancelled and failed, before
-// and after. answer: place, bytes used, rows, the tail's place and length, calls open, the key comparisons due.
+// Judges the frame at the front of the bytes, from a side (the byte C or S). table: 128 records of three cells, before and after. tallies: five cells a
+// method, before and after. answer: place, bytes used, rows, the tail's place and length, calls open, the key comparisons due.
 #[no_mangle]
 pub extern "C" fn arf_receive(
     table: &mut [u64],

@@ -99,7 +99,7 @@ pub fn slot_at(cells: &[u64], i: usize) -> Call
     if i < 128 { call_at(cells, i) } else { EMPTY }
 }
 
-// A record is good by a good schema table. One that is free and one that is no more than open are told at a glance.
+// A record is good by a good schema table. A free one, and one with no mark but open, need no look at the form.
 fn is_good(s: &[u8], id: u64, method: u64, marks: u64) -> bool
     requires { ⌜ IsGood (now s) ⌝ }
     ensures { λ r. ⌜ r ≡ (plain method marks && goodCall (tableOf (now (s .entry))) (callOf id method marks)) ⌝ }
@@ -181,7 +181,7 @@ fn find_in(cells: &[u64], id: u64) -> Found
     Found::Missing
 }
 
-// The same. In the cells of a whole table none is missing, and the loop over them needs no such test.
+// The same. Where the cells of a whole table are lent, the loop needs no test for one that is missing.
 pub fn find(cells: &[u64], id: u64) -> Found
     ensures { λ r. ⌜ r ≡ firstSlot (isCall id) 0 (callsOf (now (cells .entry))) ⌝ }
 {
@@ -205,7 +205,7 @@ fn free_slot_in(cells: &[u64]) -> Found
     Found::Missing
 }
 
-// The same. In the cells of a whole table none is missing, and the loop over them needs no such test.
+// The same. Where the cells of a whole table are lent, the loop needs no test for one that is missing.
 pub fn free_slot(cells: &[u64]) -> Found
     ensures { λ r. ⌜ r ≡ firstSlot isFree 0 (callsOf (now (cells .entry))) ⌝ }
 {
@@ -230,7 +230,7 @@ fn open_count_in(cells: &[u64]) -> usize
     n
 }
 
-// The same. In the cells of a whole table none is missing, and the loop over them needs no such test.
+// The same. Where the cells of a whole table are lent, the loop needs no test for one that is missing.
 pub fn open_count(cells: &[u64]) -> usize
     ensures { λ r. ⌜ (r ≡ countOpen (callsOf (now (cells .entry)))) × (r ≤ 128) ⌝ }
 {

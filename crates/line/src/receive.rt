@@ -1,4 +1,4 @@
-// One frame over the lent tally rows. Proved by hand: the borrow checker's part does not cover a lent slice of structs.
+// One frame over the lent tally rows. Proved by hand, since the prover does not take a lent slice of structs by itself.
 use crate::Received;
 use crate::planning::plan;
 use crate::settling::missed;

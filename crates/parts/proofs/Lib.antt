@@ -3,3 +3,4 @@ pub mod Presence
 pub mod Items
 pub mod Walks
 pub mod Keys
+pub mod Masks

@@ -1,3 +1,4 @@
 -- The definitions that the reader's and the writer's walks share.
 pub mod Shape
 pub mod Keys
+pub mod Required

@@ -11,14 +11,14 @@ ghost use Rattle.value.specs.Read.{same, among};
 ghost use Rattle.value.specs.Write.{span};
 ghost use Rattle.parts.specs.Keys.{mixed, digest, holds, whereIs, keyAt, keysIn, Kept};
 
-// Nine times a digest, and a word more.
+// A digest with one word more: nine times the digest, and the word.
 fn mix(d: usize, w: usize) -> usize
     ensures { λ r. ⌜ r ≡ mixed d w ⌝ }
 {
     wrapping_add_usize(wrapping_add_usize(d << 3, d), w)
 }
 
-// The digest of the n bytes at a place, by words of eight bytes; where nothing is judged, any number.
+// The digest of the n bytes at a place, by words of eight bytes. A walk that does not judge needs none, and gets 0.
 fn digest_of(s: &[u8], place: usize, n: usize, judge: bool) -> usize
     requires { ⌜ place + n ≤ length (now s) ⌝ }
     ensures { λ r. ⌜ (judge ≡ true → r ≡ digest (span (now (s .entry)) place n)) ⌝ }
@@ -77,7 +77,7 @@ fn is_key(s: &[u8], keys: &[usize], j: usize, place: usize, n: usize) -> bool
     is_same(s, place, n, x / 4294967296, x % 4294967296)
 }
 
-// Whether the n bytes at a place, whose digest is d, are the content of one of the first held keys; where nothing is judged, they are known not to be.
+// Whether the n bytes at a place, whose digest is d, are the content of one of the first held keys. A walk that does not judge knows that they are not.
 fn is_among(
     s: &[u8],
     keys: &[usize],
@@ -107,7 +107,7 @@ fn is_among(
     false
 }
 
-// Whether the n bytes at a place are the content of one of the first i keys; they are kept as the next. Where nothing is judged, they are known to be new.
+// Whether the n bytes at a place are the content of one of the first i keys; they are kept as the next. A walk that does not judge knows that they are not.
 pub fn is_repeated(
     s: &[u8],
     keys: &mut [usize],

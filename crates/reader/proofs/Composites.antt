@@ -22,7 +22,7 @@ use Rattle.value.proofs.Narrowed.{first-all}
 use Rattle.value.proofs.Comparisons.{due-half, due-few}
 use Rattle.parts.specs.Shape.{fieldsFrom}
 use Rattle.parts.proofs.Presence.{length-fields, present-set, present-clear}
-use Rattle.parts.proofs.Items.{keyItem, item-accepted, key-accepted, key-known, elements-some, pairs-some}
+use Rattle.parts.proofs.Items.{keyItem, item-accepted, key-accepted, key-known, elements-some, pairs-some, pairs-none}
 use Rattle.reader.specs.declared.leaf.Count.{Count}
 use Rattle.reader.specs.declared.leaf.Count.the-variants.{Is, Not}
 use Rattle.reader.specs.declared.leaf.Head.{Head}
@@ -32,7 +32,7 @@ use Rattle.reader.specs.declared.walk.Walk.the-variants.{Past}
 use Rattle.reader.specs.Sheet.{putRow}
 use Rattle.reader.specs.Leaf.{part, countOf, CountIn, Counted, headOf, HeadIn, Headed}
 use Rattle.reader.specs.Walk.{firstFields, told, toldAll, toldHeld, Final, done, stopped, walkOf, Walked}
-use Rattle.reader.proofs.Steps.{ahead, renamed, further, as-told, spanRow, walk-length, item-past, item-stop, key-stop, key-again, key-new, accepted-along, parse-refused, parse-whole, own-accepted}
+use Rattle.reader.proofs.Steps.{ahead, renamed, further, composite-past, as-told, spanRow, walk-length, item-past, item-stop, key-stop, key-again, key-new, accepted-along, parse-refused, parse-whole, own-accepted}
 
 -- ---- heads
 
@@ -313,6 +313,19 @@ module _ (R S : ℕ → Shape) (P : ℕ → Reader Tree) (p : List ℕ) (k v n i
 -- the comparisons of a map's own keys, at most 32 a pair
 pub own-due : (n : ℕ) → n * (n - 1) / 2 ≡ due n
 own-due n = rw (← due-half n) (omega arith)
+
+-- a map without pairs, which has its own row alone
+module _ (S : ℕ → Shape) (d t : ℕ) (p : List ℕ) (at k v : ℕ) (is : S t ≡ map k v) (r : Count) (read : Counted p at 2 (count 2 (cursorAt p at)) r) where
+  pub map-none : (n start : ℕ) → r ≡ Is n start → n ≡ 0 → (R : ℕ → Shape) → R t ≡ map k v → (row : ℕ) (l m : List ℕ) → row ≤ at
+      → m ≡ putRow l row (record { ty = t; place = start; length = 0; count = 0 })
+      → Walked p (at + 1) (told R S t) (parse S (suc d) t (cursorAt p at)) row l (Past 0 start (row + 1)) m
+  map-none n start q none R shown row l m behind put =
+      let i = count-in S d t p at 2 r read n start q in
+      let zero : start - start ≡ 0 = omega arith in
+      map-valued S d t p at k v is r read n start q R shown (omega (arith, none)) _
+      (composite-past R S (parse S d) (map k v) t start n (cursorAt p start) row l p start start 0 0 (row + 1) l
+      _ [] (pairs n k v) (pairs-none k v n (omega (arith, none))) refl
+      (rw none (omega (arith, own-due 0))) (rw (zero, none) put) (omega (arith, i .1)) (omega (arith, i .0, behind)) (omega arith))
 
 pub few-pairs : (n : ℕ) → n ≤ 64 → n * (n - 1) ≤ 63 * n
 few-pairs n h = rw (← due-half n) (due-few n h)

@@ -3,6 +3,7 @@ pub mod Leaves
 pub mod Heads
 pub mod Steps
 pub mod Composites
+pub mod Pairs
 pub mod Flats
 pub mod Turns
 pub mod Partials

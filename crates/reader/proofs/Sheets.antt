@@ -25,7 +25,7 @@ pub put-none : (l : List ℕ) (i : ℕ) (r : Row) → length l < 4 * i + 4 → p
 unfolding putRow
 put-none l i r h = rw (lt-leb (4 * i + 4) (length l) h)
 
-length-put : (l : List ℕ) (i : ℕ) (r : Row) → length (putRow l i r) ≡ length l
+pub length-put : (l : List ℕ) (i : ℕ) (r : Row) → length (putRow l i r) ≡ length l
 length-put l i r = elim (decLe (4 * i + 4) (length l)) [
   | yes h ↦ rw (put-fits l i r h) (length-put4 l (4 * i) r)
   | no g ↦ let h : length l < 4 * i + 4 = omega arith in rw (put-none l i r h)

@@ -2,13 +2,12 @@
 use mathlib.Core.Path.{_≡_, refl, sym, ap, _∙_}
 use mathlib.Core.Bool.{Bool, true, false, cond}
 use mathlib.Core.List.{List, []}
-use Prim.Native.Nat.{ℕ, suc, _+_, _-_, _/_, _%_, _^_, _≤_, _<_}
+use Prim.Native.Nat.{ℕ, _+_, _-_, _/_, _%_, _^_, _≤_, _<_}
 use native.Mathlib.Omega.{arith}
 use native.Mathlib.Decide.{decLt}
 use lib.Count.{trailingZeros}
 use lib.Dec.{ltb}
 use lib.ListN.{length, getD}
-use lib.Pow.{pow-mono}
 use Rattle.schema.specs.declared.Field.{Field}
 use Rattle.schema.specs.declared.TypeRow.{TypeRow}
 use Rattle.schema.specs.Table.{Shape, scalar, text, array, struct, rowAt, shape}
@@ -16,11 +15,10 @@ use Rattle.schema.specs.File.{tableOf}
 use Rattle.schema.specs.Check.{IsGood, field}
 use Rattle.value.specs.Answer.{refused, cursorAt, Accepted}
 use Rattle.value.specs.Read.{Item, present, parts, own, walk, whole, parse}
-use Rattle.value.proofs.Bits.{present-none}
 use Rattle.value.specs.Narrow.{firstOf}
 use Rattle.parts.specs.Shape.{fieldsFrom, leafShape, shapeIn}
-use Rattle.parts.proofs.Presence.{present-set}
-use Rattle.parts.proofs.Tables.{field-row, shape-leaf, shape-array, shape-struct}
+use Rattle.parts.proofs.Masks.{Standing, standing-first, standing-some, standing-next, standing-field, standing-kind, standing-skip, standing-same, standing-end}
+use Rattle.parts.proofs.Tables.{shape-leaf, shape-array, shape-struct}
 use Rattle.reader.specs.declared.flat.Prepared.{Prepared}
 use Rattle.reader.specs.declared.leaf.Span.{Span}
 use Rattle.reader.specs.declared.leaf.Span.the-variants.{At}
@@ -31,7 +29,6 @@ use Rattle.reader.specs.Walk.{firstFields, told, toldHeld, Final, Walked
 use Rattle.reader.specs.Flat.{LeavesIn, IsFlat, Described}
 use Rattle.reader.proofs.Steps.{ahead, stop-at, composite-past, composite-stop, rest-accepted, leaf-in, leaf-past, spanRow}
 use Rattle.reader.proofs.Composites.{first-of, first-whole, leftOver, field-stop, field-accepted, field-read}
-use Rattle.reader.proofs.Flats.{zeros-skip, zeros-below, zeros-fit, half-fits}
 
 -- ---- types
 
@@ -127,14 +124,12 @@ pub record Going (s p : List ℕ) (depth a b known start row : ℕ) (sheet : Lis
   pub behind : below ≤ here
   pub forth : start ≤ here
   pub long : length l ≡ length sheet
-  pub first : a ≤ i
-  pub last : i ≤ a + b
-  pub fits : bits < 2 ^ (a + b - i)
+  pub on : Standing a b i bits
   pub count : below + length (leftOver (tableOf s) i (a + b - i) bits) ≡ row + 1 + length (leftOver (tableOf s) a b known)
 
 module _ (s p : List ℕ) (depth a b known start row : ℕ) (sheet : List ℕ) where
-  pub going-first : start ≤ length p → row + 1 ≤ start → known < 2 ^ b → Going s p depth a b known start row sheet a known start (row + 1) sheet
-  going-first inside behind fits =
+  pub going-first : start ≤ length p → row + 1 ≤ start → b ≤ 64 → known < 2 ^ b → Going s p depth a b known start row sheet a known start (row + 1) sheet
+  going-first inside behind few fits =
       let e : a + b - a ≡ b = omega arith in
       record {
         same = λ R. rw e;
@@ -142,46 +137,31 @@ module _ (s p : List ℕ) (depth a b known start row : ℕ) (sheet : List ℕ) w
         behind = behind;
         forth = omega arith;
         long = refl;
-        first = omega arith;
-        last = omega arith;
-        fits = rw e fits;
+        on = standing-first few fits;
         count = rw e;
       }
 
   module _ (i bits here below : ℕ) (l : List ℕ) (g : Going s p depth a b known start row sheet i bits here below l) (some : 0 < bits) where
     -- the zeros below the next bit are passed over
-    pub going-skip : bits < 2 ^ 64 → (z : ℕ) → z ≡ trailingZeros 64 bits → Going s p depth a b known start row sheet (i + z) (bits / 2 ^ z) here below l
-    going-skip word z is =
-        let left = a + b - i in
-        let few = zeros-below (tableOf s) i left bits z is some word (g .fits) in
-        let e : a + b - (i + z) ≡ left - z = omega arith in
-        let skip = zeros-skip (tableOf s) i left bits z is in
+    pub going-skip : (z : ℕ) → z ≡ trailingZeros 64 bits → Going s p depth a b known start row sheet (i + z) (bits / 2 ^ z) here below l
+    going-skip z is =
+        let skip = standing-same (g .on) some is (tableOf s) in
         record {
-          same = λ R. rw (e, ← skip) (g .same R);
+          same = λ R. rw skip (g .same R);
           inside = g .inside;
           behind = g .behind;
           forth = g .forth;
           long = g .long;
-          first = omega (arith, g .first);
-          last = omega (arith, few, g .last);
-          fits = rw e (zeros-fit (tableOf s) i left bits z is some word (g .fits));
-          count = rw (e, ← skip) (g .count);
+          on = standing-skip (g .on) some is;
+          count = rw skip (g .count);
         }
-
-    pub going-word : b ≤ 64 → bits < 2 ^ 64
-    going-word few = let le : a + b - i ≤ 64 = omega (arith, g .first) in omega (arith, g .fits, pow-mono {i = a + b - i} {j = 64} le)
-
-    -- there is a field left
-    pub going-some : i < a + b
-    going-some = omega (arith, half-fits bits (a + b - i) some (g .fits) .0)
 
     module _ (room : a + b ≤ length (tableOf s .fields)) (good : IsGood s) (leaves : LeavesIn (tableOf s) a (a + b)) (f : Field) (is : f ≡ field (tableOf s) i)
         (r : TypeRow) (row-is : r ≡ rowAt (tableOf s) (f .ty)) where
       pub going-field : LeafField s f r
       going-field =
-          let few = going-some in
-          let other = field-row s good i (a + b - i) (omega arith) (omega arith) f is r row-is in
-          let kind : rowAt (tableOf s) (field (tableOf s) i .ty) .kind < 14 = leaves i (g .first) few in
+          let other = standing-kind (g .on) some s good room f is r row-is in
+          let kind : rowAt (tableOf s) (field (tableOf s) i .ty) .kind < 14 = leaves i (g .on .first) (omega (arith, standing-some (g .on) some)) in
           let leaf : r .kind < 14 = rw (row-is, is) kind in
           record { some = other; leaf = leaf; is = shape-leaf (tableOf s) (f .ty) r row-is other leaf }
 
@@ -190,57 +170,49 @@ module _ (s p : List ℕ) (depth a b known start row : ℕ) (sheet : List ℕ) w
             → Accepted (whole (parse (shapeIn s) depth) ty (struct (fieldsFrom (tableOf s) a b)) (parts place known) (cursorAt p start))
             → Accepted (parse (shapeIn s) depth (f .ty) (cursorAt p here))
         going-accepted ty place h =
-            let few = going-some in
             let S = shapeIn s in
             let P = parse S depth in
             let items = leftOver (tableOf s) i (a + b - i) bits in
-            field-accepted S S P p (tableOf s) i (a + b - i) bits here 0 below l (omega arith) (omega arith) f is odd
+            field-accepted S S P p (tableOf s) i (a + b - i) bits here 0 below l (standing-some (g .on) some) (omega (arith, g .on .last)) f is odd
             (rest-accepted S S P (struct (fieldsFrom (tableOf s) a b)) ty place known (cursorAt p start) row sheet (walk P [] items (cursorAt p here)) items 0 below l (g .same S) h)
 
         pub going-stop : (R : ℕ → Shape) (ty place n q : ℕ) (after : List ℕ) → parse (shapeIn s) depth (f .ty) (cursorAt p here) ≡ refused n q
             → Walked p start (toldHeld R (shapeIn s) 0 (present (fieldsFrom (tableOf s) a b) known))
             (whole (parse (shapeIn s) depth) ty (struct (fieldsFrom (tableOf s) a b)) (parts place known) (cursorAt p start)) row sheet (Refused n q) after
         going-stop R ty place n q after e =
-            let few = going-some in
             let S = shapeIn s in
             let P = parse S depth in
             composite-stop R S P (struct (fieldsFrom (tableOf s) a b)) ty place known (cursorAt p start) row sheet p start n q after
-            (field-stop R S P p (tableOf s) i (a + b - i) bits here 0 below l (omega arith) (omega arith) f is odd n q (stop-at (told R S (f .ty)) _ below l n q e) ∙ g .same R)
+            (field-stop R S P p (tableOf s) i (a + b - i) bits here 0 below l (standing-some (g .on) some) (omega (arith, g .on .last)) f is odd n q (stop-at (told R S (f .ty)) _ below l n q e) ∙ g .same R)
 
         pub going-on : (some : (depth ≡ 0) → ⊥) (c : Span) → Spanned p here (own (leafShape (r .kind)) (cursorAt p here)) c → (from to : ℕ) → c ≡ At from to
             → (m : List ℕ) → m ≡ putRow l below (spanRow (f .ty) from to) → length m ≡ length l
             → Going s p depth a b known start row sheet (i + 1) (bits / 2) to (below + 1) m
         going-on deep c read from to e m put long =
-            let few = going-some in
             let S = shapeIn s in
             let T = tableOf s in
             let left = a + b - i in
-            let half = half-fits bits left some (g .fits) in
             let next : a + b - (i + 1) ≡ left - 1 = omega arith in
             let k = going-field in
             let w = leaf-in S depth (f .ty) (leafShape (r .kind)) (k .is) deep p here c read from to e in
-            let room-left : i + left ≤ length (T .fields) = omega arith in
-            let set = present-set T i left (half .0) room-left bits f is odd in
-            let more : length (leftOver T i left bits) ≡ suc (length (leftOver T (i + 1) (left - 1) (bits / 2))) = ap length set in
+            let more = ap length (standing-field (g .on) some T room f is odd) in
             record {
               same = λ R.
                   let x = leaf-past S depth (f .ty) (leafShape (r .kind)) (k .is) deep p here c read from to e R below l m (g .behind) put in
-                  rw next
-                  (sym (field-read R S (parse S depth) p T i left bits here 0 below l (half .0) room-left f is odd 0 to (below + 1) m x to 0 (below + 1) m refl refl refl refl .same) ∙ g .same R);
+                  let read = field-read R S (parse S depth) p T i left bits here 0 below l (standing-some (g .on) some) (omega (arith, g .on .last)) f is odd 0 to (below + 1) m x to 0 (below + 1) m refl refl refl refl in
+                  rw next (sym (read .same) ∙ g .same R);
               inside = w .1;
               behind = omega (arith, w .2, g .behind);
               forth = omega (arith, w .2, g .forth);
               long = long ∙ g .long;
-              first = omega (arith, g .first);
-              last = omega arith;
-              fits = rw next (half .1);
-              count = rw next (omega (arith, more, g .count));
+              on = standing-next (g .on) some;
+              count = omega (arith, more, g .count);
             }
 
   -- no bit is left: the struct's own row has the number of rows written since
   module _ (i here below : ℕ) (l : List ℕ) (g : Going s p depth a b known start row sheet i 0 here below l) where
     none-left : leftOver (tableOf s) i (a + b - i) 0 ≡ []
-    none-left = present-none (fieldsFrom (tableOf s) i (a + b - i))
+    none-left = standing-end (tableOf s) a b i refl
 
     pub going-count : below - row - 1 ≡ length (leftOver (tableOf s) a b known)
     going-count =

@@ -1,23 +1,22 @@
 -- Types whose values hold nothing but scalars, strings and bytes, as the loop over an array of such values needs them.
 use mathlib.Core.Path.{_≡_}
-use mathlib.Core.Bool.{cond}
+use mathlib.Core.Bool.{Bool}
 use mathlib.Core.List.{List}
 use Prim.Native.Nat.{ℕ, _+_, _^_, _≤_, _<_}
-use lib.Bits.{bitAnd}
-use lib.Dec.{eqb}
 use lib.ListN.{length}
-use Rattle.schema.specs.declared.Field.{Field}
-use Rattle.schema.specs.Table.{Table, Shape, rowAt, array, struct}
+use Rattle.schema.specs.Table.{Table, Shape, rowAt, array, map, struct}
 use Rattle.schema.specs.File.{tableOf, Laid}
 use Rattle.schema.specs.Check.{field}
 use Rattle.value.specs.Answer.{Answer, refused, seen, cursorAt}
-use Rattle.value.specs.Read.{Own, parts, complete, own, plan}
+use Rattle.value.specs.Comparisons.{mapDue}
+use Rattle.value.specs.Read.{Own, parts, own, plan}
 use Rattle.parts.specs.Shape.{fieldsFrom, shapeIn}
+use Rattle.parts.specs.Required.{Requires}
 use Rattle.reader.specs.declared.flat.Prepared.{Prepared}
 use Rattle.reader.specs.declared.flat.Opened.{Opened}
 use Rattle.reader.specs.declared.flat.Opened.the-variants.{Bits, Fault}
 use Rattle.reader.specs.declared.walk.Walk.{Walk}
-use Rattle.reader.specs.Walk.{valueIn, wholeIn, told, toldHeld, Walked}
+use Rattle.reader.specs.Walk.{valueIn, wholeIn, told, toldHeld, Walked, Ready}
 
 -- The fields from one number up to another are scalars, strings or bytes.
 abbrev pub LeavesIn : Table → (first end : ℕ) → Type 0
@@ -31,15 +30,9 @@ pub record IsFlat (s : List ℕ) (depth ty : ℕ) : Type 0 where
   pub fields : rowAt (tableOf s) ty .kind ≡ 16 → LeavesIn (tableOf s) (rowAt (tableOf s) ty .a) (rowAt (tableOf s) ty .a + rowAt (tableOf s) ty .b)
   pub other : 13 < rowAt (tableOf s) ty .kind → (rowAt (tableOf s) ty .kind ≡ 14 → ⊥) → rowAt (tableOf s) ty .kind ≡ 16
 
--- ---- bits that are required
-
--- A field asks for its bit unless it is optional.
-abbrev pub requiredBit : (optional : ℕ) → ℕ
-requiredBit optional = cond (eqb optional 1) 0 1
-
--- The bits of the fields that are not optional: a word that has all of them is complete, and no other is.
-abbrev pub Requires : (required : ℕ) → List Field → Type 0
-Requires required fs = (word : ℕ) → eqb (bitAnd required word) required ≡ complete fs word
+-- Keys and values of a map are scalars, strings or bytes.
+abbrev pub PairsIn : Table → (key val : ℕ) → Type 0
+PairsIn T key val = (0 < rowAt T key .kind) × (rowAt T key .kind < 14) × (0 < rowAt T val .kind) × (rowAt T val .kind < 14)
 
 -- What is read once of a type.
 pub record Described (s : List ℕ) (ty : ℕ) (e : Prepared) : Type 0 where
@@ -79,3 +72,37 @@ HeldFlat s p depth ty elem place n at row sheet r after =
 abbrev pub HeldLeaves : (s p : List ℕ) (depth ty elem place n at row : ℕ) (sheet : List ℕ) → Walk → (after : List ℕ) → Type 0
 HeldLeaves s p depth ty elem place n at row sheet r after =
     (R : ℕ → Shape) → Walked p at (toldHeld R (shapeIn s) 0 (plan (array elem) n)) (wholeIn s p depth ty (array elem) place n at) row sheet r after
+
+-- A map from its head on whose keys and values are scalars, strings or bytes.
+abbrev pub HeldPairs : (s p : List ℕ) (depth ty key val place n at row : ℕ) (sheet : List ℕ) → Walk → (after : List ℕ) → Type 0
+HeldPairs s p depth ty key val place n at row sheet r after =
+    (R : ℕ → Shape)
+    → Walked p at (toldHeld R (shapeIn s) (mapDue (map key val) n) (plan (map key val) n)) (wholeIn s p depth ty (map key val) place n at) row sheet r after
+
+-- What the loop over the n pairs of such a map may assume.
+pub record PairsReady (s p : List ℕ) (depth ty key val n start row : ℕ) (judge : Bool) : Type 0 where
+  pub ready : Ready s p start (row + 1) judge (wholeIn s p depth ty (map key val) start n start)
+  pub leaves : PairsIn (tableOf s) key val
+  pub most : n ≤ 64
+
+-- ---- structs of which only the first fields are shown
+
+-- The fields of a struct from its bits on, with a row for each, all scalars, strings or bytes: n fields from the first on.
+abbrev pub HeldFields : (s p : List ℕ) (depth ty first n place known at row : ℕ) (sheet : List ℕ) → Walk → (after : List ℕ) → Type 0
+HeldFields s p depth ty first n place known at row sheet r after =
+    (R : ℕ → Shape)
+    → Walked p at (toldHeld R (shapeIn s) 0 (plan (struct (fieldsFrom (tableOf s) first n)) known)) (wholeIn s p depth ty (struct (fieldsFrom (tableOf s) first n)) place known at) row sheet r after
+
+-- The first m fields of a type's row.
+abbrev pub firstShape : (s : List ℕ) (ty m : ℕ) → Shape
+firstShape s ty m = struct (fieldsFrom (tableOf s) (rowAt (tableOf s) ty .a) m)
+
+-- A struct of which the first m fields are shown.
+abbrev pub ValuedPart : (s p : List ℕ) (depth ty m at row : ℕ) (sheet : List ℕ) → Walk → (after : List ℕ) → Type 0
+ValuedPart s p depth ty m at row sheet r after =
+    (R : ℕ → Shape) → R ty ≡ firstShape s ty m → Walked p (at + 1) (told R (shapeIn s) ty) (valueIn s p depth ty at) row sheet r after
+
+-- An array of such structs from its head on.
+abbrev pub HeldPart : (s p : List ℕ) (depth ty elem m place n at row : ℕ) (sheet : List ℕ) → Walk → (after : List ℕ) → Type 0
+HeldPart s p depth ty elem m place n at row sheet r after =
+    (R : ℕ → Shape) → R elem ≡ firstShape s elem m → Walked p at (toldHeld R (shapeIn s) 0 (plan (array elem) n)) (wholeIn s p depth ty (array elem) place n at) row sheet r after

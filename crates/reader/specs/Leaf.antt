@@ -33,6 +33,10 @@ pub record Counted (p : List ℕ) (at least : ℕ) (o : Answer ℕ) (r : Count) 
   pub same : countOf p at r ≡ o
   pub within : CountIn (length p) at least r
 
+-- That a map's count at `at`, of pairs of at least two bytes, is 0.
+abbrev pub Uncounted : (p : List ℕ) (at : ℕ) → Answer ℕ → Type 0
+Uncounted p at o = Counted p at 2 o (Is 0 (at + 1))
+
 -- ---- contents
 
 abbrev pub spanOf : List ℕ → Span → Answer Own

@@ -7,6 +7,8 @@ use crate::leaf::read_count;
 use crate::leaf::shown_of;
 use crate::sheet::put_row;
 use crate::walk::Walk;
+use parts::required_of;
+use parts::zeros_in;
 use schema::Layout;
 use schema::TypeRow;
 use schema::access::type_row;
@@ -17,14 +19,13 @@ use wire::bitmap;
 ghost use mathlib.Core.Path.{_≡_};
 ghost use mathlib.Core.Bool.{true};
 ghost use Prim.Native.Nat.{suc, _+_, _≤_, _<_};
-ghost use lib.Count.{trailingZeros};
 ghost use lib.ListN.{length};
 ghost use Rattle.schema.specs.Table.{rowAt, array};
-ghost use Rattle.schema.specs.File.{Laid, tableOf};
+ghost use Rattle.schema.specs.File.{tableOf};
 ghost use Rattle.schema.specs.Check.{IsGood};
-ghost use Rattle.parts.specs.Shape.{fieldsFrom, shapeIn};
+ghost use Rattle.parts.specs.Shape.{shapeIn};
 ghost use Rattle.reader.specs.Walk.{valueIn, wholeIn, firstFields, Ready};
-ghost use Rattle.reader.specs.Flat.{LeavesIn, requiredBit, Requires, IsFlat, Described, Unfolded, ValuedFlat, HeldFlat, HeldLeaves};
+ghost use Rattle.reader.specs.Flat.{LeavesIn, IsFlat, Described, Unfolded, ValuedFlat, HeldFlat, HeldLeaves};
 
 // A type as the loop over elements needs it: its row, the bits of a struct's fields that are not optional, and the table's layout.
 pub struct Prepared {
@@ -41,7 +42,7 @@ pub enum Opened {
 }
 
 // Whether each of n fields from the first on is a scalar, a string or bytes.
-fn are_leaves(s: &[u8], first: usize, n: usize) -> bool
+pub fn are_leaves(s: &[u8], first: usize, n: usize) -> bool
     requires { ⌜ IsGood (now s) × (first + n ≤ length (tableOf (now s) .fields)) ⌝ }
     ensures { λ r. ⌜ (r ≡ true → LeavesIn (tableOf (now (s .entry))) first (first + n)) ⌝ }
 {
@@ -82,33 +83,8 @@ pub fn is_flat(shown: &[u8; 256], s: &[u8], ty: u32, depth: usize) -> bool
     are_leaves(s, t.a as usize, n)
 }
 
-// The bit of a field that is not optional.
-fn bit_of(optional: u32) -> u64
-    ensures { λ r. ⌜ (r ≡ requiredBit optional) × (r ≤ 1) ⌝ }
-{
-    if optional == 1 {
-        return 0;
-    }
-    1
-}
-
-// The bits of those of n fields from the first on that are not optional.
-fn required_of(s: &[u8], l: Layout, first: usize, n: usize) -> u64
-    requires { ⌜ IsGood (now s) × Laid (now s) l × (n ≤ 64) × (first + n ≤ length (tableOf (now s) .fields)) ⌝ }
-    ensures { λ r. ⌜ Requires r (fieldsFrom (tableOf (now (s .entry))) first n) ⌝ }
-{
-    let mut i = n;
-    let mut required: u64 = 0;
-    while 0 < i {
-        i = i - 1;
-        let f = field_row(s, l, first + i);
-        required = 2 * required + bit_of(f.optional);
-    }
-    required
-}
-
 // A type of a good table.
-fn prepared_of(s: &[u8], ty: u32) -> Prepared
+pub fn prepared_of(s: &[u8], ty: u32) -> Prepared
     requires { ⌜ IsGood (now s) ⌝ }
     ensures { λ r. ⌜ Described (now (s .entry)) ty r ⌝ }
 {
@@ -132,7 +108,7 @@ fn prepared_of(s: &[u8], ty: u32) -> Prepared
 }
 
 // The bitmap of an inner struct that has n fields, of which those with bits in `required` have to be there.
-fn read_bits(p: &[u8], required: u64, n: usize, at: usize) -> Opened
+pub fn read_bits(p: &[u8], required: u64, n: usize, at: usize) -> Opened
     requires { ⌜ (0 < n) × (n ≤ 64) × (at ≤ length (now p)) ⌝ }
     ensures { λ r. ⌜ Unfolded (now (p .entry)) required n at r ⌝ }
 {
@@ -151,13 +127,6 @@ fn read_bits(p: &[u8], required: u64, n: usize, at: usize) -> Opened
         known: b.known,
         start: at + size,
     }
-}
-
-// How many bits stand below the lowest one that is set.
-fn zeros_in(bits: u64) -> usize
-    ensures { λ r. ⌜ (r ≡ trailingZeros 64 bits) × (r ≤ 64) ⌝ }
-{
-    u64::trailing_zeros(bits) as usize
 }
 
 // The n elements of an array from a place on that are scalars, strings or bytes.
@@ -284,7 +253,7 @@ fn flat_array(
     }
 }
 
-// A struct or an array of them, or one of them itself.
+// An element of a flat type: a scalar, a string or bytes, or a struct or an array of them.
 fn element(
     s: &[u8],
     f: Prepared,

@@ -18,7 +18,7 @@ ghost use Rattle.value.specs.Answer.{cursorAt, Accepted};
 ghost use Rattle.value.specs.Read.{count, own, bitmap};
 ghost use Rattle.value.specs.Write.{span};
 ghost use Rattle.parts.specs.Shape.{leafShape, fieldsFrom};
-ghost use Rattle.reader.specs.Leaf.{Counted, Spanned, Headed};
+ghost use Rattle.reader.specs.Leaf.{Counted, Uncounted, Spanned, Headed};
 
 // A count and where what it counts starts, or a refusal at the count's own place.
 pub enum Count {
@@ -94,6 +94,19 @@ pub fn map_count(p: &[u8], at: usize) -> Count
         }
     }
     read_count(p, at, 2)
+}
+
+// Whether a value of a kind at a place is a map without pairs, whose count is the byte 0.
+pub fn is_empty_map(p: &[u8], kind: u32, at: usize) -> bool
+    ensures { λ r. ⌜ (r ≡ true → (kind ≡ 15) × Uncounted (now (p .entry)) at (count 2 (cursorAt (now (p .entry)) at))) ⌝ }
+{
+    if kind != 15 {
+        return false;
+    }
+    if p.len() <= at {
+        return false;
+    }
+    byte_at(p, at) == 0
 }
 
 // A scalar's content.

@@ -1,8 +1,10 @@
 // The payload reader: values of a schema table's types, shown as rows of a sheet.
+pub mod added;
 pub mod beside;
 pub mod flat;
 pub mod keys;
 pub mod leaf;
+pub mod maps;
 pub mod sheet;
 pub mod walk;
 
@@ -31,9 +33,8 @@ pub enum Reading {
     },
 }
 
-// Reads a payload as a struct of type ty by a good table, and shows the first fields of each struct, as many as `shown` has for its type:
-// first a walk that judges, and writes what it can of the rows into a small sheet of its own. Few rows are copied from there; where they are many, and
-// all have room, a second walk writes them.
+// Reads a payload as a struct of type ty by a good table, and shows the first fields of each struct, as many as `shown` has for its type. One walk judges,
+// and writes into a small sheet of its own; few rows are copied from there, and more are written by a second walk.
 fn read_shown(
     shown: &[u8; 256],
     schema: &[u8],

@@ -2,6 +2,8 @@
 // They read the payload p by the schema table s and write a row for each value, from `row` on, where the sheet has it.
 // Of a struct of type ty the first shown[ty] fields are shown: the others are read, and have no rows.
 // A walk that does not judge trusts that the same walk has been judged: it skips the tests that would read contents again.
+use crate::added::is_partly_shown;
+use crate::added::structs;
 use crate::flat::elements;
 use crate::flat::is_flat;
 use crate::keys::is_again;
@@ -9,11 +11,14 @@ use crate::leaf::Count;
 use crate::leaf::Head;
 use crate::leaf::Span;
 use crate::leaf::content;
+use crate::leaf::is_empty_map;
 use crate::leaf::map_count;
 use crate::leaf::ones_in;
 use crate::leaf::presence;
 use crate::leaf::read_count;
 use crate::leaf::shown_of;
+use crate::maps::holds_leaves;
+use crate::maps::maps;
 use crate::sheet::put_row;
 use schema::TypeRow;
 use schema::access::field;
@@ -105,8 +110,15 @@ fn array(
             if kind < 14 {
                 return elements(s, p, sheet, ty, elem, n, start, depth, row, judge);
             }
+            if holds_leaves(s, t) {
+                return maps(s, p, sheet, ty, elem, t.a, t.b, n, start, depth, row, judge);
+            }
             if is_flat(shown, s, elem, depth) {
                 return elements(s, p, sheet, ty, elem, n, start, depth, row, judge);
+            }
+            if is_partly_shown(shown, s, elem, depth) {
+                let m = shown_of(shown, elem);
+                return structs(s, p, sheet, ty, elem, m, n, start, depth, row, judge);
             }
             let mut left = n;
             let mut here = start;
@@ -141,7 +153,7 @@ fn array(
     }
 }
 
-// A map of type ty, of at most 64 pairs. Its keys are kept in an array where they are judged, a short one where there are few.
+// A map of type ty, of at most 64 pairs. Its keys are kept in an array where they are judged: a short one where there are few, a shorter one for two.
 fn mapping(
     shown: &[u8; 256],
     s: &[u8],
@@ -176,8 +188,8 @@ fn mapping(
                     row: row + 1,
                 };
             }
-            if !judge {
-                let mut keys = [0usize; 0];
+            if n <= 2 {
+                let mut keys = [0usize; 6];
                 return pairs(
                     shown,
                     s,
@@ -267,7 +279,7 @@ fn many(
     )
 }
 
-// The n pairs of a map from a place on. What `keys` holds afterwards means nothing.
+// The n pairs of a map from a place on. What `keys` holds afterwards means nothing. A value that is an empty map is answered without a call of its own.
 fn pairs(
     shown: &[u8; 256],
     s: &[u8],
@@ -314,14 +326,31 @@ fn pairs(
                 }
                 put_row(sheet, below, key, from, to - from, 0);
                 if 13 < v.kind {
-                    match composite(shown, s, p, sheet, val, v, to, depth - 1, below + 1, judge) {
-                        Walk::Refused { number, place } => {
-                            return Walk::Refused { number, place };
-                        }
-                        Walk::Past { due, next, row } => {
-                            here = next;
-                            below = row;
-                            sum = sum + due;
+                    if is_empty_map(p, v.kind, to) {
+                        put_row(sheet, below + 1, val, to + 1, 0, 0);
+                        here = to + 1;
+                        below = below + 2;
+                    } else {
+                        match composite(
+                            shown,
+                            s,
+                            p,
+                            sheet,
+                            val,
+                            v,
+                            to,
+                            depth - 1,
+                            below + 1,
+                            judge,
+                        ) {
+                            Walk::Refused { number, place } => {
+                                return Walk::Refused { number, place };
+                            }
+                            Walk::Past { due, next, row } => {
+                                here = next;
+                                below = row;
+                                sum = sum + due;
+                            }
                         }
                     }
                 } else {

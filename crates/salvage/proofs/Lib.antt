@@ -1,8 +1,10 @@
 pub mod Splits
 pub mod Covers
 pub mod Turns
+pub mod Magics
 pub mod Outcomes
 pub mod Statements
+pub mod Rooms
 pub mod Examples
 pub mod Cells
 pub mod Numbers

@@ -1,5 +1,5 @@
 -- The answers of a salvage, in the code's own terms.
-use mathlib.Core.Path.{_≡_, refl, sym, ap, _∙_}
+use mathlib.Core.Path.{_≡_, refl}
 use mathlib.Core.List.{List, [], _∷_}
 use Prim.Native.Nat.{ℕ, _+_, _*_, _≤_, _<_}
 use native.Mathlib.Omega.{arith}
@@ -10,7 +10,6 @@ use Rattle.salvage.specs.declared.Salvaging.the-variants.{Salvaged, Refu
 use Rattle.salvage.specs.Pieces.{Piece, keep, skip, piecesOf, copyOf, spanCount, spansOf}
 use Rattle.salvage.specs.Salvage.{outcome, filled, done, salvageOf, measureOf}
 use Rattle.salvage.specs.Cover.{Cover, end, entry, span}
-use Rattle.salvage.proofs.Covers.{covered}
 
 -- Two cells a span.
 pub spans-length : (at : ℕ) (ps : List Piece) → length (spansOf at ps) ≡ 2 * spanCount ps
@@ -50,17 +49,8 @@ module _ (torn copy spans : List ℕ) where
       unfolding salvageOf
       accepted h = rw (le-ltb 65536 (length torn) small, le-ltb (length copy) (length (copyOf ps)) fits, le-ltb (length spans) (length (spansOf 0 ps)) h)
 
-  -- the same by what was counted
+  -- by what was counted
   module _ (m : Measure) (is : m ≡ measureOf (piecesOf torn)) where
-    pub bytes-are : m .bytes ≡ length (copyOf (piecesOf torn))
-    bytes-are = ap (λ (x : Measure). x .bytes) is
-
-    pub cells-are : 2 * m .spans ≡ length (spansOf 0 (piecesOf torn))
-    cells-are = ap (λ (x : Measure). 2 * x .spans) is ∙ sym (spans-length 0 (piecesOf torn))
-
-    pub few : m .spans ≤ length torn
-    few = omega (arith, ap (λ (x : Measure). x .spans) is, spans-few (covered torn))
-
     pub all-done : (copied listed : List ℕ) → copied ≡ filled copy (copyOf (piecesOf torn)) → listed ≡ filled spans (spansOf 0 (piecesOf torn))
         → outcome (Salvaged (m .entries) (m .bytes) (m .spans)) copied listed ≡ done (piecesOf torn) copy spans
     unfolding done

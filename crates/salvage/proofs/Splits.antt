@@ -49,6 +49,15 @@ forward-there [] = rw forward-end forward-end
 forward-there (b ∷ s) =
     by-entry (b ∷ s) (λ e. rw (forward-step b s e) (forward-there s)) (λ n. rw (forward-stop (b ∷ s) n) (forward-stop (b ∷ s) n))
 
+-- what is left of the way
+pub forward-split : (n : ℕ) (s : List ℕ) → n ≤ forward s → forward s ≡ n + forward (drop n s)
+forward-split zero s h = omega arith
+forward-split (suc n) [] h = absurd (omega (arith, forward-end))
+forward-split (suc n) (b ∷ s) h =
+    by-entry (b ∷ s)
+    (λ e. omega (arith, forward-step b s e, forward-split n s (omega (arith, forward-step b s e))))
+    (λ z. absurd (omega (arith, forward-stop (b ∷ s) z)))
+
 -- ---- the first piece
 
 pub first-skip : (s : List ℕ) → entryLength s ≡ 0 → firstPiece s ≡ skip (take (forward s) s)

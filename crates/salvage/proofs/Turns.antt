@@ -14,32 +14,47 @@ use Rattle.record.specs.Entry.{entryLength}
 use Rattle.record.proofs.Entries.{entry-inside}
 use Rattle.salvage.specs.Pieces.{Piece, keep, skip, bytesIn, isKept, forward, firstPiece, piecesOf, entriesIn, copyOf, spanCount, spansOf}
 use Rattle.salvage.specs.Salvage.{filled, measureOf}
-use Rattle.salvage.proofs.Splits.{forward-step, forward-stop, forward-end, forward-inside, first-skip, first-keep, first-front, pieces-end, pieces-turn}
+use Rattle.salvage.proofs.Splits.{forward-step, forward-stop, forward-end, forward-inside, forward-split, first-skip, first-keep, first-front, pieces-end, pieces-turn}
 
 -- the bytes from a place on
-rest-of : (s : List ℕ) (i : ℕ) → take (length s - i) (drop i s) ≡ drop i s
+pub rest-of : (s : List ℕ) (i : ℕ) → take (length s - i) (drop i s) ≡ drop i s
 rest-of s i = take-all (length s - i) (drop i s) (omega (arith, length-drop i s))
 
 -- ---- forward
 
-module _ (s : List ℕ) (i : ℕ) (sofar : i + forward (drop i s) ≡ forward s) where
-  module _ (h : i < length s) (n : ℕ) (is : n ≡ entryLength (take (length s - i) (drop i s))) where
+-- it is so far from a place, and what is left gives the same end
+module _ (s : List ℕ) (i far : ℕ) (sofar : i + forward (drop i s) ≡ far) where
+  pub place-passed : i < length s → entryLength (drop i s) ≡ 0 → (i + 1) + forward (drop (i + 1) s) ≡ far
+  place-passed h z =
+      let split : drop i s ≡ getD s i 0 ∷ drop (suc i) s = drop-cons s i 0 h in
+      let next : i + 1 ≡ suc i = omega arith in
+      let step : forward (drop i s) ≡ suc (forward (drop (suc i) s)) =
+      ap forward split ∙ forward-step (getD s i 0) (drop (suc i) s) (ap entryLength (sym split) ∙ z) in
+      rw next (omega (arith, step, sofar))
+
+  pub place-found : (entryLength (drop i s) ≡ 0 → ⊥) → i ≡ far
+  place-found z = omega (arith, forward-stop (drop i s) z, sofar)
+
+  pub forward-over : length s ≤ i → i ≡ far
+  forward-over h = omega (arith, ap forward (drop-of-length-le s h) ∙ forward-end, sofar)
+
+  -- by the length of the entry there
+  module _ (n : ℕ) (is : n ≡ entryLength (take (length s - i) (drop i s))) where
     here : n ≡ entryLength (drop i s)
     here = is ∙ ap entryLength (rest-of s i)
 
-    pub forward-on : n ≡ 0 → (i + 1) + forward (drop (i + 1) s) ≡ forward s
-    forward-on z =
-        let split : drop i s ≡ getD s i 0 ∷ drop (suc i) s = drop-cons s i 0 h in
-        let next : i + 1 ≡ suc i = omega arith in
-        let far : forward (drop i s) ≡ suc (forward (drop (suc i) s)) =
-        ap forward split ∙ forward-step (getD s i 0) (drop (suc i) s) (ap entryLength (sym split) ∙ sym here ∙ z) in
-        rw next (omega (arith, far, sofar))
+    pub forward-on : i < length s → n ≡ 0 → (i + 1) + forward (drop (i + 1) s) ≡ far
+    forward-on h z = place-passed h (sym here ∙ z)
 
-    pub forward-found : (n ≡ 0 → ⊥) → i ≡ forward s
-    forward-found z = omega (arith, forward-stop (drop i s) (λ e. z (here ∙ e)), sofar)
+    pub forward-found : (n ≡ 0 → ⊥) → i ≡ far
+    forward-found z = place-found (λ e. z (here ∙ e))
 
-  pub forward-over : length s ≤ i → i ≡ forward s
-  forward-over h = omega (arith, ap forward (drop-of-length-le s h) ∙ forward-end, sofar)
+  -- past so many places at once
+  pub forward-past : (n : ℕ) → n ≤ forward (drop i s) → (i + n) + forward (drop (i + n) s) ≡ far
+  forward-past n h =
+      let e : forward (drop i s) ≡ n + forward (drop (i + n) s) =
+      forward-split n (drop i s) h ∙ ap (λ (l : List ℕ). n + forward l) (drop-drop n i s) in
+      omega (arith, e, sofar)
 
 -- ---- the first piece
 

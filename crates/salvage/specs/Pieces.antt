@@ -1,10 +1,10 @@
 -- The pieces of a torn record, in order: entries that are kept, and between them the spans (02's term) that are left out. From the first place where no entry
 -- starts it goes forward to the next place where one does.
 use Prim.Native.Nat.{ℕ, zero, suc, _+_}
-use mathlib.Core.Bool.{Bool, true, false, cond}
+use mathlib.Core.Bool.{Bool, true, false, cond, _&&_, _||_}
 use mathlib.Core.List.{List, [], _∷_, _++_}
 use lib.Dec.{eqb}
-use lib.ListN.{length, take, drop}
+use lib.ListN.{length, getD, take, drop}
 use Rattle.record.specs.Entry.{entryLength}
 
 -- An entry that is kept, or a span that is left out, with its bytes.
@@ -68,3 +68,14 @@ unfoldable pub spansOf : (at : ℕ) → List Piece → List ℕ
 spansOf at [] = []
 spansOf at (keep e ∷ ps) = spansOf (at + length e) ps
 spansOf at (skip g ∷ ps) = at ∷ length g ∷ spansOf (at + length g) ps
+
+-- ---- for the code: where no entry can start
+
+-- A frame's magic stands one byte after a place.
+abbrev pub magicAfter : (s : List ℕ) (at : ℕ) → Bool
+magicAfter s at = eqb (getD s (at + 1) 0) 0xAF && eqb (getD s (at + 2) 0) 0x01
+
+-- A frame's magic stands so after one of the n places from a place on.
+unfoldable pub magicAmong : (s : List ℕ) (at n : ℕ) → Bool
+magicAmong s at zero = false
+magicAmong s at (suc n) = magicAmong s at n || magicAfter s (at + n)

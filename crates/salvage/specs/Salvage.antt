@@ -1,8 +1,8 @@
 -- What a salvage answers and leaves in the lent buffers: 45, 52 for the copy, 53 for the list, in this order; a refusal leaves both as they were.
-use Prim.Native.Nat.{ℕ}
-use mathlib.Core.Bool.{cond}
+use Prim.Native.Nat.{ℕ, _+_, _*_, _/_}
+use mathlib.Core.Bool.{Bool, cond, _&&_}
 use mathlib.Core.List.{List, _++_}
-use lib.Dec.{ltb}
+use lib.Dec.{leb, ltb}
 use lib.ListN.{length, drop}
 use Rattle.salvage.specs.declared.Measure.{Measure}
 use Rattle.salvage.specs.declared.Salvaging.{Salvaging}
@@ -55,7 +55,19 @@ abbrev pub salvageSpans : Salvaging → ℕ
 salvageSpans (Salvaged entries bytes spans) = spans
 salvageSpans (Refused number) = 0
 
--- ---- for the code: the pieces counted
+-- ---- for the code: the pieces counted, and the room for them
 
 abbrev pub measureOf : List Piece → Measure
 measureOf ps = record { entries = length (entriesIn ps); bytes = length (copyOf ps); spans = spanCount ps }
+
+-- The most cells that are listed of so many bytes: two for each 28, a span of one byte and an entry of 27, where the last entry may be missing.
+abbrev pub mostCells : ℕ → ℕ
+mostCells torn = (torn + 27) / 28 * 2
+
+-- There is room for any record of so many bytes: a copy as long, and the most cells.
+abbrev pub roomForAny : (torn copy spans : ℕ) → Bool
+roomForAny torn copy spans = leb torn copy && leb (mostCells torn) spans
+
+-- What a copy and a list of these lengths are refused for, or 0.
+abbrev pub roomFault : List Piece → (copy spans : ℕ) → ℕ
+roomFault ps copy spans = cond (ltb copy (length (copyOf ps))) 52 (cond (ltb spans (length (spansOf 0 ps))) 53 0)

@@ -8,7 +8,7 @@ ghost use Prim.Native.Nat.{_+_, _≤_};
 ghost use lib.ListN.{length};
 ghost use lib.Seq.{sets};
 ghost use Rattle.salvage.specs.Pieces.{piecesOf, copyOf, spansOf};
-ghost use Rattle.salvage.specs.Salvage.{measureOf, filled, outcome, salvageOf};
+ghost use Rattle.salvage.specs.Salvage.{measureOf, filled, outcome, roomForAny, roomFault, salvageOf};
 
 // The longest record, in bytes.
 pub const LONGEST: usize = 65536;
@@ -68,14 +68,16 @@ fn put_span(spans: &mut [u32], row: usize, place: usize, size: usize)
     spans[row + 1] = size as u32;
 }
 
-// The pieces of a record, copied and listed.
-fn put_pieces(torn: &[u8], copy: &mut [u8], spans: &mut [u32])
+// The pieces of a record, copied, listed and counted.
+fn put_pieces(torn: &[u8], copy: &mut [u8], spans: &mut [u32]) -> Measure
     requires { ⌜ (length (now torn) ≤ 65536) × (length (copyOf (piecesOf (now torn))) ≤ length (now copy)) × (length (spansOf 0 (piecesOf (now torn))) ≤ length (now spans)) ⌝ }
+    ensures { λ r. ⌜ r ≡ measureOf (piecesOf (now (torn .entry))) ⌝ }
     ensures { λ _. ⌜ now (copy .exit) ≡ filled (now (copy .entry)) (copyOf (piecesOf (now (torn .entry)))) ⌝ }
     ensures { λ _. ⌜ now (spans .exit) ≡ filled (now (spans .entry)) (spansOf 0 (piecesOf (now (torn .entry)))) ⌝ }
 {
+    let mut entries: usize = 0;
     let mut pos = 0;
-    let mut row = 0;
+    let mut listed: usize = 0;
     let mut at = 0;
     while at < torn.len() {
         let piece = first_piece(&torn[at..]);
@@ -83,12 +85,44 @@ fn put_pieces(torn: &[u8], copy: &mut [u8], spans: &mut [u32])
         if piece.kept {
             frame::copy(copy, pos, &torn[at..next]);
             pos += piece.length;
+            entries += 1;
         } else {
-            put_span(spans, row, at, piece.length);
-            row += 2;
+            put_span(spans, 2 * listed, at, piece.length);
+            listed += 1;
         }
         at = next;
     }
+    Measure {
+        entries,
+        bytes: pos,
+        spans: listed,
+    }
+}
+
+// Whether a copy and a list of these lengths have room for the pieces of any record of so many bytes.
+fn has_room(torn: usize, copy: usize, spans: usize) -> bool
+    requires { ⌜ torn ≤ 65536 ⌝ }
+    ensures { λ r. ⌜ r ≡ roomForAny torn copy spans ⌝ }
+{
+    (torn <= copy) & ((torn + 27) / 28 * 2 <= spans)
+}
+
+// What a copy and a list of these lengths are refused for, 52 or 53, or 0 where both have room. Nothing is counted where every record has room.
+fn room_fault(torn: &[u8], copy: usize, spans: usize) -> u32
+    requires { ⌜ length (now torn) ≤ 65536 ⌝ }
+    ensures { λ r. ⌜ r ≡ roomFault (piecesOf (now (torn .entry))) copy spans ⌝ }
+{
+    if has_room(torn.len(), copy, spans) {
+        return 0;
+    }
+    let m = count(torn);
+    if copy < m.bytes {
+        return 52;
+    }
+    if spans < 2 * m.spans {
+        return 53;
+    }
+    0
 }
 
 // Copies every entry of a record that can be kept, and lists the spans left out, place and length of each. A refusal (45, 52 for the copy, 53 for the
@@ -99,14 +133,11 @@ pub fn salvage(torn: &[u8], copy: &mut [u8], spans: &mut [u32]) -> Salvaging
     if LONGEST < torn.len() {
         return Salvaging::Refused { number: 45 };
     }
-    let m = count(torn);
-    if copy.len() < m.bytes {
-        return Salvaging::Refused { number: 52 };
+    let number = room_fault(torn, copy.len(), spans.len());
+    if number != 0 {
+        return Salvaging::Refused { number };
     }
-    if spans.len() < 2 * m.spans {
-        return Salvaging::Refused { number: 53 };
-    }
-    put_pieces(torn, copy, spans);
+    let m = put_pieces(torn, copy, spans);
     Salvaging::Salvaged {
         entries: m.entries,
         bytes: m.bytes,

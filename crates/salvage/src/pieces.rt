@@ -1,8 +1,12 @@
 // The first piece of what is left of a record.
 use record::entry_length;
 ghost use mathlib.Core.Path.{_≡_};
-ghost use lib.ListN.{length};
-ghost use Rattle.salvage.specs.Pieces.{forward as forwardOf, firstPiece, isKept, bytesIn};
+ghost use mathlib.Core.Bool.{not};
+ghost use Prim.Native.Nat.{_+_, _≤_, min};
+ghost use lib.Dec.{eqb};
+ghost use lib.ListN.{length, drop};
+ghost use Rattle.record.specs.Entry.{entryLength};
+ghost use Rattle.salvage.specs.Pieces.{forward as forwardOf, firstPiece, isKept, bytesIn, magicAfter, magicAmong};
 
 // An entry that is kept, or a span that is left out.
 pub struct Piece {
@@ -10,11 +14,63 @@ pub struct Piece {
     pub length: usize,
 }
 
-// How far it is forward to the next place where an entry starts, or to the end.
-fn forward(bytes: &[u8]) -> usize
-    ensures { λ r. ⌜ r ≡ forwardOf (now (bytes .entry)) ⌝ }
+// Whether a frame's magic stands one byte after a place.
+fn has_magic(bytes: &[u8], at: usize) -> bool
+    requires { ⌜ at + 3 ≤ length (now bytes) ⌝ }
+    ensures { λ r. ⌜ r ≡ magicAfter (now (bytes .entry)) at ⌝ }
 {
-    let mut i = 0;
+    (bytes[at + 1] == 0xAF) & (bytes[at + 2] == 0x01)
+}
+
+// Whether it does after one of 32 places. All are looked at: a loop without a way out compares several at a time.
+fn has_magics(bytes: &[u8], at: usize) -> bool
+    requires { ⌜ at + 34 ≤ length (now bytes) ⌝ }
+    ensures { λ r. ⌜ r ≡ magicAmong (now (bytes .entry)) at 32 ⌝ }
+{
+    let mut found = false;
+    let mut i: usize = 0;
+    while i < 32 {
+        found = found | has_magic(bytes, at + i);
+        i += 1;
+    }
+    found
+}
+
+// Whether an entry starts at a place.
+fn starts(bytes: &[u8], at: usize) -> bool
+    requires { ⌜ at + 3 ≤ length (now bytes) ⌝ }
+    ensures { λ r. ⌜ r ≡ not (eqb (entryLength (drop at (now (bytes .entry)))) 0) ⌝ }
+{
+    if !has_magic(bytes, at) {
+        return false;
+    }
+    entry_length(&bytes[at..]) != 0
+}
+
+// The first of 32 places where an entry starts, or the place after them.
+fn within_block(bytes: &[u8], from: usize) -> usize
+    requires { ⌜ from + 34 ≤ length (now bytes) ⌝ }
+    ensures { λ r. ⌜ r ≡ from + min 32 (forwardOf (drop from (now (bytes .entry)))) ⌝ }
+{
+    if !has_magics(bytes, from) {
+        return from + 32;
+    }
+    let mut i = from;
+    while i < from + 32 {
+        if starts(bytes, i) {
+            return i;
+        }
+        i += 1;
+    }
+    i
+}
+
+// From a place on, the next place where an entry starts, or the end; place after place.
+fn in_rest(bytes: &[u8], from: usize) -> usize
+    requires { ⌜ from ≤ length (now bytes) ⌝ }
+    ensures { λ r. ⌜ r ≡ from + forwardOf (drop from (now (bytes .entry))) ⌝ }
+{
+    let mut i = from;
     while i < bytes.len() {
         if entry_length(&bytes[i..]) != 0 {
             return i;
@@ -22,6 +78,21 @@ fn forward(bytes: &[u8]) -> usize
         i += 1;
     }
     i
+}
+
+// How far it is forward to the next place where an entry starts, or to the end.
+fn forward(bytes: &[u8]) -> usize
+    ensures { λ r. ⌜ r ≡ forwardOf (now (bytes .entry)) ⌝ }
+{
+    let mut i = 0;
+    while 34 <= bytes.len() - i {
+        let next = within_block(bytes, i);
+        if next < i + 32 {
+            return next;
+        }
+        i += 32;
+    }
+    in_rest(bytes, i)
 }
 
 // The entry at the front of the bytes, or the span up to the next one.

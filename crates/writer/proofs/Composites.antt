@@ -1,29 +1,30 @@
 -- Laws of the walkers: a value of each shape by its row, and the turns of the loops over what it holds.
 use mathlib.Core.Path.{_≡_, refl, sym, ap, subst, _∙_}
-use mathlib.Core.Bool.{true, false}
-use mathlib.Core.List.{List, [], _∷_}
+use mathlib.Core.Bool.{true, false, _&&_}
+use mathlib.Core.List.{List, [], _∷_, append-nil}
 use Prim.Native.Nat.{ℕ, suc, _+_, _-_, _/_, _%_, _^_, _≤_, _<_}
 use native.Mathlib.Nat.{mod-eq-of-lt, mod-lt}
 use native.Mathlib.Decide.{decLt}
 use native.Mathlib.Omega.{arith}
-use borrow.Author.Tests.{lt-ltb, le-ltb, le-leb, lt-leb, eq-eqb, ne-eqb}
+use borrow.Author.Tests.{lt-ltb, le-ltb, ltb-true, le-leb, lt-leb, eq-eqb, ne-eqb, eqb-true}
 use lib.Dec.{ltb, leb, eqb}
 use lib.ListN.{length, replicate}
 use lib.Pow.{pow-pos}
-use Rattle.wire.specs.Little.{little, bytes}
+use Rattle.wire.specs.Little.{bytes}
 use Rattle.wire.specs.Varuint.{varuintBytes}
 use Rattle.schema.specs.declared.Field.{Field}
 use Rattle.schema.specs.Table.{Table, Shape, array, map, struct, bitmapBytes}
 use Rattle.schema.specs.Check.{field}
+use Rattle.schema.proofs.Bools.{and-left, and-right}
 use Rattle.value.specs.declared.Row.{Row}
 use Rattle.value.specs.Answer.{CursorOf, AnswerOf, refused, seen, andThen, check, Accepted}
-use Rattle.value.specs.Value.{Tree, tip, branch, Forest, values}
-use Rattle.value.specs.Read.{plainItem, pairs, plan, present, complete, among, walk}
-use Rattle.value.specs.Spell.{leafBytes, headBytes, encodeAll}
-use Rattle.value.specs.Write.{RowReader, rowOf, span, inside, bitsAt, show}
-use Rattle.value.proofs.Answers.{accepted-first, accepted-check}
-use Rattle.parts.specs.Shape.{leafShape, fieldsFrom}
-use Rattle.parts.proofs.Presence.{present-set, present-clear}
+use Rattle.value.specs.Value.{Tree, tip, branch, Forest, stop, plus, value, values}
+use Rattle.value.specs.Read.{plainItem, pairs, plan, present, among, walk}
+use Rattle.value.specs.Spell.{leafBytes, headBytes, encode, encodeAll}
+use Rattle.value.specs.Write.{RowReader, rowOf, span, bitsAt, show}
+use Rattle.value.proofs.Answers.{accepted-first}
+use Rattle.parts.specs.Shape.{leafShape}
+use Rattle.parts.proofs.Masks.{bitsLeft, Standing, standing-field}
 use Rattle.parts.proofs.Items.{keyItem, item-accepted, key-accepted, key-known, elements-some, pairs-some}
 use Rattle.parts.proofs.Walks.{deep}
 use Rattle.writer.specs.declared.leaf.Due.{Due}
@@ -36,7 +37,7 @@ use Rattle.writer.specs.declared.walk.Walk.the-variants.{Past}
 use Rattle.writer.specs.Emit.{put, cap, PutAt, Final, done, stopped, emit, emitAll}
 use Rattle.writer.specs.Leaf.{rowsAt, dueOf, DueIn, RowDue, leafOf, LeafIn, LeafRow, headOf, HeadIn, Headed}
 use Rattle.writer.specs.Walk.{Walked}
-use Rattle.writer.proofs.Steps.{done-put, branch-bytes, tip-bytes, item-past, item-stop, key-stop, key-again, key-new, show-refused, show-bad, show-parts, says-accepted, leaf-shown, leaf-refused}
+use Rattle.writer.proofs.Steps.{done-put, branch-bytes, tip-bytes, item-past, item-stop, key-stop, key-again, key-new, show-refused, show-bad, show-parts, leaf-shown, leaf-refused}
 
 -- ---- a leaf
 
@@ -130,14 +131,6 @@ module _ {t : ℕ} {cells : List ℕ} {row : ℕ} {due : Due} (found : RowDue ce
           map-accepted = node-accepted S t (map k v) is own c _ _ map-node
 
       module _ {fs : List Field} (is : S t ≡ struct fs) where
-        -- the presence bits of a struct that is accepted are complete
-        pub struct-known : Accepted (show S B (suc d) t (rowsAt cells row)) → complete fs (little (span B p (bitmapBytes (length fs)))) ≡ true
-        unfolding bitsAt
-        struct-known a =
-            let w = accepted-first (bitsAt B row fs p (rowsAt cells (row + 1))) _ (says-accepted S B d t (rowsAt cells row) (struct fs) is own (rowsAt cells (row + 1)) row-read a) in
-            let v = accepted-check (inside B p (bitmapBytes (length fs))) 51 row (rowsAt cells (row + 1)) _ w in
-            accepted-check (complete fs (little (span B p (bitmapBytes (length fs))))) 25 row (rowsAt cells (row + 1)) _ (v .1) .0
-
         module _ {head : Head} (headed : Headed B fs p head) where
           pub struct-fault : {number : ℕ} → head ≡ Fault number → show S B (suc d) t (rowsAt cells row) ≡ refused number row
           unfolding andThen
@@ -211,50 +204,70 @@ module _ (P : ℕ → RowReader Tree) (e : ℕ) {left : ℕ} (some : 0 < left) (
         → stopped n q ≡ emitAll S (replicate left (plainItem e)) (walk P [] (replicate left (plainItem e)) c) pos out
     element-stop {n} {q} h = rw (elements-some e left some) (item-stop S P [] (replicate (left - 1) (plainItem e)) e c pos out n q h)
 
+-- structs that the depth allows
+pub structs-held : (kind depth : ℕ) → (eqb kind 16 && ltb 0 depth) ≡ true → (kind ≡ 16) × (0 < depth)
+structs-held kind depth h = (eqb-true kind 16 (and-left (eqb kind 16) (ltb 0 depth) h), ltb-true 0 depth (and-right (eqb kind 16) (ltb 0 depth) h))
+
+-- ---- a value by itself, as the one element of an array
+
+module _ (P : ℕ → RowReader Tree) (t : ℕ) (c : CursorOf Row) where
+  one-read : walk P [] (replicate 1 (plainItem t)) c ≡ andThen (P t c) (λ tree c₁. seen (plus tree stop) c₁)
+  unfolding walk andThen check
+  one-read = refl
+
+  pub one-accepted : Accepted (P t c) → Accepted (walk P [] (replicate 1 (plainItem t)) c)
+  unfolding andThen
+  one-accepted h = rw one-read (go (P t c) h)
+    where
+      go : (o : AnswerOf Row Tree) → Accepted o → Accepted (andThen o (λ tree c₁. seen (plus tree stop) c₁))
+      go (seen tree c₁) h = tt
+      go (refused n q) h = h
+
+  pub one-end : (S : ℕ → Shape) (pos : ℕ) (out : List ℕ)
+      → emitAll S (replicate 1 (plainItem t)) (walk P [] (replicate 1 (plainItem t)) c) pos out ≡ emit S t (P t c) pos out
+  unfolding andThen emit emitAll encodeAll values
+  one-end S pos out = rw one-read (go (P t c))
+    where
+      go : (o : AnswerOf Row Tree) → emitAll S (replicate 1 (plainItem t)) (andThen o (λ tree c₁. seen (plus tree stop) c₁)) pos out ≡ emit S t o pos out
+      go (seen tree c₁) = rw (append-nil (encode S (value tree) t))
+      go (refused n q) = refl
+
 -- ---- fields of a struct
 
--- A turn of the loop over fields: from one row, place and output to the next, with the same end.
-pub record Turned (S : ℕ → Shape) (P : ℕ → RowReader Tree) (cells : List ℕ) (T : Table) (i left bits here to : ℕ) (out : List ℕ) (here′ to′ : ℕ) (out′ : List ℕ) : Type 0 where
-  pub same : emitAll S (present (fieldsFrom T (i + 1) (left - 1)) (bits / 2)) (walk P [] (present (fieldsFrom T (i + 1) (left - 1)) (bits / 2)) (rowsAt cells here′)) to′ out′
-      ≡ emitAll S (present (fieldsFrom T i left) bits) (walk P [] (present (fieldsFrom T i left) bits) (rowsAt cells here)) to out
+-- A turn of the loop over b fields from a on: from one row, place and output to the next, with the same end.
+pub record Turned (S : ℕ → Shape) (P : ℕ → RowReader Tree) (cells : List ℕ) (T : Table) (a b i bits here to : ℕ) (out : List ℕ) (here′ to′ : ℕ) (out′ : List ℕ) : Type 0 where
+  pub same : emitAll S (bitsLeft T a b (i + 1) (bits / 2)) (walk P [] (bitsLeft T a b (i + 1) (bits / 2)) (rowsAt cells here′)) to′ out′
+      ≡ emitAll S (bitsLeft T a b i bits) (walk P [] (bitsLeft T a b i bits) (rowsAt cells here)) to out
   pub inside : here′ ≤ length cells / 4
   pub behind : to′ ≤ 16385
   pub long : length out′ ≡ length out
 
-module _ (P : ℕ → RowReader Tree) (cells : List ℕ) (T : Table) (i : ℕ) {left : ℕ} (bits here : ℕ) (some : 0 < left) (room : i + left ≤ length (T .fields)) where
-  module _ {f : Field} (is : f ≡ field T i) (b : bits % 2 ≡ 1) where
-    pub field-accepted : Accepted (walk P [] (present (fieldsFrom T i left) bits) (rowsAt cells here)) → Accepted (P (f .ty) (rowsAt cells here))
-    field-accepted h =
-        item-accepted P [] (present (fieldsFrom T (i + 1) (left - 1)) (bits / 2)) (f .ty) (rowsAt cells here)
-        (rw (present-set T i left some room bits f is b) at h)
+module _ (P : ℕ → RowReader Tree) (cells : List ℕ) (T : Table) {a b i bits : ℕ} (here : ℕ) (g : Standing a b i bits) (some : 0 < bits) (room : a + b ≤ length (T .fields))
+    {f : Field} (is : f ≡ field T i) (odd : bits % 2 ≡ 1) where
+  pub field-accepted : Accepted (walk P [] (bitsLeft T a b i bits) (rowsAt cells here)) → Accepted (P (f .ty) (rowsAt cells here))
+  field-accepted h =
+      item-accepted P [] (bitsLeft T a b (i + 1) (bits / 2)) (f .ty) (rowsAt cells here) (rw (standing-field g some T room f is odd) at h)
 
-    module _ (S : ℕ → Shape) (to : ℕ) (out : List ℕ) where
-      pub field-stop : {n q : ℕ} → stopped n q ≡ emit S (f .ty) (P (f .ty) (rowsAt cells here)) to out
-          → stopped n q ≡ emitAll S (present (fieldsFrom T i left) bits) (walk P [] (present (fieldsFrom T i left) bits) (rowsAt cells here)) to out
-      field-stop {n} {q} h =
-          rw (present-set T i left some room bits f is b)
-          (item-stop S P [] (present (fieldsFrom T (i + 1) (left - 1)) (bits / 2)) (f .ty) (rowsAt cells here) to out n q h)
+  module _ (S : ℕ → Shape) (to : ℕ) (out : List ℕ) where
+    pub field-stop : {n q : ℕ} → stopped n q ≡ emit S (f .ty) (P (f .ty) (rowsAt cells here)) to out
+        → stopped n q ≡ emitAll S (bitsLeft T a b i bits) (walk P [] (bitsLeft T a b i bits) (rowsAt cells here)) to out
+    field-stop {n} {q} h =
+        rw (standing-field g some T room f is odd) (item-stop S P [] (bitsLeft T a b (i + 1) (bits / 2)) (f .ty) (rowsAt cells here) to out n q h)
 
-      pub field-read : length out ≤ 16384 → {row next : ℕ} {mid : List ℕ}
-          → Walked cells (emit S (f .ty) (P (f .ty) (rowsAt cells here)) to out) (Past row next) mid → length mid ≡ length out
-          → {here′ to′ : ℕ} {out′ : List ℕ} → here′ ≡ row → to′ ≡ next → out′ ≡ mid → Turned S P cells T i left bits here to out here′ to′ out′
-      field-read l {row} {next} {mid} h k e₁ e₂ e₃ =
-          let w = h .within in
-          rw (e₁, e₂, e₃)
-          (record {
-            same =
-                rw (present-set T i left some room bits f is b)
-                (item-past S P [] (present (fieldsFrom T (i + 1) (left - 1)) (bits / 2)) (f .ty) (rowsAt cells here) to out l (rowsAt cells row) next mid (h .same));
-            inside = w .0;
-            behind = w .1;
-            long = k;
-          })
-
-  pub field-absent : (S : ℕ → Shape) (to : ℕ) (out : List ℕ) → (bits % 2 ≡ 1 → ⊥) → here ≤ length cells / 4 → to ≤ 16385
-      → {here′ to′ : ℕ} {out′ : List ℕ} → here′ ≡ here → to′ ≡ to → out′ ≡ out → Turned S P cells T i left bits here to out here′ to′ out′
-  field-absent S to out b inside behind e₁ e₂ e₃ =
-      rw (e₁, e₂, e₃)
-      (record { same = rw (present-clear T i left some room bits b); inside = inside; behind = behind; long = refl })
+    pub field-read : length out ≤ 16384 → {row next : ℕ} {mid : List ℕ}
+        → Walked cells (emit S (f .ty) (P (f .ty) (rowsAt cells here)) to out) (Past row next) mid → length mid ≡ length out
+        → {here′ to′ : ℕ} {out′ : List ℕ} → here′ ≡ row → to′ ≡ next → out′ ≡ mid → Turned S P cells T a b i bits here to out here′ to′ out′
+    field-read l {row} {next} {mid} h k e₁ e₂ e₃ =
+        let w = h .within in
+        rw (e₁, e₂, e₃)
+        (record {
+          same =
+              rw (standing-field g some T room f is odd)
+              (item-past S P [] (bitsLeft T a b (i + 1) (bits / 2)) (f .ty) (rowsAt cells here) to out l (rowsAt cells row) next mid (h .same));
+          inside = w .0;
+          behind = w .1;
+          long = k;
+        })
 
 -- ---- pairs of a map
 

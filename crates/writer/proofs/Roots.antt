@@ -7,7 +7,7 @@ use native.Mathlib.Omega.{arith}
 use borrow.Author.Tests.{eq-eqb, ne-eqb}
 use lib.Dec.{eqb}
 use lib.ListN.{length, drop, length-drop}
-use Rattle.wire.specs.Little.{little, bytes}
+use Rattle.wire.specs.Little.{bytes}
 use Rattle.wire.proofs.Cases.{differ}
 use Rattle.schema.specs.declared.Field.{Field}
 use Rattle.schema.specs.Table.{Shape, struct, bitmapBytes}
@@ -15,11 +15,11 @@ use Rattle.value.specs.declared.Row.{Row}
 use Rattle.value.specs.Answer.{AnswerOf, refused, seen, andThen, check, Accepted}
 use Rattle.value.specs.Sheet.{rowsOf}
 use Rattle.value.specs.Value.{Tree, branch, Forest, values}
-use Rattle.value.specs.Read.{present, complete, knownBits, walk}
+use Rattle.value.specs.Read.{present, knownBits, walk}
 use Rattle.value.specs.Spell.{encodeAll}
-use Rattle.value.specs.Write.{RowReader, rowOf, span, inside, bitsAt, show, showRoot}
+use Rattle.value.specs.Write.{RowReader, rowOf, bitsAt, show, showRoot}
 use Rattle.value.proofs.Sheets.{length-rows}
-use Rattle.value.proofs.Answers.{accepted-first, accepted-check}
+use Rattle.value.proofs.Answers.{accepted-first}
 use Rattle.writer.specs.declared.leaf.Due.{Due}
 use Rattle.writer.specs.declared.leaf.Due.the-variants.{Found, Missing}
 use Rattle.writer.specs.declared.leaf.Head.{Head}
@@ -54,13 +54,6 @@ module _ (S : ℕ → Shape) (B : List ℕ) (fs : List Field) {t : ℕ} {cells :
     root-row : showRoot S B t fs (rowsAt cells 0) ≡ andThen (bitsAt B 0 fs p (rowsAt cells 1)) (afterBits own)
     unfolding andThen
     root-row = rw (root-step, row-read found e)
-
-    pub root-known : Accepted (showRoot S B t fs (rowsAt cells 0)) → complete fs (little (span B p (bitmapBytes (length fs)))) ≡ true
-    unfolding bitsAt
-    root-known a =
-        let w = accepted-first (bitsAt B 0 fs p (rowsAt cells 1)) _ (rw root-row at a) in
-        let v = accepted-check (inside B p (bitmapBytes (length fs))) 51 0 (rowsAt cells 1) _ w in
-        accepted-check (complete fs (little (span B p (bitmapBytes (length fs))))) 25 0 (rowsAt cells 1) _ (v .1) .0
 
     module _ {head : Head} (headed : Headed B fs p head) where
       pub root-fault : {number : ℕ} → head ≡ Fault number → showRoot S B t fs (rowsAt cells 0) ≡ refused number 0

@@ -173,9 +173,6 @@ module _ (S : ℕ → Shape) (B : List ℕ) (d t : ℕ) (c : CursorOf Row) where
     unfolding andThen
     show-parts z h e = rw (show-row, e)
 
-    pub says-accepted : Accepted (show S B (suc d) t c) → Accepted (says B (c .at) sh (r .place) (r .length) (r .count) c₁)
-    says-accepted a = accepted-first _ _ (rw show-row at a)
-
   -- ---- a leaf
 
   module _ (sh : Shape) (is : S t ≡ sh) where
@@ -227,6 +224,14 @@ module _ (S : ℕ → Shape) (B : List ℕ) {d : ℕ} (some : d ≡ 0 → ⊥) (
 
   pub leaf-accepted : {sh : Shape} → S t ≡ sh → Accepted (show S B d t c) → Accepted (rowSays B t sh c)
   leaf-accepted {sh} is a = leaf-said S B (d - 1) t c sh is (accepted-deeper a)
+
+module _ (S : ℕ → Shape) (B : List ℕ) {d : ℕ} (some : d ≡ 0 → ⊥) (is : List Item) (c : CursorOf Row) where
+  pub items-deeper : Accepted (walk (show S B d) [] is c) → Accepted (walk (show S B (suc (d - 1))) [] is c)
+  items-deeper = deeper (λ k. Accepted (walk (show S B k) [] is c)) d some
+
+  pub items-shallower : (pos : ℕ) (out : List ℕ) {cells : List ℕ} {r : Walk} {out′ : List ℕ}
+      → Walked cells (emitAll S is (walk (show S B (suc (d - 1))) [] is c) pos out) r out′ → Walked cells (emitAll S is (walk (show S B d) [] is c) pos out) r out′
+  items-shallower pos out {cells} {r} {out′} = shallower (λ k. Walked cells (emitAll S is (walk (show S B k) [] is c) pos out) r out′) d some
 
 row-none : (t k : ℕ) → rowOf t (record { left = []; at = k }) ≡ refused 50 k
 unfolding andThen rowOf nextRow

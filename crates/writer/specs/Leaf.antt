@@ -12,6 +12,7 @@ use Rattle.value.specs.Sheet.{rowsOf}
 use Rattle.value.specs.Read.{Own, plain, present, knownBits}
 use Rattle.value.specs.Write.{RowReader, rowOf, span, bitsAt, says}
 use Rattle.parts.specs.Shape.{leafShape}
+use Rattle.parts.specs.Required.{Requires}
 use Rattle.writer.specs.declared.leaf.Due.{Due}
 use Rattle.writer.specs.declared.leaf.Due.the-variants.{Found, Missing}
 use Rattle.writer.specs.declared.leaf.Verdict.{Verdict}
@@ -97,3 +98,7 @@ HeadIn fs (Fault number) = Unit {0}
 pub record Headed (B : List ℕ) (fs : List Field) (p : ℕ) (r : Head) : Type 0 where
   pub same : (k : ℕ) (cur : CursorOf Row) → headOf k cur r ≡ bitsAt B k fs p cur
   pub within : HeadIn fs r
+
+-- The same for whatever struct of n fields asks for these bits.
+abbrev pub HeadedBy : (B : List ℕ) (required n p : ℕ) → Head → Type 0
+HeadedBy B required n p r = (fs : List Field) → length fs ≡ n → Requires required fs → Headed B fs p r

@@ -1,20 +1,14 @@
 // What one row says: its cells, the content of a scalar, string or bytes, and the presence bits of a struct.
-use parts::is_complete;
 use wire::bitmap;
 use wire::utf8;
 ghost use mathlib.Core.Path.{_≡_};
-ghost use mathlib.Core.Bool.{true, false};
+ghost use mathlib.Core.Bool.{false};
 ghost use Prim.Native.Nat.{_+_, _*_, _/_, _≤_, _<_};
 ghost use lib.ListN.{length};
-ghost use Rattle.wire.specs.Little.{little};
-ghost use Rattle.schema.specs.Table.{width, bitmapBytes};
-ghost use Rattle.schema.specs.File.{tableOf};
-ghost use Rattle.schema.specs.Check.{IsGood};
-ghost use Rattle.value.specs.Read.{complete};
-ghost use Rattle.value.specs.Write.{span};
+ghost use Rattle.schema.specs.Table.{width};
 ghost use Rattle.value.specs.Answer.{Accepted};
-ghost use Rattle.parts.specs.Shape.{leafShape, fieldsFrom};
-ghost use Rattle.writer.specs.Leaf.{rowsAt, RowDue, Judged, rowSays, LeafRow, Headed};
+ghost use Rattle.parts.specs.Shape.{leafShape};
+ghost use Rattle.writer.specs.Leaf.{rowsAt, RowDue, Judged, rowSays, LeafRow, HeadedBy};
 
 // A row of the type due, by its place, length and count; or none: the row is missing or of another type.
 pub enum Due {
@@ -133,17 +127,17 @@ pub fn content(source: &[u8], kind: usize, place: usize, n: usize, count: usize)
     }
 }
 
-// The presence bytes at a struct's place, of n fields from the first on.
-pub fn presence(s: &[u8], source: &[u8], first: usize, n: usize, place: usize, judge: bool) -> Head
-    requires { ⌜ IsGood (now s) × (0 < n) × (n ≤ 64) × (first + n ≤ length (tableOf (now s) .fields)) × (place < 4294967296) × (judge ≡ false → complete (fieldsFrom (tableOf (now s)) first n) (little (span (now source) place (bitmapBytes n))) ≡ true) ⌝ }
-    ensures { λ r. ⌜ Headed (now (source .entry)) (fieldsFrom (tableOf (now (s .entry))) first n) place r ⌝ }
+// The presence bytes at the place of a struct that has n fields, of which those with bits in `required` have to be there.
+pub fn presence(source: &[u8], required: u64, n: usize, place: usize) -> Head
+    requires { ⌜ (0 < n) × (n ≤ 64) × (place < 4294967296) ⌝ }
+    ensures { λ r. ⌜ HeadedBy (now (source .entry)) required n place r ⌝ }
 {
     let size = (n + 7) / 8;
     if source.len() < place + size {
         return Head::Fault { number: 51 };
     }
     let b = bitmap::read(source, place, n);
-    if !is_complete(s, first, n, b.bits, judge) {
+    if required & b.bits != required {
         return Head::Fault { number: 25 };
     }
     Head::Bits {

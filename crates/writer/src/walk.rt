@@ -11,6 +11,8 @@ use crate::put::put_bits;
 use crate::put::put_content;
 use crate::put::put_number;
 use parts::key::is_repeated;
+use parts::required_of;
+use parts::zeros_in;
 use schema::TypeRow;
 use schema::access::type_row;
 use schema::file::layout_of;
@@ -18,13 +20,14 @@ use schema::rows::field_row;
 use schema::rows::row;
 ghost use mathlib.Core.Path.{_≡_};
 ghost use mathlib.Core.List.{[]};
-ghost use Prim.Native.Nat.{suc, _+_, _/_, _≤_, _<_};
+ghost use Prim.Native.Nat.{suc, _+_, _/_, _^_, _≤_, _<_};
 ghost use lib.ListN.{length, replicate};
 ghost use Rattle.schema.specs.Table.{rowAt, array, map, struct};
 ghost use Rattle.schema.specs.File.{tableOf};
 ghost use Rattle.value.specs.Read.{plainItem, pairs, present};
 ghost use Rattle.writer.specs.declared.walk.Walk.the-variants.{Refused};
 ghost use Rattle.parts.specs.Shape.{fieldsFrom, shapeIn};
+ghost use Rattle.parts.specs.Required.{Requires};
 ghost use Rattle.writer.specs.Walk.{valueIn, itemsIn, rootIn, valueEnd, itemsEnd, rootEnd, Walked, Ready};
 
 // The row and the place in the output after what was written, or a refusal with its row.
@@ -63,7 +66,7 @@ fn composite(
         return mapping(s, sheet, source, out, ty, t.a, t.b, row, pos, depth, judge);
     }
     if kind == 16 {
-        return structure(
+        return single(
             s,
             sheet,
             source,
@@ -186,6 +189,22 @@ fn array(
                     row + 1,
                     next,
                     depth,
+                    judge,
+                );
+            }
+            if (kind == 16) & (0 < depth) {
+                return structs(
+                    s,
+                    sheet,
+                    source,
+                    out,
+                    elem,
+                    t.a as usize,
+                    t.b as usize,
+                    count,
+                    row + 1,
+                    next,
+                    depth - 1,
                     judge,
                 );
             }
@@ -392,8 +411,9 @@ fn pairs(
     Walk::Past { row: here, pos: to }
 }
 
-// An inner struct of type ty, which has n fields from the first on. An unknown bit is refused.
-fn structure(
+// A struct of type ty, which has n fields from the first on, as a run of one. It is a function of its own, so that arrays and maps do not copy what is lent
+// for this call.
+fn single(
     s: &[u8],
     sheet: &[u32],
     source: &[u8],
@@ -410,13 +430,99 @@ fn structure(
     requires { ⌜ (0 < n) × (n ≤ 64) × (first + n ≤ length (tableOf (now s) .fields)) ⌝ }
     ensures { λ r. ⌜ Walked (now (sheet .entry)) (valueEnd (now (s .entry)) (now (source .entry)) (now (sheet .entry)) (suc depth) ty row pos (now (out .entry))) r (now (out .exit)) ⌝ }
 {
+    structs(
+        s,
+        sheet,
+        source,
+        out,
+        ty,
+        first,
+        n,
+        1,
+        row,
+        pos,
+        depth,
+        judge,
+    )
+}
+
+// So many structs of one type from a row on, each of n fields from the first on. Which bits are required is found once for all.
+fn structs(
+    s: &[u8],
+    sheet: &[u32],
+    source: &[u8],
+    out: &mut [u8],
+    ty: u32,
+    first: usize,
+    n: usize,
+    count: usize,
+    start: usize,
+    pos: usize,
+    depth: usize,
+    judge: bool,
+) -> Walk
+    requires { ⌜ Ready (now s) (now sheet) (now out) start pos judge (itemsIn (now s) (now source) (now sheet) (suc depth) [] (replicate count (plainItem ty)) start) × (shapeIn (now s) ty ≡ struct (fieldsFrom (tableOf (now s)) first n)) ⌝ }
+    requires { ⌜ (0 < n) × (n ≤ 64) × (first + n ≤ length (tableOf (now s) .fields)) ⌝ }
+    ensures { λ r. ⌜ Walked (now (sheet .entry)) (itemsEnd (now (s .entry)) (now (source .entry)) (now (sheet .entry)) (suc depth) [] (replicate count (plainItem ty)) start pos (now (out .entry))) r (now (out .exit)) ⌝ }
+{
+    let required = required_of(s, layout_of(s), first, n);
+    let mut left = count;
+    let mut here = start;
+    let mut to = pos;
+    while 0 < left {
+        match structure(
+            s,
+            sheet,
+            source,
+            out,
+            ty,
+            first,
+            n,
+            required,
+            here,
+            to,
+            depth,
+            judge,
+        ) {
+            Walk::Refused { number, place } => {
+                return Walk::Refused { number, place };
+            }
+            Walk::Past { row, pos } => {
+                here = row;
+                to = pos;
+            }
+        }
+        left = left - 1;
+    }
+    Walk::Past { row: here, pos: to }
+}
+
+// An inner struct of type ty, which has n fields from the first on, of which those with bits in `required` have to be there. An unknown bit is refused.
+fn structure(
+    s: &[u8],
+    sheet: &[u32],
+    source: &[u8],
+    out: &mut [u8],
+    ty: u32,
+    first: usize,
+    n: usize,
+    required: u64,
+    row: usize,
+    pos: usize,
+    depth: usize,
+    judge: bool,
+) -> Walk
+    requires { ⌜ Ready (now s) (now sheet) (now out) row pos judge (valueIn (now s) (now source) (now sheet) (suc depth) ty row) × (shapeIn (now s) ty ≡ struct (fieldsFrom (tableOf (now s)) first n)) ⌝ }
+    requires { ⌜ (0 < n) × (n ≤ 64) × (first + n ≤ length (tableOf (now s) .fields)) × Requires required (fieldsFrom (tableOf (now s)) first n) ⌝ }
+    ensures { λ r. ⌜ Walked (now (sheet .entry)) (valueEnd (now (s .entry)) (now (source .entry)) (now (sheet .entry)) (suc depth) ty row pos (now (out .entry))) r (now (out .exit)) ⌝ }
+{
     match row_due(sheet, row, ty) {
         Due::Missing => refused(50, row),
         Due::Found {
             place,
             length: _,
             count,
-        } => match presence(s, source, first, n, place, judge) {
+        } => match presence(source, required, n, place) {
             Head::Fault { number } => refused(number, row),
             Head::Bits {
                 word,
@@ -465,16 +571,15 @@ fn fields(
     judge: bool,
 ) -> Walk
     requires { ⌜ Ready (now s) (now sheet) (now out) start pos judge (itemsIn (now s) (now source) (now sheet) depth [] (present (fieldsFrom (tableOf (now s)) first n) known) start) ⌝ }
-    requires { ⌜ first + n ≤ length (tableOf (now s) .fields) ⌝ }
+    requires { ⌜ (n ≤ 64) × (known < 2 ^ n) × (first + n ≤ length (tableOf (now s) .fields)) ⌝ }
     ensures { λ r. ⌜ Walked (now (sheet .entry)) (itemsEnd (now (s .entry)) (now (source .entry)) (now (sheet .entry)) depth [] (present (fieldsFrom (tableOf (now (s .entry))) first n) known) start pos (now (out .entry))) r (now (out .exit)) ⌝ }
 {
     let l = layout_of(s);
     let mut i = first;
-    let mut left = n;
     let mut bits = known;
     let mut here = start;
     let mut to = pos;
-    while 0 < left {
+    while bits != 0 {
         if bits % 2 == 1 {
             if depth == 0 {
                 return refused(28, here);
@@ -502,10 +607,13 @@ fn fields(
                     }
                 }
             }
+            bits = bits / 2;
+            i = i + 1;
+        } else {
+            let k = zeros_in(bits);
+            bits = bits >> k;
+            i = i + k;
         }
-        bits = bits / 2;
-        i = i + 1;
-        left = left - 1;
     }
     Walk::Past { row: here, pos: to }
 }
@@ -531,7 +639,7 @@ pub fn root(
             place,
             length: _,
             count,
-        } => match presence(s, source, first, n, place, judge) {
+        } => match presence(source, required_of(s, layout_of(s), first, n), n, place) {
             Head::Fault { number } => refused(number, 0),
             Head::Bits {
                 word: _,

@@ -1,6 +1,7 @@
 //! Prints the least stack with which a thread survives the deepest values, for
-//! each entry that goes down levels. The exit status is 1 where that is more
-//! than `arf::STACK`, or `arf::INDEX_STACK` for `make_index`.
+//! each entry that goes down levels, and a record that holds one. The exit
+//! status is 1 where that is more than `arf::STACK`, or `arf::INDEX_STACK` for
+//! `make_index`.
 //!
 //! A stack that is too small ends the whole process, so each trial is a child
 //! of this program: `stack ENTRY NEST KIB`, with the nest's number.
@@ -18,10 +19,12 @@ use bench::CELLS;
 use reference::MAX_PAYLOAD;
 
 /// What is measured, `frame` for `write_value_frame`; a trial runs one of them, or nothing.
-const ENTRIES: [&str; 7] = [
-    "read", "beside", "write", "forward", "receive", "frame", INDEX,
+const ENTRIES: [&str; 9] = [
+    "read", "beside", "write", "forward", "receive", "frame", INDEX, LOOK_UP, SALVAGE,
 ];
 const INDEX: &str = "index";
+const LOOK_UP: &str = "look_up";
+const SALVAGE: &str = "salvage";
 const NOTHING: &str = "nothing";
 
 /// More than any entry may take, in KiB.
@@ -119,7 +122,11 @@ fn trial(entry: &str, nest: usize, kib: usize) -> ExitCode {
     let nest = &nests()[nest];
     let mut numbers = vec![run(entry, nest, kib)];
     numbers.extend(nest.too_deep().map(|deeper| run(entry, &deeper, kib)));
-    let expected = if entry == NOTHING { [0, 0] } else { [0, 28] };
+    // A salvage does not look into payloads.
+    let expected = match entry {
+        NOTHING | SALVAGE => [0, 0],
+        _ => [0, 28],
+    };
     assert_eq!(numbers, expected[..numbers.len()], "{}", nest.name);
     ExitCode::SUCCESS
 }
@@ -133,7 +140,6 @@ fn run(entry: &str, nest: &Nest, kib: usize) -> u32 {
         ..Default::default()
     };
     let invoke = frame(1, 1_000, payload);
-    let record = [b"C", &invoke[..]].concat();
     let mut table = Box::new(open_calls());
     let methods = arf::Schema::new(schema)
         .expect("the schema is good")
@@ -165,15 +171,45 @@ fn run(entry: &str, nest: &Nest, kib: usize) -> u32 {
                 arf::Outcome::Refused(refusal) => refusal.number,
             }
         }),
+        INDEX | LOOK_UP | SALVAGE => on_record(entry, schema, &invoke, kib),
+        _ => on_thread(kib, || 0),
+    }
+}
+
+/// The number that an entry answers for a record with one frame; `make_index`
+/// and `look_up` have it in a row.
+fn on_record(entry: &str, schema: &[u8], frame: &[u8], kib: usize) -> u32 {
+    let record = [b"C", frame].concat();
+    let mut out = vec![0; arf::MAX_INDEX];
+    match entry {
         INDEX => on_thread(kib, || {
             let made = arf::make_index(schema, &record, &mut out);
-            // The answer to the one entry stands in its row.
             made.map_or_else(
                 |refusal| refusal.number,
                 |_| u32::from_le_bytes([out[12], out[13], out[14], out[15]]),
             )
         }),
-        _ => on_thread(kib, || 0),
+        LOOK_UP => {
+            let length = arf::make_index(schema, &record, &mut out).expect("there is room");
+            let (index, mut text) = (&out[..length], vec![0; 24 + 22]);
+            on_thread(kib, || {
+                let found = arf::look_up_text(index, &record, 1_000, &mut text);
+                found.outcome.expect("the index is right");
+                let rows = arf::look_up(index, &record, 1_000);
+                let row = rows.expect("the index is right").next();
+                row.expect("the call has a row").answer
+            })
+        }
+        _ => {
+            let torn = [&[0; 99], &record[..], &[0; 99]].concat();
+            let (mut copy, mut spans) = (vec![0; torn.len()], vec![0; arf::SPAN_CELLS]);
+            // With more room than any record needs, and with no more than this one.
+            on_thread(kib, || {
+                let wide = arf::salvage(&torn, &mut copy, &mut spans);
+                let (copy, spans) = (&mut copy[..record.len()], &mut spans[..4]);
+                number(wide.and(arf::salvage(&torn, copy, spans)))
+            })
+        }
     }
 }
 

@@ -12,8 +12,9 @@ use Rattle.parts.proofs.Tables.{few-fields, struct-row, shape-struct}
 use Rattle.parts.proofs.Walks.{deeper}
 use Rattle.reader.specs.Flat.{LeavesIn}
 use Rattle.reader.proofs.Steps.{as-refused, parse-refused, own-accepted, leaf-failed}
-use Rattle.reader.proofs.Flats.{opened-in, opened-bits, opened-fault, flat-whole, flat-valued, zeros-below, zeros-less}
-use Rattle.reader.proofs.Turns.{Going, going-first, going-skip, going-word, going-field, going-accepted, going-stop, going-on, going-rows, going-end}
+use Rattle.reader.proofs.Flats.{opened-in, opened-bits, opened-fault, flat-whole, flat-valued}
+use Rattle.parts.proofs.Masks.{standing-shift, standing-less}
+use Rattle.reader.proofs.Turns.{Going, going-first, going-skip, going-field, going-accepted, going-stop, going-on, going-rows, going-end}
 use Rattle.reader.proofs.flat.flat_struct.Statement.{statement}
 use Rattle.reader.proofs.flat.flat_struct.Tie as tie
 
@@ -48,11 +49,12 @@ flat-struct-spec =
     -- loop-holds
     (λ c.
     let args = c .before .before .before .before .before .before .before .before .before .args in
-    let pre = c .before .before .before .before .before .before .before .before .before .pre .0 in
+    let pre = c .before .before .before .before .before .before .before .before .before .pre in
     let bits = c .before .before .known .given in
     let w = opened-in (args .p .now) _ _ (args .at) _ (c .before .before .before .before .read-bits .ensures) (bits .0 .0) (bits .0 .1 .0) (bits .1) in
+    let few = struct-row _ (pre .0 .good) _ _ (pre .1 .is) (pre .3) in
     going-first (args .s .now) (args .p .now) (args .depth) (args .f .row .a) (args .f .row .b) (bits .0 .0) (bits .0 .1 .0) (args .row) (args .sheet .now)
-    (w .2) (omega (arith, w .1, pre .behind)) (w .0))
+    (w .2) (omega (arith, w .1, pre .0 .behind)) (few .1) (w .0))
     -- field-row-requires
     (λ c κs.
     let back = c .before .before .before .before .before .before .before .before .before in
@@ -161,7 +163,7 @@ flat-struct-spec =
     let farther = back .before .before .before .before .before .before .before .before .before in
     let pre = farther .before .before .before .before .before .before .pre in
     let few = struct-row _ (pre .0 .good) _ _ (pre .1 .is) (pre .3) in
-    omega (arith, back .before .before .before .before .before .loop .inv .last, few .2, few-fields _ (pre .0 .good)))
+    omega (arith, back .before .before .before .before .before .loop .inv .on .last, few .2, few-fields _ (pre .0 .good)))
     -- loop-less
     (λ c.
     let back = c .before .before .before .before .before .before .before .before .before in
@@ -190,48 +192,26 @@ flat-struct-spec =
     -- zeros-in-requires
     (λ c κs. tt)
     -- shr-bits
-    (λ c.
-    let back = c .before .before .before .before .before .before .before .before .before in
-    let args = back .before .before .before .before .args in
-    let pre = back .before .before .before .before .pre in
-    let f = args .f in
-    let few = struct-row _ (pre .0 .good) _ _ (pre .1 .is) (pre .3) in
-    let bits = c .before .before .before .before .before .before .known .given in
-    let loop = c .before .before .before .loop in
-    let some : 0 < loop .bits = omega (arith, c .before .before .loop-test .taken) in
-    let word = going-word (args .s .now) (args .p .now) (args .depth) (f .row .a) (f .row .b) (bits .0 .0) (bits .0 .1 .0) (args .row) (args .sheet .now) (loop .i) (loop .bits) (loop .here) (loop .below) (loop .sheet) (loop .inv) some (few .1) in
-    zeros-below (tableOf (args .s .now)) (loop .i) 64 (loop .bits) _ (c .zeros-in .ensures .0) some word word)
+    (λ c. standing-shift (c .before .before .before .loop .inv .on) (omega (arith, c .before .before .loop-test .taken)) (c .zeros-in .ensures .0))
     -- add-i-2
     (λ c.
     let back = c .before .before .before .before .before .before .before .before .before in
     let pre = back .before .before .before .before .pre in
     let few = struct-row _ (pre .0 .good) _ _ (pre .1 .is) (pre .3) in
-    omega (arith, c .before .before .before .loop .inv .last, few .2, few-fields _ (pre .0 .good), c .zeros-in .ensures .1))
+    omega (arith, c .before .before .before .loop .inv .on .last, few .2, few-fields _ (pre .0 .good), c .zeros-in .ensures .1))
     -- loop-less-2
     (λ c.
-    let back = c .before .before .before .before .before .before .before .before .before in
-    let args = back .before .before .before .before .args in
-    let pre = back .before .before .before .before .pre in
-    let f = args .f in
-    let few = struct-row _ (pre .0 .good) _ _ (pre .1 .is) (pre .3) in
-    let bits = c .before .before .before .before .before .before .known .given in
-    let loop = c .before .before .before .loop in
-    let some : 0 < loop .bits = omega (arith, c .before .before .loop-test .taken) in
-    let word = going-word (args .s .now) (args .p .now) (args .depth) (f .row .a) (f .row .b) (bits .0 .0) (bits .0 .1 .0) (args .row) (args .sheet .now) (loop .i) (loop .bits) (loop .here) (loop .below) (loop .sheet) (loop .inv) some (few .1) in
-    zeros-less (tableOf (args .s .now)) (loop .i) 64 (loop .bits) _ (c .zeros-in .ensures .0) some word word (c .before .if1 .left))
+    standing-less (c .before .before .before .loop .inv .on) (omega (arith, c .before .before .loop-test .taken)) (c .zeros-in .ensures .0) (c .before .if1 .left))
     -- loop-again-2
     (λ c.
     let back = c .before .before .before .before .before .before .before .before .before in
     let args = back .before .before .before .before .args in
-    let pre = back .before .before .before .before .pre in
     let f = args .f in
-    let few = struct-row _ (pre .0 .good) _ _ (pre .1 .is) (pre .3) in
     let bits = c .before .before .before .before .before .before .known .given in
     let loop = c .before .before .before .loop in
     let some : 0 < loop .bits = omega (arith, c .before .before .loop-test .taken) in
-    let word = going-word (args .s .now) (args .p .now) (args .depth) (f .row .a) (f .row .b) (bits .0 .0) (bits .0 .1 .0) (args .row) (args .sheet .now) (loop .i) (loop .bits) (loop .here) (loop .below) (loop .sheet) (loop .inv) some (few .1) in
     going-skip (args .s .now) (args .p .now) (args .depth) (f .row .a) (f .row .b) (bits .0 .0) (bits .0 .1 .0) (args .row) (args .sheet .now) (loop .i) (loop .bits) (loop .here) (loop .below) (loop .sheet) (loop .inv) some
-    word _ (c .zeros-in .ensures .0))
+    _ (c .zeros-in .ensures .0))
     -- sub-put-row-2
     (λ c.
     let back = c .before .before .before .before .before .before .before .before .before in

@@ -3,13 +3,12 @@
 use borrow.Author.Needs.{needs}
 use mathlib.Core.Path.{_≡_, refl, sym, ap, _∙_}
 use mathlib.Core.Logic.{⊎-elim}
-use mathlib.Core.Bool.{true, false, false≢true}
+use mathlib.Core.Bool.{true, false}
 use mathlib.Core.List.{List, [], _∷_}
 use Prim.Native.Nat.{ℕ, _+_, _-_, _*_, _≤_, _<_}
 use native.Mathlib.Omega.{arith}
-use borrow.Author.Tests.{not-true}
 use lib.ListN.{length, replicate}
-use Rattle.schema.specs.Table.{unknown, array, map, struct, shape}
+use Rattle.schema.specs.Table.{unknown, array, map, struct, shape, rowAt}
 use Rattle.schema.specs.File.{tableOf}
 use Rattle.value.specs.Answer.{refused, cursorAt, Accepted}
 use Rattle.value.specs.Read.{plainItem, pairs, present, among, walk, parse}
@@ -21,7 +20,7 @@ use Rattle.reader.proofs.Composites.{count-in, array-refused, array-who
 use Rattle.reader.proofs.Composites.{bitmap-accepted, struct-refused, head-in, struct-unknown, struct-whole, struct-valued, first-of, first-whole, first-part}
 use Rattle.reader.proofs.Composites.{element-past, element-stop, element-accepted, leftOver, Turned, field-stop, field-deep, field-accepted, field-read, field-absent}
 use Rattle.reader.proofs.Composites.{pair-key-accepted, pair-key-stop, pair-new, pair-old, pair-again, pair-value-accepted, pair-value-stop, Paired, pair-turn}
-use Rattle.reader.proofs.Composites.{own-due, few-pairs, pairs-first}
+use Rattle.reader.proofs.Composites.{own-due, map-none, few-pairs, pairs-first}
 use Rattle.reader.proofs.Partials.{mine-count, fields-accepted, fields-stop, others-accepted, others-stop, others-past}
 use Rattle.reader.proofs.Turns.{flat-leaf, leaf-shown}
 use Rattle.parts.specs.Shape.{leafShape, fieldsFrom}
@@ -60,14 +59,19 @@ use Rattle.reader.proofs.walk.structure.Kinds as structure-kinds
 use Rattle.reader.proofs.walk.+array+composite+fields+many+mapping+pairs+partial+structure.Lts-structure as structure-lts
 use Rattle.reader.proofs.keys.is_again.Reads as is-again-reads
 use Rattle.reader.proofs.leaf.content.Reads as content-reads
+use Rattle.reader.proofs.leaf.is_empty_map.Reads as is-empty-map-reads
 use Rattle.reader.proofs.leaf.ones_in.Reads as ones-in-reads
 use Rattle.reader.proofs.leaf.presence.Reads as presence-reads
 use Rattle.reader.proofs.leaf.map_count.Reads as map-count-reads
 use Rattle.reader.proofs.leaf.read_count.Reads as read-count-reads
 use Rattle.reader.proofs.leaf.shown_of.Reads as shown-of-reads
 use Rattle.reader.proofs.sheet.put_row.Reads as put-row-reads
+use Rattle.reader.proofs.added.is_partly_shown.Reads as is-partly-shown-reads
+use Rattle.reader.proofs.added.structs.Reads as structs-reads
 use Rattle.reader.proofs.flat.elements.Reads as elements-reads
 use Rattle.reader.proofs.flat.is_flat.Reads as is-flat-reads
+use Rattle.reader.proofs.maps.holds_leaves.Reads as holds-leaves-reads
+use Rattle.reader.proofs.maps.maps.Reads as maps-reads
 use Rattle.schema.proofs.access.field.Reads as field-reads
 use Rattle.schema.proofs.access.known_row.Reads as known-row-reads
 use Rattle.schema.proofs.access.type_row.Reads as type-row-reads
@@ -183,8 +187,18 @@ array-calls t = (
   type-row-reads.Learnt,
   elements-reads.Asked,
   elements-reads.Learnt,
+  holds-leaves-reads.Asked,
+  holds-leaves-reads.Learnt,
+  maps-reads.Asked,
+  maps-reads.Learnt,
   is-flat-reads.Asked,
   is-flat-reads.Learnt,
+  is-partly-shown-reads.Asked,
+  is-partly-shown-reads.Learnt,
+  shown-of-reads.Asked,
+  shown-of-reads.Learnt,
+  structs-reads.Asked,
+  structs-reads.Learnt,
   composite-below t,
   composite.Post,
   put-row-reads.Asked,
@@ -206,8 +220,9 @@ array-spec t =
     (λ c κs. c .before .before .before .before .before .before .before .pre .1 .0 .good)
     -- elements-requires
     (λ c κs.
-    let args = c .before .before .before .before .before .before .before .before .before .before .args in
-    let asked = c .before .before .before .before .before .before .before .before .before .before .pre in
+    let back = c .before .before .before .before .before .before .before .before .before in
+    let args = back .before .args in
+    let asked = back .before .pre in
     let T = tableOf (args .s .now) in
     let S = shape T in
     let p = args .p .now in
@@ -242,12 +257,13 @@ array-spec t =
     let start = counted .given .0 .1 .0 in
     array-valued S (args .depth) (args .ty) p (args .at) (args .elem) (asked .1 .1) _ read R (first-of (args .shown .now) S (args .ty) (asked .1 .1)) n start (counted .given .1) _
     (c .before .before .elements .ensures R (leaf-shown (args .s .now) (args .depth) (args .elem) (t .result) (t .ensures) (rw (t .ensures) (asked .1 .2)) (c .before .before .before .before .if1 .taken) (args .shown .now))))
-    -- is-flat-requires
+    -- holds-leaves-requires
     (λ c κs. c .before .before .before .before .before .before .before .before .before .pre .1 .0 .good)
-    -- elements-requires-2
+    -- maps-requires
     (λ c κs.
-    let args = c .before .before .before .before .before .before .before .before .before .before .before .before .args in
-    let asked = c .before .before .before .before .before .before .before .before .before .before .before .before .pre in
+    let back = c .before .before .before .before .before .before .before .before .before in
+    let args = back .before .before .before .args in
+    let asked = back .before .before .before .pre in
     let T = tableOf (args .s .now) in
     let S = shape T in
     let p = args .p .now in
@@ -255,15 +271,22 @@ array-spec t =
     let counted = c .before .before .before .before .before .before .n in
     let n = counted .given .0 .0 in
     let start = counted .given .0 .1 .0 in
+    let t = c .before .before .before .before .type-row in
+    let good = asked .1 .0 .good in
+    let leaves = c .before .before .holds-leaves .ensures (c .before .if2 .taken) in
     let w = count-in S (args .depth) (args .ty) p (args .at) 1 _ read n start (counted .given .1) in
     let pre = asked .1 .0 in
-    let whole = array-whole S (args .depth) (args .ty) p (args .at) (args .elem) (asked .1 .1) _ read n start (counted .given .1) in (
-      record { good = pre .good; small = pre .small; inside = omega arith; behind = omega arith; judged = λ j. rw whole at (pre .judged j) },
-      c .before .before .is-flat .ensures (c .before .if2 .taken) .0,
-      omega arith,
+    let whole = array-whole S (args .depth) (args .ty) p (args .at) (args .elem) (asked .1 .1) _ read n start (counted .given .1) in
+    let row = map-row (args .s .now) good (args .elem) _ (t .ensures) (leaves .0) in (
+      (
+        record { good = good; small = pre .small; inside = omega arith; behind = omega arith; judged = λ j. rw whole at (pre .judged j) },
+        shape-map T (args .elem) _ (t .ensures) (leaves .0),
+        omega arith,
+      ),
+      (row .0, row .1, map-value (args .s .now) good (args .elem) _ (t .ensures) (leaves .0), leaves .1),
     ))
     -- same-length-2
-    (λ c. c .before .before .elements2 .kept .1 .1 .0)
+    (λ c. c .before .before .maps .kept .1 .1 .0)
     -- returns-2
     (λ c.
     let back = c .before .before .before .before .before .before .before .before .before in
@@ -271,44 +294,150 @@ array-spec t =
     let asked = back .before .before .before .before .before .before .pre in
     let T = tableOf (args .s .now) in
     let S = shape T in
-    let R = firstFields (args .shown .now) S in
-    let P = parse S (args .depth) in
     let p = args .p .now in
-    let read = c .before .before .before .before .before .before .before .before .before .before .before .read-count .ensures in
+    let read = back .before .before .read-count .ensures in
     let counted = c .before .before .before .before .before .before .before .before .before .n in
     let n = counted .given .0 .0 in
     let start = counted .given .0 .1 .0 in
+    let t = c .before .before .before .before .before .before .before .type-row in
+    let good = asked .1 .0 .good in
+    let leaves = c .before .before .before .before .before .holds-leaves .ensures (c .before .before .before .before .if2 .taken) in
+    let R = firstFields (args .shown .now) S in
+    let is = shape-map T (args .elem) _ (t .ensures) (leaves .0) in
     array-valued S (args .depth) (args .ty) p (args .at) (args .elem) (asked .1 .1) _ read R (first-of (args .shown .now) S (args .ty) (asked .1 .1)) n start (counted .given .1) _
-    (c .before .before .elements2 .ensures R (c .before .before .before .before .before .is-flat .ensures (c .before .before .before .before .if2 .taken) .1)))
-    -- add-below
-    (λ c. let pre = c .before .before .before .before .before .before .before .before .before .before .before .pre .1 .0 in omega arith)
-    -- loop-holds
-    (λ c.
-    let args = c .before .before .before .before .before .before .before .before .before .before .before .args in
-    let asked = c .before .before .before .before .before .before .before .before .before .before .before .pre in
-    let T = tableOf (args .s .now) in
-    let S = shape T in
-    let p = args .p .now in
-    let read = c .before .before .before .before .before .before .before .read-count .ensures in
-    let counted = c .before .before .before .before .before .n in
-    let n = counted .given .0 .0 in
-    let start = counted .given .0 .1 .0 in
-    let w = count-in S (args .depth) (args .ty) p (args .at) 1 _ read n start (counted .given .1) in
-    let pre = asked .1 .0 in (refl, omega arith, omega arith, omega arith, refl))
-    -- same-length-3
-    (λ c. c .before .before .loop .inv .4)
-    -- returns-3
-    (λ c.
+    (c .before .before .maps .ensures R (first-of (args .shown .now) S (args .elem) is ∙ sym is)))
+    -- is-flat-requires
+    (λ c κs.
+    let back = c .before .before .before .before .before .before .before .before .before in
+    back .before .before .pre .1 .0 .good)
+    -- elements-requires-2
+    (λ c κs.
     let back = c .before .before .before .before .before .before .before .before .before in
     let args = back .before .before .before .before .before .args in
     let asked = back .before .before .before .before .before .pre in
     let T = tableOf (args .s .now) in
     let S = shape T in
+    let p = args .p .now in
+    let read = back .before .read-count .ensures in
+    let counted = c .before .before .before .before .before .before .before .before .n in
+    let n = counted .given .0 .0 in
+    let start = counted .given .0 .1 .0 in
+    let w = count-in S (args .depth) (args .ty) p (args .at) 1 _ read n start (counted .given .1) in
+    let pre = asked .1 .0 in
+    let whole = array-whole S (args .depth) (args .ty) p (args .at) (args .elem) (asked .1 .1) _ read n start (counted .given .1) in (
+      record { good = pre .good; small = pre .small; inside = omega arith; behind = omega arith; judged = λ j. rw whole at (pre .judged j) },
+      c .before .before .is-flat .ensures (c .before .if3 .taken) .0,
+      omega arith,
+    ))
+    -- same-length-3
+    (λ c. c .before .before .elements2 .kept .1 .1 .0)
+    -- returns-3
+    (λ c.
+    let back = c .before .before .before .before .before .before .before .before .before in
+    let args = back .before .before .before .before .before .before .before .before .args in
+    let asked = back .before .before .before .before .before .before .before .before .pre in
+    let T = tableOf (args .s .now) in
+    let S = shape T in
     let R = firstFields (args .shown .now) S in
     let P = parse S (args .depth) in
     let p = args .p .now in
-    let read = c .before .before .before .before .before .before .before .before .before .before .read-count .ensures in
-    let counted = c .before .before .before .before .before .before .before .before .n in
+    let read = back .before .before .before .before .read-count .ensures in
+    let counted = back .before .before .n in
+    let n = counted .given .0 .0 in
+    let start = counted .given .0 .1 .0 in
+    array-valued S (args .depth) (args .ty) p (args .at) (args .elem) (asked .1 .1) _ read R (first-of (args .shown .now) S (args .ty) (asked .1 .1)) n start (counted .given .1) _
+    (c .before .before .elements2 .ensures R (c .before .before .before .before .before .is-flat .ensures (c .before .before .before .before .if3 .taken) .1)))
+    -- is-partly-shown-requires
+    (λ c κs.
+    let back = c .before .before .before .before .before .before .before .before .before in
+    back .before .before .before .before .pre .1 .0 .good)
+    -- shown-of-requires
+    (λ c κs.
+    let back = c .before .before .before .before .before .before .before .before .before in
+    let args = back .before .before .before .before .before .before .args in
+    let part = c .before .is-partly-shown .ensures (c .if4 .taken) in
+    let T = tableOf (args .s .now) in
+    struct-type (args .s .now) (back .before .before .before .before .before .before .pre .1 .0 .good) (args .elem) _ (shape-struct T (args .elem) (rowAt T (args .elem)) refl (part .1)) .1)
+    -- structs-requires
+    (λ c κs.
+    let back = c .before .before .before .before .before .before .before .before .before in
+    let args = back .before .before .before .before .before .before .before .before .args in
+    let asked = back .before .before .before .before .before .before .before .before .pre in
+    let T = tableOf (args .s .now) in
+    let S = shape T in
+    let p = args .p .now in
+    let read = back .before .before .before .before .read-count .ensures in
+    let counted = back .before .before .n in
+    let n = counted .given .0 .0 in
+    let start = counted .given .0 .1 .0 in
+    let good = asked .1 .0 .good in
+    let part = c .before .before .before .is-partly-shown .ensures (c .before .before .if4 .taken) in
+    let row = rowAt T (args .elem) in
+    let is = shape-struct T (args .elem) row refl (part .1) in
+    let w = count-in S (args .depth) (args .ty) p (args .at) 1 _ read n start (counted .given .1) in
+    let pre = asked .1 .0 in
+    let whole = array-whole S (args .depth) (args .ty) p (args .at) (args .elem) (asked .1 .1) _ read n start (counted .given .1) in (
+      (record { good = good; small = pre .small; inside = omega arith; behind = omega arith; judged = λ j. rw whole at (pre .judged j) }, part .0, omega arith),
+      (part .1, rw (c .before .shown-of .ensures) (part .2)),
+    ))
+    -- same-length-4
+    (λ c. c .before .before .structs .kept .1 .1 .0)
+    -- returns-4
+    (λ c.
+    let back = c .before .before .before .before .before .before .before .before .before in
+    let farther = back .before .before .before .before .before .before .before .before .before in
+    let args = farther .before .before .args in
+    let asked = farther .before .before .pre in
+    let T = tableOf (args .s .now) in
+    let S = shape T in
+    let p = args .p .now in
+    let read = back .before .before .before .before .before .before .before .read-count .ensures in
+    let counted = back .before .before .before .before .before .n in
+    let n = counted .given .0 .0 in
+    let start = counted .given .0 .1 .0 in
+    let good = asked .1 .0 .good in
+    let part = c .before .before .before .before .before .before .is-partly-shown .ensures (c .before .before .before .before .before .if4 .taken) in
+    let row = rowAt T (args .elem) in
+    let is = shape-struct T (args .elem) row refl (part .1) in
+    let R = firstFields (args .shown .now) S in
+    let room = struct-row (args .s .now) good (args .elem) row refl (part .1) .2 in
+    let m = c .before .before .before .before .shown-of in
+    let le : m .result ≤ row .b = omega (arith, m .ensures, part .2) in
+    array-valued S (args .depth) (args .ty) p (args .at) (args .elem) (asked .1 .1) _ read R (first-of (args .shown .now) S (args .ty) (asked .1 .1)) n start (counted .given .1) _
+    (c .before .before .structs .ensures R (first-part (args .shown .now) S T (args .elem) (row .a) (row .b) is room (m .result) (m .ensures) le)))
+    -- add-below
+    (λ c.
+    let back = c .before .before .before .before .before .before .before .before .before in
+    let pre = back .before .before .before .before .before .before .pre .1 .0 in omega arith)
+    -- loop-holds
+    (λ c.
+    let back = c .before .before .before .before .before .before .before .before .before in
+    let args = back .before .before .before .before .before .before .args in
+    let asked = back .before .before .before .before .before .before .pre in
+    let T = tableOf (args .s .now) in
+    let S = shape T in
+    let p = args .p .now in
+    let read = back .before .before .read-count .ensures in
+    let counted = c .before .before .before .before .before .before .before .before .before .n in
+    let n = counted .given .0 .0 in
+    let start = counted .given .0 .1 .0 in
+    let w = count-in S (args .depth) (args .ty) p (args .at) 1 _ read n start (counted .given .1) in
+    let pre = asked .1 .0 in (refl, omega arith, omega arith, omega arith, refl))
+    -- same-length-5
+    (λ c. c .before .before .loop .inv .4)
+    -- returns-5
+    (λ c.
+    let back = c .before .before .before .before .before .before .before .before .before in
+    let farther = back .before .before .before .before .before .before .before .before .before in
+    let args = farther .args in
+    let asked = farther .pre in
+    let T = tableOf (args .s .now) in
+    let S = shape T in
+    let R = firstFields (args .shown .now) S in
+    let P = parse S (args .depth) in
+    let p = args .p .now in
+    let read = back .before .before .before .before .before .read-count .ensures in
+    let counted = back .before .before .before .n in
     let n = counted .given .0 .0 in
     let start = counted .given .0 .1 .0 in
     let loop = c .before .before .loop in
@@ -317,21 +446,22 @@ array-spec t =
     array-valued S (args .depth) (args .ty) p (args .at) (args .elem) (asked .1 .1) _ read R (first-of (args .shown .now) S (args .ty) (asked .1 .1)) n start (counted .given .1) _
     (composite-stop R S P (array (args .elem)) (args .ty) start n (cursorAt p start) (args .row) (args .sheet .now) p start _ _ _
     (element-stop R S P (args .elem) (loop .left) (c .before .loop-test .taken) here (loop .sum) (loop .below) (loop .sheet) _ _
-    (stop-at (told R S (args .elem)) _ (loop .below) (loop .sheet) _ _ (parse-deep S (args .depth) (args .elem) here (c .if3 .taken))) ∙ inv .0)))
+    (stop-at (told R S (args .elem)) _ (loop .below) (loop .sheet) _ _ (parse-deep S (args .depth) (args .elem) here (c .if5 .taken))) ∙ inv .0)))
     -- sub-composite
     (λ c. search needs)
     -- composite-requires
     (λ c κs.
     let back = c .before .before .before .before .before .before .before .before .before in
-    let args = back .before .before .before .before .before .before .args in
-    let asked = back .before .before .before .before .before .before .pre in
+    let farther = back .before .before .before .before .before .before .before .before .before in
+    let args = farther .before .args in
+    let asked = farther .before .pre in
     let T = tableOf (args .s .now) in
     let S = shape T in
     let R = firstFields (args .shown .now) S in
     let P = parse S (args .depth) in
     let p = args .p .now in
-    let read = c .before .before .before .before .before .before .before .before .before .before .before .read-count .ensures in
-    let counted = c .before .before .before .before .before .before .before .before .before .n in
+    let read = back .before .before .before .before .before .before .read-count .ensures in
+    let counted = back .before .before .before .before .n in
     let n = counted .given .0 .0 in
     let start = counted .given .0 .1 .0 in
     let loop = c .before .before .before .loop in
@@ -348,39 +478,39 @@ array-spec t =
           inside = inv .1;
           behind = inv .2;
           judged = λ j.
-              deeper (λ k. Accepted (parse S k (args .elem) here)) (args .depth) (c .before .if3 .left)
+              deeper (λ k. Accepted (parse S k (args .elem) here)) (args .depth) (c .before .if5 .left)
               (element-accepted R S P (args .elem) (loop .left) (c .before .before .loop-test .taken) here (loop .sum) (loop .below) (loop .sheet)
               (rest-accepted R S P (array (args .elem)) (args .ty) start n (cursorAt p start) (args .row) (args .sheet .now)
               (walk P [] items here) items (loop .sum) (loop .below) (loop .sheet) (inv .0) (rw whole at (pre .judged j))));
         },
-        c .before .before .before .before .before .before .before .type-row .ensures,
-        c .before .before .before .before .before .before .if1 .left,
+        back .before .before .type-row .ensures,
+        back .before .if1 .left,
       ),
     ))
     -- enum-known-number-2
     (λ c. search needs)
-    -- same-length-4
+    -- same-length-6
     (λ c. c .before .before .before .before .before .composite .kept .1 .1 .1 .0 ∙ c .before .before .before .before .before .before .before .before .before .loop .inv .4)
-    -- returns-4
+    -- returns-6
     (λ c.
     let back = c .before .before .before .before .before .before .before .before .before in
     let farther = back .before .before .before .before .before .before .before .before .before in
-    let args = farther .before .before .before .args in
-    let asked = farther .before .before .before .pre in
+    let args = farther .before .before .before .before .before .before .before .args in
+    let asked = farther .before .before .before .before .before .before .before .pre in
     let T = tableOf (args .s .now) in
     let S = shape T in
     let R = firstFields (args .shown .now) S in
     let P = parse S (args .depth) in
     let p = args .p .now in
-    let read = back .before .before .before .before .before .before .before .before .read-count .ensures in
-    let counted = back .before .before .before .before .before .before .n in
+    let read = farther .before .before .before .read-count .ensures in
+    let counted = farther .before .n in
     let n = counted .given .0 .0 in
     let start = counted .given .0 .1 .0 in
     let loop = c .before .before .before .before .before .before .before .before .before .loop in
     let inv = loop .inv in
     let here = cursorAt p (loop .here) in
     let w =
-    renamed (ap (λ (k : ℕ). parse S k (args .elem) here) (deep (args .depth) (c .before .before .before .before .before .before .before .if3 .left)))
+    renamed (ap (λ (k : ℕ). parse S k (args .elem) here) (deep (args .depth) (c .before .before .before .before .before .before .before .if5 .left)))
     (was (c .before .before .before .before .before .composite .ensures) (c .before .number2 .given .1)) in
     array-valued S (args .depth) (args .ty) p (args .at) (args .elem) (asked .1 .1) _ read R (first-of (args .shown .now) S (args .ty) (asked .1 .1)) n start (counted .given .1) _
     (composite-stop R S P (array (args .elem)) (args .ty) start n (cursorAt p start) (args .row) (args .sheet .now) p start _ _ _
@@ -391,7 +521,7 @@ array-spec t =
     (λ c.
     let back = c .before .before .before .before .before .before .before .before .before in
     let farther = back .before .before .before .before .before .before .before .before .before in
-    let pre = farther .before .before .before .pre .1 .0 in
+    let pre = farther .before .before .before .before .before .before .before .pre .1 .0 in
     let inv = c .before .before .before .before .before .before .before .before .before .loop .inv in
     let w = was (c .before .before .before .before .before .composite .ensures) (c .before .due .given .1) .within in omega (arith, inv .3, w .2, w .0, pre .small))
     -- sub-left
@@ -402,8 +532,8 @@ array-spec t =
     (λ c.
     let back = c .before .before .before .before .before .before .before .before .before in
     let farther = back .before .before .before .before .before .before .before .before .before in
-    let args = farther .before .before .before .args in
-    let asked = farther .before .before .before .pre in
+    let args = farther .before .before .before .before .before .before .before .args in
+    let asked = farther .before .before .before .before .before .before .before .pre in
     let T = tableOf (args .s .now) in
     let S = shape T in
     let R = firstFields (args .shown .now) S in
@@ -413,7 +543,7 @@ array-spec t =
     let inv = loop .inv in
     let here = cursorAt p (loop .here) in
     let w =
-    renamed (ap (λ (k : ℕ). parse S k (args .elem) here) (deep (args .depth) (c .before .before .before .before .before .before .before .if3 .left)))
+    renamed (ap (λ (k : ℕ). parse S k (args .elem) here) (deep (args .depth) (c .before .before .before .before .before .before .before .if5 .left)))
     (was (c .before .before .before .before .before .composite .ensures) (c .before .due .given .1)) in (
       sym (element-past R S P (args .elem) (loop .left) (c .before .before .before .before .before .before .before .before .loop-test .taken) here (loop .sum) (loop .below) (loop .sheet) _ _ _ _ (w .same)) ∙ inv .0,
       w .within .0,
@@ -426,19 +556,20 @@ array-spec t =
     -- put-row-requires
     (λ c κs.
     let back = c .before .before .before .before .before .before .before .before .before in
-    let args = back .before .before .before .before .before .args in
-    let asked = back .before .before .before .before .before .pre in
+    let farther = back .before .before .before .before .before .before .before .before .before in
+    let args = farther .args in
+    let asked = farther .pre in
     let T = tableOf (args .s .now) in
     let S = shape T in
     let p = args .p .now in
-    let read = c .before .before .before .before .before .before .before .before .before .before .read-count .ensures in
-    let counted = c .before .before .before .before .before .before .before .before .n in
+    let read = back .before .before .before .before .before .read-count .ensures in
+    let counted = back .before .before .before .n in
     let n = counted .given .0 .0 in
     let start = counted .given .0 .1 .0 in
     let w = count-in S (args .depth) (args .ty) p (args .at) 1 _ read n start (counted .given .1) in
     let pre = asked .1 .0 in
     let inv = c .before .before .loop .inv in omega arith)
-    -- returns-5
+    -- returns-7
     (λ c.
     let args = c .before .before .before .before .before .before .before .args in
     let asked = c .before .before .before .before .before .before .before .pre in
@@ -447,20 +578,21 @@ array-spec t =
     let p = args .p .now in
     as-refused _ _ _
     (array-refused S (args .depth) (args .ty) p (args .at) (args .elem) (asked .1 .1) _ (c .before .before .before .read-count .ensures) _ (c .before .number .given .1)))
-    -- same-length-5
+    -- same-length-7
     (λ c. c .before .before .put-row .kept .0 ∙ c .before .before .before .before .before .loop .inv .4)
-    -- returns-6
+    -- returns-8
     (λ c.
     let back = c .before .before .before .before .before .before .before .before .before in
-    let args = back .before .before .before .before .before .before .before .before .args in
-    let asked = back .before .before .before .before .before .before .before .before .pre in
+    let farther = back .before .before .before .before .before .before .before .before .before in
+    let args = farther .before .before .before .args in
+    let asked = farther .before .before .before .pre in
     let T = tableOf (args .s .now) in
     let S = shape T in
     let R = firstFields (args .shown .now) S in
     let P = parse S (args .depth) in
     let p = args .p .now in
-    let read = back .before .before .before .before .read-count .ensures in
-    let counted = c .before .before .before .before .before .before .before .before .before .before .before .n in
+    let read = back .before .before .before .before .before .before .before .before .read-count .ensures in
+    let counted = back .before .before .before .before .before .before .n in
     let n = counted .given .0 .0 in
     let start = counted .given .0 .1 .0 in
     let loop = c .before .before .before .before .before .loop in
@@ -915,16 +1047,8 @@ mapping-spec t =
     let counted = c .before .before .before .before .before .before .before .n in
     let n = counted .given .0 .0 in
     let start = counted .given .0 .1 .0 in
-    let few = c .before .before .before .before .before .if1 .left in
-    let w = count-in S (args .depth) (args .ty) p (args .at) 2 _ read n start (counted .given .1) in
-    let pre = asked .1 .0 .0 in
-    let none = c .before .before .before .before .if2 .taken in
-    let zero : start - start ≡ 0 = omega arith in
-    map-valued S (args .depth) (args .ty) p (args .at) (args .key) (args .val) (asked .1 .0 .1) _ read n start (counted .given .1) R
-    (first-of (args .shown .now) S (args .ty) (asked .1 .0 .1)) few _
-    (composite-past R S P (map (args .key) (args .val)) (args .ty) start n (cursorAt p start) (args .row) (args .sheet .now) p start start 0 0 (args .row + 1) (args .sheet .now)
-    _ [] (pairs n (args .key) (args .val)) (pairs-none (args .key) (args .val) n (omega (arith, none))) refl
-    (rw none (omega (arith, own-due 0))) (rw (zero, none) (c .before .before .put-row .ensures)) (omega arith) (omega arith) (omega arith)))
+    map-none S (args .depth) (args .ty) p (args .at) (args .key) (args .val) (asked .1 .0 .1) _ read n start (counted .given .1) (c .before .before .before .before .if2 .taken) R
+    (first-of (args .shown .now) S (args .ty) (asked .1 .0 .1)) (args .row) _ _ (asked .1 .0 .0 .behind) (c .before .before .put-row .ensures))
     -- slice-aggregate-pairs
     (λ c. search needs)
     -- pairs-requires
@@ -946,7 +1070,7 @@ mapping-spec t =
       omega arith,
       (
         record { good = pre .good; small = pre .small; inside = omega arith; behind = omega arith; judged = λ j. rw whole at (pre .judged j) },
-        ((asked .1 .1 .0, asked .1 .1 .1, asked .1 .1 .2, omega (arith, some), few), λ j. absurd (false≢true (sym (not-true _ (c .before .before .if3 .taken)) ∙ j))),
+        ((asked .1 .1 .0, asked .1 .1 .1, asked .1 .1 .2, omega (arith, some), few), λ j. omega (arith, c .before .before .if3 .taken)),
       ),
     ))
     -- same-length-2
@@ -1073,6 +1197,8 @@ pairs-calls t = (
   is-again-reads.Learnt,
   put-row-reads.Asked,
   put-row-reads.Learnt,
+  is-empty-map-reads.Asked,
+  is-empty-map-reads.Learnt,
   composite-below t,
   composite.Post,
 )
@@ -1305,16 +1431,81 @@ pairs-spec t =
     let i = leaf-in S (args .depth) (args .key) kind is d0 p (loop .here) _ (back .content .ensures) from to (span .given .1) in
     let small = asked .1 .0 .small in
     let inv = loop .inv in omega (arith, i, inv .2, inv .3, small))
+    -- is-empty-map-requires
+    (λ c κs. tt)
+    -- add-put-row
+    (λ c.
+    let back = c .before .before .before .before .before .before .before .before .before .before .before in
+    let farther = back .before .before .before .before .before .before .before .before .before in
+    let pre = farther .before .before .before .before .before .before .before .before .pre .1 .0 in let inv = farther .before .loop .inv in omega (arith, inv .2, inv .3, pre .small))
+    -- add-put-row-2
+    (λ c.
+    let back = c .before .before .before .before .before .before .before .before .before .before .before in
+    let farther = back .before .before .before .before .before .before .before .before .before in
+    let args = farther .before .before .before .before .before .before .before .before .args in
+    let asked = farther .before .before .before .before .before .before .before .before .pre in
+    let T = tableOf (args .s .now) in
+    let S = shape T in
+    let p = args .p .now in
+    let loop = farther .before .loop in
+    let d0 = back .before .before .before .before .before .before .before .before .if1 .left in
+    let k = farther .before .before .before .known-row in
+    let kind = leafShape (k .result .kind) in
+    let is = shape-leaf T (args .key) (k .result) (k .ensures) (rw (k .ensures) (asked .1 .1 .0 .0)) (rw (k .ensures) (asked .1 .1 .0 .1)) in
+    let span = back .before .before .before .before .from in
+    let i = leaf-in S (args .depth) (args .key) kind is d0 p (loop .here) _ (back .before .before .before .before .before .before .content .ensures) (span .given .0 .0) (span .given .0 .1 .0) (span .given .1) in
+    let small = asked .1 .0 .small in omega (arith, i, small))
+    -- put-row-requires-2
+    (λ c κs.
+    let back = c .before .before .before .before .before .before .before .before .before .before .before in
+    let farther = back .before .before .before .before .before .before .before .before .before in
+    let args = farther .before .before .before .before .before .before .before .before .args in
+    let asked = farther .before .before .before .before .before .before .before .before .pre in
+    let T = tableOf (args .s .now) in
+    let S = shape T in
+    let p = args .p .now in
+    let loop = farther .before .loop in
+    let d0 = back .before .before .before .before .before .before .before .before .if1 .left in
+    let k = farther .before .before .before .known-row in
+    let kind = leafShape (k .result .kind) in
+    let is = shape-leaf T (args .key) (k .result) (k .ensures) (rw (k .ensures) (asked .1 .1 .0 .0)) (rw (k .ensures) (asked .1 .1 .0 .1)) in
+    let span = back .before .before .before .before .from in
+    let i = leaf-in S (args .depth) (args .key) kind is d0 p (loop .here) _ (back .before .before .before .before .before .before .content .ensures) (span .given .0 .0) (span .given .0 .1 .0) (span .given .1) in
+    let none = c .before .before .is-empty-map .ensures (c .before .if4 .taken) .1 .within .1 in
+    let small = asked .1 .0 .small in
+    let inv = loop .inv in omega (arith, i, none, inv .2, inv .3, small))
+    -- add-here
+    (λ c.
+    let back = c .before .before .before .before .before .before .before .before .before .before .before .before .before .before in
+    let farther = back .before .before .before .before .before .before .before .before .before in
+    let args = farther .before .before .before .before .before .before .before .before .args in
+    let asked = farther .before .before .before .before .before .before .before .before .pre in
+    let T = tableOf (args .s .now) in
+    let S = shape T in
+    let p = args .p .now in
+    let loop = farther .before .loop in
+    let d0 = back .before .before .before .before .before .before .before .before .if1 .left in
+    let k = farther .before .before .before .known-row in
+    let kind = leafShape (k .result .kind) in
+    let is = shape-leaf T (args .key) (k .result) (k .ensures) (rw (k .ensures) (asked .1 .1 .0 .0)) (rw (k .ensures) (asked .1 .1 .0 .1)) in
+    let span = back .before .before .before .before .from in
+    let i = leaf-in S (args .depth) (args .key) kind is d0 p (loop .here) _ (back .before .before .before .before .before .before .content .ensures) (span .given .0 .0) (span .given .0 .1 .0) (span .given .1) in
+    let small = asked .1 .0 .small in omega (arith, i, small))
+    -- add-below-2
+    (λ c.
+    let back = c .before .before .before .before .before .before .before .before .before .before .before .before .before .before in
+    let farther = back .before .before .before .before .before .before .before .before .before in
+    let pre = farther .before .before .before .before .before .before .before .before .pre .1 .0 in let inv = farther .before .loop .inv in omega (arith, inv .2, inv .3, pre .small))
     -- sub-composite
     (λ c. search needs)
     -- add-composite
     (λ c.
-    let back = c .before .before .before .before .before .before .before .before .before in
+    let back = c .before .before .before .before .before .before .before .before .before .before .before in
     let farther = back .before .before .before .before .before .before .before .before .before in
     let pre = farther .before .before .before .before .before .before .before .before .pre .1 .0 in let inv = farther .before .loop .inv in omega (arith, inv .2, inv .3, pre .small))
     -- composite-requires
     (λ c κs.
-    let back = c .before .before .before .before .before .before .before .before .before in
+    let back = c .before .before .before .before .before .before .before .before .before .before .before in
     let farther = back .before .before .before .before .before .before .before .before .before in
     let args = farther .before .before .before .before .before .before .before .before .args in
     let asked = farther .before .before .before .before .before .before .before .before .pre in
@@ -1344,8 +1535,8 @@ pairs-spec t =
     let again = back .before .is-again .ensures in
     let new =
     pair-new R S P p (args .key) (args .val) (args .n) (loop .i) (inv .0) (loop .here) some from to read (args .judge) _ left
-    (λ j. again .1 .0 j ∙ ap (among (part p from to)) (sym (inv .8 j .0))) (c .before .before .before .before .before .before .before .if2 .left) in
-    let put = c .before .before .before .before .before .put-row in
+    (λ j. again .1 .0 j ∙ ap (among (part p from to)) (sym (inv .8 j .0))) (c .before .before .before .before .before .before .before .before .before .if2 .left) in
+    let put = c .before .before .before .before .before .before .before .put-row in
     let pre = asked .1 .0 in (
       omega (arith, asked .0),
       (
@@ -1359,24 +1550,24 @@ pairs-spec t =
               (pair-value-accepted R S P p (args .key) (args .val) (args .n) (loop .i) (inv .0) (loop .here) some from to read new (loop .sum) (loop .below) (loop .sheet) _ (put .ensures) (left j));
         },
         farther .before .before .known-row2 .ensures,
-        c .before .if3 .taken,
+        c .before .before .before .if3 .taken,
       ),
     ))
     -- enum-known-number
     (λ c. search needs)
     -- same-length-7
     (λ c.
-    let back = c .before .before .before .before .before .before .before .before .before in
+    let back = c .before .before .before .before .before .before .before .before .before .before .before in
     let farther = back .before .before .before .before .before .before .before .before .before in
     c .before .before .before .before .before .composite .kept .1 .1 .1 .0 ∙ back .before .before .put-row .kept .0 ∙ farther .before .before .before .before .before .before .before .loop .inv .5)
     -- same-length-8
     (λ c.
-    let back = c .before .before .before .before .before .before .before .before .before in
+    let back = c .before .before .before .before .before .before .before .before .before .before .before in
     let farther = back .before .before .before .before .before .before .before .before .before in
     back .before .before .before .before .before .before .before .is-again .kept .1 .0 ∙ farther .before .before .before .before .before .before .before .loop .inv .7)
     -- returns-4
     (λ c.
-    let back = c .before .before .before .before .before .before .before .before .before in
+    let back = c .before .before .before .before .before .before .before .before .before .before .before in
     let farther = back .before .before .before .before .before .before .before .before .before in
     let farthest = farther .before .before .before .before .before .before .before .before .before in
     let args = farthest .before .before .before .before .before .args in
@@ -1418,7 +1609,7 @@ pairs-spec t =
     (λ c. search needs)
     -- add-sum
     (λ c.
-    let back = c .before .before .before .before .before .before .before .before .before in
+    let back = c .before .before .before .before .before .before .before .before .before .before .before in
     let farther = back .before .before .before .before .before .before .before .before .before in
     let farthest = farther .before .before .before .before .before .before .before .before .before in
     let args = farthest .before .before .before .before .before .args in
@@ -1654,9 +1845,19 @@ pairs-spec t =
     let t : Paired R S P p (args .key) (args .val) (args .n) (loop .i) (inv .0) (loop .here) some from to read new (loop .sum) (loop .below) (loop .sheet) _ (put .ensures) (joined .here) (joined .sum) (joined .below) (joined .sheet) =
     ⊎-elim
     (λ w.
+    let v = farther .before .known-row2 in
+    let none = w .1 .ensures (w .2 .taken) in
+    let vis = shape-map T (args .val) (v .result) (v .ensures) (none .0) in
     pair-turn R S P p (args .key) (args .val) (args .n) (loop .i) (inv .0) (loop .here) some from to read new (loop .sum) (loop .below) (loop .sheet) _ (put .ensures) _ _ _ _
-    (renamed (ap (λ (k : ℕ). parse S k (args .val) (cursorAt p to)) (deep (args .depth) d0)) (was (w .2 .ensures) (w .6 .given .1)))
-    _ _ _ _ (w .9) (w .11) (w .10) (w .8))
+    (renamed (ap (λ (k : ℕ). parse S k (args .val) (cursorAt p to)) (deep (args .depth) d0))
+    (map-none S (args .depth - 1) (args .val) p to (v .result .a) (v .result .b) vis _ (none .1) 0 (to + 1) refl refl R (first-of (args .shown .now) S (args .val) vis)
+    (loop .below + 1) _ _ (omega (arith, i, inv .3)) (w .4 .ensures)))
+    _ _ _ _ (w .8) (omega (arith, w .10)) (omega (arith, w .9)) (w .7))
+    (⊎-elim
+    (λ w.
+    pair-turn R S P p (args .key) (args .val) (args .n) (loop .i) (inv .0) (loop .here) some from to read new (loop .sum) (loop .below) (loop .sheet) _ (put .ensures) _ _ _ _
+    (renamed (ap (λ (k : ℕ). parse S k (args .val) (cursorAt p to)) (deep (args .depth) d0)) (was (w .4 .ensures) (w .8 .given .1)))
+    _ _ _ _ (w .11) (w .13) (w .12) (w .10))
     (λ w.
     let v = farther .before .known-row2 in
     let vis = shape-leaf T (args .val) (v .result) (v .ensures) (rw (v .ensures) (asked .1 .1 .0 .2)) (omega (arith, w .0 .left)) in
@@ -1664,7 +1865,7 @@ pairs-spec t =
     pair-turn R S P p (args .key) (args .val) (args .n) (loop .i) (inv .0) (loop .here) some from to read new (loop .sum) (loop .below) (loop .sheet) _ (put .ensures) _ _ _ _
     (leaf-past S (args .depth) (args .val) (leafShape (v .result .kind)) vis d0 p to _ (w .2 .ensures) (vspan .0 .0) (vspan .0 .1 .0) (vspan .1)
     R (loop .below + 1) _ _ (omega (arith, i, inv .3)) (w .7 .ensures))
-    _ _ _ _ (w .11) (omega (arith, w .13)) (omega (arith, w .12)) (w .10))
+    _ _ _ _ (w .11) (omega (arith, w .13)) (omega (arith, w .12)) (w .10)))
     (joined .came) in (
       part p from to ∷ inv .0,
       sym (t .same) ∙ inv .1,
@@ -1701,7 +1902,7 @@ pairs-spec t =
     let inv = c .before .before .before .before .before .loop .inv in
     let h = few-pairs (args .n) (asked .1 .1 .0 .4) in omega (arith, h, inv .2, inv .4, inv .6, c .before .before .before .before .loop-test .left, asked .1 .0 .small, asked .1 .1 .0 .4))
     -- same-length-11
-    (λ c. c .before .before .put-row3 .kept .0 ∙ c .before .before .before .before .before .loop .inv .5)
+    (λ c. c .before .before .put-row4 .kept .0 ∙ c .before .before .before .before .before .loop .inv .5)
     -- same-length-12
     (λ c. c .before .before .before .before .before .loop .inv .7)
     -- returns-6
@@ -1723,7 +1924,7 @@ pairs-spec t =
     composite-past R S P (map (args .key) (args .val)) (args .ty) (args .start) n (cursorAt p (args .start)) (args .row) (args .sheet .now)
     p (args .start) (loop .here) (loop .sum) _ (loop .below) (loop .sheet) _ (inv .0) (pairs (n - loop .i) (args .key) (args .val))
     (pairs-none (args .key) (args .val) (n - loop .i) (omega (arith, end))) (inv .1)
-    (omega (arith, own)) (c .before .before .put-row3 .ensures) (inv .2) (inv .3) (omega (arith, h, inv .4, inv .6, end)))
+    (omega (arith, own)) (c .before .before .put-row4 .ensures) (inv .2) (inv .3) (omega (arith, h, inv .4, inv .6, end)))
 
 abbrev partial-calls : ℕ → partial-lts.Claims
 partial-calls t = (low-bits-reads.Asked, low-bits-reads.Learnt, ones-in-reads.Asked, ones-in-reads.Learnt, fields-below t, fields.Post, put-row-reads.Asked, put-row-reads.Learnt)

@@ -1,11 +1,11 @@
--- `salvage::pieces::forward` meets its contract: what is left is as far as it is from the start, less what was passed.
-use mathlib.Core.Path.{_≡_}
+-- `salvage::pieces::forward` meets its contract: what is left is as far as it is from the start, less the blocks that were passed.
+use mathlib.Core.Path.{_≡_, _∙_}
 use Prim.Native.Nat.{_+_, _-_, _≤_}
 use native.Mathlib.Omega.{arith}
 use borrow.Author.Needs.{needs}
 use lib.ListN.{length, drop}
 use Rattle.salvage.specs.Pieces.{forward}
-use Rattle.salvage.proofs.Turns.{forward-on, forward-found, forward-over}
+use Rattle.salvage.proofs.Turns.{forward-past}
 use Rattle.salvage.proofs.pieces.forward.Statement.{statement}
 use Rattle.salvage.proofs.pieces.forward.Tie as tie
 
@@ -15,17 +15,11 @@ Inv-loop bytes i₀ i = (i ≤ length bytes) × (i + forward (drop i bytes) ≡ 
 abbrev μ-loop : tie.MeasureT-loop
 μ-loop bytes i₀ i = length bytes - i
 
-returns : tie.Need-returns Inv-loop μ-loop
-returns c =
-    let l = c .before .before .before .before .loop in
-    let a = c .before .before .before .before .before .before .args in
-    forward-found (a .bytes .now) (l .i) (l .inv .1) (c .before .before .before .loop-test .taken) (c .before .entry-length .result) (c .before .entry-length .ensures) (c .if1 .taken)
-
 loop-again : tie.Need-loop-again Inv-loop μ-loop
 loop-again c =
-    let l = c .before .before .before .before .loop in
-    let a = c .before .before .before .before .before .before .args in
-    (omega arith, forward-on (a .bytes .now) (l .i) (l .inv .1) (c .before .before .before .loop-test .taken) (c .before .entry-length .result) (c .before .entry-length .ensures) (c .if1 .left))
+    let l = c .before .before .before .loop in
+    let a = c .before .before .before .before .before .args in
+    (omega arith, forward-past (a .bytes .now) (l .i) _ (l .inv .1) 32 (omega (arith, c .before .within-block .ensures, c .if1 .left)))
 
 pub forward-spec : {M : Type 1} → statement M
 forward-spec =
@@ -35,11 +29,13 @@ forward-spec =
     μ-loop
     (λ c. (omega arith, omega arith))
     (λ c. search needs)
-    (λ c. search needs)
-    (λ c. search needs)
-    (λ c κs. tt)
-    returns
+    (λ c κs. omega arith)
+    (λ c. omega arith)
+    -- returns
+    (λ c. omega (arith, c .before .within-block .ensures, c .if1 .taken, c .before .before .before .loop .inv .1))
     (λ c. omega arith)
     (λ c. omega arith)
     loop-again
-    (λ c. forward-over (c .before .before .before .args .bytes .now) (c .before .loop .i) (c .before .loop .inv .1) (c .loop-test .left)))
+    (λ c κs. search needs)
+    -- returns-2
+    (λ c. c .in-rest .ensures ∙ c .before .before .loop .inv .1))

@@ -1,15 +1,15 @@
--- `reader::flat::required_of` meets its contract. The invariant: the bits of the fields from i on.
+-- `parts::required_of` meets its contract. The invariant: the bits of the fields from i on.
 use mathlib.Core.Path.{_≡_}
 use Prim.Native.Nat.{suc, _+_, _-_, _^_, _≤_, _<_}
 use native.Mathlib.Omega.{arith}
 use lib.Pow.{pow-pos, pow-mono}
 use Rattle.schema.specs.File.{tableOf}
 use Rattle.parts.specs.Shape.{fieldsFrom}
 use Rattle.parts.proofs.Tables.{few-fields}
-use Rattle.reader.specs.Flat.{Requires}
-use Rattle.reader.proofs.Flats.{required-none, required-more, bit-fits}
-use Rattle.reader.proofs.flat.required_of.Statement.{statement}
-use Rattle.reader.proofs.flat.required_of.Tie as tie
+use Rattle.parts.specs.Required.{Requires}
+use Rattle.parts.proofs.Masks.{required-none, required-more, bit-fits}
+use Rattle.parts.proofs.required_of.Statement.{statement}
+use Rattle.parts.proofs.required_of.Tie as tie
 
 abbrev Inv-loop : tie.InvT-loop
 Inv-loop s l first n i₀ required₀ i required = (i ≤ n) × (required < 2 ^ (n - i)) × Requires required (fieldsFrom (tableOf s) (first + i) (n - i))

@@ -1,9 +1,9 @@
--- `reader::flat::zeros_in` meets its contract.
+-- `parts::zeros_in` meets its contract.
 use mathlib.Core.Path.{refl}
 use native.Mathlib.Omega.{arith}
 use lib.Count.{trailing-le}
-use Rattle.reader.proofs.flat.zeros_in.Statement.{statement}
-use Rattle.reader.proofs.flat.zeros_in.Tie as tie
+use Rattle.parts.proofs.zeros_in.Statement.{statement}
+use Rattle.parts.proofs.zeros_in.Tie as tie
 
 pub zeros-in-spec : {M : Type 1} → statement M
 zeros-in-spec =

@@ -1,10 +1,10 @@
--- The proof of the cycle of walkers. A composite is given the depth of what it holds, so the measure is four times the depth:
--- one more for the pairs of a long map, two for an array, a map or a struct, and three for the choice between them.
+-- The proof of the cycle of walkers. A composite is given the depth of what it holds, so the measure is five times the depth:
+-- one more for a struct or the pairs of a long map, two for a run of structs, three for an array, a map or a struct by itself, and four for the choice between them.
 use borrow.Author.Needs.{needs}
 use mathlib.Core.Path.{_≡_, refl, sym, ap, _∙_}
 use mathlib.Core.Logic.{⊎-elim}
 use mathlib.Core.List.{[]}
-use Prim.Native.Nat.{ℕ, _+_, _-_, _*_, _/_, _≤_, _<_}
+use Prim.Native.Nat.{ℕ, suc, _+_, _-_, _*_, _/_, _≤_, _<_}
 use native.Mathlib.Omega.{arith}
 use lib.ListN.{length, replicate}
 use Rattle.schema.specs.declared.TypeRow.{TypeRow}
@@ -16,44 +16,54 @@ use Rattle.value.specs.Write.{show}
 use Rattle.parts.specs.Shape.{fieldsFrom}
 use Rattle.parts.specs.Keys.{keysIn, Kept}
 use Rattle.parts.proofs.Keys.{keys-none}
-use Rattle.parts.proofs.Tables.{few-fields, field-row, struct-row, array-row, map-row, map-value, shape-array, shape-map, shape-struct, shape-past, shape-leaf}
-use Rattle.parts.proofs.Presence.{length-fields, present-end}
+use Rattle.parts.proofs.Tables.{few-fields, struct-row, array-row, map-row, map-value, shape-array, shape-map, shape-struct, shape-past, shape-leaf}
+use Rattle.parts.proofs.Presence.{length-fields}
+use Rattle.parts.proofs.Masks.{bitsLeft, Standing, standing-first, standing-kind, standing-next, standing-shift, standing-less, standing-skip, standing-same, standing-end}
 use Rattle.parts.proofs.Items.{elements-none, pairs-none}
 use Rattle.writer.specs.Emit.{emit, emitAll}
 use Rattle.writer.specs.Leaf.{rowsAt}
 use Rattle.writer.proofs.Steps.{was, renamed, as-stopped, as-refused, shown-stopped, shown-refused, accepted-along, onward, walk-done}
-use Rattle.writer.proofs.Steps.{show-deep, accepted-deeper, walked-deeper, leaf-accepted, show-unknown}
+use Rattle.writer.proofs.Steps.{show-deep, accepted-deeper, walked-deeper, items-deeper, items-shallower, leaf-accepted, show-unknown}
+use Rattle.writer.proofs.Heads.{head-fits}
 use Rattle.writer.proofs.Composites.{leaf-failed, leaf-in, leaf-read, leaf-past, row-absent, due-in, array-start, array-accepted, Came, came-by}
-use Rattle.writer.proofs.Composites.{map-many, map-start, map-accepted, struct-known, struct-fault, struct-unknown, struct-miscounted, struct-start, struct-accepted}
-use Rattle.writer.proofs.Composites.{element-past, element-stop, element-accepted, Turned, field-stop, field-accepted, field-read, field-absent}
+use Rattle.writer.proofs.Composites.{map-many, map-start, map-accepted, struct-fault, struct-unknown, struct-miscounted, struct-start, struct-accepted}
+use Rattle.writer.proofs.Composites.{element-past, element-stop, element-accepted, structs-held, one-accepted, one-end, Turned, field-stop, field-accepted, field-read}
 use Rattle.writer.proofs.Composites.{pair-key-accepted, pair-key-stop, pair-known, pair-value-accepted, pair-again, pair-value-stop, pair-value-past, pairs-first}
 use borrow.Fn.Kinds.{In}
 use borrow.Fn.PlainCycle.{Measures, is, falls, and}
 use Rattle.writer.proofs.walk.array.Reads as array
 use Rattle.writer.proofs.walk.array.Kinds as array-kinds
-use Rattle.writer.proofs.walk.+array+composite+fields+many+mapping+pairs+structure.Lts-array as array-lts
+use Rattle.writer.proofs.walk.+array+composite+fields+many+mapping+pairs+single+structs+structure.Lts-array as array-lts
 use Rattle.writer.proofs.walk.composite.Reads as composite
 use Rattle.writer.proofs.walk.composite.Kinds as composite-kinds
-use Rattle.writer.proofs.walk.+array+composite+fields+many+mapping+pairs+structure.Lts-composite as composite-lts
+use Rattle.writer.proofs.walk.+array+composite+fields+many+mapping+pairs+single+structs+structure.Lts-composite as composite-lts
 use Rattle.writer.proofs.walk.fields.Reads as fields
 use Rattle.writer.proofs.walk.fields.Kinds as fields-kinds
-use Rattle.writer.proofs.walk.+array+composite+fields+many+mapping+pairs+structure.Lts-fields as fields-lts
+use Rattle.writer.proofs.walk.+array+composite+fields+many+mapping+pairs+single+structs+structure.Lts-fields as fields-lts
 use Rattle.writer.proofs.walk.many.Reads as many
 use Rattle.writer.proofs.walk.many.Kinds as many-kinds
-use Rattle.writer.proofs.walk.+array+composite+fields+many+mapping+pairs+structure.Lts-many as many-lts
+use Rattle.writer.proofs.walk.+array+composite+fields+many+mapping+pairs+single+structs+structure.Lts-many as many-lts
 use Rattle.writer.proofs.walk.mapping.Reads as mapping
 use Rattle.writer.proofs.walk.mapping.Kinds as mapping-kinds
-use Rattle.writer.proofs.walk.+array+composite+fields+many+mapping+pairs+structure.Lts-mapping as mapping-lts
+use Rattle.writer.proofs.walk.+array+composite+fields+many+mapping+pairs+single+structs+structure.Lts-mapping as mapping-lts
 use Rattle.writer.proofs.walk.pairs.Reads as pairs
 use Rattle.writer.proofs.walk.pairs.Kinds as pairs-kinds
-use Rattle.writer.proofs.walk.+array+composite+fields+many+mapping+pairs+structure.Lts-pairs as pairs-lts
+use Rattle.writer.proofs.walk.+array+composite+fields+many+mapping+pairs+single+structs+structure.Lts-pairs as pairs-lts
+use Rattle.writer.proofs.walk.single.Reads as single
+use Rattle.writer.proofs.walk.single.Kinds as single-kinds
+use Rattle.writer.proofs.walk.+array+composite+fields+many+mapping+pairs+single+structs+structure.Lts-single as single-lts
+use Rattle.writer.proofs.walk.structs.Reads as structs
+use Rattle.writer.proofs.walk.structs.Kinds as structs-kinds
+use Rattle.writer.proofs.walk.+array+composite+fields+many+mapping+pairs+single+structs+structure.Lts-structs as structs-lts
 use Rattle.writer.proofs.walk.structure.Reads as structure
 use Rattle.writer.proofs.walk.structure.Kinds as structure-kinds
-use Rattle.writer.proofs.walk.+array+composite+fields+many+mapping+pairs+structure.Lts-structure as structure-lts
+use Rattle.writer.proofs.walk.+array+composite+fields+many+mapping+pairs+single+structs+structure.Lts-structure as structure-lts
 use Rattle.schema.proofs.access.type_row.Reads as type-row-reads
 use Rattle.schema.proofs.file.layout_of.Reads as layout-of-reads
 use Rattle.schema.proofs.rows.field_row.Reads as field-row-reads
 use Rattle.schema.proofs.rows.row.Reads as row-reads
+use Rattle.parts.proofs.required_of.Reads as required-of-reads
+use Rattle.parts.proofs.zeros_in.Reads as zeros-in-reads
 use Rattle.parts.proofs.key.is_repeated.Reads as is-repeated-reads
 use Rattle.writer.proofs.leaf.leaf_row.Reads as leaf-row-reads
 use Rattle.writer.proofs.leaf.presence.Reads as presence-reads
@@ -63,29 +73,35 @@ use Rattle.writer.proofs.put.put_content.Reads as put-content-reads
 use Rattle.writer.proofs.put.put_number.Reads as put-number-reads
 use Rattle.writer.proofs.walk.leaves.Reads as leaves-reads
 use Rattle.writer.proofs.walk.refused.Reads as refused-reads
-use Rattle.writer.proofs.walk.+array+composite+fields+many+mapping+pairs+structure.{statement}
-use Rattle.writer.proofs.walk.+array+composite+fields+many+mapping+pairs+structure.Tie.{close}
+use Rattle.writer.proofs.walk.+array+composite+fields+many+mapping+pairs+single+structs+structure.{statement}
+use Rattle.writer.proofs.walk.+array+composite+fields+many+mapping+pairs+single+structs+structure.Tie.{close}
 
 abbrev μ-array : Measures 4 array-kinds.ps ℕ
-μ-array κs a = 4 * a .1 .1 .1 .1 .1 .1 .1 .1 .0 + 2
+μ-array κs a = 5 * a .1 .1 .1 .1 .1 .1 .1 .1 .0 + 3
 
 abbrev μ-composite : Measures 4 composite-kinds.ps ℕ
-μ-composite κs a = 4 * a .1 .1 .1 .1 .1 .1 .1 .1 .0 + 3
+μ-composite κs a = 5 * a .1 .1 .1 .1 .1 .1 .1 .1 .0 + 4
 
 abbrev μ-fields : Measures 4 fields-kinds.ps ℕ
-μ-fields κs a = 4 * a .1 .1 .1 .1 .1 .1 .1 .1 .1 .0
+μ-fields κs a = 5 * a .1 .1 .1 .1 .1 .1 .1 .1 .1 .0
 
 abbrev μ-many : Measures 4 many-kinds.ps ℕ
-μ-many κs a = 4 * a .1 .1 .1 .1 .1 .1 .1 .1 .1 .0 + 1
+μ-many κs a = 5 * a .1 .1 .1 .1 .1 .1 .1 .1 .1 .0 + 1
 
 abbrev μ-mapping : Measures 4 mapping-kinds.ps ℕ
-μ-mapping κs a = 4 * a .1 .1 .1 .1 .1 .1 .1 .1 .1 .0 + 2
+μ-mapping κs a = 5 * a .1 .1 .1 .1 .1 .1 .1 .1 .1 .0 + 3
 
 abbrev μ-pairs : Measures 5 pairs-kinds.ps ℕ
-μ-pairs κs a = 4 * a .1 .1 .1 .1 .1 .1 .1 .1 .1 .1 .0
+μ-pairs κs a = 5 * a .1 .1 .1 .1 .1 .1 .1 .1 .1 .1 .0
+
+abbrev μ-single : Measures 4 single-kinds.ps ℕ
+μ-single κs a = 5 * a .1 .1 .1 .1 .1 .1 .1 .1 .1 .0 + 3
+
+abbrev μ-structs : Measures 4 structs-kinds.ps ℕ
+μ-structs κs a = 5 * a .1 .1 .1 .1 .1 .1 .1 .1 .1 .1 .0 + 2
 
 abbrev μ-structure : Measures 4 structure-kinds.ps ℕ
-μ-structure κs a = 4 * a .1 .1 .1 .1 .1 .1 .1 .1 .1 .0 + 2
+μ-structure κs a = 5 * a .1 .1 .1 .1 .1 .1 .1 .1 .1 .1 .0 + 1
 
 abbrev array-at : ℕ → In 4 array-kinds.ps
 array-at t = and 4 array-kinds.ps (is 4 array-kinds.ps μ-array t) array.Pre
@@ -123,6 +139,18 @@ pairs-at t = and 5 pairs-kinds.ps (is 5 pairs-kinds.ps μ-pairs t) pairs.Pre
 abbrev pairs-below : ℕ → In 5 pairs-kinds.ps
 pairs-below t = and 5 pairs-kinds.ps (falls 5 pairs-kinds.ps _<_ μ-pairs t) pairs.Pre
 
+abbrev single-at : ℕ → In 4 single-kinds.ps
+single-at t = and 4 single-kinds.ps (is 4 single-kinds.ps μ-single t) single.Pre
+
+abbrev single-below : ℕ → In 4 single-kinds.ps
+single-below t = and 4 single-kinds.ps (falls 4 single-kinds.ps _<_ μ-single t) single.Pre
+
+abbrev structs-at : ℕ → In 4 structs-kinds.ps
+structs-at t = and 4 structs-kinds.ps (is 4 structs-kinds.ps μ-structs t) structs.Pre
+
+abbrev structs-below : ℕ → In 4 structs-kinds.ps
+structs-below t = and 4 structs-kinds.ps (falls 4 structs-kinds.ps _<_ μ-structs t) structs.Pre
+
 abbrev structure-at : ℕ → In 4 structure-kinds.ps
 structure-at t = and 4 structure-kinds.ps (is 4 structure-kinds.ps μ-structure t) structure.Pre
 
@@ -143,6 +171,8 @@ array-calls t = (
   type-row-reads.Learnt,
   leaves-reads.Asked,
   leaves-reads.Learnt,
+  structs-below t,
+  structs.Post,
   composite-below t,
   composite.Post,
 )
@@ -153,8 +183,8 @@ composite-calls t = (
   array.Post,
   mapping-below t,
   mapping.Post,
-  structure-below t,
-  structure.Post,
+  single-below t,
+  single.Post,
   refused-reads.Asked,
   refused-reads.Learnt,
 )
@@ -175,6 +205,8 @@ fields-calls t = (
   leaf-row-reads.Learnt,
   put-content-reads.Asked,
   put-content-reads.Learnt,
+  zeros-in-reads.Asked,
+  zeros-in-reads.Learnt,
 )
 
 abbrev many-calls : ℕ → many-lts.Claims
@@ -213,6 +245,22 @@ pairs-calls t = (
   composite.Post,
 )
 
+abbrev single-calls : ℕ → single-lts.Claims
+single-calls t = (
+  structs-below t,
+  structs.Post,
+)
+
+abbrev structs-calls : ℕ → structs-lts.Claims
+structs-calls t = (
+  layout-of-reads.Asked,
+  layout-of-reads.Learnt,
+  required-of-reads.Asked,
+  required-of-reads.Learnt,
+  structure-below t,
+  structure.Post,
+)
+
 abbrev structure-calls : ℕ → structure-lts.Claims
 structure-calls t = (
   row-due-reads.Asked,
@@ -239,15 +287,23 @@ abbrev array-μ-loop : array-lts.MeasureT-loop
 array-μ-loop s sheet source out₀ ty elem row pos depth judge count next t kind left₀ here₀ to₀ out left here to = left
 
 abbrev fields-Inv-loop : fields-lts.InvT-loop
-fields-Inv-loop s sheet source out₀ first n known start pos depth judge l i₀ left₀ bits₀ here₀ to₀ out i left bits here to =
-    (emitAll (shape (tableOf s)) (present (fieldsFrom (tableOf s) i left) bits)
-    (walk (show (shape (tableOf s)) source depth) [] (present (fieldsFrom (tableOf s) i left) bits) (rowsAt sheet here)) to out
+fields-Inv-loop s sheet source out₀ first n known start pos depth judge l i₀ bits₀ here₀ to₀ out i bits here to =
+    (emitAll (shape (tableOf s)) (bitsLeft (tableOf s) first n i bits) (walk (show (shape (tableOf s)) source depth) [] (bitsLeft (tableOf s) first n i bits) (rowsAt sheet here)) to out
     ≡ emitAll (shape (tableOf s)) (present (fieldsFrom (tableOf s) first n) known)
     (walk (show (shape (tableOf s)) source depth) [] (present (fieldsFrom (tableOf s) first n) known) (rowsAt sheet start)) pos out₀)
-    × (here ≤ length sheet / 4) × (to ≤ 16385) × (length out ≡ length out₀) × (i + left ≤ length (tableOf s .fields))
+    × (here ≤ length sheet / 4) × (to ≤ 16385) × (length out ≡ length out₀) × Standing first n i bits
 
 abbrev fields-μ-loop : fields-lts.MeasureT-loop
-fields-μ-loop s sheet source out₀ first n known start pos depth judge l i₀ left₀ bits₀ here₀ to₀ out i left bits here to = left
+fields-μ-loop s sheet source out₀ first n known start pos depth judge l i₀ bits₀ here₀ to₀ out i bits here to = bits
+
+abbrev structs-Inv-loop : structs-lts.InvT-loop
+structs-Inv-loop s sheet source out₀ ty first n count start pos depth judge required left₀ here₀ to₀ out left here to =
+    (emitAll (shape (tableOf s)) (replicate left (plainItem ty)) (walk (show (shape (tableOf s)) source (suc depth)) [] (replicate left (plainItem ty)) (rowsAt sheet here)) to out
+    ≡ emitAll (shape (tableOf s)) (replicate count (plainItem ty)) (walk (show (shape (tableOf s)) source (suc depth)) [] (replicate count (plainItem ty)) (rowsAt sheet start)) pos out₀)
+    × (here ≤ length sheet / 4) × (to ≤ 16385) × (length out ≡ length out₀)
+
+abbrev structs-μ-loop : structs-lts.MeasureT-loop
+structs-μ-loop s sheet source out₀ ty first n count start pos depth judge required left₀ here₀ to₀ out left here to = left
 
 abbrev pairs-Inv-loop : pairs-lts.InvT-loop
 pairs-Inv-loop s sheet source out₀ keys₀ key val n start pos depth judge k v i₀ here₀ to₀ out keys i here to =
@@ -315,30 +371,84 @@ array-spec t =
     let asked = farther .before .pre in
     let put-number = back .put-number in
     renamed (array-start (row-due .ensures) (count .given .1) _ _ _ (asked .1 .1) (asked .1 .0 .small) (put-number .ensures)) (c .before .before .leaves .ensures))
+    -- cast-structs
+    (λ c. search needs)
+    -- cast-structs-2
+    (λ c. search needs)
+    -- add-structs
+    (λ c.
+    let back = c .before .before .before .before .before .before .before .before .before .before .before .before in
+    let due = due-in (back .before .before .row-due .ensures) (back .count .given .1) in
+    let sound = back .before .before .before .before .before .before .before .good in
+    omega (arith, due .0, sound .1 .0))
+    -- sub-structs
+    (λ c.
+    let args = c .before .before .before .before .before .before .before .before .before .before .before .before .before .before .before .before .before .before .before .args in
+    let type-row = c .before .before .before .before .before .before .type-row in
+    structs-held (type-row .result .kind) (args .depth) (c .before .before .before .if2 .taken) .1)
+    -- structs-requires
+    (λ c κs.
+    let back = c .before .before .before .before .before .before .before .before .before .before .before .before in
+    let asked = back .before .before .before .before .before .before .before .pre in
+    let args = back .before .before .before .before .before .before .before .args in
+    let row-due = back .before .before .row-due in
+    let counted = back .count .given .1 in
+    let put-number = c .before .before .before .before .before .before .before .before .before .put-number in
+    let type-row = c .before .before .before .before .before .before .type-row in
+    let held = structs-held (type-row .result .kind) (args .depth) (c .before .before .before .if2 .taken) in
+    let due = due-in (row-due .ensures) counted in
+    let good = asked .1 .0 .good in
+    let T = tableOf (args .s .now) in (
+      omega (arith, asked .0, held .1),
+      (
+        (
+          onward (asked .1 .0) (omega (arith, due .0)) (put-number .ensures .capped) (put-number .kept .0)
+              (λ a. items-deeper _ _ (omega (arith, held .1)) _ _ (array-accepted (row-due .ensures) counted _ _ _ (asked .1 .1) a)),
+          shape-struct T (args .elem) _ (type-row .ensures) (held .0),
+        ),
+        struct-row (args .s .now) good (args .elem) _ (type-row .ensures) (held .0),
+      ),
+    ))
+    -- same-length-2
+    (λ c.
+    let put-number = c .before .before .before .before .before .before .before .before .before .before .before .before .put-number in
+    c .before .before .structs .kept .1 .1 .1 .0 ∙ put-number .kept .0)
+    -- returns-2
+    (λ c.
+    let back = c .before .before .before .before .before .before .before .before .before .before .before .before in
+    let put-number = back .put-number in
+    let count = back .before .before .before .count in
+    let row-due = back .before .before .before .before .before .row-due in
+    let asked = back .before .before .before .before .before .before .before .before .before .before .pre in
+    let args = back .before .before .before .before .before .before .before .before .before .before .args in
+    let type-row = c .before .before .before .before .before .before .before .before .before .type-row in
+    let held = structs-held (type-row .result .kind) (args .depth) (c .before .before .before .before .before .before .if2 .taken) in
+    renamed (array-start (row-due .ensures) (count .given .1) _ _ _ (asked .1 .1) (asked .1 .0 .small) (put-number .ensures))
+    (items-shallower _ _ (omega (arith, held .1)) _ _ _ _ (c .before .before .structs .ensures)))
     -- add-here
     (λ c.
-    let back = c .before .before .before .before .before .before .before .before .before in
+    let back = c .before .before .before .before .before .before .before .before .before .before in
     let row-due = back .before .row-due in
-    let count = c .before .before .before .before .before .before .before .before .count in
+    let count = c .before .before .before .before .before .before .before .before .before .count in
     let due = due-in (row-due .ensures) (count .given .1) in
     let sound = back .before .before .before .before .before .before .good in
     omega (arith, due .0, sound .1 .0))
     -- loop-holds
     (λ c.
-    let row-due = c .before .before .before .before .before .before .before .before .before .before .row-due in
-    let count = c .before .before .before .before .before .before .before .before .count in
-    let put-number = c .before .before .before .before .before .put-number in
+    let row-due = c .before .before .before .before .before .before .before .before .before .before .before .row-due in
+    let count = c .before .before .before .before .before .before .before .before .before .count in
+    let put-number = c .before .before .before .before .before .before .put-number in
     let due = due-in (row-due .ensures) (count .given .1) in
     (refl, omega (arith, due .0), put-number .ensures .capped, refl))
     -- refused-requires-2
     (λ c κs. search needs)
-    -- same-length-2
+    -- same-length-3
     (λ c.
-    let put-number = c .before .before .before .before .before .before .before .before .before .put-number in
+    let put-number = c .before .before .before .before .before .before .before .before .before .before .put-number in
     c .before .before .before .loop .inv .3 ∙ put-number .kept .0)
-    -- returns-2
+    -- returns-3
     (λ c.
-    let back = c .before .before .before .before .before .before .before .before .before in
+    let back = c .before .before .before .before .before .before .before .before .before .before in
     let farther = back .before .before .before .before .before .before .before .before .before in
     let row-due = back .before .before .before .before .before .row-due in
     let count = back .before .before .before .count in
@@ -346,15 +456,15 @@ array-spec t =
     let loop = c .before .before .before .loop in
     let put-number = back .put-number in
     as-refused (c .refused2 .ensures)
-    (element-stop _ _ (c .before .before .loop-test .taken) _ _ _ _ (shown-stopped _ _ _ _ (show-deep _ _ _ _ _ (c .before .if2 .taken))) ∙ loop .inv .0
+    (element-stop _ _ (c .before .before .loop-test .taken) _ _ _ _ (shown-stopped _ _ _ _ (show-deep _ _ _ _ _ (c .before .if3 .taken))) ∙ loop .inv .0
     ∙ array-start (row-due .ensures) (count .given .1) _ _ _ (asked .1 .1) (asked .1 .0 .small) (put-number .ensures)))
     -- sub-composite
     (λ c. search needs)
     -- composite-requires
     (λ c κs.
-    let back = c .before .before .before .before .before .before .before .before .before in
+    let back = c .before .before .before .before .before .before .before .before .before .before in
     let farther = back .before .before .before .before .before .before .before .before .before in
-    let type-row-at = c .before .before .before .before .before .before .type-row in
+    let type-row-at = c .before .before .before .before .before .before .before .type-row in
     let put-number = back .put-number in
     let row-due = back .before .before .before .before .before .row-due in
     let count = back .before .before .before .count in
@@ -366,35 +476,35 @@ array-spec t =
       (
         onward (asked .1 .0) (inv .1) (inv .2) (inv .3 ∙ put-number .kept .0)
             (λ a.
-            accepted-deeper _ _ (c .before .if2 .left) _ _
+            accepted-deeper _ _ (c .before .if3 .left) _ _
             (element-accepted _ _ (c .before .before .loop-test .taken) _
             (accepted-along _ _ _ _ _ _ _ _ _ (inv .0) (array-accepted (row-due .ensures) (count .given .1) _ _ _ (asked .1 .1) a)))),
         type-row .ensures,
-        omega (arith, c .before .before .before .before .if1 .left),
+        omega (arith, c .before .before .before .before .before .if1 .left),
       ),
     ))
     -- enum-known-number
     (λ c. search needs)
-    -- same-length-3
+    -- same-length-4
     (λ c.
     let back = c .before .before .before .before .before .before .before .before .before in
     let inner = c .before .before .before .before .before .composite in
     let loop = back .loop in
-    let put-number = back .before .before .before .before .before .before .put-number in
+    let put-number = back .before .before .before .before .before .before .before .put-number in
     inner .kept .1 .1 .1 .0 ∙ loop .inv .3 ∙ put-number .kept .0)
-    -- returns-3
+    -- returns-4
     (λ c.
     let back = c .before .before .before .before .before .before .before .before .before in
-    let farther = back .before .before .before .before .before .before .before .before .before in
-    let if2 = c .before .before .before .before .before .before .before .if2 in
+    let farther = back .before .before .before .before .before .before .before .before .before .before in
+    let if3 = c .before .before .before .before .before .before .before .if3 in
     let inner = c .before .before .before .before .before .composite in
     let loop-test = c .before .before .before .before .before .before .before .before .loop-test in
     let row-due = farther .before .before .row-due in
     let count = farther .count in
     let asked = farther .before .before .before .before .before .before .before .pre in
     let loop = back .loop in
-    let put-number = back .before .before .before .before .before .before .put-number in
-    let w = walked-deeper _ _ (if2 .left) _ _ _ _ (was (inner .ensures) (c .before .number .given .1)) in
+    let put-number = back .before .before .before .before .before .before .before .put-number in
+    let w = walked-deeper _ _ (if3 .left) _ _ _ _ (was (inner .ensures) (c .before .number .given .1)) in
     as-stopped
     (element-stop _ _ (loop-test .taken) _ _ _ _ (w .same) ∙ loop .inv .0
     ∙ array-start (row-due .ensures) (count .given .1) _ _ _ (asked .1 .1) (asked .1 .0 .small) (put-number .ensures)))
@@ -407,35 +517,35 @@ array-spec t =
     -- loop-again
     (λ c.
     let back = c .before .before .before .before .before .before .before .before .before in
-    let farther = back .before .before .before .before .before .before .before .before .before in
-    let put-number = back .before .before .before .before .before .before .put-number in
-    let if2 = c .before .before .before .before .before .before .before .if2 in
+    let farther = back .before .before .before .before .before .before .before .before .before .before in
+    let put-number = back .before .before .before .before .before .before .before .put-number in
+    let if3 = c .before .before .before .before .before .before .before .if3 in
     let loop-test = c .before .before .before .before .before .before .before .before .loop-test in
     let asked = farther .before .before .before .before .before .before .before .pre in
     let loop = back .loop in
     let composite = c .before .before .before .before .before .composite in
     let small : length (loop .out) ≤ 16384 = rw (loop .inv .3 ∙ put-number .kept .0) (asked .1 .0 .small) in
-    let w = walked-deeper _ _ (if2 .left) _ _ _ _ (was (composite .ensures) (c .before .row .given .1)) in (
+    let w = walked-deeper _ _ (if3 .left) _ _ _ _ (was (composite .ensures) (c .before .row .given .1)) in (
       element-past _ _ (loop-test .taken) _ _ _ _ small (w .same) ∙ loop .inv .0,
       w .within .0,
       w .within .1,
       composite .kept .1 .1 .1 .0 ∙ loop .inv .3,
     ))
-    -- returns-4
-    (λ c. shown-refused _ _ _ _ (c .refused .ensures) (row-absent (c .before .before .before .row-due .ensures) _ _ _ (c .before .enum-told .given .1)))
-    -- same-length-4
-    (λ c.
-    let put-number = c .before .before .before .before .before .before .before .put-number in
-    c .before .loop .inv .3 ∙ put-number .kept .0)
     -- returns-5
+    (λ c. shown-refused _ _ _ _ (c .refused .ensures) (row-absent (c .before .before .before .row-due .ensures) _ _ _ (c .before .enum-told .given .1)))
+    -- same-length-5
     (λ c.
-    let back = c .before .before .before .before .before .before .before .before .before in
+    let put-number = c .before .before .before .before .before .before .before .before .put-number in
+    c .before .loop .inv .3 ∙ put-number .kept .0)
+    -- returns-6
+    (λ c.
+    let back = c .before .before .before .before .before .before .before .before .before .before in
     let row-due = back .before .before .before .row-due in
     let count = back .before .count in
     let args = back .before .before .before .before .before .before .before .before .args in
     let asked = back .before .before .before .before .before .before .before .before .pre in
     let loop = c .before .loop in
-    let put-number = c .before .before .before .before .before .before .before .put-number in
+    let put-number = c .before .before .before .before .before .before .before .before .put-number in
     walk-done _ _ _ (elements-none (args .elem) (loop .left) (c .loop-test .left))
     (loop .inv .0 ∙ array-start (row-due .ensures) (count .given .1) _ _ _ (asked .1 .1) (asked .1 .0 .small) (put-number .ensures)) (loop .inv .1) (loop .inv .2))
 
@@ -467,11 +577,11 @@ composite-spec t =
     (λ c. c .before .before .mapping .kept .1 .1 .1 .0)
     -- returns-2
     (λ c. c .before .before .mapping .ensures)
-    -- cast-structure
+    -- cast-single
     (λ c. search needs)
-    -- cast-structure-2
+    -- cast-single-2
     (λ c. search needs)
-    -- structure-requires
+    -- single-requires
     (λ c κs.
     let args = c .before .before .before .before .before .before .before .before .before .before .args in
     let asked = c .before .before .before .before .before .before .before .before .before .before .pre in
@@ -479,9 +589,9 @@ composite-spec t =
     let kind = c .before .before .before .if3 .taken in
     (omega (arith, asked .0), ((pre, shape-struct (tableOf (args .s .now)) (args .ty) _ (asked .1 .1) kind), struct-row (args .s .now) (pre .good) (args .ty) _ (asked .1 .1) kind)))
     -- same-length-3
-    (λ c. c .before .before .structure .kept .1 .1 .1 .0)
+    (λ c. c .before .before .single .kept .1 .1 .1 .0)
     -- returns-3
-    (λ c. c .before .before .structure .ensures)
+    (λ c. c .before .before .single .ensures)
     -- refused-requires
     (λ c κs. search needs)
     -- returns-4
@@ -501,8 +611,10 @@ fields-spec t =
     (λ c κs. good-shaped _ (c .before .before .before .before .pre .1 .0 .good))
     -- loop-holds
     (λ c.
+    let args = c .before .before .before .before .before .args in
     let asked = c .before .before .before .before .before .pre in
-    (refl, asked .1 .0 .inside, asked .1 .0 .behind, refl, asked .1 .1))
+    let all : args .first + args .n - args .first ≡ args .n = omega arith in
+    (rw all, asked .1 .0 .inside, asked .1 .0 .behind, refl, standing-first (asked .1 .1 .0) (asked .1 .1 .1)))
     -- refused-requires
     (λ c κs. search needs)
     -- same-length
@@ -510,9 +622,11 @@ fields-spec t =
     -- returns
     (λ c.
     let args = c .before .before .before .before .before .before .before .before .before .before .args in
+    let asked = c .before .before .before .before .before .before .before .before .before .before .pre in
     let loop = c .before .before .before .before .loop in
+    let some : 0 < loop .bits = omega (arith, c .before .before .before .loop-test .taken) in
     as-refused (c .refused .ensures)
-    (field-stop _ (args .sheet .now) (tableOf (args .s .now)) _ _ (loop .here) (c .before .before .before .loop-test .taken) (loop .inv .4) refl (c .before .before .if1 .taken) _ _ _
+    (field-stop _ (args .sheet .now) (tableOf (args .s .now)) (loop .here) (loop .inv .4) some (asked .1 .1 .2) refl (c .before .before .if1 .taken) _ _ _
     (shown-stopped _ _ _ _ (show-deep _ _ _ _ _ (c .before .if2 .taken))) ∙ loop .inv .0))
     -- field-row-requires
     (λ c κs.
@@ -538,6 +652,7 @@ fields-spec t =
     let asked = back .before .before .before .before .before .before .pre in
     let loop = back .loop in
     let inv = loop .inv in
+    let some : 0 < loop .bits = omega (arith, loop-test .taken) in
     let cells = args .sheet .now in
     let T = tableOf (args .s .now) in (
       omega (arith, asked .0),
@@ -545,7 +660,7 @@ fields-spec t =
         onward (asked .1 .0) (inv .1) (inv .2) (inv .3)
             (λ a.
             accepted-deeper _ _ (if2 .left) _ _
-            (field-accepted _ cells T _ _ (loop .here) (loop-test .taken) (inv .4) (field .ensures) (if1 .taken) (accepted-along _ _ _ _ _ _ _ _ _ (inv .0) a))),
+            (field-accepted _ cells T (loop .here) (inv .4) some (asked .1 .1 .2) (field .ensures) (if1 .taken) (accepted-along _ _ _ _ _ _ _ _ _ (inv .0) a))),
         c .before .before .before .row .ensures,
         c .before .if3 .taken,
       ),
@@ -568,10 +683,12 @@ fields-spec t =
     let field = back .before .before .field-row in
     let if1 = back .before .before .before .before .if1 in
     let args = farther .before .before .before .args in
+    let asked = farther .before .before .before .pre in
     let loop = back .before .before .before .before .before .before .loop in
+    let some : 0 < loop .bits = omega (arith, loop-test .taken) in
     let w = walked-deeper _ _ (if2 .left) _ _ _ _ (was (inner .ensures) (c .before .number .given .1)) in
     as-stopped
-    (field-stop _ (args .sheet .now) (tableOf (args .s .now)) _ _ (loop .here) (loop-test .taken) (loop .inv .4) (field .ensures) (if1 .taken) _ _ _ (w .same) ∙ loop .inv .0))
+    (field-stop _ (args .sheet .now) (tableOf (args .s .now)) (loop .here) (loop .inv .4) some (asked .1 .1 .2) (field .ensures) (if1 .taken) _ _ _ (w .same) ∙ loop .inv .0))
     -- enum-known-row
     (λ c. search needs)
     -- cast-leaf-row
@@ -589,11 +706,12 @@ fields-spec t =
     let t = c .before .before .before .row in
     let cells = args .sheet .now in
     let T = tableOf (args .s .now) in
-    let other = field-row (args .s .now) (asked .1 .0 .good) (loop .i) (loop .left) (loop-test .taken) (loop .inv .4) (f .result) (f .ensures) (t .result) (t .ensures) in
+    let some : 0 < loop .bits = omega (arith, loop-test .taken) in
+    let other = standing-kind (loop .inv .4) some (args .s .now) (asked .1 .0 .good) (asked .1 .1 .2) (f .result) (f .ensures) (t .result) (t .ensures) in
     let kind = shape-leaf T (f .result .ty) (t .result) (t .ensures) other (omega (arith, c .before .if3 .left)) in
     λ j.
     leaf-accepted (shape T) _ (if2 .left) _ _ kind
-    (field-accepted _ cells T _ _ (loop .here) (loop-test .taken) (loop .inv .4) (f .ensures) (if1 .taken)
+    (field-accepted _ cells T (loop .here) (loop .inv .4) some (asked .1 .1 .2) (f .ensures) (if1 .taken)
     (accepted-along _ _ _ _ _ _ _ _ _ (loop .inv .0) (asked .1 .0 .judged j))))
     -- enum-known-number-2
     (λ c. search needs)
@@ -619,11 +737,12 @@ fields-spec t =
     let t = c .before .before .before .before .before .before .before .before .row in
     let cells = args .sheet .now in
     let T = tableOf (args .s .now) in
-    let other = field-row (args .s .now) (asked .1 .0 .good) (loop .i) (loop .left) (loop-test .taken) (loop .inv .4) (f .result) (f .ensures) (t .result) (t .ensures) in
+    let some : 0 < loop .bits = omega (arith, loop-test .taken) in
+    let other = standing-kind (loop .inv .4) some (args .s .now) (asked .1 .0 .good) (asked .1 .1 .2) (f .result) (f .ensures) (t .result) (t .ensures) in
     let kind = shape-leaf T (f .result .ty) (t .result) (t .ensures) other (omega (arith, if3 .left)) in
     let failed = leaf-failed (c .before .before .before .before .leaf-row .ensures) (shape T) kind (if2 .left) (c .before .before .number2 .given .1) in
     as-refused (c .refused2 .ensures)
-    (field-stop _ cells T _ _ (loop .here) (loop-test .taken) (loop .inv .4) (f .ensures) (if1 .taken) _ _ _ (shown-stopped _ _ _ _ failed) ∙ loop .inv .0))
+    (field-stop _ cells T (loop .here) (loop .inv .4) some (asked .1 .1 .2) (f .ensures) (if1 .taken) _ _ _ (shown-stopped _ _ _ _ failed) ∙ loop .inv .0))
     -- enum-known-place
     (λ c. search needs)
     -- cast-put-content
@@ -648,47 +767,64 @@ fields-spec t =
     omega (arith, own .0, sound .1 .0))
     -- add-i
     (λ c.
-    let pre = c .before .before .before .before .before .before .before .before .pre in
-    let inv = c .before .before .loop .inv in
-    let h = few-fields _ (pre .1 .0 .good) in omega (arith, inv .4))
-    -- sub-left
-    (λ c. search needs)
+    let back = c .before .before .before .before .before .before .before .before in
+    let asked = back .before .before .before .before .before .before .pre in
+    omega (arith, back .loop .inv .4 .last, asked .1 .1 .2, few-fields _ (asked .1 .0 .good)))
     -- loop-less
-    (λ c. omega arith)
+    (λ c. omega (arith, c .before .before .before .before .before .before .before .loop-test .taken))
     -- loop-again
     (λ c.
-    let args = c .before .before .before .before .before .before .before .before .args in
-    let asked = c .before .before .before .before .before .before .before .before .pre in
-    let loop = c .before .before .loop in
-    let some = c .before .loop-test .taken in
-    let joined = c .if1 in
+    let back = c .before .before .before .before .before .before .before .before in
+    let args = back .before .before .before .before .before .before .args in
+    let asked = back .before .before .before .before .before .before .pre in
+    let loop = back .loop in
     let inv = loop .inv in
+    let some : 0 < loop .bits = omega (arith, c .before .before .before .before .before .before .before .loop-test .taken) in
+    let odd = c .before .before .before .before .before .before .if1 .taken in
+    let deep = c .before .before .before .before .before .if2 .left in
+    let f = c .before .before .before .before .field-row in
+    let t = c .before .before .row in
+    let joined = c .if3 in
     let T = tableOf (args .s .now) in
     let S = shape T in
-    let P = show S (args .source .now) (args .depth) in
     let cells = args .sheet .now in
     let small : length (loop .out) ≤ 16384 = rw (inv .3) (asked .1 .0 .small) in
-    let t : Turned S P cells T (loop .i) (loop .left) (loop .bits) (loop .here) (loop .to) (loop .out) (joined .here) (joined .to) (joined .out) =
+    let turned : Turned S (show S (args .source .now) (args .depth)) cells T (args .first) (args .n) (loop .i) (loop .bits) (loop .here) (loop .to) (loop .out) (joined .here) (joined .to) (joined .out) =
     ⊎-elim
     (λ w.
-    field-read _ cells T _ _ (loop .here) some (inv .4) (w .2 .ensures) (w .0 .taken) _ _ _ small
-    (walked-deeper _ _ (w .1 .left) _ _ _ _ (was (w .8 .ensures) (w .12 .given .1))) (w .8 .kept .1 .1 .1 .0) (w .15) (w .16) (w .14))
-    (⊎-elim
+    field-read _ cells T (loop .here) (inv .4) some (asked .1 .1 .2) (f .ensures) odd _ _ _ small
+    (walked-deeper _ _ deep _ _ _ _ (was (w .2 .ensures) (w .6 .given .1))) (w .2 .kept .1 .1 .1 .0) (w .9) (w .10) (w .8))
     (λ w.
-    let other = field-row (args .s .now) (asked .1 .0 .good) (loop .i) (loop .left) some (inv .4) (w .2 .result) (w .2 .ensures) (w .4 .result) (w .4 .ensures) in
-    let kind = shape-leaf T (w .2 .result .ty) (w .4 .result) (w .4 .ensures) other (omega (arith, w .6 .left)) in
-    field-read _ cells T _ _ (loop .here) some (inv .4) (w .2 .ensures) (w .0 .taken) _ _ _ small
-    (leaf-past (w .8 .ensures) S kind (w .1 .left) (w .10 .given .1) (w .14 .ensures)) (w .14 .kept .0) (w .18) (w .19) (w .17))
-    (λ w. field-absent _ cells T _ _ (loop .here) some (inv .4) _ _ _ (w .0 .left) (inv .1) (inv .2) (w .2) (w .3) (w .1)))
+    let other = standing-kind (inv .4) some (args .s .now) (asked .1 .0 .good) (asked .1 .1 .2) (f .result) (f .ensures) (t .result) (t .ensures) in
+    let kind = shape-leaf T (f .result .ty) (t .result) (t .ensures) other (omega (arith, w .0 .left)) in
+    field-read _ cells T (loop .here) (inv .4) some (asked .1 .1 .2) (f .ensures) odd _ _ _ small
+    (leaf-past (w .2 .ensures) S kind deep (w .4 .given .1) (w .8 .ensures)) (w .8 .kept .0) (w .12) (w .13) (w .11))
     (joined .came) in
-    (t .same ∙ inv .0, t .inside, t .behind, t .long ∙ inv .3, omega arith))
+    (turned .same ∙ inv .0, turned .inside, turned .behind, turned .long ∙ inv .3, standing-next (inv .4) some))
+    -- zeros-in-requires
+    (λ c κs. tt)
+    -- shr-bits
+    (λ c. standing-shift (c .before .before .before .loop .inv .4) (omega (arith, c .before .before .loop-test .taken)) (c .zeros-in .ensures .0))
+    -- add-i-2
+    (λ c.
+    let asked = c .before .before .before .before .before .before .before .before .before .pre in
+    omega (arith, c .before .before .before .loop .inv .4 .last, asked .1 .1 .2, few-fields _ (asked .1 .0 .good), c .zeros-in .ensures .1))
+    -- loop-less-2
+    (λ c.
+    standing-less (c .before .before .before .loop .inv .4) (omega (arith, c .before .before .loop-test .taken)) (c .zeros-in .ensures .0) (c .before .if1 .left))
+    -- loop-again-2
+    (λ c.
+    let args = c .before .before .before .before .before .before .before .before .before .args in
+    let inv = c .before .before .before .loop .inv in
+    let some : 0 < c .before .before .before .loop .bits = omega (arith, c .before .before .loop-test .taken) in
+    (rw (standing-same (inv .4) some (c .zeros-in .ensures .0) (tableOf (args .s .now))) (inv .0), inv .1, inv .2, inv .3, standing-skip (inv .4) some (c .zeros-in .ensures .0)))
     -- same-length-4
     (λ c. c .before .loop .inv .3)
     -- returns-4
     (λ c.
     let args = c .before .before .before .before .before .before .before .args in
     let loop = c .before .loop in
-    walk-done _ _ _ (present-end (tableOf (args .s .now)) (loop .i) (loop .left) (c .loop-test .left) (loop .bits)) (loop .inv .0) (loop .inv .1) (loop .inv .2))
+    walk-done _ _ _ (standing-end (tableOf (args .s .now)) (args .first) (args .n) (loop .i) (c .loop-test .left)) (loop .inv .0) (loop .inv .1) (loop .inv .2))
 
 many-spec : {M : Type 1} (t : ℕ) → many-lts.Closed (many-calls t) (many-at t) many.Post M
 many-spec t =
@@ -1255,6 +1391,88 @@ pairs-spec t =
     let loop = c .before .loop in
     walk-done _ _ _ (pairs-none (args .key) (args .val) (args .n - loop .i) (omega (arith, c .loop-test .left))) (loop .inv .0) (loop .inv .1) (loop .inv .2))
 
+single-spec : {M : Type 1} (t : ℕ) → single-lts.Closed (single-calls t) (single-at t) single.Post M
+single-spec t =
+    single-lts.spec (single-calls t) (single-at t) single.Post
+    -- structs-requires
+    (λ c κs.
+    let asked = c .before .before .before .before .before .pre in
+    let h = asked .1 .0 in
+    (omega (arith, asked .0), ((onward (h .0) (h .0 .inside) (h .0 .behind) refl (one-accepted _ _ _), h .1), asked .1 .1)))
+    -- same-length
+    (λ c. c .before .before .structs .kept .1 .1 .1 .0)
+    -- returns
+    (λ c. renamed (one-end _ _ _ _ _ _) (c .before .before .structs .ensures))
+
+structs-spec : {M : Type 1} (t : ℕ) → structs-lts.Closed (structs-calls t) (structs-at t) structs.Post M
+structs-spec t =
+    structs-lts.spec (structs-calls t) (structs-at t) structs.Post
+    structs-Inv-loop
+    structs-μ-loop
+    -- layout-of-requires
+    (λ c κs. good-shaped _ (c .before .before .before .before .pre .1 .0 .0 .good))
+    -- required-of-requires
+    (λ c κs.
+    let asked = c .before .before .before .before .before .pre in
+    let good = asked .1 .0 .0 .good in
+    (good, good-laid _ _ good (c .layout-of .ensures), asked .1 .1 .1, asked .1 .1 .2))
+    -- loop-holds
+    (λ c.
+    let asked = c .before .before .before .before .before .before .pre in
+    let h = asked .1 .0 .0 in
+    (refl, h .inside, h .behind, refl))
+    -- structure-requires
+    (λ c κs.
+    let args = c .before .before .before .before .before .before .before .before .before .args in
+    let asked = c .before .before .before .before .before .before .before .before .before .pre in
+    let h = asked .1 .1 in
+    let inv = c .before .before .loop .inv in (
+      omega (arith, asked .0),
+      (
+        (
+          onward (asked .1 .0 .0) (inv .1) (inv .2) (inv .3) (λ a. element-accepted _ _ (c .before .loop-test .taken) _ (accepted-along _ _ _ _ _ _ _ _ _ (inv .0) a)),
+          asked .1 .0 .1,
+        ),
+        (h .0, h .1, h .2, c .before .before .before .required-of .ensures),
+      ),
+    ))
+    -- enum-known-number
+    (λ c. search needs)
+    -- same-length
+    (λ c. c .before .before .before .before .before .structure .kept .1 .1 .1 .0 ∙ c .before .before .before .before .before .before .before .before .loop .inv .3)
+    -- returns
+    (λ c.
+    let structure = c .before .before .before .before .before .structure in
+    let loop-test = c .before .before .before .before .before .before .before .loop-test in
+    let inv = c .before .before .before .before .before .before .before .before .loop .inv in
+    as-stopped (element-stop _ _ (loop-test .taken) _ _ _ _ (was (structure .ensures) (c .before .number .given .1) .same) ∙ inv .0))
+    -- enum-known-row
+    (λ c. search needs)
+    -- sub-left
+    (λ c. search needs)
+    -- loop-less
+    (λ c. omega arith)
+    -- loop-again
+    (λ c.
+    let structure = c .before .before .before .before .before .structure in
+    let loop-test = c .before .before .before .before .before .before .before .loop-test in
+    let loop = c .before .before .before .before .before .before .before .before .loop in
+    let asked = c .before .before .before .before .before .before .before .before .before .before .before .before .before .before .before .pre in
+    let small : length (loop .out) ≤ 16384 = rw (loop .inv .3) (asked .1 .0 .0 .small) in
+    let w = was (structure .ensures) (c .before .row .given .1) in (
+      element-past _ _ (loop-test .taken) _ _ _ _ small (w .same) ∙ loop .inv .0,
+      w .within .0,
+      w .within .1,
+      structure .kept .1 .1 .1 .0 ∙ loop .inv .3,
+    ))
+    -- same-length-2
+    (λ c. c .before .loop .inv .3)
+    -- returns-2
+    (λ c.
+    let args = c .before .before .before .before .before .before .before .before .args in
+    let inv = c .before .loop .inv in
+    walk-done _ _ _ (elements-none (args .ty) (c .before .loop .left) (c .loop-test .left)) (inv .0) (inv .1) (inv .2))
+
 structure-spec : {M : Type 1} (t : ℕ) → structure-lts.Closed (structure-calls t) (structure-at t) structure.Post M
 structure-spec t =
     structure-lts.spec (structure-calls t) (structure-at t) structure.Post
@@ -1268,19 +1486,9 @@ structure-spec t =
     (λ c. search needs)
     -- presence-requires
     (λ c κs.
-    let asked = c .before .before .before .before .before .before .before .before .pre in
-    let args = c .before .before .before .before .before .before .before .before .args in
-    let row-due = c .before .before .before .row-due in
-    let h = asked .1 .1 in
-    let due = due-in (row-due .ensures) (c .before .place .given .1) in
-    let T = tableOf (args .s .now) in (
-      asked .1 .0 .0 .good,
-      h .0,
-      h .1,
-      h .2,
-      due .3,
-      λ j. rw (length-fields T (args .first) (args .n) (h .2)) at (struct-known (row-due .ensures) (c .before .place .given .1) _ _ _ (asked .1 .0 .1) (asked .1 .0 .0 .judged j)),
-    ))
+    let h = c .before .before .before .before .before .before .before .before .pre .1 .1 in
+    let due = due-in (c .before .before .before .row-due .ensures) (c .before .place .given .1) in
+    (h .0, h .1, due .3))
     -- enum-known-number
     (λ c. search needs)
     -- refused-requires-2
@@ -1293,21 +1501,29 @@ structure-spec t =
     (λ c.
     let back = c .before .before .before .before .before .before .before .before .before in
     let asked = back .before .before .before .before .before .pre in
+    let args = back .before .before .before .before .before .args in
     let row-due = back .row-due in
     let placed = c .before .before .before .before .before .before .before .place in
     let presence = c .before .before .before .before .before .presence in
-    shown-refused _ _ _ _ (c .refused3 .ensures) (struct-unknown (row-due .ensures) (placed .given .1) _ _ _ (asked .1 .0 .1) (presence .ensures) (c .before .before .before .word .given .1) (c .before .if1 .taken)))
+    let h = asked .1 .1 in
+    let T = tableOf (args .s .now) in
+    let headed = presence .ensures (fieldsFrom T (args .first) (args .n)) (length-fields T (args .first) (args .n) (h .2)) (h .3) in
+    shown-refused _ _ _ _ (c .refused3 .ensures) (struct-unknown (row-due .ensures) (placed .given .1) _ _ _ (asked .1 .0 .1) headed (c .before .before .before .word .given .1) (c .before .if1 .taken)))
     -- refused-requires-4
     (λ c κs. search needs)
     -- returns-2
     (λ c.
     let back = c .before .before .before .before .before .before .before .before .before in
     let asked = back .before .before .before .before .before .before .pre in
+    let args = back .before .before .before .before .before .before .args in
     let row-due = back .before .row-due in
     let placed = c .before .before .before .before .before .before .before .before .place in
     let presence = c .before .before .before .before .before .before .presence in
+    let h = asked .1 .1 in
+    let T = tableOf (args .s .now) in
+    let headed = presence .ensures (fieldsFrom T (args .first) (args .n)) (length-fields T (args .first) (args .n) (h .2)) (h .3) in
     shown-refused _ _ _ _ (c .refused4 .ensures)
-    (struct-miscounted (row-due .ensures) (placed .given .1) _ _ _ (asked .1 .0 .1) (presence .ensures) (c .before .before .before .before .word .given .1) (c .before .before .if1 .left) (c .before .if2 .taken)))
+    (struct-miscounted (row-due .ensures) (placed .given .1) _ _ _ (asked .1 .0 .1) headed (c .before .before .before .before .word .given .1) (c .before .before .if1 .left) (c .before .if2 .taken)))
     -- add-put-bits
     (λ c.
     let back = c .before .before .before .before .before .before .before .before .before in
@@ -1334,20 +1550,24 @@ structure-spec t =
     let back = c .before .before .before .before .before .before .before .before .before in
     let farther = back .before .before .before .before .before .before .before .before .before in
     let asked = farther .before .pre in
+    let args = farther .before .args in
     let row-due = back .before .before .before .before .before .row-due in
     let placed = back .before .before .before .place in
     let presence = back .before .presence in
-    let headed = c .before .before .before .before .before .before .before .before .word in
+    let bits = c .before .before .before .before .before .before .before .before .word in
     let if1 = c .before .before .before .before .before .before .if1 in
     let if2 = c .before .before .before .before .before .if2 in
     let put-bits = c .before .before .before .put-bits in
     let due = due-in (row-due .ensures) (placed .given .1) in
-    let h = asked .1 .1 in (
-      omega arith,
+    let h = asked .1 .1 in
+    let T = tableOf (args .s .now) in
+    let long = length-fields T (args .first) (args .n) (h .2) in
+    let headed = presence .ensures (fieldsFrom T (args .first) (args .n)) long (h .3) in (
+      omega (arith, asked .0),
       (
         onward (asked .1 .0 .0) (omega (arith, due .0)) (put-bits .ensures .capped) (put-bits .kept .0)
-            (struct-accepted (row-due .ensures) (placed .given .1) _ _ _ (asked .1 .0 .1) (presence .ensures) (headed .given .1) (if1 .left) (if2 .left)),
-        h .2,
+            (struct-accepted (row-due .ensures) (placed .given .1) _ _ _ (asked .1 .0 .1) headed (bits .given .1) (if1 .left) (if2 .left)),
+        (h .1, head-fits headed long (bits .given .1), h .2),
       ),
     ))
     -- returns-3
@@ -1356,9 +1576,14 @@ structure-spec t =
     (λ c.
     let back = c .before .before .before .before .before .before .before .before .before in
     let asked = back .before .before .before .before .pre in
+    let args = back .before .before .before .before .args in
     let row-due = c .before .before .before .before .before .before .before .before .row-due in
     let placed = c .before .before .before .before .before .before .place in
-    shown-refused _ _ _ _ (c .refused2 .ensures) (struct-fault (row-due .ensures) (placed .given .1) _ _ _ (asked .1 .0 .1) (c .before .before .before .before .presence .ensures) (c .before .before .number .given .1)))
+    let presence = c .before .before .before .before .presence in
+    let h = asked .1 .1 in
+    let T = tableOf (args .s .now) in
+    let headed = presence .ensures (fieldsFrom T (args .first) (args .n)) (length-fields T (args .first) (args .n) (h .2)) (h .3) in
+    shown-refused _ _ _ _ (c .refused2 .ensures) (struct-fault (row-due .ensures) (placed .given .1) _ _ _ (asked .1 .0 .1) headed (c .before .before .number .given .1)))
     -- same-length
     (λ c.
     let put-bits = c .before .before .before .before .before .before .put-bits in
@@ -1372,17 +1597,19 @@ structure-spec t =
     let row-due = back .before .before .before .before .before .before .before .before .row-due in
     let placed = back .before .before .before .before .before .before .place in
     let presence = back .before .before .before .before .presence in
-    let headed = back .before .before .word in
+    let bits = back .before .before .word in
     let if1 = back .if1 in
     let if2 = c .before .before .before .before .before .before .before .before .if2 in
     let put-bits = c .before .before .before .before .before .before .put-bits in
     let T = tableOf (args .s .now) in
     let h = asked .1 .1 in
+    let long = length-fields T (args .first) (args .n) (h .2) in
+    let headed = presence .ensures (fieldsFrom T (args .first) (args .n)) long (h .3) in
     renamed
-    (struct-start (row-due .ensures) (placed .given .1) _ _ _ (asked .1 .0 .1) (presence .ensures) (headed .given .1) (if1 .left) (if2 .left)
-    (length-fields T (args .first) (args .n) (h .2)) (asked .1 .0 .0 .small) (put-bits .ensures)) (c .before .before .fields .ensures))
+    (struct-start (row-due .ensures) (placed .given .1) _ _ _ (asked .1 .0 .1) headed (bits .given .1) (if1 .left) (if2 .left)
+    long (asked .1 .0 .0 .small) (put-bits .ensures)) (c .before .before .fields .ensures))
 
-pub +array+composite+fields+many+mapping+pairs+structure-spec : {M : Type 1} → statement M
-+array+composite+fields+many+mapping+pairs+structure-spec =
-    close μ-array μ-composite μ-fields μ-many μ-mapping μ-pairs μ-structure
-    array-spec composite-spec fields-spec many-spec mapping-spec pairs-spec structure-spec
+pub +array+composite+fields+many+mapping+pairs+single+structs+structure-spec : {M : Type 1} → statement M
++array+composite+fields+many+mapping+pairs+single+structs+structure-spec =
+    close μ-array μ-composite μ-fields μ-many μ-mapping μ-pairs μ-single μ-structs μ-structure
+    array-spec composite-spec fields-spec many-spec mapping-spec pairs-spec single-spec structs-spec structure-spec
