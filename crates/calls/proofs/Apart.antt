@@ -2,7 +2,7 @@
 -- record alone; the own record afterwards follows from that; other records are unchanged; and what frees a slot.
 use mathlib.Core.Path.{_≡_, refl, sym, _∙_, ap, subst}
 use mathlib.Core.Logic.{_⊎_, inl, inr, ⊎-elim}
-use mathlib.Core.Bool.{Bool, true, false, not, cond, _&&_, _||_}
+use mathlib.Core.Bool.{Bool, true, false, not, cond, _&&_}
 use mathlib.Core.List.{List, [], _∷_}
 use Prim.Native.Nat.{ℕ, zero, suc, _<_, _≤_}
 use native.Mathlib.Omega.{arith}
@@ -23,15 +23,15 @@ use Rattle.calls.specs.declared.Judged.{Judged}
 use Rattle.calls.specs.declared.Judged.the-variants.{Stop, Opens, Goes}
 use Rattle.calls.specs.Forms.{rowOf}
 use Rattle.calls.specs.Numbers.{endsCall, EndsCall, payload, many-pairs}
-use Rattle.calls.specs.Record.{emptyCall, openedCall, isCall, isFree, complete, allowed, notAllowed, atLimit, marked, withMark, ends, afterFrame}
+use Rattle.calls.specs.Record.{emptyCall, openedCall, isCall, isFree, complete, allowed, notAllowed, atLimit, marked, withMark, afterFrame}
 use Rattle.calls.specs.Slots.{slot, firstSlot, countOpen, formRow, Own, none, one, recordAt, ownOf, full}
 use Rattle.calls.specs.Judge.{rightSide, payloadOf, Verdict, stop, opens, goes, openVerdict, invokeVerdict, otherVerdict, verdictOf, releaseVerdict, placed, judgeOf, judgeRelease}
 use Rattle.calls.specs.Step.{numberOf, slotsAfter, stepOf, dueOf, receive, release}
 use Rattle.calls.specs.Good.{GoodTable}
-use Rattle.calls.specs.Event.{Event, frame}
+use Rattle.calls.specs.Event.{frame}
 use Rattle.calls.specs.Event as event
 use Rattle.calls.specs.Apart.{verdict, verdictDue, verdictNumber, kept, verdictOwn, touched, Cause, refusal, completion, error, released, Freed}
-use Rattle.schema.proofs.Bools.{cases, clash, is-false, or-cases, or-none}
+use Rattle.schema.proofs.Bools.{cases, clash, is-false, or-cases}
 use Rattle.wire.proofs.Cases.{cond-case}
 use Rattle.calls.proofs.Searches.{found-in, found-passes, found-lowest, none-passes, only-found, none-found, slot-same, slot-other, past-end, missing-at, at-at}
 use Rattle.calls.proofs.Used.{ends-iff}
@@ -66,7 +66,7 @@ due-by (Opens j c d) = refl
 due-by (Goes i c d) = refl
 
 -- whether a slot is free matters for INVOKE alone
-room-aside : (T : Table) (f : Frame) (own : Own) (a b : Bool) → (f .kind ≡ 1 → a ≡ b) → verdictOf T f own a ≡ verdictOf T f own b
+pub room-aside : (T : Table) (f : Frame) (own : Own) (a b : Bool) → (f .kind ≡ 1 → a ≡ b) → verdictOf T f own a ≡ verdictOf T f own b
 unfolding verdictOf
 room-aside T f own a b h = go (eqb (f .kind) 1) refl
   where

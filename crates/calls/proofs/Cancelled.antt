@@ -1,9 +1,7 @@
 -- A cancelled call: what CANCEL changes in its record, what is answered to its frames kind by kind, and that the mark may stand in any open record.
-use mathlib.Core.Path.{_≡_, refl}
-use mathlib.Core.Bool.{Bool, true, false, not, _&&_, _||_}
+use mathlib.Core.Path.{_≡_}
+use mathlib.Core.Bool.{Bool, true, false}
 use mathlib.Core.List.{[], _∷_, map as each}
-use Prim.Native.Nat.{ℕ}
-use lib.Dec.{eqb}
 use Rattle.schema.specs.Table.{Table}
 use Rattle.schema.proofs.Bools.{or-none}
 use Rattle.calls.specs.declared.Call.{Call}

@@ -16,7 +16,7 @@ use Rattle.calls.specs.Record.{counting}
 use Rattle.calls.specs.Counting.{noTally, figureBy, fullAt, raised, rowAfter}
 use Rattle.calls.specs.Event.{Event, identifier}
 use Rattle.calls.specs.Order.{Past, closed, Heard, pastOf}
-use Rattle.calls.specs.Figures.{eventAs, methodIn, isMethod, column, counted, figures, Full, openedFull, completedFull, erroredFull, cancelledFull, failedFull}
+use Rattle.calls.specs.Figures.{methodIn, isMethod, column, counted, figures, Full, openedFull, completedFull, erroredFull, cancelledFull, failedFull}
 use Rattle.calls.proofs.Ordered.{CountsAs}
 
 -- a row with one more in the column of a figure, where it counts

@@ -1,5 +1,5 @@
--- The loop that tests whether the numbers of a list differ, from its end on. A table of booleans says which last ten bits the numbers passed have,
--- and a number whose bits are not among them is none of those passed.
+-- The loop that tests whether the numbers of a list differ, from its end on. A table of booleans says which remainders the numbers passed have,
+-- and a number whose remainder is not among them is none of those passed.
 use mathlib.Core.Path.{_≡_, refl, sym, _∙_, ap, subst}
 use mathlib.Core.Bool.{Bool, true, false, not, _&&_, _||_}
 use mathlib.Core.List.{List, [], _∷_}
@@ -14,7 +14,7 @@ use Rattle.schema.proofs.Bools.{clash}
 use Rattle.schema.proofs.Flags.{set-kept}
 
 abbrev bits : List Bool → ℕ → Bool
-bits seen x = getD seen (x % 1024) false
+bits seen x = getD seen (x % 1021) false
 
 abbrev Seen : List Bool → List ℕ → Type 0
 Seen seen [] = Unit {0}
@@ -22,9 +22,9 @@ Seen seen (x ∷ xs) = (bits seen x ≡ true) × Seen seen xs
 
 seen-kept : (seen : List Bool) (i : ℕ) (xs : List ℕ) → Seen seen xs → Seen (set seen i true) xs
 seen-kept seen i [] s = tt
-seen-kept seen i (x ∷ xs) s = (set-kept seen i (x % 1024) (s .0), seen-kept seen i xs (s .1))
+seen-kept seen i (x ∷ xs) s = (set-kept seen i (x % 1021) (s .0), seen-kept seen i xs (s .1))
 
--- looking through the list only where the bits are seen makes no difference
+-- looking through the list only where the remainder is seen makes no difference
 module _ (seen : List Bool) (x : ℕ) where
   unseen : (xs : List ℕ) → Seen seen xs → bits seen x ≡ false → holds x xs ≡ false
   unseen [] s q = refl
@@ -50,7 +50,7 @@ drop-false (x ∷ xs) (suc i) h = go (not (holds x xs)) (drop-false xs i h)
     go true e = e
     go false e = refl
 
--- ---- the loop: the numbers from place i on differ, and their bits are seen
+-- ---- the loop: the numbers from place i on differ, and their remainders are seen
 pub record Apart (l : List ℕ) (seen : List Bool) (i : ℕ) : Type 0 where
   pub differ : distinct (drop i l) ≡ true
   pub seenBits : Seen seen (drop i l)
@@ -89,12 +89,12 @@ module _ (l : List ℕ) (seen : List Bool) (i : ℕ) (a : Apart l seen i) (h : 0
   pub apart-here : again ≡ true → false ≡ distinct l
   apart-here t = sym (drop-false l (i - 1) (rw (before, sym again-holds ∙ t)))
 
-  pub apart-next : again ≡ false → Apart l (set seen (x % 1024) true) (i - 1)
+  pub apart-next : again ≡ false → Apart l (set seen (x % 1021) true) (i - 1)
   apart-next t =
-      let w : x % 1024 < length seen = omega (arith, a .wide) in
+      let w : x % 1021 < length seen = omega (arith, a .wide) in
       record {
         differ = rw (before, sym again-holds ∙ t) (a .differ);
-        seenBits = rw before (getD-set-same seen (x % 1024) true false w, seen-kept seen (x % 1024) (drop i l) (a .seenBits));
+        seenBits = rw before (getD-set-same seen (x % 1021) true false w, seen-kept seen (x % 1021) (drop i l) (a .seenBits));
         within = omega (arith, a .within);
-        wide = length-set seen (x % 1024) true ∙ a .wide;
+        wide = length-set seen (x % 1021) true ∙ a .wide;
       }

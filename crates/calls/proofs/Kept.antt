@@ -6,7 +6,7 @@ use mathlib.Core.List.{List}
 use Prim.Native.Nat.{ℕ, _<_}
 use lib.ListN.{length, set, length-set}
 use lib.Dec.{eqb}
-use borrow.Author.Tests.{eqb-true, eqb-false, eq-eqb, ne-eqb}
+use borrow.Author.Tests.{eqb-true, eqb-false, eq-eqb}
 use Rattle.schema.specs.Table.{Table}
 use Rattle.calls.specs.declared.Call.{Call}
 use Rattle.calls.specs.declared.FormRow.{FormRow}
@@ -21,7 +21,7 @@ use Rattle.calls.specs.Judge.{judgeOf, judgeRelease}
 use Rattle.calls.specs.Step.{slotsAfter, stepOf, dueOf, receive, release}
 use Rattle.calls.specs.Good.{GoodCall, GoodTable}
 use Rattle.schema.specs.declared.Found.the-variants.{At, Missing}
-use Rattle.schema.proofs.Bools.{cases, clash, and-i, and-left, and-right, or-left, or-cases, or-none, or-false}
+use Rattle.schema.proofs.Bools.{cases, clash, and-i, and-left, and-right, or-left, or-cases, or-false}
 use Rattle.schema.proofs.Methods.{found-named}
 use Rattle.calls.proofs.Searches.{found-in, found-passes, none-passes, slot-same, slot-other, past-end}
 use Rattle.calls.proofs.Goodness.{good-clauses, good-test}

@@ -9,10 +9,12 @@ pub mod Searches
 pub mod Goodness
 pub mod Cancelled
 pub mod Judgement
+pub mod Steps
 pub mod Kept
 pub mod Limits
 pub mod Apart
 pub mod Rises
+pub mod Seats
 pub mod Belongs
 pub mod Ordered
 pub mod Counted

@@ -19,7 +19,7 @@ use Rattle.calls.specs.declared.Judged.{Judged}
 use Rattle.calls.specs.declared.Judged.the-variants.{Stop, Opens, Goes}
 use Rattle.calls.specs.Numbers.{endsCall}
 pub use Rattle.calls.specs.Limits.{Few, FewIn}
-use Rattle.calls.specs.Record.{emptyCall, openedCall, isCall, isInput, isOutput, atLimit, counting, marked, ends, afterFrame}
+use Rattle.calls.specs.Record.{emptyCall, isCall, isInput, isOutput, atLimit, counting, marked, ends}
 use Rattle.calls.specs.Slots.{slot, firstSlot, formRow, freshTable, one, recordAt, ownOf}
 use Rattle.calls.specs.Judge.{judgeOf, judgeRelease}
 use Rattle.calls.specs.Step.{slotsAfter, stepOf, dueOf, receive, release}

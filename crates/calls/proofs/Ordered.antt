@@ -473,9 +473,6 @@ module _ (T : Table) (g : GoodSchema T) (l : List Call) (w : GoodTable T l) wher
 
   -- A release is ruled by them too.
   module _ (id : ℕ) (past : Past) (r : Reflects past (ownOf id l)) where
-    pub release-ruled : Releases past (release id 0 l .number)
-    release-ruled = rw (release-answered id 0 l) (release-suits T id past (ownOf id l) r .0)
-
     pub release-reflects : (n : ℕ) → endsCall n ≡ false → let x = release id n l in
         Reflects (after T (record { event = event.release id; number = x .number }) past) (ownOf id (x .table .slots))
     release-reflects n k = rw (release-answered id n l, release-own T id n l w) (release-suits T id past (ownOf id l) r .1 n k)

@@ -1,6 +1,6 @@
 -- What a judged frame or release raises, by the own record alone; and that the calls of a method open now follow what rises.
 use mathlib.Core.Path.{_≡_, refl, sym, _∙_, ap, subst}
-use mathlib.Core.Logic.{_⊎_, inl, inr, ⊎-elim}
+use mathlib.Core.Logic.{_⊎_, inl, inr}
 use mathlib.Core.Bool.{Bool, true, false, cond, _&&_}
 use mathlib.Core.List.{List, [], _∷_}
 use Prim.Native.Nat.{ℕ, zero, suc, _+_, _<_}
@@ -8,8 +8,7 @@ use native.Mathlib.Omega.{arith}
 use lib.ListN.{length, set}
 use lib.Dec.{eqb}
 use borrow.Author.Tests.{eq-eqb, ne-eqb, not-true}
-use Rattle.schema.specs.declared.Found.{Found}
-use Rattle.schema.specs.declared.Found.the-variants.{At, Missing}
+use Rattle.schema.specs.declared.Found.the-variants.{At}
 use Rattle.schema.specs.Table.{Table}
 use Rattle.schema.specs.Check.{findMethod}
 use Rattle.schema.proofs.Bools.{clash, or-false}
@@ -25,8 +24,8 @@ use Rattle.calls.specs.declared.Figure.{Figure}
 use Rattle.calls.specs.declared.Figure.the-variants.{Nothing, Opened, Completed, Errored, Cancelled, Failed}
 use Rattle.calls.specs.declared.Rise.{Rise}
 use Rattle.calls.specs.Numbers.{endsCall}
-use Rattle.calls.specs.Record.{counting, emptyCall, openedCall, isCall, isFree, complete, marked, ends, afterFrame}
-use Rattle.calls.specs.Slots.{freshTable, slot, firstSlot, formRow, Own, none, one, ownOf, full}
+use Rattle.calls.specs.Record.{counting, emptyCall, isCall, isFree, complete, marked, ends}
+use Rattle.calls.specs.Slots.{freshTable, slot, formRow, Own, none, one, ownOf, full}
 use Rattle.calls.specs.Judge.{Verdict, stop, opens, goes, verdictOf, judgeOf, releaseVerdict, judgeRelease}
 use Rattle.calls.specs.Step.{numberOf, slotsAfter, stepOf, dueOf, receive, release}
 use Rattle.calls.specs.Counting.{noTally, noRise, ending, riseOf, releaseRise, figureBy, raised}

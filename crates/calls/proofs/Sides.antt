@@ -1,6 +1,6 @@
 -- Who may send a kind, which kinds are stream elements, and what the payload of a kind holds, kind by kind as 01 lists them.
 use mathlib.Core.Path.{_≡_, refl}
-use mathlib.Core.Bool.{true, false, _&&_, _||_}
+use mathlib.Core.Bool.{true, false}
 use mathlib.Core.List.{List, [], _∷_, map as each}
 use Prim.Native.Nat.{ℕ}
 use borrow.Author.Tests.{ne-eqb}

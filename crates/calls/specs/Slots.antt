@@ -11,6 +11,8 @@ use Rattle.schema.specs.Check.{methodRow, isMissing}
 use Rattle.calls.specs.declared.Call.{Call}
 use Rattle.calls.specs.declared.CallTable.{CallTable}
 use Rattle.calls.specs.declared.FormRow.{FormRow}
+pub use Rattle.calls.specs.declared.Own.{Own}
+pub use Rattle.calls.specs.declared.Own.the-variants.{None as none, One as one}
 use Rattle.calls.specs.Forms.{rowOf}
 use Rattle.calls.specs.Record.{emptyCall, isCall, isFree, goodOpen, zeroCall}
 
@@ -32,11 +34,7 @@ abbrev pub slotOf : Found → ℕ
 slotOf Missing = 128
 slotOf (At i) = i
 
--- The record of a call, or none.
-pub data Own : Type 0 where
-  none : Own
-  one : Call → Own
-
+-- The record at a slot that was found.
 abbrev pub recordAt : List Call → Found → Own
 recordAt l Missing = none
 recordAt l (At i) = one (slot l i)

@@ -1,8 +1,9 @@
 -- The step of the call table on a judged frame, by the number that its payload's reading gave.
+use mathlib.Core.Path.{_≡_}
 use Prim.Native.Nat.{ℕ}
 use mathlib.Core.Bool.{cond}
 use mathlib.Core.List.{List}
-use lib.ListN.{set}
+use lib.ListN.{length, set}
 use lib.Dec.{eqb}
 use Rattle.schema.specs.Table.{Table}
 use Rattle.calls.specs.declared.Call.{Call}
@@ -12,6 +13,7 @@ use Rattle.calls.specs.declared.Payload.the-variants.{Unread}
 use Rattle.calls.specs.declared.Judged.{Judged}
 use Rattle.calls.specs.declared.Judged.the-variants.{Stop, Opens, Goes}
 use Rattle.calls.specs.declared.Stepped.{Stepped}
+use Rattle.calls.specs.declared.Change.{Change}
 use Rattle.calls.specs.Numbers.{endsCall}
 use Rattle.calls.specs.Record.{emptyCall}
 use Rattle.calls.specs.Judge.{judgeOf, judgeRelease}
@@ -30,6 +32,11 @@ slotsAfter (Goes i c due) p l = cond (eqb p 0) (set l i c) (cond (endsCall p) (s
 
 unfoldable pub stepOf : Judged → (payload : ℕ) → List Call → Stepped
 stepOf J p l = record { number = numberOf J p; table = record { slots = slotsAfter J p l } }
+
+-- What the answer to a judgement changes, for every table of 128 records; none is changed by a judgement that stops.
+pub record Changes (J : Judged) (payload : ℕ) (change : Change) : Type 0 where
+  pub after : (l : List Call) → length l ≡ 128 → set l (change .slot) (change .call) ≡ slotsAfter J payload l
+  pub nowhere : (n : ℕ) → J ≡ Stop n → change .slot ≡ 128
 
 -- ---- a frame from its judgement to the next table
 

@@ -33,8 +33,9 @@ fn holds_where(possible: bool, ids: &[u64], id: u64) -> bool
     if possible { holds(ids, id) } else { false }
 }
 
-// No two of the slice are equal. A number is compared with the later ones only if one of them has the same last ten bits.
-fn distinct(ids: &[u64]) -> bool
+// No two of the slice are equal. A number is compared with the later ones only if one of them has the same remainder by 1,021, a prime: numbers at equal
+// distances have different ones, unless the distance is a multiple of it.
+pub fn distinct(ids: &[u64]) -> bool
     ensures { λ r. ⌜ r ≡ distinct (now (ids .entry)) ⌝ }
 {
     let mut seen = [false; 1024];
@@ -42,7 +43,7 @@ fn distinct(ids: &[u64]) -> bool
     while 0 < i {
         let at = i - 1;
         let id = ids[at];
-        let low = (id % 1024) as usize;
+        let low = (id % 1021) as usize;
         if holds_where(seen[low], &ids[i..], id) {
             return false;
         }
@@ -53,7 +54,7 @@ fn distinct(ids: &[u64]) -> bool
 }
 
 impl Call {
-    fn is_good(self, s: &[u8], table: [FormRow; 16]) -> bool
+    pub fn is_good(self, s: &[u8], table: [FormRow; 16]) -> bool
         requires { ⌜ IsGood (now s) × (table ≡ tableOne) ⌝ }
         ensures { λ r. ⌜ r ≡ goodCall (tableOf (now (s .entry))) self ⌝ }
     {

@@ -1,9 +1,10 @@
 // A frame judged before its payload is read, and what the payload holds.
 use crate::Call;
-use crate::CallTable;
 use crate::Frame;
 use crate::Judged;
+use crate::Own;
 use crate::Payload;
+use crate::Seat;
 use crate::forms::row_of;
 use crate::record::EMPTY;
 use schema::Found;
@@ -13,10 +14,10 @@ use schema::access::method;
 use schema::rows::is_named;
 ghost use mathlib.Core.Path.{_≡_};
 ghost use Rattle.schema.specs.File.{tableOf};
-ghost use Rattle.schema.specs.Check.{IsGood};
-ghost use Rattle.calls.specs.Record.{isCall, isFree};
-ghost use Rattle.calls.specs.Slots.{firstSlot, slotOf, ownOf, full};
-ghost use Rattle.calls.specs.Judge.{rightSide, typed, payloadOf, callVerdict, openVerdict, invokeVerdict, otherVerdict, methodOf, placed, judgeOf, judgeRelease};
+ghost use Rattle.schema.specs.Check.{IsGood, isMissing};
+ghost use Rattle.calls.specs.Slots.{slotOf};
+ghost use Rattle.calls.specs.Judge.{rightSide, typed, payloadOf, callVerdict, openVerdict, invokeVerdict, otherVerdict, methodOf, releaseVerdict, placed};
+ghost use Rattle.calls.specs.Seats.{judgedAt};
 
 // The kind comes from this side, the byte C or S.
 pub fn right_side(side: u8, kind: u8) -> bool
@@ -51,6 +52,16 @@ pub fn payload_of(m: Method, kind: u8) -> Payload
     }
 }
 
+// The number of a slot; 128, past the last, where there is none.
+fn slot_of(found: Found) -> usize
+    ensures { λ r. ⌜ r ≡ slotOf found ⌝ }
+{
+    match found {
+        Found::At(i) => i,
+        Found::Missing => 128,
+    }
+}
+
 impl Call {
     // A frame that is no INVOKE, to this open call of method m at slot i.
     pub fn judge(self, m: Method, f: Frame, i: usize) -> Judged
@@ -70,14 +81,16 @@ impl Call {
     }
 }
 
-impl CallTable {
+impl Seat {
     // An INVOKE that would make this record.
     fn judge_opening(self, new: Call, payload: Payload) -> Judged
-        ensures { λ r. ⌜ r ≡ placed (slotOf (firstSlot isFree 0 (self .slots))) (openVerdict new payload (ownOf (new .correlation) (self .slots)) (full (self .slots))) ⌝ }
+        ensures { λ r. ⌜ r ≡ placed (slotOf (self .slot)) (openVerdict new payload (self .own) (isMissing (self .slot))) ⌝ }
     {
-        match self.find(new.correlation) {
-            Found::At(_) => Judged::Stop(10),
-            Found::Missing => match self.free_slot() {
+        let own = self.own;
+        let slot = self.slot;
+        match own {
+            Own::One(_) => Judged::Stop(10),
+            Own::None => match slot {
                 Found::At(j) => Judged::Opens(j, new, payload),
                 Found::Missing => Judged::Stop(13),
             },
@@ -86,7 +99,7 @@ impl CallTable {
 
     fn judge_invoke(self, s: &[u8], f: Frame) -> Judged
         requires { ⌜ IsGood (now s) ⌝ }
-        ensures { λ r. ⌜ r ≡ placed (slotOf (firstSlot isFree 0 (self .slots))) (invokeVerdict (tableOf (now (s .entry))) (f .correlation) (methodOf (tableOf (now (s .entry))) f) (ownOf (f .correlation) (self .slots)) (full (self .slots))) ⌝ }
+        ensures { λ r. ⌜ r ≡ placed (slotOf (self .slot)) (invokeVerdict (tableOf (now (s .entry))) (f .correlation) (methodOf (tableOf (now (s .entry))) f) (self .own) (isMissing (self .slot))) ⌝ }
     {
         match find_method(s, f.package, f.service, f.method) {
             Found::Missing => Judged::Stop(9),
@@ -99,21 +112,20 @@ impl CallTable {
 
     fn judge_other(self, s: &[u8], f: Frame) -> Judged
         requires { ⌜ IsGood (now s) ⌝ }
-        ensures { λ r. ⌜ r ≡ placed (slotOf (firstSlot (isCall (f .correlation)) 0 (self .slots))) (otherVerdict (tableOf (now (s .entry))) f (ownOf (f .correlation) (self .slots))) ⌝ }
+        ensures { λ r. ⌜ r ≡ placed (slotOf (self .slot)) (otherVerdict (tableOf (now (s .entry))) f (self .own)) ⌝ }
     {
-        match self.find(f.correlation) {
-            Found::Missing => Judged::Stop(11),
-            Found::At(i) => {
-                let call = self.at(i);
-                call.judge(method(s, call.method as usize), f, i)
-            }
+        let own = self.own;
+        let slot = self.slot;
+        match own {
+            Own::None => Judged::Stop(11),
+            Own::One(call) => call.judge(method(s, call.method as usize), f, slot_of(slot)),
         }
     }
 
     // A frame before its payload is read, against a good schema table.
     pub fn judge(self, s: &[u8], f: Frame) -> Judged
         requires { ⌜ IsGood (now s) ⌝ }
-        ensures { λ r. ⌜ r ≡ judgeOf (tableOf (now (s .entry))) f (self .slots) ⌝ }
+        ensures { λ r. ⌜ r ≡ judgedAt (tableOf (now (s .entry))) f self ⌝ }
     {
         if !right_side(f.side, f.kind) {
             return Judged::Stop(8);
@@ -126,15 +138,16 @@ impl CallTable {
     }
 
     // A release, before the call is ended.
-    pub fn judge_release(self, id: u64) -> Judged
-        ensures { λ r. ⌜ r ≡ judgeRelease id (self .slots) ⌝ }
+    pub fn judge_release(self) -> Judged
+        ensures { λ r. ⌜ r ≡ placed (slotOf (self .slot)) (releaseVerdict (self .own)) ⌝ }
     {
-        match self.find(id) {
-            Found::Missing => Judged::Stop(11),
-            Found::At(i) => {
-                let call = self.at(i);
+        let own = self.own;
+        let slot = self.slot;
+        match own {
+            Own::None => Judged::Stop(11),
+            Own::One(call) => {
                 if call.cancelled {
-                    Judged::Goes(i, EMPTY, Payload::Unread)
+                    Judged::Goes(slot_of(slot), EMPTY, Payload::Unread)
                 } else {
                     Judged::Stop(14)
                 }

@@ -8,6 +8,8 @@ pub mod slots;
 pub mod step;
 pub mod tallies;
 
+use schema::Found;
+
 // The record of a call. A free slot is zero in every member.
 pub struct Call {
     pub correlation: u64,
@@ -47,6 +49,18 @@ pub enum Payload {
     Unread,
 }
 
+// The record of a call, or none.
+pub enum Own {
+    None,
+    One(Call),
+}
+
+// What a judgement sees of the call table: the record of its own call, and the slot that it changes, if there is one.
+pub struct Seat {
+    pub own: Own,
+    pub slot: Found,
+}
+
 // A frame judged before its payload is read; or a release, which reads nothing.
 pub enum Judged {
     // It is refused with this number.
@@ -55,6 +69,12 @@ pub enum Judged {
     Opens(usize, Call, Payload),
     // It goes to the open call at this slot, whose record is this one once the frame is accepted.
     Goes(usize, Call, Payload),
+}
+
+// The record that an answer puts at a slot; there is no slot 128.
+pub struct Change {
+    pub slot: usize,
+    pub call: Call,
 }
 
 // The answer's number and the next table.

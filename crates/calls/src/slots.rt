@@ -1,13 +1,16 @@
 // The slots of the call table.
 use crate::Call;
 use crate::CallTable;
+use crate::Own;
+use crate::Seat;
 use crate::record::EMPTY;
 use schema::Found;
 ghost use mathlib.Core.Path.{_≡_};
 ghost use Prim.Native.Nat.{_≤_};
 ghost use lib.ListN.{set};
 ghost use Rattle.calls.specs.Record.{isCall, isFree};
-ghost use Rattle.calls.specs.Slots.{slot, freshTable, firstSlot, countOpen};
+ghost use Rattle.calls.specs.Slots.{slot, recordAt, freshTable, firstSlot, countOpen};
+ghost use Rattle.calls.specs.Seats.{seatOf};
 
 impl CallTable {
     // All 128 slots free and zero.
@@ -67,6 +70,28 @@ impl CallTable {
             i += 1;
         }
         Found::Missing
+    }
+
+    // The record at a slot that was found.
+    fn own(self, found: Found) -> Own
+        ensures { λ r. ⌜ r ≡ recordAt (self .slots) found ⌝ }
+    {
+        match found {
+            Found::Missing => Own::None,
+            Found::At(i) => Own::One(self.at(i)),
+        }
+    }
+
+    // The own call of a correlation: its record and its slot; where a call is to be opened, the lowest free slot.
+    pub fn seat(self, id: u64, opens: bool) -> Seat
+        ensures { λ r. ⌜ r ≡ seatOf id opens (self .slots) ⌝ }
+    {
+        let found = self.find(id);
+        let slot = if opens { self.free_slot() } else { found };
+        Seat {
+            own: self.own(found),
+            slot,
+        }
     }
 
     // How many calls are open.

@@ -1,67 +1,64 @@
 // The step of the call table on a judged frame.
-use crate::Call;
 use crate::CallTable;
+use crate::Change;
 use crate::Judged;
 use crate::Stepped;
 use crate::numbers::ends_call;
 use crate::record::EMPTY;
 ghost use mathlib.Core.Path.{_≡_};
-ghost use lib.ListN.{set};
-ghost use mathlib.Core.Bool.{cond};
-ghost use lib.Dec.{eqb};
-ghost use Rattle.calls.specs.Numbers.{endsCall};
-ghost use Rattle.calls.specs.Record.{emptyCall};
-ghost use Rattle.calls.specs.Step.{stepOf};
+ghost use Rattle.calls.specs.Step.{numberOf, Changes, stepOf};
+
+// The answer's number: the judgement's, or else the payload's.
+pub fn number_after(judged: Judged, payload: u32) -> u32
+    ensures { λ r. ⌜ r ≡ numberOf judged payload ⌝ }
+{
+    match judged {
+        Judged::Stop(n) => n,
+        Judged::Opens(_, _, _) => payload,
+        Judged::Goes(_, _, _) => payload,
+    }
+}
+
+// What an answer changes in the call table, where payload is the number that reading it gave, 0 for one that is right. A payload refusal that ends a call
+// ends its own; an INVOKE refused for its payload opens none.
+pub fn change_of(judged: Judged, payload: u32) -> Change
+    ensures { λ r. ⌜ Changes judged payload r ⌝ }
+{
+    let none = Change {
+        slot: 128,
+        call: EMPTY,
+    };
+    match judged {
+        Judged::Stop(_) => none,
+        Judged::Opens(i, call, _) => if payload == 0 {
+            Change { slot: i, call }
+        } else {
+            none
+        },
+        Judged::Goes(i, call, _) => {
+            if payload == 0 {
+                return Change { slot: i, call };
+            }
+            if ends_call(payload) {
+                Change {
+                    slot: i,
+                    call: EMPTY,
+                }
+            } else {
+                none
+            }
+        }
+    }
+}
 
 impl CallTable {
-    // A frame that opens a call: one refused for its payload opens none.
-    fn after_invoke(self, i: usize, call: Call, payload: u32) -> CallTable
-        ensures { λ r. ⌜ r .slots ≡ cond (eqb payload 0) (set (self .slots) i call) (self .slots) ⌝ }
-    {
-        if payload == 0 {
-            self.with_slot(i, call)
-        } else {
-            self
-        }
-    }
-
-    // A frame to an open call: a payload refusal that ends a call ends this one.
-    fn after_other(self, i: usize, call: Call, payload: u32) -> CallTable
-        ensures { λ r. ⌜ r .slots ≡ cond (eqb payload 0) (set (self .slots) i call) (cond (endsCall payload) (set (self .slots) i emptyCall) (self .slots)) ⌝ }
-    {
-        if payload == 0 {
-            return self.with_slot(i, call);
-        }
-        if ends_call(payload) {
-            self.with_slot(i, EMPTY)
-        } else {
-            self
-        }
-    }
-
-    // The answer and the next table, where payload is the number that reading it gave, 0 for one that is right.
+    // The answer and the next table.
     pub fn step(self, judged: Judged, payload: u32) -> Stepped
         ensures { λ r. ⌜ r ≡ stepOf judged payload (self .slots) ⌝ }
     {
-        match judged {
-            Judged::Stop(n) => Stepped {
-                number: n,
-                table: self,
-            },
-            Judged::Opens(i, call, _) => {
-                let next = self.after_invoke(i, call, payload);
-                Stepped {
-                    number: payload,
-                    table: next,
-                }
-            }
-            Judged::Goes(i, call, _) => {
-                let next = self.after_other(i, call, payload);
-                Stepped {
-                    number: payload,
-                    table: next,
-                }
-            }
-        }
+        let number = number_after(judged, payload);
+        let change = change_of(judged, payload);
+        let table = self.with_slot(change.slot, change.call);
+        Stepped { number, table }
     }
 }

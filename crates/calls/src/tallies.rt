@@ -1,14 +1,15 @@
 // Tally rows: what a judged frame or release raises in the row of its method.
 use crate::Call;
-use crate::CallTable;
 use crate::Figure;
 use crate::Judged;
+use crate::Own;
 use crate::Rise;
 use crate::Tally;
 use crate::numbers::ends_call;
 ghost use mathlib.Core.Path.{_≡_};
 ghost use mathlib.Core.Bool.{false};
-ghost use Rattle.calls.specs.Counting.{noTally, ending, riseOf, releaseRise, figureBy, figureIn, fullAt, raised};
+ghost use Rattle.calls.specs.Counting.{noTally, ending, figureBy, figureIn, fullAt, raised};
+ghost use Rattle.calls.specs.Apart.{verdict, verdictRise, verdictReleaseRise};
 
 // A fresh row.
 pub const NO_TALLY: Tally = Tally {
@@ -48,10 +49,10 @@ impl Call {
     }
 }
 
-impl CallTable {
-    // What a judged frame of this kind raises.
+impl Own {
+    // What a judged frame of this kind to its own call raises.
     pub fn rise(self, kind: u8, judged: Judged) -> Rise
-        ensures { λ r. ⌜ r ≡ riseOf kind (self .slots) judged ⌝ }
+        ensures { λ r. ⌜ r ≡ verdictRise kind self (verdict judged) ⌝ }
     {
         match judged {
             Judged::Stop(_) => NO_RISE,
@@ -60,35 +61,37 @@ impl CallTable {
                 accepted: Figure::Opened,
                 refused: Figure::Nothing,
             },
-            Judged::Goes(i, next, _) => {
-                let call = self.at(i);
-                Rise {
+            Judged::Goes(_, next, _) => match self {
+                Own::None => NO_RISE,
+                Own::One(call) => Rise {
                     row: call.method as usize,
                     accepted: call.ending(kind, next),
                     refused: Figure::Failed,
-                }
-            }
+                },
+            },
         }
     }
 
-    // What a judged release raises.
+    // What its judged release raises.
     pub fn release_rise(self, judged: Judged) -> Rise
-        ensures { λ r. ⌜ r ≡ releaseRise (self .slots) judged ⌝ }
+        ensures { λ r. ⌜ r ≡ verdictReleaseRise self (verdict judged) ⌝ }
     {
         match judged {
             Judged::Stop(_) => NO_RISE,
             Judged::Opens(_, _, _) => NO_RISE,
-            Judged::Goes(i, _, _) => {
-                let call = self.at(i);
-                let row = call.method as usize;
-                let accepted = Figure::Cancelled;
-                let refused = Figure::Nothing;
-                Rise {
-                    row,
-                    accepted,
-                    refused,
+            Judged::Goes(_, _, _) => match self {
+                Own::None => NO_RISE,
+                Own::One(call) => {
+                    let row = call.method as usize;
+                    let accepted = Figure::Cancelled;
+                    let refused = Figure::Nothing;
+                    Rise {
+                        row,
+                        accepted,
+                        refused,
+                    }
                 }
-            }
+            },
         }
     }
 }

@@ -6,6 +6,12 @@ use crate::sums;
 use crate::tables::MOST;
 use calls::Call;
 use calls::CallTable;
+use exports::rows::put_row;
+use exports::rows::row_in;
+use line::planning::plan;
+use line::planning::plan_release;
+use line::settling::settle;
+use line::settling::settle_release;
 use schema::Checked;
 use schema::access::method_count;
 ghost use Prim.Native.Nat.{_≤_};
@@ -124,9 +130,13 @@ fn run_release(
     next.table
 }
 
-// Prints all but the sums. The tally rows stand in cells, as the entry for other languages has them: it is over the same core as `arf::release`.
+// Prints all but the sums. The tally rows stand in cells, as the entry for other languages has them; the plan and its settling are those of `arf::release`.
 fn released(table: CallTable, schema: &[u8], correlation: u64, tallies: &mut [u32]) -> Next {
-    let r = exports::release::judge(true, table, schema, correlation, tallies);
+    let plan = plan_release(table, schema, correlation, tallies.len() / 5);
+    let row = plan.row;
+    let next = settle_release(table, plan, row_in(tallies, row));
+    put_row(tallies, row, next.row);
+    let r = next.answer;
     output::number(r.number as u64);
     output::number(r.place as u64);
     output::number(r.open as u64);
@@ -159,7 +169,7 @@ fn run_frame(
     next.table
 }
 
-// Prints all but the sums, likewise over the core of `arf::receive`.
+// Prints all but the sums, likewise by the plan and the settling of `arf::receive`.
 fn answer(
     table: CallTable,
     schema: &[u8],
@@ -168,7 +178,12 @@ fn answer(
     sheet: &mut [u32],
     tallies: &mut [u32],
 ) -> Next {
-    let r = exports::receive::judge(true, table, schema, side, data, sheet, tallies);
+    let plan = plan(table, schema, side, data, tallies.len() / 5);
+    let row = plan.row;
+    let old = row_in(tallies, row);
+    let next = settle(table, plan, schema, data, sheet, old);
+    put_row(tallies, row, next.row);
+    let r = next.answer;
     output::number(r.number as u64);
     output::number(r.place as u64);
     output::number(r.used as u64);

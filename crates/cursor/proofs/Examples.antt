@@ -5,8 +5,7 @@ use Prim.Native.Nat.{ℕ}
 use lib.ListN.{replicate}
 use Rattle.wire.specs.Little.{little}
 use Rattle.wire.specs.Varuint.{groups, front}
-use Rattle.value.specs.Answer.{andThen, check, block, varUInt}
-use Rattle.value.specs.Read.{count}
+use Rattle.parse.specs.Reader.{andThen, check, block, varUInt, count}
 use Rattle.cursor.specs.declared.item.Width.the-variants.{One, Two, Four}
 use Rattle.cursor.specs.declared.item.Number.the-variants as Number
 use Rattle.cursor.specs.declared.item.Span.the-variants as Span

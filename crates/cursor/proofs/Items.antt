@@ -2,20 +2,19 @@
 use mathlib.Core.Path.{_≡_, refl, sym, ap, _∙_}
 use mathlib.Core.List.{List}
 use mathlib.Core.Bool.{Bool, true, false}
-use Prim.Native.Nat.{ℕ, _+_, _-_, _*_, _≤_, _<_}
+use Prim.Native.Nat.{ℕ, _+_, _-_, _≤_, _<_}
 use native.Mathlib.Omega.{arith}
-use borrow.Author.Tests.{le-leb, lt-leb, leb-true, leb-false}
+use borrow.Author.Tests.{leb-true, leb-false}
 use lib.Dec.{leb}
-use lib.ListN.{length, take, drop, length-drop}
-use lib.Seq.{drop-drop}
+use lib.ListN.{length, take, drop}
 use Rattle.wire.specs.Little.{little}
 use Rattle.wire.specs.Varuint.{varuint}
 use Rattle.wire.specs.declared.varuint.VarUInt.{VarUInt}
 use Rattle.wire.specs.declared.varuint.VarUInt.the-variants.{Number, Cut, Malformed}
 use Rattle.wire.proofs.Varuints.{varuint-inside}
 use Rattle.wire.proofs.Cases.{differ}
-use Rattle.value.specs.Answer.{Answer, refused, seen, andThen, check, cursorAt, block, varUInt}
-use Rattle.value.specs.Read.{count}
+use Rattle.parse.specs.Reader.{Answer, refused, seen, andThen, cursorAt, varUInt, count}
+use Rattle.parse.proofs.Places.{var-here, cut-here, malformed-here, block-here, block-short, count-stops, count-short, count-here}
 use Rattle.cursor.specs.declared.item.NumberStep.{NumberStep}
 use Rattle.cursor.specs.declared.item.Number.the-variants.{Is, Refused}
 use Rattle.cursor.specs.Item.{numberOf, span, numberStep, varuintAt, Fair, cut, malformed, past}
@@ -23,52 +22,25 @@ use Rattle.cursor.specs.Item.{numberOf, span, numberStep, varuintAt, Fai
 module _ (p : List ℕ) (from : ℕ) where
   -- ---- VarUInts
 
-  pub var-number : (n next : ℕ) → varuint p from ≡ Number n next → varUInt (cursorAt p from) ≡ seen n (cursorAt p next)
-  unfolding varUInt
-  var-number n next e =
-      let i = varuint-inside p from n next e in
-      let f : from + (next - from) ≡ next = omega arith in
-      rw (e, drop-drop (next - from) from p, f)
-
-  pub var-cut : varuint p from ≡ Cut → varUInt (cursorAt p from) ≡ refused 20 from
-  unfolding varUInt
-  var-cut e = rw e
-
-  pub var-malformed : varuint p from ≡ Malformed → varUInt (cursorAt p from) ≡ refused 21 from
-  unfolding varUInt
-  var-malformed e = rw e
-
   pub varuint-fair : Fair p from (varUInt (cursorAt p from))
   varuint-fair = go (varuint p from) refl
     where
       go : (r : VarUInt) → varuint p from ≡ r → Fair p from (varUInt (cursorAt p from))
       go (Number n next) e =
           let i = varuint-inside p from n next e in
-          rw (var-number n next e) (past (i .0) (i .1))
-      go Cut e = rw (var-cut e) cut
-      go Malformed e = rw (var-malformed e) malformed
+          rw (var-here p from n next e) (past (i .0) (i .1))
+      go Cut e = rw (cut-here p from e) cut
+      go Malformed e = rw (malformed-here p from e) malformed
 
-  -- ---- blocks of bytes, and numbers
-
-  pub block-here : (n : ℕ) → n ≤ length p - from → block n (cursorAt p from) ≡ seen (take n (drop from p)) (cursorAt p (from + n))
-  unfolding block check andThen
-  block-here n h =
-      let l : n ≤ length (drop from p) = rw length-drop h in
-      rw (le-leb n (length (drop from p)) l, drop-drop n from p)
-
-  block-cut : (n : ℕ) → length p - from < n → block n (cursorAt p from) ≡ refused 20 from
-  unfolding block check andThen
-  block-cut n h =
-      let l : length (drop from p) < n = rw length-drop h in
-      rw (lt-leb n (length (drop from p)) l)
+  -- ---- numbers
 
   number-is : (n : ℕ) → n ≤ length p - from → numberOf n (cursorAt p from) ≡ seen (little (take n (drop from p))) (cursorAt p (from + n))
   unfolding numberOf andThen
-  number-is n h = rw (block-here n h)
+  number-is n h = rw (block-here p from n h)
 
   pub number-cut : (n : ℕ) → length p - from < n → numberOf n (cursorAt p from) ≡ refused 20 from
   unfolding numberOf andThen
-  number-cut n h = rw (block-cut n h)
+  number-cut n h = rw (block-short p from n h)
 
   pub number-step : (w n v : ℕ) → n ≡ w → n ≤ length p - from → v ≡ little (take n (drop from p)) → record { item = Is v; next = from + n } ≡ numberStep from (numberOf w (cursorAt p from))
   number-step w n v e h k = rw (← e, number-is n h, k)
@@ -91,38 +63,24 @@ pub data Sized (p : List ℕ) (from : ℕ) : Answer ℕ → Type 0 where
   room : {n start : ℕ} → from < start → start + n ≤ length p → Sized p from (seen n (cursorAt p start))
 
 module _ (p : List ℕ) (from : ℕ) where
-  count-refused : (n q : ℕ) → varUInt (cursorAt p from) ≡ refused n q → count 1 (cursorAt p from) ≡ refused n q
-  unfolding count andThen
-  count-refused n q e = rw e
-
   module _ (n start : ℕ) (is : varUInt (cursorAt p from) ≡ seen n (cursorAt p start)) where
-    count-large : length p - start < n → count 1 (cursorAt p from) ≡ refused 20 from
-    unfolding count andThen check
-    count-large h =
-        let l : length (drop start p) < 1 * n = rw length-drop (omega arith) in
-        rw (is, lt-leb (1 * n) (length (drop start p)) l)
-
-    count-here : n ≤ length p - start → count 1 (cursorAt p from) ≡ seen n (cursorAt p start)
-    unfolding count andThen check
-    count-here h =
-        let l : 1 * n ≤ length (drop start p) = rw length-drop (omega arith) in
-        rw (is, le-leb (1 * n) (length (drop start p)) l)
-
     count-either : from < start → start ≤ length p → Sized p from (count 1 (cursorAt p from))
     count-either l m = go (leb n (length p - start)) refl
       where
         go : (b : Bool) → leb n (length p - start) ≡ b → Sized p from (count 1 (cursorAt p from))
         go true e =
             let k = leb-true n (length p - start) e in
-            rw (count-here k) (room {n = n} {start = start} l (omega arith))
-        go false e = rw (count-large (leb-false n (length p - start) e)) large
+            rw (count-here p from 1 n start is (omega arith)) (room {n = n} {start = start} l (omega arith))
+        go false e =
+            let k = leb-false n (length p - start) e in
+            rw (count-short p from 1 n start is (omega arith)) large
 
   pub count-sized : Sized p from (count 1 (cursorAt p from))
   count-sized = go (varUInt (cursorAt p from)) refl (varuint-fair p from)
     where
       go : (a : Answer ℕ) → varUInt (cursorAt p from) ≡ a → Fair p from a → Sized p from (count 1 (cursorAt p from))
-      go a e cut = rw (count-refused _ _ e) large
-      go a e malformed = rw (count-refused _ _ e) broken
+      go a e cut = rw (count-stops p from 1 _ _ e) large
+      go a e malformed = rw (count-stops p from 1 _ _ e) broken
       go a e (past {a = n} {next = start} l m) = count-either n start e l m
 
   -- ---- spans
@@ -157,7 +115,7 @@ step-seen p from a v (past {a = w} {next} l m) e = ap (λ (x : ℕ). seen x (cur
 -- A span, by the step over its length.
 module _ (p : List ℕ) (from : ℕ) (step : NumberStep) (over : step ≡ varuintAt p from) where
   pub refused-span : (n q : ℕ) → step .item ≡ Refused n q → span (cursorAt p from) ≡ refused n q
-  refused-span n q e = span-refused p from n q (count-refused p from n q (step-refused from _ n q (ap (λ (s : NumberStep). s .item) (sym over) ∙ e)))
+  refused-span n q e = span-refused p from n q (count-stops p from 1 n q (step-refused from _ n q (ap (λ (s : NumberStep). s .item) (sym over) ∙ e)))
 
   module _ (v : ℕ) (is : step .item ≡ Is v) where
     length-seen : varUInt (cursorAt p from) ≡ seen v (cursorAt p (step .next))
@@ -166,7 +124,7 @@ module _ (p : List ℕ) (from : ℕ) (step : NumberStep) (over : step ≡ varuin
         ∙ ap (λ (s : NumberStep). seen v (cursorAt p (s .next))) (sym over)
 
     pub long-span : length p - step .next < v → span (cursorAt p from) ≡ refused 20 from
-    long-span h = span-refused p from 20 from (count-large p from v (step .next) length-seen h)
+    long-span h = span-refused p from 20 from (count-short p from 1 v (step .next) length-seen (omega arith))
 
     pub whole-span : v ≤ length p - step .next → span (cursorAt p from) ≡ seen (record { place = step .next; size = v }) (cursorAt p (step .next + v))
-    whole-span h = span-here p from v (step .next) (count-here p from v (step .next) length-seen h) h
+    whole-span h = span-here p from v (step .next) (count-here p from 1 v (step .next) length-seen (omega arith)) h

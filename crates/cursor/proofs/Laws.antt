@@ -11,8 +11,8 @@ use lib.ListN.{length, length-drop}
 use denote.Ref.{now}
 use Rattle.wire.specs.Little.{little}
 use Rattle.wire.proofs.Cases.{differ}
+use Rattle.parse.specs.Reader.{Cursor, Answer, refused, seen, Reader, andThen, check, cursorAt, block}
 use Rattle.schema.specs.Table.{scalar, width}
-use Rattle.value.specs.Answer.{Cursor, Answer, refused, seen, Reader, andThen, check, cursorAt, block}
 use Rattle.value.specs.Read.{plain, own}
 use Rattle.cursor.specs.declared.Reader.{Reader as Lent}
 use Rattle.cursor.specs.declared.item.Number.the-variants as Number
@@ -24,9 +24,6 @@ use Rattle.cursor.proofs.Items.{step-seen, whole-span}
 -- What is left and the position make up the payload.
 pub left-is : (r : Lent) → length (standing r .left) ≡ length (now (r .payload)) - r .at
 left-is r = length-drop (r .at) (now (r .payload))
-
-pub left-and-at : (r : Lent) → r .at ≤ length (now (r .payload)) → length (standing r .left) + r .at ≡ length (now (r .payload))
-left-and-at r h = rw (left-is r) (omega arith)
 
 module _ (p : List ℕ) (from : ℕ) where
   -- Reading moves neither back nor past the end.

@@ -1,22 +1,22 @@
 -- Strings and bytes: the payload reader's rule for them, by the span.
 use mathlib.Core.Path.{_≡_, refl, sym, ap, _∙_}
 use mathlib.Core.List.{List, _++_}
-use mathlib.Core.Bool.{Bool, true, false, not, _||_}
+use mathlib.Core.Bool.{Bool, true, false, not}
 use Prim.Native.Nat.{ℕ, _+_, _-_, _≤_}
 use native.Mathlib.Omega.{arith}
 use borrow.Author.Tests.{not-true, not-false}
-use lib.Dec.{eqb}
 use lib.ListN.{length, take, drop, length-drop}
 use lib.Seq.{slice, take-add, length-take-le, drop-append-seam}
 use Rattle.wire.specs.Utf8.{utf8}
 use Rattle.wire.proofs.Cases.{differ}
+use Rattle.parse.specs.Reader.{Answer, refused, seen, andThen, check, cursorAt, count}
+use Rattle.parse.proofs.Places.{block-here}
 use Rattle.schema.specs.Table.{text}
-use Rattle.value.specs.Answer.{Answer, refused, seen, Reader, andThen, check, cursorAt}
-use Rattle.value.specs.Read.{Own, plain, count, own}
+use Rattle.value.specs.Read.{own}
 use Rattle.cursor.specs.declared.item.Span.{Span}
 use Rattle.cursor.specs.declared.item.Span.the-variants.{At, Refused}
 use Rattle.cursor.specs.Item.{Content, span, spanStep, spanAt, checked, judged, textSpan, textAt}
-use Rattle.cursor.proofs.Items.{Sized, large, broken, room, count-sized, block-here, span-refused, span-here}
+use Rattle.cursor.proofs.Items.{Sized, large, broken, room, count-sized, span-refused, span-here}
 
 module _ (p : List ℕ) where
   module _ (from : ℕ) where

@@ -6,9 +6,9 @@ use lib.Dec.{eqb}
 use lib.ListN.{length, take, drop}
 use Rattle.wire.specs.Little.{little}
 use Rattle.wire.specs.Utf8.{utf8}
+use Rattle.parse.specs.Reader.{Answer, refused, seen, Reader, andThen, _>>=_, return, at, check, cursorAt, block, varUInt, count}
 use Rattle.schema.specs.Table.{text}
-use Rattle.value.specs.Answer.{Answer, refused, seen, Reader, andThen, _>>=_, return, at, check, cursorAt, block, varUInt}
-use Rattle.value.specs.Read.{Own, plain, parts, count, own}
+use Rattle.value.specs.Read.{Own, plain, parts, own}
 use Rattle.cursor.specs.declared.item.Width.{Width}
 use Rattle.cursor.specs.declared.item.Width.the-variants.{One, Two, Four, Eight}
 use Rattle.cursor.specs.declared.item.Number.the-variants as Number

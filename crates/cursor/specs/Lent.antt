@@ -2,7 +2,7 @@
 use mathlib.Core.List.{List}
 use Prim.Native.Nat.{ℕ}
 use denote.Ref.{now}
-use Rattle.value.specs.Answer.{Cursor, cursorAt}
+use Rattle.parse.specs.Reader.{Cursor, cursorAt}
 use Rattle.cursor.specs.declared.Reader.{Reader}
 
 -- What f says of the payload at the position.

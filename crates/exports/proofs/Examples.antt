@@ -1,8 +1,7 @@
 -- The marks of a record in cells and its elements, each alone; and tally rows in cells.
 use mathlib.Core.Path.{_≡_, refl}
-use mathlib.Core.Bool.{Bool, true, false}
+use mathlib.Core.Bool.{true, false}
 use mathlib.Core.List.{List, [], _∷_, map as each}
-use Prim.Native.Nat.{ℕ}
 use Rattle.calls.specs.declared.Call.{Call}
 use Rattle.calls.specs.declared.Tally.{Tally}
 use Rattle.exports.specs.Records.{callOf, marksOf, rowsOf, rowCells}

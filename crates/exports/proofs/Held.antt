@@ -445,14 +445,6 @@ zero-from n i (suc k) =
 pub zeros-fresh : (n : ℕ) → callsOf (replicate n 0) ≡ freshTable .slots
 zeros-fresh n = zero-from n 0 128
 
-zeros-calls : (n : ℕ) → 384 ≤ n → AreCalls (replicate n 0)
-zeros-calls n h =
-    record {
-      enough = simp length-replicate h;
-      methods = λ i k. rw (zero-cell n (3 * i + 1)) (lit≤ tt);
-      marks = λ i k. rw (zero-cell n (3 * i + 2)) (lit≤ tt);
-    }
-
 -- ---- one release
 
 refused-release : (v : Checked) (l : List Call) → notReleased v l .table .slots ≡ l

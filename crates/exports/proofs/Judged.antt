@@ -1,5 +1,5 @@
 -- A plan settled with the row that it asks for, by whether the cells are a call table.
-use mathlib.Core.Path.{_≡_, refl, sym, ap, _∙_}
+use mathlib.Core.Path.{_≡_, ap, _∙_}
 use mathlib.Core.Bool.{Bool, true, false, cond}
 use mathlib.Core.List.{List}
 use Prim.Native.Nat.{ℕ}
@@ -14,17 +14,12 @@ use Rattle.line.specs.declared.Plan.{Plan}
 use Rattle.line.specs.declared.Settled.{Settled}
 use Rattle.line.specs.declared.SettledRelease.{SettledRelease}
 use Rattle.line.specs.Answer.{Line, line, rowLine, inRow, stopped}
-use Rattle.line.specs.Planning.{stopPlan, planOf, releasePlan, Fitted, stops}
+use Rattle.line.specs.Planning.{stopPlan, planOf, releasePlan}
 use Rattle.line.specs.Receive.{settled, received}
 use Rattle.line.specs.Release.{ReleaseLine, releaseLine, releaseAnswer, releaseSettled, released}
 use Rattle.line.proofs.Ways.{same-row}
 use Rattle.line.proofs.Lent.{within, release-within}
 use Rattle.exports.specs.Answers.{notCalls, refusedPlan, judgement, notReleased, releaseJudgement}
-
--- A refusal asks for nothing.
-pub refused-fitted : (s bytes : List ℕ) (v : Checked) → Fitted s bytes (refusedPlan v .next)
-refused-fitted s bytes check.Good = stops
-refused-fitted s bytes (check.Refused n q) = stops
 
 module _ (s : List ℕ) (side : ℕ) (bytes sheet : List ℕ) (ts : List Tally) (l : List Call) where
   -- a plan settled, and its row put back

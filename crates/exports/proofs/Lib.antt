@@ -2,7 +2,6 @@
 pub mod Stores
 pub mod Bits
 pub mod Tables
-pub mod Remainders
 pub mod Slots
 pub mod Plans
 pub mod Tallies

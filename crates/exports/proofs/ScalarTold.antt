@@ -10,6 +10,8 @@ use lib.Ieee.{binary32, binary64, ofBits}
 use lib.IntN.{negsuc}
 use lib.ListN.{length, getD, List·getD-eq-default}
 use borrow.Author.Tests.{eqb-true, leb-true, ltb-true, ltb-false, lt-ltb, le-ltb}
+use Rattle.buffer.specs.Span.{span, inside}
+use Rattle.buffer.proofs.Spans.{length-span}
 use Rattle.wire.specs.Little.{little, twos}
 use Rattle.wire.specs.Utf8.{utf8}
 use Rattle.wire.proofs.Cases.{cond-case}
@@ -22,13 +24,11 @@ use Rattle.schema.specs.Check.{checked}
 use Rattle.schema.proofs.Bools.{cases}
 use Rattle.schema.proofs.Listed.{listed, listed-bounds}
 use Rattle.value.specs.declared.Row.{Row}
-use Rattle.value.specs.Write.{span, inside}
-use Rattle.value.proofs.Spans.{length-span}
 use Rattle.scalar.specs.declared.Scalar.{Scalar}
 use Rattle.scalar.specs.declared.Scalar.the-variants.{Truth, Signed, Unsigned, Float32, Float64, Span}
 use Rattle.scalar.specs.declared.Answer.{Answer}
 use Rattle.scalar.specs.declared.Answer.the-variants.{Is, Refused}
-use Rattle.scalar.specs.Scalar.{valueOf, numberAt, textAt, byShape, scalarOf, afterTable, scalarBy, numberOf}
+use Rattle.scalar.specs.Scalar.{valueOf, textAt, byShape, scalarOf, afterTable, scalarBy, numberOf, scalarAt}
 use Rattle.scalar.proofs.Widths.{width-bounds}
 use Rattle.exports.specs.Answers.{bitsOf, scalarCells}
 use Rattle.exports.specs.Told.{scalarTold}
@@ -110,8 +110,8 @@ module _ (schema : List ℕ) (r : Row) (bytes : List ℕ) (h : (i : ℕ) → get
   abbrev content : List ℕ
   content = span bytes (r .place) (r .length)
 
-  number-told : (kind : ℕ) → Told (numberAt kind (r .place) (r .length) bytes)
-  unfolding numberAt
+  number-told : (kind : ℕ) → Told (scalarAt kind (r .place) (r .length) bytes)
+  unfolding scalarAt
   number-told kind =
       cond-case Told (eqb (r .length) (width kind)) _ (Refused 50 0)
       (λ t.

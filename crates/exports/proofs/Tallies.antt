@@ -5,10 +5,10 @@ use Prim.Native.Nat.{ℕ, zero, suc, _+_, _*_, _/_, _≤_, _<_}
 use native.Mathlib.Omega.{arith}
 use lib.ListN.{length, getD, set, List·getD-eq-default}
 use lib.Seq.{sets, set-out}
+use Rattle.buffer.proofs.Stores.{sets-later}
 use Rattle.calls.specs.declared.Tally.{Tally}
 use Rattle.calls.specs.Counting.{noTally}
 use Rattle.exports.specs.Records.{tallyOf, tallyCells, rowsOf, rowCells}
-use Rattle.exports.proofs.Stores.{sets-later}
 
 -- There are as many rows as five cells each.
 pub rows-long : (cells : List ℕ) → length (rowsOf cells) ≡ length cells / 5

@@ -30,7 +30,6 @@ use Rattle.writer.specs.declared.Writing.{Writing}
 use Rattle.writer.specs.declared.Writing.the-variants as writer
 use Rattle.index.specs.declared.Indexing.{Indexing}
 use Rattle.index.specs.declared.Indexing.the-variants as index
-use Rattle.index.specs.declared.Finding.{Finding}
 use Rattle.index.specs.declared.Finding.the-variants as find
 use Rattle.index.specs.Index as making
 use Rattle.index.specs.LookUp as look

@@ -1,5 +1,6 @@
 -- The numbers that each answer is stored as beside 01's number, case by case; 0 where 01 gives no value.
-use mathlib.Core.Bool.{Bool, cond}
+use mathlib.Core.Path.{_≡_}
+use mathlib.Core.Bool.{Bool, false, cond}
 use mathlib.Core.List.{List, [], _∷_}
 use Prim.Native.Nat.{ℕ, suc, _-_, _^_}
 use lib.IntN.{ℤ, pos, negsuc}
@@ -32,9 +33,10 @@ use Rattle.salvage.specs.declared.Salvaging.{Salvaging}
 use Rattle.salvage.specs.Salvage.{salvageEntries, salvageBytes, salvageSpans}
 use Rattle.calls.specs.declared.Call.{Call}
 use Rattle.calls.specs.declared.Tally.{Tally}
-use Rattle.calls.specs.Step.{stepOf}
+use Rattle.calls.specs.declared.Judged.{Judged}
+use Rattle.calls.specs.declared.Judged.the-variants.{Stop}
 use Rattle.line.specs.declared.Received.{Received}
-use Rattle.line.specs.Answer.{Line, line, stopped, answerOf}
+use Rattle.line.specs.Answer.{Line, line, stopped}
 use Rattle.line.specs.declared.Plan.{Plan}
 use Rattle.line.specs.Planning.{stopPlan}
 use Rattle.line.specs.Receive.{received}
@@ -44,7 +46,7 @@ use Rattle.scalar.specs.declared.Scalar.{Scalar}
 use Rattle.scalar.specs.declared.Scalar.the-variants.{Truth, Signed, Unsigned, Float32, Float64, Span}
 use Rattle.scalar.specs.declared.Answer.{Answer}
 use Rattle.scalar.specs.declared.Answer.the-variants.{Is, Refused}
-use Rattle.exports.specs.declared.Done.{Done}
+use Rattle.exports.specs.declared.Kept.{Kept}
 use Rattle.exports.specs.Cells.{stored}
 use Rattle.exports.specs.Records.{callsOf, cellsOf, areCalls, rowsOf}
 
@@ -196,9 +198,13 @@ judgement known schema side bytes sheet ts l =
 abbrev pub receiving : (table schema : List ℕ) (side : ℕ) (bytes sheet tallies : List ℕ) → Line
 receiving table schema side bytes sheet tallies = judgement (areCalls table) schema side bytes sheet (rowsOf tallies) (callsOf table)
 
--- A plan settled up to the call table, as an answer over the call table l.
-abbrev pub answerIn : Done → List Call → Received
-answerIn d l = answerOf (d .size) (stepOf (d .judged) (numbers (d .reading) .number) l) (d .reading)
+-- What an answer tells of the call table.
+abbrev pub keptOf : Received → Kept
+keptOf r = record { number = r .number; used = r .used; «open» = r .«open» }
+
+-- Where the cells are no call table, the judgement stops.
+abbrev pub Stops : (table : List ℕ) → Judged → Type 0
+Stops table J = areCalls table ≡ false → (n : ℕ) × (J ≡ Stop n)
 
 -- The cells afterwards: those of the next table; cells that are no call table stay as they are.
 abbrev pub callCells : (table : List ℕ) → List Call → List ℕ

@@ -1,80 +1,21 @@
-// A frame judged up to the payload against the call table in cells: which tally row it asks for, and what is left to do.
-use crate::judging::judge;
-use crate::judging::rise;
+// A frame and a release judged up to the payload against the call table in cells: which tally row they ask for, and what is left to do.
 use crate::records::are_good;
-use calls::Frame;
-use frame::FrameRead;
-use frame::Header;
-use frame::read_frame;
-use line::Next;
+use crate::records::seat;
+use line::Front;
 use line::Plan;
+use line::planning::front;
+use line::planning::plan_call;
+use line::planning::plan_frame;
 use line::planning::stop;
+use line::planning::tables_fault;
 use schema::Checked;
-use schema::access::method_count;
 use schema::check::check;
 ghost use mathlib.Core.Path.{_≡_};
 ghost use mathlib.Core.Bool.{cond};
-ghost use Prim.Native.Nat.{_≤_};
-ghost use Rattle.schema.specs.File.{tableOf};
-ghost use Rattle.schema.specs.Check.{IsGood, checked};
-ghost use Rattle.line.specs.Planning.{frameFrom, Fitted, framePlan, bytesPlan, planOf};
+ghost use Rattle.schema.specs.Check.{checked};
+ghost use Rattle.line.specs.Planning.{Fitted, planOf, releasePlan};
 ghost use Rattle.exports.specs.Records.{callsOf, areCalls};
 ghost use Rattle.exports.specs.Answers.{refusedPlan};
-
-// What a step sees of a frame with this header.
-fn frame_from(side: u8, h: Header) -> Frame
-    requires { ⌜ h .kind ≤ 8 ⌝ }
-    ensures { λ r. ⌜ r ≡ frameFrom side h ⌝ }
-{
-    Frame {
-        side,
-        kind: h.kind as u8,
-        package: h.package,
-        service: h.service,
-        method: h.method,
-        correlation: h.correlation,
-    }
-}
-
-// A whole frame whose payload stands between these places.
-fn plan_frame(cells: &[u64], schema: &[u8], f: Frame, place: usize, end: usize) -> Plan
-    requires { ⌜ IsGood (now schema) ⌝ }
-    ensures { λ r. ⌜ r ≡ framePlan (tableOf (now (schema .entry))) f (callsOf (now (cells .entry))) place end ⌝ }
-{
-    let judged = judge(cells, schema, f);
-    let rise = rise(cells, f.kind, judged);
-    Plan {
-        row: rise.row,
-        next: Next::Settle {
-            judged,
-            rise,
-            place,
-            end,
-        },
-    }
-}
-
-// The frame at the front of the bytes, under a good schema table and a good call table.
-fn plan_bytes(cells: &[u64], schema: &[u8], side: u8, bytes: &[u8]) -> Plan
-    requires { ⌜ IsGood (now schema) ⌝ }
-    ensures { λ r. ⌜ (r ≡ bytesPlan (tableOf (now (schema .entry))) side (now (bytes .entry)) (callsOf (now (cells .entry)))) × Fitted (now (schema .entry)) (now (bytes .entry)) (r .next) ⌝ }
-{
-    match read_frame(bytes) {
-        FrameRead::More => stop(1, 0),
-        FrameRead::Refused(number) => stop(number, 0),
-        FrameRead::Frame {
-            header,
-            place,
-            length,
-        } => plan_frame(
-            cells,
-            schema,
-            frame_from(side, header),
-            place,
-            place + length,
-        ),
-    }
-}
 
 // One frame from a side with so many tally rows lent, judged in the order: schema table, call table, tally rows, frame, side and call.
 pub fn plan(cells: &[u64], schema: &[u8], side: u8, bytes: &[u8], rows: usize) -> Plan
@@ -83,14 +24,33 @@ pub fn plan(cells: &[u64], schema: &[u8], side: u8, bytes: &[u8], rows: usize) -
 {
     match check(schema) {
         Checked::Refused { number, place } => stop(number, place),
+        Checked::Good => match front(are_good(cells, schema), schema, side, bytes, rows) {
+            Front::Stop(number) => stop(number, 0),
+            Front::Whole { frame, place, end } => {
+                plan_frame(
+                    seat(cells, frame.correlation, frame.kind == 1),
+                    schema,
+                    frame,
+                    place,
+                    end,
+                )
+            }
+        },
+    }
+}
+
+// The release of a call with so many tally rows lent, judged in the order: schema table, call table, tally rows, call.
+pub fn plan_release(cells: &[u64], schema: &[u8], correlation: u64, rows: usize) -> Plan
+    ensures { λ r. ⌜ r ≡ cond (areCalls (now (cells .entry))) (releasePlan (now (schema .entry)) (callsOf (now (cells .entry))) correlation rows) (refusedPlan (checked (now (schema .entry)))) ⌝ }
+{
+    match check(schema) {
+        Checked::Refused { number, place } => stop(number, place),
         Checked::Good => {
-            if !are_good(cells, schema) {
-                return stop(15, 0);
+            let fault = tables_fault(are_good(cells, schema), schema, rows);
+            if fault != 0 {
+                return stop(fault, 0);
             }
-            if rows != method_count(schema) {
-                return stop(19, 0);
-            }
-            plan_bytes(cells, schema, side, bytes)
+            plan_call(seat(cells, correlation, false))
         }
     }
 }

@@ -1,87 +1,22 @@
 // One frame against the call table and the tally rows that the caller lends.
-use crate::Done;
 use crate::cells::store;
 use crate::planning::plan;
-use crate::records::put_slot;
 use crate::rows::put_row;
 use crate::rows::row_in;
-use crate::settling::change_of;
-use crate::settling::number_after;
-use crate::settling::open_after;
-use crate::settling::settle;
-use crate::settling::used_of;
-use calls::CallTable;
-use calls::Judged;
-use line::Plan;
-use line::Received;
-use line::answer::number_of;
-use line::planning::stop;
+use crate::settling::keep;
+use line::Done;
+use line::settling::settle_plan;
 use reader::Reading;
-use schema::Checked;
 ghost use mathlib.Core.Path.{_≡_};
-ghost use mathlib.Core.Bool.{cond, false};
 ghost use mathlib.Core.List.{[], _∷_};
-ghost use Prim.Native.Nat.{ℕ};
-ghost use Rattle.schema.specs.Check.{checked};
 ghost use Rattle.reader.specs.Entry.{numbers};
-ghost use Rattle.line.specs.Planning.{planOf, Fitted};
+ghost use Rattle.line.specs.Answer.{answerIn};
 ghost use Rattle.exports.specs.Cells.{stored};
-ghost use Rattle.exports.specs.Records.{callsOf, areCalls, rowsOf, rowCells};
-ghost use Rattle.exports.specs.Answers.{refusedPlan, judgement, answerIn, receiving, callCells, receivedCells};
-
-// Cells that are no call table: 15, after the schema's faults.
-pub fn refuse(schema: &[u8]) -> Plan
-    ensures { λ r. ⌜ r ≡ refusedPlan (checked (now (schema .entry))) ⌝ }
-{
-    match arf::check_table(schema) {
-        Checked::Good => stop(15, 0),
-        Checked::Refused { number, place } => stop(number, place),
-    }
-}
-
-fn plan_for(
-    known: bool,
-    table: CallTable,
-    schema: &[u8],
-    side: u8,
-    bytes: &[u8],
-    rows: usize,
-) -> Plan
-    ensures { λ r. ⌜ (r ≡ cond known (planOf (now (schema .entry)) side (now (bytes .entry)) rows (table .slots)) (refusedPlan (checked (now (schema .entry))))) × Fitted (now (schema .entry)) (now (bytes .entry)) (r .next) ⌝ }
-{
-    if known {
-        line::planning::plan(table, schema, side, bytes, rows)
-    } else {
-        refuse(schema)
-    }
-}
-
-// Judges the frame at the front of the bytes against a call table by value over tally rows in cells, as the case program does. A call table that the cells
-// do not hold is refused.
-pub fn judge(
-    known: bool,
-    table: CallTable,
-    schema: &[u8],
-    side: u8,
-    bytes: &[u8],
-    sheet: &mut [u32],
-    tallies: &mut [u32],
-) -> Received
-    ensures { λ r. ⌜ r ≡ judgement known (now (schema .entry)) side (now (bytes .entry)) (now (sheet .entry)) (rowsOf (now (tallies .entry))) (table .slots) .answer ⌝ }
-    ensures { λ _. ⌜ now (sheet .exit) ≡ judgement known (now (schema .entry)) side (now (bytes .entry)) (now (sheet .entry)) (rowsOf (now (tallies .entry))) (table .slots) .sheet ⌝ }
-    ensures { λ _. ⌜ now (tallies .exit) ≡ rowCells (now (tallies .entry)) (judgement known (now (schema .entry)) side (now (bytes .entry)) (now (sheet .entry)) (rowsOf (now (tallies .entry))) (table .slots) .tallies) ⌝ }
-{
-    let plan = plan_for(known, table, schema, side, bytes, tallies.len() / 5);
-    let row = plan.row;
-    let old = row_in(tallies, row);
-    let next = line::settling::settle(table, plan, schema, bytes, sheet, old);
-    let new = next.row;
-    put_row(tallies, row, new);
-    next.answer
-}
+ghost use Rattle.exports.specs.Records.{callsOf, rowCells};
+ghost use Rattle.exports.specs.Answers.{receiving, callCells, receivedCells, Stops};
 
 // Judges the frame at the front of the bytes up to the call table, which stays as it is.
-fn judge_cells(
+fn judge(
     table: &[u64],
     schema: &[u8],
     side: u8,
@@ -92,12 +27,12 @@ fn judge_cells(
     ensures { λ r. ⌜ answerIn r (callsOf (now (table .entry))) ≡ receiving (now (table .entry)) (now (schema .entry)) side (now (bytes .entry)) (now (sheet .entry)) (now (tallies .entry)) .answer ⌝ }
     ensures { λ _. ⌜ now (sheet .exit) ≡ receiving (now (table .entry)) (now (schema .entry)) side (now (bytes .entry)) (now (sheet .entry)) (now (tallies .entry)) .sheet ⌝ }
     ensures { λ _. ⌜ now (tallies .exit) ≡ rowCells (now (tallies .entry)) (receiving (now (table .entry)) (now (schema .entry)) side (now (bytes .entry)) (now (sheet .entry)) (now (tallies .entry)) .tallies) ⌝ }
-    ensures { λ r. ⌜ (areCalls (now (table .entry)) ≡ false → (n : ℕ) × (r .judged ≡ Judged.Stop n)) ⌝ }
+    ensures { λ r. ⌜ Stops (now (table .entry)) (r .judged) ⌝ }
 {
     let plan = plan(table, schema, side, bytes, tallies.len() / 5);
     let row = plan.row;
     let old = row_in(tallies, row);
-    let done = settle(plan, schema, bytes, sheet, old);
+    let done = settle_plan(plan, schema, bytes, sheet, old);
     let new = done.row;
     put_row(tallies, row, new);
     done
@@ -146,15 +81,10 @@ pub extern "C" fn arf_receive(
     ensures { λ _. ⌜ now (tallies .exit) ≡ rowCells (now (tallies .entry)) (receiving (now (table .entry)) (now (schema .entry)) side (now (bytes .entry)) (now (sheet .entry)) (now (tallies .entry)) .tallies) ⌝ }
     ensures { λ _. ⌜ now (answer .exit) ≡ stored (now (answer .entry)) (receivedCells (receiving (now (table .entry)) (now (schema .entry)) side (now (bytes .entry)) (now (sheet .entry)) (now (tallies .entry)) .answer)) ⌝ }
 {
-    let done = judge_cells(table, schema, side, bytes, sheet, tallies);
-    let judged = done.judged;
+    let done = judge(table, schema, side, bytes, sheet, tallies);
+    let kept = keep(table, done);
     let reading = done.reading;
-    let size = done.size;
-    let payload = number_of(reading);
-    let number = number_after(judged, payload);
-    let change = change_of(judged, payload);
-    let cells = received_cells(reading, used_of(number, size), open_after(table, change));
+    let cells = received_cells(reading, kept.used, kept.open);
     store(answer, &cells);
-    put_slot(table, change.slot, change.call);
-    number
+    kept.number
 }

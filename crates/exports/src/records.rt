@@ -1,12 +1,12 @@
 // The call table in cells that the caller lends, three a record.
-use crate::apart::distinct;
 use crate::cells::put;
 use calls::Call;
-use calls::CallTable;
-use calls::forms::row_of;
+use calls::Own;
+use calls::Seat;
+use calls::forms::TABLE_1;
+use calls::good::distinct;
 use calls::record::EMPTY;
 use schema::Found;
-use schema::access::method;
 use schema::access::method_count;
 ghost use mathlib.Core.Path.{_≡_};
 ghost use mathlib.Core.Bool.{cond, _&&_};
@@ -17,10 +17,9 @@ ghost use lib.Seq.{sets};
 ghost use Rattle.schema.specs.File.{tableOf};
 ghost use Rattle.schema.specs.Check.{IsGood};
 ghost use Rattle.calls.specs.Record.{isCall, isFree};
-ghost use Rattle.calls.specs.Slots.{slot, goodCall, goodTable, firstSlot, countOpen};
-ghost use Rattle.exports.specs.Cells.{stored};
-ghost use Rattle.exports.specs.Records.{callOf, callAt, callsOf, marksOf, recordCells, cellsOf, plain, areCalls};
-ghost use Rattle.exports.specs.Answers.{callCells};
+ghost use Rattle.calls.specs.Slots.{slot, recordAt, goodCall, goodTable, firstSlot, countOpen};
+ghost use Rattle.calls.specs.Seats.{seatOf};
+ghost use Rattle.exports.specs.Records.{callOf, callAt, callsOf, marksOf, recordCells, plain, areCalls};
 
 // One cell, and 0 past the last.
 fn cell(cells: &[u64], i: usize) -> u64
@@ -62,36 +61,6 @@ fn is_plain(method: u64, marks: u64) -> bool
     (method < 4294967296) & (marks < 137438953472)
 }
 
-// The cells are a call table: there are enough of them, and each number is one of a record.
-pub fn are_calls(cells: &[u64]) -> bool
-    ensures { λ r. ⌜ r ≡ areCalls (now (cells .entry)) ⌝ }
-{
-    if cells.len() < 384 {
-        return false;
-    }
-    let mut i: usize = 0;
-    while i < 128 {
-        if !is_plain(cells[3 * i + 1], cells[3 * i + 2]) {
-            return false;
-        }
-        i += 1;
-    }
-    true
-}
-
-// The call table that the cells hold.
-pub fn load(cells: &[u64]) -> CallTable
-    ensures { λ r. ⌜ r .slots ≡ callsOf (now (cells .entry)) ⌝ }
-{
-    let mut table = CallTable::fresh();
-    let mut i: usize = 0;
-    while i < 128 {
-        table.slots[i] = call_at(cells, i);
-        i += 1;
-    }
-    table
-}
-
 // The record at a slot, and an empty one past the last.
 pub fn slot_at(cells: &[u64], i: usize) -> Call
     ensures { λ r. ⌜ r ≡ slot (callsOf (now (cells .entry))) i ⌝ }
@@ -110,19 +79,7 @@ fn is_good(s: &[u8], id: u64, method: u64, marks: u64) -> bool
     if marks == 1 {
         return method < (method_count(s) as u64);
     }
-    is_plain(method, marks) & is_good_call(s, call_of(id, method, marks))
-}
-
-fn is_good_call(s: &[u8], call: Call) -> bool
-    requires { ⌜ IsGood (now s) ⌝ }
-    ensures { λ r. ⌜ r ≡ goodCall (tableOf (now (s .entry))) call ⌝ }
-{
-    if call.open {
-        let m = method(s, call.method as usize);
-        call.is_good_open(method_count(s), row_of(m.form))
-    } else {
-        call.is_zero()
-    }
+    is_plain(method, marks) & call_of(id, method, marks).is_good(s, TABLE_1)
 }
 
 // The cells are a call table that is good by a good schema table. The open correlations are copied out once and compared there.
@@ -215,6 +172,28 @@ pub fn free_slot(cells: &[u64]) -> Found
     free_slot_in(cells)
 }
 
+// The record at a slot that was found.
+fn own(cells: &[u64], found: Found) -> Own
+    ensures { λ r. ⌜ r ≡ recordAt (callsOf (now (cells .entry))) found ⌝ }
+{
+    match found {
+        Found::Missing => Own::None,
+        Found::At(i) => Own::One(slot_at(cells, i)),
+    }
+}
+
+// The own call of a correlation: its record and its slot; where a call is to be opened, the lowest free slot.
+pub fn seat(cells: &[u64], id: u64, opens: bool) -> Seat
+    ensures { λ r. ⌜ r ≡ seatOf id opens (callsOf (now (cells .entry))) ⌝ }
+{
+    let found = find(cells, id);
+    let slot = if opens { free_slot(cells) } else { found };
+    Seat {
+        own: own(cells, found),
+        slot,
+    }
+}
+
 // How many calls are open.
 fn open_count_in(cells: &[u64]) -> usize
     ensures { λ r. ⌜ (r ≡ countOpen (callsOf (now (cells .entry)))) × (r ≤ 128) ⌝ }
@@ -268,32 +247,11 @@ fn put_call(cells: &mut [u64], i: usize, call: Call)
     put(cells, 3 * i + 2, marks_of(call));
 }
 
-// The cells of the call table, as many as there are.
-pub fn save(cells: &mut [u64], table: CallTable)
-    ensures { λ _. ⌜ now (cells .exit) ≡ stored (now (cells .entry)) (cellsOf (table .slots)) ⌝ }
-{
-    let mut i: usize = 0;
-    while i < 128 {
-        put_call(cells, i, table.slots[i]);
-        i += 1;
-    }
-}
-
 // A record put at a slot; past the last nothing changes.
 pub fn put_slot(cells: &mut [u64], i: usize, call: Call)
     ensures { λ _. ⌜ now (cells .exit) ≡ cond (ltb i 128) (sets (now (cells .entry)) (3 * i) (recordCells call)) (now (cells .entry)) ⌝ }
 {
     if i < 128 {
         put_call(cells, i, call);
-    }
-}
-
-// The same where the cells are a call table.
-pub fn keep(cells: &mut [u64], known: bool, table: CallTable)
-    requires { ⌜ known ≡ areCalls (now cells) ⌝ }
-    ensures { λ _. ⌜ now (cells .exit) ≡ callCells (now (cells .entry)) (table .slots) ⌝ }
-{
-    if known {
-        save(cells, table);
     }
 }

@@ -1,52 +1,31 @@
 // The release of a cancelled call in the call table and the tally rows that the caller lends.
 use crate::cells::store;
-use crate::receive::refuse;
-use crate::records::are_calls;
-use crate::records::keep;
-use crate::records::load;
+use crate::planning::plan_release;
 use crate::rows::put_row;
 use crate::rows::row_in;
-use calls::CallTable;
-use line::Plan;
-use line::Released;
-use line::planning::plan_release;
-use line::settling::settle_release;
+use crate::settling::keep;
+use line::Done;
+use line::answer::place_of;
+use line::settling::settle_call;
 ghost use mathlib.Core.Path.{_≡_};
-ghost use mathlib.Core.Bool.{cond};
-ghost use Rattle.schema.specs.Check.{checked};
-ghost use Rattle.line.specs.Planning.{releasePlan};
+ghost use Rattle.line.specs.Release.{releaseIn};
 ghost use Rattle.exports.specs.Cells.{stored};
-ghost use Rattle.exports.specs.Records.{rowsOf, rowCells};
-ghost use Rattle.exports.specs.Answers.{refusedPlan, releaseJudgement, releasing, callCells, releasedCells};
+ghost use Rattle.exports.specs.Records.{callsOf, rowCells};
+ghost use Rattle.exports.specs.Answers.{releasing, callCells, releasedCells, Stops};
 
-fn plan_for(known: bool, table: CallTable, schema: &[u8], correlation: u64, rows: usize) -> Plan
-    ensures { λ r. ⌜ r ≡ cond known (releasePlan (now (schema .entry)) (table .slots) correlation rows) (refusedPlan (checked (now (schema .entry)))) ⌝ }
+// Judges a release up to the call table, which stays as it is.
+fn judge(table: &[u64], schema: &[u8], correlation: u64, tallies: &mut [u32]) -> Done
+    ensures { λ r. ⌜ releaseIn r (callsOf (now (table .entry))) .answer ≡ releasing (now (table .entry)) (now (schema .entry)) correlation (now (tallies .entry)) .answer ⌝ }
+    ensures { λ _. ⌜ now (tallies .exit) ≡ rowCells (now (tallies .entry)) (releasing (now (table .entry)) (now (schema .entry)) correlation (now (tallies .entry)) .tallies) ⌝ }
+    ensures { λ r. ⌜ Stops (now (table .entry)) (r .judged) ⌝ }
 {
-    if known {
-        plan_release(table, schema, correlation, rows)
-    } else {
-        refuse(schema)
-    }
-}
-
-// Ends a cancelled call over tally rows in cells. A call table that the cells do not hold is refused.
-pub fn judge(
-    known: bool,
-    table: CallTable,
-    schema: &[u8],
-    correlation: u64,
-    tallies: &mut [u32],
-) -> Released
-    ensures { λ r. ⌜ r ≡ releaseJudgement known (now (schema .entry)) (table .slots) correlation (rowsOf (now (tallies .entry))) .answer ⌝ }
-    ensures { λ _. ⌜ now (tallies .exit) ≡ rowCells (now (tallies .entry)) (releaseJudgement known (now (schema .entry)) (table .slots) correlation (rowsOf (now (tallies .entry))) .tallies) ⌝ }
-{
-    let plan = plan_for(known, table, schema, correlation, tallies.len() / 5);
+    let plan = plan_release(table, schema, correlation, tallies.len() / 5);
     let row = plan.row;
     let old = row_in(tallies, row);
-    let next = settle_release(table, plan, old);
-    let new = next.row;
+    let done = settle_call(plan, old);
+    let new = done.row;
     put_row(tallies, row, new);
-    next.answer
+    done
 }
 
 // Ends the cancelled call with this correlation. table: 128 records of three cells, before and after; with fewer cells, or a number in them that is none
@@ -64,11 +43,10 @@ pub extern "C" fn arf_release(
     ensures { λ _. ⌜ now (tallies .exit) ≡ rowCells (now (tallies .entry)) (releasing (now (table .entry)) (now (schema .entry)) correlation (now (tallies .entry)) .tallies) ⌝ }
     ensures { λ _. ⌜ now (answer .exit) ≡ stored (now (answer .entry)) (releasedCells (releasing (now (table .entry)) (now (schema .entry)) correlation (now (tallies .entry)) .answer)) ⌝ }
 {
-    let known = are_calls(table);
-    let r = judge(known, load(table), schema, correlation, tallies);
-    let next = r.table;
-    let cells = [r.place as u64, r.open as u64];
+    let done = judge(table, schema, correlation, tallies);
+    let kept = keep(table, done);
+    let reading = done.reading;
+    let cells = [place_of(reading) as u64, kept.open as u64];
     store(answer, &cells);
-    keep(table, known, next);
-    r.number
+    kept.number
 }

@@ -10,10 +10,15 @@ use borrow.Author.Tests.{leb-true, le-leb, lt-leb}
 use lib.Dec.{leb}
 use lib.ListN.{length, getD, take, drop, length-append, length-drop, drop-of-length-le}
 use lib.Seq.{drop-append-le, drop-drop, length-take-le}
+use Rattle.buffer.specs.Span.{span, inside}
+use Rattle.buffer.specs.Store.{put}
+use Rattle.buffer.proofs.Spans.{length-span}
+use Rattle.buffer.proofs.Stores.{put-seam, put-whole}
 use Rattle.wire.specs.Little.{little, Bytes}
 use Rattle.wire.specs.Bitmap.{Present}
 use Rattle.wire.proofs.Numbers.{bytes-drop, bytes-take}
 use Rattle.wire.proofs.Cases.{differ}
+use Rattle.parse.specs.Reader.{CursorOf, AnswerOf, refused, seen, Accepted}
 use Rattle.schema.specs.declared.TypeRow.{TypeRow}
 use Rattle.schema.specs.declared.Field.{Field}
 use Rattle.schema.specs.declared.Checked.the-variants.{Good, Refused as TableRefused}
@@ -22,14 +27,12 @@ use Rattle.schema.specs.File.{tableOf}
 use Rattle.schema.specs.Check.{IsGood, checked}
 use Rattle.schema.proofs.Bools.{cases}
 use Rattle.value.specs.declared.Row.{Row}
-use Rattle.value.specs.Answer.{CursorOf, AnswerOf, refused, seen, Accepted}
 use Rattle.value.specs.Value.{Tree, value}
 use Rattle.value.specs.Sheet.{rowsOf}
 use Rattle.value.specs.Read.{unknownBits}
 use Rattle.value.specs.Spell.{encode}
-use Rattle.value.specs.Write.{refusal, written, span, inside, showRoot}
+use Rattle.value.specs.Write.{refusal, written, showRoot}
 use Rattle.value.specs.Fits.{Shows}
-use Rattle.value.proofs.Spans.{length-span}
 use Rattle.value.proofs.Sheets.{rows-from, no-rows}
 use Rattle.value.proofs.Writing.{sheet-shows}
 use Rattle.parts.proofs.Presence.{bits-read}
@@ -39,11 +42,10 @@ use Rattle.writer.specs.declared.Writing.{Writing}
 use Rattle.writer.specs.declared.Writing.the-variants.{Written, Refused}
 use Rattle.writer.specs.declared.walk.Walk.{Walk}
 use Rattle.writer.specs.declared.walk.Walk.the-variants.{Past, Refused as Stopped}
-use Rattle.writer.specs.Emit.{put, cap, done, stopped, emit}
+use Rattle.writer.specs.Emit.{cap, done, stopped, emit}
 use Rattle.writer.specs.Leaf.{rowsAt}
 use Rattle.writer.specs.Walk.{endOf, Walked}
 use Rattle.writer.specs.Entry.{Outcome, outcome, outcomeOf}
-use Rattle.writer.proofs.Puts.{put-seam, put-whole}
 use Rattle.writer.proofs.Entries.{emit-done, emit-stopped}
 use Rattle.forward.specs.Forward.{rootPlace, rootBytes, rootUnknown, suits, joined, withTail, forwarding, forward, faultOf}
 use Rattle.forward.specs.Entry.{sheetForwarded, forwardOutcome}

@@ -7,13 +7,13 @@ use lib.ListN.{length, replicate}
 use Rattle.wire.specs.Little as little
 use Rattle.wire.specs.Varuint as varuint
 use Rattle.wire.specs.Utf8 as utf8
+use Rattle.parse.specs.Reader as answer
 use Rattle.schema.specs.declared.Checked.the-variants.{Good}
 use Rattle.schema.specs.Table as table
 use Rattle.schema.specs.Table.{Table}
 use Rattle.schema.specs.File.{cell, shaped, layoutOf, tabulate, tableOf}
 use Rattle.schema.specs.Check.{lowest, goodRow, goodField, findAmong, goodMethod, small, badRow, badField, badMethod, checkedTable, checked}
 use Rattle.schema.proofs.Examples.{T, file, T-good, T-rows}
-use Rattle.value.specs.Answer as answer
 use Rattle.value.specs.Value as value
 use Rattle.value.specs.Read as read
 use Rattle.value.specs.Sheet.{rowsOf}

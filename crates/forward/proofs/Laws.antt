@@ -10,6 +10,8 @@ use borrow.Author.Tests.{leb-true, le-leb, eqb-true, eqb-false, eq-eqb, ne-eqb, 
 use lib.Dec.{leb, eqb}
 use lib.ListN.{length, take, drop, length-append, length-drop}
 use lib.Seq.{drop-at, take-at}
+use Rattle.buffer.specs.Span.{span}
+use Rattle.buffer.proofs.Spans.{length-span}
 use Rattle.wire.specs.Little.{Bytes}
 use Rattle.wire.proofs.Numbers.{length-bytes}
 use Rattle.schema.specs.declared.Field.{Field}
@@ -18,10 +20,8 @@ use Rattle.schema.proofs.Bools.{cases, and-left, and-right, and-i, or-left, or-
 use Rattle.value.specs.declared.Row.{Row}
 use Rattle.value.specs.Value.{Tree, tip, branch, rows, rowsAll, Value, value}
 use Rattle.value.specs.Spell.{TailFits, RootSpells, encode}
-use Rattle.value.specs.Write.{span}
 use Rattle.value.specs.Fits.{RootFits, Shows}
 use Rattle.value.proofs.Shapes.{Solid}
-use Rattle.value.proofs.Spans.{length-span}
 use Rattle.value.proofs.Encode.{root-parts}
 use Rattle.value.proofs.Root.{root-tail}
 use Rattle.value.proofs.Written.{root-written}

@@ -10,23 +10,24 @@ use borrow.Author.Tests.{leb-true, le-leb, lt-leb}
 use lib.Dec.{leb}
 use lib.ListN.{length, take, drop, length-drop}
 use lib.Seq.{take-all}
+use Rattle.buffer.specs.Span.{span, inside}
+use Rattle.buffer.proofs.Spans.{length-span}
 use Rattle.wire.specs.Little.{Bytes}
 use Rattle.wire.proofs.Cases.{differ, chosen}
+use Rattle.parse.specs.Reader.{AnswerOf, refused, seen}
+use Rattle.parse.proofs.Answers.{yields-end}
 use Rattle.schema.specs.declared.Field.{Field}
 use Rattle.schema.specs.Table.{Table, Shape, unknown, scalar, text, array, map, struct, shape, bitmapBytes}
 use Rattle.schema.specs.Good.{GoodTable}
 use Rattle.schema.proofs.Bools.{cases}
 use Rattle.value.specs.declared.Row.{Row}
-use Rattle.value.specs.Answer.{AnswerOf, refused, seen}
 use Rattle.value.specs.Value.{Tree, tip, branch, rows, Value, value}
 use Rattle.value.specs.Read.{onStruct, accepted, read}
 use Rattle.value.specs.Spell.{TailFits, RootSpells, encode}
-use Rattle.value.specs.Write.{refusal, written, span, inside, fitted, writing, showRoot, write}
+use Rattle.value.specs.Write.{refusal, written, fitted, writing, showRoot, write}
 use Rattle.value.specs.Fits.{RootFits, Shows}
 use Rattle.value.specs.Delimits.{RootDelimits}
 use Rattle.value.proofs.Shapes.{good-solid}
-use Rattle.value.proofs.Spans.{length-span}
-use Rattle.value.proofs.Answers.{yields-end}
 use Rattle.value.proofs.Shown.{root-shown}
 use Rattle.value.proofs.Writing.{fitted-inv, sheet-shows}
 use Rattle.value.proofs.Statements as value

@@ -3,11 +3,11 @@ use mathlib.Core.Path.{_≡_}
 use mathlib.Core.List.{List, _∷_}
 use Prim.Native.Nat.{ℕ, _+_, _≤_, _<_}
 use lib.ListN.{length, take}
+use Rattle.buffer.specs.Span.{span}
 use Rattle.schema.specs.declared.Field.{Field}
 use Rattle.schema.specs.Table.{Shape, struct, bitmapBytes}
 use Rattle.value.specs.declared.Row.{Row}
 use Rattle.value.specs.Value.{Value}
-use Rattle.value.specs.Write.{span}
 use Rattle.value.specs.Spell.{TailFits, RootSpells, encode}
 use Rattle.value.specs.Fits.{Shows}
 use Rattle.value.specs.SheetReasons.{SheetReason}

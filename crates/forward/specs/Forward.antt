@@ -4,15 +4,16 @@ use mathlib.Core.Bool.{Bool, not, _&&_, _||_, cond}
 use Prim.Native.Nat.{ℕ, _+_}
 use lib.Dec.{leb, eqb}
 use lib.ListN.{length, drop}
+use Rattle.buffer.specs.Span.{span, inside}
 use Rattle.wire.specs.Little.{little}
+use Rattle.parse.specs.Reader.{AnswerOf, refused, seen}
 use Rattle.schema.specs.declared.Field.{Field}
 use Rattle.schema.specs.Table.{Table, Shape, shape, bitmapBytes}
 use Rattle.value.specs.declared.Row.{Row}
-use Rattle.value.specs.Answer.{AnswerOf, refused, seen}
 use Rattle.value.specs.Value.{Tree, value}
 use Rattle.value.specs.Read.{onStruct, unknownBits}
 use Rattle.value.specs.Spell.{encode}
-use Rattle.value.specs.Write.{Writing, refusal, span, inside, fitted, showRoot}
+use Rattle.value.specs.Write.{Writing, refusal, fitted, showRoot}
 
 -- The place of the root's row, which is the first.
 abbrev pub rootPlace : List Row → ℕ

@@ -57,15 +57,7 @@ used-inside s = by-answer (frameOf s) refl
     by-answer (Frame h place n) e = read-bounds s e .inside
     by-answer (Refused number) e = omega arith
 
--- the number tells the case: 0 a frame, 1 more bytes needed
-pub zero-frame : (s : List ℕ) → readNumber (frameOf s) ≡ 0 → (h : Header) × ((place : ℕ) × ((n : ℕ) × (frameOf s ≡ Frame h place n)))
-zero-frame s = by-answer (frameOf s) refl
-  where
-    by-answer : (r : FrameRead) → frameOf s ≡ r → readNumber r ≡ 0 → (h : Header) × ((place : ℕ) × ((n : ℕ) × (frameOf s ≡ Frame h place n)))
-    by-answer More e z = absurd (omega arith)
-    by-answer (Frame h place n) e z = (h, (place, (n, e)))
-    by-answer (Refused number) e z = absurd (omega (arith, refused-numbers s e))
-
+-- the number 1 tells that more bytes are needed
 pub one-more : (s : List ℕ) → readNumber (frameOf s) ≡ 1 → frameOf s ≡ More
 one-more s = by-answer (frameOf s) refl
   where

@@ -15,10 +15,11 @@ use Rattle.wire.specs.Varuint.{front, varuint, Spelled}
 use Rattle.wire.proofs.Numbers.{little-one}
 use Rattle.wire.proofs.Varuints.{spelled-reads, read-spelled}
 use Rattle.wire.proofs.Cases.{chosen, differ}
+use Rattle.parse.specs.Test.{test}
 use Rattle.frame.specs.declared.Header.{Header}
 use Rattle.frame.specs.declared.FrameRead.{FrameRead}
 use Rattle.frame.specs.declared.FrameRead.the-variants.{More, Frame, Refused}
-use Rattle.frame.specs.Frame.{whole, check, isMagic, knownKind, payloadOf, frameOf}
+use Rattle.frame.specs.Frame.{whole, isMagic, knownKind, payloadOf, frameOf}
 use Rattle.frame.specs.Places.{numberAt, headerAt}
 use Rattle.frame.specs.IsFrame.{Holds, IsFrame, frame, Starts}
 use Rattle.frame.proofs.Tests.{known-bounds, bounds-known, magic-bytes}
@@ -91,7 +92,7 @@ field-frame : (s : List ℕ) (e : ℕ) (right : Bool) (number : ℕ) (next : Fra
     → field s e right number next ≡ Frame h place n → (e ≤ length s) × ((right ≡ true) × (next ≡ Frame h place n))
 unfolding field
 field-frame s e right number next eq =
-    let whole = chosen (leb e (length s)) (check right number next) More not-more eq in
+    let whole = chosen (leb e (length s)) (test right (Refused number) next) More not-more eq in
     (leb-true e (length s) (whole .0), chosen right next (Refused number) not-refused (whole .1))
 
 -- a whole payload: its length was read, and it ends within the bytes

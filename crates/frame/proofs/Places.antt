@@ -10,14 +10,15 @@ use lib.Dec.{leb, eqb, lit<, lit≤}
 use lib.ListN.{length, take, drop, length-drop}
 use lib.Seq.{getD-take, drop-drop}
 use Rattle.wire.specs.Varuint.{varuint}
+use Rattle.parse.specs.Test.{test}
 use Rattle.frame.specs.declared.FrameRead.{FrameRead}
 use Rattle.frame.specs.declared.FrameRead.the-variants.{More, Refused}
-use Rattle.frame.specs.Frame.{whole, check, isMagic, knownKind, payloadOf, frameOf}
+use Rattle.frame.specs.Frame.{whole, isMagic, knownKind, payloadOf, frameOf}
 use Rattle.frame.specs.Places.{numberAt, headerAt}
 
 -- a field that ends at e
 unfoldable pub field : List ℕ → ℕ → Bool → ℕ → FrameRead → FrameRead
-field s e right number next = cond (leb e (length s)) (check right number next) More
+field s e right number next = cond (leb e (length s)) (test right (Refused number) next) More
 
 module _ (s : List ℕ) (e : ℕ) (right : Bool) (number : ℕ) (next : FrameRead) where
   pub short : length s < e → field s e right number next ≡ More

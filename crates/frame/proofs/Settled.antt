@@ -14,10 +14,11 @@ use Rattle.wire.specs.declared.varuint.VarUInt.the-variants.{Number, Cut, Malfo
 use Rattle.wire.specs.Varuint.{front}
 use Rattle.wire.proofs.Varuints.{front-settled}
 use Rattle.wire.proofs.Cases.{differ}
+use Rattle.parse.specs.Test.{test}
 use Rattle.frame.specs.declared.Header.{Header}
 use Rattle.frame.specs.declared.FrameRead.{FrameRead}
-use Rattle.frame.specs.declared.FrameRead.the-variants.{More, Frame}
-use Rattle.frame.specs.Frame.{check, isMagic, knownKind, payloadOf, frameOf}
+use Rattle.frame.specs.declared.FrameRead.the-variants.{More, Frame, Refused}
+use Rattle.frame.specs.Frame.{isMagic, knownKind, payloadOf, frameOf}
 use Rattle.frame.specs.Places.{numberAt, headerAt}
 use Rattle.frame.proofs.Places.{field, fromLength, by-places}
 
@@ -41,7 +42,7 @@ module _ (s t : List ℕ) where
     | no l ↦ rw (lt-leb e (length s) (omega arith)) more
   ]
     where
-      tested : (b : Bool) → Before next next′ → Before (check b number next) (check b number next′)
+      tested : (b : Bool) → Before next next′ → Before (test b (Refused number) next) (test b (Refused number) next′)
       tested true h = h
       tested false h = same
 
@@ -56,7 +57,7 @@ module _ (s t : List ℕ) where
   payload-before h (Number n place) = tested (leb n 16384) _
     where
       tested : (b : Bool) (k : ℕ)
-          → Before (check b k (cond (leb (place + n) (length s)) (Frame h place n) More)) (check b k (cond (leb (place + n) (length (s ++ t))) (Frame h place n) More))
+          → Before (test b (Refused k) (cond (leb (place + n) (length s)) (Frame h place n) More)) (test b (Refused k) (cond (leb (place + n) (length (s ++ t))) (Frame h place n) More))
       tested true k = elim (decLe (place + n) (length s)) [
         | yes l ↦ rw (le-leb (place + n) (length s) l, le-leb (place + n) (length (s ++ t)) (omega (arith, longer))) same
         | no l ↦ rw (lt-leb (place + n) (length s) (omega arith)) more

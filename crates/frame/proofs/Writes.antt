@@ -2,23 +2,20 @@
 use mathlib.Core.Path.{_≡_, refl, sym, ap, _∙_}
 use mathlib.Core.List.{List, [], _∷_, _++_, append-assoc}
 use mathlib.Core.Bool.{true, false}
-use Prim.Native.Nat.{ℕ, suc, _+_, _<_, _≤_}
-use native.Mathlib.Nat.{add-zero}
+use Prim.Native.Nat.{ℕ, _+_, _<_, _≤_}
 use native.Mathlib.Omega.{arith}
 use borrow.Author.Tests.{le-leb, lt-leb}
-use lib.ListN.{length, drop, set, length-append}
+use lib.ListN.{length, drop, length-append}
 use lib.Seq.{sets, length-sets}
-use Rattle.wire.specs.Little.{bytes, written}
+use Rattle.buffer.specs.Store.{written}
+use Rattle.buffer.proofs.Stores.{sets-append, sets-written}
+use Rattle.wire.specs.Little.{bytes}
 use Rattle.wire.specs.Varuint.{varuintBytes}
-use Rattle.wire.proofs.Numbers.{length-bytes, sets-written}
+use Rattle.wire.proofs.Numbers.{length-bytes}
 use Rattle.frame.specs.declared.Header.{Header}
 use Rattle.frame.specs.declared.FrameWritten.the-variants.{Written, Refused}
 use Rattle.frame.specs.Frame.{knownKind}
 use Rattle.frame.specs.Written.{frontBytes, frameBytes, writtenOf, outputOf}
-
-pub sets-append : (d : List ℕ) (at : ℕ) (vs ws : List ℕ) → sets d at (vs ++ ws) ≡ sets (sets d at vs) (at + length vs) ws
-sets-append d at [] ws = rw add-zero
-sets-append d at (v ∷ vs) ws = let e : at + suc (length vs) ≡ suc at + length vs = omega arith in rw e (sets-append (set d at v) (suc at) vs ws)
 
 -- one part more: what was written from the start on is vs, and ws follows it
 pub wrote : (d d₁ d₂ vs ws : List ℕ) (at : ℕ) → length vs ≡ at → at + length ws ≤ length d → d₁ ≡ written d 0 vs → d₂ ≡ written d₁ at ws → d₂ ≡ written d 0 (vs ++ ws)

@@ -8,6 +8,7 @@ use Rattle.wire.specs.Little.{little}
 use Rattle.wire.specs.declared.varuint.VarUInt.{VarUInt}
 use Rattle.wire.specs.declared.varuint.VarUInt.the-variants.{Number, Cut, Malformed}
 use Rattle.wire.specs.Varuint.{front}
+use Rattle.parse.specs.Test.{test}
 use Rattle.frame.specs.declared.Header.{Header}
 use Rattle.frame.specs.declared.FrameRead.{FrameRead}
 use Rattle.frame.specs.declared.FrameRead.the-variants.{More, Frame, Refused}
@@ -15,10 +16,6 @@ use Rattle.frame.specs.declared.FrameRead.the-variants.{More, Frame, Ref
 -- Goes on with the n bytes at the front of s, once they are there, and with what is left after them.
 unfoldable pub whole : ℕ → List ℕ → (List ℕ → List ℕ → FrameRead) → FrameRead
 whole n s next = cond (leb n (length s)) (next (take n s) (drop n s)) More
-
--- goes on where the test holds, and else refuses
-abbrev pub check : Bool → ℕ → FrameRead → FrameRead
-check right number next = cond right next (Refused number)
 
 -- AF 01
 abbrev pub isMagic : List ℕ → Bool
@@ -32,15 +29,15 @@ knownKind k = leb 1 k && leb k 8
 unfoldable pub payloadOf : ℕ → Header → VarUInt → FrameRead
 payloadOf end h Cut = More
 payloadOf end h Malformed = Refused 6
-payloadOf end h (Number n place) = check (leb n 16384) 7 (cond (leb (place + n) end) (Frame h place n) More)
+payloadOf end h (Number n place) = test (leb n 16384) (Refused 7) (cond (leb (place + n) end) (Frame h place n) More)
 
 -- What is read at the front of the bytes: 25 bytes of fields, then the payload's length and the payload.
 unfoldable pub frameOf : List ℕ → FrameRead
 frameOf bytes =
-    whole 2 bytes λ magic s. check (isMagic magic) 2
-    (whole 1 s λ version s. check (eqb (little version) 1) 3
-    (whole 1 s λ kind s. check (knownKind (little kind)) 4
-    (whole 1 s λ flags s. check (eqb (little flags) 0) 5
+    whole 2 bytes λ magic s. test (isMagic magic) (Refused 2)
+    (whole 1 s λ version s. test (eqb (little version) 1) (Refused 3)
+    (whole 1 s λ kind s. test (knownKind (little kind)) (Refused 4)
+    (whole 1 s λ flags s. test (eqb (little flags) 0) (Refused 5)
     (whole 4 s λ «package» s.
     whole 4 s λ service s.
     whole 4 s λ method s.

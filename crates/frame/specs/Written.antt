@@ -1,12 +1,12 @@
 -- What the frame writer writes, and what its answers stand for.
 use mathlib.Core.Path.{_≡_}
 use Prim.Native.Nat.{ℕ, _-_, _≤_, _<_}
-use mathlib.Core.Bool.{cond}
 use mathlib.Core.List.{List, _∷_, _++_}
 use lib.Dec.{leb}
 use lib.ListN.{length, take, drop}
 use Rattle.wire.specs.Little.{bytes}
 use Rattle.wire.specs.Varuint.{varuintBytes}
+use Rattle.parse.specs.Test.{test, _>>_}
 use Rattle.frame.specs.declared.Header.{Header}
 use Rattle.frame.specs.declared.FrameRead.the-variants.{Frame}
 use Rattle.frame.specs.declared.FrameWritten.{FrameWritten}
@@ -24,13 +24,11 @@ frameBytes h p = frontBytes h (length p) ++ p
 
 -- The answer, for an output of `room` bytes: 4, 7, 52 in this order.
 unfoldable pub writtenOf : Header → List ℕ → ℕ → FrameWritten
-writtenOf h p room =
-    cond (knownKind (h .kind))
-    (cond (leb (length p) 16384)
-    (cond (leb (length (frameBytes h p)) room) (Written (length (frameBytes h p)))
-    (Refused 52))
-    (Refused 7))
-    (Refused 4)
+writtenOf h p room = do
+  test (knownKind (h .kind)) (Refused 4)
+  test (leb (length p) 16384) (Refused 7)
+  test (leb (length (frameBytes h p)) room) (Refused 52)
+  Written (length (frameBytes h p))
 
 -- The output afterwards: unchanged past the frame, and at a refusal.
 unfoldable pub outputOf : FrameWritten → Header → List ℕ → List ℕ → List ℕ

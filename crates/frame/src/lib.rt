@@ -1,4 +1,5 @@
 // Frames: the reader, which judges a field once it is whole, and the writer.
+use buffer::copy;
 use wire::little::store;
 use wire::little::u32_at;
 use wire::varuint::VarUInt;
@@ -6,7 +7,7 @@ ghost use mathlib.Core.Path.{_≡_};
 ghost use mathlib.Core.List.{[], _∷_};
 ghost use Prim.Native.Nat.{_+_, _≤_};
 ghost use lib.ListN.{length};
-ghost use Rattle.wire.specs.Little.{written};
+ghost use Rattle.buffer.specs.Store.{written};
 ghost use Rattle.wire.specs.Varuint.{varuint, varuintBytes};
 ghost use Rattle.frame.specs.Frame.{knownKind, payloadOf, frameOf};
 ghost use Rattle.frame.specs.Places.{numberAt, headerAt, judged};
@@ -159,18 +160,6 @@ pub fn read_frame(bytes: &[u8]) -> FrameRead
         return FrameRead::More;
     }
     FrameRead::Refused(number)
-}
-
-// The bytes of src into d from at on.
-pub fn copy(d: &mut [u8], at: usize, src: &[u8])
-    requires { ⌜ at + length (now src) ≤ length (now d) ⌝ }
-    ensures { λ _. ⌜ now (d .exit) ≡ written (now (d .entry)) at (now (src .entry)) ⌝ }
-{
-    let mut i = 0;
-    while i < src.len() {
-        d[at + i] = src[i];
-        i += 1;
-    }
 }
 
 // The first five bytes of a frame: magic, version, kind and flags.

@@ -2,7 +2,7 @@
 use mathlib.Core.Path.{_≡_, refl, sym, ap, subst, _∙_}
 use mathlib.Core.Bool.{Bool, true, false}
 use mathlib.Core.List.{List, [], _∷_, _++_}
-use Prim.Native.Nat.{ℕ, zero, suc, _+_, _*_, _-_, _≤_, _<_}
+use Prim.Native.Nat.{ℕ, _+_, _*_, _-_, _≤_, _<_}
 use native.Mathlib.Omega.{arith}
 use borrow.Author.Tests.{lt-ltb, le-ltb}
 use lib.ListN.{length, take, drop}
@@ -15,7 +15,7 @@ use Rattle.index.specs.declared.Finding.the-variants.{Printed, Refused}
 use Rattle.index.specs.Row.{Row, isOf, ofCall}
 use Rattle.index.specs.IsIndex.{rowAt, rowsIn}
 use Rattle.index.specs.Text.{heading, lineText, linesText, stoppedText, textOf}
-use Rattle.index.specs.LookUp.{verdict, looked, lookText, outcome, put, lookUp}
+use Rattle.index.specs.LookUp.{lookText, outcome, put, lookUp}
 use Rattle.index.proofs.Orders.{call-is, call-not, call-none}
 use Rattle.index.proofs.Shapes.{rows-on, rows-over, JudgedAs}
 

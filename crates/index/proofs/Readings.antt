@@ -1,13 +1,13 @@
 -- The test and the relation agree: bytes are taken for an index exactly where they are the bytes of rows that rise strictly, with their trailer.
 use mathlib.Core.Path.{_≡_, refl, sym, ap, ap₂, subst, _∙_}
-use mathlib.Core.Bool.{Bool, true, false, _&&_}
+use mathlib.Core.Bool.{true, _&&_}
 use mathlib.Core.List.{List, [], _∷_, _++_, append-assoc}
 use mathlib.Core.Logic.{_↔_, _⊎_, ⊎-elim}
-use Prim.Native.Nat.{ℕ, zero, suc, _+_, _*_, _-_, _/_, _%_, _^_, _≤_, _<_}
+use Prim.Native.Nat.{ℕ, zero, suc, _+_, _*_, _-_, _%_, _^_, _≤_, _<_}
 use native.Mathlib.Omega.{arith}
 use borrow.Author.Tests.{le-leb, eq-eqb, lt-ltb, eqb-true, ltb-true}
 use lib.Dec.{eqb, leb, ltb}
-use lib.ListN.{length, take, drop, length-append, length-drop, length-take, take-append-drop}
+use lib.ListN.{length, take, drop, length-append, length-drop, take-append-drop}
 use lib.Seq.{take-at, drop-at, take-add, drop-drop, take-all, length-take-le}
 use Rattle.schema.proofs.Bools.{and-left, and-right, and-i, or-left, or-right, or-cases}
 use Rattle.wire.specs.Little.{Bytes, little, bytes}
@@ -15,7 +15,7 @@ use Rattle.wire.proofs.Numbers.{bytes-drop, bytes-take, length-bytes, little-by
 use Rattle.index.specs.Row.{Row, Before, lower, earlier, Rising, no-row, one-row, next-row, isBefore, isRising}
 use Rattle.index.specs.Index.{rowBytes, rowsBytes, trailer, indexBytes}
 use Rattle.index.specs.IsIndex.{rowAt, rowsIn, countIn, trailerCell, sizeIn, isShaped, isIndex, Reads, Fits, AllFit, none-left, one-fits, IsIndex}
-use Rattle.index.proofs.Shapes.{shape-long, shape-even, shape-cells, shape-count, rows-inside}
+use Rattle.index.proofs.Shapes.{shape-cells, shape-count, rows-inside}
 
 -- ---- the order
 

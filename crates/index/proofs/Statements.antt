@@ -1,16 +1,16 @@
 -- What an index and a look-up promise: about the entries' answers, over bytes.
-use mathlib.Core.Path.{_≡_, refl, sym, ap, ap₂, subst, _∙_}
+use mathlib.Core.Path.{_≡_, refl, sym, ap, subst, _∙_}
 use mathlib.Core.Bool.{Bool, true, false, cond}
 use mathlib.Core.List.{List, [], _∷_, _++_, List·Memᴰ, List·Memᴰ·head, List·Memᴰ·tail, List·Memᴰ·cases-cons, List·Memᴰ·not-nil}
 use mathlib.Core.Logic.{_↔_, _⊎_, inl, inr, ⊎-elim}
-use Prim.Native.Nat.{ℕ, zero, suc, _+_, _*_, _^_, _≤_, _<_}
+use Prim.Native.Nat.{ℕ, suc, _+_, _*_, _^_, _≤_, _<_}
 use native.Mathlib.Omega.{arith}
 use native.Mathlib.Decide.{decLe}
 use borrow.Author.Tests.{lt-ltb, le-ltb, eq-eqb, ne-eqb, eqb-true, eqb-false}
 use lib.Dec.{eqb}
-use lib.ListN.{length, take, drop, length-append, length-drop}
+use lib.ListN.{length, take, drop}
 use lib.Seq.{take-at}
-use Rattle.wire.specs.Little.{Bytes, little}
+use Rattle.wire.specs.Little.{Bytes}
 use Rattle.wire.proofs.Numbers.{bytes-parts, bytes-drop, little-below}
 use Rattle.wire.proofs.Cases.{differ}
 use Rattle.schema.specs.declared.Checked.{Checked}
@@ -21,20 +21,18 @@ use Rattle.schema.proofs.Faults.{refused-iff as schema-refused}
 use Rattle.schema.proofs.Listed.{listed as schema-listed, listed-bounds}
 use Rattle.schema.proofs.Bools.{cases, clash, is-false}
 use Rattle.frame.specs.declared.Header.{Header}
-use Rattle.frame.specs.declared.FrameRead.the-variants.{Frame}
 use Rattle.frame.specs.Frame.{frameOf}
-use Rattle.frame.specs.IsFrame.{IsFrame, frame, Starts}
+use Rattle.frame.specs.IsFrame.{IsFrame, frame}
 use Rattle.frame.proofs.Frames.{read-is-frame}
 use Rattle.calls.specs.declared.Call.{Call}
 use Rattle.line.specs.Claims as line
 use Rattle.line.specs.Fresh.{receivedFresh}
 use Rattle.line.specs.Run.{freshTallies}
 use Rattle.line.proofs.Listed.{listed}
-use Rattle.replay.specs.Run.{sheet, freshCalls, answerTo, headerIn, Entry, entryOf, Run, runOf}
+use Rattle.replay.specs.Run.{sheet, freshCalls, answerTo, headerIn, Entry, Run, runOf}
 use Rattle.replay.specs.Runs.{Runs, at-end, halting, answering}
 use Rattle.replay.proofs.Turns.{listed-frame}
 use Rattle.replay.proofs.Replays as replay
-use Rattle.index.specs.declared.Indexing.{Indexing}
 use Rattle.index.specs.declared.Indexing.the-variants.{Made, Refused}
 use Rattle.index.specs.declared.Finding.the-variants.{Printed, Refused as Unprinted}
 use Rattle.index.specs.Row.{Row, rowOf, rowsOf, insert, ordered, Rising, no-row, ofCall}

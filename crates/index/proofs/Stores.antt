@@ -1,18 +1,17 @@
 -- Laws of cells: rows as cells, cells as bytes, and one row inserted among cells.
 use mathlib.Core.Path.{_≡_, refl, sym, ap, ap₂, subst, _∙_}
-use mathlib.Core.Bool.{true, false}
 use mathlib.Core.List.{List, [], _∷_, _++_, append-assoc, append-nil}
-use Prim.Native.Nat.{ℕ, zero, suc, _+_, _*_, _-_, _/_, _%_, _^_, _≤_, _<_}
+use Prim.Native.Nat.{ℕ, zero, suc, _+_, _*_, _-_, _/_, _%_, _≤_, _<_}
 use native.Mathlib.Omega.{arith}
-use borrow.Author.Tests.{ltb-true, ltb-false, lt-ltb, le-ltb}
-use lib.ListN.{length, set, getD, take, drop, length-append, length-set, length-take, drop-of-length-le, List·getD-append}
-use lib.Seq.{take-all, take-take, take-add, take-suc, take-at, drop-at, drop-cons, getD-take, getD-drop, set-split, length-take-le, take-set-le, drop-set-lt, take-suc-set, sets, length-sets, sets-eq}
-use Rattle.wire.specs.Little.{bytes, written}
-use Rattle.wire.proofs.Numbers.{length-bytes, sets-written}
-use Rattle.frame.proofs.Writes.{sets-append}
+use lib.ListN.{length, getD, take, drop, length-append, drop-of-length-le}
+use lib.Seq.{take-take, take-add, drop-at, drop-cons, getD-take, length-take-le, sets, length-sets}
+use Rattle.buffer.specs.Store.{written}
+use Rattle.buffer.proofs.Stores.{sets-written, sets-append}
+use Rattle.wire.specs.Little.{bytes}
+use Rattle.wire.proofs.Numbers.{length-bytes}
 use Rattle.index.specs.Row.{Row, insert, Rising, no-row, one-row, next-row}
-use Rattle.index.specs.Index.{rowBytes, rowsBytes, trailer, indexBytes}
-use Rattle.index.specs.Cells.{second, cellsOf, cellsBytes, Inserted, isAfter, withTrailer}
+use Rattle.index.specs.Index.{rowsBytes, trailer, indexBytes}
+use Rattle.index.specs.Cells.{second, cellsOf, cellsBytes, Inserted, withTrailer}
 use Rattle.index.proofs.Orders.{insert-here, insert-later, insert-last, before-le, Below, none-below, one-below}
 
 -- ---- cells as bytes
@@ -107,10 +106,6 @@ pub store-end : (cells out out₀ : List ℕ) (i : ℕ) → length cells ≤ i �
 store-end cells out out₀ i h e = sym (ap (sets out (8 * i)) (bytes-none (drop i cells) (drop-of-length-le cells h))) ∙ e
 
 -- ---- a row inserted
-
-cells-here : (r : Row) (rows : List Row) → cellsOf (r ∷ rows) ≡ r .correlation ∷ second (r .place) (r .answer) ∷ cellsOf rows
-unfolding cellsOf
-cells-here r rows = refl
 
 double : (k : ℕ) → 2 * suc k ≡ suc (suc (2 * k))
 double k = omega arith

@@ -6,7 +6,6 @@ use text::put_field;
 use text::put_word;
 use wire::little::number;
 use wire::little::u32_at;
-ghost use mathlib.Core.Path.{_≡_};
 ghost use Prim.Native.Nat.{_+_, _*_, _≤_, _<_};
 ghost use lib.ListN.{length, drop};
 ghost use Rattle.text.specs.Text.{Added};

@@ -10,6 +10,7 @@ use lib.Dec.{eqb, leb, ltb, lit≤}
 use lib.ListN.{length, take, drop, length-take}
 use borrow.Author.Tests.{le-leb, ltb-true, ltb-false}
 use Rattle.wire.proofs.Cases.{cond-case}
+use Rattle.parse.specs.Reader.{Answer, refused, seen, cursorAt}
 use Rattle.schema.specs.declared.Found.{Found}
 use Rattle.schema.specs.declared.Found.the-variants.{At, Missing}
 use Rattle.schema.specs.Table.{Table, Shape, rowAt, fieldsOf, shape}
@@ -36,14 +37,15 @@ use Rattle.calls.specs.Numbers.{UsesFrame, accepted as zero-used, call as call-
 use Rattle.calls.specs.Record.{emptyCall, allowed, notAllowed, atLimit, afterFrame}
 use Rattle.calls.specs.declared.Rise.{Rise}
 use Rattle.calls.specs.Counting.{riseOf, releaseRise, figureBy, fullAt}
-use Rattle.calls.specs.Slots.{Own, none, one, ownOf, full}
+use Rattle.calls.specs.Slots.{ownOf, full}
+use Rattle.calls.specs.declared.Own.{Own}
+use Rattle.calls.specs.declared.Own.the-variants.{None as none, One as one}
 use Rattle.calls.specs.Judge.{rightSide, payloadOf, releaseVerdict, judgeOf, judgeRelease, Verdict, stop, opens, goes, invokeVerdict, otherVerdict, verdictOf}
 use Rattle.calls.specs.Step.{stepOf, dueOf, release}
 use Rattle.calls.specs.Apart.{verdict, verdictNumber}
 use Rattle.calls.proofs.Used.{uses-iff}
 use Rattle.calls.proofs.Apart.{judged-by, release-answered}
 use Rattle.calls.proofs.Payloads.{Sound, struct, empty, unread, due-sound}
-use Rattle.value.specs.Answer.{Answer, refused, seen, cursorAt}
 use Rattle.value.specs.Value.{Tree}
 use Rattle.value.specs.Value as value-tree
 use Rattle.value.specs.Read as value

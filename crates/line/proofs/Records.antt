@@ -20,7 +20,9 @@ use Rattle.calls.specs.declared.Judged.{Judged}
 use Rattle.calls.specs.declared.Judged.the-variants.{Stop, Opens, Goes}
 use Rattle.calls.specs.Numbers.{endsCall, EndsCall, payload, many-pairs}
 use Rattle.calls.specs.Record.{isCall, withMark}
-use Rattle.calls.specs.Slots.{slot, Own, none, ownOf, full}
+use Rattle.calls.specs.Slots.{slot, ownOf, full}
+use Rattle.calls.specs.declared.Own.{Own}
+use Rattle.calls.specs.declared.Own.the-variants.{None as none}
 use Rattle.calls.specs.Judge.{judgeOf, Verdict, stop, opens, goes, verdictOf}
 use Rattle.calls.specs.Step.{receive}
 use Rattle.calls.specs.Apart.{verdictDue, verdictNumber, verdictOwn, touched, Freed}

@@ -18,7 +18,9 @@ use Rattle.calls.specs.declared.Rise.{Rise}
 use Rattle.calls.specs.declared.Payload.the-variants.{Unread}
 use Rattle.calls.specs.Numbers.{endsCall}
 use Rattle.calls.specs.Record.{emptyCall, isCall}
-use Rattle.calls.specs.Slots.{slot, countOpen, goodTable, Own, none, one, ownOf}
+use Rattle.calls.specs.Slots.{slot, countOpen, goodTable, ownOf}
+use Rattle.calls.specs.declared.Own.{Own}
+use Rattle.calls.specs.declared.Own.the-variants.{None as none, One as one}
 use Rattle.calls.specs.Judge.{Verdict, stop, goes, releaseVerdict, judgeRelease}
 use Rattle.calls.specs.Step.{release}
 use Rattle.calls.specs.Counting.{releaseRise, figureBy, countedNumber}

@@ -2,7 +2,6 @@
 use mathlib.Core.Path.{_≡_, refl, sym, ap, subst, _∙_}
 use mathlib.Core.Bool.{Bool, true, false, not, cond, _||_}
 use mathlib.Core.List.{List}
-use mathlib.Core.Logic.{⊎-elim}
 use Prim.Native.Nat.{ℕ, _+_, _-_, _≤_}
 use native.Mathlib.Omega.{arith}
 use lib.Dec.{eqb}
@@ -13,11 +12,13 @@ use Rattle.schema.specs.declared.Checked.the-variants.{Good, Refused as Faulty}
 use Rattle.schema.specs.Table.{Table}
 use Rattle.schema.specs.File.{tableOf}
 use Rattle.schema.specs.Check.{checked, IsGood}
-use Rattle.schema.proofs.Bools.{or-false, cases}
+use Rattle.schema.proofs.Bools.{or-false}
 use Rattle.frame.specs.declared.Header.{Header}
 use Rattle.frame.specs.declared.FrameRead.{FrameRead}
 use Rattle.frame.specs.declared.FrameRead.the-variants.{More, Frame as Whole, Refused}
 use Rattle.frame.specs.Frame.{frameOf}
+use Rattle.frame.proofs.Answers.{read-bounds}
+use Rattle.wire.proofs.Cases.{differ}
 use Rattle.calls.specs.declared.Call.{Call}
 use Rattle.calls.specs.declared.Frame.{Frame}
 use Rattle.calls.specs.declared.Payload.{Payload}
@@ -26,67 +27,174 @@ use Rattle.calls.specs.declared.Tally.{Tally}
 use Rattle.calls.specs.declared.Figure.{Figure}
 use Rattle.calls.specs.declared.Figure.the-variants.{Nothing}
 use Rattle.calls.specs.declared.Rise.{Rise}
-use Rattle.calls.specs.Numbers.{endsCall}
-use Rattle.calls.specs.Slots.{goodTable}
-use Rattle.calls.specs.declared.Stepped.{Stepped}
-use Rattle.calls.specs.Judge.{judgeOf, judgeRelease}
+use Rattle.calls.specs.Numbers.{endsCall, usesFrame}
+use Rattle.calls.specs.declared.Judged.the-variants.{Stop as Halt}
+use Rattle.calls.specs.Slots.{goodTable, countOpen}
+use Rattle.calls.specs.Judge.{judgeRelease}
 use Rattle.calls.specs.Step.{stepOf, dueOf}
-use Rattle.calls.specs.Counting.{riseOf, releaseRise, figureBy, fullAt, raised, countedNumber}
+use Rattle.calls.specs.Counting.{releaseRise, figureBy, fullAt, raised}
+use Rattle.calls.specs.Seats.{seatOf}
+use Rattle.calls.proofs.Seats.{judged-seated, rise-seated, release-seated, release-rise-seated}
 use Rattle.reader.specs.declared.Reading.{Reading}
-use Rattle.reader.specs.declared.Reading.the-variants.{Refused as Failed}
+use Rattle.reader.specs.declared.Reading.the-variants.{Shown, Refused as Failed}
 use Rattle.reader.specs.Entry.{Outcome, outcome, numbers}
 use Rattle.line.specs.declared.Received.{Received}
-use Rattle.line.specs.declared.Released.{Released}
+use Rattle.line.specs.declared.SettledRelease.{SettledRelease}
+use Rattle.line.specs.declared.Done.{Done}
+use Rattle.line.specs.declared.Front.{Front}
+use Rattle.line.specs.declared.Front.the-variants as front
 use Rattle.line.specs.declared.Plan.{Plan}
 use Rattle.line.specs.declared.Next.{Next}
 use Rattle.line.specs.declared.Next.the-variants.{Stop, Settle}
-use Rattle.line.specs.Answer.{RowLine, rowLine, stopped, payloadRead, numberIn, tallied, answerOf}
-use Rattle.line.specs.Planning.{frameFrom, stopPlan, judgedPlan, framePlan, onTables, bytesPlan, Fitted, stops, settles}
+use Rattle.line.specs.Answer.{RowLine, rowLine, stopped, payloadRead, numberIn, tallied, countedRead, answerOf, answerIn}
+use Rattle.line.specs.Planning.{onGood, onFrame, onCalls, frameFrom, stopPlan, judgedPlan, framePlan, tablesFault, frontOf, seatPlan, callPlan, goodPlan, bytesPlan, planOf, releasePlan, Fitted, stops, settles}
 use Rattle.line.specs.Receive.{frameSettled, settled}
-use Rattle.line.specs.Release.{releaseAnswer, releaseSettled}
+use Rattle.line.specs.Release.{releaseAnswer, releaseIn, releaseSettled}
 
 -- ---- a plan by the tables
 
-module _ (schema : List ℕ) (l : List Call) (rows : ℕ) (next : Plan) (v : Checked) (is : v ≡ checked schema) where
-  pub plan-faulty : (r : Plan) (n q : ℕ) → v ≡ Faulty n q → r ≡ stopPlan n q → r ≡ onTables schema l rows stopPlan next
-  plan-faulty r n q e x = rw (← is, e, x)
+module _ {A : Type 0} (good : Bool) (rows : ℕ) (T : Table) (stop : ℕ → A) (next : A) (k : ℕ) (is : k ≡ tablesFault good rows T) where
+  pub calls-fault : (k ≡ 0 → ⊥) → stop k ≡ onCalls good rows T stop next
+  calls-fault n = go good (eqb rows (length (T .methods))) is
+    where
+      go : (a b : Bool) → k ≡ cond a (cond b 0 19) 15 → stop k ≡ cond a (cond b next (stop 19)) (stop 15)
+      go true true e = absurd (n e)
+      go true false e = ap stop e
+      go false b e = ap stop e
 
-  module _ (g : v ≡ Good) (b : Bool) (test : b ≡ goodTable (tableOf schema) l) where
-    pub plan-calls : (r : Plan) → not b ≡ true → r ≡ stopPlan 15 0 → r ≡ onTables schema l rows stopPlan next
-    plan-calls r t x = rw (← is, g, ← test, not-true b t, x)
+  pub calls-right : k ≡ 0 → next ≡ onCalls good rows T stop next
+  calls-right z = go good (eqb rows (length (T .methods))) is
+    where
+      go : (a b : Bool) → k ≡ cond a (cond b 0 19) 15 → next ≡ cond a (cond b next (stop 19)) (stop 15)
+      go true true e = refl
+      go true false e = absurd (omega (arith, z, e))
+      go false b e = absurd (omega (arith, z, e))
 
-    module _ (t : not b ≡ false) (k : ℕ) (count : k ≡ length (tableOf schema .methods)) where
-      pub plan-rows : (r : Plan) → (rows ≡ k → ⊥) → r ≡ stopPlan 19 0 → r ≡ onTables schema l rows stopPlan next
-      plan-rows r n x = rw (← is, g, ← test, not-false b t, ← count, ne-eqb rows k n, x)
+-- Under a schema table that is good, or is not.
+abbrev pub checkedPlan : (schema : List ℕ) → Plan → Plan
+checkedPlan schema next = onGood (checked schema) stopPlan next
 
-      pub plan-good : (r : Plan) → rows ≡ k → r ≡ next → r ≡ onTables schema l rows stopPlan next
-      plan-good r e x = rw (← is, g, ← test, not-false b t, ← count, eq-eqb rows k e, x)
+module _ (schema : List ℕ) (next : Plan) (v : Checked) (is : v ≡ checked schema) (r : Plan) where
+  pub plan-faulty : (n q : ℕ) → v ≡ Faulty n q → r ≡ stopPlan n q → r ≡ checkedPlan schema next
+  plan-faulty n q e x = rw (← is, e, x)
 
-pub fitted-stop : (schema bytes : List ℕ) (r : Plan) {n q : ℕ} → r ≡ stopPlan n q → Fitted schema bytes (r .next)
-fitted-stop schema bytes r e = subst (λ (x : Plan). Fitted schema bytes (x .next)) (sym e) stops
+  pub plan-good : v ≡ Good → r ≡ next → r ≡ checkedPlan schema next
+  plan-good e x = rw (← is, e, x)
 
 -- ---- the frame at the front of the bytes
 
-module _ (schema : List ℕ) (side : ℕ) (bytes : List ℕ) (l : List Call) (v : FrameRead) (is : v ≡ frameOf bytes) where
+module _ (good : Bool) (rows : ℕ) (T : Table) (side : ℕ) (bytes : List ℕ) where
+  pub front-fault : (k : ℕ) → k ≡ tablesFault good rows T → (k ≡ 0 → ⊥) → front.Stop k ≡ frontOf good rows T side bytes
+  front-fault k is n =
+      calls-fault good rows T front.Stop (onFrame (frameOf bytes) front.Stop (λ h place n. front.Whole (frameFrom side h) place (place + n))) k is n
+
+  -- by what the frame reader answers, where the tables are right
+  module _ (k : ℕ) (is : k ≡ tablesFault good rows T) (right : k ≡ 0) (v : FrameRead) (read : v ≡ frameOf bytes) (r : Front) where
+    abbrev answer : Front
+    answer = onFrame (frameOf bytes) front.Stop (λ h place n. front.Whole (frameFrom side h) place (place + n))
+
+    ahead : r ≡ answer → r ≡ frontOf good rows T side bytes
+    ahead x = x ∙ calls-right good rows T front.Stop answer k is right
+
+    pub front-more : v ≡ More → r ≡ front.Stop 1 → r ≡ frontOf good rows T side bytes
+    front-more e x = ahead (rw (← read, e, x))
+
+    pub front-refused : (n : ℕ) → v ≡ Refused n → r ≡ front.Stop n → r ≡ frontOf good rows T side bytes
+    front-refused n e x = ahead (rw (← read, e, x))
+
+    pub front-whole : (h : Header) (place n : ℕ) (f : Frame) → v ≡ Whole h place n → f ≡ frameFrom side h → r ≡ front.Whole f place (place + n)
+        → r ≡ frontOf good rows T side bytes
+    front-whole h place n f e from x = ahead (rw (← read, e, x, from))
+
+  module _ (l : List Call) where
+    -- The plan that follows a front.
+    abbrev after : Front → Plan
+    after (front.Stop n) = stopPlan n 0
+    after (front.Whole f place end) = framePlan T f l place end
+
+    follows : goodPlan good rows T side bytes l ≡ after (frontOf good rows T side bytes)
+    unfolding bytesPlan
+    follows = go good (eqb rows (length (T .methods))) (frameOf bytes)
+      where
+        go : (a b : Bool) (v : FrameRead)
+            → cond a (cond b (onFrame v (λ number. stopPlan number 0) (λ h place n. framePlan T (frameFrom side h) l place (place + n))) (stopPlan 19 0)) (stopPlan 15 0)
+            ≡ after (cond a (cond b (onFrame v front.Stop (λ h place n. front.Whole (frameFrom side h) place (place + n))) (front.Stop 19)) (front.Stop 15))
+        go true true More = refl
+        go true true (Refused n) = refl
+        go true true (Whole h place n) = refl
+        go true false v = refl
+        go false b v = refl
+
+    module _ (x : Front) (is : x ≡ frontOf good rows T side bytes) (r : Plan) where
+      pub good-stop : (n : ℕ) → x ≡ front.Stop n → r ≡ stopPlan n 0 → r ≡ goodPlan good rows T side bytes l
+      good-stop n e y = y ∙ ap after (sym e ∙ is) ∙ sym follows
+
+      pub good-whole : (f : Frame) (place end : ℕ) → x ≡ front.Whole f place end → r ≡ seatPlan T f (seatOf (f .correlation) (eqb (f .kind) 1) l) place end
+          → r ≡ goodPlan good rows T side bytes l
+      good-whole f place end e y =
+          y ∙ (λ i. judgedPlan (judged-seated T f l i) (rise-seated T f l i) place end) ∙ ap after (sym e ∙ is) ∙ sym follows
+
+-- A planned frame lies in the bytes.
+pub good-fitted : (schema : List ℕ) → IsGood schema → (good : Bool) (rows side : ℕ) (bytes : List ℕ) (l : List Call)
+    → Fitted schema bytes (goodPlan good rows (tableOf schema) side bytes l .next)
+unfolding bytesPlan
+good-fitted schema g good rows side bytes l = go good (eqb rows (length (tableOf schema .methods))) (frameOf bytes) refl
+  where
+    T : Table
+    T = tableOf schema
+
+    go : (a b : Bool) (v : FrameRead) → frameOf bytes ≡ v
+        → Fitted schema bytes (cond a (cond b (onFrame v (λ number. stopPlan number 0) (λ h place n. framePlan T (frameFrom side h) l place (place + n))) (stopPlan 19 0)) (stopPlan 15 0) .next)
+    go true true More e = stops
+    go true true (Refused n) e = stops
+    go true true (Whole h place n) e = settles {place = place} {end = place + n} g (omega arith) (read-bounds bytes e .inside)
+    go true false v e = stops
+    go false b v e = stops
+
+pub checked-fitted : (schema : List ℕ) (good : Bool) (rows side : ℕ) (bytes : List ℕ) (l : List Call)
+    → Fitted schema bytes (checkedPlan schema (goodPlan good rows (tableOf schema) side bytes l) .next)
+checked-fitted schema good rows side bytes l = go (checked schema) refl
+  where
+    go : (v : Checked) → checked schema ≡ v → Fitted schema bytes (onGood v stopPlan (goodPlan good rows (tableOf schema) side bytes l) .next)
+    go Good e = good-fitted schema e good rows side bytes l
+    go (Faulty n q) e = stops
+
+-- A plan is the frame's, and so it lies in the bytes.
+pub fitted-plan : (schema : List ℕ) (side : ℕ) (bytes : List ℕ) (rows : ℕ) (l : List Call) (r : Plan)
+    → r ≡ checkedPlan schema (goodPlan (goodTable (tableOf schema) l) rows (tableOf schema) side bytes l)
+    → (r ≡ planOf schema side bytes rows l) × Fitted schema bytes (r .next)
+unfolding planOf
+fitted-plan schema side bytes rows l r e =
+    (e, subst (λ (x : Plan). Fitted schema bytes (x .next)) (sym e) (checked-fitted schema (goodTable (tableOf schema) l) rows side bytes l))
+
+-- ---- a release at its seat
+
+pub call-planned : (id : ℕ) (l : List Call) (r : Plan) → r ≡ callPlan (seatOf id false l) → r ≡ judgedPlan (judgeRelease id l) (releaseRise l (judgeRelease id l)) 0 0
+call-planned id l r e = e ∙ (λ i. judgedPlan (release-seated id l i) (release-rise-seated id l i) 0 0)
+
+module _ (schema : List ℕ) (l : List Call) (id rows : ℕ) (v : Checked) (is : v ≡ checked schema) (r : Plan) where
+  abbrev release : Plan
+  release = judgedPlan (judgeRelease id l) (releaseRise l (judgeRelease id l)) 0 0
+
   abbrev T : Table
   T = tableOf schema
 
-  abbrev Planned : Plan → Type 0
-  Planned r = (r ≡ bytesPlan T side bytes l) × Fitted schema bytes (r .next)
+  abbrev next : Plan
+  next = onCalls (goodTable T l) rows T (λ number. stopPlan number 0) release
 
-  pub bytes-more : (r : Plan) → v ≡ More → r ≡ stopPlan 1 0 → Planned r
-  unfolding bytesPlan
-  bytes-more r e x = (rw (← is, e, x), fitted-stop schema bytes r x)
+  pub release-faulty : (n q : ℕ) → v ≡ Faulty n q → r ≡ stopPlan n q → r ≡ releasePlan schema l id rows
+  unfolding releasePlan
+  release-faulty n q e x = plan-faulty schema next v is r n q e x
 
-  pub bytes-refused : (r : Plan) (n : ℕ) → v ≡ Refused n → r ≡ stopPlan n 0 → Planned r
-  unfolding bytesPlan
-  bytes-refused r n e x = (rw (← is, e, x), fitted-stop schema bytes r x)
+  module _ (g : v ≡ Good) (k : ℕ) (test : k ≡ tablesFault (goodTable T l) rows T) where
+    pub release-stops : (k ≡ 0 → ⊥) → r ≡ stopPlan k 0 → r ≡ releasePlan schema l id rows
+    unfolding releasePlan
+    release-stops n x = plan-good schema next v is r g (x ∙ calls-fault (goodTable T l) rows T (λ number. stopPlan number 0) release k test n)
 
-  pub bytes-whole : (h : Header) (place n : ℕ) (f : Frame) (r : Plan) → v ≡ Whole h place n → f ≡ frameFrom side h → r ≡ framePlan T f l place (place + n)
-      → IsGood schema → place + n ≤ length bytes → Planned r
-  unfolding bytesPlan
-  bytes-whole h place n f r e from x g inside =
-      (rw (← is, e, x, from), subst (λ (y : Plan). Fitted schema bytes (y .next)) (sym x) (settles g (omega arith) inside))
+    pub release-goes : k ≡ 0 → r ≡ callPlan (seatOf id false l) → r ≡ releasePlan schema l id rows
+    unfolding releasePlan
+    release-goes z x =
+        plan-good schema next v is r g (call-planned id l r x ∙ calls-right (goodTable T l) rows T (λ number. stopPlan number 0) release k test z)
 
 -- ---- the payload
 
@@ -125,29 +233,6 @@ module _ (t : Tally) (r : Rise) (sheet : List ℕ) (o : Outcome) where
       go : (b : Bool) → fullAt t (figureBy r (numberIn o)) ≡ b → fullAt t (figureBy r (numberIn (cond b (outcome (Failed 18 0) sheet) o))) ≡ false
       go true e = eighteen t r
       go false e = e
-
--- a release's figure is not full
-pub counted-room : (t : Tally) (r : Rise) → fullAt t (figureBy r (countedNumber t r 0)) ≡ false
-unfolding figureBy endsCall
-counted-room t r = go (fullAt t (r .accepted)) refl
-  where
-    go : (b : Bool) → fullAt t (r .accepted) ≡ b → fullAt t (figureBy r (cond b 18 0)) ≡ false
-    go true e = refl
-    go false e = e
-
--- ---- a judged frame or release
-
-pub judged-frame : (T : Table) (f : Frame) (l : List Call) (place end : ℕ) (J : Judged) (r : Rise) → J ≡ judgeOf T f l → r ≡ riseOf (f .kind) l J
-    → judgedPlan J r place end ≡ framePlan T f l place end
-judged-frame T f l place end J r j e =
-    let k : r ≡ riseOf (f .kind) l (judgeOf T f l) = e ∙ ap (riseOf (f .kind) l) j in
-    λ i. judgedPlan (j i) (k i) place end
-
-pub judged-release : (id : ℕ) (l : List Call) (J : Judged) (r : Rise) → J ≡ judgeRelease id l → r ≡ releaseRise l J
-    → judgedPlan J r 0 0 ≡ judgedPlan (judgeRelease id l) (releaseRise l (judgeRelease id l)) 0 0
-judged-release id l J r j e =
-    let k : r ≡ releaseRise l (judgeRelease id l) = e ∙ ap (releaseRise l) j in
-    λ i. judgedPlan (j i) (k i) 0 0
 
 -- ---- a whole frame
 
@@ -188,15 +273,78 @@ module _ (schema bytes sheet : List ℕ) (l : List Call) (t : Tally) (next : Nex
       go : Fitted schema bytes (Settle J r place end) → IsGood schema × (place ≤ end) × (end ≤ length bytes)
       go (settles g a b) = (g, a, b)
 
--- ---- a release settled
+-- ---- for every call table
 
-module _ (l : List Call) (t : Tally) (next : Next) where
-  pub release-stop : (n q : ℕ) (x : Released) → next ≡ Stop n q → x ≡ releaseAnswer n q l → record { row = t; answer = x } ≡ releaseSettled l t next
-  unfolding releaseSettled
-  release-stop n q x e y = rw (e, y)
+unused : (b : Bool) → _≡_ {A = ℕ} (cond b 0 0) 0
+unused true = refl
+unused false = refl
 
-  pub release-told : (J : Judged) (r : Rise) (place end n : ℕ) (f : Figure) (row : Tally) (y : Stepped) (x : Released) → next ≡ Settle J r place end
-      → n ≡ countedNumber t r 0 → f ≡ figureBy r n → row ≡ raised t f → y ≡ stepOf J n l → x ≡ releaseAnswer (y .number) 0 (y .table .slots)
-      → record { row = row; answer = x } ≡ releaseSettled l t next
+-- A refusal before the frame is known, as an answer to a judgement that stops: it uses no bytes.
+stop-answer : (l : List Call) (n q : ℕ) → answerOf 0 (stepOf (Halt n) n l) (Failed n q) ≡ stopped l n q
+unfolding stepOf stopped
+stop-answer l n q = λ i.
+    record {
+      number = n;
+      place = q;
+      used = unused (usesFrame n) i;
+      rows = 0;
+      «tail_place» = 0;
+      «tail_length» = 0;
+      «open» = countOpen l;
+      comparisons = 0;
+      table = record { slots = l };
+    }
+
+-- The plan that stops, settled.
+abbrev pub refusal : (n q : ℕ) → Tally → Done
+refusal n q t = record { row = t; judged = Halt n; reading = Failed n q; size = 0 }
+
+same-number : (n q m p : ℕ) → Stop n q ≡ Stop m p → n ≡ m
+same-number n q m p e = cc
+
+settle-stop : {A : Type 0} {J : Judged} {r : Rise} {place end n q : ℕ} → Settle J r place end ≡ Stop n q → A
+settle-stop e = differ cc
+
+module _ (t : Tally) (next : Next) where
+  module _ (n q : ℕ) (d : Done) (e : next ≡ Stop n q) (is : d ≡ refusal n q t) where
+    pub stop-settled : (schema bytes sheet : List ℕ) (l : List Call) → rowLine (answerIn d l) sheet (d .row) ≡ settled schema bytes sheet l t next
+    stop-settled schema bytes sheet l =
+        ap (λ (x : Done). rowLine (answerIn x l) sheet (x .row)) is
+        ∙ settled-stop schema bytes sheet l t next n q (answerIn (refusal n q t) l) e (stop-answer l n q)
+
+    pub stop-released : (l : List Call) → releaseIn d l ≡ releaseSettled l t next
+    unfolding releaseSettled stepOf
+    stop-released l = rw (is, e)
+
+    pub stop-stops : (m p : ℕ) → next ≡ Stop m p → d .judged ≡ Halt m
+    stop-stops m p h = ap (λ (x : Done). x .judged) is ∙ ap Halt (same-number n q m p (sym e ∙ h))
+
+  pub settle-stops : (J : Judged) (r : Rise) (place end : ℕ) → next ≡ Settle J r place end → (K : Judged) (m p : ℕ) → next ≡ Stop m p → K ≡ Halt m
+  settle-stops J r place end e K m p h = settle-stop (sym e ∙ h)
+
+  -- a release counted
+  pub release-told : (J : Judged) (r : Rise) (place end : ℕ) (reading : Reading) (n : ℕ) (f : Figure) (row : Tally) → next ≡ Settle J r place end
+      → reading ≡ countedRead t r → n ≡ numbers reading .number → f ≡ figureBy r n → row ≡ raised t f
+      → (l : List Call) → releaseIn (record { row = row; judged = J; reading = reading; size = 0 }) l ≡ releaseSettled l t next
   unfolding releaseSettled
-  release-told J r place end n f row y x e k g w z a = rw (e, a, z, w, g, k)
+  release-told J r place end reading n f row e is k g w l = rw (e, w, g, k, is) (go (fullAt t (figureBy r 0)))
+    where
+      told : Reading → SettledRelease
+      told x =
+          let s = stepOf J (numbers x .number) l in
+          record { row = raised t (figureBy r (numbers x .number)); answer = releaseAnswer (s .number) (numbers x .place) (s .table .slots) }
+
+      go : (b : Bool) → told (cond b (Failed 18 0) (Shown 0 0 0 0))
+          ≡ (let c = cond b 18 0 in let s = stepOf J c l in record { row = raised t (figureBy r c); answer = releaseAnswer (s .number) 0 (s .table .slots) })
+      go true = refl
+      go false = refl
+
+-- what rises then is not full
+pub release-room : (t : Tally) (r : Rise) (reading : Reading) (n : ℕ) (f : Figure) → reading ≡ countedRead t r → n ≡ numbers reading .number → f ≡ figureBy r n
+    → fullAt t f ≡ false
+unfolding figureBy endsCall
+release-room t r reading n f is k g = rw (g, k, is) (go (fullAt t (r .accepted)) refl)
+  where
+    go : (b : Bool) → fullAt t (r .accepted) ≡ b → fullAt t (figureBy r (numbers (cond b (Failed 18 0) (Shown 0 0 0 0)) .number)) ≡ false
+    go true e = refl
+    go false e = e

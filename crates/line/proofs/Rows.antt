@@ -1,12 +1,12 @@
 -- The tally rows after a frame and after a release: one row is raised, as the calls' laws say, and the others stay.
-use mathlib.Core.Path.{_≡_, refl, sym, ap, subst, _∙_}
+use mathlib.Core.Path.{_≡_, refl, sym, ap, _∙_}
 use mathlib.Core.Logic.{_⊎_, ⊎-elim}
 use mathlib.Core.Bool.{Bool, true, false, cond}
 use mathlib.Core.List.{List, [], _∷_}
 use Prim.Native.Nat.{ℕ, zero, suc, _<_}
 use native.Mathlib.Omega.{arith}
 use lib.Dec.{eqb, eqb·suc-suc}
-use lib.ListN.{length, getD, set, replicate}
+use lib.ListN.{length, set, replicate}
 use Rattle.schema.specs.Table.{Table}
 use borrow.Author.Tests.{eqb-true, ne-eqb}
 use Rattle.calls.specs.declared.Tally.{Tally}

@@ -31,7 +31,9 @@ use Rattle.calls.specs.declared.Judged.{Judged}
 use Rattle.calls.specs.declared.Judged.the-variants.{Stop, Opens, Goes}
 use Rattle.calls.specs.declared.Payload.the-variants.{Struct, Empty, Unread}
 use Rattle.calls.specs.Record.{emptyCall, isCall}
-use Rattle.calls.specs.Slots.{freshTable, slot, countOpen, goodTable, holds, Own, none, one, ownOf, full}
+use Rattle.calls.specs.Slots.{freshTable, slot, countOpen, goodTable, holds, ownOf, full}
+use Rattle.calls.specs.declared.Own.{Own}
+use Rattle.calls.specs.declared.Own.the-variants.{None as none, One as one}
 use Rattle.calls.specs.Judge.{rightSide, judgeOf, judgeRelease, Verdict, stop, goes, releaseVerdict}
 use Rattle.calls.specs.Step.{stepOf, dueOf}
 use Rattle.calls.specs.Counting.{noTally, noRise, riseOf, releaseRise, figureBy, fullAt, countedNumber}

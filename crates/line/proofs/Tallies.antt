@@ -30,7 +30,9 @@ use Rattle.calls.specs.declared.Rise.{Rise}
 use Rattle.calls.specs.Numbers.{endsCall}
 use Rattle.calls.specs.declared.Payload.the-variants.{Unread}
 use Rattle.calls.specs.Record.{emptyCall}
-use Rattle.calls.specs.Slots.{Own, none, one, ownOf, full}
+use Rattle.calls.specs.Slots.{ownOf, full}
+use Rattle.calls.specs.declared.Own.{Own}
+use Rattle.calls.specs.declared.Own.the-variants.{None as none, One as one}
 use Rattle.calls.specs.Judge.{Verdict, stop, goes, releaseVerdict, judgeRelease}
 use Rattle.calls.specs.Step as calls-step
 use Rattle.calls.specs.Counting.{noRise, releaseRise, figureBy, raised}

@@ -17,7 +17,7 @@ pub use mir.Syntax.{named, w64, tyPtr, w32}
 use mir.Syntax.{Name, Place, Opd as Operand, Body, seq, call}
 pub use mir.Val.{Val, vint, vptr, vbool}
 pub use base.Logic.{SProp, ent, id⊢, via, fst∗, emp, sep}
-use base.Logic.{ex, emp∗, mono∗, snd∗}
+use base.Logic.{emp∗, mono∗, snd∗}
 pub use base.Fml.{Lft, Share, GName, ftrue, fat, flft, fobs, fres, Fml}
 use base.Fml.{fsep}
 pub use prog.Memory.{Memory}

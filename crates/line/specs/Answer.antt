@@ -15,9 +15,11 @@ use Rattle.calls.specs.Slots.{countOpen}
 use Rattle.calls.specs.Counting.{figureBy, fullAt}
 use Rattle.reader.specs.declared.Reading.{Reading}
 use Rattle.reader.specs.declared.Reading.the-variants.{Shown, Refused}
-use Rattle.reader.specs.Entry.{Outcome, outcome, readingIn, sheetIn, payloadOutcome, Numbers, numbers}
+use Rattle.reader.specs.Entry.{Outcome, outcome, payloadOutcome, Numbers, numbers}
 pub use Rattle.reader.specs.Entry.{numberIn}
+use Rattle.calls.specs.Step.{stepOf}
 use Rattle.line.specs.declared.Received.{Received}
+use Rattle.line.specs.declared.Done.{Done}
 
 -- An answer with the sheet (01's term: the cells that show a read value) and the tally rows as they are left.
 pub record Line : Type 0 where
@@ -86,6 +88,10 @@ payloadRead schema Unread payload sheet = outcome (Shown 0 0 0 0) sheet
 abbrev pub tallied : Tally → Rise → (sheet : List ℕ) → Outcome → Outcome
 tallied t r sheet o = cond (fullAt t (figureBy r (numberIn o))) (outcome (Refused 18 0) sheet) o
 
+-- A release reads nothing.
+abbrev pub countedRead : Tally → Rise → Reading
+countedRead t r = cond (fullAt t (figureBy r 0)) (Refused 18 0) (Shown 0 0 0 0)
+
 -- ---- the answer to a whole frame
 
 -- Bytes used: the frame's length, or 0, by the number.
@@ -106,3 +112,7 @@ answerOf size stepped reading =
       comparisons = numbers reading .comparisons;
       table = stepped .table;
     }
+
+-- A plan settled up to the call table, as an answer over the call table l.
+abbrev pub answerIn : Done → List Call → Received
+answerIn d l = answerOf (d .size) (stepOf (d .judged) (numbers (d .reading) .number) l) (d .reading)

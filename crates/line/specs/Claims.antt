@@ -22,7 +22,9 @@ use Rattle.calls.specs.Counting.{noTally}
 use Rattle.calls.specs.Figures.{Full}
 use Rattle.calls.specs.Record.{atLimit}
 use Rattle.calls.specs.Apart.{callMethod}
-use Rattle.calls.specs.Slots.{goodTable, Own, one, ownOf, full}
+use Rattle.calls.specs.Slots.{goodTable, ownOf, full}
+use Rattle.calls.specs.declared.Own.{Own}
+use Rattle.calls.specs.declared.Own.the-variants.{One as one}
 use Rattle.calls.specs.Good.{GoodTable}
 use Rattle.calls.specs.Order.{times, noElements, Past, since}
 use Rattle.value.specs.declared.Row.{Row}

@@ -1,6 +1,6 @@
 -- The answer to a frame and to a release by the rules: by the past of its call, by what belongs in its payload, and by the tally row of its method.
 use mathlib.Core.Path.{_≡_}
-use mathlib.Core.Bool.{Bool, true, false}
+use mathlib.Core.Bool.{Bool}
 use mathlib.Core.List.{List, []}
 use Prim.Native.Nat.{ℕ}
 use lib.ListN.{length}

@@ -12,6 +12,8 @@ use Rattle.calls.specs.Counting.{noTally, figureBy, raised, countedNumber}
 use Rattle.line.specs.declared.Next.{Next}
 use Rattle.line.specs.declared.Next.the-variants.{Stop, Settle}
 use Rattle.line.specs.declared.Released.{Released}
+use Rattle.reader.specs.Entry.{numbers}
+use Rattle.line.specs.declared.Done.{Done}
 use Rattle.line.specs.declared.SettledRelease.{SettledRelease}
 use Rattle.line.specs.Planning.{releasePlan}
 
@@ -29,6 +31,12 @@ releaseAnswer number place l = record { number = number; place = place; «open»
 
 abbrev pub steppedAnswer : Stepped → Released
 steppedAnswer x = releaseAnswer (x .number) 0 (x .table .slots)
+
+-- A plan settled up to the call table, as the row and the answer over the call table l.
+abbrev pub releaseIn : Done → List Call → SettledRelease
+releaseIn d l =
+    let x = stepOf (d .judged) (numbers (d .reading) .number) l in
+    record { row = d .row; answer = releaseAnswer (x .number) (numbers (d .reading) .place) (x .table .slots) }
 
 -- What is left to do of a plan, with the row that it asks for. A refusal changes no call and no row.
 unfoldable pub releaseSettled : List Call → Tally → Next → SettledRelease

@@ -1,35 +1,20 @@
 // The answer to a frame.
+use crate::Done;
 use crate::Received;
+use crate::Released;
 use calls::CallTable;
 use calls::Judged;
 use calls::Payload;
 use calls::numbers::uses_frame;
 use reader::Reading;
 ghost use mathlib.Core.Path.{_≡_};
-ghost use Rattle.calls.specs.Step.{stepOf, dueOf};
+ghost use Rattle.calls.specs.Step.{dueOf};
 ghost use Rattle.reader.specs.Entry.{numbers};
-ghost use Rattle.line.specs.Answer.{stopped, usedOf, answerOf};
-
-// A refusal before the frame is known, or 1.
-pub fn stop(table: CallTable, number: u32, place: usize) -> Received
-    ensures { λ r. ⌜ r ≡ stopped (table .slots) number place ⌝ }
-{
-    let open = table.open_count();
-    Received {
-        number,
-        place,
-        used: 0,
-        rows: 0,
-        tail_place: 0,
-        tail_length: 0,
-        open,
-        comparisons: 0,
-        table,
-    }
-}
+ghost use Rattle.line.specs.Answer.{usedOf, answerIn};
+ghost use Rattle.line.specs.Release.{releaseIn};
 
 // Bytes used by a frame of this size.
-fn used_of(number: u32, size: usize) -> usize
+pub fn used_of(number: u32, size: usize) -> usize
     ensures { λ r. ⌜ r ≡ usedOf number size ⌝ }
 {
     if uses_frame(number) { size } else { 0 }
@@ -61,14 +46,31 @@ pub fn due_of(judged: Judged) -> Payload
     }
 }
 
-// The answer to a judged frame of this size, by the reading of its payload.
-pub fn answer(table: CallTable, judged: Judged, reading: Reading, size: usize) -> Received
-    ensures { λ r. ⌜ r ≡ answerOf size (stepOf judged (numbers reading .number) (table .slots)) reading ⌝ }
+// Where in the payload, or at which row of the schema table, a reading is refused.
+pub fn place_of(reading: Reading) -> usize
+    ensures { λ r. ⌜ r ≡ numbers reading .place ⌝ }
 {
+    match reading {
+        Reading::Shown {
+            rows: _,
+            tail_place: _,
+            tail_length: _,
+            comparisons: _,
+        } => 0,
+        Reading::Refused { number: _, place } => place,
+    }
+}
+
+// The answer to a frame over a call table by value.
+pub fn answer(table: CallTable, done: Done) -> Received
+    ensures { λ r. ⌜ r ≡ answerIn done (table .slots) ⌝ }
+{
+    let reading = done.reading;
+    let judged = done.judged;
     let stepped = table.step(judged, number_of(reading));
     let number = stepped.number;
     let next = stepped.table;
-    let used = used_of(number, size);
+    let used = used_of(number, done.size);
     let open = next.open_count();
     match reading {
         Reading::Shown {
@@ -98,5 +100,23 @@ pub fn answer(table: CallTable, judged: Judged, reading: Reading, size: usize) -
             comparisons: 0,
             table: next,
         },
+    }
+}
+
+// The answer to a release likewise.
+pub fn release_answer(table: CallTable, done: Done) -> Released
+    ensures { λ r. ⌜ r ≡ releaseIn done (table .slots) .answer ⌝ }
+{
+    let reading = done.reading;
+    let judged = done.judged;
+    let stepped = table.step(judged, number_of(reading));
+    let place = place_of(reading);
+    let after = stepped.table;
+    let open = after.open_count();
+    Released {
+        number: stepped.number,
+        place,
+        open,
+        table: after,
     }
 }

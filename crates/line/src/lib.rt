@@ -9,9 +9,11 @@ pub mod release;
 pub mod settling;
 
 use calls::CallTable;
+use calls::Frame;
 use calls::Judged;
 use calls::Rise;
 use calls::Tally;
+use reader::Reading;
 
 // The answer to a frame, with the next call table.
 pub struct Received {
@@ -44,6 +46,16 @@ pub struct Released {
     pub table: CallTable,
 }
 
+// The frame at the front of the bytes, judged before its call: it stops with this number, or is whole, and its payload stands between two places.
+pub enum Front {
+    Stop(u32),
+    Whole {
+        frame: Frame,
+        place: usize,
+        end: usize,
+    },
+}
+
 // What is left to do once the tables, the frame and its call are judged.
 pub enum Next {
     // The answer is this refusal, or 1.
@@ -64,6 +76,14 @@ pub enum Next {
 pub struct Plan {
     pub row: usize,
     pub next: Next,
+}
+
+// A plan settled up to the call table: the tally row afterwards, and what the answer comes from, the judgement, the payload's reading and the frame's size.
+pub struct Done {
+    pub row: Tally,
+    pub judged: Judged,
+    pub reading: Reading,
+    pub size: usize,
 }
 
 // The tally row afterwards, and the answer.

@@ -11,7 +11,7 @@ ghost use Rattle.reader.specs.Entry.{Outcome};
 ghost use Rattle.line.specs.Answer.{emptyRead, payloadRead, numberIn, tallied};
 
 // No value is read.
-fn nothing() -> Reading
+pub fn nothing() -> Reading
     ensures { λ r. ⌜ r ≡ Reading.Shown 0 0 0 0 ⌝ }
 {
     Reading::Shown {

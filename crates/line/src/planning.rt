@@ -1,8 +1,10 @@
 // A frame and a release judged up to the payload: which tally row they ask for, and what is left to do.
+use crate::Front;
 use crate::Next;
 use crate::Plan;
 use calls::CallTable;
 use calls::Frame;
+use calls::Seat;
 use frame::FrameRead;
 use frame::Header;
 use frame::read_frame;
@@ -14,7 +16,8 @@ ghost use Prim.Native.Nat.{_≤_};
 ghost use lib.ListN.{length};
 ghost use Rattle.schema.specs.File.{tableOf};
 ghost use Rattle.schema.specs.Check.{IsGood};
-ghost use Rattle.line.specs.Planning.{frameFrom, Fitted, stopPlan, framePlan, bytesPlan, planOf, releasePlan};
+ghost use Rattle.calls.specs.Slots.{goodTable};
+ghost use Rattle.line.specs.Planning.{frameFrom, Fitted, stopPlan, tablesFault, frontOf, seatPlan, callPlan, goodPlan, planOf, releasePlan};
 
 // What a step sees of a frame with this header.
 fn frame_from(side: u8, h: Header) -> Frame
@@ -41,13 +44,51 @@ pub fn stop(number: u32, place: usize) -> Plan
     }
 }
 
-// A whole frame whose payload stands between these places.
-fn plan_frame(table: CallTable, schema: &[u8], f: Frame, place: usize, end: usize) -> Plan
+// ---- what knows no form of the call table
+
+// 15 for a call table that is not good, 19 for another number of tally rows than of methods, or 0.
+pub fn tables_fault(good: bool, schema: &[u8], rows: usize) -> u32
     requires { ⌜ IsGood (now schema) ⌝ }
-    ensures { λ r. ⌜ r ≡ framePlan (tableOf (now (schema .entry))) f (table .slots) place end ⌝ }
+    ensures { λ r. ⌜ r ≡ tablesFault good rows (tableOf (now (schema .entry))) ⌝ }
 {
-    let judged = table.judge(schema, f);
-    let rise = table.rise(f.kind, judged);
+    if !good {
+        return 15;
+    }
+    if rows == method_count(schema) { 0 } else { 19 }
+}
+
+// The frame at the front of the bytes, after the call table and the tally rows.
+pub fn front(good: bool, schema: &[u8], side: u8, bytes: &[u8], rows: usize) -> Front
+    requires { ⌜ IsGood (now schema) ⌝ }
+    ensures { λ r. ⌜ r ≡ frontOf good rows (tableOf (now (schema .entry))) side (now (bytes .entry)) ⌝ }
+{
+    let fault = tables_fault(good, schema, rows);
+    if fault != 0 {
+        return Front::Stop(fault);
+    }
+    match read_frame(bytes) {
+        FrameRead::More => Front::Stop(1),
+        FrameRead::Refused(number) => Front::Stop(number),
+        FrameRead::Frame {
+            header,
+            place,
+            length,
+        } => Front::Whole {
+            frame: frame_from(side, header),
+            place,
+            end: place + length,
+        },
+    }
+}
+
+// A whole frame with its seat, whose payload stands between these places.
+pub fn plan_frame(seat: Seat, schema: &[u8], f: Frame, place: usize, end: usize) -> Plan
+    requires { ⌜ IsGood (now schema) ⌝ }
+    ensures { λ r. ⌜ r ≡ seatPlan (tableOf (now (schema .entry))) f seat place end ⌝ }
+{
+    let judged = seat.judge(schema, f);
+    let own = seat.own;
+    let rise = own.rise(f.kind, judged);
     Plan {
         row: rise.row,
         next: Next::Settle {
@@ -59,25 +100,42 @@ fn plan_frame(table: CallTable, schema: &[u8], f: Frame, place: usize, end: usiz
     }
 }
 
-// The frame at the front of the bytes, under a good schema table and a good call table.
-fn plan_bytes(table: CallTable, schema: &[u8], side: u8, bytes: &[u8]) -> Plan
-    requires { ⌜ IsGood (now schema) ⌝ }
-    ensures { λ r. ⌜ (r ≡ bytesPlan (tableOf (now (schema .entry))) side (now (bytes .entry)) (table .slots)) × Fitted (now (schema .entry)) (now (bytes .entry)) (r .next) ⌝ }
+// The release of the call with this seat.
+pub fn plan_call(seat: Seat) -> Plan
+    ensures { λ r. ⌜ r ≡ callPlan seat ⌝ }
 {
-    match read_frame(bytes) {
-        FrameRead::More => stop(1, 0),
-        FrameRead::Refused(number) => stop(number, 0),
-        FrameRead::Frame {
-            header,
-            place,
-            length,
-        } => plan_frame(
-            table,
-            schema,
-            frame_from(side, header),
-            place,
-            place + length,
-        ),
+    let judged = seat.judge_release();
+    let own = seat.own;
+    let rise = own.release_rise(judged);
+    Plan {
+        row: rise.row,
+        next: Next::Settle {
+            judged,
+            rise,
+            place: 0,
+            end: 0,
+        },
+    }
+}
+
+// ---- over a call table by value
+
+// The same under a good schema table.
+fn plan_good(table: CallTable, schema: &[u8], side: u8, bytes: &[u8], rows: usize) -> Plan
+    requires { ⌜ IsGood (now schema) ⌝ }
+    ensures { λ r. ⌜ r ≡ goodPlan (goodTable (tableOf (now (schema .entry))) (table .slots)) rows (tableOf (now (schema .entry))) side (now (bytes .entry)) (table .slots) ⌝ }
+{
+    match front(table.is_good(schema), schema, side, bytes, rows) {
+        Front::Stop(number) => stop(number, 0),
+        Front::Whole { frame, place, end } => {
+            plan_frame(
+                table.seat(frame.correlation, frame.kind == 1),
+                schema,
+                frame,
+                place,
+                end,
+            )
+        }
     }
 }
 
@@ -87,15 +145,7 @@ pub fn plan(table: CallTable, schema: &[u8], side: u8, bytes: &[u8], rows: usize
 {
     match check(schema) {
         Checked::Refused { number, place } => stop(number, place),
-        Checked::Good => {
-            if !table.is_good(schema) {
-                return stop(15, 0);
-            }
-            if rows != method_count(schema) {
-                return stop(19, 0);
-            }
-            plan_bytes(table, schema, side, bytes)
-        }
+        Checked::Good => plan_good(table, schema, side, bytes, rows),
     }
 }
 
@@ -105,12 +155,7 @@ pub fn plan_fresh(table: CallTable, schema: &[u8], side: u8, bytes: &[u8]) -> Pl
 {
     match check(schema) {
         Checked::Refused { number, place } => stop(number, place),
-        Checked::Good => {
-            if !table.is_good(schema) {
-                return stop(15, 0);
-            }
-            plan_bytes(table, schema, side, bytes)
-        }
+        Checked::Good => plan_good(table, schema, side, bytes, method_count(schema)),
     }
 }
 
@@ -121,23 +166,11 @@ pub fn plan_release(table: CallTable, schema: &[u8], correlation: u64, rows: usi
     match check(schema) {
         Checked::Refused { number, place } => stop(number, place),
         Checked::Good => {
-            if !table.is_good(schema) {
-                return stop(15, 0);
+            let fault = tables_fault(table.is_good(schema), schema, rows);
+            if fault != 0 {
+                return stop(fault, 0);
             }
-            if rows != method_count(schema) {
-                return stop(19, 0);
-            }
-            let judged = table.judge_release(correlation);
-            let rise = table.release_rise(judged);
-            Plan {
-                row: rise.row,
-                next: Next::Settle {
-                    judged,
-                    rise,
-                    place: 0,
-                    end: 0,
-                },
-            }
+            plan_call(table.seat(correlation, false))
         }
     }
 }

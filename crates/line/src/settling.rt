@@ -1,4 +1,5 @@
-// A plan settled with its tally row: the payload is read, the call table steps, and the row is raised.
+// A plan settled with its tally row: the payload is read, the row is raised, and the record at one slot changes.
+use crate::Done;
 use crate::Next;
 use crate::Plan;
 use crate::Received;
@@ -8,24 +9,42 @@ use crate::SettledRelease;
 use crate::answer::answer;
 use crate::answer::due_of;
 use crate::answer::number_of;
-use crate::answer::stop;
+use crate::answer::release_answer;
+use crate::payload::nothing;
 use crate::payload::read_counted;
 use calls::CallTable;
 use calls::Judged;
 use calls::Rise;
 use calls::Tally;
 use calls::tallies::NO_TALLY;
+use reader::Reading;
 ghost use mathlib.Core.Path.{_≡_};
+ghost use mathlib.Core.List.{List};
+ghost use Prim.Native.Nat.{ℕ};
 ghost use Rattle.schema.specs.Check.{IsGood};
+ghost use Rattle.calls.specs.declared.Call.{Call};
 ghost use Rattle.calls.specs.Counting.{noTally, countedNumber};
-ghost use Rattle.line.specs.Answer.{rowLine};
+ghost use Rattle.line.specs.Answer.{rowLine, answerIn, countedRead};
 ghost use Rattle.line.specs.Planning.{Fitted};
 ghost use Rattle.line.specs.Receive.{frameSettled, settled, Unkept};
-ghost use Rattle.line.specs.Release.{releaseAnswer, releaseSettled};
+ghost use Rattle.line.specs.Release.{releaseIn, releaseSettled};
+
+// ---- what knows no form of the call table
+
+// A refusal before the frame or the call is known: it uses no bytes, and raises nothing.
+fn refuse(number: u32, place: usize, tally: Tally) -> Done
+    ensures { λ r. ⌜ r ≡ record { row = tally; judged = Judged.Stop number; reading = Reading.Refused number place; size = 0 } ⌝ }
+{
+    Done {
+        row: tally,
+        judged: Judged::Stop(number),
+        reading: Reading::Refused { number, place },
+        size: 0,
+    }
+}
 
 // A judged frame of this size.
 fn settle_frame(
-    table: CallTable,
     schema: &[u8],
     judged: Judged,
     rise: Rise,
@@ -33,15 +52,79 @@ fn settle_frame(
     size: usize,
     sheet: &mut [u32],
     tally: Tally,
-) -> Settled
+) -> Done
     requires { ⌜ IsGood (now schema) ⌝ }
-    ensures { λ r. ⌜ rowLine (r .answer) (now (sheet .exit)) (r .row) ≡ frameSettled (now (schema .entry)) judged rise (now (payload .entry)) size (now (sheet .entry)) tally (table .slots) ⌝ }
+    ensures { λ r. ⌜ ((l : List Call) → rowLine (answerIn r l) (now (sheet .exit)) (r .row) ≡ frameSettled (now (schema .entry)) judged rise (now (payload .entry)) size (now (sheet .entry)) tally l) ⌝ }
 {
     let reading = read_counted(schema, due_of(judged), payload, sheet, tally, rise);
     let row = tally.raised(rise.figure(number_of(reading)));
-    let answer = answer(table, judged, reading, size);
-    Settled { row, answer }
+    Done {
+        row,
+        judged,
+        reading,
+        size,
+    }
 }
+
+// A planned frame, by the schema table and the bytes of its plan, for every call table.
+pub fn settle_plan(plan: Plan, schema: &[u8], bytes: &[u8], sheet: &mut [u32], tally: Tally) -> Done
+    requires { ⌜ Fitted (now schema) (now bytes) (plan .next) ⌝ }
+    ensures { λ r. ⌜ ((l : List Call) → rowLine (answerIn r l) (now (sheet .exit)) (r .row) ≡ settled (now (schema .entry)) (now (bytes .entry)) (now (sheet .entry)) l tally (plan .next)) ⌝ }
+    ensures { λ r. ⌜ ((n q : ℕ) → plan .next ≡ Next.Stop n q → r .judged ≡ Judged.Stop n) ⌝ }
+{
+    let left = plan.next;
+    match left {
+        Next::Stop { number, place } => refuse(number, place, tally),
+        Next::Settle {
+            judged,
+            rise,
+            place,
+            end,
+        } => settle_frame(schema, judged, rise, &bytes[place..end], end, sheet, tally),
+    }
+}
+
+// A release reads nothing; 18 where the figure that would rise is full.
+fn counted(tally: Tally, rise: Rise) -> Reading
+    ensures { λ r. ⌜ r ≡ countedRead tally rise ⌝ }
+{
+    if tally.is_full(rise.figure(0)) {
+        Reading::Refused {
+            number: 18,
+            place: 0,
+        }
+    } else {
+        nothing()
+    }
+}
+
+// A planned release, for every call table.
+pub fn settle_call(plan: Plan, tally: Tally) -> Done
+    ensures { λ r. ⌜ ((l : List Call) → releaseIn r l ≡ releaseSettled l tally (plan .next)) ⌝ }
+    ensures { λ r. ⌜ ((n q : ℕ) → plan .next ≡ Next.Stop n q → r .judged ≡ Judged.Stop n) ⌝ }
+{
+    let left = plan.next;
+    match left {
+        Next::Stop { number, place } => refuse(number, place, tally),
+        Next::Settle {
+            judged,
+            rise,
+            place: _,
+            end: _,
+        } => {
+            let reading = counted(tally, rise);
+            let row = tally.raised(rise.figure(number_of(reading)));
+            Done {
+                row,
+                judged,
+                reading,
+                size: 0,
+            }
+        }
+    }
+}
+
+// ---- over a call table by value
 
 // A planned frame, by the tables and the bytes of its plan.
 pub fn settle(
@@ -55,28 +138,10 @@ pub fn settle(
     requires { ⌜ Fitted (now schema) (now bytes) (plan .next) ⌝ }
     ensures { λ r. ⌜ rowLine (r .answer) (now (sheet .exit)) (r .row) ≡ settled (now (schema .entry)) (now (bytes .entry)) (now (sheet .entry)) (table .slots) tally (plan .next) ⌝ }
 {
-    let left = plan.next;
-    match left {
-        Next::Stop { number, place } => {
-            let answer = stop(table, number, place);
-            Settled { row: tally, answer }
-        }
-        Next::Settle {
-            judged,
-            rise,
-            place,
-            end,
-        } => settle_frame(
-            table,
-            schema,
-            judged,
-            rise,
-            &bytes[place..end],
-            end,
-            sheet,
-            tally,
-        ),
-    }
+    let done = settle_plan(plan, schema, bytes, sheet, tally);
+    let row = done.row;
+    let answer = answer(table, done);
+    Settled { row, answer }
 }
 
 // The answer where the row that a plan asks for is not lent: a row of noughts is looked at, and none is kept.
@@ -94,50 +159,14 @@ pub fn missed(
     next.answer
 }
 
-// An answer to a release, with the table that it leaves.
-pub fn tell(table: CallTable, number: u32, place: usize) -> Released
-    ensures { λ r. ⌜ r ≡ releaseAnswer number place (table .slots) ⌝ }
-{
-    let open = table.open_count();
-    Released {
-        number,
-        place,
-        open,
-        table,
-    }
-}
-
-// The number of a release: 0, or 18 where the figure that would rise is full.
-fn counted(tally: Tally, rise: Rise) -> u32
-    ensures { λ r. ⌜ r ≡ countedNumber tally rise 0 ⌝ }
-{
-    if tally.is_full(rise.figure(0)) { 18 } else { 0 }
-}
-
 // A planned release.
 pub fn settle_release(table: CallTable, plan: Plan, tally: Tally) -> SettledRelease
     ensures { λ r. ⌜ r ≡ releaseSettled (table .slots) tally (plan .next) ⌝ }
 {
-    let left = plan.next;
-    match left {
-        Next::Stop { number, place } => {
-            let answer = tell(table, number, place);
-            SettledRelease { row: tally, answer }
-        }
-        Next::Settle {
-            judged,
-            rise,
-            place: _,
-            end: _,
-        } => {
-            let number = counted(tally, rise);
-            let row = tally.raised(rise.figure(number));
-            let stepped = table.step(judged, number);
-            let next = stepped.table;
-            let answer = tell(next, stepped.number, 0);
-            SettledRelease { row, answer }
-        }
-    }
+    let done = settle_call(plan, tally);
+    let row = done.row;
+    let answer = release_answer(table, done);
+    SettledRelease { row, answer }
 }
 
 // The answer where the row that a release asks for is not lent.

@@ -8,6 +8,7 @@ use lib.Count.{onesIn}
 use Rattle.wire.specs.Little as little
 use Rattle.wire.specs.Varuint as varuint
 use Rattle.wire.specs.Utf8 as utf8
+use Rattle.parse.specs.Reader as answer
 use Rattle.schema.specs.Table as table
 use Rattle.schema.specs.File as file
 use Rattle.schema.specs.Check as check
@@ -19,7 +20,6 @@ use Rattle.calls.specs.Slots as slots
 use Rattle.calls.specs.Judge as judge
 use Rattle.calls.specs.Step as step
 use Rattle.calls.specs.Counting as counting
-use Rattle.value.specs.Answer as answer
 use Rattle.value.specs.Value as value
 use Rattle.value.specs.Read as read
 use Rattle.reader.specs.Entry as entry
@@ -62,7 +62,7 @@ unfolding little.little varuint.front varuint.groups utf8.run utf8.next utf8.lea
     file.tabulate file.tableOf check.lowest check.goodRow check.goodField check.findAmong check.goodMethod check.small check.badRow check.badField
     check.badMethod check.checkedTable check.checked frame.whole frame.payloadOf frame.frameOf forms.rowOf numbers.endsCall numbers.usesFrame
     slots.goodCall slots.goodTable slots.ownOf slots.full judge.payloadOf judge.verdictOf judge.judgeOf step.stepOf answer.andThen answer.check
-    answer.block answer.varUInt value.rows value.value read.present read.count read.complete read.bitmap read.walk read.parse read.ending
+    answer.block answer.varUInt value.rows value.value read.present answer.count read.complete read.bitmap read.walk read.parse read.ending
     read.rootStruct read.read entry.payloadOutcome counting.riseOf counting.figureBy counting.raised line.stopped line.payloadRead
     planning.bytesPlan planning.planOf receive.frameSettled receive.settled receive.received run.freshTallies fresh.receivedFresh
     decimal.digits decimal.decimal texts.field replay.freshCalls replay.answerTo replay.headerIn replay.runFrom replay.runOf

@@ -13,7 +13,7 @@ use Rattle.schema.proofs.Bools.{or-neither}
 use Rattle.schema.proofs.Files.{filled, type-count, field-count, method-count}
 use Rattle.schema.proofs.Checks.{good-shaped}
 use Rattle.schema.proofs.Goods.{good-table}
-use Rattle.replay.specs.Run.{Entry, Run, runOf}
+use Rattle.replay.specs.Run.{Entry, runOf}
 use Rattle.replay.specs.Runs.{Stands}
 use Rattle.replay.proofs.Replays.{entries-stand}
 use Rattle.index.specs.declared.Indexing.the-variants.{Made}

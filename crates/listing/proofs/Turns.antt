@@ -1,11 +1,11 @@
 -- Laws of the listing's entries: each turn of the listing, by the run that it prints.
 use mathlib.Core.Path.{_≡_, refl, sym, ap, subst, _∙_}
-use mathlib.Core.Bool.{Bool, true, false}
+use mathlib.Core.Bool.{true, false}
 use mathlib.Core.List.{List, [], _∷_, _++_, append-assoc}
 use mathlib.Core.Logic.{⊎-elim}
 use Prim.Native.Nat.{ℕ, zero, suc, _+_, _-_, _≤_, _<_}
 use native.Mathlib.Omega.{arith}
-use lib.ListN.{length, take, drop, getD, length-drop, drop-of-length-le}
+use lib.ListN.{length, drop, getD, drop-of-length-le}
 use lib.Seq.{drop-drop}
 use Rattle.schema.proofs.Bools.{cases}
 use Rattle.frame.specs.Frame.{frameOf}
@@ -71,11 +71,6 @@ module _ (s : List ℕ) (k entry side : ℕ) (bytes : List ℕ) (l : List Call) 
 pub end-turn : (s : List ℕ) (k entry : ℕ) (l : List Call) → entriesText s k entry [] l ≡ stoppedText 0 0
 unfolding entriesText
 end-turn s k entry l = ap (runText entry) (replay.run-end s k 0 l) ∙ text-halted entry 0 0
-
--- As many entries as bytes are enough: any greater number gives the same text.
-pub entries-enough : (s : List ℕ) (k j entry : ℕ) (left : List ℕ) (l : List Call) → length left ≤ k → length left ≤ j → entriesText s k entry left l ≡ entriesText s j entry left l
-unfolding entriesText
-entries-enough s k j entry left l h g = ap (runText entry) (replay.run-enough s k j 0 left l h g)
 
 -- What is left of the entries, from a place on, gives the same end as all of them; k more entries are enough.
 pub record Rest (s entries : List ℕ) (whole : (next : ℕ) (after : List ℕ) → Type 0) (out : List ℕ) (pos entry at : ℕ) (l : List Call) : Type 0 where

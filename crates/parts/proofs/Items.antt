@@ -6,11 +6,11 @@ use Prim.Native.Nat.{ℕ, suc, _-_, _≤_, _<_}
 use native.Mathlib.Omega.{arith}
 use borrow.Author.Tests.{not-true}
 use lib.ListN.{replicate}
+use Rattle.parse.specs.Reader.{CursorOf, ReaderOf, Accepted, seen, andThen, check}
+use Rattle.parse.proofs.Answers.{accepted-first, accepted-check}
 use Rattle.value.specs.declared.Row.{Row}
-use Rattle.value.specs.Answer.{CursorOf, ReaderOf, Accepted, seen, andThen, check}
 use Rattle.value.specs.Value.{Tree, tip, Forest, plus, value, content}
 use Rattle.value.specs.Read.{Item, plainItem, pairs, among, walk}
-use Rattle.value.proofs.Answers.{accepted-first, accepted-check}
 
 abbrev pub keyItem : ℕ → Item
 keyItem k = record { type = k; key = true }

@@ -10,11 +10,11 @@ use borrow.Author.Tests.{eq-eqb, ne-eqb, eqb-false}
 use lib.Dec.{eqb}
 use lib.ListN.{length, getD, set, take, drop, length-set}
 use lib.Seq.{drop-cons, take-take, drop-drop, take-add, drop-at, getD-set-same, getD-set-other}
+use Rattle.buffer.specs.Span.{span}
+use Rattle.buffer.proofs.Spans.{length-span}
 use Rattle.wire.specs.Little.{little}
 use Rattle.schema.proofs.Bools.{or-false}
 use Rattle.value.specs.Read.{same, among}
-use Rattle.value.specs.Write.{span}
-use Rattle.value.proofs.Spans.{length-span}
 use Rattle.value.proofs.Keys.{same-not, lengths-differ}
 use Rattle.parts.specs.Keys.{mixed, words, digest, holds, whereIs, keyAt, keysIn, largest, Kept}
 

@@ -6,8 +6,8 @@ use mathlib.Core.List.{List, [], _∷_}
 use Prim.Native.Nat.{ℕ, zero, suc, _+_, _-_, _*_, _/_, _%_, _^_, _≤_, _<_}
 use lib.Dec.{eqb}
 use lib.ListN.{length, getD, take, drop}
+use Rattle.buffer.specs.Span.{span}
 use Rattle.wire.specs.Little.{little}
-use Rattle.value.specs.Write.{span}
 
 -- A digest with one word more.
 abbrev pub mixed : (d w : ℕ) → ℕ

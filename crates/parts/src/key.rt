@@ -7,8 +7,8 @@ ghost use mathlib.Core.Bool.{true, false};
 ghost use mathlib.Core.List.{_∷_};
 ghost use Prim.Native.Nat.{_+_, _/_, _%_, _≤_, _<_};
 ghost use lib.ListN.{length};
+ghost use Rattle.buffer.specs.Span.{span};
 ghost use Rattle.value.specs.Read.{same, among};
-ghost use Rattle.value.specs.Write.{span};
 ghost use Rattle.parts.specs.Keys.{mixed, digest, holds, whereIs, keyAt, keysIn, Kept};
 
 // A digest with one word more: nine times the digest, and the word.

@@ -17,7 +17,7 @@ use Rattle.schema.specs.Table as table
 use Rattle.schema.specs.Table.{Table}
 use Rattle.schema.specs.File.{cell, shaped, layoutOf, tabulate, tableOf}
 use Rattle.schema.specs.Check.{lowest, goodRow, goodField, findAmong, goodMethod, small, badRow, badField, badMethod, checkedTable, checked}
-use Rattle.schema.specs.Extend.{Widens, every, fieldKept, rowKept, methodKept, widened, bitmapKept, extended, extension}
+use Rattle.schema.specs.Extend.{every, fieldKept, rowKept, methodKept, widened, bitmapKept, extended, extension}
 use Rattle.schema.proofs.Goods.{good-table}
 use Rattle.schema.proofs.Extending.{widens-iff}
 use Rattle.schema.proofs.Examples.{T, file, longer, T-good, T-rows}

@@ -9,6 +9,7 @@ use lib.ListN.{length}
 use Rattle.wire.specs.Little as little
 use Rattle.wire.specs.Varuint as varuint
 use Rattle.wire.specs.Utf8 as utf8
+use Rattle.parse.specs.Reader as answer
 use Rattle.schema.specs.declared.Checked.the-variants.{Good}
 use Rattle.schema.specs.declared.Extended.the-variants.{Yes}
 use Rattle.schema.specs.Table as table
@@ -18,7 +19,6 @@ use Rattle.schema.specs.Check.{lowest, goodRow, goodField, findAmong, goodMetho
 use Rattle.schema.specs.Extend.{every, fieldKept, rowKept, methodKept, widened, bitmapKept, extended, extension}
 use Rattle.schema.proofs.Examples.{T, file, longer, T-good, T-rows}
 use Rattle.value.specs.declared.Row.{Row}
-use Rattle.value.specs.Answer as answer
 use Rattle.value.specs.Value as value
 use Rattle.value.specs.Comparisons as comparisons
 use Rattle.value.specs.Read as read
@@ -31,7 +31,6 @@ use Rattle.value.proofs.Examples.{innerAdded, rootAdded}
 use Rattle.reader.specs.declared.Reading.the-variants.{Shown, Refused}
 use Rattle.reader.specs.Sheet.{shownIn}
 use Rattle.reader.specs.Entry.{outcome, outcomeOf, room, readOutcome}
-use Rattle.writer.specs.declared.Writing.the-variants.{Written}
 use Rattle.writer.specs.Entry as writer
 use Rattle.writer.proofs.Outcomes.{write-by}
 use Rattle.forward.specs.Forward.{forward}
@@ -91,7 +90,7 @@ computed : (read.read innerTable 4 P5 7 ≡ accepted innerRows 7 0 0)
     × ((n : ℕ) → read.read T 4 P5 n ≡ refusal 26 2)
     × (read.read rootTable 4 P6 5 ≡ accepted rootRows 5 0 0)
     × (read.read T 4 P6 4 ≡ accepted knownRows 4 1 0)
-unfolding innerAdded rootAdded read.read read.rootStruct read.ending onesIn read.parse read.walk read.bitmap read.count read.present read.complete
+unfolding innerAdded rootAdded read.read read.rootStruct read.ending onesIn read.parse read.walk read.bitmap answer.count read.present read.complete
     table.shape answer.andThen answer.check answer.block answer.varUInt little.little varuint.front varuint.groups utf8.run utf8.next utf8.leadOf utf8.rows value.rows value.value comparisons.comparisons
 computed = (refl, λ n. refl, refl, refl)
 
@@ -134,7 +133,7 @@ module _ (s : List ℕ) (T : Table) (good : checked s ≡ Good) (is : tableOf s 
   cases-by (c ∷ cases) = ap₂ _∷_ (ap (caseOf (c .payload)) (by-rows sheet s T t (c .payload) _ good is refl)) (cases-by cases)
 
 worked-by-T : map (λ (c : Case). caseOf (c .payload) (outcomeOf lent (read.read T 4 (c .payload) (room lent)))) worked ≡ worked
-unfolding cellsOf read.read read.rootStruct read.ending onesIn read.parse read.walk read.bitmap read.count read.present read.complete
+unfolding cellsOf read.read read.rootStruct read.ending onesIn read.parse read.walk read.bitmap answer.count read.present read.complete
     table.shape answer.andThen answer.check answer.block answer.varUInt little.little varuint.front varuint.groups utf8.run utf8.next utf8.leadOf utf8.rows value.rows value.value comparisons.comparisons
 worked-by-T = refl
 

@@ -12,6 +12,8 @@ use lib.ListN.{length, take, drop, length-append}
 use lib.Seq.{drop-at}
 use lib.Pow.{pow-pos}
 use Rattle.wire.proofs.Cases.{differ}
+use Rattle.parse.specs.Reader.{cursorAt}
+use Rattle.parse.proofs.Answers.{seen-end}
 use Rattle.schema.specs.declared.Field.{Field}
 use Rattle.schema.specs.declared.Checked.{Checked}
 use Rattle.schema.specs.declared.Checked.the-variants.{Good, Refused as Faulty}
@@ -23,7 +25,6 @@ use Rattle.schema.specs.Extend.{Extends, extended, ifGood, extension}
 use Rattle.schema.proofs.Goods.{good-table}
 use Rattle.schema.proofs.Extending.{yes-iff}
 use Rattle.value.specs.declared.Row.{Row}
-use Rattle.value.specs.Answer.{cursorAt}
 use Rattle.value.specs.Value.{Tree, Value, leaf, node, value, size}
 use Rattle.value.specs.Read.{plan, rootBits, unknownBits, accepted, read}
 use Rattle.value.specs.Sheet.{rowsOf}
@@ -32,7 +33,6 @@ use Rattle.value.specs.Fits.{Shows}
 use Rattle.value.specs.Delimits.{RootDelimits}
 use Rattle.value.specs.Added.{without, inner, firstAdded, NoneAdded}
 use Rattle.value.specs.Claims.{ByOld}
-use Rattle.value.proofs.Answers.{seen-end}
 use Rattle.value.proofs.Root.{root-sound}
 use Rattle.value.proofs.Placed.{root-placed}
 use Rattle.value.proofs.Delimited.{root-delimits}

@@ -7,6 +7,7 @@ use Prim.Native.Nat.{ℕ, _+_, _*_, _/_, _≤_, _<_}
 use native.Mathlib.Omega.{arith}
 use lib.ListN.{length, take, drop}
 use lib.Seq.{take-at}
+use Rattle.buffer.specs.Span.{span}
 use Rattle.wire.specs.Little.{Bytes}
 use Rattle.wire.proofs.Numbers.{bytes-take}
 use Rattle.schema.specs.declared.Field.{Field}
@@ -22,7 +23,7 @@ use Rattle.value.specs.declared.Row.{Row}
 use Rattle.value.specs.Value.{Value, size}
 use Rattle.value.specs.Sheet.{rowsOf}
 use Rattle.value.specs.Spell.{TailFits, RootSpells, encode}
-use Rattle.value.specs.Write.{span, written, write}
+use Rattle.value.specs.Write.{written, write}
 use Rattle.value.specs.Fits.{Shows}
 use Rattle.value.proofs.Numbers.{sheet-reason-number, write-number-above}
 use Rattle.reader.specs.declared.Reading.the-variants.{Shown}

@@ -1,6 +1,6 @@
 -- Demand 2, the writer and both together: what `write` writes is read back as the value of its sheet, and what `read` shows is written, without
 -- unknown bits to the same bytes.
-use mathlib.Core.Path.{_≡_, refl, sym, ap, _∙_, subst}
+use mathlib.Core.Path.{_≡_, sym, ap, _∙_, subst}
 use mathlib.Core.Logic.{_↔_}
 use mathlib.Core.List.{List, [], _++_}
 use Prim.Native.Nat.{ℕ, _*_, _/_, _≤_}

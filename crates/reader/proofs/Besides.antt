@@ -9,20 +9,20 @@ use borrow.Author.Tests.{eqb-true, eq-eqb}
 use lib.Dec.{eqb}
 use lib.ListN.{length, getD, set, List·getD-eq-default}
 use lib.Seq.{getD-set-same, getD-set-other}
+use Rattle.parse.specs.Reader.{Answer, refused, seen}
 use Rattle.schema.specs.declared.TypeRow.{TypeRow}
 use Rattle.schema.specs.declared.Field.{Field}
-use Rattle.schema.specs.Table.{Table, Shape, unknown, scalar, text, array, map, struct, rowAt, shape}
+use Rattle.schema.specs.Table.{Shape, unknown, scalar, text, array, map, struct, rowAt}
 use Rattle.schema.specs.File.{tableOf}
 use Rattle.schema.specs.Check.{IsGood, noRow}
 use Rattle.schema.specs.Extend.{widened, Grows}
 use Rattle.schema.proofs.Goods.{good-table}
 use Rattle.schema.proofs.Shapes as shapes
 use Rattle.schema.proofs.Extending.{widens-iff, grows}
-use Rattle.value.specs.Answer.{Answer, refused, seen}
 use Rattle.value.specs.Value.{Tree}
 use Rattle.value.specs.Read.{onStruct, rootOf, refusal, readingAs, reading, read}
 use Rattle.value.specs.Beside.{shownRows, readBeside}
-use Rattle.value.specs.Narrow.{firstOf, fieldsIn}
+use Rattle.value.specs.Narrow.{fieldsIn}
 use Rattle.value.proofs.Shapes.{good-closed}
 use Rattle.value.proofs.Narrowed.{first-all, narrowed, pruned-agree}
 use Rattle.value.proofs.Beside.{beside-same}

@@ -9,15 +9,15 @@ use borrow.Author.Tests.{ltb-true, eq-eqb, ne-eqb, le-leb, lt-leb}
 use lib.Dec.{ltb}
 use lib.ListN.{length, replicate, getD, drop}
 use lib.Seq.{take-take}
+use Rattle.parse.specs.Reader.{Cursor, refused, seen, Reader, andThen, check, cursorAt, Accepted, count}
+use Rattle.parse.proofs.Answers.{accepted-first}
 use Rattle.schema.specs.declared.Field.{Field}
 use Rattle.schema.specs.Table.{Table, Shape, array, map, struct}
 use Rattle.schema.specs.Check.{field}
 use Rattle.value.specs.Narrow.{firstOf}
 use Rattle.value.specs.Comparisons.{due}
-use Rattle.value.specs.Answer.{Cursor, refused, seen, Reader, andThen, check, cursorAt, Accepted}
 use Rattle.value.specs.Value.{Tree, tip}
-use Rattle.value.specs.Read.{Item, plainItem, pairs, present, parts, count, bitmap, among, walk, whole, parse}
-use Rattle.value.proofs.Answers.{accepted-first}
+use Rattle.value.specs.Read.{Item, plainItem, pairs, present, parts, bitmap, among, walk, whole, parse}
 use Rattle.value.proofs.Narrowed.{first-all}
 use Rattle.value.proofs.Comparisons.{due-half, due-few}
 use Rattle.parts.specs.Shape.{fieldsFrom}

@@ -1,6 +1,6 @@
 -- Laws of the entries: what each of their returns shows.
-use mathlib.Core.Path.{_≡_, refl, sym, ap, _∙_}
-use mathlib.Core.Bool.{Bool, true, false}
+use mathlib.Core.Path.{_≡_, refl, ap, _∙_}
+use mathlib.Core.Bool.{true, false}
 use mathlib.Core.List.{List}
 use Prim.Native.Nat.{ℕ, _+_, _-_, _*_, _≤_, _<_}
 use native.Mathlib.Omega.{arith}
@@ -8,6 +8,7 @@ use borrow.Author.Tests.{le-leb, lt-leb}
 use lib.ListN.{length, length-drop}
 use lib.Seq.{paste}
 use Rattle.wire.proofs.Cases.{differ}
+use Rattle.parse.specs.Reader.{Cursor, Answer, refused, seen, cursorAt, Accepted}
 use Rattle.schema.specs.declared.TypeRow.{TypeRow}
 use Rattle.schema.specs.declared.Checked.{Checked}
 use Rattle.schema.specs.declared.Checked.the-variants.{Good, Refused as Faulty}
@@ -16,7 +17,6 @@ use Rattle.schema.specs.File.{tableOf}
 use Rattle.schema.specs.Check.{checked, IsGood}
 use Rattle.schema.specs.Extend.{widened}
 use Rattle.schema.proofs.Goods.{good-table}
-use Rattle.value.specs.Answer.{Cursor, Answer, refused, seen, cursorAt, Accepted}
 use Rattle.value.specs.Value.{Tree}
 use Rattle.value.specs.Read as value
 use Rattle.value.specs.Beside.{shownRows}

@@ -10,11 +10,11 @@ use borrow.Author.Tests.{lt-ltb, ltb-true}
 use lib.Dec.{ltb}
 use lib.ListN.{length}
 use lib.Pow.{pow-pos}
+use Rattle.parse.specs.Reader.{refused, seen, andThen, check, cursorAt}
 use Rattle.schema.specs.declared.Field.{Field}
 use Rattle.schema.specs.declared.TypeRow.{TypeRow}
 use Rattle.schema.specs.Table.{Table, Shape, struct, rowAt}
 use Rattle.schema.specs.Check.{field}
-use Rattle.value.specs.Answer.{refused, seen, andThen, check, cursorAt}
 use Rattle.value.specs.Read.{parts, present, bitmap, own, whole, parse}
 use Rattle.parts.specs.Shape.{fieldsFrom}
 use Rattle.parts.specs.Required.{Requires}

@@ -9,10 +9,10 @@ use lib.Seq.{length-take-le}
 use Rattle.wire.specs.Bitmap.{Present}
 use Rattle.wire.specs.Little.{Bytes}
 use Rattle.wire.proofs.Numbers.{bytes-drop, bytes-take}
+use Rattle.parse.specs.Reader.{Accepted, seen, andThen, check, cursorAt}
+use Rattle.parse.proofs.Answers.{accepted-check}
 use Rattle.schema.specs.Table.{Table}
-use Rattle.value.specs.Answer.{Accepted, seen, andThen, check, cursorAt}
 use Rattle.value.specs.Read.{complete, bitmap}
-use Rattle.value.proofs.Answers.{accepted-check}
 use Rattle.parts.specs.Shape.{fieldsFrom}
 use Rattle.parts.proofs.Presence.{length-fields, bits-read}
 use Rattle.reader.specs.declared.leaf.Head.the-variants.{Bits, Fault}

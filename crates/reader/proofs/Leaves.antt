@@ -1,7 +1,7 @@
 -- Laws of the leaves: what each of their returns shows of the reading in the crate `value`.
 use mathlib.Core.Path.{_≡_, sym, ap, _∙_}
 use mathlib.Core.Bool.{true, false, not, _||_}
-use mathlib.Core.List.{List, []}
+use mathlib.Core.List.{List}
 use Prim.Native.Nat.{ℕ, _+_, _-_, _*_, _≤_, _<_}
 use native.Mathlib.Nat.{mul-le-mul}
 use native.Mathlib.Omega.{arith}
@@ -9,16 +9,16 @@ use borrow.Author.Tests.{le-leb, lt-leb, lt-ltb, le-ltb, eq-eqb, ne-eqb}
 use lib.Dec.{ltb, eqb}
 use lib.ListN.{length, getD, drop, length-drop, length-take}
 use lib.Seq.{drop-drop}
+use Rattle.buffer.specs.Span.{span}
 use Rattle.wire.specs.Little.{little}
 use Rattle.wire.specs.Varuint.{varuint}
 use Rattle.wire.specs.Utf8.{utf8}
 use Rattle.wire.specs.declared.varuint.VarUInt.the-variants.{Number, Cut, Malformed}
 use Rattle.wire.proofs.Varuints.{varuint-inside}
+use Rattle.parse.specs.Reader.{refused, seen, andThen, check, cursorAt, block, varUInt, Accepted, count}
+use Rattle.parse.proofs.Answers.{accepted-check}
 use Rattle.schema.specs.Table.{scalar, text, width}
-use Rattle.value.specs.Answer.{refused, seen, andThen, check, cursorAt, block, varUInt, Accepted}
-use Rattle.value.specs.Read.{plain, count, own}
-use Rattle.value.specs.Write.{span}
-use Rattle.value.proofs.Answers.{accepted-check}
+use Rattle.value.specs.Read.{plain, own}
 use Rattle.value.proofs.Spans.{truth-byte}
 use Rattle.reader.specs.declared.leaf.Count.{Count}
 use Rattle.reader.specs.declared.leaf.Count.the-variants.{Is, Not}

@@ -5,10 +5,10 @@ use mathlib.Core.List.{List, [], _∷_}
 use Prim.Native.Nat.{ℕ, _+_, _-_, _*_, _≤_, _<_}
 use native.Mathlib.Omega.{arith}
 use lib.ListN.{length}
+use Rattle.parse.specs.Reader.{Reader, refused, seen, cursorAt, Accepted}
 use Rattle.schema.specs.declared.TypeRow.{TypeRow}
 use Rattle.schema.specs.Table.{Shape, map, rowAt}
 use Rattle.schema.specs.File.{tableOf}
-use Rattle.value.specs.Answer.{Reader, refused, seen, cursorAt, Accepted}
 use Rattle.value.specs.Value.{Tree, tip}
 use Rattle.value.specs.Comparisons.{due}
 use Rattle.value.specs.Read.{pairs, own, among, walk, parse}

@@ -1,22 +1,20 @@
 -- Laws of a struct of which only the first fields are shown: its first fields are walked as those of any struct, then the added ones, of which no row is written.
 use mathlib.Core.Path.{_≡_, refl, sym, ap, _∙_}
 use mathlib.Core.List.{List, [], _∷_, _++_}
-use Prim.Native.Nat.{ℕ, _+_, _-_, _*_, _/_, _%_, _^_, _≤_}
+use Prim.Native.Nat.{ℕ, _+_, _-_, _/_, _%_, _^_, _≤_}
 use native.Mathlib.Omega.{arith}
 use lib.Count.{ones}
 use lib.ListN.{length, take, drop}
 use lib.Seq.{take-add, drop-drop}
 use Rattle.wire.proofs.Cases.{differ}
+use Rattle.parse.specs.Reader.{Answer, refused, seen, Reader, andThen, cursorAt, Accepted}
 use Rattle.schema.specs.declared.Field.{Field}
 use Rattle.schema.specs.Table.{Table, Shape, struct}
-use Rattle.value.specs.declared.Row.{Row}
-use Rattle.value.specs.Answer.{Cursor, Answer, refused, seen, Reader, andThen, cursorAt, Accepted}
 use Rattle.value.specs.Value as tree
 use Rattle.value.specs.Value.{Tree, branch, Forest, stop, plus, rows, rowsAll, values}
 use Rattle.value.specs.Comparisons.{comparisons, comparisonsAll}
-use Rattle.value.specs.Read.{Item, present, plan, counted, parts, walk, nodeRow, whole, knownBits}
+use Rattle.value.specs.Read.{Item, present, parts, walk, nodeRow, whole, knownBits}
 use Rattle.value.specs.Beside.{pruned, prunedAll}
-use Rattle.value.proofs.Answers.{accepted-first}
 use Rattle.value.proofs.Bits.{present-append, present-mod, known-ones}
 use Rattle.value.proofs.Root.{present-unkeyed}
 use Rattle.value.proofs.Without.{_⧺_, trees}
@@ -25,7 +23,6 @@ use Rattle.value.proofs.Pruned.{pruned-first}
 use Rattle.value.proofs.Narrowed.{goOn, walk-append}
 use Rattle.parts.specs.Shape.{fieldsFrom}
 use Rattle.parts.proofs.Presence.{length-fields}
-use Rattle.reader.specs.declared.walk.Walk.{Walk}
 use Rattle.reader.specs.declared.walk.Walk.the-variants.{Past, Refused}
 use Rattle.reader.specs.Sheet.{putRow, putRows}
 use Rattle.reader.specs.Walk.{told, toldAll, toldHeld, done, stopped, walkOf, Walked}

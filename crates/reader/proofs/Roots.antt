@@ -6,12 +6,12 @@ use native.Mathlib.Omega.{arith}
 use borrow.Author.Tests.{eq-eqb, ne-eqb, le-leb, lt-leb}
 use lib.ListN.{length, drop, length-drop}
 use Rattle.wire.proofs.Cases.{differ}
+use Rattle.parse.specs.Reader.{Answer, refused, seen, Reader, andThen, check, cursorAt, Accepted}
+use Rattle.parse.proofs.Answers.{accepted-first}
 use Rattle.schema.specs.declared.Field.{Field}
 use Rattle.schema.specs.Table.{Shape, struct}
-use Rattle.value.specs.Answer.{Answer, refused, seen, Reader, andThen, check, cursorAt, Accepted}
 use Rattle.value.specs.Value.{Tree, branch, Forest}
 use Rattle.value.specs.Read.{counted, plan, bitmap, parts, walk, nodeRow, whole, parse, ending, rootStruct}
-use Rattle.value.proofs.Answers.{accepted-first}
 use Rattle.reader.specs.declared.leaf.Head.{Head}
 use Rattle.reader.specs.declared.leaf.Head.the-variants.{Bits, Fault}
 use Rattle.reader.specs.declared.walk.Walk.the-variants.{Past, Refused}

@@ -6,15 +6,15 @@ use Prim.Native.Nat.{ℕ, zero, suc, _+_, _-_, _*_, _≤_, _<_}
 use native.Mathlib.Omega.{arith}
 use lib.ListN.{length, length-append}
 use Rattle.wire.proofs.Cases.{differ}
+use Rattle.parse.specs.Reader.{Cursor, Answer, refused, seen, Reader, andThen, check, cursorAt, Accepted}
+use Rattle.parse.proofs.Answers.{accepted-first}
 use Rattle.schema.specs.Table.{Shape}
 use Rattle.value.specs.declared.Row.{Row}
-use Rattle.value.specs.Answer.{Cursor, Answer, refused, seen, Reader, andThen, check, cursorAt, Accepted}
 use Rattle.value.specs.Value as tree
 use Rattle.value.specs.Value.{Tree, tip, branch, Forest, plus, rows, rowsAll, values}
 use Rattle.value.specs.Comparisons.{mapDue, comparisons, comparisonsAll}
 use Rattle.value.specs.Read.{Item, plainItem, plan, counted, Own, plain, parts, own, among, walk, leafRow, nodeRow, whole, parse}
 use Rattle.value.specs.Beside.{pruned, prunedAll}
-use Rattle.value.proofs.Answers.{accepted-first}
 use Rattle.parts.specs.Shape.{shapeIn}
 use Rattle.parts.proofs.Items.{keyItem, afterItem, afterKey, item-step, key-step}
 use Rattle.reader.specs.declared.leaf.Span.{Span}

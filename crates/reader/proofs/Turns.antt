@@ -8,12 +8,12 @@ use native.Mathlib.Decide.{decLt}
 use lib.Count.{trailingZeros}
 use lib.Dec.{ltb}
 use lib.ListN.{length, getD}
+use Rattle.parse.specs.Reader.{refused, cursorAt, Accepted}
 use Rattle.schema.specs.declared.Field.{Field}
 use Rattle.schema.specs.declared.TypeRow.{TypeRow}
 use Rattle.schema.specs.Table.{Shape, scalar, text, array, struct, rowAt, shape}
 use Rattle.schema.specs.File.{tableOf}
 use Rattle.schema.specs.Check.{IsGood, field}
-use Rattle.value.specs.Answer.{refused, cursorAt, Accepted}
 use Rattle.value.specs.Read.{Item, present, parts, own, walk, whole, parse}
 use Rattle.value.specs.Narrow.{firstOf}
 use Rattle.parts.specs.Shape.{fieldsFrom, leafShape, shapeIn}

@@ -4,10 +4,10 @@ use mathlib.Core.Bool.{Bool}
 use mathlib.Core.List.{List}
 use Prim.Native.Nat.{ℕ, _+_, _^_, _≤_, _<_}
 use lib.ListN.{length}
+use Rattle.parse.specs.Reader.{Answer, refused, seen, cursorAt}
 use Rattle.schema.specs.Table.{Table, Shape, rowAt, array, map, struct}
 use Rattle.schema.specs.File.{tableOf, Laid}
 use Rattle.schema.specs.Check.{field}
-use Rattle.value.specs.Answer.{Answer, refused, seen, cursorAt}
 use Rattle.value.specs.Comparisons.{mapDue}
 use Rattle.value.specs.Read.{Own, parts, own, plan}
 use Rattle.parts.specs.Shape.{fieldsFrom, shapeIn}

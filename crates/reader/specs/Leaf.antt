@@ -4,8 +4,8 @@ use mathlib.Core.List.{List}
 use Prim.Native.Nat.{ℕ, _+_, _-_, _*_, _^_, _≤_, _<_}
 use lib.Dec.{eqb, ltb}
 use lib.ListN.{length, take, drop}
+use Rattle.parse.specs.Reader.{Answer, refused, seen, cursorAt}
 use Rattle.schema.specs.declared.Field.{Field}
-use Rattle.value.specs.Answer.{Answer, refused, seen, cursorAt}
 use Rattle.value.specs.Read.{Own, plain, present, knownBits, unknownBits}
 use Rattle.reader.specs.declared.leaf.Count.{Count}
 use Rattle.reader.specs.declared.leaf.Count.the-variants.{Is, Not}

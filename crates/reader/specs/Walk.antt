@@ -4,11 +4,11 @@ use mathlib.Core.Bool.{Bool, false}
 use mathlib.Core.List.{List, [], _∷_}
 use Prim.Native.Nat.{ℕ, _+_, _*_, _≤_}
 use lib.ListN.{length, getD}
+use Rattle.parse.specs.Reader.{Cursor, Answer, refused, seen, cursorAt, Accepted}
 use Rattle.schema.specs.declared.Field.{Field}
 use Rattle.schema.specs.Table.{Shape, struct}
 use Rattle.schema.specs.Check.{IsGood}
 use Rattle.value.specs.declared.Row.{Row}
-use Rattle.value.specs.Answer.{Cursor, Answer, refused, seen, cursorAt, Accepted}
 use Rattle.value.specs.Value.{Tree, tip, branch, Forest, rowsAll, value, values}
 use Rattle.value.specs.Comparisons.{mapDue, comparisons, comparisonsAll}
 use Rattle.value.specs.Read.{Item, plan, parts, whole, parse, rootStruct}

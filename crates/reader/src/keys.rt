@@ -5,8 +5,8 @@ ghost use mathlib.Core.Bool.{true, false};
 ghost use mathlib.Core.List.{_∷_};
 ghost use Prim.Native.Nat.{_+_, _/_, _≤_, _<_};
 ghost use lib.ListN.{length};
+ghost use Rattle.buffer.specs.Span.{span};
 ghost use Rattle.value.specs.Read.{among};
-ghost use Rattle.value.specs.Write.{span};
 ghost use Rattle.parts.specs.Keys.{keysIn, Kept};
 
 // Whether the n bytes at a place are the content of one of the first i keys; they are kept as the next. Where nothing is judged, they are known to be new.

@@ -10,13 +10,13 @@ ghost use mathlib.Core.Bool.{true, false};
 ghost use Prim.Native.Nat.{_+_, _≤_, _<_};
 ghost use lib.Count.{ones};
 ghost use lib.ListN.{length, getD};
+ghost use Rattle.buffer.specs.Span.{span};
 ghost use Rattle.wire.specs.Utf8.{utf8};
+ghost use Rattle.parse.specs.Reader.{cursorAt, Accepted, count};
 ghost use Rattle.schema.specs.Table.{scalar, text};
 ghost use Rattle.schema.specs.File.{tableOf};
 ghost use Rattle.schema.specs.Check.{IsGood};
-ghost use Rattle.value.specs.Answer.{cursorAt, Accepted};
-ghost use Rattle.value.specs.Read.{count, own, bitmap};
-ghost use Rattle.value.specs.Write.{span};
+ghost use Rattle.value.specs.Read.{own, bitmap};
 ghost use Rattle.parts.specs.Shape.{leafShape, fieldsFrom};
 ghost use Rattle.reader.specs.Leaf.{Counted, Uncounted, Spanned, Headed};
 

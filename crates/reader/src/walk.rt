@@ -80,6 +80,7 @@ fn composite(
             judge,
         );
     }
+    // A good table has no composite of another kind: this is never reached, and 42 is what the definition has for a type that there is not.
     Walk::Refused {
         number: 42,
         place: 0,

@@ -1,19 +1,17 @@
 -- Laws of a run: one entry at a time, the function and the relation, and where the entries stand.
 use mathlib.Core.Path.{_≡_, refl, sym, ap, subst, _∙_}
-use mathlib.Core.Bool.{Bool, true, false, cond}
+use mathlib.Core.Bool.{true, false}
 use mathlib.Core.List.{List, [], _∷_, List·Memᴰ, List·Memᴰ·cases-cons}
 use mathlib.Core.Logic.{_↔_, ⊎-elim}
-use Prim.Native.Nat.{ℕ, zero, suc, _+_, _*_, _-_, _≤_, _<_}
+use Prim.Native.Nat.{ℕ, zero, suc, _+_, _-_, _≤_, _<_}
 use native.Mathlib.Omega.{arith}
 use lib.ListN.{length, take, drop, getD, length-drop, drop-of-length-le}
 use lib.Seq.{drop-cons, drop-drop, getD-drop, take-all}
 use Rattle.schema.proofs.Bools.{cases, clash}
 use Rattle.frame.specs.Frame.{frameOf}
 use Rattle.calls.specs.declared.Call.{Call}
-use Rattle.calls.specs.declared.CallTable.{CallTable}
-use Rattle.calls.specs.Slots.{freshTable}
 use Rattle.line.specs.declared.Received.{Received}
-use Rattle.replay.specs.Run.{freshCalls, answerTo, headerIn, stops, Entry, entryOf, Run, halted, onward, runFrom, runOf}
+use Rattle.replay.specs.Run.{freshCalls, answerTo, stops, Entry, entryOf, Run, halted, onward, runFrom, runOf}
 use Rattle.replay.specs.Runs.{IsEntry, Runs, at-end, halting, answering, Stands}
 use Rattle.replay.proofs.Turns.{used-bounds, listed-frame, goes-on-iff, stops-there}
 
@@ -66,10 +64,6 @@ one-run {s} {place} (answering {side = side} {bytes = bytes} {l = l} e w) (suc k
     let a = answerTo s side bytes l in
     run-turn s k place side bytes l (goes-on-iff s side bytes l .1 e)
     ∙ ap (onward (entryOf place side bytes a)) (one-run w k (omega (arith, h, after-shorter (a .used) bytes)))
-
--- As many entries as bytes are enough: any greater number gives the same run.
-pub run-enough : (s : List ℕ) (k j place : ℕ) (left : List ℕ) (l : List Call) → length left ≤ k → length left ≤ j → runFrom s k place left l ≡ runFrom s j place left l
-run-enough s k j place left l h g = one-run (run-is s j place left l g) k h
 
 -- The run of a record is the one that the relation has.
 pub run-iff : (s entries : List ℕ) (r : Run) → (runOf s entries ≡ r) ↔ Runs s 0 entries freshCalls r

@@ -1,12 +1,12 @@
 -- Laws of the pieces: how far it goes forward, the first piece, and one piece after the other.
 use mathlib.Core.Path.{_≡_, refl, sym, ap, subst, _∙_}
 use mathlib.Core.Logic.{⊎-elim}
-use mathlib.Core.List.{List, [], _∷_, _++_}
-use Prim.Native.Nat.{ℕ, zero, suc, _+_, _-_, _≤_, _<_}
+use mathlib.Core.List.{List, [], _∷_}
+use Prim.Native.Nat.{ℕ, zero, suc, _-_, _≤_, _<_, _+_}
 use native.Mathlib.Omega.{arith}
 use borrow.Author.Tests.{eq-eqb, ne-eqb, eqb-true, eqb-false}
 use lib.Dec.{eqb}
-use lib.ListN.{length, take, drop, length-drop, take-append-drop}
+use lib.ListN.{length, take, drop, length-drop}
 use lib.Seq.{length-take-le}
 use Rattle.schema.proofs.Bools.{cases}
 use Rattle.record.specs.Entry.{entryLength}
@@ -93,9 +93,6 @@ first-front s = by-entry s skipped kept
     kept h =
         let f = front-of s (entryLength s) (entry-inside s) in
         subst (Front s) (sym (first-keep s h)) (record { some = λ _. omega (arith, f .0, h); inside = omega (arith, f .0, entry-inside s); is = f .1 })
-
-pub first-split : (s : List ℕ) → s ≡ bytesIn (firstPiece s) ++ drop (length (bytesIn (firstPiece s))) s
-first-split s = sym (ap (λ (l : List ℕ). l ++ drop (length (bytesIn (firstPiece s))) s) (first-front s .is) ∙ take-append-drop (length (bytesIn (firstPiece s))) s)
 
 -- ---- piece after piece
 

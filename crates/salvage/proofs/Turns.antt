@@ -6,10 +6,9 @@ use Prim.Native.Nat.{ℕ, suc, _+_, _-_, _≤_, _<_}
 use native.Mathlib.Omega.{arith}
 use lib.ListN.{length, take, drop, getD, length-append, length-drop, drop-of-length-le}
 use lib.Seq.{take-all, drop-cons, drop-drop, length-take-le, sets, length-sets, sets-eq}
-use Rattle.wire.specs.Little.{written}
-use Rattle.wire.proofs.Numbers.{sets-written}
+use Rattle.buffer.specs.Store.{written}
+use Rattle.buffer.proofs.Stores.{sets-written, sets-append}
 use Rattle.wire.proofs.Cases.{differ}
-use Rattle.frame.proofs.Writes.{sets-append}
 use Rattle.record.specs.Entry.{entryLength}
 use Rattle.record.proofs.Entries.{entry-inside}
 use Rattle.salvage.specs.Pieces.{Piece, keep, skip, bytesIn, isKept, forward, firstPiece, piecesOf, entriesIn, copyOf, spanCount, spansOf}

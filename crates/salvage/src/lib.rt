@@ -83,7 +83,7 @@ fn put_pieces(torn: &[u8], copy: &mut [u8], spans: &mut [u32]) -> Measure
         let piece = first_piece(&torn[at..]);
         let next = at + piece.length;
         if piece.kept {
-            frame::copy(copy, pos, &torn[at..next]);
+            buffer::copy(copy, pos, &torn[at..next]);
             pos += piece.length;
             entries += 1;
         } else {

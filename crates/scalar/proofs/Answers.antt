@@ -1,13 +1,14 @@
 -- The answer of each branch of the code.
 use mathlib.Core.Path.{_≡_, refl, ap, _∙_}
 use mathlib.Core.Bool.{Bool, true, false, not, _||_}
-use mathlib.Core.List.{List, []}
+use mathlib.Core.List.{List}
 use mathlib.Core.Logic.{⊎-elim}
 use Prim.Native.Nat.{ℕ, _+_, _≤_, _<_}
 use native.Mathlib.Omega.{arith}
 use borrow.Author.Tests.{eq-eqb, ne-eqb, leb-true, lt-ltb, le-ltb, eqb-true, eqb-false, ltb-true, ltb-false, not-true, not-false}
 use lib.Dec.{ltb, eqb}
 use lib.ListN.{length, getD}
+use Rattle.buffer.specs.Span.{span, inside}
 use Rattle.wire.specs.Little.{little}
 use Rattle.wire.specs.Utf8.{utf8}
 use Rattle.schema.specs.Table.{Table, Shape, unknown, scalar, text, array, map, struct, rowAt, shape, width}
@@ -18,38 +19,37 @@ use Rattle.schema.specs.Good.{GoodTable}
 use Rattle.schema.proofs.Bools.{or-cases, or-false}
 use Rattle.schema.proofs.Shapes.{shape-scalar, shape-text, kindOf, Within, within, kind-of}
 use Rattle.value.specs.declared.Row.{Row}
-use Rattle.value.specs.Write.{span, inside}
 use Rattle.value.proofs.Spans.{truth-byte}
 use Rattle.value.proofs.Complete.{asks}
 use Rattle.scalar.specs.declared.Answer.the-variants.{Is, Refused}
 use Rattle.scalar.specs.declared.Scalar.the-variants.{Span}
-use Rattle.scalar.specs.Scalar.{valueOf, numberAt, textAt, byShape, scalarOf, scalarBy}
+use Rattle.scalar.specs.Scalar.{valueOf, textAt, byShape, scalarOf, scalarBy, scalarAt}
 
 module _ (kind place n : ℕ) (bytes : List ℕ) where
-  pub wrong-length : (n ≡ width kind → ⊥) → numberAt kind place n bytes ≡ Refused 50 0
-  unfolding numberAt
+  pub wrong-length : (n ≡ width kind → ⊥) → scalarAt kind place n bytes ≡ Refused 50 0
+  unfolding scalarAt
   wrong-length h = rw (ne-eqb n (width kind) h)
 
   module _ (w : n ≡ width kind) where
-    pub outside : inside bytes place n ≡ false → numberAt kind place n bytes ≡ Refused 51 0
-    unfolding numberAt
+    pub outside : inside bytes place n ≡ false → scalarAt kind place n bytes ≡ Refused 51 0
+    unfolding scalarAt
     outside h = rw (eq-eqb n (width kind) w, h)
 
     module _ (h : inside bytes place n ≡ true) where
       truth : kind ≡ 1 → little (span bytes place n) ≡ getD bytes place 0
       truth e = truth-byte bytes kind place n w (leb-true (place + n) (length bytes) h) e
 
-      pub no-truth : kind ≡ 1 → 1 < getD bytes place 0 → numberAt kind place n bytes ≡ Refused 22 place
-      unfolding numberAt
+      pub no-truth : kind ≡ 1 → 1 < getD bytes place 0 → scalarAt kind place n bytes ≡ Refused 22 place
+      unfolding scalarAt
       no-truth e b = rw (eq-eqb n (width kind) w, h, eq-eqb kind 1 e, le-ltb (little (span bytes place n)) 2 (rw (truth e) b))
 
-      pub number-told : (kind ≡ 1 → little (span bytes place n) < 2) → numberAt kind place n bytes ≡ Is (valueOf kind (span bytes place n))
-      unfolding numberAt
+      pub number-told : (kind ≡ 1 → little (span bytes place n) < 2) → scalarAt kind place n bytes ≡ Is (valueOf kind (span bytes place n))
+      unfolding scalarAt
       number-told b =
           let t = asks 1 kind (ltb (little (span bytes place n)) 2) (λ e. lt-ltb (little (span bytes place n)) 2 (b e)) in
           rw (eq-eqb n (width kind) w, h, t)
 
-      pub number-is : (kind ≡ 1 → getD bytes place 0 ≤ 1) → numberAt kind place n bytes ≡ Is (valueOf kind (span bytes place (width kind)))
+      pub number-is : (kind ≡ 1 → getD bytes place 0 ≤ 1) → scalarAt kind place n bytes ≡ Is (valueOf kind (span bytes place (width kind)))
       number-is b = number-told (λ e. rw (truth e) (omega (arith, b e))) ∙ ap (λ (k : ℕ). Is (valueOf kind (span bytes place k))) w
 
   pub text-outside : inside bytes place n ≡ false → textAt kind place n bytes ≡ Refused 51 0
@@ -112,7 +112,7 @@ module _ (T : Table) (g : GoodTable T) (r : Row) (bytes : List ℕ) where
         let f = or-false (ltb 13 kind) (not (eqb (r .count) 0)) (z .1) in
         (omega (arith, eqb-false kind 0 (z .0)), omega (arith, ltb-false 13 kind (f .0)), eqb-true (r .count) 0 (not-false (eqb (r .count) 0) (f .1)))
 
-    pub number-row : 0 < kind → kind < 12 → r .count ≡ 0 → scalarOf T r bytes ≡ numberAt kind (r .place) (r .length) bytes
+    pub number-row : 0 < kind → kind < 12 → r .count ≡ 0 → scalarOf T r bytes ≡ scalarAt kind (r .place) (r .length) bytes
     unfolding scalarOf
     number-row p h e = rw (shape-scalar T (r .ty) (rw k p) (rw k (omega arith)), k, eq-eqb (r .count) 0 e)
 

@@ -94,7 +94,7 @@ values =
     ∷ []
 
 pub values-hold : map answer given ≡ map (λ (x : Scalar). Is x) values
-unfolding kinds scalar.scalarOf scalar.numberAt scalar.textAt scalar.valueOf table.shape little.little little.twos utf8.run utf8.next utf8.leadOf utf8.rows ieee.ofBits ieee.ofFields ieee.odd
+unfolding kinds scalar.scalarOf scalar.scalarAt scalar.textAt scalar.valueOf table.shape little.little little.twos utf8.run utf8.next utf8.leadOf utf8.rows ieee.ofBits ieee.ofFields ieee.odd
 values-hold = refl
 
 -- ---- refusals
@@ -129,5 +129,5 @@ abbrev places : List ℕ
 places = 0 ∷ 0 ∷ 0 ∷ 0 ∷ 0 ∷ 0 ∷ 0 ∷ 0 ∷ 0 ∷ 0 ∷ 0 ∷ 0 ∷ 1 ∷ 1 ∷ 0 ∷ []
 
 pub refusals-hold : (map (λ (c : Case). scalar.numberOf (answer c)) refused ≡ numbers) × (map (λ (c : Case). scalar.placeOf (answer c)) refused ≡ places)
-unfolding kinds scalar.numberOf scalar.placeOf scalar.scalarOf scalar.numberAt scalar.textAt scalar.valueOf table.shape little.little little.twos utf8.run utf8.next utf8.leadOf utf8.rows
+unfolding kinds scalar.numberOf scalar.placeOf scalar.scalarOf scalar.scalarAt scalar.textAt scalar.valueOf table.shape little.little little.twos utf8.run utf8.next utf8.leadOf utf8.rows
 refusals-hold = (refl, refl)

@@ -6,8 +6,10 @@ use mathlib.Core.List.{List}
 use Prim.Native.Nat.{ℕ, _<_}
 use native.Mathlib.Omega.{arith}
 use lib.Dec.{ltb, eqb, lit≤}
+use Rattle.buffer.specs.Span.{span, inside}
 use Rattle.wire.specs.Little.{little}
 use Rattle.wire.specs.Utf8.{utf8}
+use Rattle.parse.specs.Test.{test}
 use Rattle.schema.specs.declared.Checked.{Checked}
 use Rattle.schema.specs.declared.Checked.the-variants as check
 use Rattle.schema.specs.Table.{Shape, unknown, scalar, text, array, map, struct, shape, width}
@@ -15,12 +17,11 @@ use Rattle.schema.specs.File.{tableOf}
 use Rattle.schema.specs.Check.{checked, IsGood}
 use Rattle.schema.proofs.Listed.{listed, listed-bounds}
 use Rattle.value.specs.declared.Row.{Row}
-use Rattle.value.specs.Write.{span, inside}
 use Rattle.scalar.specs.declared.Scalar.{Scalar}
 use Rattle.scalar.specs.declared.Scalar.the-variants.{Span}
 use Rattle.scalar.specs.declared.Answer.{Answer}
 use Rattle.scalar.specs.declared.Answer.the-variants.{Is, Refused}
-use Rattle.scalar.specs.Scalar.{valueOf, test, numberAt, textAt, byShape, scalarOf, afterTable, scalarBy, numberOf, placeOf}
+use Rattle.scalar.specs.Scalar.{valueOf, textAt, byShape, scalarOf, afterTable, scalarBy, numberOf, placeOf, scalarAt}
 use Rattle.scalar.specs.Leaves.{Shows}
 use Rattle.scalar.specs.Reasons.{Reason}
 use Rattle.scalar.proofs.Reasons.{refused-iff}
@@ -50,13 +51,13 @@ data Zero (x : Scalar) : Answer → Type 0 where
   is : Zero x (Is x)
   other : {n q : ℕ} → 0 < n → Zero x (Refused n q)
 
-test-zero : {x : Scalar} (b : Bool) (n q : ℕ) (next : Answer) → 0 < n → Zero x next → Zero x (test b n q next)
+test-zero : {x : Scalar} (b : Bool) (n q : ℕ) (next : Answer) → 0 < n → Zero x next → Zero x (test b (Refused n q) next)
 test-zero true n q next h z = z
 test-zero false n q next h z = other h
 
 module _ (bytes : List ℕ) (r : Row) where
   scalar-zero : (kind : ℕ) → Zero (valueOf kind (span bytes (r .place) (r .length))) (byShape (scalar kind) r bytes)
-  unfolding numberAt
+  unfolding scalarAt
   scalar-zero kind =
       let x = span bytes (r .place) (r .length) in
       test-zero (eqb (r .count) 0) 50 0 _ (lit≤ tt)

@@ -7,23 +7,23 @@ use native.Mathlib.Omega.{arith}
 use borrow.Author.Tests.{eq-eqb, le-leb, eqb-true, leb-true, ltb-true}
 use lib.Dec.{leb}
 use lib.ListN.{length}
+use Rattle.buffer.specs.Span.{span}
 use Rattle.wire.specs.Utf8.{Utf8}
 use Rattle.wire.proofs.Cases.{cond-case}
 use Rattle.wire.proofs.Utf8s.{utf8-is}
+use Rattle.parse.specs.Reader.{Cursor, refused, seen, cursorAt}
+use Rattle.parse.proofs.Answers.{Seen, nothing, seen-map, seen-end}
 use Rattle.schema.specs.declared.Field.{Field}
 use Rattle.schema.specs.Table.{Table, Shape, unknown, scalar, text, array, map, struct, shape}
 use Rattle.value.specs.declared.Row.{Row}
-use Rattle.value.specs.Answer.{Cursor, refused, seen, cursorAt}
 use Rattle.value.specs.Value.{Tree, tip, branch, Forest, stop, plus}
 use Rattle.value.specs.Read.{Item, plan, onStruct, rootStruct, rootOf}
-use Rattle.value.specs.Write.{span}
 use Rattle.value.specs.Fits.{LeafFits, AllFit, Fits, RootFits}
-use Rattle.value.proofs.Answers.{Seen, nothing, seen-map, seen-end}
 use Rattle.value.proofs.Sound.{asked}
 use Rattle.value.proofs.Placed.{root-placed}
 use Rattle.scalar.specs.declared.Answer.{Answer as Told}
 use Rattle.scalar.specs.declared.Answer.the-variants.{Refused}
-use Rattle.scalar.specs.Scalar.{numberAt, textAt, byShape, scalarOf, numberOf}
+use Rattle.scalar.specs.Scalar.{textAt, byShape, scalarOf, numberOf, scalarAt}
 use Rattle.scalar.specs.Leaves.{Shows, EachLeaf, EachOf}
 use Rattle.scalar.proofs.Answers.{number-told, text-is}
 
@@ -51,7 +51,7 @@ module _ (bytes : List ℕ) (r : Row) where
 
   -- A row that is not refused fits.
   pub shown-fits : (s : Shape) → numberOf (byShape s r bytes) ≡ 0 → LeafFits bytes s (r .place) (r .length) (r .count) (span bytes (r .place) (r .length))
-  unfolding numberAt textAt numberOf
+  unfolding scalarAt textAt numberOf
   shown-fits (scalar kind) e =
       let a = passed _ _ _ _ e in
       let b = passed _ _ _ _ (a .1) in

@@ -8,9 +8,11 @@ use native.Mathlib.Omega.{arith}
 use lib.Dec.{ltb, eqb}
 use lib.ListN.{length}
 use borrow.Author.Tests.{leb-true, leb-false, ltb-false, eqb-true, eqb-false, le-leb, lt-leb, le-ltb, eq-eqb, ne-eqb}
+use Rattle.buffer.specs.Span.{span, inside}
 use Rattle.wire.specs.Little.{little}
 use Rattle.wire.specs.Utf8.{utf8}
 use Rattle.wire.proofs.Utf8s.{utf8-is}
+use Rattle.parse.specs.Test.{test}
 use Rattle.schema.specs.declared.Checked.{Checked}
 use Rattle.schema.specs.declared.Checked.the-variants as check
 use Rattle.schema.specs.Table.{Shape, unknown, scalar, text, array, map, struct, shape, width}
@@ -19,14 +21,13 @@ use Rattle.schema.specs.Check.{checked, IsGood}
 use Rattle.schema.proofs.Bools.{is-false}
 use Rattle.schema.proofs.Faults.{refused-iff as schema-refused}
 use Rattle.value.specs.declared.Row.{Row}
-use Rattle.value.specs.Write.{span, inside}
 use Rattle.value.specs.SheetReasons.{RowFault, scalar-unfit, scalar-outside, no-bool, text-unfit, text-outside, no-string, many-pairs, bits, struct-unfit}
 use Rattle.value.proofs.Reasons.{denied}
 use Rattle.value.proofs.RowFaults.{bool-fault, string-fault}
 use Rattle.scalar.specs.declared.Scalar.{Scalar}
 use Rattle.scalar.specs.declared.Answer.{Answer}
 use Rattle.scalar.specs.declared.Answer.the-variants.{Is, Refused}
-use Rattle.scalar.specs.Scalar.{test, numberAt, textAt, byShape, scalarOf, afterTable, scalarBy}
+use Rattle.scalar.specs.Scalar.{textAt, byShape, scalarOf, afterTable, scalarBy, scalarAt}
 use Rattle.scalar.specs.Reasons.{Leaf, faultPlace, Reason, file, no-leaf, faulty}
 
 -- ---- a refusal has its reason
@@ -38,12 +39,12 @@ module _ (bytes : List ℕ) where
     refuses : {number : ℕ} → RowFault bytes s p n c number → Told s p n c (Refused number (faultPlace number p))
 
   test-told : {s : Shape} {p n c : ℕ} (b : Bool) (number q : ℕ) (next : Answer) → (b ≡ false → Told s p n c (Refused number q)) → (b ≡ true → Told s p n c next)
-      → Told s p n c (test b number q next)
+      → Told s p n c (test b (Refused number q) next)
   test-told true number q next f g = g refl
   test-told false number q next f g = f refl
 
-  number-told : (kind p n c : ℕ) → c ≡ 0 → Told (scalar kind) p n c (numberAt kind p n bytes)
-  unfolding numberAt
+  number-told : (kind p n c : ℕ) → c ≡ 0 → Told (scalar kind) p n c (scalarAt kind p n bytes)
+  unfolding scalarAt
   number-told kind p n c z =
       test-told (eqb n (width kind)) 50 0 _ (λ e. refuses (scalar-unfit (inl (eqb-false n (width kind) e)))) (λ e.
       let w = eqb-true n (width kind) e in
@@ -70,13 +71,13 @@ module _ (bytes : List ℕ) where
 
   -- ---- a reason makes the entry refuse
 
-  either : (b : Bool) (number q : ℕ) → test b number q (Refused number q) ≡ Refused number q
+  either : (b : Bool) (number q : ℕ) → test b (Refused number q) (Refused number q) ≡ Refused number q
   either true number q = refl
   either false number q = refl
 
   fault-refused : (s : Shape) (t p n c number : ℕ) → Leaf s → RowFault bytes s p n c number
       → byShape s (record { ty = t; place = p; length = n; count = c }) bytes ≡ Refused number (faultPlace number p)
-  unfolding numberAt textAt little
+  unfolding scalarAt textAt little
   fault-refused s t p n c number h (scalar-unfit {kind} (inl w)) = let wide : eqb n (width kind) ≡ false = ne-eqb n (width kind) w in rw wide (either (eqb c 0) 50 0)
   fault-refused s t p n c number h (scalar-unfit {kind} (inr z)) = let some : eqb c 0 ≡ false = ne-eqb c 0 z in rw some
   fault-refused s t p n c number h (scalar-outside {kind} w o) =

@@ -1,21 +1,22 @@
 -- One row of a sheet over its bytes as a value: the tests in order, and the value of a content by its kind.
 use mathlib.Core.Path.{_≡_}
 use mathlib.Core.List.{List}
-use mathlib.Core.Bool.{Bool, not, _||_, cond}
+use mathlib.Core.Bool.{not, _||_, cond}
 use Prim.Native.Nat.{ℕ, _-_, _*_, _^_, _<_}
 use lib.Dec.{leb, ltb, eqb}
 use lib.Ieee.{binary32, binary64, ofBits}
 use lib.IntN.{ℤ, pos}
 use lib.ListN.{length}
+use Rattle.buffer.specs.Span.{span, inside}
 use Rattle.wire.specs.Little.{little, twos, Bytes}
 use Rattle.wire.specs.Utf8.{utf8}
+use Rattle.parse.specs.Test.{test, _>>_}
 use Rattle.schema.specs.declared.Checked.{Checked}
 use Rattle.schema.specs.declared.Checked.the-variants as check
 use Rattle.schema.specs.Table.{Table, Shape, unknown, scalar, text, array, map, struct, shape, width}
 use Rattle.schema.specs.File.{tableOf}
 use Rattle.schema.specs.Check.{checked}
 use Rattle.value.specs.declared.Row.{Row}
-use Rattle.value.specs.Write.{span, inside}
 use Rattle.scalar.specs.declared.Scalar.{Scalar}
 use Rattle.scalar.specs.declared.Scalar.the-variants.{Truth, Signed, Unsigned, Float32, Float64, Span}
 use Rattle.scalar.specs.declared.Answer.{Answer}
@@ -30,35 +31,28 @@ valueOf kind x =
     (cond (eqb kind 10) (Float32 (ofBits binary32 (little x)) (little x))
     (Float64 (ofBits binary64 (little x)) (little x)))))
 
--- Goes on where the test holds.
-abbrev pub test : Bool → (number place : ℕ) → Answer → Answer
-test b number place next = cond b next (Refused number place)
-
-abbrev pub _>>_ : (Answer → Answer) → Answer → Answer
-_>>_ t next = t next
-
 -- A scalar: its length is its width; its span lies in the bytes; a bool is 0 or 1.
-unfoldable pub numberAt : (kind place length : ℕ) → List ℕ → Answer
-numberAt kind place n bytes = do
-  test (eqb n (width kind)) 50 0
-  test (inside bytes place n) 51 0
-  test (not (eqb kind 1) || ltb (little (span bytes place n)) 2) 22 place
+unfoldable pub scalarAt : (kind place length : ℕ) → List ℕ → Answer
+scalarAt kind place n bytes = do
+  test (eqb n (width kind)) (Refused 50 0)
+  test (inside bytes place n) (Refused 51 0)
+  test (not (eqb kind 1) || ltb (little (span bytes place n)) 2) (Refused 22 place)
   Is (valueOf kind (span bytes place n))
 
 -- A string or bytes: its span lies in the bytes; a string is UTF-8.
 unfoldable pub textAt : (kind place length : ℕ) → List ℕ → Answer
 textAt kind place n bytes = do
-  test (inside bytes place n) 51 0
-  test (not (eqb kind 12) || utf8 (span bytes place n)) 23 place
+  test (inside bytes place n) (Refused 51 0)
+  test (not (eqb kind 12) || utf8 (span bytes place n)) (Refused 23 place)
   Is (Span place n)
 
 -- A row of a type of each shape. Composite and unknown types are refused.
 abbrev pub byShape : Shape → Row → List ℕ → Answer
 byShape (scalar kind) r bytes = do
-  test (eqb (r .count) 0) 50 0
-  numberAt kind (r .place) (r .length) bytes
+  test (eqb (r .count) 0) (Refused 50 0)
+  scalarAt kind (r .place) (r .length) bytes
 byShape (text kind) r bytes = do
-  test (eqb (r .count) 0) 50 0
+  test (eqb (r .count) 0) (Refused 50 0)
   textAt kind (r .place) (r .length) bytes
 byShape unknown r bytes = Refused 50 0
 byShape (array _) r bytes = Refused 50 0

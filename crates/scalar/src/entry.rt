@@ -10,11 +10,11 @@ use value::Row;
 use wire::utf8::valid;
 ghost use mathlib.Core.Path.{_≡_};
 ghost use Prim.Native.Nat.{_<_};
+ghost use Rattle.buffer.specs.Span.{inside};
 ghost use Rattle.schema.specs.File.{tableOf};
 ghost use Rattle.schema.specs.Check.{IsGood};
-ghost use Rattle.value.specs.Write.{inside};
 ghost use Rattle.scalar.specs.declared.Answer.the-variants.{Refused};
-ghost use Rattle.scalar.specs.Scalar.{numberAt, textAt, scalarOf, scalarBy};
+ghost use Rattle.scalar.specs.Scalar.{textAt, scalarOf, scalarBy, scalarAt};
 
 fn refuse(number: u32, place: usize) -> Answer
     ensures { λ r. ⌜ r ≡ Refused number place ⌝ }
@@ -33,7 +33,7 @@ fn is_inside(bytes: &[u8], place: usize, length: usize) -> bool
 // A scalar of a kind, whose row has this place and length.
 fn number_at(bytes: &[u8], kind: usize, place: usize, length: usize) -> Answer
     requires { ⌜ (0 < kind) × (kind < 12) × (place < 4294967296) × (length < 4294967296) ⌝ }
-    ensures { λ r. ⌜ r ≡ numberAt kind place length (now (bytes .entry)) ⌝ }
+    ensures { λ r. ⌜ r ≡ scalarAt kind place length (now (bytes .entry)) ⌝ }
 {
     if length != width_of(kind) {
         return refuse(50, 0);

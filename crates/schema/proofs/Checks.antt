@@ -2,7 +2,7 @@
 use mathlib.Core.Path.{_≡_, refl, sym, ap, _∙_}
 use mathlib.Core.Bool.{Bool, true, false, not, cond, _&&_, _||_}
 use mathlib.Core.List.{List}
-use Prim.Native.Nat.{ℕ}
+use Prim.Native.Nat.{ℕ, zero, suc}
 use lib.Dec.{leb, ltb, eqb}
 use borrow.Author.Tests.{eq-eqb, ne-eqb}
 use Rattle.wire.proofs.Cases.{chosen, differ}
@@ -16,7 +16,8 @@ use Rattle.schema.specs.declared.Checked.{Checked}
 use Rattle.schema.specs.declared.Checked.the-variants.{Good, Refused}
 use Rattle.schema.specs.Table.{Table, rowAt}
 use Rattle.schema.specs.File.{shaped, layoutOf, tableOf, Laid}
-use Rattle.schema.specs.Check.{lowest, plainRow, arrayRow, mapRow, structRow, goodRow, field, goodField, methodRow, letter, formed, findAmong, isMissing, goodMethod, small, fault, badRow, badField, badMethod, checked, checkedTable, IsGood}
+use Rattle.schema.specs.Check.{lowest, plainRow, arrayRow, mapRow, structRow, goodRow, field, goodField, methodRow, letter, formed, findAmong, isMissing}
+use Rattle.schema.specs.Check.{goodMethod, goodEntry, badEntry, small, fault, badRow, badField, badMethod, checked, checkedTable, IsGood}
 use Rattle.schema.proofs.Files.{laid-types, laid-fields, laid-methods}
 
 no-fault : (n i : ℕ) → Refused n i ≡ Good → ⊥
@@ -96,6 +97,36 @@ firstBad T i n = lowest (λ j. not (goodMethod T j)) i n
 pub methods-whole : (s : List ℕ) (l : Layout) → Laid s l → firstBad (tableOf s) 0 (l .methods) ≡ badMethod (tableOf s)
 unfolding badMethod
 methods-whole s l h = ap (λ (n : ℕ). firstBad (tableOf s) 0 n) (laid-methods s l h)
+
+-- ---- the entries of a section
+
+module _ (T : Table) (section i : ℕ) where
+  pub types-entry : section ≡ 0 → goodRow T i ≡ goodEntry T section i
+  unfolding goodEntry
+  types-entry e = rw e
+
+  pub fields-entry : section ≡ 1 → goodField T i ≡ goodEntry T section i
+  unfolding goodEntry
+  fields-entry e = rw e
+
+pub methods-entry : (T : Table) (section i : ℕ) → (section ≡ 0 → ⊥) → (section ≡ 1 → ⊥) → goodMethod T i ≡ goodEntry T section i
+unfolding goodEntry
+methods-entry T zero i z o = absurd (z refl)
+methods-entry T (suc zero) i z o = absurd (o refl)
+methods-entry T (suc (suc n)) i z o = refl
+
+module _ (s : List ℕ) (l : Layout) (h : Laid s l) where
+  pub types-found : badEntry (tableOf s) 0 (l .types) ≡ badRow (tableOf s)
+  unfolding badEntry goodEntry badRow
+  types-found = ap (λ (n : ℕ). lowest (λ i. not (goodRow (tableOf s) i)) 0 n) (laid-types s l h)
+
+  pub fields-found : badEntry (tableOf s) 1 (l .fields) ≡ badField (tableOf s)
+  unfolding badEntry goodEntry badField
+  fields-found = ap (λ (n : ℕ). lowest (λ i. not (goodField (tableOf s) i)) 0 n) (laid-fields s l h)
+
+  pub methods-found : badEntry (tableOf s) 2 (l .methods) ≡ badMethod (tableOf s)
+  unfolding badEntry goodEntry
+  methods-found = methods-whole s l h
 
 -- ---- the verdict, from what was found
 

@@ -1,9 +1,9 @@
 -- A schema file is refused exactly for what is wrong with it, where all that comes before is good.
-use mathlib.Core.Path.{_≡_, refl, sym, ap, subst, _∙_}
+use mathlib.Core.Path.{_≡_, refl, sym, subst, _∙_}
 use mathlib.Core.Logic.{⊎-elim, _↔_}
-use mathlib.Core.Bool.{Bool, true, false, _&&_}
+use mathlib.Core.Bool.{Bool, false, _&&_}
 use mathlib.Core.List.{List}
-use Prim.Native.Nat.{ℕ, _+_, _-_, _/_, _%_, _≤_, _<_}
+use Prim.Native.Nat.{ℕ, _+_, _-_, _%_, _≤_}
 use native.Mathlib.Omega.{arith}
 use lib.ListN.{length}
 use lib.Dec.{leb, eqb}
@@ -17,9 +17,9 @@ use Rattle.schema.specs.Table.{Table}
 use Rattle.schema.specs.File.{cell, trailerAt, fieldsAt, methodsAt, shaped, tableOf}
 use Rattle.schema.specs.Check.{goodRow, goodField, goodMethod, small, fault, badRow, badField, badMethod, checkedTable, checked}
 use Rattle.schema.specs.Good.{HasShape}
-use Rattle.schema.specs.Faults.{Misshapen, short, layout, trailer, crossed, beyond, TooMany, First, Few, RowOk, FieldOk, MethodOk, RowsOk, FieldsOk, TableFault}
+use Rattle.schema.specs.Faults.{Misshapen, short, layout, trailer, crossed, beyond, TooMany, First, Few, RowOk, FieldOk, MethodOk, TableFault}
 use Rattle.schema.specs.Faults as why
-use Rattle.schema.proofs.Bools.{cases, and-false, is-false}
+use Rattle.schema.proofs.Bools.{and-false, is-false}
 use Rattle.schema.proofs.Lowest.{first-fault}
 use Rattle.schema.proofs.Checks as check
 use Rattle.schema.proofs.Goods.{shape-of, of-shape, row-iff, field-iff, method-iff, few-iff, rows-iff, fields-iff}

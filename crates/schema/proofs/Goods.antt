@@ -1,13 +1,13 @@
 -- A file passes its check exactly where it is good: each test is the sentence that it tests.
 use mathlib.Core.Path.{_≡_, refl, sym, ap, _∙_}
 use mathlib.Core.Logic.{inl, inr, ⊎-elim, _↔_}
-use mathlib.Core.Bool.{Bool, true, false, not, cond, _&&_, _||_}
+use mathlib.Core.Bool.{Bool, true, false, cond, _&&_, _||_}
 use mathlib.Core.List.{List}
 use Prim.Native.Nat.{ℕ, _+_, _-_, _/_, _%_, _≤_, _<_}
 use native.Mathlib.Omega.{arith}
 use lib.ListN.{length, List·getD-eq-default}
 use lib.Dec.{leb, ltb, eqb}
-use borrow.Author.Tests.{leb-true, ltb-true, eqb-true, leb-false, ltb-false, eqb-false, le-leb, lt-ltb, eq-eqb, not-false}
+use borrow.Author.Tests.{leb-true, ltb-true, eqb-true, leb-false, ltb-false, eqb-false, le-leb, lt-ltb, eq-eqb}
 use Rattle.schema.specs.declared.TypeRow.{TypeRow}
 use Rattle.schema.specs.declared.Field.{Field}
 use Rattle.schema.specs.declared.Method.{Method}

@@ -129,6 +129,16 @@ abbrev pub fault : ℕ → Found → Checked → Checked
 fault number (At i) next = Refused number i
 fault number Missing next = next
 
+-- Entry i of a section is good: section 0 has the types, 1 the fields, 2 the methods.
+unfoldable pub goodEntry : Table → (section i : ℕ) → Bool
+goodEntry T zero i = goodRow T i
+goodEntry T (suc zero) i = goodField T i
+goodEntry T (suc (suc n)) i = goodMethod T i
+
+-- The lowest of the first n entries of a section at fault.
+unfoldable pub badEntry : Table → (section n : ℕ) → Found
+badEntry T section n = lowest (λ i. not (goodEntry T section i)) 0 n
+
 -- The lowest type row, field and method at fault.
 unfoldable pub badRow : Table → Found
 badRow T = lowest (λ i. not (goodRow T i)) 0 (length (T .types))

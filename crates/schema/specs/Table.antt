@@ -1,7 +1,7 @@
 -- The schema table as lists of rows, and what a type number stands for.
 use mathlib.Core.List.{List, [], _∷_}
 use Prim.Native.Nat.{ℕ, _+_, _/_}
-use lib.ListN.{length, take, drop, getD}
+use lib.ListN.{take, drop, getD}
 use Rattle.schema.specs.declared.TypeRow.{TypeRow}
 use Rattle.schema.specs.declared.Field.{Field}
 use Rattle.schema.specs.declared.Method.{Method}

@@ -16,14 +16,6 @@ ghost use Rattle.schema.specs.Table.{rowAt};
 ghost use Rattle.schema.specs.File.{tableOf};
 ghost use Rattle.schema.specs.Check.{IsGood, field, methodRow, findMethod};
 
-pub fn type_count(s: &[u8]) -> usize
-    requires { ⌜ IsGood (now s) ⌝ }
-    ensures { λ r. ⌜ r ≡ length (tableOf (now (s .entry)) .types) ⌝ }
-{
-    let l = layout_of(s);
-    l.types
-}
-
 pub fn type_row(s: &[u8], t: usize) -> TypeRow
     requires { ⌜ IsGood (now s) ⌝ }
     ensures { λ r. ⌜ r ≡ rowAt (tableOf (now (s .entry))) t ⌝ }

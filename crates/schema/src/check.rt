@@ -12,9 +12,8 @@ use crate::rows::method_row;
 use crate::rows::row;
 ghost use mathlib.Core.Path.{_≡_};
 ghost use mathlib.Core.Bool.{not, _||_};
-ghost use Prim.Native.Nat.{_≤_};
 ghost use Rattle.schema.specs.File.{Laid, tableOf};
-ghost use Rattle.schema.specs.Check.{plainRow, arrayRow, mapRow, structRow, goodRow, goodField, letter, formed, findAmong, isMissing, goodMethod, badRow, badField, badMethod, checkedTable, checked};
+ghost use Rattle.schema.specs.Check.{plainRow, arrayRow, mapRow, structRow, goodRow, goodField, letter, formed, findAmong, isMissing, goodMethod, goodEntry, badEntry, badMethod, checkedTable, checked};
 ghost use Rattle.schema.specs.Flags.{flagOf};
 
 fn is_plain(r: TypeRow) -> bool
@@ -94,49 +93,35 @@ fn is_missing(f: Found) -> bool
 }
 
 fn method_is_good(s: &[u8], l: Layout, i: usize) -> bool
-    requires { ⌜ Laid (now s) l × (i ≤ l .methods) ⌝ }
+    requires { ⌜ Laid (now s) l ⌝ }
     ensures { λ x. ⌜ x ≡ goodMethod (tableOf (now (s .entry))) i ⌝ }
 {
     let m = method_row(s, l, i);
     is_formed(s, l, m) & is_missing(find_among(s, l, i, m.package, m.service, m.method))
 }
 
-fn bad_row(s: &[u8], l: Layout) -> Found
+// Entry i of a section (0 the types, 1 the fields, 2 the methods) is good.
+fn is_good(s: &[u8], l: Layout, section: u32, i: usize) -> bool
     requires { ⌜ Laid (now s) l ⌝ }
-    ensures { λ x. ⌜ x ≡ badRow (tableOf (now (s .entry))) ⌝ }
+    ensures { λ x. ⌜ x ≡ goodEntry (tableOf (now (s .entry))) section i ⌝ }
 {
-    let mut i = 0;
-    while i < l.types {
-        if !row_is_good(s, l, i) {
-            return Found::At(i);
-        }
-        i += 1;
+    if section == 0 {
+        return row_is_good(s, l, i);
     }
-    Found::Missing
+    if section == 1 {
+        return field_is_good(s, l, i);
+    }
+    method_is_good(s, l, i)
 }
 
-fn bad_field(s: &[u8], l: Layout) -> Found
+// The lowest of the n entries of a section that is at fault. Each method is compared with all before it.
+fn bad_entry(s: &[u8], l: Layout, section: u32, n: usize) -> Found
     requires { ⌜ Laid (now s) l ⌝ }
-    ensures { λ x. ⌜ x ≡ badField (tableOf (now (s .entry))) ⌝ }
+    ensures { λ x. ⌜ x ≡ badEntry (tableOf (now (s .entry))) section n ⌝ }
 {
     let mut i = 0;
-    while i < l.fields {
-        if !field_is_good(s, l, i) {
-            return Found::At(i);
-        }
-        i += 1;
-    }
-    Found::Missing
-}
-
-// The lowest method at fault, each compared with all before it.
-fn bad_of_few(s: &[u8], l: Layout) -> Found
-    requires { ⌜ Laid (now s) l ⌝ }
-    ensures { λ x. ⌜ x ≡ badMethod (tableOf (now (s .entry))) ⌝ }
-{
-    let mut i = 0;
-    while i < l.methods {
-        if !method_is_good(s, l, i) {
+    while i < n {
+        if !is_good(s, l, section, i) {
             return Found::At(i);
         }
         i += 1;
@@ -156,7 +141,7 @@ fn flag_of(package: u32, service: u32, method: u32) -> usize
 
 // None of the first i methods has the identifiers of m. They are looked through only if one of them may have.
 fn is_new(s: &[u8], l: Layout, i: usize, m: Method, possible: bool) -> bool
-    requires { ⌜ Laid (now s) l × (i ≤ l .methods) ⌝ }
+    requires { ⌜ Laid (now s) l ⌝ }
     ensures { λ x. ⌜ x ≡ (not possible || isMissing (findAmong (tableOf (now (s .entry))) i (m .«package») (m .service) (m .method))) ⌝ }
 {
     if possible {
@@ -166,7 +151,7 @@ fn is_new(s: &[u8], l: Layout, i: usize, m: Method, possible: bool) -> bool
     }
 }
 
-// The same, where a method is compared with those before it only if one of them has its flag.
+// The lowest method at fault, where a method is compared with those before it only if one of them has its flag.
 fn bad_of_many(s: &[u8], l: Layout) -> Found
     requires { ⌜ Laid (now s) l ⌝ }
     ensures { λ x. ⌜ x ≡ badMethod (tableOf (now (s .entry))) ⌝ }
@@ -190,7 +175,7 @@ fn bad_method(s: &[u8], l: Layout) -> Found
     ensures { λ x. ⌜ x ≡ badMethod (tableOf (now (s .entry))) ⌝ }
 {
     if l.methods <= 12 {
-        bad_of_few(s, l)
+        bad_entry(s, l, 2, l.methods)
     } else {
         bad_of_many(s, l)
     }
@@ -207,14 +192,14 @@ fn check_rows(s: &[u8], l: Layout) -> Checked
             place: 0,
         };
     }
-    let types = bad_row(s, l);
+    let types = bad_entry(s, l, 0, l.types);
     if let Found::At(i) = types {
         return Checked::Refused {
             number: 42,
             place: i,
         };
     }
-    let fields = bad_field(s, l);
+    let fields = bad_entry(s, l, 1, l.fields);
     if let Found::At(i) = fields {
         return Checked::Refused {
             number: 43,

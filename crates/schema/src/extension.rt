@@ -3,19 +3,19 @@ use crate::Checked;
 use crate::Extended;
 use crate::Field;
 use crate::Found;
+use crate::Layout;
 use crate::Method;
 use crate::TypeRow;
-use crate::access::field;
-use crate::access::find_method;
-use crate::access::method;
-use crate::access::method_count;
-use crate::access::type_count;
-use crate::access::type_row;
 use crate::check::check;
+use crate::file::layout_of;
+use crate::rows::field_row;
+use crate::rows::find_among;
+use crate::rows::method_row;
+use crate::rows::row;
 ghost use mathlib.Core.Path.{_≡_};
 ghost use Prim.Native.Nat.{_<_, _^_};
 ghost use Rattle.schema.specs.Table.{bitmapBytes};
-ghost use Rattle.schema.specs.File.{tableOf};
+ghost use Rattle.schema.specs.File.{Laid, tableOf};
 ghost use Rattle.schema.specs.Check.{IsGood};
 ghost use Rattle.schema.specs.Extend.{every, sameField, fieldKept, structKept, rowKept, rowsKept, sameMethod, methodKept, methodsKept, widened, bitmapKept, bitmapsKept, extended, extension};
 
@@ -26,26 +26,34 @@ fn same_field(f: Field, g: Field) -> bool
 }
 
 // Field i of a struct that had row r and has row q.
-fn keeps_field(old: &[u8], new: &[u8], r: TypeRow, q: TypeRow, i: usize) -> bool
-    requires { ⌜ IsGood (now old) × IsGood (now new) × (i < 2 ^ 32) ⌝ }
+fn keeps_field(
+    old: &[u8],
+    l: Layout,
+    new: &[u8],
+    k: Layout,
+    r: TypeRow,
+    q: TypeRow,
+    i: usize,
+) -> bool
+    requires { ⌜ Laid (now old) l × Laid (now new) k × (i < 2 ^ 32) ⌝ }
     ensures { λ x. ⌜ x ≡ fieldKept (tableOf (now (old .entry))) (tableOf (now (new .entry))) r q i ⌝ }
 {
-    let g = field(new, (q.a as usize) + i);
+    let g = field_row(new, k, (q.a as usize) + i);
     if i < r.b as usize {
-        same_field(g, field(old, (r.a as usize) + i))
+        same_field(g, field_row(old, l, (r.a as usize) + i))
     } else {
         g.optional == 1
     }
 }
 
-fn keeps_fields(old: &[u8], new: &[u8], r: TypeRow, q: TypeRow) -> bool
-    requires { ⌜ IsGood (now old) × IsGood (now new) ⌝ }
+fn keeps_fields(old: &[u8], l: Layout, new: &[u8], k: Layout, r: TypeRow, q: TypeRow) -> bool
+    requires { ⌜ Laid (now old) l × Laid (now new) k ⌝ }
     ensures { λ x. ⌜ x ≡ every (fieldKept (tableOf (now (old .entry))) (tableOf (now (new .entry))) r q) (q .b) ⌝ }
 {
     let n = q.b as usize;
     let mut i = 0;
     while i < n {
-        if !keeps_field(old, new, r, q, i) {
+        if !keeps_field(old, l, new, k, r, q, i) {
             return false;
         }
         i += 1;
@@ -53,37 +61,37 @@ fn keeps_fields(old: &[u8], new: &[u8], r: TypeRow, q: TypeRow) -> bool
     true
 }
 
-fn keeps_struct(old: &[u8], new: &[u8], r: TypeRow, q: TypeRow) -> bool
-    requires { ⌜ IsGood (now old) × IsGood (now new) ⌝ }
+fn keeps_struct(old: &[u8], l: Layout, new: &[u8], k: Layout, r: TypeRow, q: TypeRow) -> bool
+    requires { ⌜ Laid (now old) l × Laid (now new) k ⌝ }
     ensures { λ x. ⌜ x ≡ structKept (tableOf (now (old .entry))) (tableOf (now (new .entry))) r q ⌝ }
 {
-    (r.b <= q.b) & keeps_fields(old, new, r, q)
+    (r.b <= q.b) & keeps_fields(old, l, new, k, r, q)
 }
 
-fn keeps_row(old: &[u8], new: &[u8], r: TypeRow, q: TypeRow) -> bool
-    requires { ⌜ IsGood (now old) × IsGood (now new) ⌝ }
+fn keeps_row(old: &[u8], l: Layout, new: &[u8], k: Layout, r: TypeRow, q: TypeRow) -> bool
+    requires { ⌜ Laid (now old) l × Laid (now new) k ⌝ }
     ensures { λ x. ⌜ x ≡ rowKept (tableOf (now (old .entry))) (tableOf (now (new .entry))) r q ⌝ }
 {
     if q.kind != r.kind {
         return false;
     }
     if r.kind == 16 {
-        keeps_struct(old, new, r, q)
+        keeps_struct(old, l, new, k, r, q)
     } else {
         (q.a == r.a) & (q.b == r.b)
     }
 }
 
-fn keeps_rows(old: &[u8], new: &[u8]) -> bool
-    requires { ⌜ IsGood (now old) × IsGood (now new) ⌝ }
+fn keeps_rows(old: &[u8], l: Layout, new: &[u8], k: Layout) -> bool
+    requires { ⌜ Laid (now old) l × Laid (now new) k ⌝ }
     ensures { λ x. ⌜ x ≡ rowsKept (tableOf (now (old .entry))) (tableOf (now (new .entry))) ⌝ }
 {
-    let n = type_count(old);
+    let n = l.types;
     let mut i = 0;
     while i < n {
-        let r = type_row(old, i);
-        let q = type_row(new, i);
-        if !keeps_row(old, new, r, q) {
+        let r = row(old, l, i);
+        let q = row(new, k, i);
+        if !keeps_row(old, l, new, k, r, q) {
             return false;
         }
         i += 1;
@@ -100,25 +108,25 @@ fn same_method(m: Method, n: Method) -> bool
             & ((m.input_stream == n.input_stream) & (m.output_stream == n.output_stream)))
 }
 
-fn keeps_method(new: &[u8], m: Method) -> bool
-    requires { ⌜ IsGood (now new) ⌝ }
+fn keeps_method(new: &[u8], k: Layout, m: Method) -> bool
+    requires { ⌜ Laid (now new) k ⌝ }
     ensures { λ x. ⌜ x ≡ methodKept (tableOf (now (new .entry))) m ⌝ }
 {
-    match find_method(new, m.package, m.service, m.method) {
-        Found::At(j) => same_method(method(new, j), m),
+    match find_among(new, k, k.methods, m.package, m.service, m.method) {
+        Found::At(j) => same_method(method_row(new, k, j), m),
         Found::Missing => false,
     }
 }
 
-fn keeps_methods(old: &[u8], new: &[u8]) -> bool
-    requires { ⌜ IsGood (now old) × IsGood (now new) ⌝ }
+fn keeps_methods(old: &[u8], l: Layout, new: &[u8], k: Layout) -> bool
+    requires { ⌜ Laid (now old) l × Laid (now new) k ⌝ }
     ensures { λ x. ⌜ x ≡ methodsKept (tableOf (now (old .entry))) (tableOf (now (new .entry))) ⌝ }
 {
-    let n = method_count(old);
+    let n = l.methods;
     let mut i = 0;
     while i < n {
-        let m = method(old, i);
-        if !keeps_method(new, m) {
+        let m = method_row(old, l, i);
+        if !keeps_method(new, k, m) {
             return false;
         }
         i += 1;
@@ -131,7 +139,9 @@ pub fn is_widened(old: &[u8], new: &[u8]) -> bool
     requires { ⌜ IsGood (now old) × IsGood (now new) ⌝ }
     ensures { λ x. ⌜ x ≡ widened (tableOf (now (old .entry))) (tableOf (now (new .entry))) ⌝ }
 {
-    (type_count(old) <= type_count(new)) & (keeps_rows(old, new) & keeps_methods(old, new))
+    let l = layout_of(old);
+    let k = layout_of(new);
+    (l.types <= k.types) & (keeps_rows(old, l, new, k) & keeps_methods(old, l, new, k))
 }
 
 // The whole bytes of a bitmap with a bit for each of n fields.
@@ -147,15 +157,15 @@ fn keeps_bitmap(r: TypeRow, q: TypeRow) -> bool
     !(r.kind == 16) | (bitmap_bytes(q.b) == bitmap_bytes(r.b))
 }
 
-fn keeps_bitmaps(old: &[u8], new: &[u8]) -> bool
-    requires { ⌜ IsGood (now old) × IsGood (now new) ⌝ }
+fn keeps_bitmaps(old: &[u8], l: Layout, new: &[u8], k: Layout) -> bool
+    requires { ⌜ Laid (now old) l × Laid (now new) k ⌝ }
     ensures { λ x. ⌜ x ≡ bitmapsKept (tableOf (now (old .entry))) (tableOf (now (new .entry))) ⌝ }
 {
-    let n = type_count(old);
+    let n = l.types;
     let mut i = 0;
     while i < n {
-        let r = type_row(old, i);
-        let q = type_row(new, i);
+        let r = row(old, l, i);
+        let q = row(new, k, i);
         if !keeps_bitmap(r, q) {
             return false;
         }
@@ -168,7 +178,7 @@ fn is_extended(old: &[u8], new: &[u8]) -> bool
     requires { ⌜ IsGood (now old) × IsGood (now new) ⌝ }
     ensures { λ x. ⌜ x ≡ extended (tableOf (now (old .entry))) (tableOf (now (new .entry))) ⌝ }
 {
-    is_widened(old, new) & keeps_bitmaps(old, new)
+    is_widened(old, new) & keeps_bitmaps(old, layout_of(old), new, layout_of(new))
 }
 
 // The answer for any two files.

@@ -8,7 +8,6 @@ use crate::file::field_at;
 use crate::file::method_at;
 use crate::file::type_at;
 ghost use mathlib.Core.Path.{_≡_};
-ghost use Prim.Native.Nat.{_≤_};
 ghost use Rattle.schema.specs.Table.{rowAt};
 ghost use Rattle.schema.specs.File.{Laid, tableOf};
 ghost use Rattle.schema.specs.Check.{field, methodRow, named, findAmong};
@@ -68,7 +67,7 @@ pub fn is_named(m: Method, package: u32, service: u32, method: u32) -> bool
 
 // The first of the first n methods with these three identifiers.
 pub fn find_among(s: &[u8], l: Layout, n: usize, package: u32, service: u32, method: u32) -> Found
-    requires { ⌜ Laid (now s) l × (n ≤ l .methods) ⌝ }
+    requires { ⌜ Laid (now s) l ⌝ }
     ensures { λ r. ⌜ r ≡ findAmong (tableOf (now (s .entry))) n «package» service method ⌝ }
 {
     let mut i = 0;

@@ -12,9 +12,7 @@ pub fn put_byte(out: &mut [u8], pos: usize, b: u8) -> usize
     ensures { λ r. ⌜ Added (now (out .entry)) pos (b ∷ []) r (now (out .exit)) ⌝ }
     ensures { λ r. ⌜ r ≡ pos + 1 ⌝ }
 {
-    if pos < out.len() {
-        out[pos] = b;
-    }
+    buffer::put_byte(out, pos, b);
     pos + 1
 }
 
@@ -24,13 +22,8 @@ pub fn put_word(out: &mut [u8], pos: usize, word: &[u8]) -> usize
     ensures { λ r. ⌜ Added (now (out .entry)) pos (now (word .entry)) r (now (out .exit)) ⌝ }
     ensures { λ r. ⌜ r ≡ pos + length (now (word .entry)) ⌝ }
 {
-    let mut at = pos;
-    let mut i = 0;
-    while i < word.len() {
-        at = put_byte(out, at, word[i]);
-        i += 1;
-    }
-    at
+    buffer::put_span(out, pos, word, 0, word.len());
+    pos + word.len()
 }
 
 // A number in decimal: at most 20 digits.

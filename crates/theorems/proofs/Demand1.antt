@@ -20,7 +20,8 @@ use Rattle.calls.specs.declared.Tally.{Tally}
 use Rattle.calls.specs.declared.Call.{Call}
 use Rattle.calls.specs.Numbers.{endsCall, EndsCall}
 use Rattle.calls.specs.declared.Frame.{Frame as calls-Frame}
-use Rattle.calls.specs.Slots.{ownOf, none as calls-none, slot}
+use Rattle.calls.specs.Slots.{ownOf, slot}
+use Rattle.calls.specs.declared.Own.the-variants.{None as calls-none}
 use Rattle.calls.specs.Event.{Event as calls-Event}
 use Rattle.calls.specs.Apart.{Freed}
 use Rattle.value.specs.declared.Row.{Row as value-Row}

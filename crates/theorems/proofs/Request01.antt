@@ -14,7 +14,8 @@ use Rattle.calls.specs.declared.Tally.{Tally}
 use Rattle.calls.specs.declared.Call.{Call}
 use Rattle.calls.specs.declared.Frame.{Frame as calls-Frame}
 use Rattle.calls.specs.Record.{isCall, withMark, allowed, notAllowed}
-use Rattle.calls.specs.Slots.{slot, ownOf, none as calls-none, holds, goodTable, one, countOpen}
+use Rattle.calls.specs.Slots.{slot, ownOf, holds, goodTable, countOpen}
+use Rattle.calls.specs.declared.Own.the-variants.{None as calls-none, One as one}
 use Rattle.calls.specs.Event.{Event as calls-Event, identifier}
 use Rattle.calls.specs.Apart.{EndsCancelled}
 use Rattle.calls.specs.Order.{Past, Reflects, Elements, since, same, Crosses, methodNamed, cancelled, Ruled, comes}

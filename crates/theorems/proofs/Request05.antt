@@ -13,7 +13,8 @@ use Rattle.frame.specs.declared.Header.{Header}
 use Rattle.frame.specs.Frame.{frameOf}
 use Rattle.frame.specs.declared.FrameRead.the-variants.{Frame as frame-Frame}
 use Rattle.calls.specs.declared.Call.{Call}
-use Rattle.calls.specs.Slots.{ownOf, one, goodTable, freshTable}
+use Rattle.calls.specs.Slots.{ownOf, goodTable, freshTable}
+use Rattle.calls.specs.declared.Own.the-variants.{One as one}
 use Rattle.calls.specs.Order.{pastOf, closed}
 use Rattle.calls.specs.Record.{isInput, isOutput}
 use Rattle.calls.specs.Limits.{FewIn}

@@ -4,6 +4,7 @@ use Prim.Native.Nat.{ℕ, _≤_, _*_, _/_, _<_, _+_}
 use mathlib.Core.Path.{_≡_}
 use mathlib.Core.Logic.{_↔_}
 use lib.ListN.{length, drop, take}
+use Rattle.buffer.specs.Span.{span}
 use Rattle.wire.specs.Little.{Bytes}
 use Rattle.schema.specs.Check.{IsGood, checked}
 use Rattle.schema.proofs.Examples.{file}
@@ -19,7 +20,7 @@ use Rattle.value.specs.Spell.{RootSpells, encode, TailFits}
 use Rattle.value.specs.Fits.{Shows}
 use Rattle.value.specs.declared.Row.{Row as value-Row}
 use Rattle.value.specs.Read.{read, accepted}
-use Rattle.value.specs.Write.{written, span, refusal as write-refusal}
+use Rattle.value.specs.Write.{written, refusal as write-refusal}
 use Rattle.reader.specs.Entry.{readOutcome, outcome as reader-outcome, room}
 use Rattle.reader.specs.declared.Reading.the-variants.{Shown}
 use Rattle.writer.specs.Entry.{outcome as writer-outcome, fileOutcome}

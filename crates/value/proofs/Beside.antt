@@ -10,11 +10,13 @@ use lib.Dec.{leb}
 use lib.ListN.{length}
 use borrow.Author.Tests.{leb-true, leb-false, le-leb, lt-leb}
 use Rattle.wire.proofs.Cases.{differ}
+use Rattle.parse.specs.Reader.{Cursor, Answer, refused, seen, cursorAt}
+use Rattle.parse.proofs.Answers.{seen-end, yields-end}
+use Rattle.parse.proofs.Blames.{blames-end}
 use Rattle.schema.specs.declared.Field.{Field}
 use Rattle.schema.specs.Table.{Table, Shape, unknown, scalar, text, array, map, struct, shape}
 use Rattle.schema.specs.Good.{GoodTable}
 use Rattle.value.specs.declared.Row.{Row}
-use Rattle.value.specs.Answer.{Cursor, Answer, refused, seen, cursorAt}
 use Rattle.value.specs.Value.{Tree, rows, Value, value, size}
 use Rattle.value.specs.Comparisons.{comparisons}
 use Rattle.value.specs.Read.{onStruct, rootOf, rootStruct, refusal, accepted, readingAs, reading}
@@ -24,9 +26,7 @@ use Rattle.value.specs.Added.{reached, firstAdded, without, NoneAdded}
 use Rattle.value.specs.Claims.{DelimitedTree}
 use Rattle.value.specs.Beside.{pruned, shownRows, besideOf, RightfulBeside, TooFewRows, ShownAs, DelimitedBeside, ListedBeside, no-struct, too-long, faulty, too-few-rows, rootLength}
 use Rattle.value.proofs.Shapes.{Widening, Extension}
-use Rattle.value.proofs.Answers.{seen-end, yields-end}
 use Rattle.value.proofs.Root.{root-sound, root-complete}
-use Rattle.value.proofs.Blames.{blames-end}
 use Rattle.value.proofs.Refusals.{good-blames}
 use Rattle.value.proofs.Telling.{root-known, known-once}
 use Rattle.value.proofs.Pruned.{pruned-value, pruned-same, tree-shown}

@@ -139,12 +139,6 @@ no-added fs gs m e =
 pub known-ones : (fs : List Field) (m : ℕ) → counted (struct fs) m ≡ ones (knownBits fs m)
 known-ones fs m = ap length (sym (present-mod fs m)) ∙ length-present fs (knownBits fs m) ∙ sym (ones-in (length fs) (knownBits fs m) (mod-lt m (pow-pos (length fs))))
 
--- The number of unknown bits that are set.
-pub unknown-ones : (fs : List Field) (m : ℕ) → m < 2 ^ (8 * bitmapBytes (length fs)) → unknownBits fs m ≡ ones (m / 2 ^ length fs)
-unknown-ones fs m h =
-    let e : 8 * bitmapBytes (length fs) ≡ 8 * bitmapBytes (length fs) - length fs + length fs = omega arith in
-    sym (ones-in (8 * bitmapBytes (length fs) - length fs) (m / 2 ^ length fs) (shr-lt (8 * bitmapBytes (length fs) - length fs) (length fs) (rw e at h)))
-
 -- Where no unknown bit is set, all bits are known.
 pub all-known : (fs : List Field) (m : ℕ) → m < 2 ^ (8 * bitmapBytes (length fs)) → unknownBits fs m ≡ 0 → knownBits fs m ≡ m
 all-known fs m h z =

@@ -9,24 +9,24 @@ use lib.Dec.{ltb}
 use lib.ListN.{length, length-append, replicate}
 use lib.Pow.{pow-pos}
 use borrow.Author.Tests.{ltb-true, ltb-false}
+use Rattle.parse.specs.Reader.{Cursor, seen, cursorAt}
+use Rattle.parse.proofs.Answers.{seen-end}
 use Rattle.schema.specs.declared.Field.{Field}
 use Rattle.schema.specs.Table.{Shape, unknown, scalar, text, array, map, struct}
 use Rattle.value.specs.declared.Row.{Row}
-use Rattle.value.specs.Answer.{Cursor, seen, cursorAt}
 use Rattle.value.specs.Value.{Tree, tip, branch, Forest, stop, plus, rows, rowsAll, Value, leaf, node, Values, none, some, value, values}
 use Rattle.value.specs.Plan.{Item, plainItem, present, plan}
-use Rattle.value.specs.Read.{parse, rootStruct}
+use Rattle.value.specs.Read.{rootStruct}
 use Rattle.value.specs.Comparisons.{due, mapDue, comparisons, comparisonsAll, rowsDue, sum, pairsAmong}
 use Rattle.value.specs.Spell.{HeadSpells, AllSpell, keysOf, Spells, RootSpells}
 use Rattle.value.specs.Fits.{LeafFits, HeadFits, AllFit, Fits, RootFits, Shows}
 use Rattle.schema.specs.Extend.{Grows, same, gains}
 use Rattle.value.proofs.Shapes.{Solid, Widening}
-use Rattle.value.proofs.Answers.{seen-end}
 use Rattle.value.proofs.Bits.{present-gain}
 use Rattle.value.proofs.Complete.{head-takes, takes, length-pairs}
 use Rattle.value.proofs.Root.{Unkeyed, present-unkeyed}
 use Rattle.value.proofs.Pairs.{pair-keys}
-use Rattle.value.proofs.Placed.{On, parse-placed, root-placed}
+use Rattle.value.proofs.Placed.{root-placed}
 use Rattle.value.proofs.TwoTables.{Below, plan-below}
 
 -- ---- of n keys
@@ -142,11 +142,7 @@ module _ (B : List ℕ) where
         let a : mapDue (S (r .ty)) (r .count) ≡ 0 = ap (λ (k : ℕ). mapDue (S k) (r .count)) (q .1) ∙ rw st in
         rw (a, st) (omega (arith, all-due 15 (tree-due 15) (plan (struct fs) h) ts (q .5)))
 
-    -- The same of what the readers see.
-    pub parsed-due : (d t : ℕ) (c : Cursor) → On B c → (tree : Tree) (end : Cursor) → parse S d t c ≡ seen tree end
-        → comparisons S (value tree) t ≡ rowsDue S (rows tree)
-    parsed-due d t c o tree end e = tree-due d t tree (seen-end (parse-placed B S d t c o) e .1)
-
+    -- The same of what the reader sees.
     pub read-due : (t : ℕ) (fs : List Field) → S t ≡ struct fs → (tree : Tree) (end : Cursor) → rootStruct S t fs (cursorAt B 0) ≡ seen tree end
         → comparisons S (value tree) t ≡ rowsDue S (rows tree)
     read-due t fs st tree end e = root-due t fs st tree (seen-end (root-placed B S t fs (cursorAt B 0) (refl, zero-le)) e .1)

@@ -4,25 +4,22 @@ use mathlib.Core.List.{List, [], _∷_, _++_, append-assoc}
 use mathlib.Core.Bool.{Bool, true, false, not, _||_}
 use Prim.Native.Nat.{ℕ, zero, suc, _+_, _-_, _*_, _≤_, _<_}
 use native.Mathlib.Omega.{arith}
-use lib.Dec.{leb, eqb}
+use lib.Dec.{eqb}
 use lib.ListN.{length, length-append, length-replicate}
-use lib.Seq.{take-append-seam, drop-append-seam}
 use borrow.Author.Tests.{lt-ltb, le-leb, eqb-true}
-use Rattle.wire.specs.Varuint.{front, Spelled}
-use Rattle.wire.specs.declared.varuint.VarUInt.the-variants.{Number}
-use Rattle.wire.proofs.Varuints.{spelled-reads, spelled-pos}
+use Rattle.wire.proofs.Varuints.{spelled-pos}
 use Rattle.wire.proofs.Utf8s.{utf8-is}
+use Rattle.parse.specs.Reader.{Cursor, seen, Reader, andThen}
+use Rattle.parse.proofs.Answers.{Yields, gives, yields-then, goes, passes}
+use Rattle.parse.proofs.Pieces.{block-complete, count-complete}
 use Rattle.schema.specs.declared.Field.{Field}
 use Rattle.schema.specs.Table.{Shape, unknown, scalar, text, array, map, struct, bitmapBytes}
-use Rattle.value.specs.Answer.{Cursor, seen, Reader, andThen, check, block, varUInt}
 use Rattle.value.specs.Value.{Tree, Value, leaf, node, Values, none, some, value, values}
-use Rattle.value.specs.Read.{Item, plain, parts, plainItem, pairs, plan, bitmap, enough, count, own, walk, whole, parse}
+use Rattle.value.specs.Read.{Item, plain, parts, plainItem, pairs, plan, bitmap, own, walk, whole, parse}
 use Rattle.value.specs.Spell.{LeafSpells, BitmapSpells, HeadSpells, AllSpell, WholeSpells, Spells}
 use Rattle.value.specs.Reasons.{least}
 use Rattle.value.proofs.Shapes.{Solid}
-use Rattle.value.proofs.Answers.{Yields, gives, yields-then, goes, passes}
 use Rattle.value.proofs.Keys.{Fresh, apart-fresh}
-use Rattle.value.proofs.Sound.{past}
 
 leaf-takes : (s : Shape) → Solid s → (x u : List ℕ) → LeafSpells s x u → 0 < length u
 leaf-takes (scalar kind) h x u q = rw (q .0, q .1) h
@@ -56,25 +53,6 @@ all-take P pos (i ∷ is) (some v vs) u q = rw (q .2) (simp length-append (omega
 pub length-pairs : (n k v : ℕ) → length (pairs n k v) ≡ 2 * n
 length-pairs zero k v = refl
 length-pairs (suc n) k v = omega (arith, length-pairs n k v)
-
-pub block-complete : (n : ℕ) (x rest : List ℕ) (c : Cursor) → length x ≡ n → c .left ≡ x ++ rest → block n c ≡ seen x (record { left = rest; at = c .at + n })
-unfolding block andThen check
-block-complete n x rest c h e =
-    let l : leb (length x) (length (x ++ rest)) ≡ true = le-leb (length x) (length (x ++ rest)) (simp length-append (omega arith)) in
-    rw (← h, e, l, take-append-seam, drop-append-seam)
-
-pub var-complete : (n : ℕ) (u rest : List ℕ) (c : Cursor) → Spelled n u → c .left ≡ u ++ rest → varUInt c ≡ seen n (record { left = rest; at = c .at + length u })
-unfolding varUInt
-var-complete n u rest c s e =
-    let f : front (c .left) (c .at) ≡ Number n (c .at + length u) = rw e (spelled-reads n u rest (c .at) s) in
-    rw (f, past (c .left) u rest (c .at) (c .at + length u) e refl)
-
-pub count-complete : (least n : ℕ) (u rest : List ℕ) (c : Cursor) → Spelled n u → c .left ≡ u ++ rest → least * n ≤ length rest
-    → count least c ≡ seen n (record { left = rest; at = c .at + length u })
-unfolding count andThen
-count-complete least n u rest c s e h =
-    let room : enough least n rest ≡ true = omega (arith, le-leb) in
-    rw (var-complete n u rest c s e, passes (enough least n rest) 20 (c .at) (record { left = rest; at = c .at + length u }) room)
 
 pub bitmap-complete : (fs : List Field) (m : ℕ) (u rest : List ℕ) (c : Cursor) → BitmapSpells fs m u → c .left ≡ u ++ rest
     → bitmap fs c ≡ seen m (record { left = rest; at = c .at + bitmapBytes (length fs) })

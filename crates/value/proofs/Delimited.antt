@@ -6,21 +6,22 @@ use native.Mathlib.Nat.{zero-add, sub-zero}
 use native.Mathlib.Omega.{arith}
 use lib.ListN.{length, drop, length-append}
 use lib.Seq.{take-add, drop-drop}
+use Rattle.buffer.specs.Span.{span, Spans}
+use Rattle.buffer.proofs.Spans.{length-span}
+use Rattle.parse.specs.Reader.{Cursor, seen, Reader, cursorAt}
+use Rattle.parse.proofs.Answers.{Seen, nothing, value as holds, seen-then, seen-after, seen-check, seen-map, seen-both, seen-end}
+use Rattle.parse.proofs.Places.{On, stays-on}
 use Rattle.schema.specs.declared.Field.{Field}
 use Rattle.schema.specs.Table.{Shape, unknown, scalar, text, array, map, struct, bitmapBytes}
-use Rattle.value.specs.Answer.{Cursor, seen, Reader, cursorAt}
 use Rattle.value.specs.Value.{Tree, tip, branch, Forest, value, values}
 use Rattle.value.specs.Read.{Item, Own, plain, parts, plan, counted, leafRow, nodeRow, own, walk, whole, parse, rootStruct}
 use Rattle.value.specs.Spell.{LeafSpells, HeadSpells, AllSpell, Spells, RootSpells}
-use Rattle.value.specs.Write.{span}
-use Rattle.value.specs.Fits.{Spans, LeafFits}
+use Rattle.value.specs.Fits.{LeafFits}
 use Rattle.value.specs.Delimits.{AllStand, NodeSpan, firstAt, Delimits, RootDelimits}
-use Rattle.value.proofs.Answers.{Seen, nothing, value as holds, seen-then, seen-after, seen-check, seen-map, seen-both, seen-end}
-use Rattle.value.proofs.Spans.{length-span}
 use Rattle.value.proofs.Keys.{Fresh, fresh-apart}
 use Rattle.value.proofs.Sound.{bitmap-reads, OwnSpells, own-reads, walk-reads, parse-reads}
 use Rattle.value.proofs.Root.{ending-sound, root-sound}
-use Rattle.value.proofs.Placed.{On, stays-on, OwnFits, own-placed}
+use Rattle.value.proofs.Placed.{OwnFits, own-placed}
 
 module _ (B : List ℕ) where
   -- Bytes that stand at a place are the span up to their end.

@@ -5,24 +5,24 @@ use Prim.Native.Nat.{ℕ, zero, suc, _+_, _-_, _≤_, zero-le}
 use native.Mathlib.Omega.{arith}
 use lib.ListN.{length, drop, take-append-drop, length-take, length-drop}
 use lib.Seq.{drop-drop}
+use Rattle.buffer.specs.Span.{span}
+use Rattle.buffer.proofs.Spans.{length-span}
 use Rattle.wire.specs.Varuint.{front, Spelled}
 use Rattle.wire.specs.declared.varuint.VarUInt.the-variants.{Number}
 use Rattle.wire.proofs.Varuints.{spelled-reads}
 use Rattle.wire.proofs.Cases.{differ}
+use Rattle.parse.specs.Reader.{Cursor, seen, cursorAt}
+use Rattle.parse.proofs.Answers.{yields-end, seen-end}
 use Rattle.schema.specs.declared.Field.{Field}
 use Rattle.schema.specs.Table.{Shape, unknown, scalar, text, array, map, struct}
 use Rattle.value.specs.declared.Row.{Row}
-use Rattle.value.specs.Answer.{Cursor, seen, cursorAt}
 use Rattle.value.specs.Value.{Tree, tip, branch, Forest, stop, plus, rows, Value, leaf, node, Values, some, value, values}
 use Rattle.value.specs.Read.{Item, plan, rootOf, accepted, reading}
 use Rattle.value.specs.Spell.{keysOf, Apart, WholeSpells, Spells, RootSpells}
-use Rattle.value.specs.Write.{span}
 use Rattle.value.specs.Fits.{LeafFits, HeadFits, AllFit, Fits, RootFits}
 use Rattle.value.specs.Delimits.{AllStand, NodeSpan, firstAt, Delimits, RootDelimits}
 use Rattle.value.specs.Claims.{DelimitedTree, Delimited}
 use Rattle.value.proofs.Shapes.{Solid}
-use Rattle.value.proofs.Answers.{yields-end, seen-end}
-use Rattle.value.proofs.Spans.{length-span}
 use Rattle.value.proofs.Complete.{takes, parse-complete}
 use Rattle.value.proofs.Root.{root-complete}
 use Rattle.value.proofs.Placed.{root-placed}

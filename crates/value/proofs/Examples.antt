@@ -7,12 +7,12 @@ use lib.ListN.{replicate}
 use Rattle.wire.specs.Little as little
 use Rattle.wire.specs.Varuint as varuint
 use Rattle.wire.specs.Utf8 as utf8
+use Rattle.parse.specs.Reader as answer
 use Rattle.schema.specs.declared.TypeRow.{TypeRow}
 use Rattle.schema.specs.declared.Field.{Field}
 use Rattle.schema.specs.Table as table
 use Rattle.schema.specs.Table.{Table}
 use Rattle.value.specs.declared.Row.{Row}
-use Rattle.value.specs.Answer as answer
 use Rattle.value.specs.Value as value
 use Rattle.value.specs.Comparisons as comparisons
 use Rattle.value.specs.Read as read
@@ -43,7 +43,7 @@ case t p n a = record { type = t; payload = p; room = n; answer = a }
 
 -- The answer to a case, and those to several.
 unfoldable pub answered : Table → Case → Reading
-unfolding read.read read.rootStruct read.ending onesIn read.parse read.walk read.bitmap read.count read.present read.complete table.shape value.rows value.value comparisons.comparisons comparisons.due
+unfolding read.read read.rootStruct read.ending onesIn read.parse read.walk read.bitmap answer.count read.present read.complete table.shape value.rows value.value comparisons.comparisons comparisons.due
 answered T c = read.read T (c .type) (c .payload) (c .room)
 
 unfoldable pub answers : Table → List Case → List Reading

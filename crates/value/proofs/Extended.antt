@@ -12,10 +12,11 @@ use lib.ListN.{length, take, length-append}
 use borrow.Author.Tests.{leb-false}
 use Rattle.wire.specs.Little.{little}
 use Rattle.wire.proofs.Cases.{differ}
+use Rattle.parse.specs.Reader.{Cursor, seen, cursorAt}
+use Rattle.parse.proofs.Answers.{seen-end, yields-end}
 use Rattle.schema.specs.declared.Field.{Field}
 use Rattle.schema.specs.Table.{Shape, struct, bitmapBytes}
 use Rattle.value.specs.declared.Row.{Row}
-use Rattle.value.specs.Answer.{Cursor, seen, cursorAt}
 use Rattle.value.specs.Beside.{pruned, prunedAll, rootLength}
 use Rattle.value.specs.Value.{Value, node, Values, none as empty, some as and, Tree, tip, branch, Forest, rows, rowsAll, value, values}
 use Rattle.value.specs.Comparisons.{comparisons}
@@ -27,7 +28,6 @@ use Rattle.value.specs.Fits.{RootFits, Shows}
 use Rattle.value.specs.Delimits.{RootDelimits}
 use Rattle.value.specs.Added.{carries, reached, inner, reachedAll, firstAdded, without, addedValues, NoneAdded}
 use Rattle.value.specs.Claims.{ByOld}
-use Rattle.value.proofs.Answers.{seen-end, yields-end}
 use Rattle.value.proofs.Bits.{present-mod, present-none, present-added}
 use Rattle.value.proofs.Root.{bits-in-front, root-sound, root-complete}
 use Rattle.value.proofs.TwoTables.{outcome, Agrees, agrees-accepts}

@@ -7,10 +7,10 @@ use lib.Dec.{eqb}
 use lib.ListN.{length, length-map}
 use borrow.Author.Tests.{eqb-true}
 use Rattle.wire.proofs.Cases.{differ}
+use Rattle.parse.specs.Reader.{CursorOf, AnswerOf, refused, seen, andThen, check}
 use Rattle.schema.specs.declared.Field.{Field}
 use Rattle.schema.specs.Table.{Shape, unknown, scalar, text, array, map, struct}
 use Rattle.value.specs.declared.Row.{Row}
-use Rattle.value.specs.Answer.{CursorOf, AnswerOf, refused, seen, andThen, check}
 use Rattle.value.specs.Value.{Tree, value, values}
 use Rattle.value.specs.Read.{Item, Own, plain, parts, plan, walk, onStruct}
 use Rattle.value.specs.Write.{RowReader, nextRow, rowOf, bitsAt, says, held, show, showRoot, sheetRoot, writing}

@@ -1,9 +1,7 @@
-pub mod Answers
 pub mod Shapes
 pub mod Bits
 pub mod Spans
 pub mod Keys
-pub mod Blames
 pub mod Sound
 pub mod Complete
 pub mod Many

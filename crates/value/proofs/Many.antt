@@ -1,18 +1,17 @@
 -- A map's count on its own: when it is refused with 20 and when with 31, whatever the keys are and whatever stands after it.
-use mathlib.Core.Path.{_≡_, refl, _∙_}
+use mathlib.Core.Path.{_≡_}
 use mathlib.Core.Bool.{false}
 use mathlib.Core.List.{List, _∷_, _++_}
 use Prim.Native.Nat.{ℕ, suc, _+_, _*_, _≤_, _<_}
-use native.Mathlib.Omega.{arith}
 use borrow.Author.Tests.{lt-leb, eq-eqb}
 use lib.ListN.{length}
 use Rattle.wire.specs.Varuint.{Spelled}
+use Rattle.parse.specs.Reader.{Cursor, CursorOf, refused, andThen, check, enough, count}
+use Rattle.parse.proofs.Pieces.{var-complete, count-complete}
 use Rattle.schema.specs.Table.{Shape, map}
 use Rattle.value.specs.declared.Row.{Row}
-use Rattle.value.specs.Answer.{Cursor, CursorOf, refused, andThen, check}
-use Rattle.value.specs.Read.{enough, count, parse}
+use Rattle.value.specs.Read.{parse}
 use Rattle.value.specs.Write.{nextRow, rowOf, show}
-use Rattle.value.proofs.Complete.{var-complete, count-complete}
 
 module _ (S : ℕ → Shape) (d t k v : ℕ) (is : S t ≡ map k v) where
   module _ (n : ℕ) (u rest : List ℕ) (c : Cursor) (s : Spelled n u) (e : c .left ≡ u ++ rest) where

@@ -4,11 +4,10 @@ use mathlib.Core.Path.{_≡_, refl, sym, ap, _∙_}
 use mathlib.Core.List.{List, [], _∷_, _++_}
 use Prim.Native.Nat.{ℕ, _≤_, _<_}
 use native.Mathlib.Omega.{arith}
-use lib.ListN.{length}
 use lib.Seq.{take-all, take-append-seam}
+use Rattle.parse.specs.Reader.{Cursor, Answer, refused, seen, Reader, andThen, check}
 use Rattle.schema.specs.Table.{Shape, unknown, scalar, text, array, map, struct}
 use Rattle.schema.specs.Extend.{Grows, same, gains}
-use Rattle.value.specs.Answer.{Cursor, Answer, refused, seen, Reader, andThen, check}
 use Rattle.value.specs.Value.{Tree, tip, branch, Forest, stop, plus}
 use Rattle.value.specs.Read.{Item, plan, walk}
 use Rattle.value.specs.Beside.{pruned, prunedAll}

@@ -4,11 +4,12 @@ use mathlib.Core.List.{List}
 use Prim.Native.Nat.{ℕ, _<_}
 use native.Mathlib.Omega.{arith}
 use lib.Dec.{lit≤}
+use Rattle.parse.specs.Reader.{Cursor, Answer, refused, seen}
+use Rattle.parse.proofs.Blames.{Blames, fine, blames}
 use Rattle.schema.specs.declared.Field.{Field}
 use Rattle.schema.specs.Table.{Table, Shape, struct, shape}
 use Rattle.schema.specs.Good.{GoodTable}
 use Rattle.value.specs.declared.Row.{Row}
-use Rattle.value.specs.Answer.{Cursor, Answer, refused, seen}
 use Rattle.value.specs.Read.{rootStruct}
 use Rattle.value.specs.Reasons.{BitmapFault, cut, absent, OwnFault, cut-number, bad-number, exceeds, cut-scalar, no-bool, no-string, many-pairs, bits, unknown-bit}
 use Rattle.value.specs.Reasons.{Faulty, too-deep, own, inner, repeated, RootFault, bits as root-bits, field, surplus, short-tail}
@@ -16,7 +17,6 @@ use Rattle.value.specs.Reasons.{Reason, no-struct, too-long, faulty, too
 use Rattle.value.specs.SheetReasons as sheet
 use Rattle.value.specs.Listed as listed
 use Rattle.value.specs.Listed.{ValueFault, within-list, many-pairs as pairs, ReadNumber, WriteNumber}
-use Rattle.value.proofs.Blames.{Blames, fine, blames}
 use Rattle.value.proofs.Refusals.{good-blames}
 
 -- an answer that is no refusal, or one with a number of a value's fault

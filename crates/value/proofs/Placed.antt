@@ -1,56 +1,28 @@
 -- The rows that the reader shows fit the payload: each names its own content.
-use mathlib.Core.Path.{_≡_, refl, sym, ap, _∙_}
-use mathlib.Core.List.{List, [], _∷_, _++_}
-use Prim.Native.Nat.{ℕ, zero, suc, _+_, _-_, _≤_}
+use mathlib.Core.Path.{_≡_, refl}
+use mathlib.Core.List.{List, [], _∷_}
+use Prim.Native.Nat.{ℕ, zero, suc, _-_}
 use native.Mathlib.Omega.{arith}
-use lib.ListN.{length, drop, length-append, length-drop}
-use lib.Seq.{take-append-seam, drop-append-seam, drop-drop}
+use lib.ListN.{length}
 use borrow.Author.Tests.{ltb-true, leb-true, not-true}
 use Rattle.wire.proofs.Utf8s.{utf8-is}
+use Rattle.parse.specs.Reader.{Cursor, Reader}
+use Rattle.parse.proofs.Answers.{Seen, nothing, value as holds, seen-then, seen-after, seen-check}
+use Rattle.parse.proofs.Places.{On, block-placed, count-placed}
 use Rattle.schema.specs.declared.Field.{Field}
 use Rattle.schema.specs.Table.{Shape, unknown, scalar, text, array, map, struct}
-use Rattle.value.specs.Answer.{Cursor, Answer, Reader, block}
 use Rattle.value.specs.Value.{Tree, tip, branch, values}
-use Rattle.value.specs.Read.{Item, Own, plain, parts, plan, counted, leafRow, nodeRow, bitmap, count, own, walk, whole, parse, rootStruct}
-use Rattle.value.specs.Fits.{Spans, LeafFits, BitsFit, HeadFits, AllFit, WholeFits, Fits, RootFits}
-use Rattle.value.proofs.Answers.{Seen, nothing, value as holds, seen-then, seen-after, seen-check, seen-map, Reads, not-ok, ok}
+use Rattle.value.specs.Read.{Item, Own, plain, parts, plan, counted, leafRow, nodeRow, bitmap, own, walk, whole, parse, rootStruct}
+use Rattle.value.specs.Fits.{LeafFits, BitsFit, HeadFits, AllFit, WholeFits, Fits, RootFits}
 use Rattle.value.proofs.Keys.{Fresh, fresh-apart}
-use Rattle.value.proofs.Sound.{block-reads, count-reads, asked}
+use Rattle.value.proofs.Sound.{asked}
 use Rattle.value.proofs.Root.{ending-sound}
 
 module _ (B : List ℕ) where
-  -- The cursor stands in the payload B.
-  abbrev pub On : Cursor → Type 0
-  On c = (c .left ≡ drop (c .at) B) × (c .at ≤ length B)
-
-  passed : (c c′ : Cursor) (u : List ℕ) → On c → c .left ≡ u ++ c′ .left → c′ .at ≡ c .at + length u → On c′ × Spans B (c .at) (length u) u
-  passed c c′ u o l k =
-      let e : u ++ c′ .left ≡ drop (c .at) B = sym l ∙ o .0 in
-      let n : length u + length (c′ .left) ≡ length B - c .at = sym (length-append u (c′ .left)) ∙ ap length e ∙ length-drop (c .at) B in
-      let a : drop (length u) (u ++ c′ .left) ≡ drop (length u) (drop (c .at) B) = rw e in (
-        (rw k (sym (drop-append-seam u (c′ .left)) ∙ a ∙ drop-drop (length u) (c .at) B), omega arith),
-        (omega arith, rw (← e) (sym (take-append-seam u (c′ .left)))),
-      )
-
-  -- A reader stays in the payload.
-  pub stays-on : {A : Type 0} {R : A → List ℕ → Type 0} {c : Cursor} {m : Answer A} → On c → Reads c R m
-      → Seen (λ a c′. On c′ × ((u : List ℕ) × (c′ .at ≡ c .at + length u) × Spans B (c .at) (length u) u × R a u)) m
-  stays-on o not-ok = nothing
-  stays-on {c} o (ok {c′} u l k r) = let w = passed c c′ u o l k in holds (w .0, (u, k, w .1, r))
-
-  block-placed : (n : ℕ) (c : Cursor) → On c → Seen (λ x c′. On c′ × (c′ .at ≡ c .at + length x) × (length x ≡ n) × Spans B (c .at) n x) (block n c)
-  block-placed n c o =
-      seen-map (stays-on o (block-reads n c)) (λ x c′ w.
-      let r = w .1 .3 in
-      (w .0, rw (r .0) at (w .1 .1), r .1, rw (r .0, r .1) at (w .1 .2)))
-
-  count-placed : (least : ℕ) (c : Cursor) → On c → Seen (λ n c′. On c′) (count least c)
-  count-placed least c o = seen-map (stays-on o (count-reads least c)) (λ n c′ w. w .0)
-
-  bitmap-placed : (fs : List Field) (c : Cursor) → On c → Seen (λ m c′. On c′ × BitsFit B fs (c .at) m) (bitmap fs c)
+  bitmap-placed : (fs : List Field) (c : Cursor) → On B c → Seen (λ m c′. On B c′ × BitsFit B fs (c .at) m) (bitmap fs c)
   unfolding bitmap
   bitmap-placed fs c o =
-      seen-after (block-placed _ c o) (λ x c′ w. seen-check _ _ _ _ _ (λ e.
+      seen-after (block-placed B _ c o) (λ x c′ w. seen-check _ _ _ _ _ (λ e.
       holds (w .0, (w .3 .0, rw (w .3 .1), e))))
 
   -- What the own bytes of a value say, up to the cursor.
@@ -58,31 +30,31 @@ module _ (B : List ℕ) where
   OwnFits s (plain x) c = LeafFits B s (c .at - length x) (length x) 0 x
   OwnFits s (parts start h) c = HeadFits B s start (counted s h) h
 
-  pub own-placed : (s : Shape) (c : Cursor) → On c → Seen (λ o c′. On c′ × OwnFits s o c′) (own s c)
+  pub own-placed : (s : Shape) (c : Cursor) → On B c → Seen (λ o c′. On B c′ × OwnFits s o c′) (own s c)
   own-placed unknown c o = nothing
   own-placed (scalar kind) c o =
-      seen-after (block-placed _ c o) (λ x c′ w. seen-check _ _ _ _ _ (λ e.
+      seen-after (block-placed B _ c o) (λ x c′ w. seen-check _ _ _ _ _ (λ e.
       let p : c′ .at - length x ≡ c .at = omega arith in
       holds (w .0, (w .2, refl, rw (p, w .2) (w .3), λ k. ltb-true _ 2 (asked 1 kind _ e k)))))
   own-placed (text kind) c o =
-      seen-after (count-placed _ c o) (λ n c₁ o₁. seen-after (block-placed n c₁ o₁) (λ x c′ w. seen-check _ _ _ _ _ (λ e.
+      seen-after (count-placed B _ c o) (λ n c₁ o₁. seen-after (block-placed B n c₁ o₁) (λ x c′ w. seen-check _ _ _ _ _ (λ e.
       let p : c′ .at - length x ≡ c₁ .at = omega arith in
       holds (w .0, (refl, rw (p, w .2) (w .3), λ k. utf8-is _ .0 (asked 12 kind _ e k))))))
-  own-placed (array e) c o = seen-after (count-placed _ c o) (λ n c₁ o₁. holds (o₁, refl))
-  own-placed (map a b) c o = seen-after (count-placed _ c o) (λ n c₁ o₁. seen-check _ _ _ _ _ (λ e. holds (o₁, (refl, leb-true n _ e))))
+  own-placed (array e) c o = seen-after (count-placed B _ c o) (λ n c₁ o₁. holds (o₁, refl))
+  own-placed (map a b) c o = seen-after (count-placed B _ c o) (λ n c₁ o₁. seen-check _ _ _ _ _ (λ e. holds (o₁, (refl, leb-true n _ e))))
   own-placed (struct fs) c o =
       seen-after (bitmap-placed fs c o) (λ m c₁ w. seen-check _ _ _ _ _ (λ e. holds (w .0, (w .1, ltb-true m _ e, refl))))
 
-  module _ (P : ℕ → Tree → Type 0) (p : ℕ → Reader Tree) (pP : (t : ℕ) (c : Cursor) → On c → Seen (λ tree c′. On c′ × P t tree) (p t c)) where
-    walk-placed : (keys : List (List ℕ)) (is : List Item) (c : Cursor) → On c
-        → Seen (λ ts c′. On c′ × AllFit P is ts × Fresh keys is (values ts)) (walk p keys is c)
+  module _ (P : ℕ → Tree → Type 0) (p : ℕ → Reader Tree) (pP : (t : ℕ) (c : Cursor) → On B c → Seen (λ tree c′. On B c′ × P t tree) (p t c)) where
+    walk-placed : (keys : List (List ℕ)) (is : List Item) (c : Cursor) → On B c
+        → Seen (λ ts c′. On B c′ × AllFit P is ts × Fresh keys is (values ts)) (walk p keys is c)
     unfolding walk values
     walk-placed keys [] c o = holds (o, tt, tt)
     walk-placed keys (i ∷ is) c o =
         seen-after (pP (i .type) c o) (λ t c₁ w. seen-check _ _ _ _ _ (λ e.
         seen-after (walk-placed _ is c₁ (w .0)) (λ ts c₂ w′. holds (w′ .0, (w .1, w′ .1), (not-true _ e, w′ .2)))))
 
-    whole-placed : (t : ℕ) (s : Shape) (own : Own) (c : Cursor) → On c → OwnFits s own c → Seen (λ tree c′. On c′ × WholeFits P B s t tree) (whole p t s own c)
+    whole-placed : (t : ℕ) (s : Shape) (own : Own) (c : Cursor) → On B c → OwnFits s own c → Seen (λ tree c′. On B c′ × WholeFits P B s t tree) (whole p t s own c)
     whole-placed t s (plain x) c o q = holds {a = tip (leafRow t (c .at) (length x)) x} (o, (refl, q))
     whole-placed t s (parts start h) c o q =
         seen-after (walk-placed [] (plan s h) c o) (λ ts c′ w.
@@ -90,14 +62,14 @@ module _ (B : List ℕ) where
 
   module _ (S : ℕ → Shape) where
     -- What the reader reads at a place of a payload fits the payload.
-    pub parse-placed : (d t : ℕ) (c : Cursor) → On c → Seen (λ tree c′. On c′ × Fits S B d t tree) (parse S d t c)
+    pub parse-placed : (d t : ℕ) (c : Cursor) → On B c → Seen (λ tree c′. On B c′ × Fits S B d t tree) (parse S d t c)
     unfolding parse
     parse-placed zero t c o = nothing
     parse-placed (suc d) t c o =
         seen-after (own-placed (S t) c o) (λ own c′ w. whole-placed (Fits S B d) (parse S d) (parse-placed d) t (S t) own c′ (w .0) (w .1))
 
     -- And the root.
-    pub root-placed : (t : ℕ) (fs : List Field) (c : Cursor) → On c → Seen (λ tree c′. On c′ × RootFits S B t fs tree) (rootStruct S t fs c)
+    pub root-placed : (t : ℕ) (fs : List Field) (c : Cursor) → On B c → Seen (λ tree c′. On B c′ × RootFits S B t fs tree) (rootStruct S t fs c)
     unfolding rootStruct
     root-placed t fs c o =
         seen-after (bitmap-placed fs c o) (λ m c₁ w.

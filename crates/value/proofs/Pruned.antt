@@ -6,6 +6,7 @@ use native.Mathlib.Omega.{arith}
 use native.Mathlib.Nat.{mod-mod, add-mul-mod-self-left}
 use lib.ListN.{length, length-append}
 use lib.Pow.{mod-mod-pow}
+use Rattle.buffer.specs.Span.{span}
 use Rattle.wire.specs.Little.{little}
 use Rattle.wire.proofs.Numbers.{little-split, pow-bytes}
 use Rattle.schema.specs.declared.Field.{Field}
@@ -14,7 +15,6 @@ use Rattle.schema.specs.Extend.{Grows, same, gains}
 use Rattle.value.specs.declared.Row.{Row}
 use Rattle.value.specs.Value.{Tree, tip, branch, Forest, stop, plus, rows, rowsAll, value, values}
 use Rattle.value.specs.Read.{Item, plan, counted, knownBits}
-use Rattle.value.specs.Write.{span}
 use Rattle.value.specs.Fits.{LeafFits, BitsFit, HeadKnown, FitsKnown, AllKnown}
 use Rattle.value.specs.Added.{keptHead, without, withoutAll}
 use Rattle.value.specs.Beside.{pruned, prunedAll, SomeOf, done, passed, kept}

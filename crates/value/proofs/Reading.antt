@@ -8,17 +8,17 @@ use lib.Dec.{leb}
 use lib.ListN.{length, length-append, length-drop}
 use borrow.Author.Tests.{leb-true, le-leb}
 use Rattle.wire.proofs.Cases.{differ}
+use Rattle.parse.specs.Reader.{Cursor, Answer, refused, seen, cursorAt}
+use Rattle.parse.proofs.Answers.{seen-end, yields-end}
 use Rattle.schema.specs.declared.Field.{Field}
 use Rattle.schema.specs.Table.{Shape, unknown, scalar, text, array, map, struct}
 use Rattle.value.specs.declared.Row.{Row}
-use Rattle.value.specs.Answer.{Cursor, Answer, refused, seen, cursorAt}
 use Rattle.value.specs.Value.{Tree, tip, branch, Forest, stop, plus, rows, rowsAll, Value, value, values, size, sizeAll}
 use Rattle.value.specs.Comparisons.{comparisons}
 use Rattle.value.specs.Read.{onStruct, rootOf, rootStruct, refusal, accepted, readingAs, reading}
 use Rattle.value.proofs.Shapes.{Solid}
 use Rattle.value.specs.Fits.{Shows}
 use Rattle.value.specs.Claims.{Rightful, ReadAs}
-use Rattle.value.proofs.Answers.{seen-end, yields-end}
 use Rattle.value.proofs.Root.{root-sound, root-complete}
 use Rattle.value.proofs.Placed.{root-placed}
 use Rattle.value.proofs.Telling.{root-once}

@@ -1,71 +1,44 @@
 -- What the reader refuses has its reason.
 use mathlib.Core.Path.{_≡_, refl, sym, ap, subst, _∙_}
-use mathlib.Core.Logic.{_⊎_, inl, inr, ⊎-elim}
+use mathlib.Core.Logic.{inl, inr}
 use mathlib.Core.List.{List, [], _∷_, _++_, append-nil, append-assoc}
 use mathlib.Core.Bool.{Bool, true, false, not, _||_}
 use Prim.Native.Nat.{ℕ, zero, suc, _+_, _*_, _≤_, _<_}
 use native.Mathlib.Omega.{arith}
 use lib.Dec.{eqb}
-use lib.ListN.{length, take, drop, take-append-drop}
-use lib.Seq.{length-take-le, getD-take}
-use borrow.Author.Tests.{leb-true, leb-false, ltb-false, eqb-true, eqb-false, not-false}
+use lib.ListN.{length}
+use borrow.Author.Tests.{leb-false, ltb-false, eqb-true, eqb-false, not-false}
 use Rattle.wire.specs.Little.{little}
 use Rattle.wire.specs.Utf8.{utf8}
-use Rattle.wire.specs.Varuint.{front, Spelled, Completed, TenthAbove}
-use Rattle.wire.specs.declared.varuint.VarUInt.{VarUInt}
-use Rattle.wire.specs.declared.varuint.VarUInt.the-variants.{Number, Cut, Malformed}
-use Rattle.wire.proofs.Varuints.{cut-completed, malformed-iff}
+use Rattle.wire.specs.Varuint.{Spelled}
 use Rattle.wire.proofs.Utf8s.{utf8-is}
+use Rattle.parse.specs.Reader.{Cursor, seen, andThen, check, block, count}
+use Rattle.parse.proofs.Answers.{Seen, nothing, value as holds, seen-after, seen-then, seen-check, seen-end}
+use Rattle.parse.proofs.Blames.{Blames, fine, blames, blames-then, blames-check, blames-on, blames-map}
+use Rattle.parse.proofs.Pieces.{block-reads, var-reads, count-reads, count-enough, block-blames, var-blames}
 use Rattle.schema.specs.declared.Field.{Field}
 use Rattle.schema.specs.Table.{Shape, unknown, scalar, text, array, map, struct, width}
 use Rattle.schema.proofs.Bools.{or-false, clash}
-use Rattle.value.specs.Answer.{Cursor, seen, andThen, check, numberAt, block, varUInt}
 use Rattle.value.specs.Value.{values, content}
-use Rattle.value.specs.Read.{Item, plan, Own, plain, parts, count, bitmap, own, walk, whole, parse, knownBits, unknownBits, ending, rootStruct}
+use Rattle.value.specs.Read.{Item, plan, Own, plain, parts, bitmap, own, walk, whole, parse, knownBits, unknownBits, ending, rootStruct}
 use Rattle.value.specs.Spell.{BitmapSpells, keysOf, Spells}
-use Rattle.value.specs.Reasons.{least, MalformedBytes, BitmapFault, cut, absent, OwnFault, cut-number, bad-number, exceeds, cut-scalar, no-bool, no-string, many-pairs, bits, unknown-bit}
+use Rattle.value.specs.Reasons.{least, BitmapFault, cut, absent, OwnFault, cut-number, bad-number, exceeds, cut-scalar, no-bool, no-string, many-pairs, bits, unknown-bit}
 use Rattle.value.specs.Reasons.{Due, Faulty, too-deep, own as own-fault, inner, repeated, RootDue, RootFault, bits as root-bits, field, surplus, short-tail}
-use Rattle.value.proofs.Answers.{Seen, nothing, value as holds, seen-after, seen-then, seen-check, seen-end}
 use Rattle.value.proofs.Bits.{bit-beyond}
-use Rattle.value.proofs.Blames.{Blames, fine, blames, blames-then, blames-check, blames-on, blames-map}
 use Rattle.value.proofs.Fields.{lacking}
 use Rattle.value.proofs.Keys.{fresh-apart}
 use Rattle.value.proofs.Root.{Unkeyed, present-unkeyed}
-use Rattle.value.proofs.Sound.{block-reads, var-reads, count-reads, bitmap-reads, own-reads, OwnSpells, walk-reads, parse-reads}
+use Rattle.value.proofs.Sound.{bitmap-reads, own-reads, OwnSpells, walk-reads, parse-reads}
 use Rattle.value.proofs.Stops.{Stops, ItemFault, walk-blames, met, met-none}
 use Rattle.value.proofs.TwoTables.{Below}
 
 -- ---- own bytes
 
--- Ten bytes in front of a VarUInt that is malformed by its tenth.
-ten : (s : List ℕ) → TenthAbove s → (length (take 10 s) ≡ 10) × TenthAbove (take 10 s)
-ten s (long, more, high) =
-    let l : length (take 10 s) ≡ 10 = length-take-le 10 s (omega arith) in
-    (l, (omega arith, λ i h. rw (getD-take 10 s i 0 (omega arith)) (more i h), rw (getD-take 10 s 9 0 (omega arith)) high))
-
 module _ {F : (u x rest : List ℕ) → ℕ → Type 0} (c : Cursor) where
-  block-blames : (n : ℕ) → (length (c .left) < n → F [] (c .left) [] 20) → Blames c F (block n c)
-  unfolding block
-  block-blames n f =
-      blames-check _ _ _ _ _ (λ e. blames [] (c .left) [] (sym (append-nil (c .left))) (omega arith) (f (leb-false n _ e))) (λ _. fine)
-
-  var-blames : (Completed Spelled (c .left) → F [] (c .left) [] 20) → ((x rest : List ℕ) → MalformedBytes x → F [] x rest 21) → Blames c F (varUInt c)
-  unfolding varUInt
-  var-blames f g = go (front (c .left) (c .at)) refl
-    where
-      go : (r : VarUInt) → front (c .left) (c .at) ≡ r → Blames c F (numberAt c r)
-      go (Number n next) e = fine
-      go Cut e = blames {p = c .at} [] (c .left) [] (sym (append-nil (c .left))) (omega arith) (f (cut-completed (c .left) (c .at) e))
-      go Malformed e =
-          ⊎-elim
-          (λ (n, x, rest, split, groups, two, last). blames {p = c .at} [] x rest split (omega arith) (g x rest (inl (n, groups, two, last))))
-          (λ w. blames {p = c .at} [] (take 10 (c .left)) (drop 10 (c .left)) (sym (take-append-drop 10 (c .left))) (omega arith) (g _ _ (inr (ten (c .left) w))))
-          (malformed-iff (c .left) (c .at) .0 e)
-
   bitmap-blames : (fs : List Field) → ((x rest : List ℕ) (n : ℕ) → BitmapFault fs x rest n → F [] x rest n) → Blames c F (bitmap fs c)
   unfolding bitmap
   bitmap-blames fs f =
-      blames-then (block-reads _ c) (block-blames _ (λ h. f (c .left) [] 20 (cut h))) (λ x c′ u _ l k q.
+      blames-then (block-reads _ c) (block-blames c _ (λ h. f (c .left) [] 20 (cut h))) (λ x c′ u _ l k q.
       blames-check _ _ _ _ _ (λ e. let w = lacking fs (little x) e in blames [] x (c′ .left) (l ∙ rw (q .0)) (omega arith) (f x (c′ .left) _ (absent (w .0) (q .1) (w .1)))) (λ _. fine))
 
 -- A test that asks only where the kind is k, and fails.
@@ -80,11 +53,6 @@ bool-fault kind x rest one l high = subst (λ (k : ℕ). OwnFault (scalar k) [] 
     go [] l h = absurd (omega arith)
     go (b ∷ []) l h = no-bool {b = b} (omega arith)
     go (b ∷ b′ ∷ x) l h = absurd (omega arith)
-
--- After a length or a count there is enough.
-count-enough : (least : ℕ) (c : Cursor) → Seen (λ n c′. least * n ≤ length (c′ .left)) (count least c)
-unfolding count
-count-enough least c = seen-then _ (λ n c′ _. seen-check _ _ _ _ _ (λ e. holds (leb-true _ _ e)))
 
 count-blames : (s : Shape) (c : Cursor) → 0 < least s → Blames c (OwnFault s) (count (least s) c)
 unfolding count

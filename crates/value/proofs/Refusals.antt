@@ -7,18 +7,18 @@ use native.Mathlib.Omega.{arith}
 use lib.Dec.{leb}
 use lib.ListN.{length, length-append}
 use borrow.Author.Tests.{leb-true, leb-false, lt-leb}
+use Rattle.parse.specs.Reader.{Cursor, Answer, refused, cursorAt}
+use Rattle.parse.proofs.Answers.{Seen, value as holds, yields-end}
+use Rattle.parse.proofs.Blames.{Blames, fine, blames}
 use Rattle.schema.specs.declared.Field.{Field}
 use Rattle.schema.specs.Table.{Table, Shape, unknown, scalar, text, array, map, struct, shape}
 use Rattle.schema.specs.Good.{GoodTable}
 use Rattle.schema.proofs.Shapes.{known}
 use Rattle.value.specs.declared.Row.{Row}
-use Rattle.value.specs.Answer.{Cursor, Answer, refused, cursorAt}
 use Rattle.value.specs.Value.{Tree, rows, value}
 use Rattle.value.specs.Read.{onStruct, rootStruct, Reading, refusal, accepted, reading, read}
 use Rattle.value.specs.Spell.{RootSpells}
 use Rattle.value.specs.Reasons.{RootFault, Reason, no-struct, too-long, faulty, too-few-rows}
-use Rattle.value.proofs.Answers.{Seen, value as holds, yields-end}
-use Rattle.value.proofs.Blames.{Blames, fine, blames}
 use Rattle.value.proofs.Root.{root-sound, root-complete}
 use Rattle.value.proofs.Reading.{sized, as-root}
 use Rattle.value.proofs.Reasons.{root-blames}

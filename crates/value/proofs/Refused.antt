@@ -5,57 +5,35 @@ use mathlib.Core.List.{List, [], _∷_, _++_, append-nil, append-assoc}
 use mathlib.Core.Bool.{true}
 use Prim.Native.Nat.{ℕ, zero, suc, _+_, _*_, _<_}
 use native.Mathlib.Omega.{arith}
-use lib.ListN.{length, length-append, List·getD-append}
-use lib.Seq.{take-append-seam}
+use lib.ListN.{length, length-append}
 use borrow.Author.Tests.{lt-leb, le-ltb, ne-eqb}
 use Rattle.wire.specs.Little.{little}
 use Rattle.wire.specs.Utf8.{utf8}
-use Rattle.wire.specs.Varuint.{front, Spelled, Completed}
-use Rattle.wire.specs.declared.varuint.VarUInt.the-variants.{Cut, Malformed}
-use Rattle.wire.proofs.Varuints.{spelled-cut, malformed-iff}
+use Rattle.wire.specs.Varuint.{Spelled}
 use Rattle.wire.proofs.Utf8s.{utf8-is}
+use Rattle.parse.specs.Reader.{Cursor, refused, check, varUInt, count}
+use Rattle.parse.proofs.Answers.{yields-end, stops, steps, fails, arrives}
+use Rattle.parse.proofs.Pieces.{block-complete, count-complete, block-refused, var-cut, var-bad, count-refused}
 use Rattle.schema.specs.declared.Field.{Field}
 use Rattle.schema.specs.Table.{Shape, unknown, scalar, text, array, map, struct, bitmapBytes}
 use Rattle.schema.proofs.Bools.{is-false}
-use Rattle.value.specs.Answer.{Cursor, refused, check, block, varUInt}
 use Rattle.value.specs.Value.{Values, content}
-use Rattle.value.specs.Read.{Item, plan, among, count, bitmap, own, parse, knownBits, unknownBits, ending, rootStruct}
+use Rattle.value.specs.Read.{Item, plan, among, bitmap, own, parse, knownBits, unknownBits, ending, rootStruct}
 use Rattle.value.specs.Spell.{Spells}
-use Rattle.value.specs.Reasons.{least, MalformedBytes, BitmapFault, cut, absent, OwnFault, cut-number, bad-number, exceeds, cut-scalar, no-bool, no-string, many-pairs, bits, unknown-bit}
+use Rattle.value.specs.Reasons.{least, BitmapFault, cut, absent, OwnFault, cut-number, bad-number, exceeds, cut-scalar, no-bool, no-string, many-pairs, bits, unknown-bit}
 use Rattle.value.specs.Reasons.{Due, Faulty, too-deep, own as own-fault, inner, repeated, RootDue, RootFault, bits as root-bits, field, surplus, short-tail}
-use Rattle.value.proofs.Answers.{yields-end}
 use Rattle.value.proofs.Bits.{bit-beyond}
-use Rattle.value.proofs.Complete.{block-complete, var-complete, count-complete, bitmap-complete, head-complete, takes, walk-complete, parse-complete}
+use Rattle.value.proofs.Complete.{bitmap-complete, head-complete, takes, walk-complete, parse-complete}
 use Rattle.value.proofs.Fields.{lacks}
 use Rattle.value.proofs.Keys.{Fresh, apart-fresh}
 use Rattle.value.proofs.Root.{Unkeyed, present-unkeyed, unkeyed-fresh}
 use Rattle.value.proofs.Shapes.{Solid}
 use Rattle.value.proofs.Sound.{own-reads, walk-reads, parse-reads}
-use Rattle.value.proofs.Stops.{met, holds-met, stops, steps, fails, arrives, ItemFault, walk-refused}
+use Rattle.value.proofs.Stops.{met, holds-met, ItemFault, walk-refused}
 
 -- ---- own bytes
 
 module _ (c : Cursor) where
-  block-refused : (n : ℕ) (x : List ℕ) → c .left ≡ x ++ [] → length x < n → block n c ≡ refused 20 (c .at)
-  unfolding block
-  block-refused n x l h = fails c _ (lt-leb n (length (c .left)) (rw (l, append-nil) h)) refl
-
-  var-cut : (x : List ℕ) → c .left ≡ x ++ [] → Completed Spelled x → varUInt c ≡ refused 20 (c .at)
-  unfolding varUInt
-  var-cut x l (n, t, some, s) =
-      let e : front (c .left) (c .at) ≡ Cut = rw (l, append-nil) (rw (take-append-seam x t) at (spelled-cut n (x ++ t) (length x) (c .at) s (simp length-append (omega arith)))) in
-      rw e
-
-  malformed-bad : (x rest : List ℕ) → MalformedBytes x → front (x ++ rest) (c .at) ≡ Malformed
-  malformed-bad x rest (inl (n, groups, two, last)) = malformed-iff (x ++ rest) (c .at) .1 (inl (n, x, rest, refl, groups, two, last))
-  malformed-bad x rest (inr (l, (long, more, high))) =
-      malformed-iff (x ++ rest) (c .at) .1
-      (inr (simp length-append (omega arith), λ i h. rw (List·getD-append x rest 0 i (omega arith)) (more i h), rw (List·getD-append x rest 0 9 (omega arith)) high))
-
-  var-bad : (x rest : List ℕ) → c .left ≡ x ++ rest → MalformedBytes x → varUInt c ≡ refused 21 (c .at)
-  unfolding varUInt
-  var-bad x rest l w = rw (l, malformed-bad x rest w)
-
   -- A length or a count that cannot be read, and one above what follows it.
   number-refused : (s : Shape) (n : ℕ) → 0 < least s → varUInt c ≡ refused n (c .at) → own s c ≡ refused n (c .at)
   unfolding count
@@ -66,29 +44,25 @@ module _ (c : Cursor) where
   number-refused (scalar _) n h e = absurd (omega arith)
   number-refused (struct _) n h e = absurd (omega arith)
 
-  count-refused : (a n : ℕ) (x rest : List ℕ) → c .left ≡ x ++ rest → Spelled n x → length rest < a * n → count a c ≡ refused 20 (c .at)
-  unfolding count
-  count-refused a n x rest l s h = steps _ (var-complete n x rest c s l) (fails _ _ (lt-leb (a * n) (length rest) h) refl)
-
   exceeds-refused : (s : Shape) (n : ℕ) (x rest : List ℕ) → c .left ≡ x ++ rest → Spelled n x → length rest < least s * n → own s c ≡ refused 20 (c .at)
-  exceeds-refused (text _) n x rest l s h = stops _ (count-refused 1 n x rest l s h)
-  exceeds-refused (array _) n x rest l s h = stops _ (count-refused 1 n x rest l s h)
-  exceeds-refused (map _ _) n x rest l s h = stops _ (count-refused 2 n x rest l s h)
+  exceeds-refused (text _) n x rest l s h = stops _ (count-refused c 1 n x rest l s h)
+  exceeds-refused (array _) n x rest l s h = stops _ (count-refused c 1 n x rest l s h)
+  exceeds-refused (map _ _) n x rest l s h = stops _ (count-refused c 2 n x rest l s h)
   exceeds-refused unknown n x rest l s h = absurd (omega arith)
   exceeds-refused (scalar _) n x rest l s h = absurd (omega arith)
   exceeds-refused (struct _) n x rest l s h = absurd (omega arith)
 
   bitmap-refused : (fs : List Field) (x rest : List ℕ) (n : ℕ) → c .left ≡ x ++ rest → BitmapFault fs x rest n → bitmap fs c ≡ refused n (c .at)
   unfolding bitmap
-  bitmap-refused fs x rest n l (cut h) = stops _ (block-refused _ x l h)
+  bitmap-refused fs x rest n l (cut h) = stops _ (block-refused c _ x l h)
   bitmap-refused fs x rest n l (absent i whole a) = steps _ (block-complete _ x rest c whole l) (fails _ _ (lacks fs (little x) i a) refl)
 
   own-refused : (s : Shape) (u x rest : List ℕ) (n : ℕ) → OwnFault s u x rest n → c .left ≡ u ++ (x ++ rest) → own s c ≡ refused n (c .at + length u)
   unfolding little
-  own-refused s u x rest n (cut-number h w) l = number-refused s 20 h (var-cut x l w) ∙ ap (refused 20) (omega arith)
-  own-refused s u x rest n (bad-number h w) l = number-refused s 21 h (var-bad x rest l w) ∙ ap (refused 21) (omega arith)
+  own-refused s u x rest n (cut-number h w) l = number-refused s 20 h (var-cut c x l w) ∙ ap (refused 20) (omega arith)
+  own-refused s u x rest n (bad-number h w) l = number-refused s 21 h (var-bad c x rest l w) ∙ ap (refused 21) (omega arith)
   own-refused s u x rest n (exceeds m w h) l = exceeds-refused s m x rest l w h ∙ ap (refused 20) (omega arith)
-  own-refused s u x rest n (cut-scalar h) l = stops _ (block-refused _ x l h) ∙ ap (refused 20) (omega arith)
+  own-refused s u x rest n (cut-scalar h) l = stops _ (block-refused c _ x l h) ∙ ap (refused 20) (omega arith)
   own-refused s u x rest n (no-bool {b} h) l = steps _ (block-complete 1 (b ∷ []) rest c refl l) (fails _ _ (le-ltb (b + 0) 2 (omega arith)) (omega arith))
   own-refused s u x rest n (no-string w h) l =
       steps _ (count-complete 1 (length x) u (x ++ rest) c w l (simp length-append (omega arith)))

@@ -9,14 +9,14 @@ use lib.ListN.{length}
 use lib.Seq.{take-at}
 use borrow.Author.Tests.{leb-true, le-leb, eqb-true, eq-eqb}
 use Rattle.wire.specs.Little.{little}
+use Rattle.parse.specs.Reader.{Cursor, seen}
+use Rattle.parse.proofs.Answers.{Seen, value as holds, seen-then, check-true, check-stays, reads-end, Yields, gives, yields-then, goes, passes}
 use Rattle.schema.specs.declared.Field.{Field}
 use Rattle.schema.specs.Table.{Shape, struct, bitmapBytes}
-use Rattle.value.specs.Answer.{Cursor, seen}
 use Rattle.value.specs.Value.{Value, leaf, node, Values, none, some, value}
 use Rattle.value.specs.Read.{Item, present, plan, parse, rootBits, unknownBits, ending, rootStruct}
 use Rattle.value.specs.Spell.{BitmapSpells, Spells, TailFits, RootSpells}
 use Rattle.value.proofs.Shapes.{Solid}
-use Rattle.value.proofs.Answers.{Seen, value as holds, seen-then, check-true, check-stays, reads-end, Yields, gives, yields-then, goes, passes}
 use Rattle.value.proofs.Keys.{Fresh}
 use Rattle.value.proofs.Sound.{bitmap-reads, walk-reads, parse-reads}
 use Rattle.value.proofs.Complete.{takes, bitmap-complete, walk-complete, parse-complete}

@@ -7,16 +7,16 @@ use Prim.Native.Nat.{ℕ, suc, _+_, _/_, _^_, _≤_}
 use native.Mathlib.Omega.{arith}
 use lib.ListN.{length, length-append}
 use Rattle.wire.proofs.Cases.{nothing-left}
+use Rattle.parse.specs.Reader.{Cursor, seen, Reader, andThen, check}
+use Rattle.parse.proofs.Answers.{then-inv, reads-end, Seen, value as holds, seen-then}
 use Rattle.schema.specs.declared.Field.{Field}
 use Rattle.schema.specs.Table.{Shape, struct, bitmapBytes}
 use Rattle.value.specs.declared.Row.{Row}
-use Rattle.value.specs.Answer.{Cursor, seen, Reader, andThen, check}
 use Rattle.value.specs.Value.{Value, Values, none as empty, some as and, Tree, tip, branch, Forest, stop, plus, value, values, content}
-use Rattle.value.specs.Read.{Item, counted, nodeRow, present, bitmap, walk, parse, rootBits, knownBits, unknownBits, ending, rootStruct, among, withKey}
+use Rattle.value.specs.Read.{Item, counted, nodeRow, present, bitmap, walk, parse, rootBits, knownBits, unknownBits, rootStruct, among, withKey}
 use Rattle.value.specs.Spell.{AllSpell, Spells, TailFits}
 use Rattle.value.proofs.Shapes.{FieldsBelow, Optional, Extension}
 use Rattle.value.specs.Added.{firstAdded, reachedAll, NoneAdded}
-use Rattle.value.proofs.Answers.{then-inv, reads-end, Seen, value as holds, seen-then}
 use Rattle.value.proofs.Bits.{present-mod, known-again, present-known, present-added, plan-split, unknown-split, no-added}
 use Rattle.value.proofs.Sound.{bitmap-reads, walk-reads, parse-reads}
 use Rattle.value.proofs.Complete.{takes, all-take}

@@ -8,30 +8,31 @@ use native.Mathlib.Omega.{arith}
 use lib.Dec.{ltb, eqb}
 use lib.ListN.{length}
 use borrow.Author.Tests.{leb-true, leb-false, ltb-false, eqb-true, eqb-false}
+use Rattle.buffer.specs.Span.{span}
+use Rattle.buffer.proofs.Spans.{length-span}
 use Rattle.wire.specs.Little.{little}
 use Rattle.wire.specs.Utf8.{utf8}
 use Rattle.wire.proofs.Utf8s.{utf8-is}
+use Rattle.parse.specs.Reader.{CursorOf, refused}
+use Rattle.parse.proofs.Answers.{Reads, reads-map}
+use Rattle.parse.proofs.Blames.{Blames, fine, blames, blames-then, blames-check, blames-on, blames-map}
 use Rattle.schema.specs.declared.Field.{Field}
 use Rattle.schema.specs.Table.{Shape, unknown, scalar, text, array, map, struct, width}
 use Rattle.schema.proofs.Bools.{clash, and-left, and-right}
 use Rattle.value.specs.declared.Row.{Row}
-use Rattle.value.specs.Answer.{CursorOf, refused}
 use Rattle.value.specs.Value.{Tree, Forest, stop, plus, rows, rowsAll, Value, value, Values, none, some, values, content}
 use Rattle.value.specs.Read.{Item, plan, counted, Own, plain, parts, walk, knownBits}
 use Rattle.value.specs.Spell.{AllSpell, keysOf}
-use Rattle.value.specs.Write.{nextRow, rowOf, bitsAt, says, held, show, showRoot, span}
+use Rattle.value.specs.Write.{nextRow, rowOf, bitsAt, says, held, show, showRoot}
 use Rattle.value.specs.Fits.{BitsFit, HeadFits, AllFit, Fits}
 use Rattle.value.specs.SheetReasons.{NoRow, missing, other, BitsFault, outside, absent, RowFault, scalar-unfit, scalar-outside, no-bool, text-unfit, text-outside, no-string, many-pairs, bits, struct-unfit}
 use Rattle.value.specs.SheetReasons.{RowDue, SheetFaulty, too-deep, no-row, own, inner, repeated, RootRowDue, SheetFault, no-row as no-root, bits as root-bits, miscounted, field, left-over}
-use Rattle.value.proofs.Answers.{Reads, reads-map}
 use Rattle.value.proofs.Bits.{bit-beyond}
-use Rattle.value.proofs.Blames.{Blames, fine, blames, blames-then, blames-check, blames-on, blames-map}
 use Rattle.value.proofs.Fields.{lacking}
 use Rattle.value.proofs.Keys.{fresh-apart}
 use Rattle.value.proofs.Reasons.{denied, unkeyed-at, some-left}
 use Rattle.value.proofs.Root.{Unkeyed, present-unkeyed}
 use Rattle.value.proofs.Shown.{next-reads, row-reads, bits-reads, says-reads, Says, show-sound, walk-shows}
-use Rattle.value.proofs.Spans.{length-span}
 use Rattle.value.proofs.Stops.{Stops, ItemFault, walk-blames, met, met-none}
 use Rattle.value.proofs.TwoTables.{Below}
 

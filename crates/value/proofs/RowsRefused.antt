@@ -11,25 +11,25 @@ use borrow.Author.Tests.{le-leb, lt-leb, le-ltb, eq-eqb, ne-eqb}
 use Rattle.wire.specs.Little.{little}
 use Rattle.wire.specs.Utf8.{utf8}
 use Rattle.wire.proofs.Utf8s.{utf8-is}
+use Rattle.parse.specs.Reader.{CursorOf, refused, seen, andThen, check}
+use Rattle.parse.proofs.Answers.{passes, Yields, gives, yields-end, stops, steps, fails, arrives}
 use Rattle.schema.specs.declared.Field.{Field}
 use Rattle.schema.specs.Table.{Shape, width}
 use Rattle.schema.proofs.Bools.{and-i, is-false, clash}
 use Rattle.value.specs.declared.Row.{Row}
-use Rattle.value.specs.Answer.{CursorOf, refused, seen, andThen, check}
 use Rattle.value.specs.Value.{branch, Forest, rows, rowsAll, Value, value, values, content}
 use Rattle.value.specs.Read.{Item, among, walk, knownBits}
 use Rattle.value.specs.Write.{nextRow, rowOf, bitsAt, says, show, showRoot}
 use Rattle.value.specs.Fits.{Fits}
 use Rattle.value.specs.SheetReasons.{NoRow, missing, other, BitsFault, outside, absent, RowFault, scalar-unfit, scalar-outside, no-bool, text-unfit, text-outside, no-string, many-pairs, bits, struct-unfit}
 use Rattle.value.specs.SheetReasons.{RowDue, SheetFaulty, too-deep, no-row, own, inner, repeated, RootRowDue, SheetFault, no-row as no-root, bits as root-bits, miscounted, field, left-over}
-use Rattle.value.proofs.Answers.{passes, Yields, gives, yields-end}
 use Rattle.value.proofs.Bits.{bit-beyond}
 use Rattle.value.proofs.Fields.{lacks}
 use Rattle.value.proofs.Keys.{apart-fresh}
 use Rattle.value.proofs.Refused.{fields-fresh}
 use Rattle.value.proofs.RowFaults.{RowsShow, of-forest, show-reads}
 use Rattle.value.proofs.Shown.{row-complete, bits-complete, head-says, show-complete, show-sound, walk-shows, walk-shown}
-use Rattle.value.proofs.Stops.{met, holds-met, stops, steps, fails, arrives, ItemFault, walk-refused}
+use Rattle.value.proofs.Stops.{met, holds-met, ItemFault, walk-refused}
 
 -- ---- one row
 

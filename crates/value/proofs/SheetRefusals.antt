@@ -8,20 +8,20 @@ use lib.Dec.{leb}
 use lib.ListN.{length, length-append}
 use borrow.Author.Tests.{leb-true, leb-false, le-leb, lt-leb}
 use Rattle.wire.proofs.Cases.{differ}
+use Rattle.parse.specs.Reader.{CursorOf, AnswerOf, refused}
+use Rattle.parse.proofs.Answers.{yields-end}
+use Rattle.parse.proofs.Blames.{Blames, fine, blames}
 use Rattle.schema.specs.declared.Field.{Field}
 use Rattle.schema.specs.Table.{Table, Shape, unknown, scalar, text, array, map, struct, shape}
 use Rattle.schema.specs.Good.{GoodTable}
 use Rattle.schema.proofs.Shapes.{known}
 use Rattle.value.specs.declared.Row.{Row}
-use Rattle.value.specs.Answer.{CursorOf, AnswerOf, refused}
 use Rattle.value.specs.Value.{Tree, Value, value}
 use Rattle.value.specs.Read.{onStruct}
 use Rattle.value.specs.Spell.{encode}
 use Rattle.value.specs.Write.{showRoot, Writing, refusal, written, fitted, writing, write}
 use Rattle.value.specs.Fits.{Shows}
 use Rattle.value.specs.SheetReasons.{SheetFault, SheetReason, no-struct, faulty, too-long, too-small}
-use Rattle.value.proofs.Answers.{yields-end}
-use Rattle.value.proofs.Blames.{Blames, fine, blames}
 use Rattle.value.proofs.RowFaults.{sheet-blames}
 use Rattle.value.proofs.RowsRefused.{sheet-refused}
 use Rattle.value.proofs.Shapes.{good-closed}

@@ -7,15 +7,15 @@ use lib.ListN.{length}
 use borrow.Author.Tests.{ltb-true, lt-ltb, leb-true, le-leb, eqb-true, eq-eqb, not-true}
 use Rattle.wire.proofs.Cases.{nothing-left}
 use Rattle.wire.proofs.Utf8s.{utf8-is}
+use Rattle.parse.specs.Reader.{CursorOf, seen, andThen}
+use Rattle.parse.proofs.Answers.{Seen, value as holds, seen-then, seen-check, Reads, not-ok, ok, stay, reads-then, reads-check, Yields, gives, yields-then, goes, passes}
 use Rattle.schema.specs.declared.Field.{Field}
 use Rattle.schema.specs.Table.{Shape, unknown, scalar, text, array, map, struct}
 use Rattle.value.specs.declared.Row.{Row}
-use Rattle.value.specs.Answer.{CursorOf, seen, andThen}
 use Rattle.value.specs.Value.{Tree, tip, branch, Forest, stop, plus, rows, rowsAll, values}
 use Rattle.value.specs.Read.{Item, Own, plain, parts, plan, walk}
 use Rattle.value.specs.Write.{RowReader, nextRow, rowOf, bitsAt, says, held, show, showRoot}
 use Rattle.value.specs.Fits.{LeafFits, BitsFit, HeadFits, AllFit, WholeFits, Fits, RootFits}
-use Rattle.value.proofs.Answers.{Seen, value as holds, seen-then, seen-check, Reads, not-ok, ok, stay, reads-then, reads-check, Yields, gives, yields-then, goes, passes}
 use Rattle.value.proofs.Keys.{Fresh, fresh-apart, apart-fresh}
 use Rattle.value.proofs.Sound.{asked}
 use Rattle.value.proofs.Complete.{asks}

@@ -1,54 +1,20 @@
 -- What the reader accepts, the bytes spell.
-use mathlib.Core.Path.{_≡_, refl, sym, ap, _∙_}
+use mathlib.Core.Path.{_≡_, refl}
 use mathlib.Core.List.{List, [], _∷_, _++_, append-nil}
 use mathlib.Core.Bool.{Bool, true, not, _||_}
-use Prim.Native.Nat.{ℕ, zero, suc, _+_, _-_, _≤_}
-use native.Mathlib.Omega.{arith}
+use Prim.Native.Nat.{ℕ, zero, suc, _+_, _-_}
 use lib.Dec.{eqb}
-use lib.ListN.{length, take, drop, take-append-drop}
-use lib.Seq.{length-take-le, drop-append-seam}
 use borrow.Author.Tests.{ltb-true, leb-true, not-true, eq-eqb}
-use Rattle.wire.specs.Varuint.{front, Spelled}
-use Rattle.wire.specs.declared.varuint.VarUInt.{VarUInt}
-use Rattle.wire.specs.declared.varuint.VarUInt.the-variants.{Number, Cut, Malformed}
-use Rattle.wire.proofs.Varuints.{read-spelled}
 use Rattle.wire.proofs.Utf8s.{utf8-is}
+use Rattle.parse.specs.Reader.{Cursor, Reader}
+use Rattle.parse.proofs.Answers.{Reads, not-ok, stay, reads-then, reads-check}
+use Rattle.parse.proofs.Pieces.{block-reads, count-reads}
 use Rattle.schema.specs.declared.Field.{Field}
 use Rattle.schema.specs.Table.{Shape, unknown, scalar, text, array, map, struct}
-use Rattle.value.specs.Answer.{Cursor, Reader, numberAt, block, varUInt}
 use Rattle.value.specs.Value.{Tree, Value, value, values}
-use Rattle.value.specs.Read.{Item, Own, plain, parts, plan, bitmap, count, own, walk, whole, parse}
+use Rattle.value.specs.Read.{Item, Own, plain, parts, plan, bitmap, own, walk, whole, parse}
 use Rattle.value.specs.Spell.{LeafSpells, BitmapSpells, HeadSpells, AllSpell, WholeSpells, Spells}
-use Rattle.value.proofs.Answers.{Reads, not-ok, ok, stay, reads-then, reads-check}
 use Rattle.value.proofs.Keys.{Fresh, fresh-apart}
-
-pub block-reads : (n : ℕ) (c : Cursor) → Reads c (λ x u. (u ≡ x) × (length x ≡ n)) (block n c)
-unfolding block
-block-reads n c =
-    reads-check _ _ _ _ _ (λ e.
-    let l : n ≤ length (c .left) = leb-true n _ e in
-    ok (take n (c .left)) (sym (take-append-drop n (c .left))) (rw (length-take-le n (c .left) l)) (refl, length-take-le n (c .left) l))
-
--- What is left after the bytes u.
-pub past : (s u rest : List ℕ) (at next : ℕ) → s ≡ u ++ rest → next ≡ at + length u → drop (next - at) s ≡ rest
-past s u rest at next e h =
-    let k : next - at ≡ length u = omega arith in
-    rw (k, e, drop-append-seam)
-
-pub var-reads : (c : Cursor) → Reads c (λ n u. Spelled n u) (varUInt c)
-unfolding varUInt
-var-reads c = go (front (c .left) (c .at)) refl
-  where
-    go : (r : VarUInt) → front (c .left) (c .at) ≡ r → Reads c (λ n u. Spelled n u) (numberAt c r)
-    go (Number n next) e =
-        let s = read-spelled (c .left) (c .at) n next e in
-        ok (s .bytes) (s .split ∙ ap (λ (l : List ℕ). s .bytes ++ l) (sym (past (c .left) (s .bytes) (s .rest) (c .at) next (s .split) (s .place)))) (s .place) (s .spells)
-    go Cut e = not-ok
-    go Malformed e = not-ok
-
-pub count-reads : (least : ℕ) (c : Cursor) → Reads c (λ n u. Spelled n u) (count least c)
-unfolding count
-count-reads least c = reads-then (var-reads c) (λ n c′ u s. reads-check _ _ _ _ _ (λ e. stay (rw append-nil s)))
 
 pub bitmap-reads : (fs : List Field) (c : Cursor) → Reads c (BitmapSpells fs) (bitmap fs c)
 unfolding bitmap

@@ -11,10 +11,11 @@ use borrow.Author.Tests.{leb-true, le-leb}
 use Rattle.wire.specs.Little.{Bytes}
 use Rattle.wire.specs.Varuint.{Spelled}
 use Rattle.wire.proofs.Cases.{differ}
+use Rattle.parse.specs.Reader.{Cursor, CursorOf, refused, seen, cursorAt}
+use Rattle.parse.proofs.Answers.{reads-end, yields-end, seen-end}
 use Rattle.schema.specs.declared.Field.{Field}
 use Rattle.schema.specs.Table.{Table, array, map, struct, shape, bitmapBytes}
 use Rattle.value.specs.declared.Row.{Row}
-use Rattle.value.specs.Answer.{Cursor, CursorOf, refused, seen, cursorAt}
 use Rattle.value.specs.Value.{Tree, branch, Forest, Value, node, Values, value, values, content, depth}
 use Rattle.value.specs.Comparisons.{due, mapDue, comparisons, rowsDue, pairsAmong}
 use Rattle.value.specs.Read.{Item, plainItem, present, plan, complete, rootBits, knownBits, unknownBits, parse, rootStruct, refusal, accepted, read}
@@ -31,7 +32,6 @@ use Rattle.value.specs.Reasons.{Due, Holds, KeyAmong, RootFault, Reason,
 use Rattle.value.specs.SheetReasons.{RowDue, SheetReason}
 use Rattle.value.specs.Listed.{ReadNumber, WriteNumber}
 use Rattle.value.specs.Claims.{setBits, Rightful, ReadAs, Delimited, Writes, ByOld}
-use Rattle.value.proofs.Answers.{reads-end, yields-end, seen-end}
 use Rattle.value.proofs.Bits.{bit-beyond}
 use Rattle.value.proofs.Fields as fields
 use Rattle.value.proofs.Items as items

@@ -7,14 +7,14 @@ use Prim.Native.Nat.{ℕ, zero, suc, _+_, _<_}
 use native.Mathlib.Omega.{arith}
 use lib.ListN.{length, length-append}
 use borrow.Author.Tests.{not-true, not-false}
+use Rattle.parse.specs.Reader.{CursorOf, ReaderOf, refused}
+use Rattle.parse.proofs.Answers.{Reads, Yields, yields-end, passes, stops, arrives, steps, fails}
+use Rattle.parse.proofs.Blames.{Blames, fine, blames, blames-then, blames-check, blames-on, blames-map}
 use Rattle.schema.proofs.Bools.{and-left, and-right, or-left, or-right, or-cases}
-use Rattle.value.specs.Answer.{CursorOf, AnswerOf, ReaderOf, refused, seen, andThen, check}
 use Rattle.value.specs.Value.{Tree, value, Value, Values, none, some, content}
 use Rattle.value.specs.Read.{Item, same, among, withKey, walk}
 use Rattle.value.specs.Spell.{AllSpell, keysOf}
 use Rattle.value.specs.Reasons.{Holds}
-use Rattle.value.proofs.Answers.{Reads, ok, Yields, yields-end, passes}
-use Rattle.value.proofs.Blames.{Blames, fine, blames, blames-then, blames-check, blames-on, blames-map}
 use Rattle.value.proofs.Keys.{Fresh, same-eq, same-refl}
 use Rattle.value.proofs.TwoTables.{Below}
 
@@ -61,28 +61,6 @@ holds-met keys (i ∷ is) (some v vs) x h = go (i .key) h (λ keys′. holds-met
     go true (zero, l, e) on = here (sym e)
     go true (suc j, l, e) on = on (content v ∷ keys) (j, omega arith, e)
     go false h on = on keys h
-
--- ---- steps of a reader that is refused
-
-pub stops : {E A B : Type 0} {m : AnswerOf E A} {n p : ℕ} (f : A → ReaderOf E B) → m ≡ refused n p → andThen m f ≡ refused n p
-unfolding andThen
-stops f e = rw e
-
-pub steps : {E A B : Type 0} {m : AnswerOf E A} {a : A} {c : CursorOf E} {r : AnswerOf E B} (f : A → ReaderOf E B) → m ≡ seen a c → f a c ≡ r → andThen m f ≡ r
-unfolding andThen
-steps f e k = rw e k
-
-pub fails : {E B : Type 0} {b : Bool} {n p q : ℕ} (c : CursorOf E) (f : Unit {0} → ReaderOf E B) → b ≡ false → p ≡ q → andThen (check b n p c) f ≡ refused n q
-unfolding andThen check
-fails c f e k = rw (e, k)
-
--- What is passed over is before what is left.
-pub arrives : {E A : Type 0} {c c′ : CursorOf E} {R : A → List E → Type 0} {m : AnswerOf E A} {a : A} → Reads c R m → m ≡ seen a c′
-    → c′ .at + length (c′ .left) ≡ c .at + length (c .left)
-arrives {c} {c′} {R} {a} r e = go (rw e at r)
-  where
-    go : Reads c R (seen a c′) → c′ .at + length (c′ .left) ≡ c .at + length (c .left)
-    go (ok u l k q) = rw l (simp length-append (omega arith))
 
 further : {E : Type 0} (c c′ : CursorOf E) (y y₁ y₂ w left : List E) → y ≡ y₁ ++ y₂ → c .left ≡ y ++ (w ++ left) → c′ .left ≡ y₂ ++ (w ++ left)
     → c′ .at + length (c′ .left) ≡ c .at + length (c .left) → c′ .at + length (y₂ ++ w) ≡ c .at + length (y ++ w)

@@ -3,7 +3,6 @@ use mathlib.Core.Path.{_≡_, refl, sym, ap, _∙_}
 use mathlib.Core.List.{List, [], _∷_, _++_, map as each, map-append, append-assoc}
 use Prim.Native.Nat.{ℕ, zero, suc, _+_}
 use native.Mathlib.Nat.{mod-eq-of-lt}
-use lib.ListN.{length}
 use Rattle.schema.specs.declared.Field.{Field}
 use Rattle.schema.specs.Table.{Shape, unknown, scalar, text, array, map, struct}
 use Rattle.value.specs.declared.Row.{Row}

@@ -9,15 +9,15 @@ use lib.Pow.{pow-mono}
 use lib.Dec.{ltb, eqb}
 use lib.ListN.{length, length-append, replicate}
 use borrow.Author.Tests.{ltb-true, ltb-false, le-leb, lt-leb}
+use Rattle.parse.specs.Reader.{Cursor, Answer, refused, seen, Reader, andThen, check}
+use Rattle.parse.proofs.Answers.{Seen, nothing, value, seen-then, check-true}
 use Rattle.schema.specs.declared.Field.{Field}
 use Rattle.schema.specs.Table.{Shape, unknown, scalar, text, array, map, struct, bitmapBytes}
-use Rattle.value.specs.Answer.{Cursor, Answer, refused, seen, Reader, andThen, check}
 use Rattle.value.specs.Value.{Tree, Forest}
 use Rattle.value.specs.Read.{Item, Own, plain, parts, plainItem, pairs, present, plan, bitmap, own, walk, whole, parse}
 use Rattle.schema.specs.Extend.{Grows, same, gains, SameBytes}
 use Rattle.value.proofs.Shapes.{FieldsBelow, Closed, Optional, Extension}
 use Rattle.value.specs.Added.{carries, Reached, reached, reachedAll, firstAdded}
-use Rattle.value.proofs.Answers.{Seen, nothing, value, seen-then, check-true}
 use Rattle.value.proofs.Bits.{complete-gain, present-gain}
 
 orElse : Option ℕ → Option ℕ → Option ℕ

@@ -9,10 +9,11 @@ use lib.ListN.{length}
 use borrow.Author.Tests.{leb-true, le-leb}
 use Rattle.wire.specs.Little.{Bytes}
 use Rattle.wire.proofs.Cases.{differ, nothing-left}
+use Rattle.parse.specs.Reader.{CursorOf, AnswerOf, refused, seen}
+use Rattle.parse.proofs.Answers.{seen-end, reads-end, yields-end}
 use Rattle.schema.specs.declared.Field.{Field}
 use Rattle.schema.specs.Table.{Shape, unknown, scalar, text, array, map, struct}
 use Rattle.value.specs.declared.Row.{Row}
-use Rattle.value.specs.Answer.{CursorOf, AnswerOf, refused, seen}
 use Rattle.value.specs.Value.{Tree, Value, value, size}
 use Rattle.value.specs.Read.{onStruct, rootOf, reading}
 use Rattle.value.specs.Spell.{RootSpells, encode}
@@ -20,7 +21,6 @@ use Rattle.value.proofs.Shapes.{Solid}
 use Rattle.value.specs.Write.{refusal, written, fitted, writing, showRoot, sheetRoot}
 use Rattle.value.specs.Fits.{Shows}
 use Rattle.value.specs.Claims.{ReadAs, Writes}
-use Rattle.value.proofs.Answers.{seen-end, reads-end, yields-end}
 use Rattle.value.proofs.Shown.{root-shows, root-shown, root-ends}
 use Rattle.value.proofs.Encode.{root-short, root-encoding}
 use Rattle.value.proofs.Written.{root-written}

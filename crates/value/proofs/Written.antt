@@ -8,6 +8,7 @@ use native.Mathlib.Nat.{mod-lt, mod-eq-of-lt, div-eq-of-lt}
 use native.Mathlib.Numerals.{add-one}
 use lib.ListN.{length, length-append, length-replicate}
 use lib.Pow.{pow-pos, field, mod-mod-pow}
+use Rattle.buffer.proofs.Spans.{length-span}
 use Rattle.wire.specs.Varuint.{varuintBytes}
 use Rattle.wire.specs.Little.{bytes}
 use Rattle.wire.proofs.Numbers.{length-bytes, little-bytes}
@@ -20,7 +21,6 @@ use Rattle.value.specs.Spell.{LeafSpells, HeadSpells, BitmapSpells, AllS
 use Rattle.value.proofs.Shapes.{Solid}
 use Rattle.value.specs.Fits.{LeafFits, HeadFits, AllFit, Fits, RootFits}
 use Rattle.value.proofs.Bits.{ones-none}
-use Rattle.value.proofs.Spans.{length-span}
 use Rattle.value.proofs.Complete.{takes, all-take, length-pairs}
 use Rattle.value.proofs.Encode.{bits-fit}
 

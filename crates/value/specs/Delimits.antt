@@ -3,13 +3,12 @@ use mathlib.Core.Path.{_≡_}
 use mathlib.Core.List.{List, [], _∷_}
 use Prim.Native.Nat.{ℕ, zero, suc, _+_, _-_, _≤_}
 use lib.ListN.{length, drop}
+use Rattle.buffer.specs.Span.{span, Spans}
 use Rattle.schema.specs.declared.Field.{Field}
 use Rattle.schema.specs.Table.{Shape, unknown, scalar, text, array, map, struct, bitmapBytes}
 use Rattle.value.specs.Value.{Tree, tip, branch, Forest, stop, plus, Value, node, Values, values}
 use Rattle.value.specs.Read.{Item, plan}
 use Rattle.value.specs.Spell.{LeafSpells, HeadSpells, AllSpell, WholeSpells, Spells, RootSpells}
-use Rattle.value.specs.Write.{span}
-use Rattle.value.specs.Fits.{Spans}
 
 -- The trees of a plan stand one after the other in the bytes from `start` up to `end`, each by the relation P of its type.
 abbrev pub AllStand : (ℕ → Tree → (start end : ℕ) → Type 0) → List Item → Forest → (start end : ℕ) → Type 0

@@ -4,6 +4,7 @@ use mathlib.Core.List.{List, [], _∷_}
 use mathlib.Core.Bool.{true}
 use Prim.Native.Nat.{ℕ, zero, suc, _+_, _^_, _≤_, _<_}
 use lib.ListN.{length}
+use Rattle.buffer.specs.Span.{span, Spans}
 use Rattle.wire.specs.Little.{little}
 use Rattle.wire.specs.Utf8.{Utf8}
 use Rattle.schema.specs.declared.Field.{Field}
@@ -12,13 +13,8 @@ use Rattle.value.specs.declared.Row.{Row}
 use Rattle.value.specs.Value.{Tree, tip, branch, Forest, stop, plus, rows, Value, value, values}
 use Rattle.value.specs.Read.{Item, plan, counted, complete, knownBits}
 use Rattle.value.specs.Spell.{keysOf, Apart}
-use Rattle.value.specs.Write.{span}
 
 -- ---- a tree fits bytes: each of its rows names its own content
-
--- The n bytes at a place are x.
-abbrev pub Spans : List ℕ → (place n : ℕ) → List ℕ → Type 0
-Spans B p n x = (p + n ≤ length B) × (x ≡ span B p n)
 
 -- The row of a scalar, a string or bytes, by its place, length and count, shows the content x.
 abbrev pub LeafFits : List ℕ → Shape → (place n count : ℕ) → List ℕ → Type 0

@@ -1,5 +1,4 @@
 -- Values, the reading of payloads, and the reading of sheets for the writer.
-pub mod Answer
 pub mod Value
 pub mod Plan
 pub mod Comparisons

@@ -7,10 +7,10 @@ use lib.Count.{onesIn}
 use lib.ListN.{length, take}
 use Rattle.wire.specs.Little.{little}
 use Rattle.wire.specs.Utf8.{utf8}
+use Rattle.parse.specs.Reader.{Answer, refused, seen, Reader, ReaderOf, _>>=_, _>>_, return, at, refuse, check, cursorAt, block, count}
 use Rattle.schema.specs.declared.Field.{Field}
 use Rattle.schema.specs.Table.{Table, Shape, unknown, scalar, text, array, map, struct, shape, width, bitmapBytes}
 use Rattle.value.specs.declared.Row.{Row}
-use Rattle.value.specs.Answer.{Answer, refused, seen, Reader, ReaderOf, _>>=_, _>>_, return, at, refuse, check, cursorAt, block, varUInt}
 pub use Rattle.value.specs.Plan.{Item}
 unfoldable pub use Rattle.value.specs.Plan.{plainItem, pairs, present, plan, counted}
 use Rattle.value.specs.Comparisons.{comparisons}
@@ -22,17 +22,6 @@ use Rattle.value.specs.Value.{Tree, tip, branch, Forest, stop, plus, row
 pub data Own : Type 0 where
   plain : (content : List ℕ) → Own
   parts : (start head : ℕ) → Own
-
--- What remains has room for n items of at least `least` bytes each.
-abbrev pub enough : (least n : ℕ) → List ℕ → Bool
-enough least n left = leb (least * n) (length left)
-
--- A length or a count; above what remains it is refused at its VarUInt.
-unfoldable pub count : (least : ℕ) → Reader ℕ
-count least = at λ start. do
-  n ← varUInt
-  at λ rest. check (enough least n (rest .left)) 20 (start .at)
-  return n
 
 -- Each field that is not optional has its bit set in m.
 unfoldable pub complete : List Field → ℕ → Bool

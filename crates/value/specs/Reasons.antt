@@ -5,9 +5,10 @@ use mathlib.Core.List.{List, [], _∷_, _++_}
 use mathlib.Core.Bool.{true}
 use Prim.Native.Nat.{ℕ, suc, _*_, _/_, _%_, _^_, _≤_, _<_}
 use lib.ListN.{length, getD}
-use Rattle.wire.specs.Varuint.{Groups, lastOr, Spelled, Completed, TenthAbove}
+use Rattle.wire.specs.Varuint.{Spelled, Completed}
 use Rattle.wire.specs.Little.{little}
 use Rattle.wire.specs.Utf8.{Utf8}
+use Rattle.parse.specs.Reader.{MalformedBytes}
 use Rattle.schema.specs.declared.Field.{Field}
 use Rattle.schema.specs.Table.{Shape, unknown, scalar, text, array, map, struct, width, bitmapBytes}
 use Rattle.schema.specs.Check.{noField}
@@ -26,10 +27,6 @@ least (map _ _) = 2
 least unknown = 0
 least (scalar _) = 0
 least (struct _) = 0
-
--- The bytes of a malformed VarUInt: two groups or more of which the last is 0, or nine groups that go on and a tenth byte above 1.
-abbrev pub MalformedBytes : List ℕ → Type 0
-MalformedBytes x = ((n : ℕ) × Groups 9 n x × (1 < length x) × (lastOr 0 x ≡ 0)) ⊎ ((length x ≡ 10) × TenthAbove x)
 
 -- Field i is required, and its bit is not set in m.
 abbrev pub Absent : List Field → (m i : ℕ) → Type 0

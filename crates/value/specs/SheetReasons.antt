@@ -5,6 +5,7 @@ use mathlib.Core.List.{List, [], _∷_, _++_}
 use mathlib.Core.Bool.{true}
 use Prim.Native.Nat.{ℕ, suc, _+_, _≤_, _<_}
 use lib.ListN.{length}
+use Rattle.buffer.specs.Span.{span, Spans}
 use Rattle.wire.specs.Little.{little}
 use Rattle.wire.specs.Utf8.{Utf8}
 use Rattle.schema.specs.declared.Field.{Field}
@@ -14,8 +15,7 @@ use Rattle.value.specs.Value.{Tree, Forest, rows, rowsAll, Value, value,
 use Rattle.value.specs.Plan.{Item, plan, counted}
 use Rattle.value.specs.Read.{knownBits}
 use Rattle.value.specs.Spell.{keysOf, Apart, encode}
-use Rattle.value.specs.Write.{span}
-use Rattle.value.specs.Fits.{Spans, BitsFit, HeadFits, AllFit, Fits, Shows}
+use Rattle.value.specs.Fits.{BitsFit, HeadFits, AllFit, Fits, Shows}
 use Rattle.value.specs.Reasons.{Absent, Beyond, Holds}
 
 -- ---- one row

@@ -1,15 +1,17 @@
 -- The writer: the rows of a sheet over its bytes are read as a value, or refused; the value is then encoded.
 use mathlib.Core.List.{List, [], _∷_}
-use mathlib.Core.Bool.{Bool, not, _&&_, _||_, cond}
+use mathlib.Core.Bool.{not, _&&_, _||_}
 use Prim.Native.Nat.{ℕ, zero, suc, _+_, _^_}
 use lib.Dec.{leb, ltb, eqb}
-use lib.ListN.{length, take, drop}
+use lib.ListN.{length}
+use Rattle.buffer.specs.Span.{span, inside}
 use Rattle.wire.specs.Little.{little}
 use Rattle.wire.specs.Utf8.{utf8}
+use Rattle.parse.specs.Reader.{AnswerOf, ReaderOf, refused, seen, _>>=_, _>>_, return, at, refuse, check}
+use Rattle.parse.specs.Test.{test}
 use Rattle.schema.specs.declared.Field.{Field}
 use Rattle.schema.specs.Table.{Table, Shape, unknown, scalar, text, array, map, struct, shape, width, bitmapBytes}
 use Rattle.value.specs.declared.Row.{Row}
-use Rattle.value.specs.Answer.{AnswerOf, ReaderOf, refused, seen, _>>=_, _>>_, return, at, refuse, check}
 use Rattle.value.specs.Value.{Tree, tip, branch, value}
 use Rattle.value.specs.Read.{Own, plain, parts, plan, counted, complete, knownBits, walk, onStruct}
 use Rattle.value.specs.Spell.{encode}
@@ -32,13 +34,6 @@ rowOf t = at λ here. do
   r ← nextRow
   check (eqb (r .ty) t) 50 (here .at)
   return r
-
--- The n bytes at a place, and whether there are so many.
-abbrev pub span : List ℕ → (place n : ℕ) → List ℕ
-span B p n = take n (drop p B)
-
-abbrev pub inside : List ℕ → (place n : ℕ) → Bool
-inside B p n = leb (p + n) (length B)
 
 -- What row k says over the bytes B.
 module _ (B : List ℕ) (k : ℕ) where
@@ -106,7 +101,7 @@ pub data Writing : Type 0 where
 
 -- Bytes that are a payload and fit into the room for the output.
 abbrev pub fitted : (room : ℕ) → List ℕ → Writing
-fitted room out = cond (leb (length out) 16384) (cond (leb (length out) room) (written out) (refusal 52 0)) (refusal 7 0)
+fitted room out = test (leb (length out) 16384) (refusal 7 0) (test (leb (length out) room) (refusal 52 0) (written out))
 
 abbrev pub writing : (ℕ → Shape) → ℕ → (room : ℕ) → AnswerOf Row Tree → Writing
 writing S t room (refused n p) = refusal n p

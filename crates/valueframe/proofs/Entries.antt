@@ -9,7 +9,7 @@ use borrow.Author.Tests.{eq-eqb, ne-eqb, le-leb, lt-leb}
 use borrow.Rule.Slice.PartMut.{putMid, post-is, mid-len}
 use lib.Dec.{leb}
 use lib.ListN.{length, take, drop}
-use Rattle.wire.specs.Little as little
+use Rattle.buffer.specs.Store as store
 use Rattle.wire.specs.Varuint.{varuintBytes}
 use Rattle.wire.proofs.Cases.{differ}
 use Rattle.schema.specs.declared.Checked.the-variants.{Good, Refused as Faulty}
@@ -104,7 +104,7 @@ module _ (h : Header) (out p : List ℕ) (place : ℕ) (at : place ≡ 25 + leng
   Framed out′ = out′ ≡ frameBytes h p ++ drop (place + length p) out
 
   -- the front, put before a payload that stands in its place
-  pub before-payload : (mid out′ : List ℕ) → out′ ≡ little.written mid 0 (frontBytes h (length p)) → drop place mid ≡ p ++ drop (place + length p) out → Framed out′
+  pub before-payload : (mid out′ : List ℕ) → out′ ≡ store.written mid 0 (frontBytes h (length p)) → drop place mid ≡ p ++ drop (place + length p) out → Framed out′
   unfolding frameBytes
   before-payload mid out′ front there =
       let long = length-front h (length p) in
@@ -114,7 +114,7 @@ module _ (h : Header) (out p : List ℕ) (place : ℕ) (at : place ≡ 25 + leng
       ∙ sym (append-assoc (frontBytes h (length p)) p (drop (place + length p) out))
 
   -- the front, and then the payload put behind it
-  pub behind-front : place + length p ≤ length out → (mid : List ℕ) → mid ≡ little.written out 0 (frontBytes h (length p)) → Framed (putMid place ((place + length p) - place) mid p)
+  pub behind-front : place + length p ≤ length out → (mid : List ℕ) → mid ≡ store.written out 0 (frontBytes h (length p)) → Framed (putMid place ((place + length p) - place) mid p)
   unfolding outputOf
   behind-front room mid front =
       let room′ : 25 + length (varuintBytes (length p)) + length p ≤ length out = rw (← at) room in
@@ -126,7 +126,7 @@ part-length place n room mid same l = let e = mid-len place (place + n) mid (ome
 
 -- the frame without a payload
 pub in-empty : (h : Header) (out cells : List ℕ) (place : ℕ) → length cells < 4 → place ≡ 25 + length (varuintBytes 0) → place ≤ length out
-    → (out′ : List ℕ) → out′ ≡ little.written out 0 (frontBytes h 0) → outcome (Written place) out′ ≡ frameIn h out (emptyBy (rowsOf cells))
+    → (out′ : List ℕ) → out′ ≡ store.written out 0 (frontBytes h 0) → outcome (Written place) out′ ≡ frameIn h out (emptyBy (rowsOf cells))
 in-empty h out cells place l at room out′ front =
     let z : place + 0 ≡ place = omega arith in
     let none = empty-none cells l in

@@ -8,6 +8,7 @@ use lib.ListN.{length}
 use Rattle.wire.specs.Little as little
 use Rattle.wire.specs.Varuint as varuint
 use Rattle.wire.specs.Utf8 as utf8
+use Rattle.parse.specs.Reader as answer
 use Rattle.schema.specs.Table as table
 use Rattle.schema.specs.File.{cell, shaped, layoutOf}
 use Rattle.schema.specs.Check.{checked}
@@ -15,7 +16,6 @@ use Rattle.schema.proofs.Examples.{T, file, T-good, T-rows}
 use Rattle.frame.specs.declared.Header.{Header}
 use Rattle.frame.specs.Frame.{knownKind}
 use Rattle.frame.specs.Written.{frontBytes, frameBytes}
-use Rattle.value.specs.Answer as answer
 use Rattle.value.specs.Value as value
 use Rattle.value.specs.Read as read
 use Rattle.value.specs.Spell as spell

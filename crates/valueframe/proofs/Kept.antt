@@ -10,17 +10,19 @@ use borrow.Rule.Slice.PartMut.{putMid, same-len-mid, put-same, mid-len}
 use lib.Dec.{eqb, leb}
 use lib.ListN.{length, take, drop, drop-of-length-le, take-append-drop}
 use lib.Seq.{take-length, take-at, drop-at, drop-append-le, drop-drop, length-take-le}
-use Rattle.wire.specs.Little as little
+use Rattle.buffer.specs.Span.{span}
+use Rattle.buffer.specs.Store.{put}
+use Rattle.buffer.specs.Store as store
+use Rattle.buffer.proofs.Stores.{put-whole}
 use Rattle.wire.specs.Varuint.{varuintBytes}
 use Rattle.schema.proofs.Bools.{cases, and-left, and-right}
 use Rattle.frame.specs.declared.Header.{Header}
 use Rattle.frame.specs.Written.{frontBytes, frameBytes}
-use Rattle.value.specs.Write.{span, Writing, refusal, written}
+use Rattle.value.specs.Write.{Writing, refusal, written}
 use Rattle.writer.specs.declared.Writing as code
 use Rattle.writer.specs.declared.Writing.the-variants.{Written, Refused}
-use Rattle.writer.specs.Emit.{put, PutAt}
+use Rattle.writer.specs.Emit.{PutAt}
 use Rattle.writer.specs.Entry.{outcome, lengthOf, Fronts}
-use Rattle.writer.proofs.Puts.{put-whole}
 use Rattle.writer.proofs.Entries.{length-written, written-length}
 use Rattle.valueframe.specs.Entry.{frameIn}
 use Rattle.valueframe.specs.Part.{belongs, partAfter}
@@ -134,7 +136,7 @@ module _ (w : Writing) (start end : ℕ) (out part′ : List ℕ) (within : star
           let small : length out < 25 + length (varuintBytes n) + n = rw (← at) l in
           ap (outcome (Refused 52 0)) (output-same (output-small n e small)) ∙ in-room h out w n place e at l
 
-      module _ (fits : place + n ≤ length first) (mid : List ℕ) (front : mid ≡ little.written first 0 (frontBytes h n)) where
+      module _ (fits : place + n ≤ length first) (mid : List ℕ) (front : mid ≡ store.written first 0 (frontBytes h n)) where
         room : place + n ≤ length out
         room = subst (λ (k : ℕ). place + n ≤ k) long fits
 
@@ -144,7 +146,7 @@ module _ (w : Writing) (start end : ℕ) (out part′ : List ℕ) (within : star
             let size : length p ≡ n = written-length is e in
             let unchanged = output-same b in
             let at′ : place ≡ 25 + length (varuintBytes (length p)) = rw size at in
-            let front′ : mid ≡ little.written out 0 (frontBytes h (length p)) = rw size (front ∙ ap (λ (x : List ℕ). little.written x 0 (frontBytes h n)) unchanged) in
+            let front′ : mid ≡ store.written out 0 (frontBytes h (length p)) = rw size (front ∙ ap (λ (x : List ℕ). store.written x 0 (frontBytes h n)) unchanged) in
             let framed : putMid place ((place + n) - place) mid p ≡ frameBytes h p ++ drop (place + n) out = rw (← size) (behind-front h out p place at′ (rw size room) mid front′) in
             in-written h out w n place e at room p is _ framed
 
@@ -154,7 +156,7 @@ module _ (w : Writing) (start end : ℕ) (out part′ : List ℕ) (within : star
             let (at₁, there) = output-there p is b in
             let at′ : place ≡ 25 + length (varuintBytes (length p)) = rw size at in
             let there′ : drop place first ≡ p ++ drop (place + length p) out = subst (λ (k : ℕ). drop k first ≡ p ++ drop (k + length p) out) (sym (at′ ∙ at₁)) there in
-            let front′ : mid ≡ little.written first 0 (frontBytes h (length p)) = rw size front in
+            let front′ : mid ≡ store.written first 0 (frontBytes h (length p)) = rw size front in
             let framed : mid ≡ frameBytes h p ++ drop (place + n) out =
             subst (λ (k : ℕ). mid ≡ frameBytes h p ++ drop (place + k) out) size (before-payload h out p place at′ first mid front′ there′) in
             in-written h out w n place e at room p is mid framed

@@ -1,14 +1,14 @@
 -- Laws of `specs/Little.antt`, over any width.
 use mathlib.Core.Path.{_≡_, refl, sym, ap, subst, _∙_}
-use mathlib.Core.List.{List, [], _∷_, _++_, append-assoc}
+use mathlib.Core.List.{List, [], _∷_, _++_}
 use Prim.Native.Nat.{ℕ, zero, suc, _+_, _-_, _*_, _/_, _%_, _^_, _<_, _≤_}
 use native.Mathlib.Nat.{one-mul, one-le-pow, pow-succ', pow-le-pow-right, lt-of-lt-of-le}
 use native.Mathlib.Omega.{arith}
 use lib.Dec.{lit<}
 use lib.Pow.{pow-add, pow-mono, shl-exact}
 use lib.ListN.{length, getD, take, drop, length-drop}
-use lib.Seq.{take-length, sets, sets-eq, drop-at, take-append-seam, drop-append-seam, drop-cons, getD-drop, take-add, drop-drop, length-take-le}
-use Rattle.wire.specs.Little.{little, bytes, written, Bytes}
+use lib.Seq.{take-length, take-append-seam, drop-append-seam, drop-cons, getD-drop, take-add, drop-drop, length-take-le}
+use Rattle.wire.specs.Little.{little, bytes, Bytes}
 
 pub bytes-drop : (s : List ℕ) (k : ℕ) → Bytes s → Bytes (drop k s)
 bytes-drop s k h i = rw (getD-drop k s i 0) (h (k + i))
@@ -77,20 +77,6 @@ bytes-little (x ∷ b) h =
     let low : (x + 256 * little b) % 256 ≡ x = omega (arith, h 0) in
     let high : (x + 256 * little b) / 256 ≡ little b = omega (arith, h 0) in
     rw (low, high, bytes-little b (λ i. h (suc i)))
-
--- what was written is what stands there
-pub written-part : (d : List ℕ) (at : ℕ) (vs : List ℕ) → at ≤ length d → take (length vs) (drop at (written d at vs)) ≡ vs
-written-part d at vs h =
-    rw (drop-at (take at d) (vs ++ drop (at + length vs) d) at (length-take-le at d h), take-append-seam vs (drop (at + length vs) d))
-
-pub stored-back : (d : List ℕ) (at n x : ℕ) → at ≤ length d → x < 256 ^ n → little (take n (drop at (written d at (bytes n x)))) ≡ x
-stored-back d at n x h fits =
-    ap (λ (k : ℕ). little (take k (drop at (written d at (bytes n x))))) (sym (length-bytes n x))
-    ∙ ap little (written-part d at (bytes n x) h) ∙ little-bytes n x fits
-
--- a run of stores, as code leaves it
-pub sets-written : (d : List ℕ) (at : ℕ) (vs : List ℕ) → at + length vs ≤ length d → sets d at vs ≡ written d at vs
-sets-written d at vs h = sets-eq vs d at h ∙ append-assoc (take at d) vs (drop (at + length vs) d)
 
 -- ---- powers of two
 

@@ -17,7 +17,6 @@ use Rattle.wire.specs.declared.varuint.VarUInt.the-variants.{Number, Cut
 use Rattle.wire.specs.Varuint.{before, isSpare, lastGroup, groups, front, varuint, Groups, tenth, final, group, lastOr, Ended, Spelled, Starts, Completed, Spare, TenthAbove, shortest, varuintBytes}
 use Rattle.wire.proofs.Cases.{cond-case}
 use Rattle.wire.specs.Little.{Bytes}
-use Rattle.wire.proofs.Numbers.{bytes-drop, bytes-parts}
 
 -- ---- at a place of a slice
 
@@ -502,10 +501,3 @@ pub varuint-inside : (s : List ℕ) (at v next : ℕ) → varuint s at ≡ Numbe
 varuint-inside s at v next e =
     let r = read-spelled (drop at s) at v next e in
     omega (arith, r .place, spelled-pos v (r .bytes) (r .spells), ap length (r .split) ∙ length-append (r .bytes) (r .rest), length-drop at s)
-
--- a number that is read takes the bytes that the writer writes for it
-pub read-length : (s : List ℕ) (at x next : ℕ) → Bytes s → varuint s at ≡ Number x next → next ≡ at + length (varuintBytes x)
-read-length s at x next h e =
-    let r = read-spelled (drop at s) at x next e in
-    let u : Bytes (r .bytes) = bytes-parts (drop at s) (r .bytes) (r .rest) (r .split) (bytes-drop s at h) .0 in
-    r .place ∙ ap (λ (l : List ℕ). at + length l) (spelled-is x (r .bytes) u (r .spells))

@@ -2,7 +2,8 @@
 ghost use mathlib.Core.Path.{_≡_};
 ghost use Prim.Native.Nat.{_+_, _*_, _^_, _≤_, _<_};
 ghost use lib.ListN.{length, take, drop};
-ghost use Rattle.wire.specs.Little.{little, twos, bytes, written};
+ghost use Rattle.buffer.specs.Store.{written};
+ghost use Rattle.wire.specs.Little.{little, twos, bytes};
 
 // A byte as a number of 64 bits, which is below 256.
 pub fn wide(x: u8) -> u64

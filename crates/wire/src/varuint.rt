@@ -4,7 +4,7 @@ use crate::little::wide;
 ghost use mathlib.Core.Path.{_≡_};
 ghost use Prim.Native.Nat.{_+_, _≤_, _<_};
 ghost use lib.ListN.{length, drop};
-ghost use Rattle.wire.specs.Little.{written};
+ghost use Rattle.buffer.specs.Store.{written};
 ghost use Rattle.wire.specs.Varuint.{before, groups, varuint, varuintBytes};
 
 // What stands at a place.

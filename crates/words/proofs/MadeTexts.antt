@@ -1,6 +1,6 @@
 -- What is said of files that were made, put part by part, as the code puts it; and worked texts.
 use mathlib.Core.Path.{_≡_, refl}
-use mathlib.Core.List.{List, _++_}
+use mathlib.Core.List.{List}
 use Prim.Native.Nat.{ℕ}
 use borrow.Author.Tests.{eq-eqb, ne-eqb}
 use Rattle.text.specs.Codes.{codes}

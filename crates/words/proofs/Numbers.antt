@@ -1,6 +1,6 @@
 -- Laws of a number read: each turn of the code that reads it, and that just the decimal texts of numbers of 64 bits, leading zeros aside, are read.
 use mathlib.Core.Path.{_≡_, refl, sym, ap, _∙_}
-use mathlib.Core.Bool.{Bool, true, false, _&&_}
+use mathlib.Core.Bool.{true, false}
 use mathlib.Core.List.{List, [], _∷_}
 use Prim.Native.Nat.{ℕ, suc, _+_, _*_, _-_, _^_, _≤_, _<_}
 use native.Mathlib.Omega.{arith}
@@ -10,9 +10,8 @@ use lib.ListN.{length, getD, drop, drop-of-length-le}
 use lib.Seq.{drop-cons}
 use Rattle.wire.proofs.Cases.{differ, chosen}
 use Rattle.schema.proofs.Bools.{and-left, and-right}
-use Rattle.text.specs.Decimal.{decimal, valueOf, Digits, IsDecimal}
+use Rattle.text.specs.Decimal.{decimal, valueOf, Digits}
 use Rattle.text.proofs.Decimals.{decimal-right}
-use Rattle.words.specs.declared.number.Parsed.{Parsed}
 use Rattle.words.specs.declared.number.Parsed.the-variants.{Number, Nothing}
 use Rattle.words.specs.Number.{isDigit, numberFrom, numberOf}
 

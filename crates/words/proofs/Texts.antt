@@ -1,13 +1,15 @@
 -- The texts of the verbs, put part by part, as the code puts them.
-use mathlib.Core.Path.{_≡_, refl, sym, ap, subst, _∙_}
+use mathlib.Core.Path.{_≡_, refl, ap, subst, _∙_}
 use mathlib.Core.Bool.{true, false}
-use mathlib.Core.List.{List, [], _∷_, _++_}
+use mathlib.Core.List.{List, [], _∷_}
 use Prim.Native.Nat.{ℕ}
 use native.Mathlib.Omega.{arith}
 use borrow.Author.Tests.{eq-eqb, ne-eqb}
-use lib.Dec.{eqb, ltb}
+use lib.Dec.{ltb}
 use lib.ListN.{length}
-use lib.Seq.{sets}
+use Rattle.buffer.specs.Store.{put}
+use Rattle.buffer.proofs.Stores.{put-end}
+use Rattle.wire.proofs.Cases.{nothing-left}
 use Rattle.schema.specs.declared.Checked.{Checked}
 use Rattle.schema.specs.declared.Checked.the-variants.{Good, Refused as Faulty}
 use Rattle.schema.specs.declared.Extended.{Extended}
@@ -17,7 +19,7 @@ use Rattle.schema.specs.Extend.{extension}
 use Rattle.text.specs.Codes.{codes}
 use Rattle.text.specs.Decimal.{decimal}
 use Rattle.text.specs.Text.{field, Added}
-use Rattle.text.specs.Page.{lineOf, pageOf, oneLine, oneLines}
+use Rattle.text.specs.Page.{lineOf, oneLine, oneLines}
 use Rattle.text.proofs.Texts.{added-then}
 use Rattle.text.proofs.Pages.{line-of-page}
 use Rattle.words.specs.declared.number.Parsed.{Parsed}
@@ -73,9 +75,8 @@ explained-unknown n {out} {mid} {after} {pos} {at} {next} a e b =
     let same : mid ≡ out = a .holds ∙ nothing out pos (meaningOf n) none in
     rw (eq-eqb (length (meaningOf n)) 0 none) (subst (λ (o : List ℕ). Added o pos (unknown n) next after) same b)
   where
-    nothing : (o : List ℕ) (p : ℕ) (t : List ℕ) → length t ≡ 0 → sets o p t ≡ o
-    nothing o p [] h = refl
-    nothing o p (x ∷ t) h = absurd (omega (arith, h))
+    nothing : (o : List ℕ) (p : ℕ) (t : List ℕ) → length t ≡ 0 → put o p t ≡ o
+    nothing o p t h = ap (put o p) (nothing-left t h) ∙ put-end o p
 
 pub explained-known : (n : ℕ) {out o₁ o₂ o₃ after : List ℕ} {pos p₁ p₂ p₃ next : ℕ} → Added out pos (meaningOf n) p₁ o₁ → (p₁ ≡ pos → ⊥) → Added o₁ p₁ (10 ∷ []) p₂ o₂
     → Added o₂ p₂ (adviceOf n) p₃ o₃ → Added o₃ p₃ (10 ∷ []) next after → Added out pos (explained n) next after

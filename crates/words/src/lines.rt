@@ -6,7 +6,6 @@ use text::put_decimal;
 use text::put_field;
 use text::put_line;
 use text::put_word;
-ghost use mathlib.Core.Path.{_≡_};
 ghost use Prim.Native.Nat.{_+_, _≤_};
 ghost use Rattle.text.specs.Text.{Added};
 ghost use Rattle.words.specs.Words.{meaningOf, adviceOf, unknown, explained, refusal};

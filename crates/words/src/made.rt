@@ -1,7 +1,6 @@
 // What is said of files that were made.
 use text::put_decimal;
 use text::put_word;
-ghost use mathlib.Core.Path.{_≡_};
 ghost use Prim.Native.Nat.{_+_, _≤_};
 ghost use lib.ListN.{length};
 ghost use Rattle.text.specs.Text.{Added};

@@ -7,7 +7,7 @@ use schema::Checked;
 use schema::Extended;
 use text::put_word;
 ghost use mathlib.Core.Path.{_≡_};
-ghost use Prim.Native.Nat.{_+_, _≤_};
+ghost use Prim.Native.Nat.{_≤_};
 ghost use Rattle.schema.specs.Check.{checked};
 ghost use Rattle.text.specs.Text.{Added};
 ghost use Rattle.words.specs.Words.{whichOf, checkText, extendsText, explainText};

@@ -10,19 +10,21 @@ use borrow.Author.Tests.{lt-ltb, le-ltb, ltb-true, le-leb, lt-leb, eq-eqb, ne-eq
 use lib.Dec.{ltb, leb, eqb}
 use lib.ListN.{length, replicate}
 use lib.Pow.{pow-pos}
+use Rattle.buffer.specs.Store.{put}
+use Rattle.buffer.specs.Span.{span}
 use Rattle.wire.specs.Little.{bytes}
 use Rattle.wire.specs.Varuint.{varuintBytes}
+use Rattle.parse.specs.Reader.{CursorOf, AnswerOf, refused, seen, andThen, check, Accepted}
+use Rattle.parse.proofs.Answers.{accepted-first, accepted-check}
 use Rattle.schema.specs.declared.Field.{Field}
 use Rattle.schema.specs.Table.{Table, Shape, array, map, struct, bitmapBytes}
 use Rattle.schema.specs.Check.{field}
 use Rattle.schema.proofs.Bools.{and-left, and-right}
 use Rattle.value.specs.declared.Row.{Row}
-use Rattle.value.specs.Answer.{CursorOf, AnswerOf, refused, seen, andThen, check, Accepted}
 use Rattle.value.specs.Value.{Tree, tip, branch, Forest, stop, plus, value, values}
 use Rattle.value.specs.Read.{plainItem, pairs, plan, present, among, walk}
 use Rattle.value.specs.Spell.{leafBytes, headBytes, encode, encodeAll}
-use Rattle.value.specs.Write.{RowReader, rowOf, span, bitsAt, show}
-use Rattle.value.proofs.Answers.{accepted-first}
+use Rattle.value.specs.Write.{RowReader, rowOf, bitsAt, show}
 use Rattle.parts.specs.Shape.{leafShape}
 use Rattle.parts.proofs.Masks.{bitsLeft, Standing, standing-field}
 use Rattle.parts.proofs.Items.{keyItem, item-accepted, key-accepted, key-known, elements-some, pairs-some}
@@ -34,7 +36,7 @@ use Rattle.writer.specs.declared.leaf.Leaf.the-variants.{At, Bad as BadL
 use Rattle.writer.specs.declared.leaf.Head.{Head}
 use Rattle.writer.specs.declared.leaf.Head.the-variants.{Bits, Fault}
 use Rattle.writer.specs.declared.walk.Walk.the-variants.{Past}
-use Rattle.writer.specs.Emit.{put, cap, PutAt, Final, done, stopped, emit, emitAll}
+use Rattle.writer.specs.Emit.{cap, PutAt, Final, done, stopped, emit, emitAll}
 use Rattle.writer.specs.Leaf.{rowsAt, dueOf, DueIn, RowDue, leafOf, LeafIn, LeafRow, headOf, HeadIn, Headed}
 use Rattle.writer.specs.Walk.{Walked}
 use Rattle.writer.proofs.Steps.{done-put, branch-bytes, tip-bytes, item-past, item-stop, key-stop, key-again, key-new, show-refused, show-bad, show-parts, leaf-shown, leaf-refused}
@@ -326,6 +328,6 @@ module _ (P : ℕ → RowReader Tree) (k v : ℕ) {n i : ℕ} (keys : List (List
             rw (f, q) (item-past S P (x ∷ keys) (pairs (n - i - 1) k v) v c′ next mid l′ c″ to′ out′ e ∙ value-next)
 
 -- the loop over pairs starts with no key
-pub pairs-first : (S : ℕ → Shape) (P : ℕ → RowReader Tree) (k v n : ℕ) {keys : List (List ℕ)} (c : CursorOf Row) (to : ℕ) (out : List ℕ) → keys ≡ []
+pub pairs-start : (S : ℕ → Shape) (P : ℕ → RowReader Tree) (k v n : ℕ) {keys : List (List ℕ)} (c : CursorOf Row) (to : ℕ) (out : List ℕ) → keys ≡ []
     → emitAll S (pairs (n - 0) k v) (walk P keys (pairs (n - 0) k v) c) to out ≡ emitAll S (pairs n k v) (walk P [] (pairs n k v) c) to out
-pairs-first S P k v n c to out e = let q : n - 0 ≡ n = omega arith in rw (e, q)
+pairs-start S P k v n c to out e = let q : n - 0 ≡ n = omega arith in rw (e, q)

@@ -9,7 +9,11 @@ use borrow.Author.Tests.{leb-true, le-leb, lt-leb}
 use lib.Dec.{leb}
 use lib.ListN.{length, take, drop, drop-of-length-le}
 use lib.Seq.{take-at}
+use Rattle.buffer.specs.Span.{span}
+use Rattle.buffer.specs.Store.{put}
+use Rattle.buffer.proofs.Stores.{put-whole}
 use Rattle.wire.proofs.Cases.{differ}
+use Rattle.parse.specs.Reader.{CursorOf, AnswerOf, refused, seen, Accepted}
 use Rattle.schema.specs.declared.TypeRow.{TypeRow}
 use Rattle.schema.specs.declared.Field.{Field}
 use Rattle.schema.specs.declared.Checked.the-variants.{Good, Refused as TableRefused}
@@ -17,20 +21,18 @@ use Rattle.schema.specs.Table.{Shape, struct, rowAt, shape}
 use Rattle.schema.specs.File.{tableOf}
 use Rattle.schema.specs.Check.{IsGood, checked}
 use Rattle.value.specs.declared.Row.{Row}
-use Rattle.value.specs.Answer.{CursorOf, AnswerOf, refused, seen, Accepted}
 use Rattle.value.specs.Value.{Tree, value}
 use Rattle.value.specs.Spell.{encode}
 use Rattle.value.specs.Sheet.{rowsOf}
-use Rattle.value.specs.Write.{span, showRoot, sheetRoot, Writing, refusal, written, fitted, writing, write}
+use Rattle.value.specs.Write.{showRoot, sheetRoot, Writing, refusal, written, fitted, writing, write}
 use Rattle.parts.proofs.Tables.{no-struct}
 use Rattle.writer.specs.declared.Writing.the-variants.{Written, Refused}
 use Rattle.writer.specs.declared.walk.Walk.{Walk}
 use Rattle.writer.specs.declared.walk.Walk.the-variants.{Past, Refused as Stopped}
-use Rattle.writer.specs.Emit.{put, cap, PutAt, done, stopped, emit}
+use Rattle.writer.specs.Emit.{cap, PutAt, done, stopped, emit}
 use Rattle.writer.specs.Leaf.{rowsAt}
 use Rattle.writer.specs.Walk.{endOf, Walked}
 use Rattle.writer.specs.Entry.{Outcome, outcome, outcomeOf, payloadBy, lengthOf, Fronts, within, sheetOutcome, fileOutcome}
-use Rattle.writer.proofs.Puts.{put-whole}
 
 -- ---- a payload and its length
 

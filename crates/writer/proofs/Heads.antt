@@ -9,13 +9,14 @@ use borrow.Author.Tests.{le-leb, lt-leb}
 use lib.ListN.{length, drop, length-drop}
 use lib.Pow.{pow-pos}
 use lib.Seq.{length-take-le}
+use Rattle.buffer.specs.Span.{span}
 use Rattle.wire.specs.Bitmap.{Present}
 use Rattle.wire.specs.Little.{Bytes}
 use Rattle.wire.proofs.Numbers.{bytes-drop, bytes-take}
+use Rattle.parse.specs.Reader.{andThen, check}
 use Rattle.schema.specs.declared.Field.{Field}
-use Rattle.value.specs.Answer.{andThen, check}
 use Rattle.value.specs.Read.{complete}
-use Rattle.value.specs.Write.{span, bitsAt}
+use Rattle.value.specs.Write.{bitsAt}
 use Rattle.parts.proofs.Presence.{bits-read}
 use Rattle.writer.specs.declared.leaf.Head.{Head}
 use Rattle.writer.specs.declared.leaf.Head.the-variants.{Bits, Fault}

@@ -9,14 +9,15 @@ use native.Mathlib.Decide.{decLt, ℕ-discrete}
 use borrow.Author.Tests.{le-leb, lt-leb, lt-ltb, le-ltb, eq-eqb, ne-eqb, eqb-true, leb-true}
 use lib.Dec.{ltb, eqb}
 use lib.ListN.{length, getD}
+use Rattle.buffer.specs.Span.{span, inside}
 use Rattle.wire.specs.Little.{little}
 use Rattle.wire.specs.Utf8.{utf8}
-use Rattle.schema.specs.Table.{scalar, text, width}
+use Rattle.parse.specs.Reader.{CursorOf, seen, andThen, check, Accepted}
+use Rattle.parse.proofs.Answers.{accepted-first, accepted-check}
+use Rattle.schema.specs.Table.{width}
 use Rattle.schema.proofs.Bools.{and-left, and-right}
 use Rattle.value.specs.declared.Row.{Row}
-use Rattle.value.specs.Answer.{CursorOf, seen, andThen, check, Accepted}
-use Rattle.value.specs.Write.{nextRow, rowOf, span, inside, says}
-use Rattle.value.proofs.Answers.{accepted-first, accepted-check}
+use Rattle.value.specs.Write.{nextRow, rowOf, says}
 use Rattle.value.proofs.Spans.{truth-byte}
 use Rattle.value.proofs.Sheets.{rows-from, no-rows}
 use Rattle.parts.specs.Shape.{leafShape}

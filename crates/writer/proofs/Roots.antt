@@ -9,17 +9,17 @@ use lib.Dec.{eqb}
 use lib.ListN.{length, drop, length-drop}
 use Rattle.wire.specs.Little.{bytes}
 use Rattle.wire.proofs.Cases.{differ}
+use Rattle.parse.specs.Reader.{AnswerOf, refused, seen, andThen, check, Accepted}
+use Rattle.parse.proofs.Answers.{accepted-first, accepted-check}
 use Rattle.schema.specs.declared.Field.{Field}
 use Rattle.schema.specs.Table.{Shape, struct, bitmapBytes}
 use Rattle.value.specs.declared.Row.{Row}
-use Rattle.value.specs.Answer.{AnswerOf, refused, seen, andThen, check, Accepted}
 use Rattle.value.specs.Sheet.{rowsOf}
 use Rattle.value.specs.Value.{Tree, branch, Forest, values}
 use Rattle.value.specs.Read.{present, knownBits, walk}
 use Rattle.value.specs.Spell.{encodeAll}
 use Rattle.value.specs.Write.{RowReader, rowOf, bitsAt, show, showRoot}
 use Rattle.value.proofs.Sheets.{length-rows}
-use Rattle.value.proofs.Answers.{accepted-first}
 use Rattle.writer.specs.declared.leaf.Due.{Due}
 use Rattle.writer.specs.declared.leaf.Due.the-variants.{Found, Missing}
 use Rattle.writer.specs.declared.leaf.Head.{Head}

@@ -6,20 +6,21 @@ use Prim.Native.Nat.{ℕ, zero, suc, _+_, _-_, _/_, _≤_}
 use native.Mathlib.Omega.{arith}
 use lib.Dec.{eqb}
 use lib.ListN.{length}
+use Rattle.buffer.specs.Store.{put}
 use Rattle.wire.proofs.Cases.{differ}
+use Rattle.parse.specs.Reader.{CursorOf, AnswerOf, refused, seen, andThen, check, Accepted}
+use Rattle.parse.proofs.Answers.{accepted-first}
 use Rattle.schema.specs.Table.{Shape, unknown}
 use Rattle.value.specs.declared.Row.{Row}
-use Rattle.value.specs.Answer.{CursorOf, AnswerOf, refused, seen, andThen, check, Accepted}
 use Rattle.value.specs.Value.{Tree, tip, branch, Forest, plus, value, values}
 use Rattle.value.specs.Read.{Item, plainItem, plan, plain, parts, among, walk}
 use Rattle.value.specs.Spell.{leafBytes, headBytes, encode, encodeAll}
 use Rattle.value.specs.Write.{RowReader, nextRow, rowOf, says, held, show}
-use Rattle.value.proofs.Answers.{accepted-first}
 use Rattle.parts.proofs.Walks.{deep, deeper, shallower}
 use Rattle.parts.proofs.Items.{keyItem, afterItem, afterKey, item-step, key-step}
 use Rattle.writer.specs.declared.walk.Walk.{Walk}
 use Rattle.writer.specs.declared.walk.Walk.the-variants.{Past, Refused}
-use Rattle.writer.specs.Emit.{put, cap, PutAt, Final, done, stopped, emit, emitAll}
+use Rattle.writer.specs.Emit.{cap, PutAt, Final, done, stopped, emit, emitAll}
 use Rattle.writer.specs.Leaf.{rowsAt, rowSays}
 use Rattle.writer.specs.Walk.{Walked, Ready}
 use Rattle.writer.proofs.Puts.{put-after}
@@ -48,12 +49,12 @@ pub shown-refused : (S : ℕ → Shape) (t pos : ℕ) (out : List ℕ) {o : Answ
 shown-refused S t pos out e h = as-refused e (shown-stopped S t pos out h)
 
 -- where two walks have the same end, one accepts where the other does
-pub accepted-along : (S : ℕ → Shape) (is is′ : List Item) (o o′ : AnswerOf Row Forest) (pos pos′ : ℕ) (l m : List ℕ)
+pub shown-along : (S : ℕ → Shape) (is is′ : List Item) (o o′ : AnswerOf Row Forest) (pos pos′ : ℕ) (l m : List ℕ)
     → emitAll S is o pos l ≡ emitAll S is′ o′ pos′ m → Accepted o′ → Accepted o
 unfolding emitAll
-accepted-along S is is′ (seen a c) o′ pos pos′ l m e h = tt
-accepted-along S is is′ (refused n q) (seen b c) pos pos′ l m e h = differ cc
-accepted-along S is is′ (refused n q) (refused n′ q′) pos pos′ l m e h = h
+shown-along S is is′ (seen a c) o′ pos pos′ l m e h = tt
+shown-along S is is′ (refused n q) (seen b c) pos pos′ l m e h = differ cc
+shown-along S is is′ (refused n q) (refused n′ q′) pos pos′ l m e h = h
 
 -- what a walker may assume of the next one
 pub onward : {A A′ : Type 0} {s cells out out′ : List ℕ} {row row′ pos pos′ : ℕ} {judge : Bool} {o : AnswerOf Row A} {o′ : AnswerOf Row A′}

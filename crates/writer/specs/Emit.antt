@@ -1,22 +1,18 @@
 -- The encoding of a value as a walk puts it into the output: row by row, each value's bytes after those before it.
 use mathlib.Core.Path.{_≡_}
 use mathlib.Core.Bool.{cond}
-use mathlib.Core.List.{List, [], _∷_}
+use mathlib.Core.List.{List, []}
 use Prim.Native.Nat.{ℕ, _+_, _≤_, min}
 use lib.Dec.{ltb}
-use lib.ListN.{length, set}
+use lib.ListN.{length}
+use Rattle.buffer.specs.Store.{put}
 use Rattle.wire.specs.Varuint.{varuintBytes}
+use Rattle.parse.specs.Reader.{CursorOf, AnswerOf, refused, seen}
 use Rattle.schema.specs.Table.{Shape}
 use Rattle.value.specs.declared.Row.{Row}
-use Rattle.value.specs.Answer.{CursorOf, AnswerOf, refused, seen}
 use Rattle.value.specs.Value.{Tree, Forest, value, values}
 use Rattle.value.specs.Read.{Item}
 use Rattle.value.specs.Spell.{encode, encodeAll}
-
--- Bytes stored one after the other. A store past the end is none.
-unfoldable pub put : List ℕ → ℕ → List ℕ → List ℕ
-put out pos [] = out
-put out pos (b ∷ bs) = put (set out pos b) (pos + 1) bs
 
 -- A length as far as it matters: above 16,384 it is 16,385. (Rows may share bytes, so that lengths add up to more than a number of the machine holds.)
 abbrev pub cap : ℕ → ℕ

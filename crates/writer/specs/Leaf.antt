@@ -4,13 +4,14 @@ use mathlib.Core.List.{List}
 use Prim.Native.Nat.{ℕ, _+_, _*_, _/_, _^_, _≤_, _<_}
 use lib.Dec.{eqb, ltb}
 use lib.ListN.{length, getD, drop}
+use Rattle.buffer.specs.Span.{span}
+use Rattle.parse.specs.Reader.{CursorOf, AnswerOf, refused, seen, _>>=_, at}
 use Rattle.schema.specs.declared.Field.{Field}
 use Rattle.schema.specs.Table.{Shape}
 use Rattle.value.specs.declared.Row.{Row}
-use Rattle.value.specs.Answer.{CursorOf, AnswerOf, refused, seen, _>>=_, at}
 use Rattle.value.specs.Sheet.{rowsOf}
 use Rattle.value.specs.Read.{Own, plain, present, knownBits}
-use Rattle.value.specs.Write.{RowReader, rowOf, span, bitsAt, says}
+use Rattle.value.specs.Write.{RowReader, rowOf, bitsAt, says}
 use Rattle.parts.specs.Shape.{leafShape}
 use Rattle.parts.specs.Required.{Requires}
 use Rattle.writer.specs.declared.leaf.Due.{Due}

@@ -4,10 +4,10 @@ use mathlib.Core.Bool.{Bool, false}
 use mathlib.Core.List.{List}
 use Prim.Native.Nat.{ℕ, _/_, _≤_}
 use lib.ListN.{length}
+use Rattle.parse.specs.Reader.{AnswerOf, Accepted}
 use Rattle.schema.specs.declared.Field.{Field}
 use Rattle.schema.specs.Check.{IsGood}
 use Rattle.value.specs.declared.Row.{Row}
-use Rattle.value.specs.Answer.{AnswerOf, Accepted}
 use Rattle.value.specs.Value.{Tree, Forest}
 use Rattle.value.specs.Read.{Item, walk}
 use Rattle.value.specs.Write.{show, showRoot}

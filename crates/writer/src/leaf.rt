@@ -5,8 +5,8 @@ ghost use mathlib.Core.Path.{_≡_};
 ghost use mathlib.Core.Bool.{false};
 ghost use Prim.Native.Nat.{_+_, _*_, _/_, _≤_, _<_};
 ghost use lib.ListN.{length};
+ghost use Rattle.parse.specs.Reader.{Accepted};
 ghost use Rattle.schema.specs.Table.{width};
-ghost use Rattle.value.specs.Answer.{Accepted};
 ghost use Rattle.parts.specs.Shape.{leafShape};
 ghost use Rattle.writer.specs.Leaf.{rowsAt, RowDue, Judged, rowSays, LeafRow, HeadedBy};
 

@@ -1,22 +1,14 @@
 // Bytes put into the output, each where the output has a place for it; and the place after them, as far as it matters.
+use buffer::put_byte;
 ghost use mathlib.Core.Path.{_≡_};
-ghost use mathlib.Core.List.{[], _∷_};
 ghost use Prim.Native.Nat.{_+_, _≤_, _<_};
 ghost use lib.ListN.{length};
+ghost use Rattle.buffer.specs.Span.{span};
 ghost use Rattle.wire.specs.Little.{bytes};
 ghost use Rattle.wire.specs.Varuint.{varuintBytes};
 ghost use Rattle.value.specs.Spell.{leafBytes};
-ghost use Rattle.value.specs.Write.{span};
-ghost use Rattle.writer.specs.Emit.{put, cap, PutAt, lengthBytes};
+ghost use Rattle.writer.specs.Emit.{cap, PutAt, lengthBytes};
 ghost use Rattle.parts.specs.Shape.{leafShape};
-
-fn put_byte(out: &mut [u8], pos: usize, b: u8)
-    ensures { λ _. ⌜ now (out .exit) ≡ put (now (out .entry)) pos (b ∷ []) ⌝ }
-{
-    if pos < out.len() {
-        out[pos] = b;
-    }
-}
 
 // A place n bytes further.
 fn further(pos: usize, n: usize) -> usize
@@ -57,27 +49,12 @@ pub fn put_bits(out: &mut [u8], pos: usize, n: usize, x: u64) -> usize
     further(pos, n)
 }
 
-// How many of n bytes from pos on have a place among size.
-fn fitting(size: usize, pos: usize, n: usize) -> usize
-    ensures { λ r. ⌜ (r ≤ n) × (0 < r → pos + r ≤ size) × (r < n → size ≤ pos + r) ⌝ }
-{
-    if size <= pos {
-        return 0;
-    }
-    if size - pos < n { size - pos } else { n }
-}
-
 // The n bytes of the source at a place.
 pub fn put_span(out: &mut [u8], pos: usize, source: &[u8], from: usize, n: usize) -> usize
     requires { ⌜ (pos ≤ 16385) × (from + n ≤ length (now source)) ⌝ }
     ensures { λ r. ⌜ PutAt (now (out .entry)) pos (span (now (source .entry)) from n) r (now (out .exit)) ⌝ }
 {
-    let m = fitting(out.len(), pos, n);
-    let mut i = 0;
-    while i < m {
-        out[pos + i] = source[from + i];
-        i = i + 1;
-    }
+    buffer::put_span(out, pos, source, from, n);
     further(pos, n)
 }
 

@@ -80,6 +80,7 @@ fn composite(
             judge,
         );
     }
+    // A good table has no composite of another kind: this is never reached, and 50 is what the definition has for a type that there is not.
     refused(50, row)
 }
 

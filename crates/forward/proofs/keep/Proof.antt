@@ -2,9 +2,9 @@
 use mathlib.Core.Path.{_∙_, ap}
 use mathlib.Core.List.{List}
 use Prim.Native.Nat.{ℕ}
-use Rattle.value.specs.Write.{span}
-use Rattle.writer.specs.Emit.{put}
 use borrow.Author.Needs.{needs}
+use Rattle.buffer.specs.Store.{put}
+use Rattle.buffer.specs.Span.{span}
 use Rattle.forward.proofs.keep.Statement.{statement}
 use Rattle.forward.proofs.keep.Tie as tie
 

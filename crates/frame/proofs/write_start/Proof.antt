@@ -3,7 +3,7 @@ use mathlib.Core.List.{[], _∷_}
 use native.Mathlib.Omega.{arith}
 use borrow.Author.Needs.{needs}
 use lib.Seq.{lt-length-sets}
-use Rattle.wire.proofs.Numbers.{sets-written}
+use Rattle.buffer.proofs.Stores.{sets-written}
 use Rattle.frame.proofs.write_start.Statement.{statement}
 use Rattle.frame.proofs.write_start.Tie as tie
 

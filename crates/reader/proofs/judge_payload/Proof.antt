@@ -3,7 +3,6 @@ use mathlib.Core.Path.{ap, _∙_}
 use lib.ListN.{getD-replicate}
 use Rattle.reader.specs.Entry.{numberIn}
 use Rattle.reader.proofs.Besides.{shown-all}
-use borrow.Author.Needs.{needs}
 use Rattle.reader.proofs.judge_payload.Statement.{statement}
 use Rattle.reader.proofs.judge_payload.Tie as tie
 

@@ -6,7 +6,7 @@ use native.Mathlib.Omega.{arith}
 use borrow.Author.Needs.{needs}
 use denote.Ref.{now}
 use lib.ListN.{length, take, drop}
-use Rattle.wire.specs.Little.{written}
+use Rattle.buffer.specs.Store.{written}
 use Rattle.salvage.proofs.Turns.{PieceAt, piece-bounds, part-length, Put, put-none, entry-room, put-kept, span-room, put-skipped, put-copy, put-spans, Counted, counted-none, counted-kept, counted-skipped, counted-all}
 use Rattle.salvage.proofs.put_pieces.Statement.{statement}
 use Rattle.salvage.proofs.put_pieces.Tie as tie

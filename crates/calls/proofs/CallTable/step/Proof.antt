@@ -1,30 +1,19 @@
--- `CallTable::step` meets its contract, case by case of the judgement.
+-- `CallTable::step` meets its contract: the record that the answer changes is put at its slot.
+use mathlib.Core.Path.{_≡_, _∙_}
+use lib.ListN.{length}
 use borrow.Author.Needs.{needs}
 use Rattle.calls.specs.Step.{stepOf}
+use Rattle.calls.proofs.Long.{long-mapped}
 use Rattle.calls.proofs.CallTable.step.Statement.{statement}
 use Rattle.calls.proofs.CallTable.step.Tie as tie
 
 returns : tie.Need-returns
 unfolding stepOf
-returns c = rw (c .before .judged .given .1)
-
-returns-2 : tie.Need-returns-2
-unfolding stepOf
-returns-2 c = rw (c .before .before .judged2 .given .1, c .after-invoke .ensures)
-
-returns-3 : tie.Need-returns-3
-unfolding stepOf
-returns-3 c = rw (c .before .before .judged3 .given .1, c .after-other .ensures)
+returns c =
+    let a = c .before .before .before .args in
+    let n : length (a .self .slots) ≡ 128 = search long-mapped in
+    let slots = c .with-slot .ensures ∙ c .before .change-of .ensures .after (a .self .slots) n in
+    λ i. record { number = c .before .before .number-after .ensures i; table = record { slots = slots i } }
 
 pub step-spec : {M : Type 1} → statement M
-step-spec =
-    tie.close
-    (tie.spec
-    (λ c. search needs)
-    (λ c. search needs)
-    (λ c κs. search needs)
-    (λ c. search needs)
-    (λ c κs. search needs)
-    returns
-    returns-2
-    returns-3)
+step-spec = tie.close (tie.spec (λ c κs. search needs) (λ c κs. search needs) (λ c κs. search needs) returns)

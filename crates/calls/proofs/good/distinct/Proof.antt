@@ -1,4 +1,4 @@
--- `good::distinct` meets its contract. The loop's invariant: the numbers from place i on differ, and their last ten bits are seen.
+-- `good::distinct` meets its contract. The loop's invariant: the numbers from place i on differ, and their remainders are seen.
 use mathlib.Core.Path.{refl, sym, _∙_}
 use mathlib.Core.Bool.{false}
 use native.Mathlib.Omega.{arith}

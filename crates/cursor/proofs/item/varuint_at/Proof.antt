@@ -1,8 +1,8 @@
 -- `cursor::item::varuint_at` meets its contract.
 use mathlib.Core.Path.{sym, ap, _∙_}
 use borrow.Author.Needs.{needs}
+use Rattle.parse.proofs.Places.{var-here, cut-here, malformed-here}
 use Rattle.cursor.specs.Item.{numberStep}
-use Rattle.cursor.proofs.Items.{var-number, var-cut, var-malformed}
 use Rattle.cursor.proofs.item.varuint_at.Statement.{statement}
 use Rattle.cursor.proofs.item.varuint_at.Tie as tie
 
@@ -21,12 +21,12 @@ varuint-at-spec =
     -- returns
     (λ c.
     let a = c .before .before .before .before .before .args in
-    ap (numberStep (a .at)) (sym (var-number (a .payload .now) (a .at) _ _ (sym (c .before .before .before .read .ensures) ∙ c .before .value .given .1))))
+    ap (numberStep (a .at)) (sym (var-here (a .payload .now) (a .at) _ _ (sym (c .before .before .before .read .ensures) ∙ c .before .value .given .1))))
     -- returns-2
     (λ c.
     let a = c .before .before .before .before .args in
-    ap (numberStep (a .at)) (sym (var-cut (a .payload .now) (a .at) (sym (c .before .before .read .ensures) ∙ c .enum-told .given .1))))
+    ap (numberStep (a .at)) (sym (cut-here (a .payload .now) (a .at) (sym (c .before .before .read .ensures) ∙ c .enum-told .given .1))))
     -- returns-3
     (λ c.
     let a = c .before .before .before .before .args in
-    ap (numberStep (a .at)) (sym (var-malformed (a .payload .now) (a .at) (sym (c .before .before .read .ensures) ∙ c .enum-told2 .given .1)))))
+    ap (numberStep (a .at)) (sym (malformed-here (a .payload .now) (a .at) (sym (c .before .before .read .ensures) ∙ c .enum-told2 .given .1)))))

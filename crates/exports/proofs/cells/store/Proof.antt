@@ -5,7 +5,8 @@ use native.Mathlib.Omega.{arith}
 use borrow.Author.Needs.{needs}
 use lib.ListN.{length, drop, length-set, drop-of-length-le}
 use lib.Seq.{sets}
-use Rattle.exports.proofs.Stores.{sets-stored, turn}
+use Rattle.buffer.proofs.Stores.{sets-turn}
+use Rattle.exports.proofs.Stores.{sets-stored}
 use Rattle.exports.proofs.cells.store.Statement.{statement}
 use Rattle.exports.proofs.cells.store.Tie as tie
 
@@ -24,7 +25,7 @@ loop-again c =
     let l = c .before .before .before .before .before .before .loop in
     let values = c .before .before .before .before .before .before .before .before .before .args .values .now in
     let e = c .before .before .put .ensures in
-    (omega arith, (ap length e ∙ simp length-set (l .inv .1 .0), rw e (turn (l .cells) values (l .i) (omega arith) ∙ l .inv .1 .1)))
+    (omega arith, (ap length e ∙ simp length-set (l .inv .1 .0), rw e (sets-turn 0 (l .cells) values (l .i) (l .i) (omega arith) ∙ l .inv .1 .1)))
 
 returns : tie.Need-returns Inv-loop μ-loop
 returns c =

@@ -1,69 +1,66 @@
--- `exports::planning::plan` meets its contract: the verdicts on the two tables and the number of rows pick the case.
-use mathlib.Core.Path.{sym, _∙_}
+-- `exports::planning::plan` meets its contract: the verdict on the schema table and the front of the bytes pick the case, and the cells give the seat.
+use mathlib.Core.Path.{sym, ap, _∙_}
+use mathlib.Core.Bool.{Bool}
 use denote.Ref.{now}
 use borrow.Author.Needs.{needs}
-use Rattle.line.proofs.Returns.{fitted-stop}
-use Rattle.exports.proofs.Plans.{cells-faulty, cells-bad, cells-rows, cells-good}
+use Rattle.schema.specs.File.{tableOf}
+use Rattle.calls.specs.declared.Seat.{Seat}
+use Rattle.line.specs.Planning.{frontOf, seatPlan, goodPlan}
+use Rattle.line.proofs.Returns.{plan-faulty, plan-good, good-stop, good-whole}
+use Rattle.exports.specs.Records.{callsOf}
+use Rattle.exports.proofs.Plans.{goodCells, cells-plan}
 use Rattle.exports.proofs.planning.plan.Statement.{statement}
 use Rattle.exports.proofs.planning.plan.Tie as tie
 
-are-good-requires : tie.Need-are-good-requires
-are-good-requires c κs = sym (c .before .before .check .ensures) ∙ c .enum-told .given .1
-
 returns : tie.Need-returns
 returns c =
-    let calls = c .before .before in
-    let table = calls .before .before .before in
-    let a = table .before .before .before .before .args in
-    let s = now (a .schema) in (
-      cells-bad (now (a .cells)) s (a .side) (now (a .bytes)) (a .rows) (table .check .result) (table .check .ensures) (c .stop2 .result)
-          (calls .before .enum-told .given .1) (calls .are-good .result) (calls .are-good .ensures) (c .before .if1 .taken) (c .stop2 .ensures),
-      fitted-stop s (now (a .bytes)) (c .stop2 .result) (c .stop2 .ensures),
-    )
-
-method-count-requires : tie.Need-method-count-requires
-method-count-requires c κs = sym (c .before .before .before .before .check .ensures) ∙ c .before .before .enum-told .given .1
-
-returns-2 : tie.Need-returns-2
-returns-2 c =
-    let count = c .before .before in
-    let calls = count .before .before in
-    let table = calls .before .before .before in
-    let a = table .before .before .before .before .args in
-    let s = now (a .schema) in (
-      cells-rows (now (a .cells)) s (a .side) (now (a .bytes)) (a .rows) (table .check .result) (table .check .ensures) (c .stop3 .result)
-          (calls .before .enum-told .given .1) (calls .are-good .result) (calls .are-good .ensures) (count .before .if1 .left)
-          (count .method-count .result) (count .method-count .ensures) (c .before .if2 .taken) (c .stop3 .ensures),
-      fitted-stop s (now (a .bytes)) (c .stop3 .result) (c .stop3 .ensures),
-    )
-
-plan-bytes-requires : tie.Need-plan-bytes-requires
-plan-bytes-requires c κs = let calls = c .before .before .before in sym (calls .before .before .before .check .ensures) ∙ calls .before .enum-told .given .1
-
-returns-3 : tie.Need-returns-3
-returns-3 c =
     let table = c .before .before .before .before in
     let a = table .before .before .before .before .args in
     let s = now (a .schema) in
-    let n = c .before .before .number .given in (
-      cells-faulty (now (a .cells)) s (a .side) (now (a .bytes)) (a .rows) (table .check .result) (table .check .ensures) (c .stop .result)
-          (n .0 .0) (n .0 .1 .0) (n .1) (c .stop .ensures),
-      fitted-stop s (now (a .bytes)) (c .stop .result) (c .stop .ensures),
-    )
+    let cells = now (a .cells) in
+    let n = c .before .before .number .given in
+    cells-plan cells s (a .rows) (a .side) (now (a .bytes)) (c .stop .result)
+    (plan-faulty s (goodPlan (goodCells cells s (a .rows)) (a .rows) (tableOf s) (a .side) (now (a .bytes)) (callsOf cells)) (table .check .result) (table .check .ensures) (c .stop .result)
+    (n .0 .0) (n .0 .1 .0) (n .1) (c .stop .ensures))
 
-returns-4 : tie.Need-returns-4
-returns-4 c =
-    let count = c .before .before in
-    let calls = count .before .before in
-    let table = calls .before .before .before in
+returns-2 : tie.Need-returns-2
+returns-2 c =
+    let front = c .before .before .before .before in
+    let good = front .before in
+    let told = good .before in
+    let table = told .before .before in
     let a = table .before .before .before .before .args in
     let s = now (a .schema) in
-    let w = c .plan-bytes .ensures in (
-      cells-good (now (a .cells)) s (a .side) (now (a .bytes)) (a .rows) (table .check .result) (table .check .ensures) (c .plan-bytes .result)
-          (calls .before .enum-told .given .1) (calls .are-good .result) (calls .are-good .ensures) (count .before .if1 .left)
-          (count .method-count .result) (count .method-count .ensures) (c .before .if2 .left) (w .0),
-      w .1,
-    )
+    let T = tableOf s in
+    let cells = now (a .cells) in
+    let bytes = now (a .bytes) in
+    let here = goodCells cells s (a .rows) in
+    let is = front .front .ensures ∙ ap (λ (b : Bool). frontOf b (a .rows) T (a .side) bytes) (good .are-good .ensures) in
+    let n = c .before .before .number2 .given in
+    cells-plan cells s (a .rows) (a .side) bytes (c .stop2 .result)
+    (plan-good s (goodPlan here (a .rows) T (a .side) bytes (callsOf cells)) (table .check .result) (table .check .ensures) (c .stop2 .result) (told .enum-told .given .1)
+    (good-stop here (a .rows) T (a .side) bytes (callsOf cells) (front .front .result) is (c .stop2 .result) (n .0 .0) (n .1) (c .stop2 .ensures)))
+
+returns-3 : tie.Need-returns-3
+returns-3 c =
+    let seat = c .before in
+    let whole = seat .before .before .before in
+    let front = whole .before .before in
+    let good = front .before in
+    let told = good .before in
+    let table = told .before .before in
+    let a = table .before .before .before .before .args in
+    let s = now (a .schema) in
+    let T = tableOf s in
+    let cells = now (a .cells) in
+    let bytes = now (a .bytes) in
+    let here = goodCells cells s (a .rows) in
+    let is = front .front .ensures ∙ ap (λ (b : Bool). frontOf b (a .rows) T (a .side) bytes) (good .are-good .ensures) in
+    let h = whole .frame .given in
+    let e = c .plan-frame .ensures ∙ ap (λ (x : Seat). seatPlan T (h .0 .0) x (h .0 .1 .0) (h .0 .1 .1 .0)) (seat .seat .ensures) in
+    cells-plan cells s (a .rows) (a .side) bytes (c .plan-frame .result)
+    (plan-good s (goodPlan here (a .rows) T (a .side) bytes (callsOf cells)) (table .check .result) (table .check .ensures) (c .plan-frame .result) (told .enum-told .given .1)
+    (good-whole here (a .rows) T (a .side) bytes (callsOf cells) (front .front .result) is (c .plan-frame .result) (h .0 .0) (h .0 .1 .0) (h .0 .1 .1 .0) (h .1) e))
 
 pub plan-spec : {M : Type 1} → statement M
 plan-spec =
@@ -73,12 +70,15 @@ plan-spec =
     (λ c. search needs)
     (λ c κs. search needs)
     (λ c. search needs)
-    are-good-requires
+    (λ c κs. sym (c .before .before .check .ensures) ∙ c .enum-told .given .1)
+    (λ c κs. sym (c .before .before .before .check .ensures) ∙ c .before .enum-told .given .1)
+    (λ c. search needs)
     (λ c κs. search needs)
+    (λ c. search needs)
+    (λ c κs. search needs)
+    (λ c κs.
+    let told = c .before .before .before .before .before .before .before in
+    sym (told .before .before .check .ensures) ∙ told .enum-told .given .1)
     returns
-    method-count-requires
-    (λ c κs. search needs)
     returns-2
-    plan-bytes-requires
-    returns-3
-    returns-4)
+    returns-3)

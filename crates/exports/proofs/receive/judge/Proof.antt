@@ -2,35 +2,48 @@
 use mathlib.Core.Path.{sym, ap, _∙_}
 use denote.Ref.{now}
 use borrow.Author.Needs.{needs}
+use Rattle.schema.specs.Check.{checked}
 use Rattle.calls.specs.declared.Tally.{Tally}
-use Rattle.line.specs.Answer.{Line}
+use Rattle.line.specs.declared.Settled.{Settled}
+use Rattle.line.specs.Answer.{Line, answerIn}
 use Rattle.line.specs.Receive.{settled}
-use Rattle.exports.specs.Records.{rowsOf, rowCells}
+use Rattle.exports.specs.Records.{callsOf, areCalls, rowsOf, rowCells}
 use Rattle.exports.proofs.Tallies.{rows-long}
 use Rattle.exports.proofs.Judged.{judged-line}
+use Rattle.exports.proofs.Plans.{refused-stops}
 use Rattle.exports.proofs.receive.judge.Statement.{statement}
 use Rattle.exports.proofs.receive.judge.Tie as tie
 
-settle-requires : tie.Need-settle-requires
-settle-requires c κs = c .before .before .before .plan-for .ensures .1
+settle-requires : tie.Need-settle-plan-requires
+settle-requires c κs = c .before .before .before .plan .ensures .1
 
 returns : tie.Need-returns
 returns c =
-    let put = c .before .before .before in
-    let at-settle = put .before .before .before .before .before in
-    let row = at-settle .before .before in
-    let plan = row .before .before in
-    let a = plan .before .before .before .before .before .args in
+    let put = c .before .before in
+    let at-settle = c .before .before .before .before .before .before .before in
+    let row = c .before .before .before .before .before .before .before .before .before in
+    let plan = c .before .before .before .before .before .before .before .before .before .before .before in
+    let a = c .before .before .before .before .before .before .before .before .before .before .before .before .before .before .before .before .before .args in
     let s = now (a .schema) in
+    let cells = now (a .table) in
     let bytes = now (a .bytes) in
     let sheet = now (a .sheet) in
     let tallies = now (a .tallies) in
-    let l = a .table .slots in
-    let p = plan .plan-for .result in
-    let is = at-settle .settle .ensures ∙ ap (λ (t : Tally). settled s bytes sheet l t (p .next)) (row .row-in .ensures) in
-    let e =
-    judged-line s (a .side) bytes sheet (rowsOf tallies) l (a .known) _ p (sym (rows-long tallies)) (plan .plan-for .ensures .0) (at-settle .settle .result) _ is in
-    (ap (λ (x : Line). x .answer) e, (ap (λ (x : Line). x .sheet) e, put .put-row .ensures ∙ ap (λ (x : Line). rowCells tallies (x .tallies)) e))
+    let l = callsOf cells in
+    let p = plan .plan .result in
+    let d = at-settle .settle-plan .result in
+    let x : Settled = record { row = d .row; answer = answerIn d l } in
+    let is = at-settle .settle-plan .ensures .0 l ∙ ap (λ (t : Tally). settled s bytes sheet l t (p .next)) (row .row-in .ensures) in
+    let e = judged-line s (a .side) bytes sheet (rowsOf tallies) l (areCalls cells) _ p (sym (rows-long tallies)) (plan .plan .ensures .0) x _ is in (
+      ap (λ (y : Line). y .answer) e,
+      (
+        ap (λ (y : Line). y .sheet) e,
+        (
+          put .put-row .ensures ∙ ap (λ (y : Line). rowCells tallies (y .tallies)) e,
+          refused-stops (areCalls cells) _ p (checked s) (d .judged) (plan .plan .ensures .0) (at-settle .settle-plan .ensures .1),
+        ),
+      ),
+    )
 
 pub judge-spec : {M : Type 1} → statement M
 judge-spec =

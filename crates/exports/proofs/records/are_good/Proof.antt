@@ -1,5 +1,5 @@
 -- `exports::records::are_good` meets its contract. The loop's invariant: the records passed are plain and good, and ids holds the correlations of the open ones.
-use mathlib.Core.Path.{_≡_, refl, sym, _∙_}
+use mathlib.Core.Path.{refl, sym, _∙_}
 use mathlib.Core.Logic.{⊎-elim}
 use Prim.Native.Nat.{_≤_, _-_}
 use native.Mathlib.Omega.{arith}

@@ -1,5 +1,5 @@
 -- `exports::records::call_at` meets its contract.
-use mathlib.Core.Path.{_≡_, _∙_}
+use mathlib.Core.Path.{_∙_}
 use borrow.Author.Needs.{needs}
 use Rattle.exports.proofs.records.call_at.Statement.{statement}
 use Rattle.exports.proofs.records.call_at.Tie as tie

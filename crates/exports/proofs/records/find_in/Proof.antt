@@ -4,7 +4,6 @@ use Prim.Native.Nat.{_≤_, _-_}
 use native.Mathlib.Omega.{arith}
 use lib.ListN.{drop}
 use denote.Ref.{now}
-use borrow.Author.Needs.{needs}
 use Rattle.calls.specs.Record.{isCall}
 use Rattle.calls.specs.Slots.{firstSlot}
 use Rattle.exports.specs.Records.{callsOf}

@@ -1,9 +1,6 @@
 -- `exports::records::is_call` meets its contract.
-use mathlib.Core.Path.{_≡_, ap}
 use mathlib.Core.Bool.{_&&_}
-use Prim.Native.Nat.{ℕ}
 use lib.Dec.{eqb}
-use denote.Ref.{now}
 use borrow.Author.Needs.{needs}
 use Rattle.exports.specs.Records.{callOf}
 use Rattle.exports.proofs.records.is_call.Statement.{statement}

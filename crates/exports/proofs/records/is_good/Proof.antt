@@ -1,5 +1,5 @@
 -- `exports::records::is_good` meets its contract: free, no more than open, or any other.
-use mathlib.Core.Path.{_≡_, ap, _∙_}
+use mathlib.Core.Path.{ap, _∙_}
 use mathlib.Core.Bool.{_&&_}
 use native.Mathlib.Omega.{arith}
 use denote.Ref.{now}
@@ -26,7 +26,7 @@ returns-2 c =
 returns-3 : tie.Need-returns-3
 returns-3 c =
     let a = c .before .before .before .before .before .before .args in
-    let g = c .is-good-call .ensures ∙ ap (goodCall (tableOf (now (a .s)))) (c .before .call-of .ensures) in
+    let g = c .is-good .ensures ∙ ap (goodCall (tableOf (now (a .s)))) (c .before .call-of .ensures) in
     λ k. (c .before .before .is-plain .ensures k) && (g k)
 
 pub is-good-spec : {M : Type 1} → statement M

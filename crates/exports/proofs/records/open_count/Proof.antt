@@ -1,10 +1,8 @@
 -- `exports::records::open_count` meets its contract: the records of a whole table stand in its first 384 cells.
 use mathlib.Core.Path.{sym, ap, _∙_}
-use mathlib.Core.List.{List}
 use lib.Seq.{length-take-le}
 use denote.Ref.{now}
 use borrow.Author.Needs.{needs}
-use Rattle.calls.specs.declared.Call.{Call}
 use Rattle.calls.specs.Slots.{countOpen}
 use Rattle.exports.proofs.Slots.{taken-calls}
 use Rattle.exports.proofs.records.open_count.Statement.{statement}

@@ -1,11 +1,10 @@
 -- `exports::records::open_count_in` meets its contract. The loop's invariant: the count so far and that of the rest make the whole.
-use mathlib.Core.Path.{_≡_, refl, sym, _∙_}
+use mathlib.Core.Path.{_≡_, sym, _∙_}
 use mathlib.Core.Logic.{⊎-elim}
 use Prim.Native.Nat.{_≤_, _-_, _+_}
 use native.Mathlib.Omega.{arith}
 use lib.ListN.{drop}
 use denote.Ref.{now}
-use borrow.Author.Needs.{needs}
 use Rattle.calls.specs.Slots.{countOpen}
 use Rattle.exports.specs.Records.{callsOf}
 use Rattle.exports.proofs.Slots.{count-open, count-free, count-end}

@@ -1,6 +1,6 @@
 -- `exports::records::put_call` meets its contract.
 use mathlib.Core.Path.{ap, _∙_}
-use mathlib.Core.List.{List, [], _∷_}
+use mathlib.Core.List.{[], _∷_}
 use Prim.Native.Nat.{ℕ, _*_}
 use lib.Seq.{sets}
 use borrow.Author.Needs.{needs}

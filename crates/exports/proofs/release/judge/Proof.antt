@@ -2,28 +2,37 @@
 use mathlib.Core.Path.{sym, ap, _∙_}
 use denote.Ref.{now}
 use borrow.Author.Needs.{needs}
+use Rattle.schema.specs.Check.{checked}
 use Rattle.calls.specs.declared.Tally.{Tally}
-use Rattle.line.specs.Release.{ReleaseLine, releaseSettled}
-use Rattle.exports.specs.Records.{rowsOf, rowCells}
+use Rattle.line.specs.Release.{ReleaseLine, releaseIn, releaseSettled}
+use Rattle.exports.specs.Records.{callsOf, areCalls, rowsOf, rowCells}
 use Rattle.exports.proofs.Tallies.{rows-long}
 use Rattle.exports.proofs.Judged.{judged-release}
+use Rattle.exports.proofs.Plans.{refused-stops}
 use Rattle.exports.proofs.release.judge.Statement.{statement}
 use Rattle.exports.proofs.release.judge.Tie as tie
 
 returns : tie.Need-returns
 returns c =
-    let put = c .before .before .before in
+    let put = c .before .before in
     let at-settle = put .before .before .before in
     let row = at-settle .before in
     let plan = row .before .before in
-    let a = plan .before .before .before .args in
+    let a = plan .before .before .before .before .args in
+    let s = now (a .schema) in
+    let cells = now (a .table) in
     let tallies = now (a .tallies) in
-    let l = a .table .slots in
-    let p = plan .plan-for .result in
-    let is = at-settle .settle-release .ensures ∙ ap (λ (t : Tally). releaseSettled l t (p .next)) (row .row-in .ensures) in
-    let e =
-    judged-release (now (a .schema)) l (a .correlation) (rowsOf tallies) (a .known) _ p (sym (rows-long tallies)) (plan .plan-for .ensures) (at-settle .settle-release .result) is in
-    (ap (λ (x : ReleaseLine). x .answer) e, put .put-row .ensures ∙ ap (λ (x : ReleaseLine). rowCells tallies (x .tallies)) e)
+    let l = callsOf cells in
+    let p = plan .plan-release .result in
+    let d = at-settle .settle-call .result in
+    let is = at-settle .settle-call .ensures .0 l ∙ ap (λ (t : Tally). releaseSettled l t (p .next)) (row .row-in .ensures) in
+    let e = judged-release s l (a .correlation) (rowsOf tallies) (areCalls cells) _ p (sym (rows-long tallies)) (plan .plan-release .ensures) (releaseIn d l) is in (
+      ap (λ (x : ReleaseLine). x .answer) e,
+      (
+        put .put-row .ensures ∙ ap (λ (x : ReleaseLine). rowCells tallies (x .tallies)) e,
+        refused-stops (areCalls cells) _ p (checked s) (d .judged) (plan .plan-release .ensures) (at-settle .settle-call .ensures .1),
+      ),
+    )
 
 pub judge-spec : {M : Type 1} → statement M
 judge-spec =

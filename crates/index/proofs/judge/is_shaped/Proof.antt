@@ -1,5 +1,4 @@
 -- `index::judge::is_shaped` meets its contract.
-use native.Mathlib.Omega.{arith}
 use borrow.Author.Needs.{needs}
 use denote.Ref.{now}
 use Rattle.index.proofs.Shapes.{too-short, shape-read}

@@ -8,7 +8,7 @@ use borrow.Author.Tests.{not-true, not-false}
 use denote.Ref.{now}
 use lib.ListN.{length}
 use Rattle.index.specs.IsIndex.{isShaped, isOrdered}
-use Rattle.index.proofs.Shapes.{shape-long, count-read, JudgedAs, judged-shape, judged-order, judged-size, judged-right}
+use Rattle.index.proofs.Shapes.{shape-long, count-read, judged-shape, judged-order, judged-size, judged-right}
 use Rattle.index.proofs.judge.judge.Statement.{statement}
 use Rattle.index.proofs.judge.judge.Tie as tie
 

@@ -5,15 +5,17 @@ use Rattle.line.proofs.answer.answer.Tie as tie
 
 returns : tie.Need-returns
 returns c =
-    let counted = c .before .before .before in
-    let stepped = counted .before .before .before in
-    rw (counted .open-count .ensures .0, counted .before .used-of .ensures, stepped .step .ensures, stepped .before .number-of .ensures, c .before .reading .given .1)
+    let count = c .before .before .before in
+    let used = count .before in
+    let step = used .before .before in
+    rw (count .open-count .ensures .0, used .used-of .ensures, step .step .ensures, step .before .number-of .ensures, c .before .reading .given .1)
 
 returns-2 : tie.Need-returns-2
 returns-2 c =
-    let counted = c .before .before .before in
-    let stepped = counted .before .before .before in
-    rw (counted .open-count .ensures .0, counted .before .used-of .ensures, stepped .step .ensures, stepped .before .number-of .ensures, c .before .reading2 .given .1)
+    let count = c .before .before .before in
+    let used = count .before in
+    let step = used .before .before in
+    rw (count .open-count .ensures .0, used .used-of .ensures, step .step .ensures, step .before .number-of .ensures, c .before .reading2 .given .1)
 
 pub answer-spec : {M : Type 1} → statement M
 answer-spec =

@@ -1,5 +1,4 @@
 -- `line::fresh::receive_fresh` meets its contract: a row of noughts stands for each method.
-use mathlib.Core.Path.{_∙_}
 use denote.Ref.{now}
 use borrow.Author.Needs.{needs}
 use Rattle.line.proofs.Lent.{fresh-settled}

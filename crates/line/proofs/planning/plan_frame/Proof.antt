@@ -1,7 +1,8 @@
 -- `line::planning::plan_frame` meets its contract: judged, and what it raises.
-use denote.Ref.{now}
-use Rattle.schema.specs.File.{tableOf}
-use Rattle.line.proofs.Returns.{judged-frame}
+use mathlib.Core.Path.{_∙_, ap}
+use Rattle.calls.specs.declared.Judged.{Judged}
+use Rattle.calls.specs.Apart.{verdict, verdictRise}
+use Rattle.line.specs.Planning.{judgedPlan}
 use borrow.Author.Needs.{needs}
 use Rattle.line.proofs.planning.plan_frame.Statement.{statement}
 use Rattle.line.proofs.planning.plan_frame.Tie as tie
@@ -9,7 +10,9 @@ use Rattle.line.proofs.planning.plan_frame.Tie as tie
 returns : tie.Need-returns
 returns c =
     let a = c .before .before .before .args in
-    judged-frame (tableOf (now (a .schema))) (a .f) (a .table .slots) (a .place) (a .end) (c .before .judge .result) (c .rise .result) (c .before .judge .ensures) (c .rise .ensures)
+    let j = c .before .judge .ensures in
+    let k = c .rise .ensures ∙ ap (λ (J : Judged). verdictRise (a .f .kind) (a .seat .own) (verdict J)) j in
+    λ i. judgedPlan (j i) (k i) (a .place) (a .end)
 
 pub plan-frame-spec : {M : Type 1} → statement M
 plan-frame-spec = tie.close (tie.spec (λ c κs. search needs) (λ c κs. search needs) returns)

@@ -16,13 +16,13 @@ use Rattle.line.specs.Answer.{rowLine, line}
 use Rattle.line.specs.Planning.{Fitted, planOf}
 use Rattle.line.specs.Receive.{settled, received}
 use Rattle.line.proofs.Lent.{in-room, within, beyond}
-use Rattle.line.proofs.Walk.{_*_, _≡_, refl, sym, ℕ, _<_, _^_, [], _∷_, List, ltb→lt, nltb→le, length, set, getD, length-set, URA, fullShare, named, w64, w32, tyPtr, Val, vint, vptr, SProp, ent, id⊢, via, fst∗, emp, Lft}
+use Rattle.line.proofs.Walk.{_*_, _≡_, refl, sym, ℕ, _<_, _^_, [], _∷_, List, ltb→lt, nltb→le, length, set, getD, length-set, URA, fullShare, named, w64, tyPtr, Val, vint, vptr, SProp, ent, id⊢, via, fst∗, emp, Lft}
 use Rattle.line.proofs.Walk.{Share, GName, ftrue, fat, flft, fobs, fres, Memory, Routine, Heap, Calls, Loops, WpFn, Tables, Atoms, Fun, givenOf, tables, tablesOf, Given, ‵, _⊛_, ⋆, _$_, _∵_, !, qed, by, move, keep, drop}
 use Rattle.line.proofs.Walk.{use1, split, join, rewrite, fsplit, fjoin, suffices, frame, done, look, look-raw, init, store-raw, forget, stop, hop, fld, from, load, lit, of-opd, bin, addr, assigns, first, branches}
 use Rattle.line.proofs.Walk.{returns-within, land, and-then, no-more, enter, alloc1, alloc0, params1, pass1, pass0, free1, free0, whole, sub, look-in, agg, FmC, fmOf, WpFn-mono, owns, Is, shows, uint-makes, uint-vals}
 use Rattle.line.proofs.Walk.{uint-tells, u8, u32, u64, RefT, sliceVal, MutSlice, Room, heres, codedHoleys, finally, res-finally, slice-vals, mut-slice-tells, place-is, elem-out, elem-put, opens-slice, closes-slice}
-use Rattle.line.proofs.Walk.{plain, owned, nothing, onEntry, tripleOf, entered, cited, says, Stays, stay-dropped, gave-slice, walkOf, goes-dropped, goes-gave-slice, ends-at, walked, walk-meets, yes, asks, gives, Met}
-use Rattle.line.proofs.Walk.{sep, Fml, raw, feqL}
+use Rattle.line.proofs.Walk.{plain, owned, nothing, onEntry, tripleOf, entered, cited, says, Stays, stay-dropped, gave-slice, walkOf, goes-dropped, goes-gave-slice, ends-at, walked, walk-meets, yes, gives, Met}
+use Rattle.line.proofs.Walk.{Fml, raw, feqL}
 use Rattle.calls.proofs.Tally as T
 use Rattle.calls.proofs.Tally.Laws as T′
 use Rattle.calls.proofs.CallTable as S

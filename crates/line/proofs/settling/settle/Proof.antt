@@ -1,51 +1,17 @@
--- `line::settling::settle` meets its contract: what is left to do picks the case.
-use Prim.Native.Nat.{_≤_}
-use native.Mathlib.Omega.{arith}
-use lib.ListN.{length}
-use denote.Ref.{now}
-use Rattle.schema.specs.Check.{IsGood}
-use Rattle.line.proofs.Returns.{settled-stop, settled-frame, fitted-good}
+-- `line::settling::settle` meets its contract: settled for every call table, and so over this one.
+use mathlib.Core.Path.{_∙_, ap}
+use Rattle.line.specs.declared.Received.{Received}
+use Rattle.line.specs.Answer.{rowLine}
 use borrow.Author.Needs.{needs}
 use Rattle.line.proofs.settling.settle.Statement.{statement}
 use Rattle.line.proofs.settling.settle.Tie as tie
 
--- the schema is good, and the payload lies in the bytes
-fit : (c : tie.After-known-told2) → let a = c .before .before .before .before .before .before .args in
-    let h = c .before .left2 .given in
-    IsGood (now (a .schema)) × (h .0 .1 .1 .0 ≤ h .0 .1 .1 .1 .0) × (h .0 .1 .1 .1 .0 ≤ length (now (a .bytes)))
-fit c =
-    let start = c .before .before .before .before .before .before in
-    let a = start .args in
-    let h = c .before .left2 .given in
-    fitted-good (now (a .schema)) (now (a .bytes)) (now (a .sheet)) (a .table .slots) (a .tally) (a .plan .next)
-    (h .0 .0) (h .0 .1 .0) (h .0 .1 .1 .0) (h .0 .1 .1 .1 .0) (start .pre) (h .1)
-
 returns : tie.Need-returns
 returns c =
-    let a = c .before .before .before .before .before .before .before .args in
-    let n = c .before .before .left .given in
-    settled-stop (now (a .schema)) (now (a .bytes)) (now (a .sheet)) (a .table .slots) (a .tally) (a .plan .next)
-    (n .0 .0) (n .0 .1 .0) (c .stop .result) (n .1) (c .stop .ensures)
-
-returns-2 : tie.Need-returns-2
-returns-2 c =
-    let left = c .before .before .before .before .before .before in
-    let a = left .before .before .before .before .before .args in
-    let h = left .left2 .given in
-    settled-frame (now (a .schema)) (now (a .bytes)) (now (a .sheet)) (a .table .slots) (a .tally) (a .plan .next)
-    (h .0 .0) (h .0 .1 .0) (h .0 .1 .1 .0) (h .0 .1 .1 .1 .0) _ (h .1) (c .before .before .settle-frame .ensures)
+    let at-settle = c .before .before .before .before in
+    let a = at-settle .before .before .before .before .before .args in
+    let settled = at-settle .settle-plan in
+    ap (λ (x : Received). rowLine x (settled .last .1 .1 .1 .0) (settled .result .row)) (c .answer .ensures) ∙ settled .ensures .0 (a .table .slots)
 
 pub settle-spec : {M : Type 1} → statement M
-settle-spec =
-    tie.close
-    (tie.spec
-    (λ c. search needs)
-    (λ c κs. search needs)
-    (λ c. search needs)
-    (λ c. omega (arith, fit c .1))
-    (λ c. omega (arith, fit c .1))
-    (λ c. omega (arith, fit c .2))
-    (λ c κs. fit (c .before .before) .0)
-    returns
-    (λ c. search needs)
-    returns-2)
+settle-spec = tie.close (tie.spec (λ c κs. search needs) (λ c κs. search needs) (λ c. search needs) returns)

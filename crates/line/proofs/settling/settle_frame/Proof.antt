@@ -1,6 +1,9 @@
--- `line::settling::settle_frame` meets its contract: read, raised, answered.
+-- `line::settling::settle_frame` meets its contract: read and raised, whatever the call table.
+use mathlib.Core.Path.{refl}
 use denote.Ref.{now}
-use Rattle.line.specs.Answer.{payloadRead}
+use Rattle.calls.specs.Step.{stepOf}
+use Rattle.reader.specs.Entry.{numbers}
+use Rattle.line.specs.Answer.{payloadRead, answerOf}
 use Rattle.line.proofs.Returns.{reading-room, frame-settled}
 use borrow.Author.Needs.{needs}
 use Rattle.line.proofs.settling.settle_frame.Statement.{statement}
@@ -18,15 +21,18 @@ raised-requires c κs =
 
 returns : tie.Need-returns
 returns c =
-    let raise = c .before in
+    let raise = c in
     let figure = raise .before in
     let number = figure .before in
     let read = number .before .before .before in
     let due = read .before .before in
     let a = due .before .before .before .before .args in
-    frame-settled (now (a .schema)) (a .judged) (a .rise) (now (a .payload)) (a .size) (now (a .sheet)) (a .tally) (a .table .slots)
-    (due .due-of .result) (read .read-counted .result) (read .read-counted .last .1 .1 .1 .0) (number .number-of .result) (figure .figure .result) (raise .raised .result) (c .answer .result)
-    (due .due-of .ensures) (read .read-counted .ensures) (number .number-of .ensures) (figure .figure .ensures) (raise .raised .ensures) (c .answer .ensures)
+    let reading = read .read-counted .result in
+    λ l.
+    frame-settled (now (a .schema)) (a .judged) (a .rise) (now (a .payload)) (a .size) (now (a .sheet)) (a .tally) l
+    (due .due-of .result) reading (read .read-counted .last .1 .1 .1 .0) (number .number-of .result) (figure .figure .result) (raise .raised .result)
+    (answerOf (a .size) (stepOf (a .judged) (numbers reading .number) l) reading)
+    (due .due-of .ensures) (read .read-counted .ensures) (number .number-of .ensures) (figure .figure .ensures) (raise .raised .ensures) refl
 
 pub settle-frame-spec : {M : Type 1} → statement M
 settle-frame-spec =
@@ -37,6 +43,5 @@ settle-frame-spec =
     (λ c κs. search needs)
     (λ c κs. search needs)
     raised-requires
-    (λ c κs. search needs)
     (λ c. search needs)
     returns)

@@ -5,7 +5,7 @@ use mathlib.Core.Bool.{false≢true}
 use Prim.Native.Nat.{_-_, _/_, _≤_}
 use native.Mathlib.Omega.{arith}
 use borrow.Author.Tests.{not-true}
-use Rattle.value.specs.Write.{span}
+use Rattle.buffer.specs.Span.{span}
 use Rattle.parts.specs.Keys.{words}
 use Rattle.parts.proofs.Keys.{words-none, digest-step, digest-end}
 use Rattle.parts.proofs.key.digest_of.Statement.{statement}

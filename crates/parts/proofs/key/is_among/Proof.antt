@@ -1,12 +1,11 @@
 -- `parts::key::is_among` meets its contract. The invariant: the keys not yet looked at decide.
-use borrow.Author.Needs.{needs}
 use mathlib.Core.Path.{_≡_, refl, sym, subst, _∙_}
 use mathlib.Core.Bool.{Bool, false}
 use Prim.Native.Nat.{ℕ, _-_, _≤_}
 use native.Mathlib.Omega.{arith}
 use borrow.Author.Tests.{not-true, not-false}
+use Rattle.buffer.specs.Span.{span}
 use Rattle.value.specs.Read.{among}
-use Rattle.value.specs.Write.{span}
 use Rattle.parts.specs.Keys.{holds, keysIn, Kept}
 use Rattle.parts.proofs.Keys.{unheld, kept-found, kept-other, kept-none}
 use Rattle.parts.proofs.key.is_among.Statement.{statement}

@@ -1,11 +1,10 @@
 -- `parts::key::is_repeated` meets its contract: a digest above the largest is new, and any other is looked for.
 use borrow.Author.Needs.{needs}
-use mathlib.Core.Path.{_≡_, sym, ap, subst, _∙_}
-use mathlib.Core.Bool.{true}
+use mathlib.Core.Path.{ap, subst, _∙_}
 use Prim.Native.Nat.{ℕ, _≤_, _<_}
 use native.Mathlib.Omega.{arith}
+use Rattle.buffer.specs.Span.{span}
 use Rattle.value.specs.Read.{among}
-use Rattle.value.specs.Write.{span}
 use Rattle.parts.specs.Keys.{largest}
 use Rattle.parts.proofs.Keys as keys-of
 use Rattle.parts.proofs.key.is_repeated.Statement.{statement}

@@ -3,8 +3,8 @@ use borrow.Author.Needs.{needs}
 use mathlib.Core.Path.{_≡_}
 use Prim.Native.Nat.{_+_, _-_, _≤_}
 use native.Mathlib.Omega.{arith}
+use Rattle.buffer.specs.Span.{span}
 use Rattle.value.specs.Read.{same}
-use Rattle.value.specs.Write.{span}
 use Rattle.parts.proofs.Keys.{same-short, same-first, same-other, same-more, same-all}
 use Rattle.parts.proofs.key.is_same.Statement.{statement}
 use Rattle.parts.proofs.key.is_same.Tie as tie

@@ -6,9 +6,9 @@ use native.Mathlib.Nat.{mod-lt}
 use native.Mathlib.Omega.{arith}
 use lib.ListN.{length}
 use lib.Pow.{pow-pos}
+use Rattle.parse.specs.Reader.{cursorAt}
 use Rattle.schema.specs.Table.{struct, shape}
 use Rattle.schema.specs.File.{tableOf}
-use Rattle.value.specs.Answer.{cursorAt}
 use Rattle.value.specs.Read.{parse}
 use Rattle.parts.specs.Shape.{fieldsFrom}
 use Rattle.parts.proofs.Tables.{few-fields, struct-row, shape-struct}

@@ -2,9 +2,9 @@
 use borrow.Author.Needs.{needs}
 use Prim.Native.Nat.{suc}
 use native.Mathlib.Omega.{arith}
+use Rattle.parse.specs.Reader.{cursorAt}
 use Rattle.schema.specs.Table.{shape}
 use Rattle.schema.specs.File.{tableOf}
-use Rattle.value.specs.Answer.{cursorAt}
 use Rattle.parts.specs.Shape.{leafShape}
 use Rattle.parts.proofs.Tables.{shape-leaf}
 use Rattle.reader.proofs.Steps.{as-refused, own-accepted, leaf-failed, leaf-past}

@@ -6,9 +6,9 @@ use mathlib.Core.List.{[]}
 use Prim.Native.Nat.{ℕ, suc, _+_, _-_, _*_, _≤_}
 use native.Mathlib.Omega.{arith}
 use lib.ListN.{length, replicate}
+use Rattle.parse.specs.Reader.{cursorAt, Accepted}
 use Rattle.schema.specs.Table.{Shape, array, shape}
 use Rattle.schema.specs.File.{tableOf}
-use Rattle.value.specs.Answer.{cursorAt, Accepted}
 use Rattle.value.specs.Read.{plainItem, walk, parse}
 use Rattle.parts.specs.Shape.{shapeIn}
 use Rattle.parts.proofs.Items.{elements-none}

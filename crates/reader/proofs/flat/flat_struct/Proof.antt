@@ -3,9 +3,9 @@ use borrow.Author.Needs.{needs}
 use mathlib.Core.Path.{_≡_, sym, _∙_}
 use Prim.Native.Nat.{_+_, _-_, _<_}
 use native.Mathlib.Omega.{arith}
+use Rattle.parse.specs.Reader.{cursorAt, Accepted}
 use Rattle.schema.specs.Table.{struct, shape}
 use Rattle.schema.specs.File.{tableOf}
-use Rattle.value.specs.Answer.{cursorAt, Accepted}
 use Rattle.value.specs.Read.{parse}
 use Rattle.parts.specs.Shape.{fieldsFrom, leafShape}
 use Rattle.parts.proofs.Tables.{few-fields, struct-row, shape-struct}

@@ -3,8 +3,8 @@ use mathlib.Core.Path.{sym, ap, _∙_}
 use mathlib.Core.List.{List}
 use Prim.Native.Nat.{ℕ}
 use Rattle.wire.specs.Utf8.{utf8}
-use Rattle.value.proofs.Spans.{slice-span}
 use borrow.Author.Needs.{needs}
+use Rattle.buffer.proofs.Spans.{slice-span}
 use Rattle.reader.proofs.leaf.is_utf8.Statement.{statement}
 use Rattle.reader.proofs.leaf.is_utf8.Tie as tie
 

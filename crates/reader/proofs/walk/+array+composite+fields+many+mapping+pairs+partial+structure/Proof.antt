@@ -10,8 +10,7 @@ use native.Mathlib.Omega.{arith}
 use lib.ListN.{length, replicate}
 use Rattle.schema.specs.Table.{unknown, array, map, struct, shape, rowAt}
 use Rattle.schema.specs.File.{tableOf}
-use Rattle.value.specs.Answer.{refused, cursorAt, Accepted}
-use Rattle.value.specs.Read.{plainItem, pairs, present, among, walk, parse}
+use Rattle.value.specs.Read.{plainItem, pairs, among, walk, parse}
 use Rattle.reader.specs.Leaf.{part}
 use Rattle.reader.specs.Walk.{firstFields, told}
 use Rattle.reader.proofs.Steps.{aheadIn, renamed, was, as-refused, stop-at, composite-past, composite-stop, rest-accepted, as-told}
@@ -76,6 +75,7 @@ use Rattle.schema.proofs.access.field.Reads as field-reads
 use Rattle.schema.proofs.access.known_row.Reads as known-row-reads
 use Rattle.schema.proofs.access.type_row.Reads as type-row-reads
 use Rattle.wire.proofs.bitmap.low_bits.Reads as low-bits-reads
+use Rattle.parse.specs.Reader.{cursorAt, Accepted}
 use Rattle.reader.proofs.walk.+array+composite+fields+many+mapping+pairs+partial+structure.{statement}
 use Rattle.reader.proofs.walk.+array+composite+fields+many+mapping+pairs+partial+structure.Tie.{close}
 

@@ -1,5 +1,4 @@
 -- `reader::walk::chosen` meets its contract.
-use borrow.Author.Needs.{needs}
 use native.Mathlib.Omega.{arith}
 use Rattle.schema.specs.Table.{struct, shape}
 use Rattle.schema.specs.File.{tableOf}

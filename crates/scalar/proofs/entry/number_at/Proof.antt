@@ -7,10 +7,10 @@ use native.Mathlib.Omega.{arith}
 use borrow.Author.Tests.{leb-true, not-true, not-false}
 use lib.ListN.{length}
 use Rattle.schema.specs.Table.{width}
-use Rattle.value.specs.Write.{inside}
 use Rattle.scalar.specs.declared.Answer.the-variants.{Is}
 use Rattle.scalar.proofs.Answers.{wrong-length, outside, no-truth, number-is}
 use borrow.Author.Needs.{needs}
+use Rattle.buffer.specs.Span.{inside}
 use Rattle.scalar.proofs.entry.number_at.Statement.{statement}
 use Rattle.scalar.proofs.entry.number_at.Tie as tie
 

@@ -4,10 +4,10 @@ use mathlib.Core.Path.{_≡_, sym, ap, _∙_}
 use native.Mathlib.Omega.{arith}
 use borrow.Author.Tests.{leb-true, not-true, not-false}
 use Rattle.wire.specs.Utf8.{utf8}
-use Rattle.value.specs.Write.{span, inside}
-use Rattle.value.proofs.Spans.{slice-span}
 use Rattle.scalar.proofs.Answers.{text-outside, no-utf8, text-is}
 use borrow.Author.Needs.{needs}
+use Rattle.buffer.specs.Span.{span, inside}
+use Rattle.buffer.proofs.Spans.{slice-span}
 use Rattle.scalar.proofs.entry.text_at.Statement.{statement}
 use Rattle.scalar.proofs.entry.text_at.Tie as tie
 

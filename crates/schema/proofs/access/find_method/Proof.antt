@@ -1,7 +1,6 @@
 -- `schema::access::find_method` meets its contract: it looks among all methods of the table.
 use mathlib.Core.Path.{ap, _∙_}
 use Prim.Native.Nat.{ℕ}
-use native.Mathlib.Nat.{le-refl}
 use Rattle.schema.specs.File.{tableOf}
 use Rattle.schema.specs.Check.{findAmong}
 use Rattle.schema.proofs.Checks.{good-shaped, good-laid}
@@ -14,7 +13,7 @@ find-method-spec =
     tie.close
     (tie.spec
     (λ c κs. good-shaped _ (c .before .pre))
-    (λ c κs. (good-laid _ _ (c .before .before .pre) (c .layout-of .ensures), le-refl _))
+    (λ c κs. good-laid _ _ (c .before .before .pre) (c .layout-of .ensures))
     (λ c.
     let a = c .before .before .before .args in
     let laid = good-laid _ _ (c .before .before .before .pre) (c .before .layout-of .ensures) in

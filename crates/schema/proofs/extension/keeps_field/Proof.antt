@@ -20,7 +20,7 @@ keeps-field-spec =
     (λ c κs. search needs)
     (λ c.
     let a = c .before .before .before .before .before .before .before .before .before .args in
-    c .same-field .ensures ∙ kept-old (tableOf (a .old .now)) (tableOf (a .new .now)) (a .r) (a .q) (a .i) _ (c .before .before .before .before .before .field .ensures) _ (c .before .field2 .ensures) (c .before .before .before .if1 .taken))
+    c .same-field .ensures ∙ kept-old (tableOf (a .old .now)) (tableOf (a .new .now)) (a .r) (a .q) (a .i) _ (c .before .before .before .before .before .field-row .ensures) _ (c .before .field-row2 .ensures) (c .before .before .before .if1 .taken))
     (λ c.
     let a = c .before .before .before .before .before .before .before .args in
-    kept-new (tableOf (a .old .now)) (tableOf (a .new .now)) (a .r) (a .q) (a .i) (c .before .before .before .field .result) (c .before .before .before .field .ensures) (c .before .if1 .left)))
+    kept-new (tableOf (a .old .now)) (tableOf (a .new .now)) (a .r) (a .q) (a .i) (c .before .before .before .field-row .result) (c .before .before .before .field-row .ensures) (c .before .if1 .left)))

@@ -18,11 +18,11 @@ abbrev test : List ℕ → List ℕ → TypeRow → TypeRow → ℕ → Bool
 test old new r q = fieldKept (tableOf old) (tableOf new) r q
 
 abbrev Inv-loop : tie.InvT-loop
-Inv-loop old new r q n i₀ i =
+Inv-loop old l new k r q n i₀ i =
     (i ≤ n) × (lowest (λ j. not (test old new r q j)) 0 n ≡ lowest (λ j. not (test old new r q j)) i (n - i))
 
 abbrev μ-loop : tie.MeasureT-loop
-μ-loop old new r q n i₀ i = n - i
+μ-loop old l new k r q n i₀ i = n - i
 
 returns : tie.Need-returns Inv-loop μ-loop
 returns c =

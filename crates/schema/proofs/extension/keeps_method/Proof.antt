@@ -1,10 +1,20 @@
 -- `schema::extension::keeps_method` meets its contract.
-use mathlib.Core.Path.{_∙_}
+use mathlib.Core.Path.{_≡_, ap, _∙_}
+use Prim.Native.Nat.{ℕ}
 use borrow.Author.Needs.{needs}
 use Rattle.schema.specs.File.{tableOf}
+use Rattle.schema.specs.Check.{findAmong, findMethod}
+use Rattle.schema.proofs.Files.{laid-methods}
 use Rattle.schema.proofs.Extensions.{method-there, method-gone}
 use Rattle.schema.proofs.extension.keeps_method.Statement.{statement}
 use Rattle.schema.proofs.extension.keeps_method.Tie as tie
+
+-- what was found among all methods
+found : (c : tie.After-find-among) → let a = c .before .before .args in
+    c .find-among .result ≡ findMethod (tableOf (a .new .now)) (a .m .«package») (a .m .service) (a .m .method)
+found c =
+    let a = c .before .before .args in
+    c .find-among .ensures ∙ ap (λ (n : ℕ). findAmong (tableOf (a .new .now)) n (a .m .«package») (a .m .service) (a .m .method)) (laid-methods _ _ (c .before .before .pre))
 
 pub keeps-method-spec : {M : Type 1} → statement M
 keeps-method-spec =
@@ -16,8 +26,8 @@ keeps-method-spec =
     (λ c κs. search needs)
     (λ c. search needs)
     (λ c.
-    let a = c .before .before .before .before .before .before .before .args in
-    c .same-method .ensures ∙ method-there (tableOf (a .new .now)) (a .m) _ (c .before .before .before .before .before .find-method .ensures) _ _ (c .before .method .ensures) (c .before .before .before .j .given .1))
+    let d = c .before .before .before .before .before in
+    c .same-method .ensures ∙ method-there (tableOf (d .before .before .args .new .now)) (d .before .before .args .m) _ (found d) _ _ (c .before .method-row .ensures) (c .before .before .before .j .given .1))
     (λ c.
-    let a = c .before .before .before .before .args in
-    method-gone (tableOf (a .new .now)) (a .m) _ (c .before .before .find-method .ensures) (c .enum-told .given .1)))
+    let d = c .before .before in
+    method-gone (tableOf (d .before .before .args .new .now)) (d .before .before .args .m) _ (found d) (c .enum-told .given .1)))

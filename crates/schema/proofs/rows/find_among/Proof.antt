@@ -58,7 +58,7 @@ find-among-spec =
     Inv-loop
     μ-loop
     loop-holds
-    (λ c κs. c .before .before .before .pre .0)
+    (λ c κs. c .before .before .before .pre)
     (λ c κs. search needs)
     returns
     (λ c. omega arith)

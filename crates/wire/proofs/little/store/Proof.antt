@@ -7,8 +7,9 @@ use native.Mathlib.Omega.{arith}
 use borrow.Author.Needs.{needs}
 use lib.ListN.{length, set, length-set}
 use lib.Seq.{sets}
+use Rattle.buffer.proofs.Stores.{sets-written}
 use Rattle.wire.specs.Little.{bytes}
-use Rattle.wire.proofs.Numbers.{length-bytes, sets-written}
+use Rattle.wire.proofs.Numbers.{length-bytes}
 use Rattle.wire.proofs.little.store.Statement.{statement}
 use Rattle.wire.proofs.little.store.Tie as tie
 

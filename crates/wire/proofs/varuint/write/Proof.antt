@@ -7,8 +7,8 @@ use native.Mathlib.Omega.{arith}
 use borrow.Author.Needs.{needs}
 use lib.ListN.{length, set, length-set}
 use lib.Seq.{sets}
+use Rattle.buffer.proofs.Stores.{sets-written}
 use Rattle.wire.specs.Varuint.{shortest, varuintBytes}
-use Rattle.wire.proofs.Numbers.{sets-written}
 use Rattle.wire.proofs.Varuints.{Rest, rest-more, rest-done, shortest-pos}
 use Rattle.wire.proofs.varuint.write.Statement.{statement}
 use Rattle.wire.proofs.varuint.write.Tie as tie

@@ -1,11 +1,9 @@
 -- `words::verbs::put_which` meets its contract: the old file is good, or it is not.
 use mathlib.Core.Path.{subst}
-use mathlib.Core.List.{List}
 use native.Mathlib.Omega.{arith}
 use denote.Ref.{now}
 use borrow.Author.Needs.{needs}
 use Rattle.schema.specs.declared.Checked.{Checked}
-use Rattle.schema.specs.Check.{checked}
 use Rattle.text.specs.Codes.{codes}
 use Rattle.text.specs.Text.{Added}
 use Rattle.words.specs.Words.{whichOf}

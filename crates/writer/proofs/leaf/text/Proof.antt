@@ -4,9 +4,9 @@ use mathlib.Core.List.{List}
 use Prim.Native.Nat.{ℕ}
 use borrow.Author.Tests.{not-true, not-false}
 use Rattle.wire.specs.Utf8.{utf8}
-use Rattle.value.proofs.Spans.{slice-span}
 use Rattle.writer.proofs.Leaves.{text-counted, text-outside, text-valid, text-plain, text-bad}
 use borrow.Author.Needs.{needs}
+use Rattle.buffer.proofs.Spans.{slice-span}
 use Rattle.writer.proofs.leaf.text.Statement.{statement}
 use Rattle.writer.proofs.leaf.text.Tie as tie
 

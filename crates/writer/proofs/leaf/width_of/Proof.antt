@@ -1,6 +1,5 @@
 -- `writer::leaf::width_of` meets its contract.
 use mathlib.Core.Path.{sym, ap}
-use borrow.Author.Needs.{needs}
 use native.Mathlib.Omega.{arith}
 use Rattle.schema.specs.Table.{width}
 use Rattle.writer.proofs.leaf.width_of.Statement.{statement}

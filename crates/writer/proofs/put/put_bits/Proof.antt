@@ -4,8 +4,8 @@ use mathlib.Core.Path.{_≡_, refl, _∙_}
 use Prim.Native.Nat.{_+_, _-_, _≤_}
 use native.Mathlib.Omega.{arith}
 use lib.ListN.{length}
+use Rattle.buffer.specs.Store.{put}
 use Rattle.wire.specs.Little.{bytes}
-use Rattle.writer.specs.Emit.{put}
 use Rattle.writer.proofs.Puts.{bits-first, bits-turn, bits-done}
 use Rattle.writer.proofs.put.put_bits.Statement.{statement}
 use Rattle.writer.proofs.put.put_bits.Tie as tie

@@ -1,6 +1,6 @@
 -- `writer::put::put_content` meets its contract.
-use Rattle.value.proofs.Spans.{length-span}
 use borrow.Author.Needs.{needs}
+use Rattle.buffer.proofs.Spans.{length-span}
 use Rattle.writer.proofs.Puts.{content-put}
 use Rattle.writer.proofs.put.put_content.Statement.{statement}
 use Rattle.writer.proofs.put.put_content.Tie as tie

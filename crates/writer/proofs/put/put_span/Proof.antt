@@ -1,56 +1,13 @@
--- `writer::put::put_span` meets its contract: the bytes still to be put give what all of them give.
+-- `writer::put::put_span` meets its contract.
 use borrow.Author.Needs.{needs}
-use mathlib.Core.Path.{_≡_, refl, _∙_}
-use Prim.Native.Nat.{_+_, _-_, _≤_}
-use native.Mathlib.Omega.{arith}
-use lib.ListN.{length, take, drop, length-set}
-use Rattle.writer.specs.Emit.{put}
-use Rattle.writer.proofs.Puts.{span-first, span-turn, span-done}
+use Rattle.writer.proofs.Puts.{put-there}
 use Rattle.writer.proofs.put.put_span.Statement.{statement}
 use Rattle.writer.proofs.put.put_span.Tie as tie
 
-abbrev Inv-loop : tie.InvT-loop
-Inv-loop out₀ pos source from n m i₀ out i =
-    (put out (pos + i) (take (m - i) (drop (from + i) source)) ≡ put out₀ pos (take m (drop from source))) × (i ≤ m) × (length out ≡ length out₀)
-
-abbrev μ-loop : tie.MeasureT-loop
-μ-loop out₀ pos source from n m i₀ out i = m - i
+returns : tie.Need-returns
+returns c =
+    let a = c .before .before .before .before .before .before .before in
+    put-there (a .args .pos) (a .args .source .now) (a .args .from) (a .args .n) (a .pre .1) (c .before .before .before .put-span .ensures) (c .further .ensures)
 
 pub put-span-spec : {M : Type 1} → statement M
-put-span-spec =
-    tie.close
-    (tie.spec
-    Inv-loop
-    μ-loop
-    -- fitting-requires
-    (λ c κs. search needs)
-    -- loop-holds
-    (λ c. (span-first (c .before .before .before .args .out .now) (c .before .before .before .args .pos) (c .before .before .before .args .source .now) (c .before .before .before .args .from) (c .fitting .result), omega arith, refl))
-    -- add-out
-    (λ c. let e = c .before .before .fitting .ensures in omega arith)
-    -- shared-slice-read-out
-    (λ c. let e = c .before .before .before .fitting .ensures in omega arith)
-    -- add-out-2
-    (λ c. let h = c .before .before .before .fitting .ensures .1 (omega arith) in omega arith)
-    -- slice-write-out
-    (λ c. let h = c .before .before .before .fitting .ensures .1 (omega arith) in omega arith)
-    -- add-i
-    (λ c. search needs)
-    -- loop-less
-    (λ c. omega arith)
-    -- loop-again
-    (λ c.
-    let args = c .before .before .before .before .before .before .args in
-    let loop = c .before .before .loop in
-    let e = c .before .before .before .fitting .ensures in
-    (span-turn (loop .out) (args .pos) (args .source .now) (args .from) _ (loop .i) (c .before .loop-test .taken) (omega arith) ∙ loop .inv .0, omega arith, simp length-set (loop .inv .2)))
-    -- further-requires
-    (λ c κs. search needs)
-    -- same-length
-    (λ c. c .before .before .loop .inv .2)
-    -- returns
-    (λ c.
-    let args = c .before .before .before .before .before .before .args in
-    let asked = c .before .before .before .before .before .before .pre in
-    let e = c .before .before .before .fitting .ensures in
-    span-done _ (args .pos) (args .source .now) (args .from) _ _ _ _ (c .before .before .loop .inv .0) (c .before .loop-test .left) (e .0) (asked .1) (e .2) _ (c .further .ensures)))
+put-span-spec = tie.close (tie.spec (λ c κs. search needs) (λ c κs. search needs) (λ c. search needs) returns)

@@ -22,13 +22,13 @@ use Rattle.parts.proofs.Masks.{bitsLeft, Standing, standing-first, standing-kin
 use Rattle.parts.proofs.Items.{elements-none, pairs-none}
 use Rattle.writer.specs.Emit.{emit, emitAll}
 use Rattle.writer.specs.Leaf.{rowsAt}
-use Rattle.writer.proofs.Steps.{was, renamed, as-stopped, as-refused, shown-stopped, shown-refused, accepted-along, onward, walk-done}
+use Rattle.writer.proofs.Steps.{was, renamed, as-stopped, as-refused, shown-stopped, shown-refused, shown-along, onward, walk-done}
 use Rattle.writer.proofs.Steps.{show-deep, accepted-deeper, walked-deeper, items-deeper, items-shallower, leaf-accepted, show-unknown}
 use Rattle.writer.proofs.Heads.{head-fits}
 use Rattle.writer.proofs.Composites.{leaf-failed, leaf-in, leaf-read, leaf-past, row-absent, due-in, array-start, array-accepted, Came, came-by}
 use Rattle.writer.proofs.Composites.{map-many, map-start, map-accepted, struct-fault, struct-unknown, struct-miscounted, struct-start, struct-accepted}
 use Rattle.writer.proofs.Composites.{element-past, element-stop, element-accepted, structs-held, one-accepted, one-end, Turned, field-stop, field-accepted, field-read}
-use Rattle.writer.proofs.Composites.{pair-key-accepted, pair-key-stop, pair-known, pair-value-accepted, pair-again, pair-value-stop, pair-value-past, pairs-first}
+use Rattle.writer.proofs.Composites.{pair-key-accepted, pair-key-stop, pair-known, pair-value-accepted, pair-again, pair-value-stop, pair-value-past, pairs-start}
 use borrow.Fn.Kinds.{In}
 use borrow.Fn.PlainCycle.{Measures, is, falls, and}
 use Rattle.writer.proofs.walk.array.Reads as array
@@ -478,7 +478,7 @@ array-spec t =
             (λ a.
             accepted-deeper _ _ (c .before .if3 .left) _ _
             (element-accepted _ _ (c .before .before .loop-test .taken) _
-            (accepted-along _ _ _ _ _ _ _ _ _ (inv .0) (array-accepted (row-due .ensures) (count .given .1) _ _ _ (asked .1 .1) a)))),
+            (shown-along _ _ _ _ _ _ _ _ _ (inv .0) (array-accepted (row-due .ensures) (count .given .1) _ _ _ (asked .1 .1) a)))),
         type-row .ensures,
         omega (arith, c .before .before .before .before .before .if1 .left),
       ),
@@ -660,7 +660,7 @@ fields-spec t =
         onward (asked .1 .0) (inv .1) (inv .2) (inv .3)
             (λ a.
             accepted-deeper _ _ (if2 .left) _ _
-            (field-accepted _ cells T (loop .here) (inv .4) some (asked .1 .1 .2) (field .ensures) (if1 .taken) (accepted-along _ _ _ _ _ _ _ _ _ (inv .0) a))),
+            (field-accepted _ cells T (loop .here) (inv .4) some (asked .1 .1 .2) (field .ensures) (if1 .taken) (shown-along _ _ _ _ _ _ _ _ _ (inv .0) a))),
         c .before .before .before .row .ensures,
         c .before .if3 .taken,
       ),
@@ -712,7 +712,7 @@ fields-spec t =
     λ j.
     leaf-accepted (shape T) _ (if2 .left) _ _ kind
     (field-accepted _ cells T (loop .here) (loop .inv .4) some (asked .1 .1 .2) (f .ensures) (if1 .taken)
-    (accepted-along _ _ _ _ _ _ _ _ _ (loop .inv .0) (asked .1 .0 .judged j))))
+    (shown-along _ _ _ _ _ _ _ _ _ (loop .inv .0) (asked .1 .0 .judged j))))
     -- enum-known-number-2
     (λ c. search needs)
     -- refused-requires-2
@@ -989,7 +989,7 @@ pairs-spec t =
     let asked = c .before .before .before .before .before .before .before .pre in
     let B = args .source .now in
     let P = show (shape (tableOf (args .s .now))) B (args .depth) in (
-      pairs-first _ P _ _ (args .n) (rowsAt (args .sheet .now) (args .start)) _ _ (keys-none B _),
+      pairs-start _ P _ _ (args .n) (rowsAt (args .sheet .now) (args .start)) _ _ (keys-none B _),
       asked .1 .0 .inside,
       asked .1 .0 .behind,
       refl,
@@ -1022,7 +1022,7 @@ pairs-spec t =
     let kind = shape-leaf T (args .key) (k .result) (k .ensures) (rw (k .ensures) (asked .1 .1 .0)) (rw (k .ensures) (asked .1 .1 .1)) in
     λ j.
     leaf-accepted (shape T) _ (c .before .if1 .left) _ _ kind
-    (pair-key-accepted _ _ _ _ cells (loop .here) (c .before .before .loop-test .taken) (accepted-along _ _ _ _ _ _ _ _ _ (loop .inv .0) (asked .1 .0 .judged j))))
+    (pair-key-accepted _ _ _ _ cells (loop .here) (c .before .before .loop-test .taken) (shown-along _ _ _ _ _ _ _ _ _ (loop .inv .0) (asked .1 .0 .judged j))))
     -- enum-known-number
     (λ c. search needs)
     -- refused-requires-2
@@ -1078,7 +1078,7 @@ pairs-spec t =
         own .3,
         loop .inv .6,
       ),
-      λ j. pair-known _ _ _ _ cells (loop .here) some read (accepted-along _ _ _ _ _ _ _ _ _ (loop .inv .0) (asked .1 .0 .judged j)),
+      λ j. pair-known _ _ _ _ cells (loop .here) some read (shown-along _ _ _ _ _ _ _ _ _ (loop .inv .0) (asked .1 .0 .judged j)),
     ))
     -- refused-requires-3
     (λ c κs. search needs)
@@ -1161,7 +1161,7 @@ pairs-spec t =
       omega (arith, asked .0),
       (
         onward (asked .1 .0) (omega (arith, own .0)) (put-content .ensures .capped) (put-content .kept .0 ∙ loop .inv .3)
-            (λ a. accepted-deeper _ _ deep _ _ (pair-value-accepted _ _ _ _ cells (loop .here) some read (accepted-along _ _ _ _ _ _ _ _ _ (loop .inv .0) a))),
+            (λ a. accepted-deeper _ _ deep _ _ (pair-value-accepted _ _ _ _ cells (loop .here) some read (shown-along _ _ _ _ _ _ _ _ _ (loop .inv .0) a))),
         type-row2 .ensures,
         c .before .if3 .taken,
       ),
@@ -1246,7 +1246,7 @@ pairs-spec t =
     let other = shape-leaf T (args .val) (v .result) (v .ensures) (rw (v .ensures) (asked .1 .1 .2)) (omega (arith, c .before .if3 .left)) in
     λ j.
     leaf-accepted (shape T) _ deep _ _ other
-    (pair-value-accepted _ _ _ _ cells (loop .here) some read (accepted-along _ _ _ _ _ _ _ _ _ (loop .inv .0) (asked .1 .0 .judged j))))
+    (pair-value-accepted _ _ _ _ cells (loop .here) some read (shown-along _ _ _ _ _ _ _ _ _ (loop .inv .0) (asked .1 .0 .judged j))))
     -- enum-known-number-3
     (λ c. search needs)
     -- add-refused
@@ -1430,7 +1430,7 @@ structs-spec t =
       omega (arith, asked .0),
       (
         (
-          onward (asked .1 .0 .0) (inv .1) (inv .2) (inv .3) (λ a. element-accepted _ _ (c .before .loop-test .taken) _ (accepted-along _ _ _ _ _ _ _ _ _ (inv .0) a)),
+          onward (asked .1 .0 .0) (inv .1) (inv .2) (inv .3) (λ a. element-accepted _ _ (c .before .loop-test .taken) _ (shown-along _ _ _ _ _ _ _ _ _ (inv .0) a)),
           asked .1 .0 .1,
         ),
         (h .0, h .1, h .2, c .before .before .before .required-of .ensures),

@@ -12,7 +12,7 @@ use Rattle.value.specs.Write.{show}
 use Rattle.parts.proofs.Items.{elements-none}
 use Rattle.writer.specs.Emit.{emitAll}
 use Rattle.writer.specs.Leaf.{rowsAt}
-use Rattle.writer.proofs.Steps.{was, as-stopped, as-refused, accepted-along, onward, walk-done, shown-stopped, show-deep}
+use Rattle.writer.proofs.Steps.{was, as-stopped, as-refused, shown-along, onward, walk-done, shown-stopped, show-deep}
 use Rattle.writer.proofs.Composites.{element-past, element-stop, element-accepted}
 use Rattle.writer.proofs.walk.leaves.Statement.{statement}
 use Rattle.writer.proofs.walk.leaves.Tie as tie
@@ -50,7 +50,7 @@ leaves-spec =
     let asked = c .before .before .before .before .before .before .before .before .pre in
     let inv = loop .inv in
     let some = c .before .if1 .left in (
-      onward (asked .0) (inv .1) (inv .2) (inv .3) (λ a. element-accepted _ _ (c .before .before .loop-test .taken) _ (accepted-along _ _ _ _ _ _ _ _ _ (inv .0) a)),
+      onward (asked .0) (inv .1) (inv .2) (inv .3) (λ a. element-accepted _ _ (c .before .before .loop-test .taken) _ (shown-along _ _ _ _ _ _ _ _ _ (inv .0) a)),
       (asked .1 .0, asked .1 .1, asked .1 .2, omega (arith, some)),
     ))
     -- enum-known-number

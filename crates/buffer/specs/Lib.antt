@@ -1,0 +1,3 @@
+-- Spans of a slice, and what it holds after stores.
+pub mod Span
+pub mod Store

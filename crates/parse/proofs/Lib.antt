@@ -1,0 +1,4 @@
+pub mod Answers
+pub mod Blames
+pub mod Pieces
+pub mod Places

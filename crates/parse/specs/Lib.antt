@@ -1,0 +1,3 @@
+-- Readers, and tests in a row.
+pub mod Reader
+pub mod Test
