@@ -2,16 +2,16 @@
 // every cell of lent memory.
 //
 // `receive` judges the frame at the front of the bytes from a side, the byte C or S; `release` ends the cancelled call with a correlation. Both answer with
-// the next call table, and stand in `line` as they are, since a lent slice of rows is not handed on.
+// the next call table, and stand in `receiver` as they are, since a lent slice of rows is not handed on.
 use calls::CallTable;
 use frame::FrameRead;
 use frame::FrameWritten;
 use frame::Header;
 use index::Finding;
 use index::Indexing;
-pub use line::receive::receive;
-pub use line::release::release;
 use reader::Reading;
+pub use receiver::receive::receive;
+pub use receiver::release::release;
 use salvage::Salvaging;
 use scalar::Answer;
 use schema::Checked;

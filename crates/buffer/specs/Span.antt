@@ -14,5 +14,5 @@ abbrev pub inside : List ℕ → (place n : ℕ) → Bool
 inside B p n = leb (p + n) (length B)
 
 -- The n bytes at a place are x.
-abbrev pub Spans : List ℕ → (place n : ℕ) → List ℕ → Type 0
-Spans B p n x = (p + n ≤ length B) × (x ≡ span B p n)
+abbrev pub SpanIs : List ℕ → (place n : ℕ) → List ℕ → Type 0
+SpanIs B p n x = (p + n ≤ length B) × (x ≡ span B p n)

@@ -20,8 +20,8 @@ use Rattle.calls.specs.declared.Frame.{Frame}
 use Rattle.calls.specs.declared.Payload.{Payload}
 use Rattle.calls.specs.declared.Payload.the-variants.{Unread}
 use Rattle.calls.specs.declared.Judged.{Judged}
-use Rattle.calls.specs.declared.Judged.the-variants.{Stop, Opens, Goes}
-use Rattle.calls.specs.Forms.{rowOf}
+use Rattle.calls.specs.declared.Judged.the-variants.{Refused, Opens, Goes}
+use Rattle.calls.specs.Forms.{rowOfForm}
 use Rattle.calls.specs.Numbers.{endsCall, EndsCall, payload, many-pairs}
 use Rattle.calls.specs.Record.{emptyCall, openedCall, isCall, isFree, complete, allowed, notAllowed, atLimit, marked, withMark, afterFrame}
 use Rattle.calls.specs.Slots.{slot, firstSlot, countOpen, formRow, Own, none, one, recordAt, ownOf, full}
@@ -37,7 +37,7 @@ use Rattle.calls.proofs.Searches.{found-in, found-passes, found-lowest,
 use Rattle.calls.proofs.Used.{ends-iff}
 use Rattle.calls.proofs.Cancelled.{cancel-marks}
 use Rattle.calls.proofs.Judgement.{Going, judged-opens, judged-goes, released-goes, released-never}
-use Rattle.calls.proofs.Kept.{after-cases, call-open, call-id, is-call, Starts, Moves, Fits, stops, opens as opensAt, goes as goesTo, frame-fits, release-fits}
+use Rattle.calls.proofs.Kept.{after-cases, call-open, call-id, is-call, Starts, Moves, JudgedFits, stops, opens as opensAt, goes as goesTo, frame-fits, release-fits}
 
 -- ---- the judgement
 -- a judgement is the one without a slot
@@ -55,13 +55,13 @@ unfolding judgeRelease
 released-by id l = placed-by _ (releaseVerdict (ownOf id l))
 
 number-by : (J : Judged) (p : ℕ) → numberOf J p ≡ verdictNumber (verdict J) p
-number-by (Stop n) p = refl
+number-by (Refused n) p = refl
 number-by (Opens j c d) p = refl
 number-by (Goes i c d) p = refl
 
 -- what the payload holds, by the judgement without a slot
 pub due-by : (J : Judged) → dueOf J ≡ verdictDue (verdict J)
-due-by (Stop n) = refl
+due-by (Refused n) = refl
 due-by (Opens j c d) = refl
 due-by (Goes i c d) = refl
 
@@ -157,7 +157,7 @@ module _ (T : Table) (id : ℕ) (l : List Call) where
       going-own : (x : Call) → (x .«open» ≡ true → x .correlation ≡ id) → ownOf id (set l i x) ≡ kept x
       going-own x e = own-set id l i x (found-in (isCall id) l i (w .isOwn)) e going-alone
 
-    stepped-own : (p : ℕ) {J : Judged} → Fits T id l J → ownOf id (slotsAfter J p l) ≡ verdictOwn (verdict J) p (ownOf id l)
+    stepped-own : (p : ℕ) {J : Judged} → JudgedFits T id l J → ownOf id (slotsAfter J p l) ≡ verdictOwn (verdict J) p (ownOf id l)
     stepped-own p (stops n) = refl
     stepped-own p (opensAt j c d w) = go (eqb p 0)
       where
@@ -217,7 +217,7 @@ module _ (T : Table) (id : ℕ) (l : List Call) (k : ℕ) (n : k ≡ id → ⊥)
   other-going i c x w e =
       other-set k l i x (not-other k id x n e) (not-other k id (slot l i) n (λ o. call-id id (slot l i) (is-own T id l i c w)))
 
-  stepped-other : (p : ℕ) {J : Judged} → Fits T id l J → ownOf k (slotsAfter J p l) ≡ ownOf k l
+  stepped-other : (p : ℕ) {J : Judged} → JudgedFits T id l J → ownOf k (slotsAfter J p l) ≡ ownOf k l
   stepped-other p (stops m) = refl
   stepped-other p (opensAt j c d w) = go (eqb p 0)
     where
@@ -249,7 +249,7 @@ none-ended = refl
 -- ---- the slots
 -- no slot but the one touched is changed
 untouched : (l : List Call) (p : ℕ) (J : Judged) (j : ℕ) → (touched J ≡ At j → ⊥) → slot (slotsAfter J p l) j ≡ slot l j
-untouched l p (Stop n) j h = refl
+untouched l p (Refused n) j h = refl
 untouched l p (Opens i c d) j h = go (eqb p 0)
   where
     go : (b : Bool) → slot (cond b (set l i c) l) j ≡ slot l j
@@ -268,7 +268,7 @@ module _ (T : Table) (f : Frame) (l : List Call) where
   other-slots reading j h = untouched l (reading (dueOf (judgeOf T f l))) (judgeOf T f l) j h
 
 -- the slot that is touched is free, or open under the event's identifier
-touched-own : (T : Table) (id : ℕ) (l : List Call) {J : Judged} → Fits T id l J → (i : ℕ) → touched J ≡ At i → slot l i .«open» ≡ true → slot l i .correlation ≡ id
+touched-own : (T : Table) (id : ℕ) (l : List Call) {J : Judged} → JudgedFits T id l J → (i : ℕ) → touched J ≡ At i → slot l i .«open» ≡ true → slot l i .correlation ≡ id
 touched-own T id l (stops n) i t o = missing-at i t
 touched-own T id l (opensAt j c d w) i t o =
     clash (slot l i .«open») o (subst (λ (n : ℕ). slot l n .«open» ≡ false) (at-at j i t) (not-true (slot l j .«open») (found-passes isFree l j (w .lowest))))
@@ -286,7 +286,7 @@ unfolding release stepOf
 release-kept id n l i h = untouched l n (judgeRelease id l) i (λ t. clash (isCall id (slot l i)) (go (judgeRelease id l) refl t) h)
   where
     go : (J : Judged) → judgeRelease id l ≡ J → touched J ≡ At i → isCall id (slot l i) ≡ true
-    go (Stop m) e t = missing-at i t
+    go (Refused m) e t = missing-at i t
     go (Opens j c d) e t = absurd (released-never id l j c d e)
     go (Goes j c d) e t =
         subst (λ (k : ℕ). isCall id (slot l k) ≡ true) (at-at j i t) (found-passes (isCall id) l j (released-goes id l j c d e .isOwn))
@@ -322,7 +322,7 @@ module _ (T : Table) (id : ℕ) (l : List Call) (i : ℕ) (o : slot l i .«open�
       go false true z y r = inl y
       go false false z y r = clash (slot l i .«open») o r
 
-  emptied : (p : ℕ) {J : Judged} → Fits T id l J → slot (slotsAfter J p l) i .«open» ≡ false → Emptied id l p J i
+  emptied : (p : ℕ) {J : Judged} → JudgedFits T id l J → slot (slotsAfter J p l) i .«open» ≡ false → Emptied id l p J i
   emptied p (stops n) q = clash (slot l i .«open») o q
   emptied p (opensAt j c d w) q =
       untouched-open p (Opens j c d)
@@ -372,7 +372,7 @@ release-freed T id n l k i o q =
 -- ---- what changes no call
 same-slots : (T : Table) (f : Frame) (l : List Call) (p : ℕ) (J : Judged) → judgeOf T f l ≡ J → (numberOf J p ≡ 0 → ⊥) →
     (endsCall (numberOf J p) ≡ false) ⊎ (f .kind ≡ 1) → slotsAfter J p l ≡ l
-same-slots T f l p (Stop n) e h w = refl
+same-slots T f l p (Refused n) e h w = refl
 same-slots T f l p (Opens j c d) e h w = rw (ne-eqb p 0 h)
 same-slots T f l p (Goes i c d) e h w = ⊎-elim (λ (q : endsCall p ≡ false). rw (ne-eqb p 0 h, q)) (λ k. absurd (judged-goes T f l i c d e .isOther k)) w
 
@@ -389,7 +389,7 @@ unfolding release stepOf
 release-same id n l k = go (judgeRelease id l)
   where
     go : (J : Judged) → (numberOf J n ≡ 0 → ⊥) → slotsAfter J n l ≡ l
-    go (Stop m) h = refl
+    go (Refused m) h = refl
     go (Opens j c d) h = rw (ne-eqb n 0 h)
     go (Goes i c d) h = rw (ne-eqb n 0 h, k)
 
@@ -438,10 +438,10 @@ module _ (T : Table) (f : Frame) (l : List Call) where
   spares-other none = (lit≤ tt, lit≤ tt)
   spares-other (one c) =
       let m = methodRow T (c .method) in
-      let next = goes (afterFrame (rowOf (m .form)) (f .kind) c) (payloadOf m (f .kind)) in
+      let next = goes (afterFrame (rowOfForm (m .form)) (f .kind) c) (payloadOf m (f .kind)) in
       let late = stop (notAllowed (f .kind) c) in
       let few = cond (atLimit (f .kind) c) (stop 17) next in
-      let may = allowed (rowOf (m .form)) (f .kind) c in
+      let may = allowed (rowOfForm (m .form)) (f .kind) c in
       cond-case Spares (named (f .«package») (f .service) (f .method) m) (cond may few late) (stop 12)
       (λ _. cond-case Spares may few late (λ _. cond-case Spares (atLimit (f .kind) c) (stop 17) next (λ _. (lit≤ tt, lit≤ tt)) (λ _. tt))
       (λ _. spares-late (c .cancelled && (leb 4 (f .kind) && leb (f .kind) 7))))
@@ -460,17 +460,17 @@ module _ (T : Table) (f : Frame) (l : List Call) where
   spares = rw (judged-by T f l) (spares-verdict (ownOf (f .correlation) l) (full l))
 
   -- A refusal before the payload has a number from 8 to 17.
-  pub stop-number : (n : ℕ) → judgeOf T f l ≡ Stop n → (8 ≤ n) × (n ≤ 17)
+  pub stop-number : (n : ℕ) → judgeOf T f l ≡ Refused n → (8 ≤ n) × (n ≤ 17)
   unfolding Spares
   stop-number n e = subst (λ (J : Judged). Spares (verdict J)) e spares
 
   module _ (g : GoodTable T l) (other : f .kind ≡ 1 → ⊥) where
     ended-own : (p : ℕ) (J : Judged) → judgeOf T f l ≡ J → endsCall (numberOf J p) ≡ true → ownOf (f .correlation) (slotsAfter J p l) ≡ none
-    ended-own p (Stop n) e t = absurd (spared (stop-number n e) (ends-iff n .0 t))
+    ended-own p (Refused n) e t = absurd (spared (stop-number n e) (ends-iff n .0 t))
     ended-own p (Opens j c d) e t = absurd (other (judged-opens T f l j c d e .isInvoke))
     ended-own p (Goes i c d) e t =
         let z : eqb p 0 ≡ false = ne-eqb p 0 (λ q. clash (endsCall p) t (rw q none-ended)) in
-        stepped-own T (f .correlation) l g p (subst (Fits T (f .correlation) l) e (frame-fits T f l)) ∙ rw (z, t)
+        stepped-own T (f .correlation) l g p (subst (JudgedFits T (f .correlation) l) e (frame-fits T f l)) ∙ rw (z, t)
 
     -- A payload refusal ends the open call.
     pub refused-ends : (reading : Payload → ℕ) →
@@ -514,7 +514,7 @@ cancel-marked T f l g k reading z i t = go (judgeOf T f l) refl z
         rw e (ap (set l i) (now ∙ next (uncancelled (rw k at (w .isAllowed)))))
 
     go : (J : Judged) → judgeOf T f l ≡ J → numberOf J (reading (dueOf J)) ≡ 0 → slotsAfter J (reading (dueOf J)) l ≡ set l i (withMark true own)
-    go (Stop n) e q = absurd (omega (arith, stop-number T f l n e .0, q))
+    go (Refused n) e q = absurd (omega (arith, stop-number T f l n e .0, q))
     go (Opens j c d) e q = absurd (omega (arith, k, judged-opens T f l j c d e .isInvoke))
     go (Goes j c d) e q =
         let w = judged-goes T f l j c d e in
@@ -553,8 +553,8 @@ error-due T f own b e = go (rightSide (f .side) (f .kind)) (eqb (f .kind) 1) (ne
     other none = refl
     other (one c) =
         let m = methodRow T (c .method) in
-        call (named (f .«package») (f .service) (f .method) m) (allowed (rowOf (m .form)) (f .kind) c) (atLimit (f .kind) c)
-        (afterFrame (rowOf (m .form)) (f .kind) c) (payloadOf m (f .kind)) (notAllowed (f .kind) c) (error-payload m (f .kind) e)
+        call (named (f .«package») (f .service) (f .method) m) (allowed (rowOfForm (m .form)) (f .kind) c) (atLimit (f .kind) c)
+        (afterFrame (rowOfForm (m .form)) (f .kind) c) (payloadOf m (f .kind)) (notAllowed (f .kind) c) (error-payload m (f .kind) e)
 
     go : (a q : Bool) → q ≡ false → (own : Own) →
         verdictDue (cond a (cond q (invokeVerdict T (f .correlation) (findMethod T (f .«package») (f .service) (f .method)) own b) (otherVerdict T f own)) (stop 8)) ≡ Unread

@@ -16,7 +16,7 @@ use Rattle.calls.specs.declared.Frame.{Frame}
 use Rattle.calls.specs.declared.Payload.{Payload}
 use Rattle.calls.specs.declared.Payload.the-variants.{Unread}
 use Rattle.calls.specs.declared.Judged.the-variants.{Opens, Goes}
-use Rattle.calls.specs.Forms.{rowOf}
+use Rattle.calls.specs.Forms.{rowOfForm}
 use Rattle.calls.specs.Record.{isCall, isFree, emptyCall, openedCall, allowed, notAllowed, atLimit, afterFrame}
 use Rattle.calls.specs.Slots.{slot, firstSlot, slotOf, Own, none, one, recordAt, ownOf, full, formRow}
 use Rattle.calls.specs.Judge.{rightSide, payloadOf, Verdict, stop, opens, goes, openVerdict, invokeVerdict, callVerdict, otherVerdict, verdictOf, releaseVerdict, placed, slotFor, judgeOf, judgeRelease}
@@ -109,7 +109,7 @@ module _ (T : Table) (f : Frame) where
   -- the others
   module _ (m : Method) (x : Call) where
     abbrev next : Verdict
-    next = goes (afterFrame (rowOf (m .form)) (f .kind) x) (payloadOf m (f .kind))
+    next = goes (afterFrame (rowOfForm (m .form)) (f .kind) x) (payloadOf m (f .kind))
 
     -- below the element limit
     abbrev few : Verdict
@@ -122,9 +122,9 @@ module _ (T : Table) (f : Frame) where
     isNamed = named (f .«package») (f .service) (f .method) m
 
     abbrev may : Bool
-    may = allowed (rowOf (m .form)) (f .kind) x
+    may = allowed (rowOfForm (m .form)) (f .kind) x
 
-    call-goes : (c : Call) (d : Payload) → callVerdict m f x ≡ goes c d → (may ≡ true) × (atLimit (f .kind) x ≡ false) × (c ≡ afterFrame (rowOf (m .form)) (f .kind) x)
+    call-goes : (c : Call) (d : Payload) → callVerdict m f x ≡ goes c d → (may ≡ true) × (atLimit (f .kind) x ≡ false) × (c ≡ afterFrame (rowOfForm (m .form)) (f .kind) x)
     call-goes c d e =
         let r = chosen may few late (λ q. differ cc) (chosen isNamed (cond may few late) (stop 12) (λ q. differ cc) e .1) in
         let w = passed-over (atLimit (f .kind) x) (stop 17) next (λ q. differ cc) (r .1) in

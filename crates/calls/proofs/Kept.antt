@@ -13,7 +13,7 @@ use Rattle.calls.specs.declared.FormRow.{FormRow}
 use Rattle.calls.specs.declared.Frame.{Frame}
 use Rattle.calls.specs.declared.Payload.{Payload}
 use Rattle.calls.specs.declared.Judged.{Judged}
-use Rattle.calls.specs.declared.Judged.the-variants.{Stop, Opens, Goes}
+use Rattle.calls.specs.declared.Judged.the-variants.{Refused, Opens, Goes}
 use Rattle.calls.specs.Numbers.{endsCall}
 use Rattle.calls.specs.Record.{emptyCall, openedCall, isCall, isFree, complete, allowed, isInput, isOutput, counting, marked, ends, afterFrame}
 use Rattle.calls.specs.Slots.{slot, firstSlot, formRow, goodTable}
@@ -217,19 +217,19 @@ module _ (T : Table) (id : ℕ) (l : List Call) where
     pub good : GoodCall T (slot l i) → c .«open» ≡ true → GoodCall T c
     pub zero : c .«open» ≡ false → c ≡ emptyCall
 
-  pub data Fits : Judged → Type 0 where
-    stops : (n : ℕ) → Fits (Stop n)
-    opens : (j : ℕ) (c : Call) (d : Payload) → Starts j c → Fits (Opens j c d)
-    goes : (i : ℕ) (c : Call) (d : Payload) → Moves i c → Fits (Goes i c d)
+  pub data JudgedFits : Judged → Type 0 where
+    stops : (n : ℕ) → JudgedFits (Refused n)
+    opens : (j : ℕ) (c : Call) (d : Payload) → Starts j c → JudgedFits (Opens j c d)
+    goes : (i : ℕ) (c : Call) (d : Payload) → Moves i c → JudgedFits (Goes i c d)
 
-pub frame-fits : (T : Table) (f : Frame) (l : List Call) → Fits T (f .correlation) l (judgeOf T f l)
+pub frame-fits : (T : Table) (f : Frame) (l : List Call) → JudgedFits T (f .correlation) l (judgeOf T f l)
 frame-fits T f l = go (judgeOf T f l) refl
   where
     id : ℕ
     id = f .correlation
 
-    go : (J : Judged) → judgeOf T f l ≡ J → Fits T id l J
-    go (Stop n) e = stops n
+    go : (J : Judged) → judgeOf T f l ≡ J → JudgedFits T id l J
+    go (Refused n) e = stops n
     go (Opens j c d) e =
         let w = judged-opens T f l j c d e in
         let known = found-named T (f .«package») (f .service) (f .method) (w .method) (w .isMethod) .0 in
@@ -254,11 +254,11 @@ frame-fits T f l = go (judgeOf T f l) refl
           zero = λ o. w .isNext ∙ zero-after T (f .kind) own (subst (λ (x : Call). x .«open» ≡ false) (w .isNext) o);
         })
 
-pub release-fits : (T : Table) (id : ℕ) (l : List Call) → Fits T id l (judgeRelease id l)
+pub release-fits : (T : Table) (id : ℕ) (l : List Call) → JudgedFits T id l (judgeRelease id l)
 release-fits T id l = go (judgeRelease id l) refl
   where
-    go : (J : Judged) → judgeRelease id l ≡ J → Fits T id l J
-    go (Stop n) e = stops n
+    go : (J : Judged) → judgeRelease id l ≡ J → JudgedFits T id l J
+    go (Refused n) e = stops n
     go (Opens j c d) e = absurd (released-never id l j c d e)
     go (Goes i c d) e =
         let w = released-goes id l i c d e in
@@ -282,7 +282,7 @@ module _ (T : Table) (id : ℕ) (l : List Call) (g : GoodTable T l) where
       good-set T l g i (found-in (isCall id) l i (w .isOwn)) c (w .good (g .calls i o)) (w .zero)
       (λ q k n p e. n (g .differ k i p o (e ∙ w .same q ∙ sym (call-id id own here))))
 
-  good-step : (p : ℕ) {J : Judged} → Fits T id l J → GoodTable T (slotsAfter J p l)
+  good-step : (p : ℕ) {J : Judged} → JudgedFits T id l J → GoodTable T (slotsAfter J p l)
   good-step p (stops n) = g
   good-step p (opens j c d w) = go (eqb p 0)
     where
@@ -297,7 +297,7 @@ module _ (T : Table) (id : ℕ) (l : List Call) (g : GoodTable T l) where
       go false false = g
 
 slots-length : (p : ℕ) (J : Judged) (l : List Call) → length (slotsAfter J p l) ≡ length l
-slots-length p (Stop n) l = refl
+slots-length p (Refused n) l = refl
 slots-length p (Opens j c d) l = go (eqb p 0)
   where
     go : (b : Bool) → length (cond b (set l j c) l) ≡ length l

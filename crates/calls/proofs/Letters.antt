@@ -6,7 +6,7 @@ use Prim.Native.Nat.{ℕ, _<_}
 use lib.Dec.{T}
 use Rattle.wire.proofs.Table.{both, split, at}
 use Rattle.calls.specs.declared.FormRow.{FormRow}
-use Rattle.calls.specs.Forms.{rowOf, lettersRow}
+use Rattle.calls.specs.Forms.{rowOfForm, lettersRow}
 
 abbrev same : Bool → Bool → Bool
 same true b = b
@@ -38,8 +38,8 @@ forms : List ℕ
 forms = 0 ∷ 1 ∷ 2 ∷ 3 ∷ 4 ∷ 5 ∷ 6 ∷ 7 ∷ 8 ∷ 9 ∷ 10 ∷ 11 ∷ 12 ∷ 13 ∷ 14 ∷ 15 ∷ []
 
 right : ℕ → ℕ → Bool
-right form x = sameRow (rowOf form) (lettersRow form)
+right form x = sameRow (rowOfForm form) (lettersRow form)
 
-pub by-letters : (form : ℕ) → form < 16 → rowOf form ≡ lettersRow form
-unfolding rowOf forms right
-by-letters form h = sameRow-is (rowOf form) (lettersRow form) (at right forms tt form h)
+pub by-letters : (form : ℕ) → form < 16 → rowOfForm form ≡ lettersRow form
+unfolding rowOfForm forms right
+by-letters form h = sameRow-is (rowOfForm form) (lettersRow form) (at right forms tt form h)

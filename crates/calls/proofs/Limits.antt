@@ -16,7 +16,7 @@ use Rattle.calls.specs.declared.Call.{Call}
 use Rattle.calls.specs.declared.Frame.{Frame}
 use Rattle.calls.specs.declared.Payload.{Payload}
 use Rattle.calls.specs.declared.Judged.{Judged}
-use Rattle.calls.specs.declared.Judged.the-variants.{Stop, Opens, Goes}
+use Rattle.calls.specs.declared.Judged.the-variants.{Refused, Opens, Goes}
 use Rattle.calls.specs.Numbers.{endsCall}
 pub use Rattle.calls.specs.Limits.{Few, FewIn}
 use Rattle.calls.specs.Record.{emptyCall, isCall, isInput, isOutput, atLimit, counting, marked, ends}
@@ -61,7 +61,7 @@ module _ {most : ℕ} where
   -- the records that a step writes
   stepped-few : (l : List Call) (p : ℕ) (J : Judged) → FewIn most l → ((j : ℕ) (c : Call) (d : Payload) → J ≡ Opens j c d → Few most c)
       → ((i : ℕ) (c : Call) (d : Payload) → J ≡ Goes i c d → Few most c) → FewIn most (slotsAfter J p l)
-  stepped-few l p (Stop n) h f g = h
+  stepped-few l p (Refused n) h f g = h
   stepped-few l p (Opens j c d) h f g = cond-case (FewIn most) (eqb p 0) (set l j c) l (λ _. set-few l j c (f j c d refl) h) (λ _. h)
   stepped-few l p (Goes i c d) h f g =
       cond-case (FewIn most) (eqb p 0) (set l i c) (cond (endsCall p) (set l i emptyCall) l) (λ _. set-few l i c (g i c d refl) h)

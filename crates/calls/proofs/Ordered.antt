@@ -23,7 +23,7 @@ use Rattle.calls.specs.declared.Payload.the-variants.{Unread}
 use Rattle.calls.specs.declared.Figure.{Figure}
 use Rattle.calls.specs.declared.Figure.the-variants.{Nothing, Opened, Completed, Errored, Cancelled, Failed}
 use Rattle.calls.specs.declared.Rise.{Rise}
-use Rattle.calls.specs.Forms.{letter, lettersRow, rowOf}
+use Rattle.calls.specs.Forms.{letter, lettersRow, rowOfForm}
 use Rattle.calls.specs.Numbers.{endsCall, EndsCall, payload, many-pairs}
 use Rattle.calls.specs.Record.{implies, emptyCall, openedCall, isCall, complete, allowed, notAllowed, isInput, isOutput, atLimit, counting, marked, ends, afterFrame}
 use Rattle.calls.specs.Slots.{slot, firstSlot, holds, Own, none, one, recordAt, ownOf, full}
@@ -36,7 +36,7 @@ use Rattle.calls.specs.Event as event
 use Rattle.calls.specs.Apart.{verdictDue, verdictNumber, kept, verdictOwn, verdictRise, verdictReleaseRise}
 use Rattle.calls.specs.Figures.{acceptedAs, eventAs, methodIn}
 use Rattle.calls.specs.Belongs.{Belongs}
-use Rattle.calls.specs.Order.{cancelled, MayCome, inStream, inClose, outStream, outClose, response, error, cancel, Crosses, whole, over, Elements, noElements, times, TooMany, inputs, outputs}
+use Rattle.calls.specs.Order.{cancelled, MayCome, inStream, inClose, outStream, outClose, response, error, cancel, Crosses, allCame, over, Elements, noElements, times, TooMany, inputs, outputs}
 use Rattle.calls.specs.Order.{Past, closed, since, Heard, continued, accepted, after, Marks, Reflects, nothing, call}
 use Rattle.calls.specs.Order.{Ruling, refused, comes, Ruled, wrongSide, unknown, already, noRoom, opens as opensCall, notOpen, differ, notNow, dropped, tooMany, goes as goesOn}
 use Rattle.calls.specs.Order.{Releases, noCall, notCancelled, released}
@@ -167,7 +167,7 @@ module _ (form : ℕ) (before : Elements) (h : List ℕ) (c : Call) (m : ℕ) (w
           noError = rw p (w .noError);
         }
 
-    whole-next : complete row (marked kind c) ≡ whole form (kind ∷ h)
+    whole-next : complete row (marked kind c) ≡ allCame form (kind ∷ h)
     whole-next =
         let r : (c .responded || eqb kind 6) ≡ (eqb kind 6 || holds 6 h) = or-comm (c .responded) (eqb kind 6) ∙ ap (λ (b : Bool). eqb kind 6 || b) (w .responded) in
         let i : (c .«input_closed» || eqb kind 3) ≡ (eqb kind 3 || holds 3 h) = or-comm (c .«input_closed») (eqb kind 3) ∙ ap (λ (b : Bool). eqb kind 3 || b) (w .inputClosed) in
@@ -220,8 +220,8 @@ module _ (T : Table) (g : GoodSchema T) (f : Frame) (b : Bool) where
 
   -- the ruling is the one by the past, and whatever number the payload has, the record afterwards reflects the past afterwards, and what rises is what
   -- the event counts as
-  abbrev Fits : Past → Own → Verdict → Type 0
-  Fits past own v =
+  abbrev VerdictFits : Past → Own → Verdict → Type 0
+  VerdictFits past own v =
       Ruled T f b past (rulingOf v)
       × ((p : ℕ) → Reflects (after T (heard v p) past) (verdictOwn v p own))
       × ((p : ℕ) → CountsAs T (frame f) past (verdictRise (f .kind) own v) (verdictNumber v p))
@@ -283,11 +283,11 @@ module _ (T : Table) (g : GoodSchema T) (f : Frame) (b : Bool) where
     belongs n e =
         invoke-belongs T (g .fewTypes) (methodRow T n) (g .methods n (found-named T (f .«package») (f .service) (f .method) n e .0))
 
-    invoked : (past : Past) (own : Own) → Reflects past own → (m : Found) → found ≡ m → Fits past own (invokeVerdict T (f .correlation) m own b)
+    invoked : (past : Past) (own : Own) → Reflects past own → (m : Found) → found ≡ m → VerdictFits past own (invokeVerdict T (f .correlation) m own b)
     invoked past own r Missing e = (unknown past s k e, λ p. stays 9 (lit≤ tt) (lit≤ tt) r, λ p. nowhere 9 (lit≤ tt) (lit≤ tt) past)
     invoked closed none nothing (At n) e = go b refl
       where
-        go : (x : Bool) → b ≡ x → Fits closed none (invokeVerdict T (f .correlation) (At n) none x)
+        go : (x : Bool) → b ≡ x → VerdictFits closed none (invokeVerdict T (f .correlation) (At n) none x)
         go true q = (noRoom n s k e q, λ p. stays 13 (lit≤ tt) (lit≤ tt) nothing, λ p. nowhere 13 (lit≤ tt) (lit≤ tt) closed)
         go false q = (opensCall n _ s k e q (belongs n e), λ p. opening n p e, λ p. opens-counted n p e)
     invoked (since m x h) (one c) (call _ _ _ _ w) (At n) e = (
@@ -302,45 +302,45 @@ module _ (T : Table) (g : GoodSchema T) (f : Frame) (b : Bool) where
       abbrev form : ℕ
       form = methodRow T m .form
 
-      letters : rowOf form ≡ lettersRow form
+      letters : rowOfForm form ≡ lettersRow form
       letters = let few = g .methods m known .form in by-letters form (omega arith)
 
       bounds : (2 ≤ f .kind) × (f .kind ≤ 8)
       bounds = other-kind (f .side) (f .kind) s n
 
-      over-is : ends (rowOf form) (f .kind) c ≡ over form (f .kind ∷ h)
+      over-is : ends (rowOfForm form) (f .kind) c ≡ over form (f .kind ∷ h)
       over-is = ap (λ (r : FormRow). ends r (f .kind) c) letters ∙ ends-over form before h c m w (f .kind)
 
       -- a frame that does not end the call is no ERROR
-      not-last : (k : ℕ) → ends (rowOf form) k c ≡ true → ends (rowOf form) (f .kind) c ≡ false → eqb (f .kind) k ≡ false
-      not-last k t z = ne-eqb (f .kind) k (λ e. clash (ends (rowOf form) (f .kind) c) (subst (λ (x : ℕ). ends (rowOf form) x c ≡ true) (sym e) t) z)
+      not-last : (k : ℕ) → ends (rowOfForm form) k c ≡ true → ends (rowOfForm form) (f .kind) c ≡ false → eqb (f .kind) k ≡ false
+      not-last k t z = ne-eqb (f .kind) k (λ e. clash (ends (rowOfForm form) (f .kind) c) (subst (λ (x : ℕ). ends (rowOfForm form) x c ≡ true) (sym e) t) z)
 
-      continues : Reflects (continued T (f .kind) (since m before h)) (kept (afterFrame (rowOf form) (f .kind) c))
-      continues = rw (← over-is) (go (ends (rowOf form) (f .kind) c) refl)
+      continues : Reflects (continued T (f .kind) (since m before h)) (kept (afterFrame (rowOfForm form) (f .kind) c))
+      continues = rw (← over-is) (go (ends (rowOfForm form) (f .kind) c) refl)
         where
-          go : (z : Bool) → ends (rowOf form) (f .kind) c ≡ z →
+          go : (z : Bool) → ends (rowOfForm form) (f .kind) c ≡ z →
               Reflects (cond z closed (since m before (f .kind ∷ h))) (kept (cond z emptyCall (marked (f .kind) c)))
           go true e = nothing
           go false e = call m before (f .kind ∷ h) (marked (f .kind) c) (marks-next form before h c m w (f .kind) (not-last 7 refl e))
 
       going : (p : ℕ) →
-          Reflects (after T (record { event = frame f; number = p }) (since m before h)) (cond (eqb p 0) (kept (afterFrame (rowOf form) (f .kind) c)) (cond (endsCall p) none (one c)))
+          Reflects (after T (record { event = frame f; number = p }) (since m before h)) (cond (eqb p 0) (kept (afterFrame (rowOfForm form) (f .kind) c)) (cond (endsCall p) none (one c)))
       going p = go (eqb p 0) (endsCall p)
         where
           go : (x y : Bool) →
-              Reflects (cond x (accepted T (frame f) (since m before h)) (cond y closed (since m before h))) (cond x (kept (afterFrame (rowOf form) (f .kind) c)) (cond y none (one c)))
+              Reflects (cond x (accepted T (frame f) (since m before h)) (cond y closed (since m before h))) (cond x (kept (afterFrame (rowOfForm form) (f .kind) c)) (cond y none (one c)))
           go true y = rw (ne-eqb (f .kind) 1 n) continues
           go false true = nothing
           go false false = call m before h c w
 
       -- what an accepted frame counts as, by the kinds and by the record
-      accepted-as : acceptedAs T (f .kind) (since m before h) ≡ ending (f .kind) c (afterFrame (rowOf form) (f .kind) c)
+      accepted-as : acceptedAs T (f .kind) (since m before h) ≡ ending (f .kind) c (afterFrame (rowOfForm form) (f .kind) c)
       accepted-as = go (eqb (f .kind) 7) refl
         where
           next : Call
-          next = afterFrame (rowOf form) (f .kind) c
+          next = afterFrame (rowOfForm form) (f .kind) c
 
-          completes : complete (rowOf form) (marked (f .kind) c) ≡ whole form (f .kind ∷ h)
+          completes : complete (rowOfForm form) (marked (f .kind) c) ≡ allCame form (f .kind ∷ h)
           completes = ap (λ (r : FormRow). complete r (marked (f .kind) c)) letters ∙ whole-next form before h c m w (f .kind)
 
           last : (z : Bool) → cond z Completed Nothing ≡ cond ((cond z emptyCall (marked (f .kind) c)) .«open») Nothing Completed
@@ -348,27 +348,27 @@ module _ (T : Table) (g : GoodSchema T) (f : Frame) (b : Bool) where
           last false = refl
 
           go : (q : Bool) → eqb (f .kind) 7 ≡ q →
-              cond q (cond (cancelled h) Cancelled Errored) (cond (whole form (f .kind ∷ h)) Completed Nothing)
+              cond q (cond (cancelled h) Cancelled Errored) (cond (allCame form (f .kind ∷ h)) Completed Nothing)
               ≡ cond q (cond (c .cancelled) Cancelled Errored) (cond (next .«open») Nothing Completed)
           go true e = ap (λ (b : Bool). cond b Cancelled Errored) (sym (w .isCancelled))
-          go false e = rw (e, ← completes) (last (complete (rowOf form) (marked (f .kind) c)))
+          go false e = rw (e, ← completes) (last (complete (rowOfForm form) (marked (f .kind) c)))
 
-      counted : (p : ℕ) → CountsAs T (frame f) (since m before h) (verdictRise (f .kind) (one c) (goes (afterFrame (rowOf form) (f .kind) c) (payloadOf (methodRow T m) (f .kind)))) p
+      counted : (p : ℕ) → CountsAs T (frame f) (since m before h) (verdictRise (f .kind) (one c) (goes (afterFrame (rowOfForm form) (f .kind) c) (payloadOf (methodRow T m) (f .kind)))) p
       unfolding figureBy
       counted p = (ap (λ (x : Figure). cond (eqb p 0) x (cond (endsCall p) Failed Nothing)) accepted-as, inr (ap At (sym (w .method))))
 
-      called : Fits (since m before h) (one c) (callVerdict (methodRow T m) f c)
-      called = go (named (f .«package») (f .service) (f .method) (methodRow T m)) (allowed (rowOf form) (f .kind) c) (atLimit (f .kind) c) refl refl refl
+      called : VerdictFits (since m before h) (one c) (callVerdict (methodRow T m) f c)
+      called = go (named (f .«package») (f .service) (f .method) (methodRow T m)) (allowed (rowOfForm form) (f .kind) c) (atLimit (f .kind) c) refl refl refl
         where
           next : Verdict
-          next = goes (afterFrame (rowOf form) (f .kind) c) (payloadOf (methodRow T m) (f .kind))
+          next = goes (afterFrame (rowOfForm form) (f .kind) c) (payloadOf (methodRow T m) (f .kind))
 
           same-call : Reflects (since m before h) (one c)
           same-call = call m before h c w
 
-          go : (x y z : Bool) → named (f .«package») (f .service) (f .method) (methodRow T m) ≡ x → allowed (rowOf form) (f .kind) c ≡ y
+          go : (x y z : Bool) → named (f .«package») (f .service) (f .method) (methodRow T m) ≡ x → allowed (rowOfForm form) (f .kind) c ≡ y
               → atLimit (f .kind) c ≡ z
-              → Fits (since m before h) (one c) (cond x (cond y (cond z (stop 17) next) (stop (notAllowed (f .kind) c))) (stop 12))
+              → VerdictFits (since m before h) (one c) (cond x (cond y (cond z (stop 17) next) (stop (notAllowed (f .kind) c))) (stop 12))
           go true true true p q l =
               let may = may-come form before h c m w (f .kind) (bounds .0) (bounds .1) (rw letters at q) in (
                 tooMany m before h s n p may (limited form before h c m w (f .kind) l),
@@ -381,7 +381,7 @@ module _ (T : Table) (g : GoodSchema T) (f : Frame) (b : Bool) where
               (goesOn m before h _ s n p may few (payload-belongs T (g .fewTypes) (methodRow T m) (g .methods m known) h may), going, counted)
           go true false z p q l =
               let bar : allowed (lettersRow form) (f .kind) c ≡ false = rw letters at q in
-              late form before h c m w (λ k. Fits (since m before h) (one c) (stop k)) (f .kind) bar
+              late form before h c m w (λ k. VerdictFits (since m before h) (one c) (stop k)) (f .kind) bar
               (λ x. (
                 dropped m before h s p x,
                 λ k. stays 16 (lit≤ tt) (lit≤ tt) same-call,
@@ -398,18 +398,18 @@ module _ (T : Table) (g : GoodSchema T) (f : Frame) (b : Bool) where
             λ k. nowhere 12 (lit≤ tt) (lit≤ tt) (since m before h),
           )
 
-    other : (past : Past) (own : Own) → Known T own → Reflects past own → Fits past own (otherVerdict T f own)
+    other : (past : Past) (own : Own) → Known T own → Reflects past own → VerdictFits past own (otherVerdict T f own)
     unfolding Known
     other closed none known nothing = (notOpen s n, λ p. stays 11 (lit≤ tt) (lit≤ tt) nothing, λ p. nowhere 11 (lit≤ tt) (lit≤ tt) closed)
     other (since m x h) (one c) known (call _ _ _ _ w) =
-        subst (λ (k : ℕ). Fits (since m x h) (one c) (callVerdict (methodRow T k) f c)) (sym (w .method)) (called m (rw (w .method) at known) x h c w)
+        subst (λ (k : ℕ). VerdictFits (since m x h) (one c) (callVerdict (methodRow T k) f c)) (sym (w .method)) (called m (rw (w .method) at known) x h c w)
 
-  every : (past : Past) (own : Own) → Known T own → Reflects past own → Fits past own (verdictOf T f own b)
+  every : (past : Past) (own : Own) → Known T own → Reflects past own → VerdictFits past own (verdictOf T f own b)
   unfolding verdictOf
   every past own known r = go right refl (eqb (f .kind) 1) refl
     where
       go : (x : Bool) → right ≡ x → (y : Bool) → eqb (f .kind) 1 ≡ y →
-          Fits past own (cond x (cond y (invokeVerdict T (f .correlation) found own b) (otherVerdict T f own)) (stop 8))
+          VerdictFits past own (cond x (cond y (invokeVerdict T (f .correlation) found own b) (otherVerdict T f own)) (stop 8))
       go true s true k = invoked s (eqb-true (f .kind) 1 k) past own r found refl
       go true s false k = other s (eqb-false (f .kind) 1 k) past own known r
       go false s y k = (wrongSide past s, λ p. stays 8 (lit≤ tt) (lit≤ tt) r, λ p. nowhere 8 (lit≤ tt) (lit≤ tt) past)

@@ -18,7 +18,7 @@ use Rattle.calls.specs.Forms.{letter, lettersRow}
 use Rattle.calls.specs.Record.{implies, isCall}
 use Rattle.calls.specs.Slots.{slot, firstSlot, formRow, holds, ownOf}
 use Rattle.calls.specs.Good.{GoodCall, GoodTable}
-use Rattle.calls.specs.Order.{cancelled, MayCome, inStream, inClose, outStream, outClose, response, error, cancel, whole, over, Came, begun, next, Elements, times, closed, since, Lawful, idle, calling, Marks, nothing, call, Reached, PastIn}
+use Rattle.calls.specs.Order.{cancelled, MayCome, inStream, inClose, outStream, outClose, response, error, cancel, allCame, over, Came, begun, next, Elements, times, closed, since, Lawful, idle, calling, Marks, nothing, call, Reached, PastIn}
 use Rattle.calls.proofs.Bools.{imp-i, imp-e}
 use Rattle.calls.proofs.Letters.{by-letters}
 use Rattle.calls.proofs.Searches.{found-passes}
@@ -244,7 +244,7 @@ module _ (T : Table) (g : GoodSchema T) (c : Call) where
             afterResponse = rw (m .outputClosed, m .responded) (t .later);
             inputElements = rw e inputs;
             outputElements = rw e outputs;
-            notComplete = rw (e, m .responded, m .inputClosed, m .outputClosed) (or-false (holds 7 h) (whole form h) (t .notOver) .1);
+            notComplete = rw (e, m .responded, m .inputClosed, m .outputClosed) (or-false (holds 7 h) (allCame form h) (t .notOver) .1);
           }
 
   -- The record of an open call is good exactly where the rules allow kinds that leave its marks.

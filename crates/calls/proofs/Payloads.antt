@@ -18,7 +18,7 @@ use Rattle.calls.specs.declared.Call.{Call}
 use Rattle.calls.specs.declared.Frame.{Frame}
 use Rattle.calls.specs.declared.Payload.{Payload}
 use Rattle.calls.specs.declared.Payload.the-variants.{Struct, Empty, Unread}
-use Rattle.calls.specs.Forms.{rowOf}
+use Rattle.calls.specs.Forms.{rowOfForm}
 use Rattle.calls.specs.Record.{isCall, openedCall, allowed, notAllowed, atLimit, afterFrame}
 use Rattle.calls.specs.Slots.{slot, firstSlot, Own, none, one, recordAt, ownOf, full}
 use Rattle.calls.specs.Judge.{rightSide, typed, payloadOf, Verdict, stop, goes, openVerdict, invokeVerdict, otherVerdict, verdictOf, judgeOf}
@@ -89,9 +89,9 @@ module _ (s : List ℕ) (g : IsGood s) (f : Frame) where
   call-sound : (c : Call) → c .method < length (T .methods) → Sound T (verdictDue (otherVerdict T f (one c)))
   call-sound c known =
       let m = methodRow T (c .method) in
-      let next = goes (afterFrame (rowOf (m .form)) (f .kind) c) (payloadOf m (f .kind)) in
+      let next = goes (afterFrame (rowOfForm (m .form)) (f .kind) c) (payloadOf m (f .kind)) in
       let late = stop (notAllowed (f .kind) c) in
-      let may = allowed (rowOf (m .form)) (f .kind) c in
+      let may = allowed (rowOfForm (m .form)) (f .kind) c in
       let full = atLimit (f .kind) c in
       let few = cond full (stop 17) next in
       cond-case (λ (v : Verdict). Sound T (verdictDue v)) (named (f .«package») (f .service) (f .method) m) (cond may few late) (stop 12)

@@ -18,7 +18,7 @@ use Rattle.calls.specs.declared.Call.{Call}
 use Rattle.calls.specs.declared.Frame.{Frame}
 use Rattle.calls.specs.declared.Payload.{Payload}
 use Rattle.calls.specs.declared.Judged.{Judged}
-use Rattle.calls.specs.declared.Judged.the-variants.{Stop, Opens, Goes}
+use Rattle.calls.specs.declared.Judged.the-variants.{Refused, Opens, Goes}
 use Rattle.calls.specs.declared.Tally.{Tally}
 use Rattle.calls.specs.declared.Figure.{Figure}
 use Rattle.calls.specs.declared.Figure.the-variants.{Nothing, Opened, Completed, Errored, Cancelled, Failed}
@@ -43,7 +43,7 @@ use Rattle.calls.proofs.Apart.{judged-by, released-by}
 module _ (T : Table) (f : Frame) (l : List Call) where
   by-own : (J : Judged) → judgeOf T f l ≡ J → riseOf (f .kind) l J ≡ verdictRise (f .kind) (ownOf (f .correlation) l) (verdict J)
   unfolding riseOf
-  by-own (Stop n) e = refl
+  by-own (Refused n) e = refl
   by-own (Opens j c d) e = refl
   by-own (Goes i c d) e = rw (own-at l (f .correlation) i (judged-goes T f l i c d e .isOwn))
 
@@ -54,7 +54,7 @@ module _ (T : Table) (f : Frame) (l : List Call) where
 module _ (id : ℕ) (l : List Call) where
   released-own : (J : Judged) → judgeRelease id l ≡ J → releaseRise l J ≡ verdictReleaseRise (ownOf id l) (verdict J)
   unfolding releaseRise
-  released-own (Stop n) e = refl
+  released-own (Refused n) e = refl
   released-own (Opens j c d) e = refl
   released-own (Goes i c d) e = rw (own-at l id i (released-goes id l i c d e .isOwn))
 
@@ -260,13 +260,13 @@ module _ (T : Table) (f : Frame) (l : List Call) (m : ℕ) where
 
   frame-follows : (p : ℕ) (J : Judged) → judgeOf T f l ≡ J → Follows m (riseOf (f .kind) l J) (numberOf J p) l (slotsAfter J p l)
   unfolding riseOf
-  frame-follows p (Stop n) e = stop-follows m n l
+  frame-follows p (Refused n) e = stop-follows m n l
   frame-follows p (Opens j c d) e = opens-follows p j c d e
   frame-follows p (Goes i c d) e = goes-follows i c d e p
 
 release-follows : (id : ℕ) (l : List Call) (m p : ℕ) → endsCall p ≡ false → (J : Judged) → judgeRelease id l ≡ J → Follows m (releaseRise l J) (numberOf J p) l (slotsAfter J p l)
 unfolding releaseRise figureBy opensBy closesBy
-release-follows id l m p n (Stop k) e = stop-follows m k l
+release-follows id l m p n (Refused k) e = stop-follows m k l
 release-follows id l m p n (Opens j c d) e = absurd (released-never id l j c d e)
 release-follows id l m p n (Goes i c d) e =
     let w = released-goes id l i c d e in
@@ -287,13 +287,13 @@ release-follows id l m p n (Goes i c d) e =
 -- The payload's number and the answer's raise the same.
 pub figure-answered : (kind : ℕ) (l : List Call) (J : Judged) (p : ℕ) → figureBy (riseOf kind l J) (numberOf J p) ≡ figureBy (riseOf kind l J) p
 unfolding riseOf
-figure-answered kind l (Stop n) p = no-figure n ∙ sym (no-figure p)
+figure-answered kind l (Refused n) p = no-figure n ∙ sym (no-figure p)
 figure-answered kind l (Opens j c d) p = refl
 figure-answered kind l (Goes i c d) p = refl
 
 pub release-figure : (l : List Call) (J : Judged) (p : ℕ) → figureBy (releaseRise l J) (numberOf J p) ≡ figureBy (releaseRise l J) p
 unfolding releaseRise
-release-figure l (Stop n) p = no-figure n ∙ sym (no-figure p)
+release-figure l (Refused n) p = no-figure n ∙ sym (no-figure p)
 release-figure l (Opens j c d) p = no-figure p ∙ sym (no-figure p)
 release-figure l (Goes i c d) p = refl
 
@@ -304,7 +304,7 @@ Known T r = (r ≡ noRise) ⊎ (r .row < length (T .methods))
 module _ (T : Table) (l : List Call) (g : GoodTable T l) where
   frame-row : (f : Frame) (J : Judged) → judgeOf T f l ≡ J → Known T (riseOf (f .kind) l J)
   unfolding riseOf
-  frame-row f (Stop n) e = inl refl
+  frame-row f (Refused n) e = inl refl
   frame-row f (Opens j c d) e =
       let w = judged-opens T f l j c d e in
       inr (subst (λ (x : Call). x .method < length (T .methods)) (sym (w .isNew)) (found-named T (f .«package») (f .service) (f .method) (w .method) (w .isMethod) .0))
@@ -317,7 +317,7 @@ module _ (T : Table) (l : List Call) (g : GoodTable T l) where
 
   release-row : (id : ℕ) (J : Judged) → judgeRelease id l ≡ J → Known T (releaseRise l J)
   unfolding releaseRise
-  release-row id (Stop n) e = inl refl
+  release-row id (Refused n) e = inl refl
   release-row id (Opens j c d) e = inl refl
   release-row id (Goes i c d) e =
       let o = call-open id (slot l i) (found-passes (isCall id) l i (released-goes id l i c d e .isOwn)) in

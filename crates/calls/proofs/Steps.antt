@@ -11,16 +11,16 @@ use Rattle.wire.proofs.Cases.{differ}
 use Rattle.calls.specs.declared.Call.{Call}
 use Rattle.calls.specs.declared.Payload.{Payload}
 use Rattle.calls.specs.declared.Judged.{Judged}
-use Rattle.calls.specs.declared.Judged.the-variants.{Stop, Opens, Goes}
+use Rattle.calls.specs.declared.Judged.the-variants.{Refused, Opens, Goes}
 use Rattle.calls.specs.declared.Change.{Change}
 use Rattle.calls.specs.Numbers.{endsCall}
 use Rattle.calls.specs.Record.{emptyCall}
 use Rattle.calls.specs.Step.{slotsAfter, Changes}
 
-opens-stop : {A : Type 0} {i n : ℕ} {c : Call} {d : Payload} → Opens i c d ≡ Stop n → A
+opens-stop : {A : Type 0} {i n : ℕ} {c : Call} {d : Payload} → Opens i c d ≡ Refused n → A
 opens-stop e = differ cc
 
-goes-stop : {A : Type 0} {i n : ℕ} {c : Call} {d : Payload} → Goes i c d ≡ Stop n → A
+goes-stop : {A : Type 0} {i n : ℕ} {c : Call} {d : Payload} → Goes i c d ≡ Refused n → A
 goes-stop e = differ cc
 
 past-last : (l : List Call) (c : Call) → length l ≡ 128 → set l 128 c ≡ l
@@ -30,7 +30,7 @@ past-last l c h = set-out l 128 c (omega arith)
 abbrev at : ℕ → Call → Change
 at i c = record { slot = i; call = c }
 
-pub changes-stop : (J : Judged) (p n : ℕ) → J ≡ Stop n → Changes J p (at 128 emptyCall)
+pub changes-stop : (J : Judged) (p n : ℕ) → J ≡ Refused n → Changes J p (at 128 emptyCall)
 changes-stop J p n e = record { after = λ l h. rw e (past-last l emptyCall h); nowhere = λ m q. refl }
 
 module _ (J : Judged) (p i : ℕ) (c : Call) (d : Payload) where

@@ -12,7 +12,7 @@ use Rattle.calls.specs.declared.Frame.{Frame}
 use Rattle.calls.specs.declared.Payload.{Payload}
 use Rattle.calls.specs.declared.Payload.the-variants.{Unread}
 use Rattle.calls.specs.declared.Judged.{Judged}
-use Rattle.calls.specs.declared.Judged.the-variants.{Stop, Opens, Goes}
+use Rattle.calls.specs.declared.Judged.the-variants.{Refused, Opens, Goes}
 use Rattle.calls.specs.declared.Figure.the-variants.{Nothing, Opened, Cancelled, Failed}
 use Rattle.calls.specs.declared.Rise.{Rise}
 use Rattle.calls.specs.Numbers.{endsCall}
@@ -24,7 +24,7 @@ use Rattle.calls.specs.Event.{Event, frame, release, identifier}
 
 -- A judgement without its slot.
 abbrev pub verdict : Judged → Verdict
-verdict (Stop n) = stop n
+verdict (Refused n) = stop n
 verdict (Opens j c due) = opens c due
 verdict (Goes i c due) = goes c due
 
@@ -70,7 +70,7 @@ verdictReleaseRise (one x) (goes c due) = record { row = x .method; accepted = C
 
 -- The slot that acceptance changes.
 abbrev pub touched : Judged → Found
-touched (Stop n) = Missing
+touched (Refused n) = Missing
 touched (Opens j c due) = At j
 touched (Goes i c due) = At i
 

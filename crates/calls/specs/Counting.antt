@@ -5,7 +5,7 @@ use mathlib.Core.List.{List}
 use lib.Dec.{eqb}
 use Rattle.calls.specs.declared.Call.{Call}
 use Rattle.calls.specs.declared.Judged.{Judged}
-use Rattle.calls.specs.declared.Judged.the-variants.{Stop, Opens, Goes}
+use Rattle.calls.specs.declared.Judged.the-variants.{Refused, Opens, Goes}
 use Rattle.calls.specs.declared.Tally.{Tally}
 use Rattle.calls.specs.declared.Figure.{Figure}
 use Rattle.calls.specs.declared.Figure.the-variants.{Nothing, Opened, Completed, Errored, Cancelled, Failed}
@@ -30,13 +30,13 @@ ending kind c next = cond (eqb kind 7) (cond (c .cancelled) Cancelled Errored) (
 -- A frame of this kind, judged: INVOKE counts as opened once it is accepted, and nowhere where its payload is refused; a payload refusal of a frame to an
 -- open call counts as failed.
 unfoldable pub riseOf : (kind : ℕ) → List Call → Judged → Rise
-riseOf kind l (Stop n) = noRise
+riseOf kind l (Refused n) = noRise
 riseOf kind l (Opens j c due) = record { row = c .method; accepted = Opened; refused = Nothing }
 riseOf kind l (Goes i c due) = record { row = slot l i .method; accepted = ending kind (slot l i) c; refused = Failed }
 
 -- A release, judged: it counts as cancelled.
 unfoldable pub releaseRise : List Call → Judged → Rise
-releaseRise l (Stop n) = noRise
+releaseRise l (Refused n) = noRise
 releaseRise l (Opens j c due) = noRise
 releaseRise l (Goes i c due) = record { row = slot l i .method; accepted = Cancelled; refused = Nothing }
 

@@ -15,7 +15,7 @@ use Rattle.calls.specs.declared.Figure.the-variants.{Nothing, Opened, Co
 use Rattle.calls.specs.Numbers.{endsCall}
 use Rattle.calls.specs.Record.{counting}
 use Rattle.calls.specs.Event.{Event, frame, release, identifier}
-use Rattle.calls.specs.Order.{cancelled, whole, Past, closed, since, Heard, pastOf}
+use Rattle.calls.specs.Order.{cancelled, allCame, Past, closed, since, Heard, pastOf}
 
 -- ---- one event, by the past of its identifier
 
@@ -23,7 +23,7 @@ use Rattle.calls.specs.Order.{cancelled, whole, Past, closed, since, Hea
 abbrev pub acceptedAs : Table → (kind : ℕ) → Past → Figure
 acceptedAs T kind closed = Opened
 acceptedAs T kind (since m b h) =
-    cond (eqb kind 7) (cond (cancelled h) Cancelled Errored) (cond (whole (methodRow T m .form) (kind ∷ h)) Completed Nothing)
+    cond (eqb kind 7) (cond (cancelled h) Cancelled Errored) (cond (allCame (methodRow T m .form) (kind ∷ h)) Completed Nothing)
 
 -- A payload refusal: an INVOKE counts nowhere.
 abbrev pub refusedAs : Past → Figure

@@ -34,8 +34,8 @@ tableOne =
     ∷ []
 
 -- Past the last form nothing is allowed.
-unfoldable pub rowOf : ℕ → FormRow
-rowOf form = getD tableOne form (N, N, N, N)
+unfoldable pub rowOfForm : ℕ → FormRow
+rowOfForm form = getD tableOne form (N, N, N, N)
 
 -- Form letters count 8 (input), 4 (output), 2 (input stream), 1 (output stream).
 abbrev pub letter : ℕ → ℕ → Bool

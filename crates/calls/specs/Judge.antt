@@ -14,8 +14,8 @@ use Rattle.calls.specs.declared.Frame.{Frame}
 use Rattle.calls.specs.declared.Payload.{Payload}
 use Rattle.calls.specs.declared.Payload.the-variants.{Struct, Empty, Unread}
 use Rattle.calls.specs.declared.Judged.{Judged}
-use Rattle.calls.specs.declared.Judged.the-variants.{Stop, Opens, Goes}
-use Rattle.calls.specs.Forms.{rowOf}
+use Rattle.calls.specs.declared.Judged.the-variants.{Refused, Opens, Goes}
+use Rattle.calls.specs.Forms.{rowOfForm}
 use Rattle.calls.specs.Record.{isCall, isFree, emptyCall, openedCall, allowed, notAllowed, atLimit, afterFrame}
 use Rattle.calls.specs.Slots.{firstSlot, slotOf, Own, none, one, ownOf, full}
 
@@ -62,8 +62,8 @@ invokeVerdict T id (At m) own f = openVerdict (openedCall m id) (payloadOf (meth
 abbrev pub callVerdict : Method → Frame → Call → Verdict
 callVerdict m f c =
     cond (named (f .«package») (f .service) (f .method) m)
-    (cond (allowed (rowOf (m .form)) (f .kind) c)
-    (cond (atLimit (f .kind) c) (stop 17) (goes (afterFrame (rowOf (m .form)) (f .kind) c) (payloadOf m (f .kind))))
+    (cond (allowed (rowOfForm (m .form)) (f .kind) c)
+    (cond (atLimit (f .kind) c) (stop 17) (goes (afterFrame (rowOfForm (m .form)) (f .kind) c) (payloadOf m (f .kind))))
     (stop (notAllowed (f .kind) c)))
     (stop 12)
 
@@ -93,7 +93,7 @@ releaseVerdict (one c) = cond (c .cancelled) (goes emptyCall Unread) (stop 14)
 -- ---- the slot
 
 abbrev pub placed : ℕ → Verdict → Judged
-placed i (stop n) = Stop n
+placed i (stop n) = Refused n
 placed i (opens c due) = Opens i c due
 placed i (goes c due) = Goes i c due
 

@@ -48,12 +48,12 @@ pub record Crosses (h : List ℕ) (kind : ℕ) : Type 0 where
   pub noError : kind ≡ 7 → ⊥
 
 -- A call is complete after RESPONSE and the close of each stream it has.
-abbrev pub whole : (form : ℕ) → List ℕ → Bool
-whole form h = holds 6 h && (implies (letter 2 form) (holds 3 h) && implies (letter 1 form) (holds 5 h))
+abbrev pub allCame : (form : ℕ) → List ℕ → Bool
+allCame form h = holds 6 h && (implies (letter 2 form) (holds 3 h) && implies (letter 1 form) (holds 5 h))
 
 -- ERROR ends it at once.
 abbrev pub over : (form : ℕ) → List ℕ → Bool
-over form h = holds 7 h || whole form h
+over form h = holds 7 h || allCame form h
 
 -- Kinds in an order that the rules allow, of a call that is not over: each might come when it came, and none ended the call.
 pub data Came (form : ℕ) : List ℕ → Type 0 where

@@ -13,7 +13,7 @@ use Rattle.calls.specs.declared.CallTable.{CallTable}
 use Rattle.calls.specs.declared.FormRow.{FormRow}
 pub use Rattle.calls.specs.declared.Own.{Own}
 pub use Rattle.calls.specs.declared.Own.the-variants.{None as none, One as one}
-use Rattle.calls.specs.Forms.{rowOf}
+use Rattle.calls.specs.Forms.{rowOfForm}
 use Rattle.calls.specs.Record.{emptyCall, isCall, isFree, goodOpen, zeroCall}
 
 -- The table at the start: 128 equal empty records.
@@ -54,7 +54,7 @@ countOpen (x ∷ xs) = cond (x .«open») (suc (countOpen xs)) (countOpen xs)
 
 -- The row of a call's form.
 abbrev pub formRow : Table → Call → FormRow
-formRow T c = rowOf (methodRow T (c .method) .form)
+formRow T c = rowOfForm (methodRow T (c .method) .form)
 
 -- ---- good
 

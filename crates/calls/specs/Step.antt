@@ -11,7 +11,7 @@ use Rattle.calls.specs.declared.Frame.{Frame}
 use Rattle.calls.specs.declared.Payload.{Payload}
 use Rattle.calls.specs.declared.Payload.the-variants.{Unread}
 use Rattle.calls.specs.declared.Judged.{Judged}
-use Rattle.calls.specs.declared.Judged.the-variants.{Stop, Opens, Goes}
+use Rattle.calls.specs.declared.Judged.the-variants.{Refused, Opens, Goes}
 use Rattle.calls.specs.declared.Stepped.{Stepped}
 use Rattle.calls.specs.declared.Change.{Change}
 use Rattle.calls.specs.Numbers.{endsCall}
@@ -20,13 +20,13 @@ use Rattle.calls.specs.Judge.{judgeOf, judgeRelease}
 
 -- The answer's number: the judgement's, or else the payload's.
 abbrev pub numberOf : Judged → (payload : ℕ) → ℕ
-numberOf (Stop n) p = n
+numberOf (Refused n) p = n
 numberOf (Opens j c due) p = p
 numberOf (Goes i c due) p = p
 
 -- The records afterwards, where p is 0 for a payload that is right. An INVOKE refused for its payload opens none.
 abbrev pub slotsAfter : Judged → (payload : ℕ) → List Call → List Call
-slotsAfter (Stop n) p l = l
+slotsAfter (Refused n) p l = l
 slotsAfter (Opens j c due) p l = cond (eqb p 0) (set l j c) l
 slotsAfter (Goes i c due) p l = cond (eqb p 0) (set l i c) (cond (endsCall p) (set l i emptyCall) l)
 
@@ -36,13 +36,13 @@ stepOf J p l = record { number = numberOf J p; table = record { slots = slotsAft
 -- What the answer to a judgement changes, for every table of 128 records; none is changed by a judgement that stops.
 pub record Changes (J : Judged) (payload : ℕ) (change : Change) : Type 0 where
   pub after : (l : List Call) → length l ≡ 128 → set l (change .slot) (change .call) ≡ slotsAfter J payload l
-  pub nowhere : (n : ℕ) → J ≡ Stop n → change .slot ≡ 128
+  pub nowhere : (n : ℕ) → J ≡ Refused n → change .slot ≡ 128
 
 -- ---- a frame from its judgement to the next table
 
 -- What the payload of a judged frame holds; that of a refused one is not read.
 abbrev pub dueOf : Judged → Payload
-dueOf (Stop n) = Unread
+dueOf (Refused n) = Unread
 dueOf (Opens j c due) = due
 dueOf (Goes i c due) = due
 

@@ -1,7 +1,8 @@
 // Table 1 of the draft, one row a form.
 use crate::FormRow;
+use constants::limit;
 ghost use mathlib.Core.Path.{_≡_};
-ghost use Rattle.calls.specs.Forms.{tableOne, rowOf};
+ghost use Rattle.calls.specs.Forms.{tableOne, rowOfForm};
 
 const Y: bool = true;
 
@@ -29,9 +30,9 @@ pub const TABLE_1: [FormRow; 16] = [
 // The row of a form in that table; there is none past 15, and nothing is allowed then. A caller in a loop lays the table out once.
 pub fn row_in(table: [FormRow; 16], form: u32) -> FormRow
     requires { ⌜ table ≡ tableOne ⌝ }
-    ensures { λ r. ⌜ r ≡ rowOf form ⌝ }
+    ensures { λ r. ⌜ r ≡ rowOfForm form ⌝ }
 {
-    if form < 16 {
+    if form < limit::FORMS {
         let i = form as usize;
         table[i]
     } else {
@@ -40,7 +41,7 @@ pub fn row_in(table: [FormRow; 16], form: u32) -> FormRow
 }
 
 pub fn row_of(form: u32) -> FormRow
-    ensures { λ r. ⌜ r ≡ rowOf form ⌝ }
+    ensures { λ r. ⌜ r ≡ rowOfForm form ⌝ }
 {
     row_in(TABLE_1, form)
 }

@@ -4,6 +4,7 @@ use crate::CallTable;
 use crate::FormRow;
 use crate::forms::TABLE_1;
 use crate::forms::row_in;
+use constants::limit;
 use schema::access::method;
 use schema::access::method_count;
 ghost use mathlib.Core.Path.{_≡_};
@@ -74,10 +75,10 @@ impl CallTable {
         ensures { λ r. ⌜ r ≡ goodTable (tableOf (now (s .entry))) (self .slots) ⌝ }
     {
         let table = TABLE_1;
-        let mut ids = [0u64; 128];
+        let mut ids = [0u64; limit::CALLS];
         let mut n: usize = 0;
         let mut i: usize = 0;
-        while i < 128 {
+        while i < limit::CALLS {
             let call = self.slots[i];
             if !call.is_good(s, table) {
                 return false;

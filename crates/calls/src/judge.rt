@@ -7,6 +7,11 @@ use crate::Payload;
 use crate::Seat;
 use crate::forms::row_of;
 use crate::record::EMPTY;
+use constants::format;
+use constants::frame_kind;
+use constants::limit;
+use constants::refusal;
+use constants::side;
 use schema::Found;
 use schema::Method;
 use schema::access::find_method;
@@ -23,15 +28,18 @@ ghost use Rattle.calls.specs.Seats.{judgedAt};
 pub fn right_side(side: u8, kind: u8) -> bool
     ensures { λ r. ⌜ r ≡ rightSide side kind ⌝ }
 {
-    ((side == 67) & (((1 <= kind) & (kind <= 3)) | (kind == 8)))
-        | ((side == 83) & ((4 <= kind) & (kind <= 7)))
+    ((side == side::CLIENT)
+        & (((frame_kind::INVOKE <= kind) & (kind <= frame_kind::IN_CLOSE))
+            | (kind == frame_kind::CANCEL)))
+        | ((side == side::SERVER)
+            & ((frame_kind::OUT_STREAM <= kind) & (kind <= frame_kind::ERROR)))
 }
 
 // What a type number of a method asks for: a value of that struct, or for 4294967295 nothing.
 fn of_type(t: u32) -> Payload
     ensures { λ r. ⌜ r ≡ typed t ⌝ }
 {
-    if t == 4294967295 {
+    if t == format::NO_TYPE {
         Payload::Empty
     } else {
         Payload::Struct(t)
@@ -43,11 +51,11 @@ pub fn payload_of(m: Method, kind: u8) -> Payload
     ensures { λ r. ⌜ r ≡ payloadOf m kind ⌝ }
 {
     match kind {
-        1 => of_type(m.input),
-        2 => of_type(m.input_stream),
-        4 => of_type(m.output_stream),
-        6 => of_type(m.output),
-        7 => Payload::Unread,
+        frame_kind::INVOKE => of_type(m.input),
+        frame_kind::IN_STREAM => of_type(m.input_stream),
+        frame_kind::OUT_STREAM => of_type(m.output_stream),
+        frame_kind::RESPONSE => of_type(m.output),
+        frame_kind::ERROR => Payload::Unread,
         _ => Payload::Empty,
     }
 }
@@ -58,7 +66,7 @@ fn slot_of(found: Found) -> usize
 {
     match found {
         Found::At(i) => i,
-        Found::Missing => 128,
+        Found::Missing => limit::CALLS,
     }
 }
 
@@ -68,14 +76,14 @@ impl Call {
         ensures { λ r. ⌜ r ≡ placed i (callVerdict m f self) ⌝ }
     {
         if !is_named(m, f.package, f.service, f.method) {
-            return Judged::Stop(12);
+            return Judged::Refused(refusal::OTHER_METHOD);
         }
         let row = row_of(m.form);
         if !self.allows(row, f.kind) {
-            return Judged::Stop(self.not_allowed(f.kind));
+            return Judged::Refused(self.not_allowed(f.kind));
         }
         if self.at_limit(f.kind) {
-            return Judged::Stop(17);
+            return Judged::Refused(refusal::TOO_MANY_ELEMENTS);
         }
         Judged::Goes(i, self.after(row, f.kind), payload_of(m, f.kind))
     }
@@ -89,10 +97,10 @@ impl Seat {
         let own = self.own;
         let slot = self.slot;
         match own {
-            Own::One(_) => Judged::Stop(10),
+            Own::One(_) => Judged::Refused(refusal::CALL_OPEN),
             Own::None => match slot {
                 Found::At(j) => Judged::Opens(j, new, payload),
-                Found::Missing => Judged::Stop(13),
+                Found::Missing => Judged::Refused(refusal::TOO_MANY_CALLS),
             },
         }
     }
@@ -102,9 +110,9 @@ impl Seat {
         ensures { λ r. ⌜ r ≡ placed (slotOf (self .slot)) (invokeVerdict (tableOf (now (s .entry))) (f .correlation) (methodOf (tableOf (now (s .entry))) f) (self .own) (isMissing (self .slot))) ⌝ }
     {
         match find_method(s, f.package, f.service, f.method) {
-            Found::Missing => Judged::Stop(9),
+            Found::Missing => Judged::Refused(refusal::UNKNOWN_METHOD),
             Found::At(m) => {
-                let payload = payload_of(method(s, m), 1);
+                let payload = payload_of(method(s, m), frame_kind::INVOKE);
                 self.judge_opening(Call::opened(m as u32, f.correlation), payload)
             }
         }
@@ -117,7 +125,7 @@ impl Seat {
         let own = self.own;
         let slot = self.slot;
         match own {
-            Own::None => Judged::Stop(11),
+            Own::None => Judged::Refused(refusal::CALL_NOT_OPEN),
             Own::One(call) => call.judge(method(s, call.method as usize), f, slot_of(slot)),
         }
     }
@@ -128,9 +136,9 @@ impl Seat {
         ensures { λ r. ⌜ r ≡ judgedAt (tableOf (now (s .entry))) f self ⌝ }
     {
         if !right_side(f.side, f.kind) {
-            return Judged::Stop(8);
+            return Judged::Refused(refusal::WRONG_SIDE);
         }
-        if f.kind == 1 {
+        if f.kind == frame_kind::INVOKE {
             self.judge_invoke(s, f)
         } else {
             self.judge_other(s, f)
@@ -144,12 +152,12 @@ impl Seat {
         let own = self.own;
         let slot = self.slot;
         match own {
-            Own::None => Judged::Stop(11),
+            Own::None => Judged::Refused(refusal::CALL_NOT_OPEN),
             Own::One(call) => {
                 if call.cancelled {
                     Judged::Goes(slot_of(slot), EMPTY, Payload::Unread)
                 } else {
-                    Judged::Stop(14)
+                    Judged::Refused(refusal::NOT_NOW)
                 }
             }
         }

@@ -8,6 +8,7 @@ pub mod slots;
 pub mod step;
 pub mod tallies;
 
+use constants::limit;
 use schema::Found;
 
 // The record of a call. A free slot is zero in every member.
@@ -26,7 +27,7 @@ pub struct Call {
 }
 
 pub struct CallTable {
-    pub slots: [Call; 128],
+    pub slots: [Call; limit::CALLS],
 }
 
 // A row of the draft's Table 1: whether the form allows IN_STREAM, IN_CLOSE, OUT_STREAM and OUT_CLOSE.
@@ -64,7 +65,7 @@ pub struct Seat {
 // A frame judged before its payload is read; or a release, which reads nothing.
 pub enum Judged {
     // It is refused with this number.
-    Stop(u32),
+    Refused(u32),
     // It opens a call at this slot, with this record.
     Opens(usize, Call, Payload),
     // It goes to the open call at this slot, whose record is this one once the frame is accepted.

@@ -1,4 +1,5 @@
 // What the number that is answered to a frame means for its call and for its bytes.
+use constants::refusal;
 ghost use mathlib.Core.Path.{_≡_};
 ghost use Rattle.calls.specs.Numbers.{endsCall, usesFrame};
 
@@ -6,12 +7,15 @@ ghost use Rattle.calls.specs.Numbers.{endsCall, usesFrame};
 pub fn ends_call(number: u32) -> bool
     ensures { λ r. ⌜ r ≡ endsCall number ⌝ }
 {
-    ((20 <= number) & (number <= 29)) | (number == 31)
+    ((refusal::CUT <= number) & (number <= refusal::UNDUE_PAYLOAD))
+        | (number == refusal::MAP_TOO_LONG)
 }
 
 // The frame's bytes are used.
 pub fn uses_frame(number: u32) -> bool
     ensures { λ r. ⌜ r ≡ usesFrame number ⌝ }
 {
-    (number == 0) | (((8 <= number) & (number <= 14)) | ((number == 16) | ends_call(number)))
+    (number == refusal::ACCEPTED)
+        | (((refusal::WRONG_SIDE <= number) & (number <= refusal::NOT_NOW))
+            | ((number == refusal::DROPPED) | ends_call(number)))
 }

@@ -1,6 +1,9 @@
 // The record of a call: all that depends on its members.
 use crate::Call;
 use crate::FormRow;
+use constants::frame_kind;
+use constants::limit;
+use constants::refusal;
 ghost use mathlib.Core.Path.{_≡_};
 ghost use mathlib.Core.Bool.{true, false};
 ghost use Prim.Native.Nat.{_<_};
@@ -68,23 +71,26 @@ impl Call {
     pub fn allows(self, row: FormRow, kind: u8) -> bool
         ensures { λ r. ⌜ r ≡ allowed row kind self ⌝ }
     {
-        (kind == 7)
+        (kind == frame_kind::ERROR)
             | (!self.cancelled
-                & (((kind == 2) & (row.0 & !self.input_closed))
-                    | (((kind == 3) & (row.1 & !self.input_closed))
-                        | (((kind == 4) & (row.2 & (self.responded & !self.output_closed)))
-                            | (((kind == 5) & (row.3 & (self.responded & !self.output_closed)))
-                                | (((kind == 6) & !self.responded) | (kind == 8)))))))
+                & (((kind == frame_kind::IN_STREAM) & (row.0 & !self.input_closed))
+                    | (((kind == frame_kind::IN_CLOSE) & (row.1 & !self.input_closed))
+                        | (((kind == frame_kind::OUT_STREAM)
+                            & (row.2 & (self.responded & !self.output_closed)))
+                            | (((kind == frame_kind::OUT_CLOSE)
+                                & (row.3 & (self.responded & !self.output_closed)))
+                                | (((kind == frame_kind::RESPONSE) & !self.responded)
+                                    | (kind == frame_kind::CANCEL)))))))
     }
 
     // The number of a frame that is not allowed now: a server frame of a cancelled call is dropped.
     pub fn not_allowed(self, kind: u8) -> u32
         ensures { λ r. ⌜ r ≡ notAllowed kind self ⌝ }
     {
-        if self.cancelled & ((4 <= kind) & (kind <= 7)) {
-            16
+        if self.cancelled & ((frame_kind::OUT_STREAM <= kind) & (kind <= frame_kind::ERROR)) {
+            refusal::DROPPED
         } else {
-            14
+            refusal::NOT_NOW
         }
     }
 
@@ -92,8 +98,8 @@ impl Call {
     pub fn at_limit(self, kind: u8) -> bool
         ensures { λ r. ⌜ r ≡ atLimit kind self ⌝ }
     {
-        ((kind == 2) & (self.input_elements == 65535))
-            | ((kind == 4) & (self.output_elements == 65535))
+        ((kind == frame_kind::IN_STREAM) & (self.input_elements == limit::ELEMENTS))
+            | ((kind == frame_kind::OUT_STREAM) & (self.output_elements == limit::ELEMENTS))
     }
 
     // The record with the mark of an accepted frame, and a stream element counted.
@@ -105,12 +111,12 @@ impl Call {
             correlation: self.correlation,
             method: self.method,
             open: true,
-            responded: self.responded | (kind == 6),
-            input_closed: self.input_closed | (kind == 3),
-            output_closed: self.output_closed | (kind == 5),
-            cancelled: self.cancelled | (kind == 8),
-            input_elements: more(self.input_elements, kind == 2),
-            output_elements: more(self.output_elements, kind == 4),
+            responded: self.responded | (kind == frame_kind::RESPONSE),
+            input_closed: self.input_closed | (kind == frame_kind::IN_CLOSE),
+            output_closed: self.output_closed | (kind == frame_kind::OUT_CLOSE),
+            cancelled: self.cancelled | (kind == frame_kind::CANCEL),
+            input_elements: more(self.input_elements, kind == frame_kind::IN_STREAM),
+            output_elements: more(self.output_elements, kind == frame_kind::OUT_STREAM),
         }
     }
 
@@ -120,7 +126,7 @@ impl Call {
         ensures { λ r. ⌜ r ≡ afterFrame row kind self ⌝ }
     {
         let next = self.mark(kind);
-        if (kind == 7) | next.is_complete(row) {
+        if (kind == frame_kind::ERROR) | next.is_complete(row) {
             EMPTY
         } else {
             next

@@ -4,6 +4,7 @@ use crate::CallTable;
 use crate::Own;
 use crate::Seat;
 use crate::record::EMPTY;
+use constants::limit;
 use schema::Found;
 ghost use mathlib.Core.Path.{_≡_};
 ghost use Prim.Native.Nat.{_≤_};
@@ -18,7 +19,7 @@ impl CallTable {
         ensures { λ r. ⌜ r ≡ freshTable ⌝ }
     {
         CallTable {
-            slots: [EMPTY; 128],
+            slots: [EMPTY; limit::CALLS],
         }
     }
 
@@ -26,14 +27,18 @@ impl CallTable {
     pub fn at(self, i: usize) -> Call
         ensures { λ r. ⌜ r ≡ slot (self .slots) i ⌝ }
     {
-        if i < 128 { self.slots[i] } else { EMPTY }
+        if i < limit::CALLS {
+            self.slots[i]
+        } else {
+            EMPTY
+        }
     }
 
     // The table with another record at a slot; past the last nothing changes.
     pub fn with_slot(self, i: usize, call: Call) -> CallTable
         ensures { λ r. ⌜ r .slots ≡ set (self .slots) i call ⌝ }
     {
-        if i < 128 {
+        if i < limit::CALLS {
             let mut next = self;
             next.slots[i] = call;
             next
@@ -47,7 +52,7 @@ impl CallTable {
         ensures { λ r. ⌜ r ≡ firstSlot (isCall id) 0 (self .slots) ⌝ }
     {
         let mut i: usize = 0;
-        while i < 128 {
+        while i < limit::CALLS {
             let call = self.slots[i];
             if call.is_call(id) {
                 return Found::At(i);
@@ -62,7 +67,7 @@ impl CallTable {
         ensures { λ r. ⌜ r ≡ firstSlot isFree 0 (self .slots) ⌝ }
     {
         let mut i: usize = 0;
-        while i < 128 {
+        while i < limit::CALLS {
             let call = self.slots[i];
             if call.is_free() {
                 return Found::At(i);
@@ -100,7 +105,7 @@ impl CallTable {
     {
         let mut n: usize = 0;
         let mut i: usize = 0;
-        while i < 128 {
+        while i < limit::CALLS {
             if self.slots[i].open {
                 n += 1;
             }

@@ -5,6 +5,8 @@ use crate::Judged;
 use crate::Stepped;
 use crate::numbers::ends_call;
 use crate::record::EMPTY;
+use constants::limit;
+use constants::refusal;
 ghost use mathlib.Core.Path.{_≡_};
 ghost use Rattle.calls.specs.Step.{numberOf, Changes, stepOf};
 
@@ -13,7 +15,7 @@ pub fn number_after(judged: Judged, payload: u32) -> u32
     ensures { λ r. ⌜ r ≡ numberOf judged payload ⌝ }
 {
     match judged {
-        Judged::Stop(n) => n,
+        Judged::Refused(n) => n,
         Judged::Opens(_, _, _) => payload,
         Judged::Goes(_, _, _) => payload,
     }
@@ -25,18 +27,18 @@ pub fn change_of(judged: Judged, payload: u32) -> Change
     ensures { λ r. ⌜ Changes judged payload r ⌝ }
 {
     let none = Change {
-        slot: 128,
+        slot: limit::CALLS,
         call: EMPTY,
     };
     match judged {
-        Judged::Stop(_) => none,
-        Judged::Opens(i, call, _) => if payload == 0 {
+        Judged::Refused(_) => none,
+        Judged::Opens(i, call, _) => if payload == refusal::ACCEPTED {
             Change { slot: i, call }
         } else {
             none
         },
         Judged::Goes(i, call, _) => {
-            if payload == 0 {
+            if payload == refusal::ACCEPTED {
                 return Change { slot: i, call };
             }
             if ends_call(payload) {

@@ -6,6 +6,9 @@ use crate::Own;
 use crate::Rise;
 use crate::Tally;
 use crate::numbers::ends_call;
+use constants::frame_kind;
+use constants::limit;
+use constants::refusal;
 ghost use mathlib.Core.Path.{_≡_};
 ghost use mathlib.Core.Bool.{false};
 ghost use Rattle.calls.specs.Counting.{noTally, ending, figureBy, figureIn, fullAt, raised};
@@ -31,7 +34,7 @@ impl Call {
     fn ending(self, kind: u8, next: Call) -> Figure
         ensures { λ r. ⌜ r ≡ ending kind self next ⌝ }
     {
-        let error = kind == 7;
+        let error = kind == frame_kind::ERROR;
         let late = self.cancelled;
         if error {
             if late {
@@ -55,7 +58,7 @@ impl Own {
         ensures { λ r. ⌜ r ≡ verdictRise kind self (verdict judged) ⌝ }
     {
         match judged {
-            Judged::Stop(_) => NO_RISE,
+            Judged::Refused(_) => NO_RISE,
             Judged::Opens(_, call, _) => Rise {
                 row: call.method as usize,
                 accepted: Figure::Opened,
@@ -77,7 +80,7 @@ impl Own {
         ensures { λ r. ⌜ r ≡ verdictReleaseRise self (verdict judged) ⌝ }
     {
         match judged {
-            Judged::Stop(_) => NO_RISE,
+            Judged::Refused(_) => NO_RISE,
             Judged::Opens(_, _, _) => NO_RISE,
             Judged::Goes(_, _, _) => match self {
                 Own::None => NO_RISE,
@@ -101,7 +104,7 @@ impl Rise {
     pub fn figure(self, number: u32) -> Figure
         ensures { λ r. ⌜ r ≡ figureBy self number ⌝ }
     {
-        if number == 0 {
+        if number == refusal::ACCEPTED {
             return self.accepted;
         }
         if ends_call(number) {
@@ -130,7 +133,7 @@ impl Tally {
     pub fn is_full(self, f: Figure) -> bool
         ensures { λ r. ⌜ r ≡ fullAt self f ⌝ }
     {
-        self.figure(f) == 4294967295
+        self.figure(f) == limit::TALLY
     }
 
     // The row with one more in a figure that is not full.

@@ -60,8 +60,8 @@ spanStep from (seen s c) = record { item = Span′.At (s .place) (s .size); next
 abbrev pub varuintAt : List ℕ → ℕ → NumberStep
 varuintAt p from = numberStep from (varUInt (cursorAt p from))
 
-abbrev pub numberAt : Width → List ℕ → ℕ → NumberStep
-numberAt width p from = numberStep from (numberOf (bytesOf width) (cursorAt p from))
+abbrev pub fixedNumberAt : Width → List ℕ → ℕ → NumberStep
+fixedNumberAt width p from = numberStep from (numberOf (bytesOf width) (cursorAt p from))
 
 abbrev pub spanAt : List ℕ → ℕ → SpanStep
 spanAt p from = spanStep from (span (cursorAt p from))

@@ -1,11 +1,12 @@
 // What stands at a place of a payload: a VarUInt, a number of a width, a span of bytes. Each answer is a step: the item, and the place to go on at.
+use constants::refusal;
 use wire::little;
 use wire::varuint;
 use wire::varuint::VarUInt;
 ghost use mathlib.Core.Path.{_≡_};
 ghost use Prim.Native.Nat.{_-_, _≤_, _<_};
 ghost use lib.ListN.{length};
-ghost use Rattle.cursor.specs.Item.{bytesOf, varuintAt, numberAt, spanAt};
+ghost use Rattle.cursor.specs.Item.{bytesOf, varuintAt, fixedNumberAt, spanAt};
 
 // A number's width in bytes: 1, 2, 4 or 8.
 pub enum Width {
@@ -59,14 +60,14 @@ pub fn varuint_at(payload: &[u8], at: usize) -> NumberStep
         },
         VarUInt::Cut => NumberStep {
             item: Number::Refused {
-                number: 20,
+                number: refusal::CUT,
                 place: at,
             },
             next: at,
         },
         VarUInt::Malformed => NumberStep {
             item: Number::Refused {
-                number: 21,
+                number: refusal::VARUINT,
                 place: at,
             },
             next: at,
@@ -88,13 +89,13 @@ fn bytes_of(width: Width) -> usize
 
 // The number of a width at a place.
 pub fn number_at(payload: &[u8], at: usize, width: Width) -> NumberStep
-    ensures { λ r. ⌜ r ≡ numberAt width (now (payload .entry)) at ⌝ }
+    ensures { λ r. ⌜ r ≡ fixedNumberAt width (now (payload .entry)) at ⌝ }
 {
     let n = bytes_of(width);
     if left_from(payload, at) < n {
         return NumberStep {
             item: Number::Refused {
-                number: 20,
+                number: refusal::CUT,
                 place: at,
             },
             next: at,
@@ -123,7 +124,7 @@ pub fn span_at(payload: &[u8], at: usize) -> SpanStep
             if (left_from(payload, step.next) as u64) < value {
                 return SpanStep {
                     item: Span::Refused {
-                        number: 20,
+                        number: refusal::CUT,
                         place: at,
                     },
                     next: at,

@@ -4,11 +4,12 @@ pub mod item;
 use crate::item::Number;
 use crate::item::Span;
 use crate::item::Width;
+use constants::refusal;
 use wire::utf8;
 ghost use mathlib.Core.Path.{_≡_};
 ghost use Prim.Native.Nat.{_-_};
 ghost use lib.ListN.{length};
-ghost use Rattle.cursor.specs.Item.{varuintAt, numberAt, spanAt, textAt};
+ghost use Rattle.cursor.specs.Item.{varuintAt, fixedNumberAt, spanAt, textAt};
 ghost use Rattle.cursor.specs.Lent.{on, movedTo};
 
 // The payload and the position in it. Beyond the payload's end nothing is left.
@@ -44,7 +45,7 @@ impl<'a> Reader<'a> {
 
     // The next number of a width.
     pub fn number(&mut self, width: Width) -> Number
-        ensures { λ n. ⌜ (n ≡ on (numberAt width) (now (self .entry)) .item) × (now (self .exit) ≡ movedTo (now (self .entry)) (on (numberAt width) (now (self .entry)) .next)) ⌝ }
+        ensures { λ n. ⌜ (n ≡ on (fixedNumberAt width) (now (self .entry)) .item) × (now (self .exit) ≡ movedTo (now (self .entry)) (on (fixedNumberAt width) (now (self .entry)) .next)) ⌝ }
     {
         let step = item::number_at(self.payload, self.at, width);
         self.at = step.next;
@@ -78,7 +79,10 @@ pub fn text_from(payload: &[u8], at: usize) -> Span
         Span::Refused { number, place } => Span::Refused { number, place },
         Span::At { place, length } => {
             if !utf8::valid(payload, place, place + length) {
-                return Span::Refused { number: 23, place };
+                return Span::Refused {
+                    number: refusal::UTF8,
+                    place,
+                };
             }
             Span::At { place, length }
         }

@@ -25,18 +25,18 @@ use Rattle.calls.specs.Good.{GoodTable}
 use Rattle.calls.proofs.Goodness.{good-clauses}
 use Rattle.calls.proofs.Kept.{test-stays, release-test}
 use Rattle.calls.proofs.Limits.{FewIn, few-stays, few-released}
-use Rattle.line.specs.Answer.{Line, line, stopped}
-use Rattle.line.specs.Receive.{received}
-use Rattle.line.specs.Release.{ReleaseLine, releaseLine, releaseAnswer, released}
-use Rattle.line.specs.Run.{Event, input, release, State, stateAfter, runFrom}
-use Rattle.line.proofs.Kept.{holds, same-length, same-rows, release-holds, release-length, release-rows}
-use Rattle.line.proofs.Answers.{refused-untouched as sheet-kept, refused-rows as rows-kept}
-use Rattle.line.proofs.Records.{refused-kept}
-use Rattle.line.proofs.Releases.{refused-kept as release-kept, refused-rows as release-rows-kept}
+use Rattle.receiver.specs.Answer.{Line, line, stopped}
+use Rattle.receiver.specs.Receive.{received}
+use Rattle.receiver.specs.Release.{ReleaseLine, releaseLine, releaseAnswer, released}
+use Rattle.receiver.specs.Run.{Event, input, release, State, stateAfter, runFrom}
+use Rattle.receiver.proofs.Kept.{holds, same-length, same-rows, release-holds, release-length, release-rows}
+use Rattle.receiver.proofs.Answers.{refused-untouched as sheet-kept, refused-rows as rows-kept}
+use Rattle.receiver.proofs.Records.{refused-kept}
+use Rattle.receiver.proofs.Releases.{refused-kept as release-kept, refused-rows as release-rows-kept}
 use Rattle.exports.specs.Cells.{stored}
 use Rattle.exports.specs.Records.{callOf, callAt, callsFrom, callsOf, marksOf, recordCells, cellsOf, plain, plainFrom, areCalls, AreCalls, rowsOf, rowCells}
 use Rattle.exports.specs.Answers.{notCalls, judgement, receiving, notReleased, releaseJudgement, releasing, callCells}
-use Rattle.exports.specs.Run.{FitsCall, Fits, Cells, stateOf, cellsAfter, runCells}
+use Rattle.exports.specs.Run.{FitsCall, CallsFit, Cells, stateOf, cellsAfter, runCells}
 use Rattle.exports.proofs.Stores.{sets-stored}
 use Rattle.exports.proofs.Tables.{calls-long}
 use Rattle.exports.proofs.Tallies.{rows-long, rows-same, rows-back}
@@ -159,7 +159,7 @@ later a b m cells i (suc n) =
     let none : 3 * suc i ≡ suc (suc (suc (3 * i))) = omega arith in
     rw (two, one, none) (ap (λ (l : List Call). callAt cells i ∷ l) (later a b m cells (suc i) n))
 
-front-back : (l : List Call) (rest : List ℕ) → Fits l → callsFrom (cellsOf l ++ rest) 0 (length l) ≡ l
+front-back : (l : List Call) (rest : List ℕ) → CallsFit l → callsFrom (cellsOf l ++ rest) 0 (length l) ≡ l
 unfolding callsFrom cellsOf
 front-back [] rest h = refl
 front-back (c ∷ cs) rest h =
@@ -180,7 +180,7 @@ unfolding stored
 stored-whole cells values h = rw (take-all (length cells) values h)
 
 -- A call table survives being stored and read back, in as many cells as it needs.
-pub table-back : (cells : List ℕ) (l : List Call) → length l ≡ 128 → Fits l → 384 ≤ length cells → callsOf (stored cells (cellsOf l)) ≡ l
+pub table-back : (cells : List ℕ) (l : List Call) → length l ≡ 128 → CallsFit l → 384 ≤ length cells → callsOf (stored cells (cellsOf l)) ≡ l
 table-back cells l n h room =
     let long = cells-long l in
     rw (stored-whole cells (cellsOf l) (omega arith), ← n) (front-back l (drop (length (cellsOf l)) cells) h)
@@ -198,13 +198,13 @@ record-small id method marks = record { method = omega arith; inputs = omega ari
 none-fits : FitsCall emptyCall
 none-fits = record { method = lit≤ tt; inputs = lit≤ tt; outputs = lit≤ tt }
 
-loaded-from : (cells : List ℕ) (i n : ℕ) → Fits (callsFrom cells i n)
+loaded-from : (cells : List ℕ) (i n : ℕ) → CallsFit (callsFrom cells i n)
 unfolding callsFrom
 loaded-from cells i zero j = none-fits
 loaded-from cells i (suc n) zero = record-small (getD cells (3 * i) 0) (getD cells (3 * i + 1) 0) (getD cells (3 * i + 2) 0)
 loaded-from cells i (suc n) (suc j) = loaded-from cells (suc i) n j
 
-pub loaded-fits : (cells : List ℕ) → Fits (callsOf cells)
+pub loaded-fits : (cells : List ℕ) → CallsFit (callsOf cells)
 loaded-fits cells = loaded-from cells 0 128
 
 -- ---- cells that are a call table
@@ -271,7 +271,7 @@ marks-small c h =
     let f = bit-small (c .cancelled) in
     omega (arith, h .inputs, h .outputs, a, b, d, e, f)
 
-front-plain : (l : List Call) (rest : List ℕ) → Fits l → plainFrom (cellsOf l ++ rest) 0 (length l) ≡ true
+front-plain : (l : List Call) (rest : List ℕ) → CallsFit l → plainFrom (cellsOf l ++ rest) 0 (length l) ≡ true
 unfolding plainFrom cellsOf
 front-plain [] rest h = refl
 front-plain (c ∷ cs) rest h =
@@ -280,7 +280,7 @@ front-plain (c ∷ cs) rest h =
     (plain-later (c .correlation) (c .method) (marksOf c) (cellsOf cs ++ rest) 0 (length cs) ∙ front-plain cs rest (λ i. h (suc i)))
 
 -- The cells of a table are a call table.
-pub stored-calls : (cells : List ℕ) (l : List Call) → length l ≡ 128 → Fits l → 384 ≤ length cells → areCalls (stored cells (cellsOf l)) ≡ true
+pub stored-calls : (cells : List ℕ) (l : List Call) → length l ≡ 128 → CallsFit l → 384 ≤ length cells → areCalls (stored cells (cellsOf l)) ≡ true
 unfolding areCalls
 stored-calls cells l n h room =
     let long = cells-long l in
@@ -319,7 +319,7 @@ refused-slots Good l = refl
 refused-slots (Faulty n q) l = refl
 
 -- A good call table of a good schema table has few methods, and no call that was read has more elements than a cell holds.
-good-fits : (T : Table) (l : List Call) → length (T .methods) ≤ 256 → GoodTable T l → FewIn 65535 l → Fits l
+good-fits : (T : Table) (l : List Call) → length (T .methods) ≤ 256 → GoodTable T l → FewIn 65535 l → CallsFit l
 good-fits T l few g h i =
     ⊎-elim
     (λ e. record { method = omega (arith, few, g .calls i e .methodExists); inputs = omega (arith, h i .inputs); outputs = omega (arith, h i .outputs) })
@@ -365,9 +365,9 @@ module _ (cells schema : List ℕ) (side : ℕ) (bytes sheet tallies : List ℕ)
     next-long : length next ≡ 128
     next-long = same-length schema side bytes sheet rows (callsOf cells) ∙ loaded-long cells
 
-    next-fits : Fits next
+    next-fits : CallsFit next
     next-fits =
-        holds schema side bytes sheet rows (callsOf cells) (λ _ l. Fits l)
+        holds schema side bytes sheet rows (callsOf cells) (λ _ l. CallsFit l)
         (λ n q e. loaded-fits cells)
         (λ f w g t reading.
         let l = callsOf cells in
@@ -482,9 +482,9 @@ module _ (cells schema : List ℕ) (id : ℕ) (tallies : List ℕ) where
     remaining-long : length remaining ≡ 128
     remaining-long = release-length schema (callsOf cells) id lent ∙ loaded-long cells
 
-    remaining-fits : Fits remaining
+    remaining-fits : CallsFit remaining
     remaining-fits =
-        release-holds schema (callsOf cells) id lent (λ _ l. Fits l)
+        release-holds schema (callsOf cells) id lent (λ _ l. CallsFit l)
         (λ n q e. loaded-fits cells)
         (λ g t n k.
         let T = tableOf schema in

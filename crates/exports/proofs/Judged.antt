@@ -10,15 +10,15 @@ use Rattle.schema.specs.Check.{checked}
 use Rattle.calls.specs.declared.Call.{Call}
 use Rattle.calls.specs.declared.Tally.{Tally}
 use Rattle.calls.specs.Counting.{noTally}
-use Rattle.line.specs.declared.Plan.{Plan}
-use Rattle.line.specs.declared.Settled.{Settled}
-use Rattle.line.specs.declared.SettledRelease.{SettledRelease}
-use Rattle.line.specs.Answer.{Line, line, rowLine, inRow, stopped}
-use Rattle.line.specs.Planning.{stopPlan, planOf, releasePlan}
-use Rattle.line.specs.Receive.{settled, received}
-use Rattle.line.specs.Release.{ReleaseLine, releaseLine, releaseAnswer, releaseSettled, released}
-use Rattle.line.proofs.Ways.{same-row}
-use Rattle.line.proofs.Lent.{within, release-within}
+use Rattle.receiver.specs.declared.Plan.{Plan}
+use Rattle.receiver.specs.declared.Settled.{Settled}
+use Rattle.receiver.specs.declared.SettledRelease.{SettledRelease}
+use Rattle.receiver.specs.Answer.{Line, line, rowLine, inRow, stopped}
+use Rattle.receiver.specs.Planning.{stopPlan, planOf, releasePlan}
+use Rattle.receiver.specs.Receive.{settled, received}
+use Rattle.receiver.specs.Release.{ReleaseLine, releaseLine, releaseAnswer, releaseSettled, released}
+use Rattle.receiver.proofs.Ways.{same-row}
+use Rattle.receiver.proofs.Lent.{within, release-within}
 use Rattle.exports.specs.Answers.{notCalls, refusedPlan, judgement, notReleased, releaseJudgement}
 
 module _ (s : List ℕ) (side : ℕ) (bytes sheet : List ℕ) (ts : List Tally) (l : List Call) where

@@ -17,19 +17,19 @@ use Rattle.schema.specs.Check.{checked}
 use Rattle.calls.specs.declared.Call.{Call}
 use Rattle.calls.specs.declared.Change.{Change}
 use Rattle.calls.specs.declared.Judged.{Judged}
-use Rattle.calls.specs.declared.Judged.the-variants.{Stop}
+use Rattle.calls.specs.declared.Judged.the-variants.{Refused as JudgedRefused}
 use Rattle.calls.specs.Step.{numberOf, slotsAfter, Changes, stepOf}
 use Rattle.calls.specs.Slots.{goodTable, countOpen}
 use Rattle.calls.specs.Judge.{judgeRelease}
 use Rattle.calls.specs.Counting.{releaseRise}
 use Rattle.calls.specs.Seats.{seatOf}
 use Rattle.reader.specs.Entry.{numbers}
-use Rattle.line.specs.declared.Done.{Done}
-use Rattle.line.specs.declared.Plan.{Plan}
-use Rattle.line.specs.declared.Next.the-variants.{Stop as Halt}
-use Rattle.line.specs.Answer.{usedOf, answerIn}
-use Rattle.line.specs.Planning.{onGood, onCalls, stopPlan, judgedPlan, tablesFault, callPlan, goodPlan, planOf, releasePlan, Fitted}
-use Rattle.line.proofs.Returns.{checkedPlan, checked-fitted, plan-faulty, plan-good, calls-fault, calls-right, call-planned}
+use Rattle.receiver.specs.declared.Done.{Done}
+use Rattle.receiver.specs.declared.Plan.{Plan}
+use Rattle.receiver.specs.declared.Next.the-variants.{Refused as NextRefused}
+use Rattle.receiver.specs.Answer.{usedOf, answerIn}
+use Rattle.receiver.specs.Planning.{onGood, onCalls, stopPlan, judgedPlan, tablesFault, callPlan, goodPlan, planOf, releasePlan, Fitted}
+use Rattle.receiver.proofs.Returns.{checkedPlan, checked-fitted, plan-faulty, plan-good, calls-fault, calls-right, call-planned}
 use Rattle.exports.specs.Records.{recordCells, marksOf, cellsOf, callsOf, areCalls, AreCalls}
 use Rattle.exports.specs.Cells.{stored}
 use Rattle.exports.specs.Answers.{refusedPlan, keptOf, callCells, Stops}
@@ -153,11 +153,11 @@ slot-stored cells i c t = go (ltb i 128) refl
 -- ---- a plan settled
 
 -- Cells that are no call table: the judgement stops.
-pub refused-stops : (known : Bool) (x p : Plan) (v : Checked) (J : Judged) → p ≡ cond known x (refusedPlan v) → ((n q : ℕ) → p .next ≡ Halt n q → J ≡ Stop n)
-    → known ≡ false → (n : ℕ) × (J ≡ Stop n)
+pub refused-stops : (known : Bool) (x p : Plan) (v : Checked) (J : Judged) → p ≡ cond known x (refusedPlan v) → ((n q : ℕ) → p .next ≡ NextRefused n q → J ≡ JudgedRefused n)
+    → known ≡ false → (n : ℕ) × (J ≡ JudgedRefused n)
 refused-stops known x p v J e f k = go v (e ∙ ap (λ (b : Bool). cond b x (refusedPlan v)) k)
   where
-    go : (v : Checked) → p ≡ refusedPlan v → (n : ℕ) × (J ≡ Stop n)
+    go : (v : Checked) → p ≡ refusedPlan v → (n : ℕ) × (J ≡ JudgedRefused n)
     go Good h = (15, f 15 0 (ap (λ (y : Plan). y .next) h))
     go (Faulty n q) h = (n, f n q (ap (λ (y : Plan). y .next) h))
 

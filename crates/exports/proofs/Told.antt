@@ -39,7 +39,7 @@ use Rattle.salvage.specs.declared.Salvaging.the-variants as salvage
 use Rattle.salvage.specs.Salvage as salvaging
 use Rattle.salvage.proofs.Statements.{refused-bounds}
 use Rattle.calls.specs.declared.Call.{Call}
-use Rattle.line.specs.declared.Received.{Received}
+use Rattle.receiver.specs.declared.Received.{Received}
 use Rattle.exports.specs.Answers.{checkCells, extendCells, frameCells, writtenCells, readNumber, readCells, writeCells, indexCells, findCells, salvageCells}
 use Rattle.exports.specs.Answers.{receiving, callCells, receivedCells, releasing, releasedCells}
 use Rattle.exports.specs.Told.{checkTold, extendTold, frameTold, writtenTold, readTold, writeTold, indexTold, findTold, salvageTold, receivedTold, releasedTold}

@@ -34,14 +34,14 @@ use Rattle.salvage.specs.Salvage.{salvageEntries, salvageBytes, salvageSpans}
 use Rattle.calls.specs.declared.Call.{Call}
 use Rattle.calls.specs.declared.Tally.{Tally}
 use Rattle.calls.specs.declared.Judged.{Judged}
-use Rattle.calls.specs.declared.Judged.the-variants.{Stop}
-use Rattle.line.specs.declared.Received.{Received}
-use Rattle.line.specs.Answer.{Line, line, stopped}
-use Rattle.line.specs.declared.Plan.{Plan}
-use Rattle.line.specs.Planning.{stopPlan}
-use Rattle.line.specs.Receive.{received}
-use Rattle.line.specs.declared.Released.{Released}
-use Rattle.line.specs.Release.{ReleaseLine, releaseLine, releaseAnswer, released}
+use Rattle.calls.specs.declared.Judged.the-variants.{Refused as JudgedRefused}
+use Rattle.receiver.specs.declared.Received.{Received}
+use Rattle.receiver.specs.Answer.{Line, line, stopped}
+use Rattle.receiver.specs.declared.Plan.{Plan}
+use Rattle.receiver.specs.Planning.{stopPlan}
+use Rattle.receiver.specs.Receive.{received}
+use Rattle.receiver.specs.declared.Released.{Released}
+use Rattle.receiver.specs.Release.{ReleaseLine, releaseLine, releaseAnswer, released}
 use Rattle.scalar.specs.declared.Scalar.{Scalar}
 use Rattle.scalar.specs.declared.Scalar.the-variants.{Truth, Signed, Unsigned, Float32, Float64, Span}
 use Rattle.scalar.specs.declared.Answer.{Answer}
@@ -137,8 +137,8 @@ writeCells (Unwritten number place) = place ∷ 0 ∷ []
 
 -- ---- scalars
 
-abbrev pub rowOf : (ty place length count : ℕ) → Row
-rowOf t p n c = record { ty = t; place = p; length = n; count = c }
+abbrev pub sheetRow : (ty place length count : ℕ) → Row
+sheetRow t p n c = record { ty = t; place = p; length = n; count = c }
 
 -- A whole number as the 64 bits of its two's complement. `negsuc n` is -(n + 1).
 abbrev pub bitsOf : ℤ → ℕ
@@ -204,7 +204,7 @@ keptOf r = record { number = r .number; used = r .used; «open» = r .«open» }
 
 -- Where the cells are no call table, the judgement stops.
 abbrev pub Stops : (table : List ℕ) → Judged → Type 0
-Stops table J = areCalls table ≡ false → (n : ℕ) × (J ≡ Stop n)
+Stops table J = areCalls table ≡ false → (n : ℕ) × (J ≡ JudgedRefused n)
 
 -- The cells afterwards: those of the next table; cells that are no call table stay as they are.
 abbrev pub callCells : (table : List ℕ) → List Call → List ℕ

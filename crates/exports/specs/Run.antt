@@ -3,7 +3,7 @@ use mathlib.Core.List.{List, [], _∷_}
 use Prim.Native.Nat.{ℕ, _<_}
 use Rattle.calls.specs.declared.Call.{Call}
 use Rattle.calls.specs.Slots.{slot}
-use Rattle.line.specs.Run.{Event, input, release, State}
+use Rattle.receiver.specs.Run.{Event, input, release, State}
 use Rattle.exports.specs.Records.{callsOf, rowsOf, rowCells}
 use Rattle.exports.specs.Answers.{receiving, releasing, callCells}
 
@@ -13,8 +13,8 @@ pub record FitsCall (c : Call) : Type 0 where
   pub inputs : c .«input_elements» < 65536
   pub outputs : c .«output_elements» < 65536
 
-abbrev pub Fits : List Call → Type 0
-Fits l = (i : ℕ) → FitsCall (slot l i)
+abbrev pub CallsFit : List Call → Type 0
+CallsFit l = (i : ℕ) → FitsCall (slot l i)
 
 -- The cells of the call table and those of the tally rows.
 pub record Cells : Type 0 where

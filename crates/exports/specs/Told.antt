@@ -25,8 +25,8 @@ use Rattle.index.specs.declared.Finding.{Finding}
 use Rattle.index.specs.declared.Finding.the-variants as find
 use Rattle.salvage.specs.declared.Salvaging.{Salvaging}
 use Rattle.salvage.specs.declared.Salvaging.the-variants as salvage
-use Rattle.line.specs.declared.Received.{Received}
-use Rattle.line.specs.declared.Released.{Released}
+use Rattle.receiver.specs.declared.Received.{Received}
+use Rattle.receiver.specs.declared.Released.{Released}
 use Rattle.scalar.specs.declared.Scalar.{Scalar}
 use Rattle.scalar.specs.declared.Scalar.the-variants.{Truth, Signed, Unsigned, Float32, Float64, Span}
 use Rattle.scalar.specs.declared.Answer.{Answer}

@@ -1,5 +1,6 @@
 // The frame reader and the frame writer.
 use crate::cells::store;
+use constants::refusal;
 use frame::FrameRead;
 use frame::FrameWritten;
 use frame::Header;
@@ -13,12 +14,12 @@ fn read_number(a: FrameRead) -> u32
     ensures { λ r. ⌜ r ≡ readNumber a ⌝ }
 {
     match a {
-        FrameRead::More => 1,
+        FrameRead::More => refusal::MORE,
         FrameRead::Frame {
             header: _,
             place: _,
             length: _,
-        } => 0,
+        } => refusal::ACCEPTED,
         FrameRead::Refused(number) => number,
     }
 }
@@ -61,7 +62,7 @@ fn write_number(a: FrameWritten) -> u32
     ensures { λ r. ⌜ r ≡ writeNumber a ⌝ }
 {
     match a {
-        FrameWritten::Written(_) => 0,
+        FrameWritten::Written(_) => refusal::ACCEPTED,
         FrameWritten::Refused(number) => number,
     }
 }

@@ -1,5 +1,6 @@
 // The index of a record, and the look-up of one call in it.
 use crate::cells::store;
+use constants::refusal;
 use index::Finding;
 use index::Indexing;
 ghost use mathlib.Core.Path.{_≡_};
@@ -12,7 +13,7 @@ fn index_number(a: Indexing) -> u32
     ensures { λ r. ⌜ r ≡ indexNumber a ⌝ }
 {
     match a {
-        Indexing::Made { length: _ } => 0,
+        Indexing::Made { length: _ } => refusal::ACCEPTED,
         Indexing::Refused { number, place: _ } => number,
     }
 }

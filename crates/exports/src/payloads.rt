@@ -1,5 +1,6 @@
 // The payload reader, the payload writer, the writer of a whole frame from a value, and the forwarding writer.
 use crate::cells::store;
+use constants::refusal;
 use frame::Header;
 use reader::Reading;
 use writer::Writing;
@@ -18,7 +19,7 @@ fn read_number(a: Reading) -> u32
             tail_place: _,
             tail_length: _,
             comparisons: _,
-        } => 0,
+        } => refusal::ACCEPTED,
         Reading::Refused { number, place: _ } => number,
     }
 }
@@ -86,7 +87,7 @@ fn write_number(a: Writing) -> u32
     ensures { λ r. ⌜ r ≡ writeNumber a ⌝ }
 {
     match a {
-        Writing::Written { length: _ } => 0,
+        Writing::Written { length: _ } => refusal::ACCEPTED,
         Writing::Refused { number, place: _ } => number,
     }
 }

@@ -1,19 +1,21 @@
 // A frame and a release judged up to the payload against the call table in cells: which tally row they ask for, and what is left to do.
 use crate::records::are_good;
 use crate::records::seat;
-use line::Front;
-use line::Plan;
-use line::planning::front;
-use line::planning::plan_call;
-use line::planning::plan_frame;
-use line::planning::stop;
-use line::planning::tables_fault;
+use constants::frame_kind;
+use constants::refusal;
+use receiver::Front;
+use receiver::Plan;
+use receiver::planning::front;
+use receiver::planning::plan_call;
+use receiver::planning::plan_frame;
+use receiver::planning::stop;
+use receiver::planning::tables_fault;
 use schema::Checked;
 use schema::check::check;
 ghost use mathlib.Core.Path.{_≡_};
 ghost use mathlib.Core.Bool.{cond};
 ghost use Rattle.schema.specs.Check.{checked};
-ghost use Rattle.line.specs.Planning.{Fitted, planOf, releasePlan};
+ghost use Rattle.receiver.specs.Planning.{Fitted, planOf, releasePlan};
 ghost use Rattle.exports.specs.Records.{callsOf, areCalls};
 ghost use Rattle.exports.specs.Answers.{refusedPlan};
 
@@ -28,7 +30,7 @@ pub fn plan(cells: &[u64], schema: &[u8], side: u8, bytes: &[u8], rows: usize) -
             Front::Stop(number) => stop(number, 0),
             Front::Whole { frame, place, end } => {
                 plan_frame(
-                    seat(cells, frame.correlation, frame.kind == 1),
+                    seat(cells, frame.correlation, frame.kind == frame_kind::INVOKE),
                     schema,
                     frame,
                     place,
@@ -47,7 +49,7 @@ pub fn plan_release(cells: &[u64], schema: &[u8], correlation: u64, rows: usize)
         Checked::Refused { number, place } => stop(number, place),
         Checked::Good => {
             let fault = tables_fault(are_good(cells, schema), schema, rows);
-            if fault != 0 {
+            if fault != refusal::ACCEPTED {
                 return stop(fault, 0);
             }
             plan_call(seat(cells, correlation, false))

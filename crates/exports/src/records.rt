@@ -6,6 +6,7 @@ use calls::Seat;
 use calls::forms::TABLE_1;
 use calls::good::distinct;
 use calls::record::EMPTY;
+use constants::limit;
 use schema::Found;
 use schema::access::method_count;
 ghost use mathlib.Core.Path.{_≡_};
@@ -20,6 +21,9 @@ ghost use Rattle.calls.specs.Record.{isCall, isFree};
 ghost use Rattle.calls.specs.Slots.{slot, recordAt, goodCall, goodTable, firstSlot, countOpen};
 ghost use Rattle.calls.specs.Seats.{seatOf};
 ghost use Rattle.exports.specs.Records.{callOf, callAt, callsOf, marksOf, recordCells, plain, areCalls};
+
+// The cells of a call table, three for each record.
+const CELLS: usize = 3 * limit::CALLS;
 
 // One cell, and 0 past the last.
 fn cell(cells: &[u64], i: usize) -> u64
@@ -65,7 +69,11 @@ fn is_plain(method: u64, marks: u64) -> bool
 pub fn slot_at(cells: &[u64], i: usize) -> Call
     ensures { λ r. ⌜ r ≡ slot (callsOf (now (cells .entry))) i ⌝ }
 {
-    if i < 128 { call_at(cells, i) } else { EMPTY }
+    if i < limit::CALLS {
+        call_at(cells, i)
+    } else {
+        EMPTY
+    }
 }
 
 // A record is good by a good schema table. A free one, and one with no mark but open, need no look at the form.
@@ -87,13 +95,13 @@ pub fn are_good(cells: &[u64], s: &[u8]) -> bool
     requires { ⌜ IsGood (now s) ⌝ }
     ensures { λ r. ⌜ r ≡ (areCalls (now (cells .entry)) && goodTable (tableOf (now (s .entry))) (callsOf (now (cells .entry)))) ⌝ }
 {
-    if cells.len() < 384 {
+    if cells.len() < CELLS {
         return false;
     }
-    let mut ids = [0u64; 128];
+    let mut ids = [0u64; limit::CALLS];
     let mut n: usize = 0;
     let mut i: usize = 0;
-    while i < 128 {
+    while i < limit::CALLS {
         let id = cells[3 * i];
         let marks = cells[3 * i + 2];
         if !is_good(s, id, cells[3 * i + 1], marks) {
@@ -129,7 +137,7 @@ fn find_in(cells: &[u64], id: u64) -> Found
     ensures { λ r. ⌜ r ≡ firstSlot (isCall id) 0 (callsOf (now (cells .entry))) ⌝ }
 {
     let mut i: usize = 0;
-    while i < 128 {
+    while i < limit::CALLS {
         if is_call(cells, i, id) {
             return Found::At(i);
         }
@@ -142,8 +150,8 @@ fn find_in(cells: &[u64], id: u64) -> Found
 pub fn find(cells: &[u64], id: u64) -> Found
     ensures { λ r. ⌜ r ≡ firstSlot (isCall id) 0 (callsOf (now (cells .entry))) ⌝ }
 {
-    if 384 <= cells.len() {
-        return find_in(&cells[..384], id);
+    if CELLS <= cells.len() {
+        return find_in(&cells[..CELLS], id);
     }
     find_in(cells, id)
 }
@@ -153,7 +161,7 @@ fn free_slot_in(cells: &[u64]) -> Found
     ensures { λ r. ⌜ r ≡ firstSlot isFree 0 (callsOf (now (cells .entry))) ⌝ }
 {
     let mut i: usize = 0;
-    while i < 128 {
+    while i < limit::CALLS {
         if !is_open(cells, i) {
             return Found::At(i);
         }
@@ -166,8 +174,8 @@ fn free_slot_in(cells: &[u64]) -> Found
 pub fn free_slot(cells: &[u64]) -> Found
     ensures { λ r. ⌜ r ≡ firstSlot isFree 0 (callsOf (now (cells .entry))) ⌝ }
 {
-    if 384 <= cells.len() {
-        return free_slot_in(&cells[..384]);
+    if CELLS <= cells.len() {
+        return free_slot_in(&cells[..CELLS]);
     }
     free_slot_in(cells)
 }
@@ -200,7 +208,7 @@ fn open_count_in(cells: &[u64]) -> usize
 {
     let mut n: usize = 0;
     let mut i: usize = 0;
-    while i < 128 {
+    while i < limit::CALLS {
         if is_open(cells, i) {
             n += 1;
         }
@@ -213,8 +221,8 @@ fn open_count_in(cells: &[u64]) -> usize
 pub fn open_count(cells: &[u64]) -> usize
     ensures { λ r. ⌜ (r ≡ countOpen (callsOf (now (cells .entry)))) × (r ≤ 128) ⌝ }
 {
-    if 384 <= cells.len() {
-        return open_count_in(&cells[..384]);
+    if CELLS <= cells.len() {
+        return open_count_in(&cells[..CELLS]);
     }
     open_count_in(cells)
 }
@@ -251,7 +259,7 @@ fn put_call(cells: &mut [u64], i: usize, call: Call)
 pub fn put_slot(cells: &mut [u64], i: usize, call: Call)
     ensures { λ _. ⌜ now (cells .exit) ≡ cond (ltb i 128) (sets (now (cells .entry)) (3 * i) (recordCells call)) (now (cells .entry)) ⌝ }
 {
-    if i < 128 {
+    if i < limit::CALLS {
         put_call(cells, i, call);
     }
 }

@@ -1,5 +1,6 @@
 // The salvage of a torn record.
 use crate::cells::store;
+use constants::refusal;
 use salvage::Salvaging;
 ghost use mathlib.Core.Path.{_≡_};
 ghost use Rattle.salvage.specs.Salvage.{salvageOf, salvageNumber};
@@ -14,7 +15,7 @@ fn salvage_number(a: Salvaging) -> u32
             entries: _,
             bytes: _,
             spans: _,
-        } => 0,
+        } => refusal::ACCEPTED,
         Salvaging::Refused { number } => number,
     }
 }

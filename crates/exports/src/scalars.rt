@@ -1,5 +1,6 @@
 // One row over its bytes as a scalar.
 use crate::cells::store;
+use constants::refusal;
 use scalar::Answer;
 use scalar::Scalar;
 use value::Row;
@@ -8,13 +9,13 @@ ghost use mathlib.Core.List.{_∷_};
 ghost use lib.Ieee.{binary32, binary64};
 ghost use Rattle.scalar.specs.Scalar.{scalarBy, numberOf};
 ghost use Rattle.exports.specs.Cells.{stored};
-ghost use Rattle.exports.specs.Answers.{bitsOf, floatBits, rowOf, valueCells, scalarCells};
+ghost use Rattle.exports.specs.Answers.{bitsOf, floatBits, sheetRow, valueCells, scalarCells};
 
 fn scalar_number(a: Answer) -> u32
     ensures { λ r. ⌜ r ≡ numberOf a ⌝ }
 {
     match a {
-        Answer::Is(_) => 0,
+        Answer::Is(_) => refusal::ACCEPTED,
         Answer::Refused { number, place: _ } => number,
     }
 }
@@ -82,8 +83,8 @@ pub extern "C" fn arf_scalar(
     bytes: &[u8],
     answer: &mut [u64],
 ) -> u32
-    ensures { λ r. ⌜ r ≡ numberOf (scalarBy (now (schema .entry)) (rowOf ty place length count) (now (bytes .entry))) ⌝ }
-    ensures { λ _. ⌜ now (answer .exit) ≡ stored (now (answer .entry)) (scalarCells (scalarBy (now (schema .entry)) (rowOf ty place length count) (now (bytes .entry)))) ⌝ }
+    ensures { λ r. ⌜ r ≡ numberOf (scalarBy (now (schema .entry)) (sheetRow ty place length count) (now (bytes .entry))) ⌝ }
+    ensures { λ _. ⌜ now (answer .exit) ≡ stored (now (answer .entry)) (scalarCells (scalarBy (now (schema .entry)) (sheetRow ty place length count) (now (bytes .entry)))) ⌝ }
 {
     let row = Row {
         ty,

@@ -6,15 +6,16 @@ use crate::records::slot_at;
 use calls::Change;
 use calls::step::change_of;
 use calls::step::number_after;
-use line::Done;
-use line::answer::number_of;
-use line::answer::used_of;
+use constants::limit;
+use receiver::Done;
+use receiver::answer::number_of;
+use receiver::answer::used_of;
 ghost use mathlib.Core.Path.{_≡_};
 ghost use mathlib.Core.Bool.{cond};
 ghost use Prim.Native.Nat.{_≤_};
 ghost use lib.ListN.{set};
 ghost use Rattle.calls.specs.Slots.{countOpen};
-ghost use Rattle.line.specs.Answer.{answerIn};
+ghost use Rattle.receiver.specs.Answer.{answerIn};
 ghost use Rattle.exports.specs.Records.{callsOf, areCalls};
 ghost use Rattle.exports.specs.Answers.{keptOf, callCells, Stops};
 
@@ -30,7 +31,7 @@ fn open_after(cells: &[u64], change: Change) -> usize
 {
     let n = open_count(cells);
     let i = change.slot;
-    if i < 128 {
+    if i < limit::CALLS {
         let old = slot_at(cells, i);
         let new = change.call;
         return n + one(new.open) - one(old.open);

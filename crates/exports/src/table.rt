@@ -1,5 +1,6 @@
 // The check of a schema table, and whether one table extends another.
 use crate::cells::store;
+use constants::refusal;
 use schema::Checked;
 use schema::Extended;
 ghost use mathlib.Core.Path.{_≡_};
@@ -13,7 +14,7 @@ fn check_number(a: Checked) -> u32
     ensures { λ r. ⌜ r ≡ checkNumber a ⌝ }
 {
     match a {
-        Checked::Good => 0,
+        Checked::Good => refusal::ACCEPTED,
         Checked::Refused { number, place: _ } => number,
     }
 }
@@ -43,8 +44,8 @@ fn extend_number(a: Extended) -> u32
     ensures { λ r. ⌜ r ≡ extendNumber a ⌝ }
 {
     match a {
-        Extended::Yes => 0,
-        Extended::No => 0,
+        Extended::Yes => refusal::ACCEPTED,
+        Extended::No => refusal::ACCEPTED,
         Extended::Refused { number, place: _ } => number,
     }
 }

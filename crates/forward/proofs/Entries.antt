@@ -35,9 +35,9 @@ use Rattle.value.specs.Write.{refusal, written, showRoot}
 use Rattle.value.specs.Fits.{Shows}
 use Rattle.value.proofs.Sheets.{rows-from, no-rows}
 use Rattle.value.proofs.Writing.{sheet-shows}
-use Rattle.parts.proofs.Presence.{bits-read}
-use Rattle.parts.proofs.Tables.{no-struct}
-use Rattle.parts.proofs.Walks.{nothing-before}
+use Rattle.walks.proofs.Presence.{bits-read}
+use Rattle.walks.proofs.Tables.{no-struct}
+use Rattle.walks.proofs.Walks.{nothing-before}
 use Rattle.writer.specs.declared.Writing.{Writing}
 use Rattle.writer.specs.declared.Writing.the-variants.{Written, Refused}
 use Rattle.writer.specs.declared.walk.Walk.{Walk}

@@ -23,14 +23,14 @@ use Rattle.writer.specs.declared.Writing.the-variants.{Refused}
 use Rattle.writer.specs.Entry.{Outcome, outcome, outcomeOf}
 use Rattle.forward.specs.Forward.{forward}
 use Rattle.forward.specs.Entry.{sheetForwarded, forwardOutcome}
-use Rattle.forward.specs.Cases.{Case, Hold, lent, worked, large, nine, by-nine}
+use Rattle.forward.specs.Cases.{ForwardCase, ForwardHold, lent, worked, large, nine, by-nine}
 
 -- The answer by a table itself.
-abbrev byTable : Table → Case → Outcome
+abbrev byTable : Table → ForwardCase → Outcome
 byTable U c = outcomeOf (c .out) (forward U (c .type) (rowsOf (c .cells)) (c .source) (c .place) (c .size) (length (c .out)))
 
-each-by : (s : List ℕ) (U : Table) → checked s ≡ Good → tableOf s ≡ U → (cases : List Case)
-    → map (λ (c : Case). forwardOutcome s (c .type) (c .cells) (c .source) (c .place) (c .size) (c .out)) cases ≡ map (byTable U) cases
+each-by : (s : List ℕ) (U : Table) → checked s ≡ Good → tableOf s ≡ U → (cases : List ForwardCase)
+    → map (λ (c : ForwardCase). forwardOutcome s (c .type) (c .cells) (c .source) (c .place) (c .size) (c .out)) cases ≡ map (byTable U) cases
 unfolding forwardOutcome sheetForwarded
 each-by s U good is [] = refl
 each-by s U good is (c ∷ cases) = ap₂ _∷_ (rw (good, is)) (each-by s U good is cases)
@@ -52,20 +52,20 @@ nine-rows : tableOf nine ≡ N
 unfolding little.little cell shaped layoutOf tabulate tableOf
 nine-rows = refl
 
-computed : (map (byTable T) worked ≡ map (λ (c : Case). outcome (c .answer) (c .after)) worked)
-    × (map (byTable T) large ≡ map (λ (c : Case). outcome (c .answer) (c .after)) large)
-    × (map (byTable N) by-nine ≡ map (λ (c : Case). outcome (c .answer) (c .after)) by-nine)
-unfolding forward rowsOf write.showRoot write.show write.rowOf write.nextRow write.bitsAt read.walk read.present read.complete onesIn table.shape
+computed : (map (byTable T) worked ≡ map (λ (c : ForwardCase). outcome (c .answer) (c .after)) worked)
+    × (map (byTable T) large ≡ map (λ (c : ForwardCase). outcome (c .answer) (c .after)) large)
+    × (map (byTable N) by-nine ≡ map (λ (c : ForwardCase). outcome (c .answer) (c .after)) by-nine)
+unfolding forward rowsOf write.showRoot write.show write.rowDue write.nextRow write.bitsAt read.walk read.present read.complete onesIn table.shape
     answer.andThen answer.check little.little little.bytes varuint.varuintBytes varuint.shortest utf8.run utf8.next utf8.leadOf utf8.rows value.value spell.encode
 computed = (refl, refl, refl)
 
-pub cases-hold : Hold file worked
+pub cases-hold : ForwardHold file worked
 cases-hold = each-by file T T-good T-rows worked ∙ computed .0
 
-pub large-hold : Hold file large
+pub large-hold : ForwardHold file large
 large-hold = each-by file T T-good T-rows large ∙ computed .1
 
-pub nine-hold : Hold nine by-nine
+pub nine-hold : ForwardHold nine by-nine
 nine-hold = each-by nine N nine-good nine-rows by-nine ∙ computed .2
 
 -- No table: 40 before all else.

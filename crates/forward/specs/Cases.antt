@@ -9,7 +9,7 @@ use Rattle.writer.specs.declared.Writing.the-variants.{Written, Refused}
 use Rattle.writer.specs.Entry.{outcome}
 use Rattle.forward.specs.Entry.{forwardOutcome}
 
-pub record Case : Type 0 where
+pub record ForwardCase : Type 0 where
   pub type : ℕ
   pub cells : List ℕ
   pub source : List ℕ
@@ -20,22 +20,22 @@ pub record Case : Type 0 where
   pub after : List ℕ
 
 -- By the schema file each of the cases is answered so: the number, the place or the length, and every byte of the output.
-abbrev pub Hold : (schema : List ℕ) → List Case → Type 0
-Hold schema cases =
-    map (λ (c : Case). forwardOutcome schema (c .type) (c .cells) (c .source) (c .place) (c .size) (c .out)) cases
-    ≡ map (λ (c : Case). outcome (c .answer) (c .after)) cases
+abbrev pub ForwardHold : (schema : List ℕ) → List ForwardCase → Type 0
+ForwardHold schema cases =
+    map (λ (c : ForwardCase). forwardOutcome schema (c .type) (c .cells) (c .source) (c .place) (c .size) (c .out)) cases
+    ≡ map (λ (c : ForwardCase). outcome (c .answer) (c .after)) cases
 
 -- What is lent: n bytes of A5.
 abbrev pub lent : (n : ℕ) → List ℕ
 lent n = replicate n 0xA5
 
 -- A case that is refused leaves the output as it was.
-abbrev refuses : (type : ℕ) (cells source : List ℕ) (place size room number row : ℕ) → Case
+abbrev refuses : (type : ℕ) (cells source : List ℕ) (place size room number row : ℕ) → ForwardCase
 refuses t cells source p n room k q =
     record { type = t; cells = cells; source = source; place = p; size = n; out = lent room; answer = Refused k q; after = lent room }
 
 -- A case that is written: this payload, and `more` bytes after it.
-abbrev writes : (type : ℕ) (cells source : List ℕ) (place size more : ℕ) (payload : List ℕ) → Case
+abbrev writes : (type : ℕ) (cells source : List ℕ) (place size more : ℕ) (payload : List ℕ) → ForwardCase
 writes t cells source p n more payload =
     record {
       type = t;
@@ -64,7 +64,7 @@ known p = 4 ∷ p ∷ 4 ∷ 1 ∷ 3 ∷ (p + 2) ∷ 2 ∷ 1 ∷ 2 ∷ (p + 2) �
 abbrev short : List ℕ
 short = 4 ∷ 0 ∷ 2 ∷ 1 ∷ 3 ∷ 2 ∷ 0 ∷ 0 ∷ []
 
-abbrev pub worked : List Case
+abbrev pub worked : List ForwardCase
 worked =
     -- P6 comes out as it is, with just room enough, with two bytes more, and from bytes where it starts at 2; with a byte less of room it is 52.
     writes 4 (known 0) P6 4 1 0 P6
@@ -90,7 +90,7 @@ worked =
     ∷ []
 
 -- The whole is above 16,384 bytes: 7 before 52, and one byte less is 52.
-abbrev pub large : List Case
+abbrev pub large : List ForwardCase
 large =
     refuses 4 (known 0) (0x05 ∷ 0x01 ∷ 0x01 ∷ 0x07 ∷ replicate 16381 0x09) 4 16381 0 7 0
     ∷ refuses 4 (known 0) (0x05 ∷ 0x01 ∷ 0x01 ∷ 0x07 ∷ replicate 16381 0x09) 4 16380 0 52 0
@@ -116,7 +116,7 @@ wide = 0x33 ∷ 0x01 ∷ 0x83 ∷ 0x07 ∷ 0x08 ∷ 0xAA ∷ 0xBB ∷ []
 abbrev wideRows : List ℕ
 wideRows = 1 ∷ 1 ∷ 4 ∷ 2 ∷ 0 ∷ 3 ∷ 1 ∷ 0 ∷ 0 ∷ 4 ∷ 1 ∷ 0 ∷ []
 
-abbrev pub by-nine : List Case
+abbrev pub by-nine : List ForwardCase
 by-nine =
     writes 1 wideRows wide 5 2 1 (0x01 ∷ 0x83 ∷ 0x07 ∷ 0x08 ∷ 0xAA ∷ 0xBB ∷ [])
     ∷ refuses 1 wideRows wide 5 1 9 50 0

@@ -1,4 +1,7 @@
 // The forwarding writer: the rows of a sheet over their bytes, written as a payload with the root's unknown bits kept and a tail after the known fields.
+use constants::kind;
+use constants::limit;
+use constants::refusal;
 use schema::Checked;
 use schema::access::type_row;
 use schema::check::check;
@@ -69,24 +72,24 @@ fn fault_of(
     ensures { λ r. ⌜ r ≡ faultOf size unknown «tail_place» «tail_length» plain room ⌝ }
 {
     if size < tail_place {
-        return 51;
+        return refusal::OUTSIDE;
     }
     if size - tail_place < tail_length {
-        return 51;
+        return refusal::OUTSIDE;
     }
     if !is_suiting(unknown, tail_length) {
-        return 50;
+        return refusal::SHEET;
     }
-    if 16384 < plain {
-        return 7;
+    if limit::PAYLOAD < plain {
+        return refusal::PAYLOAD_TOO_LONG;
     }
-    if 16384 - plain < tail_length {
-        return 7;
+    if limit::PAYLOAD - plain < tail_length {
+        return refusal::PAYLOAD_TOO_LONG;
     }
     if room < plain + tail_length {
-        return 52;
+        return refusal::OUTPUT_TOO_SHORT;
     }
-    0
+    refusal::ACCEPTED
 }
 
 // Puts the presence bytes, as they stand at the root's place, over those that the plain writer wrote, and the tail after all that it wrote, at pos.
@@ -121,8 +124,8 @@ pub fn forward_sheet(
     ensures { λ r. ⌜ outcome r (now (out .exit)) ≡ sheetForwarded (now (s .entry)) ty (now (sheet .entry)) (now (source .entry)) «tail_place» «tail_length» (now (out .entry)) ⌝ }
 {
     let t = type_row(s, ty as usize);
-    if t.kind != 16 {
-        return refused(46);
+    if t.kind != kind::STRUCT {
+        return refused(refusal::NO_STRUCT);
     }
     let first = t.a as usize;
     let n = t.b as usize;
@@ -139,7 +142,7 @@ pub fn forward_sheet(
                 pos,
                 out.len(),
             );
-            if fault != 0 {
+            if fault != refusal::ACCEPTED {
                 return refused(fault);
             }
             root(s, sheet, source, &mut out[..pos], ty, first, n, false);

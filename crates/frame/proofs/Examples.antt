@@ -9,7 +9,7 @@ use Rattle.wire.specs.Varuint.{groups, front}
 use Rattle.wire.proofs.Varuints.{one-byte}
 use Rattle.frame.specs.declared.Header.{Header}
 use Rattle.frame.specs.declared.FrameRead.the-variants.{More, Frame, Refused}
-use Rattle.frame.specs.Frame.{whole, payloadOf, frameOf}
+use Rattle.frame.specs.Frame.{onceWhole, payloadOf, frameOf}
 use Rattle.frame.specs.Written.{frontBytes, frameBytes}
 use Rattle.frame.proofs.Theorems.{frame-read}
 use Rattle.frame.proofs.ReadBack.{shortest-frame}
@@ -73,7 +73,7 @@ pub starts-judged : map frameOf
     ∷ (0xAF ∷ 0x01 ∷ 0x01 ∷ 0x08 ∷ 0x00 ∷ [])
     ∷ [])
     ≡ More ∷ Refused 2 ∷ More ∷ Refused 3 ∷ Refused 4 ∷ Refused 4 ∷ Refused 5 ∷ More ∷ []
-unfolding frameOf whole little
+unfolding frameOf onceWhole little
 starts-judged = refl
 
 -- the same front with other lengths: cut; with a spare group, of two bytes, of ten, and of a number above 16,384, before the payload is there; a tenth
@@ -91,5 +91,5 @@ pub lengths-judged : map (λ (l : List ℕ). frameOf (take 25 invoke-bytes ++ l)
     ∷ (0x02 ∷ payload)
     ∷ [])
     ≡ More ∷ Refused 6 ∷ Refused 6 ∷ Refused 6 ∷ Refused 6 ∷ Refused 6 ∷ Refused 7 ∷ Refused 7 ∷ More ∷ Frame invoke 26 2 ∷ []
-unfolding frameOf whole payloadOf little front groups invoke payload invoke-bytes
+unfolding frameOf onceWhole payloadOf little front groups invoke payload invoke-bytes
 lengths-judged = refl

@@ -19,7 +19,7 @@ use Rattle.parse.specs.Test.{test}
 use Rattle.frame.specs.declared.Header.{Header}
 use Rattle.frame.specs.declared.FrameRead.{FrameRead}
 use Rattle.frame.specs.declared.FrameRead.the-variants.{More, Frame, Refused}
-use Rattle.frame.specs.Frame.{whole, isMagic, knownKind, payloadOf, frameOf}
+use Rattle.frame.specs.Frame.{onceWhole, isMagic, knownKind, payloadOf, frameOf}
 use Rattle.frame.specs.Places.{numberAt, headerAt}
 use Rattle.frame.specs.IsFrame.{Holds, IsFrame, frame, Starts}
 use Rattle.frame.proofs.Tests.{known-bounds, bounds-known, magic-bytes}
@@ -27,8 +27,8 @@ use Rattle.frame.proofs.Places.{field, fromLength, fromFlags, fromKind,
 
 -- ---- every frame is read
 
-whole-reads : (n : ℕ) (b t : List ℕ) → length b ≡ n → (next : List ℕ → List ℕ → FrameRead) → whole n (b ++ t) next ≡ next b t
-unfolding whole
+whole-reads : (n : ℕ) (b t : List ℕ) → length b ≡ n → (next : List ℕ → List ℕ → FrameRead) → onceWhole n (b ++ t) next ≡ next b t
+unfolding onceWhole
 whole-reads n b t e next = rw (length-append b t, le-leb n (length b + length t) (omega arith), take-at b t n e, drop-at b t n e)
 
 pub byte-number : (x : ℕ) → little (x ∷ []) ≡ x
@@ -92,8 +92,8 @@ field-frame : (s : List ℕ) (e : ℕ) (right : Bool) (number : ℕ) (next : Fra
     → field s e right number next ≡ Frame h place n → (e ≤ length s) × ((right ≡ true) × (next ≡ Frame h place n))
 unfolding field
 field-frame s e right number next eq =
-    let whole = chosen (leb e (length s)) (test right (Refused number) next) More not-more eq in
-    (leb-true e (length s) (whole .0), chosen right next (Refused number) not-refused (whole .1))
+    let onceWhole = chosen (leb e (length s)) (test right (Refused number) next) More not-more eq in
+    (leb-true e (length s) (onceWhole .0), chosen right next (Refused number) not-refused (onceWhole .1))
 
 -- a whole payload: its length was read, and it ends within the bytes
 record Whole (end : ℕ) (h : Header) (v : VarUInt) (h′ : Header) (place n : ℕ) : Type 0 where

@@ -13,7 +13,7 @@ use Rattle.wire.specs.Varuint.{varuint}
 use Rattle.parse.specs.Test.{test}
 use Rattle.frame.specs.declared.FrameRead.{FrameRead}
 use Rattle.frame.specs.declared.FrameRead.the-variants.{More, Refused}
-use Rattle.frame.specs.Frame.{whole, isMagic, knownKind, payloadOf, frameOf}
+use Rattle.frame.specs.Frame.{onceWhole, isMagic, knownKind, payloadOf, frameOf}
 use Rattle.frame.specs.Places.{numberAt, headerAt}
 
 -- a field that ends at e
@@ -47,8 +47,8 @@ fromVersion s = field s 3 (eqb (numberAt s 2 1) 1) 3 (fromKind s)
 
 -- n bytes from a place on
 whole-at : (n at : ℕ) (s : List ℕ) → 0 < n → (next : List ℕ → List ℕ → FrameRead)
-    → whole n (drop at s) next ≡ cond (leb (at + n) (length s)) (next (take n (drop at s)) (drop (at + n) s)) More
-unfolding whole
+    → onceWhole n (drop at s) next ≡ cond (leb (at + n) (length s)) (next (take n (drop at s)) (drop (at + n) s)) More
+unfolding onceWhole
 whole-at n at s p next = elim (decLe (at + n) (length s)) [
   | yes l ↦ rw (length-drop at s, le-leb n (length s - at) (omega arith), le-leb (at + n) (length s) l, drop-drop n at s)
   | no l ↦ rw (length-drop at s, lt-leb n (length s - at) (omega arith), lt-leb (at + n) (length s) (omega arith))

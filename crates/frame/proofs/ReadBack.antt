@@ -19,7 +19,7 @@ use Rattle.frame.specs.declared.FrameRead.the-variants.{Frame}
 use Rattle.frame.specs.declared.FrameWritten.the-variants.{Written, Refused}
 use Rattle.frame.specs.Frame.{knownKind, frameOf}
 use Rattle.frame.specs.Written.{frontBytes, frameBytes, writtenOf, outputOf, Accepted, Unwritten, kind, long, full, ReadBack}
-use Rattle.frame.specs.IsFrame.{Holds, IsFrame, frame, Fits}
+use Rattle.frame.specs.IsFrame.{Holds, IsFrame, frame, HeaderFits}
 use Rattle.frame.proofs.Tests.{known-bounds, bounds-known}
 use Rattle.frame.proofs.Writes.{length-frame, fitting}
 use Rattle.frame.proofs.Frames.{read-is-frame}
@@ -30,7 +30,7 @@ holds-bytes : (n x : ℕ) → x < 256 ^ n → Holds n x (bytes n x)
 holds-bytes n x h = record { width = length-bytes n x; value = little-bytes n x h }
 
 -- what the writer writes is a frame
-pub shortest-frame : (h : Header) (p : List ℕ) → Fits h → 1 ≤ h .kind → h .kind ≤ 8 → length p ≤ 16384 → IsFrame h p (frameBytes h p)
+pub shortest-frame : (h : Header) (p : List ℕ) → HeaderFits h → 1 ≤ h .kind → h .kind ≤ 8 → length p ≤ 16384 → IsFrame h p (frameBytes h p)
 unfolding frameBytes frontBytes
 shortest-frame h p fits least most small =
     simp append-assoc
@@ -100,14 +100,14 @@ refused-iff h p room number = (refused-for, for-refused)
     for-refused (full low high n r) = rw (bounds-known (h .kind) low high, le-leb (length p) 16384 n, lt-leb (length (frameBytes h p)) room r)
 
 -- what was written, followed by anything, is read back
-pub read-back : (h : Header) (p : List ℕ) (room : ℕ) {n : ℕ} → Fits h → writtenOf h p room ≡ Written n → (r : List ℕ) → ReadBack h p (frameBytes h p ++ r) n
+pub read-back : (h : Header) (p : List ℕ) (room : ℕ) {n : ℕ} → HeaderFits h → writtenOf h p room ≡ Written n → (r : List ℕ) → ReadBack h p (frameBytes h p ++ r) n
 read-back h p room fits e r =
     let a = written-accepted h p room e in
     let is = shortest-frame h p fits (a .least) (a .most) (a .small) in
     record { reads = rw (← a .size) (frame-read r is); payload = rw (← a .size) (payload-there (frameBytes h p ++ r) (starts r is)) }
 
 -- the writer's output is read back
-pub output-read-back : (h : Header) (p out : List ℕ) {n : ℕ} → Fits h → writtenOf h p (length out) ≡ Written n → ReadBack h p (outputOf (Written n) h p out) n
+pub output-read-back : (h : Header) (p out : List ℕ) {n : ℕ} → HeaderFits h → writtenOf h p (length out) ≡ Written n → ReadBack h p (outputOf (Written n) h p out) n
 unfolding outputOf
 output-read-back h p out {n = n} fits e = read-back h p (length out) fits e (drop n out)
 

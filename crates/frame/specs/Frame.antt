@@ -14,10 +14,10 @@ use Rattle.frame.specs.declared.FrameRead.{FrameRead}
 use Rattle.frame.specs.declared.FrameRead.the-variants.{More, Frame, Refused}
 
 -- Goes on with the n bytes at the front of s, once they are there, and with what is left after them.
-unfoldable pub whole : ℕ → List ℕ → (List ℕ → List ℕ → FrameRead) → FrameRead
-whole n s next = cond (leb n (length s)) (next (take n s) (drop n s)) More
+unfoldable pub onceWhole : ℕ → List ℕ → (List ℕ → List ℕ → FrameRead) → FrameRead
+onceWhole n s next = cond (leb n (length s)) (next (take n s) (drop n s)) More
 
--- AF 01
+-- The magic is AF 01.
 abbrev pub isMagic : List ℕ → Bool
 isMagic b = eqb (getD b 0 0) 0xAF && eqb (getD b 1 0) 0x01
 
@@ -34,14 +34,14 @@ payloadOf end h (Number n place) = test (leb n 16384) (Refused 7) (cond (leb (pl
 -- What is read at the front of the bytes: 25 bytes of fields, then the payload's length and the payload.
 unfoldable pub frameOf : List ℕ → FrameRead
 frameOf bytes =
-    whole 2 bytes λ magic s. test (isMagic magic) (Refused 2)
-    (whole 1 s λ version s. test (eqb (little version) 1) (Refused 3)
-    (whole 1 s λ kind s. test (knownKind (little kind)) (Refused 4)
-    (whole 1 s λ flags s. test (eqb (little flags) 0) (Refused 5)
-    (whole 4 s λ «package» s.
-    whole 4 s λ service s.
-    whole 4 s λ method s.
-    whole 8 s λ correlation s.
+    onceWhole 2 bytes λ magic s. test (isMagic magic) (Refused 2)
+    (onceWhole 1 s λ version s. test (eqb (little version) 1) (Refused 3)
+    (onceWhole 1 s λ kind s. test (knownKind (little kind)) (Refused 4)
+    (onceWhole 1 s λ flags s. test (eqb (little flags) 0) (Refused 5)
+    (onceWhole 4 s λ «package» s.
+    onceWhole 4 s λ service s.
+    onceWhole 4 s λ method s.
+    onceWhole 8 s λ correlation s.
     payloadOf (length bytes)
     (record {
       kind = little kind;

@@ -37,7 +37,7 @@ pub record Starts (s : List ℕ) (h : Header) (place n : ℕ) : Type 0 where
   pub end : place + n ≡ length frame
 
 -- Each number fits its field, as the numbers of a `Header` in code do.
-pub record Fits (h : Header) : Type 0 where
+pub record HeaderFits (h : Header) : Type 0 where
   pub «package» : h .«package» < 2 ^ 32
   pub service : h .service < 2 ^ 32
   pub method : h .method < 2 ^ 32

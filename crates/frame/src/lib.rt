@@ -1,5 +1,9 @@
 // Frames: the reader, which judges a field once it is whole, and the writer.
 use buffer::copy;
+use constants::format;
+use constants::frame_kind;
+use constants::limit;
+use constants::refusal;
 use wire::little::store;
 use wire::little::u32_at;
 use wire::varuint::VarUInt;
@@ -12,6 +16,21 @@ ghost use Rattle.wire.specs.Varuint.{varuint, varuintBytes};
 ghost use Rattle.frame.specs.Frame.{knownKind, payloadOf, frameOf};
 ghost use Rattle.frame.specs.Places.{numberAt, headerAt, judged};
 ghost use Rattle.frame.specs.Written.{frontBytes, writtenOf, outputOf};
+
+// The version, as a number that was read.
+const VERSION: u32 = format::VERSION as u32;
+
+// The flags, likewise.
+const FLAGS: u32 = format::FLAGS as u32;
+
+// The first kind.
+const FIRST_KIND: u32 = frame_kind::INVOKE as u32;
+
+// The last kind.
+const LAST_KIND: u32 = frame_kind::CANCEL as u32;
+
+// The longest payload.
+const LONGEST: u64 = limit::PAYLOAD as u64;
 
 // A frame's header. The kind of a frame that was read is 1 to 8; the writer may be handed any number.
 pub struct Header {
@@ -46,7 +65,7 @@ pub enum FrameWritten {
 pub fn known_kind(kind: u32) -> bool
     ensures { λ r. ⌜ r ≡ knownKind kind ⌝ }
 {
-    (1 <= kind) & (kind <= 8)
+    (FIRST_KIND <= kind) & (kind <= LAST_KIND)
 }
 
 // One byte as a number.
@@ -92,10 +111,10 @@ fn read_payload(s: &[u8]) -> FrameRead
     requires { ⌜ 25 ≤ length (now s) ⌝ }
     ensures { λ r. ⌜ r ≡ payloadOf (length (now (s .entry))) (headerAt (now (s .entry))) (varuint (now (s .entry)) 25) ⌝ }
 {
-    match wire::varuint::read(s, 25) {
+    match wire::varuint::read(s, format::HEADER) {
         VarUInt::Number { value, next } => {
-            if 16384 < value {
-                return FrameRead::Refused(7);
+            if LONGEST < value {
+                return FrameRead::Refused(refusal::PAYLOAD_TOO_LONG);
             }
             let length = value as usize;
             if s.len() - next < length {
@@ -108,7 +127,7 @@ fn read_payload(s: &[u8]) -> FrameRead
             }
         }
         VarUInt::Cut => FrameRead::More,
-        VarUInt::Malformed => FrameRead::Refused(6),
+        VarUInt::Malformed => FrameRead::Refused(refusal::LENGTH),
     }
 }
 
@@ -119,33 +138,33 @@ fn judge_header(bytes: &[u8]) -> u32
 {
     let n = bytes.len();
     if n < 2 {
-        return 1;
+        return refusal::MORE;
     }
-    if !((bytes[0] == 0xAF) & (bytes[1] == 0x01)) {
-        return 2;
+    if !((bytes[0] == format::MAGIC) & (bytes[1] == format::MAGIC_2)) {
+        return refusal::MAGIC;
     }
     if n < 3 {
-        return 1;
+        return refusal::MORE;
     }
-    if byte(bytes, 2) != 1 {
-        return 3;
+    if byte(bytes, 2) != VERSION {
+        return refusal::VERSION;
     }
     if n < 4 {
-        return 1;
+        return refusal::MORE;
     }
     if !known_kind(byte(bytes, 3)) {
-        return 4;
+        return refusal::KIND;
     }
     if n < 5 {
-        return 1;
+        return refusal::MORE;
     }
-    if byte(bytes, 4) != 0 {
-        return 5;
+    if byte(bytes, 4) != FLAGS {
+        return refusal::FLAGS;
     }
-    if n < 25 {
-        return 1;
+    if n < format::HEADER {
+        return refusal::MORE;
     }
-    0
+    refusal::ACCEPTED
 }
 
 // Reads the frame at the front of the bytes. Bytes after the frame are not looked at.
@@ -153,10 +172,10 @@ pub fn read_frame(bytes: &[u8]) -> FrameRead
     ensures { λ r. ⌜ r ≡ frameOf (now (bytes .entry)) ⌝ }
 {
     let number = judge_header(bytes);
-    if number == 0 {
+    if number == refusal::ACCEPTED {
         return read_payload(bytes);
     }
-    if number == 1 {
+    if number == refusal::MORE {
         return FrameRead::More;
     }
     FrameRead::Refused(number)
@@ -167,18 +186,18 @@ fn write_start(out: &mut [u8], kind: u32)
     requires { ⌜ (5 ≤ length (now out)) × (kind ≤ 8) ⌝ }
     ensures { λ _. ⌜ now (out .exit) ≡ written (now (out .entry)) 0 (0xAF ∷ 0x01 ∷ 0x01 ∷ kind ∷ 0x00 ∷ []) ⌝ }
 {
-    out[0] = 0xAF;
-    out[1] = 0x01;
-    out[2] = 0x01;
+    out[0] = format::MAGIC;
+    out[1] = format::MAGIC_2;
+    out[2] = format::VERSION;
     out[3] = kind as u8;
-    out[4] = 0x00;
+    out[4] = format::FLAGS;
 }
 
 // The place of a payload of n bytes in its frame.
 pub fn payload_place(n: u64) -> usize
     ensures { λ r. ⌜ (r ≡ 25 + length (varuintBytes n)) × (r ≤ 35) ⌝ }
 {
-    25 + wire::varuint::size(n)
+    format::HEADER + wire::varuint::size(n)
 }
 
 // All before the payload, of which there are n bytes.
@@ -191,7 +210,7 @@ pub fn write_front(out: &mut [u8], header: Header, n: u64)
     store(out, 9, 4, header.service as u64);
     store(out, 13, 4, header.method as u64);
     store(out, 17, 8, header.correlation);
-    wire::varuint::write(out, 25, n);
+    wire::varuint::write(out, format::HEADER, n);
 }
 
 // Writes the frame of a header and a payload. A refusal (4, 7, 52 in this order) leaves the output as it was.
@@ -199,15 +218,15 @@ pub fn write_frame(header: Header, payload: &[u8], out: &mut [u8]) -> FrameWritt
     ensures { λ r. ⌜ (r ≡ writtenOf header (now (payload .entry)) (length (now (out .entry)))) × (now (out .exit) ≡ outputOf r header (now (payload .entry)) (now (out .entry))) ⌝ }
 {
     if !known_kind(header.kind) {
-        return FrameWritten::Refused(4);
+        return FrameWritten::Refused(refusal::KIND);
     }
     let n = payload.len();
-    if 16384 < n {
-        return FrameWritten::Refused(7);
+    if limit::PAYLOAD < n {
+        return FrameWritten::Refused(refusal::PAYLOAD_TOO_LONG);
     }
     let place = payload_place(n as u64);
     if out.len() < place + n {
-        return FrameWritten::Refused(52);
+        return FrameWritten::Refused(refusal::OUTPUT_TOO_SHORT);
     }
     write_front(out, header, n as u64);
     copy(out, place, payload);

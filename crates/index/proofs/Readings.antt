@@ -14,7 +14,7 @@ use Rattle.wire.specs.Little.{Bytes, little, bytes}
 use Rattle.wire.proofs.Numbers.{bytes-drop, bytes-take, length-bytes, little-bytes, bytes-little, little-lt}
 use Rattle.index.specs.Row.{Row, Before, lower, earlier, Rising, no-row, one-row, next-row, isBefore, isRising}
 use Rattle.index.specs.Index.{rowBytes, rowsBytes, trailer, indexBytes}
-use Rattle.index.specs.IsIndex.{rowAt, rowsIn, countIn, trailerCell, sizeIn, isShaped, isIndex, Reads, Fits, AllFit, none-left, one-fits, IsIndex}
+use Rattle.index.specs.IsIndex.{rowAt, rowsIn, countIn, trailerCell, sizeIn, isShaped, isIndex, Reads, RowFits, RowsFit, none-left, one-fits, IsIndex}
 use Rattle.index.proofs.Shapes.{shape-cells, shape-count, rows-inside}
 
 -- ---- the order
@@ -68,7 +68,7 @@ number-front n x t h = ap little (take-at (bytes n x) t n (length-bytes n x)) �
 number-past : (n x : ℕ) (t : List ℕ) → drop n (bytes n x ++ t) ≡ t
 number-past n x t = drop-at (bytes n x) t n (length-bytes n x)
 
-row-front : (r : Row) (t : List ℕ) → Fits r → rowAt (rowBytes r ++ t) ≡ r
+row-front : (r : Row) (t : List ℕ) → RowFits r → rowAt (rowBytes r ++ t) ≡ r
 row-front r t f =
     let c = bytes 8 (r .correlation) in
     let p = bytes 4 (r .place) in
@@ -82,7 +82,7 @@ row-front r t f =
     λ i. record { correlation = first i; place = second i; answer = third i }
 
 -- What was written as rows is read as these rows, whatever follows.
-rows-back : {rows : List Row} → AllFit rows → (t : List ℕ) → rowsIn (length rows) (rowsBytes rows ++ t) ≡ rows
+rows-back : {rows : List Row} → RowsFit rows → (t : List ℕ) → rowsIn (length rows) (rowsBytes rows ++ t) ≡ rows
 unfolding rowsIn rowsBytes
 rows-back none-left t = refl
 rows-back (one-fits {r = r} {rows = rows} f w) t =
@@ -178,7 +178,7 @@ rows-read (suc n) s b h =
     ∙ sym (take-add 16 (16 * n) s)
     ∙ ap (λ (k : ℕ). take k s) (sym e)
 
-rows-fit : (n : ℕ) (s : List ℕ) → Bytes s → AllFit (rowsIn n s)
+rows-fit : (n : ℕ) (s : List ℕ) → Bytes s → RowsFit (rowsIn n s)
 unfolding rowsIn
 rows-fit zero s b = none-left
 rows-fit (suc n) s b =

@@ -25,10 +25,10 @@ use Rattle.frame.specs.Frame.{frameOf}
 use Rattle.frame.specs.IsFrame.{IsFrame, frame}
 use Rattle.frame.proofs.Frames.{read-is-frame}
 use Rattle.calls.specs.declared.Call.{Call}
-use Rattle.line.specs.Claims as line
-use Rattle.line.specs.Fresh.{receivedFresh}
-use Rattle.line.specs.Run.{freshTallies}
-use Rattle.line.proofs.Listed.{listed}
+use Rattle.receiver.specs.Claims as line
+use Rattle.receiver.specs.Fresh.{receivedFresh}
+use Rattle.receiver.specs.Run.{freshTallies}
+use Rattle.receiver.proofs.Listed.{listed}
 use Rattle.replay.specs.Run.{sheet, freshCalls, answerTo, headerIn, Entry, Run, runOf}
 use Rattle.replay.specs.Runs.{Runs, at-end, halting, answering}
 use Rattle.replay.proofs.Turns.{listed-frame}
@@ -37,7 +37,7 @@ use Rattle.index.specs.declared.Indexing.the-variants.{Made, Refused}
 use Rattle.index.specs.declared.Finding.the-variants.{Printed, Refused as Unprinted}
 use Rattle.index.specs.Row.{Row, rowOf, rowsOf, insert, ordered, Rising, no-row, ofCall}
 use Rattle.index.specs.Index.{indexBytes, rowsFor, Outcome, outcome, indexInto, makeIndex}
-use Rattle.index.specs.IsIndex.{Fits, AllFit, none-left, one-fits, IsIndex, rowsIn, countIn, sizeIn, isIndex}
+use Rattle.index.specs.IsIndex.{RowFits, RowsFit, none-left, one-fits, IsIndex, rowsIn, countIn, sizeIn, isIndex}
 use Rattle.index.specs.Text.{heading, lineText, linesText, stoppedText, textOf, callLines, callText}
 use Rattle.index.specs.Claims.{Has, Accepted, Refuses, bad-table, too-long, no-room, Judges, right, other-record, no-index, Finds, prints, no-space}
 use Rattle.index.specs.LookUp as look
@@ -151,7 +151,7 @@ call-rises c schema entries = call-rising c (rowsFor schema entries) (rows-risin
 -- ---- an index that was made
 
 -- a number of an answer has 32 bits
-small-number : {n place : ℕ} → line.Listed n place → n < 4294967296
+small-number : {n place : ℕ} → line.AnswerNumber n place → n < 4294967296
 small-number line.accepted = omega arith
 small-number (line.frame low high) = omega arith
 small-number (line.call low high) = omega arith
@@ -186,7 +186,7 @@ number-small s side bytes l = small-number (listed s side bytes sheet (freshTall
 bytes-tail : (b : ℕ) (s : List ℕ) → Bytes (b ∷ s) → Bytes s
 bytes-tail b s w = bytes-drop (b ∷ s) 1 w
 
-run-fit : {s : List ℕ} {p : ℕ} {left : List ℕ} {l : List Call} {r : Run} → Runs s p left l r → Bytes left → Below 4294967296 (rowsOf (r .entries)) → AllFit (rowsOf (r .entries))
+run-fit : {s : List ℕ} {p : ℕ} {left : List ℕ} {l : List Call} {r : Run} → Runs s p left l r → Bytes left → Below 4294967296 (rowsOf (r .entries)) → RowsFit (rowsOf (r .entries))
 run-fit at-end b w = none-left
 run-fit (halting e) b w = none-left
 run-fit {s} {p} (answering {side = side} {bytes = bytes} {l = l} e k) b (one-below h w) =
@@ -195,19 +195,19 @@ run-fit {s} {p} (answering {side = side} {bytes = bytes} {l = l} e k) b (one-bel
     (record { correlation = header-small s side bytes l (e .uses) (bytes-tail side bytes b); place = h; answer = number-small s side bytes l })
     (run-fit k (bytes-drop bytes (a .used) (bytes-tail side bytes b)) w)
 
-fit-insert : (r : Row) {rows : List Row} → Fits r → AllFit rows → AllFit (insert r rows)
-fit-insert r f none-left = subst AllFit (sym (insert-last r)) (one-fits f none-left)
+fit-insert : (r : Row) {rows : List Row} → RowFits r → RowsFit rows → RowsFit (insert r rows)
+fit-insert r f none-left = subst RowsFit (sym (insert-last r)) (one-fits f none-left)
 fit-insert r f (one-fits {r = s} {rows = rows} g w) =
     by-first r s
-    (λ h. subst AllFit (sym (insert-here r s rows h)) (one-fits f (one-fits g w)))
-    (λ h. subst AllFit (sym (insert-later r s rows h)) (one-fits g (fit-insert r f w)))
+    (λ h. subst RowsFit (sym (insert-here r s rows h)) (one-fits f (one-fits g w)))
+    (λ h. subst RowsFit (sym (insert-later r s rows h)) (one-fits g (fit-insert r f w)))
 
-fit-ordered : (done rows : List Row) → AllFit done → AllFit rows → AllFit (ordered done rows)
-fit-ordered done [] w none-left = subst AllFit (sym (ordered-none done)) w
-fit-ordered done (r ∷ rows) w (one-fits f k) = subst AllFit (sym (ordered-one done r rows)) (fit-ordered (insert r done) rows (fit-insert r f w) k)
+fit-ordered : (done rows : List Row) → RowsFit done → RowsFit rows → RowsFit (ordered done rows)
+fit-ordered done [] w none-left = subst RowsFit (sym (ordered-none done)) w
+fit-ordered done (r ∷ rows) w (one-fits f k) = subst RowsFit (sym (ordered-one done r rows)) (fit-ordered (insert r done) rows (fit-insert r f w) k)
 
 module _ (schema entries : List ℕ) (b : Bytes entries) (small : length entries ≤ 65536) where
-  rows-fit : AllFit (rowsFor schema entries)
+  rows-fit : RowsFit (rowsFor schema entries)
   unfolding rowsFor runOf
   rows-fit =
       let r = replay.run-is schema (length entries) 0 entries freshCalls (omega arith) in

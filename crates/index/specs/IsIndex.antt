@@ -53,19 +53,19 @@ pub record Reads (s : List ℕ) (rows : List Row) (size : ℕ) : Type 0 where
 -- ---- the relation
 
 -- Each number fits its bytes.
-pub record Fits (r : Row) : Type 0 where
+pub record RowFits (r : Row) : Type 0 where
   pub correlation : r .correlation < 2 ^ 64
   pub place : r .place < 2 ^ 32
   pub answer : r .answer < 2 ^ 32
 
-pub data AllFit : List Row → Type 0 where
-  none-left : AllFit []
-  one-fits : {r : Row} {rows : List Row} → Fits r → AllFit rows → AllFit (r ∷ rows)
+pub data RowsFit : List Row → Type 0 where
+  none-left : RowsFit []
+  one-fits : {r : Row} {rows : List Row} → RowFits r → RowsFit rows → RowsFit (r ∷ rows)
 
 -- The bytes are the index, for a record of so many bytes, of these rows, which rise strictly.
 pub record IsIndex (s : List ℕ) (rows : List Row) (size : ℕ) : Type 0 where
   pub is : s ≡ indexBytes rows size
   pub rising : Rising rows
-  pub fit : AllFit rows
+  pub fit : RowsFit rows
   pub count : length rows < 2 ^ 32
   pub small : size < 2 ^ 32

@@ -1,4 +1,6 @@
 // Bytes judged as an index.
+use constants::format;
+use constants::refusal;
 use wire::little::number;
 use wire::little::u32_at;
 ghost use mathlib.Core.Path.{_≡_};
@@ -25,7 +27,8 @@ fn is_shaped(index: &[u8]) -> bool
     let at = size - 16;
     (size % 16 == 0)
         & ((u32_at(index, at) == 0)
-            & ((u32_at(index, at + 4) as usize == at / 16) & (u32_at(index, at + 12) == 1)))
+            & ((u32_at(index, at + 4) as usize == at / 16)
+                & (u32_at(index, at + 12) == format::LAYOUT)))
 }
 
 // Whether the row at a place stands before the next.
@@ -73,15 +76,18 @@ pub fn judge(index: &[u8], size: usize) -> Judged
     ensures { λ r. ⌜ (16 * r .rows ≤ length (now (index .entry))) × (r .rows < 4294967296) ⌝ }
 {
     if !is_shaped(index) {
-        return refused(65);
+        return refused(refusal::INDEX);
     }
     if !is_ordered(index) {
-        return refused(65);
+        return refused(refusal::INDEX);
     }
     let end = index.len() - 16;
     let rows = u32_at(index, end + 4) as usize;
     if u32_at(index, end + 8) as usize != size {
-        return refused(66);
+        return refused(refusal::OTHER_RECORD);
     }
-    Judged { number: 0, rows }
+    Judged {
+        number: refusal::ACCEPTED,
+        rows,
+    }
 }

@@ -6,15 +6,14 @@ mod print;
 
 use crate::judge::judge;
 use crate::print::put_text;
+use constants::limit;
+use constants::refusal;
 use schema::Checked;
 use schema::check::check;
 ghost use mathlib.Core.Path.{_≡_};
 ghost use lib.ListN.{length};
 ghost use Rattle.index.specs.Index.{outcome, makeIndex};
 ghost use Rattle.index.specs.LookUp as look;
-
-// The longest record, in bytes.
-pub const LONGEST: usize = 65536;
 
 pub enum Indexing {
     // The length of the index.
@@ -37,9 +36,9 @@ pub fn make_index(schema: &[u8], entries: &[u8], out: &mut [u8]) -> Indexing
     match check(schema) {
         Checked::Refused { number, place } => Indexing::Refused { number, place },
         Checked::Good => {
-            if LONGEST < entries.len() {
+            if limit::FILE < entries.len() {
                 return Indexing::Refused {
-                    number: 45,
+                    number: refusal::FILE_TOO_LONG,
                     place: 0,
                 };
             }
@@ -57,7 +56,9 @@ pub fn look_up(index: &[u8], entries: &[u8], correlation: u64, out: &mut [u8]) -
     let mut none = [0u8; 1];
     let length = put_text(index, judged, correlation, &mut none[..0]);
     if out.len() < length {
-        return Finding::Refused { number: 52 };
+        return Finding::Refused {
+            number: refusal::OUTPUT_TOO_SHORT,
+        };
     }
     put_text(index, judged, correlation, out);
     Finding::Printed {

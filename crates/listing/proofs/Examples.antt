@@ -23,11 +23,11 @@ use Rattle.calls.specs.Counting as counting
 use Rattle.value.specs.Value as value
 use Rattle.value.specs.Read as read
 use Rattle.reader.specs.Entry as entry
-use Rattle.line.specs.Answer as line
-use Rattle.line.specs.Planning as planning
-use Rattle.line.specs.Receive as receive
-use Rattle.line.specs.Run as run
-use Rattle.line.specs.Fresh as fresh
+use Rattle.receiver.specs.Answer as line
+use Rattle.receiver.specs.Planning as planning
+use Rattle.receiver.specs.Receive as receive
+use Rattle.receiver.specs.Run as run
+use Rattle.receiver.specs.Fresh as fresh
 use Rattle.text.specs.Decimal as decimal
 use Rattle.text.specs.Text as texts
 use Rattle.replay.specs.Run as replay
@@ -60,7 +60,7 @@ output =
 listed : List ℕ → List ℕ
 unfolding little.little varuint.front varuint.groups utf8.run utf8.next utf8.leadOf utf8.rows onesIn table.shape file.cell file.shaped file.layoutOf
     file.tabulate file.tableOf check.lowest check.goodRow check.goodField check.findAmong check.goodMethod check.small check.badRow check.badField
-    check.badMethod check.checkedTable check.checked frame.whole frame.payloadOf frame.frameOf forms.rowOf numbers.endsCall numbers.usesFrame
+    check.badMethod check.checkedTable check.checked frame.onceWhole frame.payloadOf frame.frameOf forms.rowOfForm numbers.endsCall numbers.usesFrame
     slots.goodCall slots.goodTable slots.ownOf slots.full judge.payloadOf judge.verdictOf judge.judgeOf step.stepOf answer.andThen answer.check
     answer.block answer.varUInt value.rows value.value read.present answer.count read.complete read.bitmap read.walk read.parse read.ending
     read.rootStruct read.read entry.payloadOutcome counting.riseOf counting.figureBy counting.raised line.stopped line.payloadRead

@@ -29,10 +29,10 @@ use Rattle.calls.specs.declared.Call.{Call}
 use Rattle.calls.specs.Slots.{goodTable}
 use Rattle.calls.proofs.Goodness.{fresh-good}
 use Rattle.calls.proofs.Limits.{FewIn, few-wide, few-fresh}
-use Rattle.line.specs.Fresh.{FreshLine}
-use Rattle.line.specs.declared.Received.{Received}
-use Rattle.line.proofs.Ways.{front-of}
-use Rattle.line.proofs.FreshRows.{rest-ignored, stays-good, few-more, used-or-rows}
+use Rattle.receiver.specs.Fresh.{FreshLine}
+use Rattle.receiver.specs.declared.Received.{Received}
+use Rattle.receiver.proofs.Ways.{front-of}
+use Rattle.receiver.proofs.FreshRows.{rest-ignored, stays-good, few-more, used-or-rows}
 use Rattle.listing.specs.Text.{heading, lineText, stoppedText}
 use Rattle.replay.specs.Run.{sheet, freshCalls, answerTo, headerIn, stops, runOf}
 use Rattle.replay.proofs.Turns.{used-frame}

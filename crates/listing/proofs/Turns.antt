@@ -12,7 +12,7 @@ use Rattle.frame.specs.Frame.{frameOf}
 use Rattle.calls.specs.declared.Call.{Call}
 use Rattle.calls.specs.declared.CallTable.{CallTable}
 use Rattle.calls.specs.Slots.{freshTable}
-use Rattle.line.specs.declared.Received.{Received}
+use Rattle.receiver.specs.declared.Received.{Received}
 use Rattle.text.specs.Text.{Added}
 use Rattle.text.proofs.Texts.{added-then}
 use Rattle.replay.specs.Run.{freshCalls, answerTo, headerIn, stops, Run, onward, entryOf, runFrom, runOf}

@@ -2,7 +2,7 @@
 use mathlib.Core.List.{List, [], _∷_, _++_}
 use Prim.Native.Nat.{ℕ}
 use Rattle.frame.specs.declared.Header.{Header}
-use Rattle.line.specs.declared.Received.{Received}
+use Rattle.receiver.specs.declared.Received.{Received}
 use Rattle.text.specs.Decimal.{decimal}
 use Rattle.text.specs.Text.{field}
 

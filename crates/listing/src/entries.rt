@@ -1,6 +1,8 @@
 // The entries of a record, one after the other.
 use crate::lines::put_line;
 use crate::lines::put_stopped;
+use constants::limit;
+use constants::refusal;
 use replay::step;
 use replay::stops;
 ghost use mathlib.Core.Path.{_≡_};
@@ -38,7 +40,7 @@ fn put_from_first(
         entry += 1;
         at = from + a.used;
     }
-    put_stopped(out, pos, 0, 0)
+    put_stopped(out, pos, refusal::ACCEPTED, 0)
 }
 
 // All entries of a record of at most 65,536 bytes, from the fresh call table, and the last line.
@@ -47,6 +49,6 @@ pub fn put_entries(schema: &[u8], entries: &[u8], out: &mut [u8], start: usize) 
     ensures { λ r. ⌜ Added (now (out .entry)) start (runText 1 (runOf (now (schema .entry)) (now (entries .entry)))) r (now (out .exit)) ⌝ }
     ensures { λ r. ⌜ r ≤ 362000 ⌝ }
 {
-    let mut sheet = [0u32; 16384];
+    let mut sheet = [0u32; limit::SHEET];
     put_from_first(schema, entries, &mut sheet, out, start)
 }

@@ -2,6 +2,8 @@
 mod entries;
 mod lines;
 
+use constants::limit;
+use constants::refusal;
 use schema::Checked;
 ghost use mathlib.Core.Path.{_≡_};
 ghost use mathlib.Core.List.{_++_};
@@ -19,8 +21,8 @@ fn put_all(schema: &[u8], entries: &[u8], out: &mut [u8]) -> usize
     ensures { λ r. ⌜ r ≤ 362000 ⌝ }
 {
     let pos = lines::put_heading(out);
-    if (65536 < schema.len()) | (65536 < entries.len()) {
-        return lines::put_stopped(out, pos, 45, 0);
+    if (limit::FILE < schema.len()) | (limit::FILE < entries.len()) {
+        return lines::put_stopped(out, pos, refusal::FILE_TOO_LONG, 0);
     }
     match arf::check_table(schema) {
         Checked::Refused { number, place: _ } => {

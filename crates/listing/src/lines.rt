@@ -1,6 +1,6 @@
 // The lines of a listing.
 use frame::Header;
-use line::Received;
+use receiver::Received;
 use replay::header;
 use text::put_byte;
 use text::put_decimal;

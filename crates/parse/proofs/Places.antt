@@ -6,7 +6,7 @@ use native.Mathlib.Omega.{arith}
 use borrow.Author.Tests.{le-leb, lt-leb}
 use lib.ListN.{length, drop, length-append, length-drop}
 use lib.Seq.{take-append-seam, drop-append-seam, drop-drop}
-use Rattle.buffer.specs.Span.{span, Spans}
+use Rattle.buffer.specs.Span.{span, SpanIs}
 use Rattle.wire.specs.Varuint.{varuint}
 use Rattle.wire.specs.declared.varuint.VarUInt.the-variants.{Number, Cut, Malformed}
 use Rattle.wire.proofs.Varuints.{varuint-inside}
@@ -19,7 +19,7 @@ module _ (B : List ℕ) where
   abbrev pub On : Cursor → Type 0
   On c = (c .left ≡ drop (c .at) B) × (c .at ≤ length B)
 
-  passed : (c c′ : Cursor) (u : List ℕ) → On c → c .left ≡ u ++ c′ .left → c′ .at ≡ c .at + length u → On c′ × Spans B (c .at) (length u) u
+  passed : (c c′ : Cursor) (u : List ℕ) → On c → c .left ≡ u ++ c′ .left → c′ .at ≡ c .at + length u → On c′ × SpanIs B (c .at) (length u) u
   passed c c′ u o l k =
       let e : u ++ c′ .left ≡ drop (c .at) B = sym l ∙ o .0 in
       let n : length u + length (c′ .left) ≡ length B - c .at = sym (length-append u (c′ .left)) ∙ ap length e ∙ length-drop (c .at) B in
@@ -30,11 +30,11 @@ module _ (B : List ℕ) where
 
   -- A reader stays in the payload.
   pub stays-on : {A : Type 0} {R : A → List ℕ → Type 0} {c : Cursor} {m : Answer A} → On c → Reads c R m
-      → Seen (λ a c′. On c′ × ((u : List ℕ) × (c′ .at ≡ c .at + length u) × Spans B (c .at) (length u) u × R a u)) m
+      → Seen (λ a c′. On c′ × ((u : List ℕ) × (c′ .at ≡ c .at + length u) × SpanIs B (c .at) (length u) u × R a u)) m
   stays-on o not-ok = nothing
   stays-on {c} o (ok {c′} u l k r) = let w = passed c c′ u o l k in holds (w .0, (u, k, w .1, r))
 
-  pub block-placed : (n : ℕ) (c : Cursor) → On c → Seen (λ x c′. On c′ × (c′ .at ≡ c .at + length x) × (length x ≡ n) × Spans B (c .at) n x) (block n c)
+  pub block-placed : (n : ℕ) (c : Cursor) → On c → Seen (λ x c′. On c′ × (c′ .at ≡ c .at + length x) × (length x ≡ n) × SpanIs B (c .at) n x) (block n c)
   block-placed n c o =
       seen-map (stays-on o (block-reads n c)) (λ x c′ w.
       let r = w .1 .3 in

@@ -1,9 +1,10 @@
 // A text on standard output, and the limits of the files that are read.
+use constants::limit;
 use libc::STDERR_FILENO;
 use libc::STDOUT_FILENO;
 
 // One byte more than a record or a schema file may have, so that a longer file shows.
-pub const LONGEST: usize = 65537;
+pub const LONGEST: usize = limit::FILE + 1;
 
 // One byte more than any file that is read may have.
 pub const MOST: usize = 131073;

@@ -145,7 +145,7 @@ p1-to-p10 = cases-by file T T-good T-rows 4 lent worked ∙ worked-by-T
 relay-written : (write.write rootTable 4 (rowsOf newCells) P6 6 ≡ write.written P6)
     × (forward T 4 (rowsOf oldCells) P6 4 1 6 ≡ write.written P6)
     × (write.write T 4 (rowsOf oldCells) P6 6 ≡ write.written (0x01 ∷ 0x01 ∷ 0x01 ∷ 0x07 ∷ []))
-unfolding rootAdded rowsOf forward write.write write.showRoot write.show write.rowOf write.nextRow write.bitsAt read.walk read.present read.complete onesIn
+unfolding rootAdded rowsOf forward write.write write.showRoot write.show write.rowDue write.nextRow write.bitsAt read.walk read.present read.complete onesIn
     table.shape answer.andThen answer.check little.little little.bytes varuint.varuintBytes varuint.shortest utf8.run utf8.next utf8.leadOf utf8.rows value.value spell.encode
 relay-written = (refl, refl, refl)
 

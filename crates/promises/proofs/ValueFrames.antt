@@ -9,7 +9,7 @@ use Rattle.schema.specs.File.{tableOf}
 use Rattle.frame.specs.declared.Header.{Header}
 use Rattle.frame.specs.Written.{frameBytes, outputOf, ReadBack}
 use Rattle.frame.specs.Frame.{frameOf, readUsed}
-use Rattle.frame.specs.IsFrame.{Fits}
+use Rattle.frame.specs.IsFrame.{HeaderFits}
 use Rattle.frame.proofs.Writes.{length-frame}
 use Rattle.frame.proofs.ReadBack as frame
 use Rattle.reader.specs.Entry.{room}
@@ -20,18 +20,18 @@ use Rattle.valueframe.specs.Entry.{frameOutcome}
 use Rattle.valueframe.specs.Claims as turn
 use Rattle.valueframe.proofs.InTurn.{payload-good, written-iff-in-turn}
 use Rattle.calls.specs.Order.{Past, Ruling}
-use Rattle.line.specs.Answer.{usedOf}
-use Rattle.line.specs.Order.{Said, said, Answered, Stands}
-use Rattle.line.specs.Order as order
-use Rattle.line.specs.Claims.{Front}
-use Rattle.line.specs.Planning.{frameFrom}
-use Rattle.line.specs.Run.{Event, Input, State, runFrom}
-use Rattle.line.proofs.Answers.{used-by-number}
-use Rattle.line.proofs.Runs.{by-order}
+use Rattle.receiver.specs.Answer.{usedOf}
+use Rattle.receiver.specs.Order.{Said, said, Answered, Stands}
+use Rattle.receiver.specs.Order as order
+use Rattle.receiver.specs.Claims.{Front}
+use Rattle.receiver.specs.Planning.{frameFrom}
+use Rattle.receiver.specs.Run.{Event, Input, State, runFrom}
+use Rattle.receiver.proofs.Answers.{used-by-number}
+use Rattle.receiver.proofs.Runs.{by-order}
 use Rattle.promises.specs.ValueFrames.{Carries, value, none, RuledNext, CountedNext, receivedNext, ReceivedBack}
 use Rattle.promises.proofs.ReadBack.{read-back}
 
-module _ (h : Header) (fits : Fits h) (s : List ℕ) (ty : ℕ) (sheet B out : List ℕ) (m : ℕ) (out′ : List ℕ)
+module _ (h : Header) (fits : HeaderFits h) (s : List ℕ) (ty : ℕ) (sheet B out : List ℕ) (m : ℕ) (out′ : List ℕ)
     (e : frameOutcome h s ty sheet B out ≡ writer.outcome (Written m) out′) where
   -- the two in turn, with a buffer of zeros between them
   abbrev mid : List ℕ

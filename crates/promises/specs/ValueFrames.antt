@@ -16,11 +16,11 @@ use Rattle.reader.specs.Entry.{outcome, readOutcome}
 use Rattle.calls.specs.declared.Payload.the-variants.{Struct, Empty, Unread}
 use Rattle.calls.specs.Slots.{countOpen}
 use Rattle.calls.specs.Order.{Past, Ruling, comes, pastOf, Ruled}
-use Rattle.line.specs.Answer.{Line, usedOf}
-use Rattle.line.specs.Planning.{frameFrom}
-use Rattle.line.specs.Receive.{received}
-use Rattle.line.specs.Order.{Said, said, saidBy, Counted}
-use Rattle.line.specs.Run.{Event, State, runFrom, heardFrom}
+use Rattle.receiver.specs.Answer.{Line, usedOf}
+use Rattle.receiver.specs.Planning.{frameFrom}
+use Rattle.receiver.specs.Receive.{received}
+use Rattle.receiver.specs.Order.{Said, said, saidBy, Counted}
+use Rattle.receiver.specs.Run.{Event, State, runFrom, heardFrom}
 use Rattle.promises.specs.Claims.{shapes, ReadsAs}
 
 -- The payload holds what the sheet shows over the bytes B: `read` shows it in the sheet after, whole and with no tail. Without a value it is empty.

@@ -26,9 +26,9 @@ use Rattle.value.specs.Narrow.{fieldsIn}
 use Rattle.value.proofs.Shapes.{good-closed}
 use Rattle.value.proofs.Narrowed.{first-all, narrowed, pruned-agree}
 use Rattle.value.proofs.Beside.{beside-same}
-use Rattle.parts.specs.Shape.{shapeIn}
-use Rattle.parts.proofs.Tables.{struct-row, struct-type, shape-struct, shape-none, no-struct}
-use Rattle.parts.proofs.Presence.{length-fields}
+use Rattle.walks.specs.Shape.{shapeIn}
+use Rattle.walks.proofs.Tables.{struct-row, struct-type, shape-struct, shape-none, no-struct}
+use Rattle.walks.proofs.Presence.{length-fields}
 use Rattle.reader.specs.declared.Reading.the-variants.{Refused}
 use Rattle.reader.specs.Entry.{outcome, outcomeOf, room, payloadOutcome}
 use Rattle.reader.specs.Beside.{Knows, shownOutcome, besidePayload}

@@ -20,13 +20,13 @@ use Rattle.value.specs.Value.{Tree, tip}
 use Rattle.value.specs.Read.{Item, plainItem, pairs, present, parts, bitmap, among, walk, whole, parse}
 use Rattle.value.proofs.Narrowed.{first-all}
 use Rattle.value.proofs.Comparisons.{due-half, due-few}
-use Rattle.parts.specs.Shape.{fieldsFrom}
-use Rattle.parts.proofs.Presence.{length-fields, present-set, present-clear}
-use Rattle.parts.proofs.Items.{keyItem, item-accepted, key-accepted, key-known, elements-some, pairs-some, pairs-none}
+use Rattle.walks.specs.Shape.{fieldsFrom}
+use Rattle.walks.proofs.Presence.{length-fields, present-set, present-clear}
+use Rattle.walks.proofs.Items.{keyItem, item-accepted, key-accepted, key-known, elements-some, pairs-some, pairs-none}
 use Rattle.reader.specs.declared.leaf.Count.{Count}
-use Rattle.reader.specs.declared.leaf.Count.the-variants.{Is, Not}
+use Rattle.reader.specs.declared.leaf.Count.the-variants.{Is, Refused as CountRefused}
 use Rattle.reader.specs.declared.leaf.Head.{Head}
-use Rattle.reader.specs.declared.leaf.Head.the-variants.{Bits, Fault}
+use Rattle.reader.specs.declared.leaf.Head.the-variants.{Bits, Refused as HeadRefused}
 use Rattle.reader.specs.declared.walk.Walk.{Walk}
 use Rattle.reader.specs.declared.walk.Walk.the-variants.{Past}
 use Rattle.reader.specs.Sheet.{putRow}
@@ -44,11 +44,11 @@ module _ (S : ℕ → Shape) (d t : ℕ) (p : List ℕ) (at : ℕ) where
     read-as : (n start : ℕ) → r ≡ Is n start → count least (cursorAt p at) ≡ seen n (cursorAt p start)
     read-as n start e = sym (read .same) ∙ ap (countOf p at) e
 
-    not-read : (number : ℕ) → r ≡ Not number → count least (cursorAt p at) ≡ refused number at
+    not-read : (number : ℕ) → r ≡ CountRefused number → count least (cursorAt p at) ≡ refused number at
     not-read number e = sym (read .same) ∙ ap (countOf p at) e
 
   module _ (e : ℕ) (is : S t ≡ array e) (r : Count) (read : Counted p at 1 (count 1 (cursorAt p at)) r) where
-    pub array-refused : (number : ℕ) → r ≡ Not number → parse S (suc d) t (cursorAt p at) ≡ refused number at
+    pub array-refused : (number : ℕ) → r ≡ CountRefused number → parse S (suc d) t (cursorAt p at) ≡ refused number at
     unfolding andThen
     array-refused number q = parse-refused S d t (cursorAt p at) (array e) is number at (rw (not-read 1 r read number q))
 
@@ -68,7 +68,7 @@ module _ (S : ℕ → Shape) (d t : ℕ) (p : List ℕ) (at : ℕ) where
           renamed (array-whole n start q) (further start (at + 1) w (omega (arith, i .0)) (as-told R S (parse S d) (array e) t start n (cursorAt p start) _ _ shown is h))
 
   module _ (k v : ℕ) (is : S t ≡ map k v) (r : Count) (read : Counted p at 2 (count 2 (cursorAt p at)) r) where
-    pub map-refused : (number : ℕ) → r ≡ Not number → parse S (suc d) t (cursorAt p at) ≡ refused number at
+    pub map-refused : (number : ℕ) → r ≡ CountRefused number → parse S (suc d) t (cursorAt p at) ≡ refused number at
     unfolding andThen
     map-refused number q = parse-refused S d t (cursorAt p at) (map k v) is number at (rw (not-read 2 r read number q))
 
@@ -97,7 +97,7 @@ module _ (S : ℕ → Shape) (d t : ℕ) (p : List ℕ) (at : ℕ) where
     bitmap-accepted h = accepted-first (bitmap fs (cursorAt p at)) _ (own-accepted S d t (cursorAt p at) (struct fs) is h)
 
     module _ (r : Head) (read : Headed p at fs (bitmap fs (cursorAt p at)) r) where
-      pub struct-refused : (number : ℕ) → r ≡ Fault number → parse S (suc d) t (cursorAt p at) ≡ refused number at
+      pub struct-refused : (number : ℕ) → r ≡ HeadRefused number → parse S (suc d) t (cursorAt p at) ≡ refused number at
       unfolding andThen
       struct-refused number q =
           parse-refused S d t (cursorAt p at) (struct fs) is number at (rw (sym (read .same) ∙ ap (headOf p at) q))
@@ -244,18 +244,18 @@ module _ (R S : ℕ → Shape) (P : ℕ → Reader Tree) (p : List ℕ) (k v n i
         (key-again R S P keys (plainItem v ∷ pairs (n - i - 1) k v) k (cursorAt p here) (spanRow k from to) (part p from to) (cursorAt p to) read sum below l e)
 
     -- a key is new where the walk that judges says so, and where the other walk is known to accept
-    module _ (judge r : Bool) where
-      pub pair-new : (judge ≡ false → Accepted (walk P keys (pairs (n - i) k v) (cursorAt p here))) → (judge ≡ true → r ≡ among (part p from to) keys)
+    module _ (judging r : Bool) where
+      pub pair-new : (judging ≡ false → Accepted (walk P keys (pairs (n - i) k v) (cursorAt p here))) → (judging ≡ true → r ≡ among (part p from to) keys)
           → r ≡ false → among (part p from to) keys ≡ false
-      pair-new a q e = go judge a q
+      pair-new a q e = go judging a q
         where
           go : (j : Bool) → (j ≡ false → Accepted (walk P keys (pairs (n - i) k v) (cursorAt p here))) → (j ≡ true → r ≡ among (part p from to) keys)
               → among (part p from to) keys ≡ false
           go false a q = pair-known (a refl)
           go true a q = sym (q refl) ∙ e
 
-      pub pair-old : (judge ≡ false → r ≡ false) → (judge ≡ true → r ≡ among (part p from to) keys) → r ≡ true → among (part p from to) keys ≡ true
-      pair-old a q e = go judge a q
+      pub pair-old : (judging ≡ false → r ≡ false) → (judging ≡ true → r ≡ among (part p from to) keys) → r ≡ true → among (part p from to) keys ≡ true
+      pair-old a q e = go judging a q
         where
           go : (j : Bool) → (j ≡ false → r ≡ false) → (j ≡ true → r ≡ among (part p from to) keys) → among (part p from to) keys ≡ true
           go false a q = absurd (false≢true (sym (a refl) ∙ e))

@@ -21,8 +21,8 @@ use Rattle.value.specs.Value.{Tree}
 use Rattle.value.specs.Read as value
 use Rattle.value.specs.Beside.{shownRows}
 use Rattle.value.proofs.Statements.{comparisons-within}
-use Rattle.parts.specs.Shape.{shapeIn, fieldsFrom}
-use Rattle.parts.proofs.Tables.{shape-struct, no-struct}
+use Rattle.walks.specs.Shape.{shapeIn, fieldsFrom}
+use Rattle.walks.proofs.Tables.{shape-struct, no-struct}
 use Rattle.reader.specs.declared.Reading.the-variants.{Shown, Refused}
 use Rattle.reader.specs.declared.walk.Walk.{Walk}
 use Rattle.reader.specs.declared.walk.Walk.the-variants.{Past, Refused as Stop}

@@ -16,10 +16,10 @@ use Rattle.schema.specs.declared.TypeRow.{TypeRow}
 use Rattle.schema.specs.Table.{Table, Shape, struct, rowAt}
 use Rattle.schema.specs.Check.{field}
 use Rattle.value.specs.Read.{parts, present, bitmap, own, whole, parse}
-use Rattle.parts.specs.Shape.{fieldsFrom}
-use Rattle.parts.specs.Required.{Requires}
+use Rattle.walks.specs.Shape.{fieldsFrom}
+use Rattle.walks.specs.Required.{Requires}
 use Rattle.reader.specs.declared.flat.Opened.{Opened}
-use Rattle.reader.specs.declared.flat.Opened.the-variants.{Bits, Fault}
+use Rattle.reader.specs.declared.flat.Opened.the-variants.{Bits, Refused}
 use Rattle.reader.specs.declared.walk.Walk.{Walk}
 use Rattle.reader.specs.Walk.{told, toldHeld, Walked}
 use Rattle.reader.specs.Flat.{LeavesIn, Unfolded}
@@ -70,7 +70,7 @@ module _ (p : List ℕ) (required n at : ℕ) (r : Opened) (u : Unfolded p requi
     pub opened-bits : (known start : ℕ) → r ≡ Bits known start → seen (parts at known) (cursorAt p start) ≡ own (struct (fieldsFrom T first n)) (cursorAt p at)
     opened-bits known start e = rw e at (u .same T first room req)
 
-    pub opened-fault : (number : ℕ) → r ≡ Fault number → refused number at ≡ own (struct (fieldsFrom T first n)) (cursorAt p at)
+    pub opened-fault : (number : ℕ) → r ≡ Refused number → refused number at ≡ own (struct (fieldsFrom T first n)) (cursorAt p at)
     opened-fault number e = rw e at (u .same T first room req)
 
 -- a struct as it is told from its bits on

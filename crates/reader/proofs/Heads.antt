@@ -13,14 +13,14 @@ use Rattle.parse.specs.Reader.{Accepted, seen, andThen, check, cursorAt}
 use Rattle.parse.proofs.Answers.{accepted-check}
 use Rattle.schema.specs.Table.{Table}
 use Rattle.value.specs.Read.{complete, bitmap}
-use Rattle.parts.specs.Shape.{fieldsFrom}
-use Rattle.parts.proofs.Presence.{length-fields, bits-read}
-use Rattle.reader.specs.declared.leaf.Head.the-variants.{Bits, Fault}
+use Rattle.walks.specs.Shape.{fieldsFrom}
+use Rattle.walks.proofs.Presence.{length-fields, bits-read}
+use Rattle.reader.specs.declared.leaf.Head.the-variants.{Bits, Refused}
 use Rattle.reader.specs.Leaf.{part, Headed}
 use Rattle.reader.proofs.Leaves.{block-reads, block-short}
 
 module _ (p : List ℕ) (T : Table) (first n at : ℕ) (room : first + n ≤ length (T .fields)) where
-  pub head-cut : length p - at < (n + 7) / 8 → Headed p at (fieldsFrom T first n) (bitmap (fieldsFrom T first n) (cursorAt p at)) (Fault 20)
+  pub head-cut : length p - at < (n + 7) / 8 → Headed p at (fieldsFrom T first n) (bitmap (fieldsFrom T first n) (cursorAt p at)) (Refused 20)
   unfolding bitmap andThen
   head-cut h = record { same = rw (length-fields T first n room, block-short p at ((n + 7) / 8) h); within = tt }
 
@@ -36,7 +36,7 @@ module _ (p : List ℕ) (T : Table) (first n at : ℕ) (room : first + n ≤ len
         (rw (length-fields T first n room, block-reads p at ((n + 7) / 8) inside, bits-are, ← is .word-is) at h) .0
 
     pub head-incomplete : complete (fieldsFrom T first n) word ≡ false
-        → Headed p at (fieldsFrom T first n) (bitmap (fieldsFrom T first n) (cursorAt p at)) (Fault 25)
+        → Headed p at (fieldsFrom T first n) (bitmap (fieldsFrom T first n) (cursorAt p at)) (Refused 25)
     unfolding bitmap andThen check
     head-incomplete h =
         record { same = rw (length-fields T first n room, block-reads p at ((n + 7) / 8) inside, bits-are, ← is .word-is, h); within = tt }

@@ -21,8 +21,8 @@ use Rattle.schema.specs.Table.{scalar, text, width}
 use Rattle.value.specs.Read.{plain, own}
 use Rattle.value.proofs.Spans.{truth-byte}
 use Rattle.reader.specs.declared.leaf.Count.{Count}
-use Rattle.reader.specs.declared.leaf.Count.the-variants.{Is, Not}
-use Rattle.reader.specs.declared.leaf.Span.the-variants.{At, Bad}
+use Rattle.reader.specs.declared.leaf.Count.the-variants.{Is, Refused as CountRefused}
+use Rattle.reader.specs.declared.leaf.Span.the-variants.{At, Refused as SpanRefused}
 use Rattle.reader.specs.Leaf.{part, countOf, CountIn, Counted, Spanned}
 
 -- ---- parts of the payload
@@ -56,22 +56,22 @@ module _ (p : List ℕ) (at : ℕ) where
       rw (e, drop-drop (next - at) at p, f)
 
   module _ (least : ℕ) where
-    pub count-cut : varuint p at ≡ Cut → Counted p at least (count least (cursorAt p at)) (Not 20)
+    pub count-cut : varuint p at ≡ Cut → Counted p at least (count least (cursorAt p at)) (CountRefused 20)
     unfolding count varUInt andThen
     count-cut e = record { same = rw e; within = tt }
 
-    pub count-malformed : varuint p at ≡ Malformed → Counted p at least (count least (cursorAt p at)) (Not 21)
+    pub count-malformed : varuint p at ≡ Malformed → Counted p at least (count least (cursorAt p at)) (CountRefused 21)
     unfolding count varUInt andThen
     count-malformed e = record { same = rw e; within = tt }
 
     module _ (n next : ℕ) (is : varuint p at ≡ Number n next) where
-      pub count-large : length p - next < least * n → Counted p at least (count least (cursorAt p at)) (Not 20)
+      pub count-large : length p - next < least * n → Counted p at least (count least (cursorAt p at)) (CountRefused 20)
       unfolding count andThen check
       count-large h =
           let l : length (drop next p) < least * n = rw length-drop h in
           record { same = rw (number-reads n next is, lt-leb (least * n) (length (drop next p)) l); within = tt }
 
-      pub count-above : 0 < least → length p - next < n → Counted p at least (count least (cursorAt p at)) (Not 20)
+      pub count-above : 0 < least → length p - next < n → Counted p at least (count least (cursorAt p at)) (CountRefused 20)
       count-above z h =
           let m : 1 * n ≤ least * n = mul-le-mul {n₁ = 1} {m₁ = n} (omega arith) (omega arith) in
           count-large (omega arith)
@@ -86,7 +86,7 @@ module _ (p : List ℕ) (at : ℕ) where
 -- ---- scalars
 
 module _ (p : List ℕ) (kind at w : ℕ) (is : w ≡ width kind) where
-  pub scalar-cut : length p - at < w → Spanned p at (own (scalar kind) (cursorAt p at)) (Bad at 20)
+  pub scalar-cut : length p - at < w → Spanned p at (own (scalar kind) (cursorAt p at)) (SpanRefused at 20)
   unfolding andThen
   scalar-cut h = record { same = rw (← is, block-short p at w h); within = tt }
 
@@ -104,7 +104,7 @@ module _ (p : List ℕ) (kind at w : ℕ) (is : w ≡ width kind) where
     pub scalar-other : (kind ≡ 1 → ⊥) → (not (eqb kind 1) || ltb (little (part p at (at + w))) 2) ≡ true
     scalar-other k = rw (ne-eqb kind 1 k)
 
-    pub scalar-bad : kind ≡ 1 → 1 < getD p at 0 → Spanned p at (own (scalar kind) (cursorAt p at)) (Bad at 22)
+    pub scalar-bad : kind ≡ 1 → 1 < getD p at 0 → Spanned p at (own (scalar kind) (cursorAt p at)) (SpanRefused at 22)
     unfolding andThen check
     scalar-bad k h =
         let f : ltb (little (part p at (at + w))) 2 ≡ false = rw (little-first k) (le-ltb (getD p at 0) 2 h) in
@@ -113,7 +113,7 @@ module _ (p : List ℕ) (kind at w : ℕ) (is : w ≡ width kind) where
 -- ---- strings and bytes
 
 module _ (p : List ℕ) (kind at : ℕ) (r : Count) (counted : Counted p at 1 (count 1 (cursorAt p at)) r) where
-  pub text-refused : (number : ℕ) → r ≡ Not number → Spanned p at (own (text kind) (cursorAt p at)) (Bad at number)
+  pub text-refused : (number : ℕ) → r ≡ CountRefused number → Spanned p at (own (text kind) (cursorAt p at)) (SpanRefused at number)
   unfolding andThen
   text-refused number e = record { same = rw (sym (counted .same), e); within = tt }
 
@@ -133,7 +133,7 @@ module _ (p : List ℕ) (kind at : ℕ) (r : Count) (counted : Counted p at 1 (c
         (accepted-check (utf8 (part p start (start + n))) 23 start (cursorAt p (start + n)) (λ _ c. seen (plain (part p start (start + n))) c)
         (rw (read-as, block-reads p start n (text-in .1), eq-eqb kind 12 k) at h) .0)
 
-    pub text-bad : kind ≡ 12 → utf8 (span p start n) ≡ false → Spanned p at (own (text kind) (cursorAt p at)) (Bad start 23)
+    pub text-bad : kind ≡ 12 → utf8 (span p start n) ≡ false → Spanned p at (own (text kind) (cursorAt p at)) (SpanRefused start 23)
     unfolding andThen check
     text-bad k e =
         let f : utf8 (part p start (start + n)) ≡ false = rw (part-is p start n) at e in

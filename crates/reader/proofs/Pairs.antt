@@ -12,13 +12,13 @@ use Rattle.schema.specs.File.{tableOf}
 use Rattle.value.specs.Value.{Tree, tip}
 use Rattle.value.specs.Comparisons.{due}
 use Rattle.value.specs.Read.{pairs, own, among, walk, parse}
-use Rattle.parts.specs.Shape.{leafShape, shapeIn}
-use Rattle.parts.specs.Keys.{keysIn, Kept}
-use Rattle.parts.proofs.Tables.{shape-leaf}
-use Rattle.parts.proofs.Items.{pairs-none}
-use Rattle.parts.proofs.Walks.{deeper}
+use Rattle.walks.specs.Shape.{leafShape, shapeIn}
+use Rattle.walks.specs.Keys.{keysIn, Kept}
+use Rattle.walks.proofs.Tables.{shape-leaf}
+use Rattle.walks.proofs.Items.{pairs-none}
+use Rattle.walks.proofs.Walks.{deeper}
 use Rattle.reader.specs.declared.leaf.Span.{Span}
-use Rattle.reader.specs.declared.leaf.Span.the-variants.{At, Bad}
+use Rattle.reader.specs.declared.leaf.Span.the-variants.{At, Refused as SpanRefused}
 use Rattle.reader.specs.declared.walk.Walk.the-variants.{Past, Refused}
 use Rattle.reader.specs.Sheet.{putRow}
 use Rattle.reader.specs.Leaf.{part, Spanned}
@@ -44,7 +44,7 @@ pub record Along (s p : List ℕ) (depth key val n start row : ℕ) (sheet : Lis
 abbrev readAt : (s : List ℕ) (depth : ℕ) → ℕ → Reader Tree
 readAt s depth = parse (shapeIn s) depth
 
-module _ {s p : List ℕ} {depth ty key val n start row : ℕ} {judge : Bool} (q : PairsReady s p depth ty key val n start row judge) where
+module _ {s p : List ℕ} {depth ty key val n start row : ℕ} {judging : Bool} (q : PairsReady s p depth ty key val n start row judging) where
   pub along-first : (sheet : List ℕ) → Along s p depth key val n start row sheet [] 0 start (row + 1) sheet
   along-first sheet =
       record {
@@ -78,7 +78,7 @@ module _ {s p : List ℕ} {depth ty key val n start row : ℕ} {judge : Bool} (q
     pub along-deep : depth ≡ 0 → {after : List ℕ} → HeldPairs s p depth ty key val start n start row sheet (Refused 28 here) after
     along-deep e {after} = along-stop 28 here after (parse-deep (shapeIn s) depth key (cursorAt p here) e)
 
-    left : judge ≡ false → Accepted (walk (readAt s depth) keys (pairs (n - i) key val) (cursorAt p here))
+    left : judging ≡ false → Accepted (walk (readAt s depth) keys (pairs (n - i) key val) (cursorAt p here))
     left j =
         rest-accepted (shapeIn s) (shapeIn s) (readAt s depth) (map key val) ty start n (cursorAt p start) row sheet (walk (readAt s depth) keys (pairs (n - i) key val) (cursorAt p here))
         (pairs (n - i) key val) 0 below l (a .same (shapeIn s)) (q .ready .judged j)
@@ -87,13 +87,13 @@ module _ {s p : List ℕ} {depth ty key val n start row : ℕ} {judge : Bool} (q
       key-is : shapeIn s key ≡ leafShape (k .kind)
       key-is = shape-leaf (tableOf s) key k row-k (rw row-k (q .leaves .0)) (rw row-k (q .leaves .1))
 
-      pub key-asked : judge ≡ false → Accepted (own (leafShape (k .kind)) (cursorAt p here))
+      pub key-asked : judging ≡ false → Accepted (own (leafShape (k .kind)) (cursorAt p here))
       key-asked j =
           own-accepted (shapeIn s) (depth - 1) key (cursorAt p here) (leafShape (k .kind)) key-is
           (deeper (λ d. Accepted (parse (shapeIn s) d key (cursorAt p here))) depth d0 (pair-key-accepted (shapeIn s) (shapeIn s) (readAt s depth) p key val n i keys here some (left j)))
 
       module _ {r : Span} (read : Spanned p here (own (leafShape (k .kind)) (cursorAt p here)) r) where
-        pub key-failed : {number place : ℕ} → r ≡ Bad place number → {after : List ℕ}
+        pub key-failed : {number place : ℕ} → r ≡ SpanRefused place number → {after : List ℕ}
             → HeldPairs s p depth ty key val start n start row sheet (Refused number place) after
         key-failed {number} {place} e {after} =
             along-stop number place after (leaf-failed (shapeIn s) depth key (leafShape (k .kind)) key-is d0 p here r read number place e)
@@ -106,33 +106,33 @@ module _ {s p : List ℕ} {depth ty key val n start row : ℕ} {judge : Bool} (q
           key-read = leaf-parsed (shapeIn s) depth key (leafShape (k .kind)) key-is d0 p here r read from to e
 
           -- whether the key is new is what the walk that judges says of those it kept; the other walk is known to accept
-          module _ (kept : List ℕ) (held : judge ≡ true → (keys ≡ keysIn p kept i) × Kept p kept true i) {again : Bool}
-              (said : judge ≡ true → again ≡ among (part p from to) (keysIn p kept i)) where
-            judged : judge ≡ true → again ≡ among (part p from to) keys
+          module _ (kept : List ℕ) (held : judging ≡ true → (keys ≡ keysIn p kept i) × Kept p kept true i) {again : Bool}
+              (said : judging ≡ true → again ≡ among (part p from to) (keysIn p kept i)) where
+            judged : judging ≡ true → again ≡ among (part p from to) keys
             judged j = said j ∙ ap (among (part p from to)) (sym (held j .0))
 
-            pub again-stop : (judge ≡ false → again ≡ false) → again ≡ true → {after : List ℕ}
+            pub again-stop : (judging ≡ false → again ≡ false) → again ≡ true → {after : List ℕ}
                 → HeldPairs s p depth ty key val start n start row sheet (Refused 24 here) after
             again-stop known e {after} R =
                 composite-stop R (shapeIn s) (readAt s depth) (map key val) ty start n (cursorAt p start) row sheet p start 24 here after
                 (pair-again R (shapeIn s) (readAt s depth) p key val n i keys here some from to key-read 0 below l
-                (pair-old R (shapeIn s) (readAt s depth) p key val n i keys here some from to key-read judge again known judged e) ∙ a .same R)
+                (pair-old R (shapeIn s) (readAt s depth) p key val n i keys here some from to key-read judging again known judged e) ∙ a .same R)
 
             module _ (fresh : again ≡ false) {m : List ℕ} (put : m ≡ putRow l below (spanRow key from to)) {v : TypeRow} (row-v : v ≡ rowAt (tableOf s) val) where
               new : among (part p from to) keys ≡ false
-              new = pair-new (shapeIn s) (shapeIn s) (readAt s depth) p key val n i keys here some from to key-read judge again left judged fresh
+              new = pair-new (shapeIn s) (shapeIn s) (readAt s depth) p key val n i keys here some from to key-read judging again left judged fresh
 
               val-is : shapeIn s val ≡ leafShape (v .kind)
               val-is = shape-leaf (tableOf s) val v row-v (rw row-v (q .leaves .2)) (rw row-v (q .leaves .3))
 
-              pub value-asked : judge ≡ false → Accepted (own (leafShape (v .kind)) (cursorAt p to))
+              pub value-asked : judging ≡ false → Accepted (own (leafShape (v .kind)) (cursorAt p to))
               value-asked j =
                   own-accepted (shapeIn s) (depth - 1) val (cursorAt p to) (leafShape (v .kind)) val-is
                   (deeper (λ d. Accepted (parse (shapeIn s) d val (cursorAt p to))) depth d0
                   (pair-value-accepted (shapeIn s) (shapeIn s) (readAt s depth) p key val n i keys here some from to key-read new 0 below l m put (left j)))
 
               module _ {r′ : Span} (read′ : Spanned p to (own (leafShape (v .kind)) (cursorAt p to)) r′) where
-                pub value-failed : {number place : ℕ} → r′ ≡ Bad place number → {after : List ℕ}
+                pub value-failed : {number place : ℕ} → r′ ≡ SpanRefused place number → {after : List ℕ}
                     → HeldPairs s p depth ty key val start n start row sheet (Refused number place) after
                 value-failed {number} {place} e′ {after} R =
                     composite-stop R (shapeIn s) (readAt s depth) (map key val) ty start n (cursorAt p start) row sheet p start number place after

@@ -21,8 +21,8 @@ use Rattle.value.proofs.Without.{_⧺_, trees}
 use Rattle.value.proofs.RootTables.{walk-size}
 use Rattle.value.proofs.Pruned.{pruned-first}
 use Rattle.value.proofs.Narrowed.{goOn, walk-append}
-use Rattle.parts.specs.Shape.{fieldsFrom}
-use Rattle.parts.proofs.Presence.{length-fields}
+use Rattle.walks.specs.Shape.{fieldsFrom}
+use Rattle.walks.proofs.Presence.{length-fields}
 use Rattle.reader.specs.declared.walk.Walk.the-variants.{Past, Refused}
 use Rattle.reader.specs.Sheet.{putRow, putRows}
 use Rattle.reader.specs.Walk.{told, toldAll, toldHeld, done, stopped, walkOf, Walked}

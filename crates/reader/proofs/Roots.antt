@@ -13,7 +13,7 @@ use Rattle.schema.specs.Table.{Shape, struct}
 use Rattle.value.specs.Value.{Tree, branch, Forest}
 use Rattle.value.specs.Read.{counted, plan, bitmap, parts, walk, nodeRow, whole, parse, ending, rootStruct}
 use Rattle.reader.specs.declared.leaf.Head.{Head}
-use Rattle.reader.specs.declared.leaf.Head.the-variants.{Bits, Fault}
+use Rattle.reader.specs.declared.leaf.Head.the-variants.{Bits, Refused as HeadRefused}
 use Rattle.reader.specs.declared.walk.Walk.the-variants.{Past, Refused}
 use Rattle.reader.specs.Leaf.{headOf, HeadIn, Headed}
 use Rattle.reader.specs.Walk.{Told, done, stopped, walkOf, Walked}
@@ -84,7 +84,7 @@ module _ (S : ℕ → Shape) (t : ℕ) (fs : List Field) (p : List ℕ) where
   root-bitmap h = accepted-first (bitmap fs (cursorAt p 0)) _ h
 
   module _ (r : Head) (read : Headed p 0 fs (bitmap fs (cursorAt p 0)) r) where
-    pub root-refused : (number : ℕ) → r ≡ Fault number → rootStruct S t fs (cursorAt p 0) ≡ refused number 0
+    pub root-refused : (number : ℕ) → r ≡ HeadRefused number → rootStruct S t fs (cursorAt p 0) ≡ refused number 0
     unfolding rootStruct andThen
     root-refused number e = rw (sym (read .same) ∙ ap (headOf p 0) e)
 

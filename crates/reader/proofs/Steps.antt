@@ -15,10 +15,10 @@ use Rattle.value.specs.Value.{Tree, tip, branch, Forest, plus, rows, rowsAll, v
 use Rattle.value.specs.Comparisons.{mapDue, comparisons, comparisonsAll}
 use Rattle.value.specs.Read.{Item, plainItem, plan, counted, Own, plain, parts, own, among, walk, leafRow, nodeRow, whole, parse}
 use Rattle.value.specs.Beside.{pruned, prunedAll}
-use Rattle.parts.specs.Shape.{shapeIn}
-use Rattle.parts.proofs.Items.{keyItem, afterItem, afterKey, item-step, key-step}
+use Rattle.walks.specs.Shape.{shapeIn}
+use Rattle.walks.proofs.Items.{keyItem, afterItem, afterKey, item-step, key-step}
 use Rattle.reader.specs.declared.leaf.Span.{Span}
-use Rattle.reader.specs.declared.leaf.Span.the-variants.{At, Bad}
+use Rattle.reader.specs.declared.leaf.Span.the-variants.{At, Refused as SpanRefused}
 use Rattle.reader.specs.declared.walk.Walk.{Walk}
 use Rattle.reader.specs.declared.walk.Walk.the-variants.{Past, Refused}
 use Rattle.reader.specs.Sheet.{putRow, putRows}
@@ -244,7 +244,7 @@ module _ (S : ℕ → Shape) (d t : ℕ) (sh : Shape) (is : S t ≡ sh) (some : 
   deep : d ≡ suc (d - 1)
   deep = omega (arith, some)
 
-  pub leaf-failed : (n q : ℕ) → r ≡ Bad q n → parse S d t (cursorAt p at) ≡ refused n q
+  pub leaf-failed : (n q : ℕ) → r ≡ SpanRefused q n → parse S d t (cursorAt p at) ≡ refused n q
   leaf-failed n q e = rw deep (parse-refused S (d - 1) t (cursorAt p at) sh is n q (sym (read .same) ∙ ap (spanOf p) e))
 
   module _ (from to : ℕ) (e : r ≡ At from to) where

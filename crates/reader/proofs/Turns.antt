@@ -16,9 +16,9 @@ use Rattle.schema.specs.File.{tableOf}
 use Rattle.schema.specs.Check.{IsGood, field}
 use Rattle.value.specs.Read.{Item, present, parts, own, walk, whole, parse}
 use Rattle.value.specs.Narrow.{firstOf}
-use Rattle.parts.specs.Shape.{fieldsFrom, leafShape, shapeIn}
-use Rattle.parts.proofs.Masks.{Standing, standing-first, standing-some, standing-next, standing-field, standing-kind, standing-skip, standing-same, standing-end}
-use Rattle.parts.proofs.Tables.{shape-leaf, shape-array, shape-struct}
+use Rattle.walks.specs.Shape.{fieldsFrom, leafShape, shapeIn}
+use Rattle.walks.proofs.Masks.{Standing, standing-first, standing-some, standing-next, standing-field, standing-kind, standing-skip, standing-same, standing-end}
+use Rattle.walks.proofs.Tables.{shape-leaf, shape-array, shape-struct}
 use Rattle.reader.specs.declared.flat.Prepared.{Prepared}
 use Rattle.reader.specs.declared.leaf.Span.{Span}
 use Rattle.reader.specs.declared.leaf.Span.the-variants.{At}

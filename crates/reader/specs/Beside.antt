@@ -10,7 +10,7 @@ use Rattle.schema.specs.Extend.{widened}
 use Rattle.value.specs.Read.{rootOf, readingAs}
 use Rattle.value.specs.Beside.{shownRows, readBeside}
 use Rattle.value.specs.Narrow.{fieldsIn}
-use Rattle.parts.specs.Shape.{shapeIn}
+use Rattle.walks.specs.Shape.{shapeIn}
 use Rattle.reader.specs.declared.Reading.the-variants.{Refused}
 use Rattle.reader.specs.Entry.{Outcome, outcome, outcomeOf, afterTable, room}
 use Rattle.reader.specs.Walk.{firstFields}

@@ -10,11 +10,11 @@ use Rattle.schema.specs.File.{tableOf, Laid}
 use Rattle.schema.specs.Check.{field}
 use Rattle.value.specs.Comparisons.{mapDue}
 use Rattle.value.specs.Read.{Own, parts, own, plan}
-use Rattle.parts.specs.Shape.{fieldsFrom, shapeIn}
-use Rattle.parts.specs.Required.{Requires}
+use Rattle.walks.specs.Shape.{fieldsFrom, shapeIn}
+use Rattle.walks.specs.Required.{Requires}
 use Rattle.reader.specs.declared.flat.Prepared.{Prepared}
 use Rattle.reader.specs.declared.flat.Opened.{Opened}
-use Rattle.reader.specs.declared.flat.Opened.the-variants.{Bits, Fault}
+use Rattle.reader.specs.declared.flat.Opened.the-variants.{Bits, Refused}
 use Rattle.reader.specs.declared.walk.Walk.{Walk}
 use Rattle.reader.specs.Walk.{valueIn, wholeIn, told, toldHeld, Walked, Ready}
 
@@ -45,11 +45,11 @@ pub record Described (s : List ℕ) (ty : ℕ) (e : Prepared) : Type 0 where
 
 abbrev pub openedOf : List ℕ → ℕ → Opened → Answer Own
 openedOf p at (Bits known start) = seen (parts at known) (cursorAt p start)
-openedOf p at (Fault number) = refused number at
+openedOf p at (Refused number) = refused number at
 
 abbrev pub OpenedIn : (size n at : ℕ) → Opened → Type 0
 OpenedIn size n at (Bits known start) = (known < 2 ^ n) × (at < start) × (start ≤ size)
-OpenedIn size n at (Fault number) = Unit {0}
+OpenedIn size n at (Refused number) = Unit {0}
 
 pub record Unfolded (p : List ℕ) (required n at : ℕ) (r : Opened) : Type 0 where
   pub same : (T : Table) (first : ℕ) → first + n ≤ length (T .fields) → Requires required (fieldsFrom T first n)
@@ -80,8 +80,8 @@ HeldPairs s p depth ty key val place n at row sheet r after =
     → Walked p at (toldHeld R (shapeIn s) (mapDue (map key val) n) (plan (map key val) n)) (wholeIn s p depth ty (map key val) place n at) row sheet r after
 
 -- What the loop over the n pairs of such a map may assume.
-pub record PairsReady (s p : List ℕ) (depth ty key val n start row : ℕ) (judge : Bool) : Type 0 where
-  pub ready : Ready s p start (row + 1) judge (wholeIn s p depth ty (map key val) start n start)
+pub record PairsReady (s p : List ℕ) (depth ty key val n start row : ℕ) (judging : Bool) : Type 0 where
+  pub ready : Ready s p start (row + 1) judging (wholeIn s p depth ty (map key val) start n start)
   pub leaves : PairsIn (tableOf s) key val
   pub most : n ≤ 64
 

@@ -8,11 +8,11 @@ use Rattle.parse.specs.Reader.{Answer, refused, seen, cursorAt}
 use Rattle.schema.specs.declared.Field.{Field}
 use Rattle.value.specs.Read.{Own, plain, present, knownBits, unknownBits}
 use Rattle.reader.specs.declared.leaf.Count.{Count}
-use Rattle.reader.specs.declared.leaf.Count.the-variants.{Is, Not}
+use Rattle.reader.specs.declared.leaf.Count.the-variants.{Is, Refused as CountRefused}
 use Rattle.reader.specs.declared.leaf.Span.{Span}
-use Rattle.reader.specs.declared.leaf.Span.the-variants.{At, Bad}
+use Rattle.reader.specs.declared.leaf.Span.the-variants.{At, Refused as SpanRefused}
 use Rattle.reader.specs.declared.leaf.Head.{Head}
-use Rattle.reader.specs.declared.leaf.Head.the-variants.{Bits, Fault}
+use Rattle.reader.specs.declared.leaf.Head.the-variants.{Bits, Refused as HeadRefused}
 
 -- The bytes from one place up to another.
 abbrev pub part : List ℕ → ℕ → ℕ → List ℕ
@@ -23,11 +23,11 @@ part p from to = take (to - from) (drop from p)
 -- A count's answer as the answer of a reader at `at`.
 abbrev pub countOf : List ℕ → ℕ → Count → Answer ℕ
 countOf p at (Is n start) = seen n (cursorAt p start)
-countOf p at (Not number) = refused number at
+countOf p at (CountRefused number) = refused number at
 
 abbrev pub CountIn : (size at least : ℕ) → Count → Type 0
 CountIn size at least (Is n start) = (at < start) × (start + least * n ≤ size)
-CountIn size at least (Not number) = Unit {0}
+CountIn size at least (CountRefused number) = Unit {0}
 
 pub record Counted (p : List ℕ) (at least : ℕ) (o : Answer ℕ) (r : Count) : Type 0 where
   pub same : countOf p at r ≡ o
@@ -41,11 +41,11 @@ Uncounted p at o = Counted p at 2 o (Is 0 (at + 1))
 
 abbrev pub spanOf : List ℕ → Span → Answer Own
 spanOf p (At from to) = seen (plain (part p from to)) (cursorAt p to)
-spanOf p (Bad place number) = refused number place
+spanOf p (SpanRefused place number) = refused number place
 
 abbrev pub SpanIn : (size at : ℕ) → Span → Type 0
 SpanIn size at (At from to) = (from ≤ to) × (to ≤ size) × (at < to)
-SpanIn size at (Bad place number) = Unit {0}
+SpanIn size at (SpanRefused place number) = Unit {0}
 
 pub record Spanned (p : List ℕ) (at : ℕ) (o : Answer Own) (r : Span) : Type 0 where
   pub same : spanOf p r ≡ o
@@ -55,7 +55,7 @@ pub record Spanned (p : List ℕ) (at : ℕ) (o : Answer Own) (r : Span) : Type 
 
 abbrev pub headOf : List ℕ → ℕ → Head → Answer ℕ
 headOf p at (Bits word known count unknown start) = seen word (cursorAt p start)
-headOf p at (Fault number) = refused number at
+headOf p at (HeadRefused number) = refused number at
 
 -- The known bits and their count, the number of unknown ones, and that there is none exactly where the word is below 2 ^ fields.
 abbrev pub HeadIn : (size at : ℕ) → List Field → Head → Type 0
@@ -67,7 +67,7 @@ HeadIn size at fs (Bits word known count unknown start) =
     × (at < start)
     × (start ≤ size)
     × (count ≤ 64)
-HeadIn size at fs (Fault number) = Unit {0}
+HeadIn size at fs (HeadRefused number) = Unit {0}
 
 pub record Headed (p : List ℕ) (at : ℕ) (fs : List Field) (o : Answer ℕ) (r : Head) : Type 0 where
   pub same : headOf p at r ≡ o

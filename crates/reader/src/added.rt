@@ -10,11 +10,14 @@ use crate::leaf::ones_in;
 use crate::leaf::shown_of;
 use crate::sheet::put_row;
 use crate::walk::Walk;
-use parts::zeros_in;
+use constants::kind;
+use constants::limit;
+use constants::refusal;
 use schema::Layout;
 use schema::access::type_row;
 use schema::rows::field_row;
 use schema::rows::row as row_at;
+use walks::zeros_in;
 use wire::bitmap::low_bits;
 ghost use mathlib.Core.Path.{_≡_};
 ghost use mathlib.Core.Bool.{true};
@@ -23,12 +26,12 @@ ghost use lib.ListN.{length, getD};
 ghost use Rattle.schema.specs.Table.{rowAt, array, struct};
 ghost use Rattle.schema.specs.File.{Laid, tableOf};
 ghost use Rattle.schema.specs.Check.{IsGood};
-ghost use Rattle.parts.specs.Shape.{fieldsFrom};
+ghost use Rattle.walks.specs.Shape.{fieldsFrom};
 ghost use Rattle.reader.specs.Walk.{valueIn, wholeIn, Ready};
 ghost use Rattle.reader.specs.Flat.{LeavesIn, IsFlat, Described, HeldFields, ValuedPart, HeldPart};
 
-// Whether the elements of a type are such structs.
-pub fn is_partly_shown(shown: &[u8; 256], s: &[u8], ty: u32, depth: usize) -> bool
+// Whether the values of a type are such structs.
+pub fn is_partly_shown(shown: &[u8; limit::TYPES], s: &[u8], ty: u32, depth: usize) -> bool
     requires { ⌜ IsGood (now s) ⌝ }
     ensures { λ r. ⌜ (r ≡ true → IsFlat (now (s .entry)) depth ty × (rowAt (tableOf (now (s .entry))) ty .kind ≡ 16) × (getD (now (shown .entry)) ty 0 < rowAt (tableOf (now (s .entry))) ty .b)) ⌝ }
 {
@@ -36,7 +39,7 @@ pub fn is_partly_shown(shown: &[u8; 256], s: &[u8], ty: u32, depth: usize) -> bo
         return false;
     }
     let t = type_row(s, ty as usize);
-    if t.kind != 16 {
+    if t.kind != kind::STRUCT {
         return false;
     }
     let n = t.b as usize;
@@ -60,9 +63,9 @@ fn leaf_fields(
     start: usize,
     depth: usize,
     row: usize,
-    judge: bool,
+    judging: bool,
 ) -> Walk
-    requires { ⌜ Ready (now s) (now p) start (row + 1) judge (wholeIn (now s) (now p) depth ty (struct (fieldsFrom (tableOf (now s)) first n)) place known start) × (place ≤ start) × (0 < depth) ⌝ }
+    requires { ⌜ Ready (now s) (now p) start (row + 1) judging (wholeIn (now s) (now p) depth ty (struct (fieldsFrom (tableOf (now s)) first n)) place known start) × (place ≤ start) × (0 < depth) ⌝ }
     requires { ⌜ Laid (now s) l × LeavesIn (tableOf (now s)) first (first + n) × (n ≤ 64) × (known < 2 ^ n) × (first + n ≤ length (tableOf (now s) .fields)) ⌝ }
     ensures { λ r. ⌜ HeldFields (now (s .entry)) (now (p .entry)) depth ty first n place known start row (now (sheet .entry)) r (now (sheet .exit)) ⌝ }
 {
@@ -74,8 +77,8 @@ fn leaf_fields(
         if bits % 2 == 1 {
             let d = field_row(s, l, i);
             let t = row_at(s, l, d.ty as usize);
-            match content(p, t.kind as usize, here, judge) {
-                Span::Bad { number, place } => {
+            match content(p, t.kind as usize, here, judging) {
+                Span::Refused { number, place } => {
                     return Walk::Refused { number, place };
                 }
                 Span::At { from, to } => {
@@ -110,15 +113,15 @@ fn part_struct(
     at: usize,
     depth: usize,
     row: usize,
-    judge: bool,
+    judging: bool,
 ) -> Walk
-    requires { ⌜ Ready (now s) (now p) at row judge (valueIn (now s) (now p) (suc depth) (f .ty) at) × Described (now s) (f .ty) f × IsFlat (now s) (suc depth) (f .ty) × (f .row .kind ≡ 16) × (m < f .row .b) ⌝ }
+    requires { ⌜ Ready (now s) (now p) at row judging (valueIn (now s) (now p) (suc depth) (f .ty) at) × Described (now s) (f .ty) f × IsFlat (now s) (suc depth) (f .ty) × (f .row .kind ≡ 16) × (m < f .row .b) ⌝ }
     ensures { λ r. ⌜ ValuedPart (now (s .entry)) (now (p .entry)) (suc depth) (f .ty) m at row (now (sheet .entry)) r (now (sheet .exit)) ⌝ }
 {
     let first = f.row.a as usize;
     let n = f.row.b as usize;
     match read_bits(p, f.required, n, at) {
-        Opened::Fault { number } => Walk::Refused { number, place: at },
+        Opened::Refused { number } => Walk::Refused { number, place: at },
         Opened::Bits { known, start } => {
             let mine = low_bits(known, m);
             let count = ones_in(mine);
@@ -135,7 +138,7 @@ fn part_struct(
                 start,
                 depth,
                 row,
-                judge,
+                judging,
             ) {
                 Walk::Refused { number, place } => Walk::Refused { number, place },
                 Walk::Past {
@@ -157,7 +160,7 @@ fn part_struct(
                         here,
                         depth,
                         row,
-                        judge,
+                        judging,
                     ) {
                         Walk::Refused { number, place } => Walk::Refused { number, place },
                         Walk::Past { due, next, row: _ } => {
@@ -187,9 +190,9 @@ pub fn structs(
     start: usize,
     depth: usize,
     row: usize,
-    judge: bool,
+    judging: bool,
 ) -> Walk
-    requires { ⌜ Ready (now s) (now p) start (row + 1) judge (wholeIn (now s) (now p) depth ty (array elem) start n start) × IsFlat (now s) depth elem × (n ≤ 16384) ⌝ }
+    requires { ⌜ Ready (now s) (now p) start (row + 1) judging (wholeIn (now s) (now p) depth ty (array elem) start n start) × IsFlat (now s) depth elem × (n ≤ 16384) ⌝ }
     requires { ⌜ (rowAt (tableOf (now s)) elem .kind ≡ 16) × (m < rowAt (tableOf (now s)) elem .b) ⌝ }
     ensures { λ r. ⌜ HeldPart (now (s .entry)) (now (p .entry)) depth ty elem m start n start row (now (sheet .entry)) r (now (sheet .exit)) ⌝ }
 {
@@ -201,11 +204,11 @@ pub fn structs(
     while 0 < left {
         if depth == 0 {
             return Walk::Refused {
-                number: 28,
+                number: refusal::TOO_DEEP,
                 place: here,
             };
         }
-        match part_struct(s, f, m, p, sheet, here, depth - 1, below, judge) {
+        match part_struct(s, f, m, p, sheet, here, depth - 1, below, judging) {
             Walk::Refused { number, place } => {
                 return Walk::Refused { number, place };
             }

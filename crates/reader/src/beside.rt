@@ -1,6 +1,9 @@
 // Reading with the writer's table beside ours: the payload is read wholly by theirs, and shown by ours.
 use crate::Reading;
 use crate::read_shown;
+use constants::kind;
+use constants::limit;
+use constants::refusal;
 use schema::Checked;
 use schema::TypeRow;
 use schema::access::type_row;
@@ -21,20 +24,20 @@ fn fields_of(t: TypeRow) -> u8
     requires { ⌜ (t .kind ≡ 16 → t .b ≤ 64) ⌝ }
     ensures { λ r. ⌜ r ≡ cond (eqb (t .kind) 16) (t .b) 0 ⌝ }
 {
-    if t.kind == 16 {
+    if t.kind == kind::STRUCT {
         return t.b as u8;
     }
     0
 }
 
 // How many fields ours has of each struct; 0 for any other type.
-fn known_fields(ours: &[u8]) -> [u8; 256]
+fn known_fields(ours: &[u8]) -> [u8; limit::TYPES]
     requires { ⌜ IsGood (now ours) ⌝ }
     ensures { λ r. ⌜ Knows r (now (ours .entry)) ⌝ }
 {
-    let mut known = [0u8; 256];
+    let mut known = [0u8; limit::TYPES];
     let mut i = 0;
-    while i < 256 {
+    while i < limit::TYPES {
         let t = type_row(ours, i);
         known[i] = fields_of(t);
         i = i + 1;
@@ -48,9 +51,9 @@ fn read_widened(ours: &[u8], theirs: &[u8], ty: u32, payload: &[u8], sheet: &mut
     ensures { λ r. ⌜ Outcome.outcome r (now (sheet .exit)) ≡ besidePayload (now (ours .entry)) (now (theirs .entry)) ty (now (payload .entry)) (now (sheet .entry)) ⌝ }
 {
     let t = type_row(ours, ty as usize);
-    if t.kind != 16 {
+    if t.kind != kind::STRUCT {
         return Reading::Refused {
-            number: 46,
+            number: refusal::NO_STRUCT,
             place: 0,
         };
     }
@@ -75,7 +78,7 @@ pub fn read_beside(
             Checked::Good => {
                 if !is_widened(ours, theirs) {
                     return Reading::Refused {
-                        number: 47,
+                        number: refusal::NO_EXTENSION,
                         place: 0,
                     };
                 }

@@ -7,14 +7,17 @@ use crate::leaf::read_count;
 use crate::leaf::shown_of;
 use crate::sheet::put_row;
 use crate::walk::Walk;
-use parts::required_of;
-use parts::zeros_in;
+use constants::kind;
+use constants::limit;
+use constants::refusal;
 use schema::Layout;
 use schema::TypeRow;
 use schema::access::type_row;
 use schema::file::layout_of;
 use schema::rows::field_row;
 use schema::rows::row as row_at;
+use walks::required_of;
+use walks::zeros_in;
 use wire::bitmap;
 ghost use mathlib.Core.Path.{_≡_};
 ghost use mathlib.Core.Bool.{true};
@@ -23,7 +26,7 @@ ghost use lib.ListN.{length};
 ghost use Rattle.schema.specs.Table.{rowAt, array};
 ghost use Rattle.schema.specs.File.{tableOf};
 ghost use Rattle.schema.specs.Check.{IsGood};
-ghost use Rattle.parts.specs.Shape.{shapeIn};
+ghost use Rattle.walks.specs.Shape.{shapeIn};
 ghost use Rattle.reader.specs.Walk.{valueIn, wholeIn, firstFields, Ready};
 ghost use Rattle.reader.specs.Flat.{LeavesIn, IsFlat, Described, Unfolded, ValuedFlat, HeldFlat, HeldLeaves};
 
@@ -38,7 +41,7 @@ pub struct Prepared {
 // A struct's bits and the place after its bitmap, or a refusal at the bitmap's own place.
 pub enum Opened {
     Bits { known: u64, start: usize },
-    Fault { number: u32 },
+    Refused { number: u32 },
 }
 
 // Whether each of n fields from the first on is a scalar, a string or bytes.
@@ -52,7 +55,7 @@ pub fn are_leaves(s: &[u8], first: usize, n: usize) -> bool
     while i < end {
         let f = field_row(s, l, i);
         let t = row_at(s, l, f.ty as usize);
-        if 13 < t.kind {
+        if kind::BYTES < t.kind {
             return false;
         }
         i = i + 1;
@@ -61,7 +64,7 @@ pub fn are_leaves(s: &[u8], first: usize, n: usize) -> bool
 }
 
 // Whether the elements of a type, an array's or a struct's, can be read in the loop; a struct has to be shown whole.
-pub fn is_flat(shown: &[u8; 256], s: &[u8], ty: u32, depth: usize) -> bool
+pub fn is_flat(shown: &[u8; limit::TYPES], s: &[u8], ty: u32, depth: usize) -> bool
     requires { ⌜ IsGood (now s) ⌝ }
     ensures { λ r. ⌜ (r ≡ true → IsFlat (now (s .entry)) depth ty × (firstFields (now (shown .entry)) (shapeIn (now (s .entry))) ty ≡ shapeIn (now (s .entry)) ty)) ⌝ }
 {
@@ -69,11 +72,11 @@ pub fn is_flat(shown: &[u8; 256], s: &[u8], ty: u32, depth: usize) -> bool
         return false;
     }
     let t = type_row(s, ty as usize);
-    if t.kind == 14 {
+    if t.kind == kind::ARRAY {
         let e = type_row(s, t.a as usize);
-        return e.kind < 14;
+        return e.kind < kind::ARRAY;
     }
-    if t.kind != 16 {
+    if t.kind != kind::STRUCT {
         return false;
     }
     let n = t.b as usize;
@@ -90,7 +93,7 @@ pub fn prepared_of(s: &[u8], ty: u32) -> Prepared
 {
     let l = layout_of(s);
     let t = row_at(s, l, ty as usize);
-    if t.kind != 16 {
+    if t.kind != kind::STRUCT {
         return Prepared {
             ty,
             row: t,
@@ -114,14 +117,20 @@ pub fn read_bits(p: &[u8], required: u64, n: usize, at: usize) -> Opened
 {
     let size = (n + 7) / 8;
     if p.len() - at < size {
-        return Opened::Fault { number: 20 };
+        return Opened::Refused {
+            number: refusal::CUT,
+        };
     }
     let b = bitmap::read(p, at, n);
     if required & b.bits != required {
-        return Opened::Fault { number: 25 };
+        return Opened::Refused {
+            number: refusal::ABSENT_FIELD,
+        };
     }
     if b.bits != b.known {
-        return Opened::Fault { number: 26 };
+        return Opened::Refused {
+            number: refusal::UNKNOWN_BIT,
+        };
     }
     Opened::Bits {
         known: b.known,
@@ -140,9 +149,9 @@ fn leaves(
     start: usize,
     depth: usize,
     row: usize,
-    judge: bool,
+    judging: bool,
 ) -> Walk
-    requires { ⌜ Ready (now s) (now p) start (row + 1) judge (wholeIn (now s) (now p) depth ty (array elem) start n start) ⌝ }
+    requires { ⌜ Ready (now s) (now p) start (row + 1) judging (wholeIn (now s) (now p) depth ty (array elem) start n start) ⌝ }
     requires { ⌜ (0 < rowAt (tableOf (now s)) elem .kind) × (rowAt (tableOf (now s)) elem .kind < 14) × (n ≤ 16384) ⌝ }
     ensures { λ r. ⌜ HeldLeaves (now (s .entry)) (now (p .entry)) depth ty elem start n start row (now (sheet .entry)) r (now (sheet .exit)) ⌝ }
 {
@@ -154,12 +163,12 @@ fn leaves(
     while 0 < left {
         if depth == 0 {
             return Walk::Refused {
-                number: 28,
+                number: refusal::TOO_DEEP,
                 place: here,
             };
         }
-        match content(p, kind, here, judge) {
-            Span::Bad { number, place } => {
+        match content(p, kind, here, judging) {
+            Span::Refused { number, place } => {
                 return Walk::Refused { number, place };
             }
             Span::At { from, to } => {
@@ -187,13 +196,13 @@ fn flat_struct(
     at: usize,
     depth: usize,
     row: usize,
-    judge: bool,
+    judging: bool,
 ) -> Walk
-    requires { ⌜ Ready (now s) (now p) at row judge (valueIn (now s) (now p) (suc depth) (f .ty) at) × Described (now s) (f .ty) f × IsFlat (now s) (suc depth) (f .ty) × (f .row .kind ≡ 16) ⌝ }
+    requires { ⌜ Ready (now s) (now p) at row judging (valueIn (now s) (now p) (suc depth) (f .ty) at) × Described (now s) (f .ty) f × IsFlat (now s) (suc depth) (f .ty) × (f .row .kind ≡ 16) ⌝ }
     ensures { λ r. ⌜ ValuedFlat (now (s .entry)) (now (p .entry)) (suc depth) (f .ty) at row (now (sheet .entry)) r (now (sheet .exit)) ⌝ }
 {
     match read_bits(p, f.required, f.row.b as usize, at) {
-        Opened::Fault { number } => Walk::Refused { number, place: at },
+        Opened::Refused { number } => Walk::Refused { number, place: at },
         Opened::Bits { known, start } => {
             let mut i = f.row.a as usize;
             let mut bits = known;
@@ -203,8 +212,8 @@ fn flat_struct(
                 if bits % 2 == 1 {
                     let d = field_row(s, f.layout, i);
                     let t = row_at(s, f.layout, d.ty as usize);
-                    match content(p, t.kind as usize, here, judge) {
-                        Span::Bad { number, place } => {
+                    match content(p, t.kind as usize, here, judging) {
+                        Span::Refused { number, place } => {
                             return Walk::Refused { number, place };
                         }
                         Span::At { from, to } => {
@@ -240,15 +249,15 @@ fn flat_array(
     at: usize,
     depth: usize,
     row: usize,
-    judge: bool,
+    judging: bool,
 ) -> Walk
-    requires { ⌜ Ready (now s) (now p) at row judge (valueIn (now s) (now p) (suc depth) (f .ty) at) × Described (now s) (f .ty) f × IsFlat (now s) (suc depth) (f .ty) × (f .row .kind ≡ 14) ⌝ }
+    requires { ⌜ Ready (now s) (now p) at row judging (valueIn (now s) (now p) (suc depth) (f .ty) at) × Described (now s) (f .ty) f × IsFlat (now s) (suc depth) (f .ty) × (f .row .kind ≡ 14) ⌝ }
     ensures { λ r. ⌜ ValuedFlat (now (s .entry)) (now (p .entry)) (suc depth) (f .ty) at row (now (sheet .entry)) r (now (sheet .exit)) ⌝ }
 {
     match read_count(p, at, 1) {
-        Count::Not { number } => Walk::Refused { number, place: at },
+        Count::Refused { number } => Walk::Refused { number, place: at },
         Count::Is { n, start } => {
-            leaves(s, p, sheet, f.ty, f.row.a, n, start, depth, row, judge)
+            leaves(s, p, sheet, f.ty, f.row.a, n, start, depth, row, judging)
         }
     }
 }
@@ -262,19 +271,19 @@ fn element(
     at: usize,
     depth: usize,
     row: usize,
-    judge: bool,
+    judging: bool,
 ) -> Walk
-    requires { ⌜ Ready (now s) (now p) at row judge (valueIn (now s) (now p) (suc depth) (f .ty) at) × Described (now s) (f .ty) f × IsFlat (now s) (suc depth) (f .ty) ⌝ }
+    requires { ⌜ Ready (now s) (now p) at row judging (valueIn (now s) (now p) (suc depth) (f .ty) at) × Described (now s) (f .ty) f × IsFlat (now s) (suc depth) (f .ty) ⌝ }
     ensures { λ r. ⌜ ValuedFlat (now (s .entry)) (now (p .entry)) (suc depth) (f .ty) at row (now (sheet .entry)) r (now (sheet .exit)) ⌝ }
 {
-    if f.row.kind == 16 {
-        return flat_struct(s, f, p, sheet, at, depth, row, judge);
+    if f.row.kind == kind::STRUCT {
+        return flat_struct(s, f, p, sheet, at, depth, row, judging);
     }
-    if f.row.kind == 14 {
-        return flat_array(s, f, p, sheet, at, depth, row, judge);
+    if f.row.kind == kind::ARRAY {
+        return flat_array(s, f, p, sheet, at, depth, row, judging);
     }
-    match content(p, f.row.kind as usize, at, judge) {
-        Span::Bad { number, place } => Walk::Refused { number, place },
+    match content(p, f.row.kind as usize, at, judging) {
+        Span::Refused { number, place } => Walk::Refused { number, place },
         Span::At { from, to } => {
             put_row(sheet, row, f.ty, from, to - from, 0);
             Walk::Past {
@@ -297,9 +306,9 @@ pub fn elements(
     start: usize,
     depth: usize,
     row: usize,
-    judge: bool,
+    judging: bool,
 ) -> Walk
-    requires { ⌜ Ready (now s) (now p) start (row + 1) judge (wholeIn (now s) (now p) depth ty (array elem) start n start) × IsFlat (now s) depth elem × (n ≤ 16384) ⌝ }
+    requires { ⌜ Ready (now s) (now p) start (row + 1) judging (wholeIn (now s) (now p) depth ty (array elem) start n start) × IsFlat (now s) depth elem × (n ≤ 16384) ⌝ }
     ensures { λ r. ⌜ HeldFlat (now (s .entry)) (now (p .entry)) depth ty elem start n start row (now (sheet .entry)) r (now (sheet .exit)) ⌝ }
 {
     let f = prepared_of(s, elem);
@@ -310,11 +319,11 @@ pub fn elements(
     while 0 < left {
         if depth == 0 {
             return Walk::Refused {
-                number: 28,
+                number: refusal::TOO_DEEP,
                 place: here,
             };
         }
-        match element(s, f, p, sheet, here, depth - 1, below, judge) {
+        match element(s, f, p, sheet, here, depth - 1, below, judging) {
             Walk::Refused { number, place } => {
                 return Walk::Refused { number, place };
             }

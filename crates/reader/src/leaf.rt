@@ -1,6 +1,9 @@
 // A value's own bytes: counts, contents of scalars and strings, and presence bits.
-use parts::is_complete;
+use constants::kind;
+use constants::limit;
+use constants::refusal;
 use schema::kind::width_of;
+use walks::is_complete;
 use wire::bitmap;
 use wire::utf8;
 use wire::varuint;
@@ -17,19 +20,24 @@ ghost use Rattle.schema.specs.Table.{scalar, text};
 ghost use Rattle.schema.specs.File.{tableOf};
 ghost use Rattle.schema.specs.Check.{IsGood};
 ghost use Rattle.value.specs.Read.{own, bitmap};
-ghost use Rattle.parts.specs.Shape.{leafShape, fieldsFrom};
+ghost use Rattle.walks.specs.Shape.{leafShape, fieldsFrom};
 ghost use Rattle.reader.specs.Leaf.{Counted, Uncounted, Spanned, Headed};
+
+// Kinds, in the type in which the functions here are handed one.
+const BOOL: usize = kind::BOOL as usize;
+
+const STRING: usize = kind::STRING as usize;
 
 // A count and where what it counts starts, or a refusal at the count's own place.
 pub enum Count {
     Is { n: usize, start: usize },
-    Not { number: u32 },
+    Refused { number: u32 },
 }
 
 // Where a content starts and ends, or a refusal. The refusal's place comes first, as the start does: an answer so laid out stays in registers.
 pub enum Span {
     At { from: usize, to: usize },
-    Bad { place: usize, number: u32 },
+    Refused { place: usize, number: u32 },
 }
 
 // A bitmap's word, the known fields' bits of it and their count, the number of unknown bits set, and the place after it;
@@ -42,7 +50,7 @@ pub enum Head {
         unknown: usize,
         start: usize,
     },
-    Fault {
+    Refused {
         number: u32,
     },
 }
@@ -53,16 +61,24 @@ pub fn read_count(p: &[u8], at: usize, least: usize) -> Count
     ensures { λ r. ⌜ Counted (now (p .entry)) at least (count least (cursorAt (now (p .entry)) at)) r ⌝ }
 {
     match varuint::read(p, at) {
-        VarUInt::Cut => Count::Not { number: 20 },
-        VarUInt::Malformed => Count::Not { number: 21 },
+        VarUInt::Cut => Count::Refused {
+            number: refusal::CUT,
+        },
+        VarUInt::Malformed => Count::Refused {
+            number: refusal::VARUINT,
+        },
         VarUInt::Number { value, next } => {
             let rest = p.len() - next;
             if (rest as u64) < value {
-                return Count::Not { number: 20 };
+                return Count::Refused {
+                    number: refusal::CUT,
+                };
             }
             let n = value as usize;
             if rest < least * n {
-                return Count::Not { number: 20 };
+                return Count::Refused {
+                    number: refusal::CUT,
+                };
             }
             Count::Is { n: n, start: next }
         }
@@ -84,7 +100,7 @@ pub fn map_count(p: &[u8], at: usize) -> Count
 {
     if at < p.len() {
         let n = byte_at(p, at);
-        if n <= 64 {
+        if n <= limit::PAIRS {
             if 2 * n <= p.len() - at - 1 {
                 return Count::Is {
                     n: n,
@@ -100,7 +116,7 @@ pub fn map_count(p: &[u8], at: usize) -> Count
 pub fn is_empty_map(p: &[u8], kind: u32, at: usize) -> bool
     ensures { λ r. ⌜ (r ≡ true → (kind ≡ 15) × Uncounted (now (p .entry)) at (count 2 (cursorAt (now (p .entry)) at))) ⌝ }
 {
-    if kind != 15 {
+    if kind != kind::MAP {
         return false;
     }
     if p.len() <= at {
@@ -116,15 +132,15 @@ fn scalar(p: &[u8], kind: usize, at: usize) -> Span
 {
     let w = width_of(kind);
     if p.len() - at < w {
-        return Span::Bad {
-            number: 20,
+        return Span::Refused {
+            number: refusal::CUT,
             place: at,
         };
     }
-    if kind == 1 {
+    if kind == BOOL {
         if 1 < p[at] {
-            return Span::Bad {
-                number: 22,
+            return Span::Refused {
+                number: refusal::BOOL,
                 place: at,
             };
         }
@@ -135,30 +151,30 @@ fn scalar(p: &[u8], kind: usize, at: usize) -> Span
     }
 }
 
-// Whether a content is UTF-8; where nothing is judged, it is known to be.
-fn is_utf8(source: &[u8], from: usize, n: usize, judge: bool) -> bool
-    requires { ⌜ (from + n ≤ length (now source)) × (judge ≡ false → utf8 (span (now source) from n) ≡ true) ⌝ }
+// Whether a content is UTF-8. A walk that does not judge knows that it is.
+fn is_utf8(source: &[u8], from: usize, n: usize, judging: bool) -> bool
+    requires { ⌜ (from + n ≤ length (now source)) × (judging ≡ false → utf8 (span (now source) from n) ≡ true) ⌝ }
     ensures { λ r. ⌜ r ≡ utf8 (span (now (source .entry)) from n) ⌝ }
 {
-    if judge {
+    if judging {
         return utf8::valid(source, from, from + n);
     }
     true
 }
 
 // The content of a string or of bytes.
-fn text(p: &[u8], kind: usize, at: usize, judge: bool) -> Span
-    requires { ⌜ (length (now p) ≤ 16384) × (judge ≡ false → Accepted (own (text kind) (cursorAt (now p) at))) ⌝ }
+fn text(p: &[u8], kind: usize, at: usize, judging: bool) -> Span
+    requires { ⌜ (length (now p) ≤ 16384) × (judging ≡ false → Accepted (own (text kind) (cursorAt (now p) at))) ⌝ }
     ensures { λ r. ⌜ Spanned (now (p .entry)) at (own (text kind) (cursorAt (now (p .entry)) at)) r ⌝ }
 {
     match read_count(p, at, 1) {
-        Count::Not { number } => Span::Bad { number, place: at },
+        Count::Refused { number } => Span::Refused { number, place: at },
         Count::Is { n, start } => {
             let to = start + n;
-            if kind == 12 {
-                if !is_utf8(p, start, n, judge) {
-                    return Span::Bad {
-                        number: 23,
+            if kind == STRING {
+                if !is_utf8(p, start, n, judging) {
+                    return Span::Refused {
+                        number: refusal::UTF8,
                         place: start,
                     };
                 }
@@ -172,14 +188,14 @@ fn text(p: &[u8], kind: usize, at: usize, judge: bool) -> Span
 }
 
 // The content of a scalar, a string or bytes, of a kind from 1 to 13.
-pub fn content(p: &[u8], kind: usize, at: usize, judge: bool) -> Span
-    requires { ⌜ (length (now p) ≤ 16384) × (at ≤ length (now p)) × (0 < kind) × (kind < 14) × (judge ≡ false → Accepted (own (leafShape kind) (cursorAt (now p) at))) ⌝ }
+pub fn content(p: &[u8], kind: usize, at: usize, judging: bool) -> Span
+    requires { ⌜ (length (now p) ≤ 16384) × (at ≤ length (now p)) × (0 < kind) × (kind < 14) × (judging ≡ false → Accepted (own (leafShape kind) (cursorAt (now p) at))) ⌝ }
     ensures { λ r. ⌜ Spanned (now (p .entry)) at (own (leafShape kind) (cursorAt (now (p .entry)) at)) r ⌝ }
 {
-    if kind < 12 {
+    if kind < STRING {
         scalar(p, kind, at)
     } else {
-        text(p, kind, at, judge)
+        text(p, kind, at, judging)
     }
 }
 
@@ -191,7 +207,7 @@ pub fn ones_in(x: u64) -> usize
 }
 
 // How many fields of a type are shown.
-pub fn shown_of(shown: &[u8; 256], ty: u32) -> usize
+pub fn shown_of(shown: &[u8; limit::TYPES], ty: u32) -> usize
     requires { ⌜ ty < 256 ⌝ }
     ensures { λ r. ⌜ r ≡ getD (now (shown .entry)) ty 0 ⌝ }
 {
@@ -199,17 +215,21 @@ pub fn shown_of(shown: &[u8; 256], ty: u32) -> usize
 }
 
 // The bitmap of a struct that has n fields from the first on.
-pub fn presence(s: &[u8], p: &[u8], first: usize, n: usize, at: usize, judge: bool) -> Head
-    requires { ⌜ IsGood (now s) × (0 < n) × (n ≤ 64) × (first + n ≤ length (tableOf (now s) .fields)) × (at ≤ length (now p)) × (judge ≡ false → Accepted (bitmap (fieldsFrom (tableOf (now s)) first n) (cursorAt (now p) at))) ⌝ }
+pub fn presence(s: &[u8], p: &[u8], first: usize, n: usize, at: usize, judging: bool) -> Head
+    requires { ⌜ IsGood (now s) × (0 < n) × (n ≤ 64) × (first + n ≤ length (tableOf (now s) .fields)) × (at ≤ length (now p)) × (judging ≡ false → Accepted (bitmap (fieldsFrom (tableOf (now s)) first n) (cursorAt (now p) at))) ⌝ }
     ensures { λ r. ⌜ Headed (now (p .entry)) at (fieldsFrom (tableOf (now (s .entry))) first n) (bitmap (fieldsFrom (tableOf (now (s .entry))) first n) (cursorAt (now (p .entry)) at)) r ⌝ }
 {
     let size = (n + 7) / 8;
     if p.len() - at < size {
-        return Head::Fault { number: 20 };
+        return Head::Refused {
+            number: refusal::CUT,
+        };
     }
     let b = bitmap::read(p, at, n);
-    if !is_complete(s, first, n, b.bits, judge) {
-        return Head::Fault { number: 25 };
+    if !is_complete(s, first, n, b.bits, judging) {
+        return Head::Refused {
+            number: refusal::ABSENT_FIELD,
+        };
     }
     Head::Bits {
         word: b.bits,

@@ -11,6 +11,9 @@ pub mod walk;
 use crate::sheet::copy_cells;
 use crate::walk::Walk;
 use crate::walk::root;
+use constants::kind;
+use constants::limit;
+use constants::refusal;
 use schema::Checked;
 use schema::access::type_row;
 use schema::check::check;
@@ -18,6 +21,9 @@ ghost use mathlib.Core.Path.{_≡_};
 ghost use Rattle.schema.specs.Check.{IsGood};
 ghost use Rattle.reader.specs.Entry.{Outcome, payloadOutcome, payloadNumber, readOutcome, numberIn};
 ghost use Rattle.reader.specs.Beside.{shownOutcome};
+
+// All fields that a struct can have.
+const ALL_FIELDS: u8 = limit::STRUCT_FIELDS as u8;
 
 // The answer: the number of rows with the tail's place and length and the key comparisons due, or the refusal's number and place.
 pub enum Reading {
@@ -36,7 +42,7 @@ pub enum Reading {
 // Reads a payload as a struct of type ty by a good table, and shows the first fields of each struct, as many as `shown` has for its type. One walk judges,
 // and writes into a small sheet of its own; few rows are copied from there, and more are written by a second walk.
 fn read_shown(
-    shown: &[u8; 256],
+    shown: &[u8; limit::TYPES],
     schema: &[u8],
     ty: u32,
     payload: &[u8],
@@ -46,15 +52,15 @@ fn read_shown(
     ensures { λ r. ⌜ Outcome.outcome r (now (sheet .exit)) ≡ shownOutcome (now (shown .entry)) (now (schema .entry)) ty (now (payload .entry)) (now (sheet .entry)) ⌝ }
 {
     let t = type_row(schema, ty as usize);
-    if t.kind != 16 {
+    if t.kind != kind::STRUCT {
         return Reading::Refused {
-            number: 46,
+            number: refusal::NO_STRUCT,
             place: 0,
         };
     }
-    if 16384 < payload.len() {
+    if limit::PAYLOAD < payload.len() {
         return Reading::Refused {
-            number: 7,
+            number: refusal::PAYLOAD_TOO_LONG,
             place: 0,
         };
     }
@@ -66,7 +72,7 @@ fn read_shown(
         Walk::Past { due, next, row } => {
             if sheet.len() / 4 < row {
                 return Reading::Refused {
-                    number: 30,
+                    number: refusal::SHEET_TOO_SHORT,
                     place: 0,
                 };
             }
@@ -90,7 +96,7 @@ pub fn read_payload(schema: &[u8], ty: u32, payload: &[u8], sheet: &mut [u32]) -
     requires { ⌜ IsGood (now schema) ⌝ }
     ensures { λ r. ⌜ Outcome.outcome r (now (sheet .exit)) ≡ payloadOutcome (now (schema .entry)) ty (now (payload .entry)) (now (sheet .entry)) ⌝ }
 {
-    let all = [64u8; 256];
+    let all = [ALL_FIELDS; limit::TYPES];
     read_shown(&all, schema, ty, payload, sheet)
 }
 
@@ -105,16 +111,22 @@ pub fn read(schema: &[u8], ty: u32, payload: &[u8], sheet: &mut [u32]) -> Readin
 }
 
 // The number that `read_shown` answers, 0 for a payload that is shown: the first walk alone, so that the sheet's cells are not touched.
-fn judge_shown(shown: &[u8; 256], schema: &[u8], ty: u32, payload: &[u8], sheet: &[u32]) -> u32
+fn judge_shown(
+    shown: &[u8; limit::TYPES],
+    schema: &[u8],
+    ty: u32,
+    payload: &[u8],
+    sheet: &[u32],
+) -> u32
     requires { ⌜ IsGood (now schema) ⌝ }
     ensures { λ r. ⌜ r ≡ numberIn (shownOutcome (now (shown .entry)) (now (schema .entry)) ty (now (payload .entry)) (now (sheet .entry))) ⌝ }
 {
     let t = type_row(schema, ty as usize);
-    if t.kind != 16 {
-        return 46;
+    if t.kind != kind::STRUCT {
+        return refusal::NO_STRUCT;
     }
-    if 16384 < payload.len() {
-        return 7;
+    if limit::PAYLOAD < payload.len() {
+        return refusal::PAYLOAD_TOO_LONG;
     }
     let first = t.a as usize;
     let n = t.b as usize;
@@ -127,9 +139,9 @@ fn judge_shown(shown: &[u8; 256], schema: &[u8], ty: u32, payload: &[u8], sheet:
             row,
         } => {
             if row <= sheet.len() / 4 {
-                return 0;
+                return refusal::ACCEPTED;
             }
-            30
+            refusal::SHEET_TOO_SHORT
         }
     }
 }
@@ -139,6 +151,6 @@ pub fn judge_payload(schema: &[u8], ty: u32, payload: &[u8], sheet: &[u32]) -> u
     requires { ⌜ IsGood (now schema) ⌝ }
     ensures { λ r. ⌜ r ≡ payloadNumber (now (schema .entry)) ty (now (payload .entry)) (now (sheet .entry)) ⌝ }
 {
-    let all = [64u8; 256];
+    let all = [ALL_FIELDS; limit::TYPES];
     judge_shown(&all, schema, ty, payload, sheet)
 }

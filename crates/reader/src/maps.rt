@@ -6,6 +6,9 @@ use crate::leaf::content;
 use crate::leaf::map_count;
 use crate::sheet::put_row;
 use crate::walk::Walk;
+use constants::kind;
+use constants::limit;
+use constants::refusal;
 use schema::TypeRow;
 use schema::access::known_row;
 use schema::access::type_row;
@@ -17,7 +20,7 @@ ghost use Rattle.schema.specs.Table.{rowAt, array, map};
 ghost use Rattle.schema.specs.File.{tableOf};
 ghost use Rattle.schema.specs.Check.{IsGood};
 ghost use Rattle.value.specs.Comparisons.{due};
-ghost use Rattle.parts.specs.Shape.{shapeIn};
+ghost use Rattle.walks.specs.Shape.{shapeIn};
 ghost use Rattle.reader.specs.Walk.{valueIn, wholeIn, Ready};
 ghost use Rattle.reader.specs.Flat.{PairsIn, PairsReady, ValuedFlat, HeldFlat, HeldPairs};
 
@@ -26,11 +29,11 @@ pub fn holds_leaves(s: &[u8], t: TypeRow) -> bool
     requires { ⌜ IsGood (now s) ⌝ }
     ensures { λ r. ⌜ (r ≡ true → (t .kind ≡ 15) × (rowAt (tableOf (now (s .entry))) (t .b) .kind < 14)) ⌝ }
 {
-    if t.kind != 15 {
+    if t.kind != kind::MAP {
         return false;
     }
     let v = type_row(s, t.b as usize);
-    v.kind < 14
+    v.kind < kind::ARRAY
 }
 
 // The comparisons due of the keys of a map of n pairs.
@@ -57,9 +60,9 @@ fn leaf_pairs(
     start: usize,
     depth: usize,
     row: usize,
-    judge: bool,
+    judging: bool,
 ) -> Walk
-    requires { ⌜ PairsReady (now s) (now p) depth ty key val n start row judge × (judge ≡ true → n < length (now keys) / 2) ⌝ }
+    requires { ⌜ PairsReady (now s) (now p) depth ty key val n start row judging × (judging ≡ true → n < length (now keys) / 2) ⌝ }
     ensures { λ r. ⌜ HeldPairs (now (s .entry)) (now (p .entry)) depth ty key val start n start row (now (sheet .entry)) r (now (sheet .exit)) ⌝ }
 {
     let k = known_row(s, key as usize);
@@ -70,24 +73,24 @@ fn leaf_pairs(
     while i < n {
         if depth == 0 {
             return Walk::Refused {
-                number: 28,
+                number: refusal::TOO_DEEP,
                 place: here,
             };
         }
-        match content(p, k.kind as usize, here, judge) {
-            Span::Bad { number, place } => {
+        match content(p, k.kind as usize, here, judging) {
+            Span::Refused { number, place } => {
                 return Walk::Refused { number, place };
             }
             Span::At { from, to } => {
-                if is_again(p, keys, i, from, to - from, judge) {
+                if is_again(p, keys, i, from, to - from, judging) {
                     return Walk::Refused {
-                        number: 24,
+                        number: refusal::REPEATED_KEY,
                         place: here,
                     };
                 }
                 put_row(sheet, below, key, from, to - from, 0);
-                match content(p, v.kind as usize, to, judge) {
-                    Span::Bad { number, place } => {
+                match content(p, v.kind as usize, to, judging) {
+                    Span::Refused { number, place } => {
                         return Walk::Refused { number, place };
                     }
                     Span::At { from, to } => {
@@ -120,27 +123,40 @@ fn leaf_map(
     at: usize,
     depth: usize,
     row: usize,
-    judge: bool,
+    judging: bool,
 ) -> Walk
-    requires { ⌜ Ready (now s) (now p) at row judge (valueIn (now s) (now p) (suc depth) ty at) × (shapeIn (now s) ty ≡ map key val) ⌝ }
+    requires { ⌜ Ready (now s) (now p) at row judging (valueIn (now s) (now p) (suc depth) ty at) × (shapeIn (now s) ty ≡ map key val) ⌝ }
     requires { ⌜ PairsIn (tableOf (now s)) key val × (64 < length (now keys) / 2) ⌝ }
     ensures { λ r. ⌜ ValuedFlat (now (s .entry)) (now (p .entry)) (suc depth) ty at row (now (sheet .entry)) r (now (sheet .exit)) ⌝ }
 {
     match map_count(p, at) {
-        Count::Not { number } => Walk::Refused { number, place: at },
+        Count::Refused { number } => Walk::Refused { number, place: at },
         Count::Is { n, start } => {
-            if 64 < n {
+            if limit::PAIRS < n {
                 return Walk::Refused {
-                    number: 31,
+                    number: refusal::MAP_TOO_LONG,
                     place: at,
                 };
             }
-            leaf_pairs(s, p, sheet, keys, ty, key, val, n, start, depth, row, judge)
+            leaf_pairs(
+                s,
+                p,
+                sheet,
+                keys,
+                ty,
+                key,
+                val,
+                n,
+                start,
+                depth,
+                row,
+                judging,
+            )
         }
     }
 }
 
-// The n elements of an array from a place on, maps of the type elem. The largest digest is put back before each: its keys are looked for among its own.
+// The n elements of an array from a place on, maps of the type elem. The largest digest is put back to 0 before each, so that keys that rise need no search.
 pub fn maps(
     s: &[u8],
     p: &[u8],
@@ -153,13 +169,13 @@ pub fn maps(
     start: usize,
     depth: usize,
     row: usize,
-    judge: bool,
+    judging: bool,
 ) -> Walk
-    requires { ⌜ Ready (now s) (now p) start (row + 1) judge (wholeIn (now s) (now p) depth ty (array elem) start n start) × (shapeIn (now s) elem ≡ map key val) × (n ≤ 16384) ⌝ }
+    requires { ⌜ Ready (now s) (now p) start (row + 1) judging (wholeIn (now s) (now p) depth ty (array elem) start n start) × (shapeIn (now s) elem ≡ map key val) × (n ≤ 16384) ⌝ }
     requires { ⌜ PairsIn (tableOf (now s)) key val ⌝ }
     ensures { λ r. ⌜ HeldFlat (now (s .entry)) (now (p .entry)) depth ty elem start n start row (now (sheet .entry)) r (now (sheet .exit)) ⌝ }
 {
-    let mut keys = [0usize; 130];
+    let mut keys = [0usize; 2 * limit::PAIRS + 2];
     let mut left = n;
     let mut here = start;
     let mut below = row + 1;
@@ -167,11 +183,11 @@ pub fn maps(
     while 0 < left {
         if depth == 0 {
             return Walk::Refused {
-                number: 28,
+                number: refusal::TOO_DEEP,
                 place: here,
             };
         }
-        keys[64] = 0;
+        keys[limit::PAIRS] = 0;
         match leaf_map(
             s,
             p,
@@ -183,7 +199,7 @@ pub fn maps(
             here,
             depth - 1,
             below,
-            judge,
+            judging,
         ) {
             Walk::Refused { number, place } => {
                 return Walk::Refused { number, place };

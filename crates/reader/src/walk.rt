@@ -1,7 +1,7 @@
 // The walkers: arrays, maps and structs, and what they hold, call each other in a cycle; the depth still allowed falls.
 // They read the payload p by the schema table s and write a row for each value, from `row` on, where the sheet has it.
 // Of a struct of type ty the first shown[ty] fields are shown: the others are read, and have no rows.
-// A walk that does not judge trusts that the same walk has been judged: it skips the tests that would read contents again.
+// A walk that does not judging trusts that the same walk has been judged: it skips the tests that would read contents again.
 use crate::added::is_partly_shown;
 use crate::added::structs;
 use crate::flat::elements;
@@ -20,6 +20,9 @@ use crate::leaf::shown_of;
 use crate::maps::holds_leaves;
 use crate::maps::maps;
 use crate::sheet::put_row;
+use constants::kind;
+use constants::limit;
+use constants::refusal;
 use schema::TypeRow;
 use schema::access::field;
 use schema::access::known_row;
@@ -32,7 +35,7 @@ ghost use lib.ListN.{length, getD};
 ghost use Rattle.schema.specs.Table.{rowAt, array, map, struct};
 ghost use Rattle.schema.specs.File.{tableOf};
 ghost use Rattle.value.specs.Read.{present};
-ghost use Rattle.parts.specs.Shape.{fieldsFrom, shapeIn};
+ghost use Rattle.walks.specs.Shape.{fieldsFrom, shapeIn};
 ghost use Rattle.reader.specs.Walk.{valueIn, wholeIn, rootIn, Valued, Held, Shown, Rooted, Ready};
 
 // The place and the row after what was read, and the key comparisons due in it; or a refusal.
@@ -43,8 +46,8 @@ pub enum Walk {
 }
 
 // An array, a map or a struct of type ty, whose row is t; what it holds has so many levels of depth.
-fn composite(
-    shown: &[u8; 256],
+fn read_composite(
+    shown: &[u8; limit::TYPES],
     s: &[u8],
     p: &[u8],
     sheet: &mut [u32],
@@ -53,20 +56,20 @@ fn composite(
     at: usize,
     depth: usize,
     row: usize,
-    judge: bool,
+    judging: bool,
 ) -> Walk
-    requires { ⌜ Ready (now s) (now p) at row judge (valueIn (now s) (now p) (suc depth) ty at) × (t ≡ rowAt (tableOf (now s)) ty) × (13 < t .kind) ⌝ }
+    requires { ⌜ Ready (now s) (now p) at row judging (valueIn (now s) (now p) (suc depth) ty at) × (t ≡ rowAt (tableOf (now s)) ty) × (13 < t .kind) ⌝ }
     ensures { λ r. ⌜ Valued (now (shown .entry)) (now (s .entry)) (now (p .entry)) (suc depth) ty at row (now (sheet .entry)) r (now (sheet .exit)) ⌝ }
 {
     let kind = t.kind;
-    if kind == 14 {
-        return array(shown, s, p, sheet, ty, t.a, at, depth, row, judge);
+    if kind == kind::ARRAY {
+        return read_array(shown, s, p, sheet, ty, t.a, at, depth, row, judging);
     }
-    if kind == 15 {
-        return mapping(shown, s, p, sheet, ty, t.a, t.b, at, depth, row, judge);
+    if kind == kind::MAP {
+        return read_map(shown, s, p, sheet, ty, t.a, t.b, at, depth, row, judging);
     }
-    if kind == 16 {
-        return structure(
+    if kind == kind::STRUCT {
+        return read_struct(
             shown,
             s,
             p,
@@ -77,19 +80,19 @@ fn composite(
             at,
             depth,
             row,
-            judge,
+            judging,
         );
     }
     // A good table has no composite of another kind: this is never reached, and 42 is what the definition has for a type that there is not.
     Walk::Refused {
-        number: 42,
+        number: refusal::TYPE_ROW,
         place: 0,
     }
 }
 
 // An array of type ty, whose elements have the type elem.
-fn array(
-    shown: &[u8; 256],
+fn read_array(
+    shown: &[u8; limit::TYPES],
     s: &[u8],
     p: &[u8],
     sheet: &mut [u32],
@@ -98,28 +101,41 @@ fn array(
     at: usize,
     depth: usize,
     row: usize,
-    judge: bool,
+    judging: bool,
 ) -> Walk
-    requires { ⌜ Ready (now s) (now p) at row judge (valueIn (now s) (now p) (suc depth) ty at) × (shapeIn (now s) ty ≡ array elem) × (0 < rowAt (tableOf (now s)) elem .kind) ⌝ }
+    requires { ⌜ Ready (now s) (now p) at row judging (valueIn (now s) (now p) (suc depth) ty at) × (shapeIn (now s) ty ≡ array elem) × (0 < rowAt (tableOf (now s)) elem .kind) ⌝ }
     ensures { λ r. ⌜ Valued (now (shown .entry)) (now (s .entry)) (now (p .entry)) (suc depth) ty at row (now (sheet .entry)) r (now (sheet .exit)) ⌝ }
 {
     match read_count(p, at, 1) {
-        Count::Not { number } => Walk::Refused { number, place: at },
+        Count::Refused { number } => Walk::Refused { number, place: at },
         Count::Is { n, start } => {
             let t = type_row(s, elem as usize);
             let kind = t.kind;
-            if kind < 14 {
-                return elements(s, p, sheet, ty, elem, n, start, depth, row, judge);
+            if kind < kind::ARRAY {
+                return elements(s, p, sheet, ty, elem, n, start, depth, row, judging);
             }
             if holds_leaves(s, t) {
-                return maps(s, p, sheet, ty, elem, t.a, t.b, n, start, depth, row, judge);
+                return maps(
+                    s,
+                    p,
+                    sheet,
+                    ty,
+                    elem,
+                    t.a,
+                    t.b,
+                    n,
+                    start,
+                    depth,
+                    row,
+                    judging,
+                );
             }
             if is_flat(shown, s, elem, depth) {
-                return elements(s, p, sheet, ty, elem, n, start, depth, row, judge);
+                return elements(s, p, sheet, ty, elem, n, start, depth, row, judging);
             }
             if is_partly_shown(shown, s, elem, depth) {
                 let m = shown_of(shown, elem);
-                return structs(s, p, sheet, ty, elem, m, n, start, depth, row, judge);
+                return structs(s, p, sheet, ty, elem, m, n, start, depth, row, judging);
             }
             let mut left = n;
             let mut here = start;
@@ -128,11 +144,11 @@ fn array(
             while 0 < left {
                 if depth == 0 {
                     return Walk::Refused {
-                        number: 28,
+                        number: refusal::TOO_DEEP,
                         place: here,
                     };
                 }
-                match composite(shown, s, p, sheet, elem, t, here, depth - 1, below, judge) {
+                match read_composite(shown, s, p, sheet, elem, t, here, depth - 1, below, judging) {
                     Walk::Refused { number, place } => {
                         return Walk::Refused { number, place };
                     }
@@ -154,9 +170,9 @@ fn array(
     }
 }
 
-// A map of type ty, of at most 64 pairs. Its keys are kept in an array where they are judged: a short one where there are few, a shorter one for two.
-fn mapping(
-    shown: &[u8; 256],
+// A map of type ty, of at most 64 pairs. Its keys are kept in an array: a short one where there are few, a shorter one for two.
+fn read_map(
+    shown: &[u8; limit::TYPES],
     s: &[u8],
     p: &[u8],
     sheet: &mut [u32],
@@ -166,18 +182,18 @@ fn mapping(
     at: usize,
     depth: usize,
     row: usize,
-    judge: bool,
+    judging: bool,
 ) -> Walk
-    requires { ⌜ Ready (now s) (now p) at row judge (valueIn (now s) (now p) (suc depth) ty at) × (shapeIn (now s) ty ≡ map key val) ⌝ }
+    requires { ⌜ Ready (now s) (now p) at row judging (valueIn (now s) (now p) (suc depth) ty at) × (shapeIn (now s) ty ≡ map key val) ⌝ }
     requires { ⌜ (0 < rowAt (tableOf (now s)) key .kind) × (rowAt (tableOf (now s)) key .kind < 14) × (0 < rowAt (tableOf (now s)) val .kind) ⌝ }
     ensures { λ r. ⌜ Valued (now (shown .entry)) (now (s .entry)) (now (p .entry)) (suc depth) ty at row (now (sheet .entry)) r (now (sheet .exit)) ⌝ }
 {
     match map_count(p, at) {
-        Count::Not { number } => Walk::Refused { number, place: at },
+        Count::Refused { number } => Walk::Refused { number, place: at },
         Count::Is { n, start } => {
-            if 64 < n {
+            if limit::PAIRS < n {
                 return Walk::Refused {
-                    number: 31,
+                    number: refusal::MAP_TOO_LONG,
                     place: at,
                 };
             }
@@ -191,7 +207,7 @@ fn mapping(
             }
             if n <= 2 {
                 let mut keys = [0usize; 6];
-                return pairs(
+                return read_pairs(
                     shown,
                     s,
                     p,
@@ -204,12 +220,12 @@ fn mapping(
                     start,
                     depth,
                     row,
-                    judge,
+                    judging,
                 );
             }
             if n <= 8 {
                 let mut keys = [0usize; 18];
-                return pairs(
+                return read_pairs(
                     shown,
                     s,
                     p,
@@ -222,10 +238,10 @@ fn mapping(
                     start,
                     depth,
                     row,
-                    judge,
+                    judging,
                 );
             }
-            many(
+            read_many_pairs(
                 shown,
                 s,
                 p,
@@ -237,15 +253,15 @@ fn mapping(
                 start,
                 depth,
                 row,
-                judge,
+                judging,
             )
         }
     }
 }
 
 // The n pairs of a map, of more than a few. The long array stands here, so that no other map has to clear it.
-fn many(
-    shown: &[u8; 256],
+fn read_many_pairs(
+    shown: &[u8; limit::TYPES],
     s: &[u8],
     p: &[u8],
     sheet: &mut [u32],
@@ -256,14 +272,14 @@ fn many(
     start: usize,
     depth: usize,
     row: usize,
-    judge: bool,
+    judging: bool,
 ) -> Walk
-    requires { ⌜ Ready (now s) (now p) start (row + 1) judge (wholeIn (now s) (now p) depth ty (map key val) start n start) ⌝ }
+    requires { ⌜ Ready (now s) (now p) start (row + 1) judging (wholeIn (now s) (now p) depth ty (map key val) start n start) ⌝ }
     requires { ⌜ (0 < rowAt (tableOf (now s)) key .kind) × (rowAt (tableOf (now s)) key .kind < 14) × (0 < rowAt (tableOf (now s)) val .kind) × (0 < n) × (n ≤ 64) ⌝ }
     ensures { λ r. ⌜ Held (now (shown .entry)) (now (s .entry)) (now (p .entry)) depth ty (map key val) start n start row (now (sheet .entry)) r (now (sheet .exit)) ⌝ }
 {
-    let mut keys = [0usize; 130];
-    pairs(
+    let mut keys = [0usize; 2 * limit::PAIRS + 2];
+    read_pairs(
         shown,
         s,
         p,
@@ -276,13 +292,13 @@ fn many(
         start,
         depth,
         row,
-        judge,
+        judging,
     )
 }
 
 // The n pairs of a map from a place on. What `keys` holds afterwards means nothing. A value that is an empty map is answered without a call of its own.
-fn pairs(
-    shown: &[u8; 256],
+fn read_pairs(
+    shown: &[u8; limit::TYPES],
     s: &[u8],
     p: &[u8],
     sheet: &mut [u32],
@@ -294,11 +310,11 @@ fn pairs(
     start: usize,
     depth: usize,
     row: usize,
-    judge: bool,
+    judging: bool,
 ) -> Walk
-    requires { ⌜ Ready (now s) (now p) start (row + 1) judge (wholeIn (now s) (now p) depth ty (map key val) start n start) ⌝ }
+    requires { ⌜ Ready (now s) (now p) start (row + 1) judging (wholeIn (now s) (now p) depth ty (map key val) start n start) ⌝ }
     requires { ⌜ (0 < rowAt (tableOf (now s)) key .kind) × (rowAt (tableOf (now s)) key .kind < 14) × (0 < rowAt (tableOf (now s)) val .kind) × (0 < n) × (n ≤ 64) ⌝ }
-    requires { ⌜ (judge ≡ true → n < length (now keys) / 2) ⌝ }
+    requires { ⌜ (judging ≡ true → n < length (now keys) / 2) ⌝ }
     ensures { λ r. ⌜ Held (now (shown .entry)) (now (s .entry)) (now (p .entry)) depth ty (map key val) start n start row (now (sheet .entry)) r (now (sheet .exit)) ⌝ }
 {
     let k = known_row(s, key as usize);
@@ -310,29 +326,29 @@ fn pairs(
     while i < n {
         if depth == 0 {
             return Walk::Refused {
-                number: 28,
+                number: refusal::TOO_DEEP,
                 place: here,
             };
         }
-        match content(p, k.kind as usize, here, judge) {
-            Span::Bad { number, place } => {
+        match content(p, k.kind as usize, here, judging) {
+            Span::Refused { number, place } => {
                 return Walk::Refused { number, place };
             }
             Span::At { from, to } => {
-                if is_again(p, keys, i, from, to - from, judge) {
+                if is_again(p, keys, i, from, to - from, judging) {
                     return Walk::Refused {
-                        number: 24,
+                        number: refusal::REPEATED_KEY,
                         place: here,
                     };
                 }
                 put_row(sheet, below, key, from, to - from, 0);
-                if 13 < v.kind {
+                if kind::BYTES < v.kind {
                     if is_empty_map(p, v.kind, to) {
                         put_row(sheet, below + 1, val, to + 1, 0, 0);
                         here = to + 1;
                         below = below + 2;
                     } else {
-                        match composite(
+                        match read_composite(
                             shown,
                             s,
                             p,
@@ -342,7 +358,7 @@ fn pairs(
                             to,
                             depth - 1,
                             below + 1,
-                            judge,
+                            judging,
                         ) {
                             Walk::Refused { number, place } => {
                                 return Walk::Refused { number, place };
@@ -355,8 +371,8 @@ fn pairs(
                         }
                     }
                 } else {
-                    match content(p, v.kind as usize, to, judge) {
-                        Span::Bad { number, place } => {
+                    match content(p, v.kind as usize, to, judging) {
+                        Span::Refused { number, place } => {
                             return Walk::Refused { number, place };
                         }
                         Span::At { from, to } => {
@@ -379,8 +395,8 @@ fn pairs(
 }
 
 // An inner struct of type ty, which has n fields from the first on. An unknown bit is refused.
-fn structure(
-    shown: &[u8; 256],
+fn read_struct(
+    shown: &[u8; limit::TYPES],
     s: &[u8],
     p: &[u8],
     sheet: &mut [u32],
@@ -390,14 +406,14 @@ fn structure(
     at: usize,
     depth: usize,
     row: usize,
-    judge: bool,
+    judging: bool,
 ) -> Walk
-    requires { ⌜ Ready (now s) (now p) at row judge (valueIn (now s) (now p) (suc depth) ty at) × (shapeIn (now s) ty ≡ struct (fieldsFrom (tableOf (now s)) first n)) ⌝ }
+    requires { ⌜ Ready (now s) (now p) at row judging (valueIn (now s) (now p) (suc depth) ty at) × (shapeIn (now s) ty ≡ struct (fieldsFrom (tableOf (now s)) first n)) ⌝ }
     requires { ⌜ (0 < n) × (n ≤ 64) × (first + n ≤ length (tableOf (now s) .fields)) ⌝ }
     ensures { λ r. ⌜ Valued (now (shown .entry)) (now (s .entry)) (now (p .entry)) (suc depth) ty at row (now (sheet .entry)) r (now (sheet .exit)) ⌝ }
 {
-    match presence(s, p, first, n, at, judge) {
-        Head::Fault { number } => Walk::Refused { number, place: at },
+    match presence(s, p, first, n, at, judging) {
+        Head::Refused { number } => Walk::Refused { number, place: at },
         Head::Bits {
             word: _,
             known,
@@ -407,13 +423,13 @@ fn structure(
         } => {
             if unknown != 0 {
                 return Walk::Refused {
-                    number: 26,
+                    number: refusal::UNKNOWN_BIT,
                     place: at,
                 };
             }
             let m = shown_of(shown, ty);
             if m < n {
-                return partial(
+                return read_shown_fields(
                     shown,
                     s,
                     p,
@@ -427,10 +443,10 @@ fn structure(
                     start,
                     depth,
                     row,
-                    judge,
+                    judging,
                 );
             }
-            fields(
+            read_fields(
                 shown,
                 s,
                 p,
@@ -444,7 +460,7 @@ fn structure(
                 start,
                 depth,
                 row,
-                judge,
+                judging,
             )
         }
     }
@@ -452,8 +468,8 @@ fn structure(
 
 // The fields of a struct whose bits are set in `known`, from `start` on, and the struct's own row: its bitmap stands at `place`.
 // Most fields are scalars, strings or bytes: these are read in the loop itself, without a call of their own.
-fn fields(
-    shown: &[u8; 256],
+fn read_fields(
+    shown: &[u8; limit::TYPES],
     s: &[u8],
     p: &[u8],
     sheet: &mut [u32],
@@ -466,9 +482,9 @@ fn fields(
     start: usize,
     depth: usize,
     row: usize,
-    judge: bool,
+    judging: bool,
 ) -> Walk
-    requires { ⌜ Ready (now s) (now p) start (row + 1) judge (wholeIn (now s) (now p) depth ty (struct (fieldsFrom (tableOf (now s)) first n)) place known start) ⌝ }
+    requires { ⌜ Ready (now s) (now p) start (row + 1) judging (wholeIn (now s) (now p) depth ty (struct (fieldsFrom (tableOf (now s)) first n)) place known start) ⌝ }
     requires { ⌜ (first + n ≤ length (tableOf (now s) .fields)) × (place ≤ start) × (count ≤ 64) × (count ≡ length (present (fieldsFrom (tableOf (now s)) first n) known)) ⌝ }
     ensures { λ r. ⌜ Held (now (shown .entry)) (now (s .entry)) (now (p .entry)) depth ty (struct (fieldsFrom (tableOf (now (s .entry))) first n)) place known start row (now (sheet .entry)) r (now (sheet .exit)) ⌝ }
 {
@@ -482,14 +498,14 @@ fn fields(
         if bits % 2 == 1 {
             if depth == 0 {
                 return Walk::Refused {
-                    number: 28,
+                    number: refusal::TOO_DEEP,
                     place: here,
                 };
             }
             let f = field(s, i);
             let t = type_row(s, f.ty as usize);
-            if 13 < t.kind {
-                match composite(shown, s, p, sheet, f.ty, t, here, depth - 1, below, judge) {
+            if kind::BYTES < t.kind {
+                match read_composite(shown, s, p, sheet, f.ty, t, here, depth - 1, below, judging) {
                     Walk::Refused { number, place } => {
                         return Walk::Refused { number, place };
                     }
@@ -500,8 +516,8 @@ fn fields(
                     }
                 }
             } else {
-                match content(p, t.kind as usize, here, judge) {
-                    Span::Bad { number, place } => {
+                match content(p, t.kind as usize, here, judging) {
+                    Span::Refused { number, place } => {
                         return Walk::Refused { number, place };
                     }
                     Span::At { from, to } => {
@@ -525,8 +541,8 @@ fn fields(
 }
 
 // The fields of a struct of which m are shown, fewer than it has: the others are read without a row. The struct's own row is written again, with its whole length.
-fn partial(
-    shown: &[u8; 256],
+fn read_shown_fields(
+    shown: &[u8; limit::TYPES],
     s: &[u8],
     p: &[u8],
     sheet: &mut [u32],
@@ -539,16 +555,16 @@ fn partial(
     start: usize,
     depth: usize,
     row: usize,
-    judge: bool,
+    judging: bool,
 ) -> Walk
-    requires { ⌜ Ready (now s) (now p) start (row + 1) judge (wholeIn (now s) (now p) depth ty (struct (fieldsFrom (tableOf (now s)) first n)) place known start) ⌝ }
+    requires { ⌜ Ready (now s) (now p) start (row + 1) judging (wholeIn (now s) (now p) depth ty (struct (fieldsFrom (tableOf (now s)) first n)) place known start) ⌝ }
     requires { ⌜ (shapeIn (now s) ty ≡ struct (fieldsFrom (tableOf (now s)) first n)) × (n ≤ 64) × (first + n ≤ length (tableOf (now s) .fields)) × (place ≤ start) ⌝ }
     requires { ⌜ (m ≡ getD (now shown) ty 0) × (m < n) ⌝ }
     ensures { λ r. ⌜ Shown (now (shown .entry)) (now (s .entry)) (now (p .entry)) depth ty (fieldsFrom (tableOf (now (s .entry))) first n) place known start row (now (sheet .entry)) r (now (sheet .exit)) ⌝ }
 {
     let mine = low_bits(known, m);
     let count = ones_in(mine);
-    match fields(
+    match read_fields(
         shown,
         s,
         p,
@@ -562,7 +578,7 @@ fn partial(
         start,
         depth,
         row,
-        judge,
+        judging,
     ) {
         Walk::Refused { number, place } => Walk::Refused { number, place },
         Walk::Past {
@@ -571,7 +587,7 @@ fn partial(
             row: below,
         } => {
             let rest = low_bits(known >> m, n - m);
-            match fields(
+            match read_fields(
                 shown,
                 s,
                 p,
@@ -585,7 +601,7 @@ fn partial(
                 here,
                 depth,
                 row,
-                judge,
+                judging,
             ) {
                 Walk::Refused { number, place } => Walk::Refused { number, place },
                 Walk::Past { due, next, row: _ } => {
@@ -603,7 +619,7 @@ fn partial(
 
 // The fields of the root, all of them or those that are shown.
 fn chosen(
-    shown: &[u8; 256],
+    shown: &[u8; limit::TYPES],
     s: &[u8],
     p: &[u8],
     sheet: &mut [u32],
@@ -613,16 +629,16 @@ fn chosen(
     known: u64,
     count: usize,
     start: usize,
-    judge: bool,
+    judging: bool,
 ) -> Walk
-    requires { ⌜ Ready (now s) (now p) start 1 judge (wholeIn (now s) (now p) 15 ty (struct (fieldsFrom (tableOf (now s)) first n)) 0 known start) ⌝ }
+    requires { ⌜ Ready (now s) (now p) start 1 judging (wholeIn (now s) (now p) 15 ty (struct (fieldsFrom (tableOf (now s)) first n)) 0 known start) ⌝ }
     requires { ⌜ (shapeIn (now s) ty ≡ struct (fieldsFrom (tableOf (now s)) first n)) × (n ≤ 64) × (first + n ≤ length (tableOf (now s) .fields)) ⌝ }
     requires { ⌜ (count ≤ 64) × (count ≡ length (present (fieldsFrom (tableOf (now s)) first n) known)) ⌝ }
     ensures { λ r. ⌜ Shown (now (shown .entry)) (now (s .entry)) (now (p .entry)) 15 ty (fieldsFrom (tableOf (now (s .entry))) first n) 0 known start 0 (now (sheet .entry)) r (now (sheet .exit)) ⌝ }
 {
     let m = shown_of(shown, ty);
     if m < n {
-        return partial(
+        return read_shown_fields(
             shown,
             s,
             p,
@@ -634,12 +650,12 @@ fn chosen(
             known,
             0,
             start,
-            15,
+            limit::BELOW_ROOT,
             0,
-            judge,
+            judging,
         );
     }
-    fields(
+    read_fields(
         shown,
         s,
         p,
@@ -651,50 +667,62 @@ fn chosen(
         count,
         0,
         start,
-        15,
+        limit::BELOW_ROOT,
         0,
-        judge,
+        judging,
     )
 }
 
 // The root, a struct of type ty that has n fields from the first on. What follows its known fields is the tail, which is not read.
 pub fn root(
-    shown: &[u8; 256],
+    shown: &[u8; limit::TYPES],
     s: &[u8],
     p: &[u8],
     sheet: &mut [u32],
     ty: u32,
     first: usize,
     n: usize,
-    judge: bool,
+    judging: bool,
 ) -> Walk
-    requires { ⌜ Ready (now s) (now p) 0 0 judge (rootIn (now s) (now p) ty (fieldsFrom (tableOf (now s)) first n)) ⌝ }
+    requires { ⌜ Ready (now s) (now p) 0 0 judging (rootIn (now s) (now p) ty (fieldsFrom (tableOf (now s)) first n)) ⌝ }
     requires { ⌜ (shapeIn (now s) ty ≡ struct (fieldsFrom (tableOf (now s)) first n)) × (0 < n) × (n ≤ 64) × (first + n ≤ length (tableOf (now s) .fields)) ⌝ }
     ensures { λ r. ⌜ Rooted (now (shown .entry)) (now (s .entry)) (now (p .entry)) ty (fieldsFrom (tableOf (now (s .entry))) first n) (now (sheet .entry)) r (now (sheet .exit)) ⌝ }
 {
-    match presence(s, p, first, n, 0, judge) {
-        Head::Fault { number } => Walk::Refused { number, place: 0 },
+    match presence(s, p, first, n, 0, judging) {
+        Head::Refused { number } => Walk::Refused { number, place: 0 },
         Head::Bits {
             word: _,
             known,
             count,
             unknown,
             start,
-        } => match chosen(shown, s, p, sheet, ty, first, n, known, count, start, judge) {
+        } => match chosen(
+            shown,
+            s,
+            p,
+            sheet,
+            ty,
+            first,
+            n,
+            known,
+            count,
+            start,
+            judging,
+        ) {
             Walk::Refused { number, place } => Walk::Refused { number, place },
             Walk::Past { due, next, row } => {
                 let rest = p.len() - next;
                 if unknown == 0 {
                     if rest != 0 {
                         return Walk::Refused {
-                            number: 27,
+                            number: refusal::SURPLUS,
                             place: next,
                         };
                     }
                 }
                 if rest < unknown {
                     return Walk::Refused {
-                        number: 20,
+                        number: refusal::CUT,
                         place: next,
                     };
                 }

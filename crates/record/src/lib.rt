@@ -1,4 +1,5 @@
 // The entries of a record: a side byte, C or S, and then a frame.
+use constants::side;
 use frame::FrameRead;
 ghost use mathlib.Core.Path.{_≡_};
 ghost use Rattle.record.specs.Entry.{isSide, entryLength};
@@ -7,7 +8,7 @@ ghost use Rattle.record.specs.Entry.{isSide, entryLength};
 fn is_side(byte: u8) -> bool
     ensures { λ r. ⌜ r ≡ isSide byte ⌝ }
 {
-    (byte == b'C') | (byte == b'S')
+    (byte == side::CLIENT) | (byte == side::SERVER)
 }
 
 // The length of the entry that starts at the front of the bytes, or 0 where none does.

@@ -7,11 +7,11 @@ use native.Mathlib.Omega.{arith}
 use lib.ListN.{length, drop}
 use Rattle.schema.specs.File.{tableOf}
 use Rattle.schema.specs.Check.{IsGood}
-use Rattle.line.specs.declared.Received.{Received}
-use Rattle.line.specs.Receive.{received}
-use Rattle.line.specs.Fresh.{FreshLine, inputs}
-use Rattle.line.specs.Run as line
-use Rattle.line.proofs.FreshRows.{fresh-answers}
+use Rattle.receiver.specs.declared.Received.{Received}
+use Rattle.receiver.specs.Receive.{received}
+use Rattle.receiver.specs.Fresh.{FreshLine, inputs}
+use Rattle.receiver.specs.Run as line
+use Rattle.receiver.proofs.FreshRows.{fresh-answers}
 use Rattle.replay.specs.Run.{sheet, freshCalls, answerTo, stops, entryOf, Run, halted, onward, runFrom, runOf}
 use Rattle.replay.specs.Lent.{lentFrom, lentRun}
 

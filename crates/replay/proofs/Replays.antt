@@ -10,7 +10,7 @@ use lib.Seq.{drop-cons, drop-drop, getD-drop, take-all}
 use Rattle.schema.proofs.Bools.{cases, clash}
 use Rattle.frame.specs.Frame.{frameOf}
 use Rattle.calls.specs.declared.Call.{Call}
-use Rattle.line.specs.declared.Received.{Received}
+use Rattle.receiver.specs.declared.Received.{Received}
 use Rattle.replay.specs.Run.{freshCalls, answerTo, stops, Entry, entryOf, Run, halted, onward, runFrom, runOf}
 use Rattle.replay.specs.Runs.{IsEntry, Runs, at-end, halting, answering, Stands}
 use Rattle.replay.proofs.Turns.{used-bounds, listed-frame, goes-on-iff, stops-there}

@@ -18,21 +18,21 @@ use Rattle.frame.proofs.Frames.{read-is-frame}
 use Rattle.frame.proofs.Answers.{used-inside}
 use Rattle.record.proofs.Entries.{frame-least}
 use Rattle.calls.specs.declared.Call.{Call}
-use Rattle.calls.specs.declared.Judged.the-variants.{Stop}
+use Rattle.calls.specs.declared.Judged.the-variants.{Refused as JudgedRefused}
 use Rattle.calls.specs.declared.Tally.{Tally}
 use Rattle.calls.specs.Numbers.{usesFrame}
 use Rattle.calls.specs.Judge.{judgeOf, verdictOf}
 use Rattle.calls.specs.Step.{stepOf}
 use Rattle.calls.proofs.Sides.{no-side}
 use Rattle.reader.specs.Entry.{room}
-use Rattle.line.specs.declared.Received.{Received}
-use Rattle.line.specs.Answer.{Line, stopped}
-use Rattle.line.specs.Planning.{frameFrom}
-use Rattle.line.specs.Receive.{frameSettled, frameLine}
-use Rattle.line.specs.Run.{freshTallies}
-use Rattle.line.specs.Fresh.{FreshLine, freshLine, receivedFresh}
-use Rattle.line.proofs.Ways.{Way, stops, judges, ways}
-use Rattle.line.proofs.FreshRows.{used-by-number, same-room}
+use Rattle.receiver.specs.declared.Received.{Received}
+use Rattle.receiver.specs.Answer.{Line, stopped}
+use Rattle.receiver.specs.Planning.{frameFrom}
+use Rattle.receiver.specs.Receive.{frameSettled, frameLine}
+use Rattle.receiver.specs.Run.{freshTallies}
+use Rattle.receiver.specs.Fresh.{FreshLine, freshLine, receivedFresh}
+use Rattle.receiver.proofs.Ways.{Way, stops, judges, ways}
+use Rattle.receiver.proofs.FreshRows.{used-by-number, same-room}
 use Rattle.replay.specs.Run.{sheet, answerTo, noHeader, headerIn, stops as stopsAt}
 use Rattle.replay.specs.Runs.{IsEntry}
 
@@ -100,7 +100,7 @@ module _ (s : List ℕ) (side : ℕ) (bytes : List ℕ) (l : List Call) (z : ans
 
 -- An answer that uses bytes is 8 where the side is neither C nor S.
 module _ (s : List ℕ) (side : ℕ) (bytes : List ℕ) (l : List Call) (client : side ≡ 67 → ⊥) (server : side ≡ 83 → ⊥) where
-  unsent : (h : Header) → judgeOf (tableOf s) (frameFrom side h) l ≡ Stop 8
+  unsent : (h : Header) → judgeOf (tableOf s) (frameFrom side h) l ≡ JudgedRefused 8
   unfolding judgeOf verdictOf
   unsent h = rw (no-side side (h .kind) client server)
 

@@ -4,8 +4,8 @@ use mathlib.Core.List.{List, [], _∷_}
 use Prim.Native.Nat.{ℕ, zero, suc, _+_}
 use lib.ListN.{length, drop}
 use Rattle.schema.specs.File.{tableOf}
-use Rattle.line.specs.Receive.{received}
-use Rattle.line.specs.Run.{State, freshState}
+use Rattle.receiver.specs.Receive.{received}
+use Rattle.receiver.specs.Run.{State, freshState}
 use Rattle.replay.specs.Run.{sheet, stops, entryOf, Run, halted, onward}
 
 -- The run from a place on, with these calls and rows.

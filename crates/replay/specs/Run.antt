@@ -11,8 +11,8 @@ use Rattle.frame.specs.declared.FrameRead.the-variants.{More, Frame, Refused}
 use Rattle.frame.specs.Frame.{frameOf}
 use Rattle.calls.specs.declared.Call.{Call}
 use Rattle.calls.specs.Slots.{freshTable}
-use Rattle.line.specs.declared.Received.{Received}
-use Rattle.line.specs.Fresh.{receivedFresh}
+use Rattle.receiver.specs.declared.Received.{Received}
+use Rattle.receiver.specs.Fresh.{receivedFresh}
 
 -- The sheet has 4,096 rows of four cells. What it holds before an entry does not show.
 abbrev pub sheet : List ℕ

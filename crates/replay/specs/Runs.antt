@@ -7,7 +7,7 @@ use lib.ListN.{length, getD, drop}
 use Rattle.frame.specs.declared.FrameRead.the-variants.{Frame}
 use Rattle.frame.specs.Frame.{frameOf}
 use Rattle.calls.specs.declared.Call.{Call}
-use Rattle.line.specs.declared.Received.{Received}
+use Rattle.receiver.specs.declared.Received.{Received}
 use Rattle.replay.specs.Run.{answerTo, Entry, entryOf, Run, halted, onward}
 
 -- A side byte with this answer to its frame is an entry: the side is C (67) or S (83), and the answer uses bytes.

@@ -1,8 +1,10 @@
 // The run of a record: one entry after the other from the fresh call table.
 use calls::CallTable;
+use constants::refusal;
+use constants::side;
 use frame::FrameRead;
 use frame::Header;
-use line::Received;
+use receiver::Received;
 ghost use mathlib.Core.Path.{_≡_};
 ghost use lib.ListN.{length};
 ghost use Rattle.frame.specs.Frame.{frameOf};
@@ -13,14 +15,15 @@ pub fn step(table: CallTable, schema: &[u8], side: u8, bytes: &[u8], sheet: &mut
     requires { ⌜ length (now sheet) ≡ 16384 ⌝ }
     ensures { λ r. ⌜ r ≡ answerTo (now (schema .entry)) side (now (bytes .entry)) (table .slots) ⌝ }
 {
-    line::fresh::receive_fresh(table, schema, side, bytes, sheet)
+    receiver::fresh::receive_fresh(table, schema, side, bytes, sheet)
 }
 
 // Whether an entry with this side and answer stops the run.
 pub fn stops(side: u8, number: u32, used: usize) -> bool
     ensures { λ r. ⌜ r ≡ stopsAt side number used ⌝ }
 {
-    (used == 0) | ((number == 8) & !((side == b'C') | (side == b'S')))
+    (used == 0)
+        | ((number == refusal::WRONG_SIDE) & !((side == side::CLIENT) | (side == side::SERVER)))
 }
 
 fn none() -> Header

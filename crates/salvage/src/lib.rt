@@ -2,6 +2,8 @@
 mod pieces;
 
 use crate::pieces::first_piece;
+use constants::limit;
+use constants::refusal;
 ghost use mathlib.Core.Path.{_≡_};
 ghost use mathlib.Core.List.{[], _∷_};
 ghost use Prim.Native.Nat.{_+_, _≤_};
@@ -9,9 +11,6 @@ ghost use lib.ListN.{length};
 ghost use lib.Seq.{sets};
 ghost use Rattle.salvage.specs.Pieces.{piecesOf, copyOf, spansOf};
 ghost use Rattle.salvage.specs.Salvage.{measureOf, filled, outcome, roomForAny, roomFault, salvageOf};
-
-// The longest record, in bytes.
-pub const LONGEST: usize = 65536;
 
 pub enum Salvaging {
     // Entries kept, bytes copied, and spans listed.
@@ -113,16 +112,16 @@ fn room_fault(torn: &[u8], copy: usize, spans: usize) -> u32
     ensures { λ r. ⌜ r ≡ roomFault (piecesOf (now (torn .entry))) copy spans ⌝ }
 {
     if has_room(torn.len(), copy, spans) {
-        return 0;
+        return refusal::ACCEPTED;
     }
     let m = count(torn);
     if copy < m.bytes {
-        return 52;
+        return refusal::OUTPUT_TOO_SHORT;
     }
     if spans < 2 * m.spans {
-        return 53;
+        return refusal::LIST_TOO_SHORT;
     }
-    0
+    refusal::ACCEPTED
 }
 
 // Copies every entry of a record that can be kept, and lists the spans left out, place and length of each. A refusal (45, 52 for the copy, 53 for the
@@ -130,11 +129,13 @@ fn room_fault(torn: &[u8], copy: usize, spans: usize) -> u32
 pub fn salvage(torn: &[u8], copy: &mut [u8], spans: &mut [u32]) -> Salvaging
     ensures { λ r. ⌜ outcome r (now (copy .exit)) (now (spans .exit)) ≡ salvageOf (now (torn .entry)) (now (copy .entry)) (now (spans .entry)) ⌝ }
 {
-    if LONGEST < torn.len() {
-        return Salvaging::Refused { number: 45 };
+    if limit::FILE < torn.len() {
+        return Salvaging::Refused {
+            number: refusal::FILE_TOO_LONG,
+        };
     }
     let number = room_fault(torn, copy.len(), spans.len());
-    if number != 0 {
+    if number != refusal::ACCEPTED {
         return Salvaging::Refused { number };
     }
     let m = put_pieces(torn, copy, spans);

@@ -32,19 +32,19 @@ kinds = record {
 }
 
 -- A row over some bytes.
-pub record Case : Type 0 where
+pub record ScalarCase : Type 0 where
   pub row : Row
   pub bytes : List ℕ
 
-abbrev case : (type place length count : ℕ) → List ℕ → Case
+abbrev case : (type place length count : ℕ) → List ℕ → ScalarCase
 case t p n c s = record { row = record { ty = t; place = p; length = n; count = c }; bytes = s }
 
-abbrev answer : Case → Answer
+abbrev answer : ScalarCase → Answer
 answer c = scalar.scalarOf kinds (c .row) (c .bytes)
 
 -- ---- values
 
-abbrev given : List Case
+abbrev given : List ScalarCase
 given =
     case 1 0 1 0 (0x00 ∷ [])
     ∷ case 1 1 1 0 (0x02 ∷ 0x01 ∷ [])
@@ -99,7 +99,7 @@ values-hold = refl
 
 -- ---- refusals
 
-abbrev refused : List Case
+abbrev refused : List ScalarCase
 refused =
     -- no such type; an array, a map, a struct
     case 17 0 1 0 (0x00 ∷ [])
@@ -128,6 +128,6 @@ numbers = 50 ∷ 50 ∷ 50 ∷ 50 ∷ 50 ∷ 50 ∷ 50 ∷ 50 ∷ 51 ∷ 51 ∷ 
 abbrev places : List ℕ
 places = 0 ∷ 0 ∷ 0 ∷ 0 ∷ 0 ∷ 0 ∷ 0 ∷ 0 ∷ 0 ∷ 0 ∷ 0 ∷ 0 ∷ 1 ∷ 1 ∷ 0 ∷ []
 
-pub refusals-hold : (map (λ (c : Case). scalar.numberOf (answer c)) refused ≡ numbers) × (map (λ (c : Case). scalar.placeOf (answer c)) refused ≡ places)
+pub refusals-hold : (map (λ (c : ScalarCase). scalar.numberOf (answer c)) refused ≡ numbers) × (map (λ (c : ScalarCase). scalar.placeOf (answer c)) refused ≡ places)
 unfolding kinds scalar.numberOf scalar.placeOf scalar.scalarOf scalar.scalarAt scalar.textAt scalar.valueOf table.shape little.little little.twos utf8.run utf8.next utf8.leadOf utf8.rows
 refusals-hold = (refl, refl)

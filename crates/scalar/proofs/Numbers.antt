@@ -22,7 +22,7 @@ use Rattle.scalar.specs.declared.Scalar.the-variants.{Span}
 use Rattle.scalar.specs.declared.Answer.{Answer}
 use Rattle.scalar.specs.declared.Answer.the-variants.{Is, Refused}
 use Rattle.scalar.specs.Scalar.{valueOf, textAt, byShape, scalarOf, afterTable, scalarBy, numberOf, placeOf, scalarAt}
-use Rattle.scalar.specs.Leaves.{Shows}
+use Rattle.scalar.specs.Leaves.{ShowsLeaf}
 use Rattle.scalar.specs.Reasons.{Reason}
 use Rattle.scalar.proofs.Reasons.{refused-iff}
 
@@ -77,7 +77,7 @@ module _ (bytes : List ℕ) (r : Row) where
   zero-is a is e = refl
   zero-is a (other h) e = absurd (omega arith)
 
-  shape-shown : (s : Shape) → numberOf (byShape s r bytes) ≡ 0 → Shows bytes s r (span bytes (r .place) (r .length)) (byShape s r bytes)
+  shape-shown : (s : Shape) → numberOf (byShape s r bytes) ≡ 0 → ShowsLeaf bytes s r (span bytes (r .place) (r .length)) (byShape s r bytes)
   unfolding numberOf
   shape-shown (scalar kind) e = zero-is (byShape (scalar kind) r bytes) (scalar-zero kind) e
   shape-shown (text kind) e = (zero-is (byShape (text kind) r bytes) (text-zero kind) e, refl)
@@ -86,7 +86,7 @@ module _ (bytes : List ℕ) (r : Row) where
   shape-shown (map _ _) e = absurd (omega arith)
   shape-shown (struct _) e = absurd (omega arith)
 
-  shown-zero : (s : Shape) (a : Answer) (x : List ℕ) → Shows bytes s r x a → numberOf a ≡ 0
+  shown-zero : (s : Shape) (a : Answer) (x : List ℕ) → ShowsLeaf bytes s r x a → numberOf a ≡ 0
   unfolding numberOf
   shown-zero (scalar kind) a x e = ap numberOf e
   shown-zero (text kind) a x (e, _) = ap numberOf e
@@ -98,7 +98,7 @@ module _ (bytes : List ℕ) (r : Row) where
 -- Number 0 comes back exactly for a good file and a leaf's row whose answer shows the bytes of its span: its value, or the span itself.
 pub zero-iff-shown : (schema : List ℕ) (r : Row) (bytes : List ℕ)
     → (numberOf (scalarBy schema r bytes) ≡ 0)
-    ↔ (IsGood schema × Shows bytes (shape (tableOf schema) (r .ty)) r (span bytes (r .place) (r .length)) (scalarBy schema r bytes))
+    ↔ (IsGood schema × ShowsLeaf bytes (shape (tableOf schema) (r .ty)) r (span bytes (r .place) (r .length)) (scalarBy schema r bytes))
 unfolding scalarBy scalarOf numberOf
 zero-iff-shown schema r bytes = (
   λ z. go (checked schema) refl z,
@@ -106,6 +106,6 @@ zero-iff-shown schema r bytes = (
 )
   where
     go : (c : Checked) → checked schema ≡ c → numberOf (afterTable c (byShape (shape (tableOf schema) (r .ty)) r bytes)) ≡ 0
-        → IsGood schema × Shows bytes (shape (tableOf schema) (r .ty)) r (span bytes (r .place) (r .length)) (afterTable c (byShape (shape (tableOf schema) (r .ty)) r bytes))
+        → IsGood schema × ShowsLeaf bytes (shape (tableOf schema) (r .ty)) r (span bytes (r .place) (r .length)) (afterTable c (byShape (shape (tableOf schema) (r .ty)) r bytes))
     go check.Good e z = (e, shape-shown bytes r (shape (tableOf schema) (r .ty)) z)
     go (check.Refused n q) e z = absurd (omega (arith, above schema n q e, z))

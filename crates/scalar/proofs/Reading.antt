@@ -24,14 +24,14 @@ use Rattle.value.proofs.Placed.{root-placed}
 use Rattle.scalar.specs.declared.Answer.{Answer as Told}
 use Rattle.scalar.specs.declared.Answer.the-variants.{Refused}
 use Rattle.scalar.specs.Scalar.{textAt, byShape, scalarOf, numberOf, scalarAt}
-use Rattle.scalar.specs.Leaves.{Shows, EachLeaf, EachOf}
+use Rattle.scalar.specs.Leaves.{ShowsLeaf, EachLeaf, EachOf}
 use Rattle.scalar.proofs.Answers.{number-told, text-is}
 
 -- ---- number 0 exactly where the row fits
 
 module _ (bytes : List ℕ) (r : Row) where
   -- A row that fits shows its content.
-  pub fits-shown : (s : Shape) (x : List ℕ) → LeafFits bytes s (r .place) (r .length) (r .count) x → Shows bytes s r x (byShape s r bytes)
+  pub fits-shown : (s : Shape) (x : List ℕ) → LeafFits bytes s (r .place) (r .length) (r .count) x → ShowsLeaf bytes s r x (byShape s r bytes)
   fits-shown (scalar kind) x f =
       let e = f .2 .1 in
       rw (eq-eqb (r .count) 0 (f .1), e) (number-told kind (r .place) (r .length) bytes (f .0) (le-leb _ _ (f .2 .0)) (rw e at (f .3)))
@@ -72,7 +72,7 @@ module _ (bytes : List ℕ) (r : Row) where
 
 module _ (S : ℕ → Shape) (B : List ℕ) where
   abbrev Shown : Row → List ℕ → Type 0
-  Shown r x = Shows B (S (r .ty)) r x (byShape (S (r .ty)) r B)
+  Shown r x = ShowsLeaf B (S (r .ty)) r x (byShape (S (r .ty)) r B)
 
   all-shown : (Q : ℕ → Tree → Type 0) → ((t : ℕ) (tree : Tree) → Q t tree → EachLeaf Shown tree)
       → (is : List Item) (ts : Forest) → AllFit Q is ts → EachOf Shown ts
@@ -85,7 +85,7 @@ module _ (S : ℕ → Shape) (B : List ℕ) where
   tree-shown : (d t : ℕ) (tree : Tree) → Fits S B d t tree → EachLeaf Shown tree
   unfolding EachLeaf
   tree-shown zero t tree f = absurd f
-  tree-shown (suc d) t (tip r x) f = subst (λ (k : ℕ). Shows B (S k) r x (byShape (S k) r B)) (sym (f .0)) (fits-shown B r (S t) x (f .1))
+  tree-shown (suc d) t (tip r x) f = subst (λ (k : ℕ). ShowsLeaf B (S k) r x (byShape (S k) r B)) (sym (f .0)) (fits-shown B r (S t) x (f .1))
   tree-shown (suc d) t (branch r h ts) f = all-shown (Fits S B d) (tree-shown d) (plan (S t) h) ts (f .2)
 
   root-shown : (t : ℕ) (fs : List Field) (tree : Tree) → RootFits S B t fs tree → EachLeaf Shown tree
@@ -109,6 +109,6 @@ module _ (S : ℕ → Shape) (B : List ℕ) where
 
 -- Of a payload that is accepted by the table, each leaf's row over the payload is handed out, and shows the leaf's content.
 pub leaves-shown : (T : Table) (t : ℕ) (payload : List ℕ) (tree : Tree) (c : Cursor) → rootOf (shape T) t payload ≡ seen tree c
-    → EachLeaf (λ r x. Shows payload (shape T (r .ty)) r x (scalarOf T r payload)) tree
+    → EachLeaf (λ r x. ShowsLeaf payload (shape T (r .ty)) r x (scalarOf T r payload)) tree
 unfolding scalarOf
 leaves-shown T t payload tree c e = seen-end (read-shown (shape T) payload t) e

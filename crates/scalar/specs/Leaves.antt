@@ -12,13 +12,13 @@ use Rattle.scalar.specs.declared.Answer.the-variants.{Is}
 use Rattle.scalar.specs.Scalar.{valueOf}
 
 -- The answer shows a leaf of a shape with the content x: its value, or the span of the bytes where it stands. A composite is no leaf.
-abbrev pub Shows : List ℕ → Shape → Row → List ℕ → Answer → Type 0
-Shows bytes (scalar kind) r x a = a ≡ Is (valueOf kind x)
-Shows bytes (text kind) r x a = (a ≡ Is (Span (r .place) (r .length))) × (span bytes (r .place) (r .length) ≡ x)
-Shows bytes unknown r x a = ⊥
-Shows bytes (array _) r x a = ⊥
-Shows bytes (map _ _) r x a = ⊥
-Shows bytes (struct _) r x a = ⊥
+abbrev pub ShowsLeaf : List ℕ → Shape → Row → List ℕ → Answer → Type 0
+ShowsLeaf bytes (scalar kind) r x a = a ≡ Is (valueOf kind x)
+ShowsLeaf bytes (text kind) r x a = (a ≡ Is (Span (r .place) (r .length))) × (span bytes (r .place) (r .length) ≡ x)
+ShowsLeaf bytes unknown r x a = ⊥
+ShowsLeaf bytes (array _) r x a = ⊥
+ShowsLeaf bytes (map _ _) r x a = ⊥
+ShowsLeaf bytes (struct _) r x a = ⊥
 
 -- P holds of each leaf of a tree, by its row and content.
 unfoldable mutual

@@ -2,6 +2,8 @@
 use crate::Answer;
 use crate::Scalar;
 use crate::number::value;
+use constants::kind;
+use constants::refusal;
 use schema::Checked;
 use schema::access::type_row;
 use schema::check::check;
@@ -15,6 +17,13 @@ ghost use Rattle.schema.specs.File.{tableOf};
 ghost use Rattle.schema.specs.Check.{IsGood};
 ghost use Rattle.scalar.specs.declared.Answer.the-variants.{Refused};
 ghost use Rattle.scalar.specs.Scalar.{textAt, scalarOf, scalarBy, scalarAt};
+
+// Kinds, in the type in which the functions here are handed one.
+const BOOL: usize = kind::BOOL as usize;
+
+const STRING: usize = kind::STRING as usize;
+
+const BYTES: usize = kind::BYTES as usize;
 
 fn refuse(number: u32, place: usize) -> Answer
     ensures { λ r. ⌜ r ≡ Refused number place ⌝ }
@@ -36,14 +45,14 @@ fn number_at(bytes: &[u8], kind: usize, place: usize, length: usize) -> Answer
     ensures { λ r. ⌜ r ≡ scalarAt kind place length (now (bytes .entry)) ⌝ }
 {
     if length != width_of(kind) {
-        return refuse(50, 0);
+        return refuse(refusal::SHEET, 0);
     }
     if !is_inside(bytes, place, length) {
-        return refuse(51, 0);
+        return refuse(refusal::OUTSIDE, 0);
     }
-    if kind == 1 {
+    if kind == BOOL {
         if 1 < bytes[place] {
-            return refuse(22, place);
+            return refuse(refusal::BOOL, place);
         }
     }
     Answer::Is(value(bytes, kind, place))
@@ -55,11 +64,11 @@ fn text_at(bytes: &[u8], kind: usize, place: usize, length: usize) -> Answer
     ensures { λ r. ⌜ r ≡ textAt kind place length (now (bytes .entry)) ⌝ }
 {
     if !is_inside(bytes, place, length) {
-        return refuse(51, 0);
+        return refuse(refusal::OUTSIDE, 0);
     }
-    if kind == 12 {
+    if kind == STRING {
         if !valid(bytes, place, place + length) {
-            return refuse(23, place);
+            return refuse(refusal::UTF8, place);
         }
     }
     Answer::Is(Scalar::Span { place, length })
@@ -74,10 +83,10 @@ pub fn scalar_of(schema: &[u8], row: Row, bytes: &[u8]) -> Answer
     let kind = t.kind as usize;
     let place = row.place as usize;
     let length = row.length as usize;
-    if (kind == 0) | ((13 < kind) | (row.count != 0)) {
-        return refuse(50, 0);
+    if (kind == 0) | ((BYTES < kind) | (row.count != 0)) {
+        return refuse(refusal::SHEET, 0);
     }
-    if kind < 12 {
+    if kind < STRING {
         number_at(bytes, kind, place, length)
     } else {
         text_at(bytes, kind, place, length)

@@ -2,6 +2,7 @@
 use crate::Scalar;
 use crate::float::float32;
 use crate::float::float64;
+use constants::kind;
 use schema::kind::width_of;
 use wire::little::number;
 use wire::little::signed;
@@ -11,6 +12,15 @@ ghost use lib.ListN.{length, take, drop};
 ghost use Rattle.schema.specs.Table.{width};
 ghost use Rattle.scalar.specs.Scalar.{valueOf};
 
+// Kinds, in the type in which the functions here are handed one.
+const BOOL: usize = kind::BOOL as usize;
+
+const INT64: usize = kind::INT64 as usize;
+
+const UINT64: usize = kind::UINT64 as usize;
+
+const FLOAT32: usize = kind::FLOAT32 as usize;
+
 // The value of a scalar kind at a place.
 pub fn value(s: &[u8], kind: usize, place: usize) -> Scalar
     requires { ⌜ (0 < kind) × (kind < 12) × (place + width kind ≤ length (now s)) ⌝ }
@@ -18,16 +28,16 @@ pub fn value(s: &[u8], kind: usize, place: usize) -> Scalar
 {
     let w = width_of(kind);
     let x = number(s, place, w);
-    if kind == 1 {
+    if kind == BOOL {
         return Scalar::Truth(x == 1);
     }
-    if kind <= 5 {
+    if kind <= INT64 {
         return Scalar::Signed(signed(x, 1 << (8 * w - 1)));
     }
-    if kind <= 9 {
+    if kind <= UINT64 {
         return Scalar::Unsigned(x);
     }
-    if kind == 10 {
+    if kind == FLOAT32 {
         let n = x as u32;
         return Scalar::Float32(float32(n), n);
     }

@@ -10,6 +10,10 @@ use crate::rows::field_row;
 use crate::rows::find_among;
 use crate::rows::method_row;
 use crate::rows::row;
+use constants::format;
+use constants::kind;
+use constants::limit;
+use constants::refusal;
 ghost use mathlib.Core.Path.{_≡_};
 ghost use mathlib.Core.Bool.{not, _||_};
 ghost use Rattle.schema.specs.File.{Laid, tableOf};
@@ -19,26 +23,30 @@ ghost use Rattle.schema.specs.Flags.{flagOf};
 fn is_plain(r: TypeRow) -> bool
     ensures { λ x. ⌜ x ≡ plainRow r ⌝ }
 {
-    ((1 <= r.kind) & (r.kind <= 13)) & ((r.a == 0) & (r.b == 0))
+    ((kind::BOOL <= r.kind) & (r.kind <= kind::BYTES)) & ((r.a == 0) & (r.b == 0))
 }
 
 fn is_array(types: usize, r: TypeRow) -> bool
     ensures { λ x. ⌜ x ≡ arrayRow types r ⌝ }
 {
-    (r.kind == 14) & (((r.a as usize) < types) & (r.b == 0))
+    (r.kind == kind::ARRAY) & (((r.a as usize) < types) & (r.b == 0))
 }
 
 fn is_map(types: usize, key: u32, r: TypeRow) -> bool
     ensures { λ x. ⌜ x ≡ mapRow types key r ⌝ }
 {
-    (r.kind == 15)
-        & ((((1 <= key) & (key <= 9)) | ((key == 12) | (key == 13))) & ((r.b as usize) < types))
+    (r.kind == kind::MAP)
+        & ((((kind::BOOL <= key) & (key <= kind::UINT64))
+            | ((key == kind::STRING) | (key == kind::BYTES)))
+            & ((r.b as usize) < types))
 }
 
 fn is_struct(fields: usize, r: TypeRow) -> bool
     ensures { λ x. ⌜ x ≡ structRow fields r ⌝ }
 {
-    (r.kind == 16) & (((1 <= r.b) & (r.b <= 64)) & ((r.a as usize) + (r.b as usize) <= fields))
+    (r.kind == kind::STRUCT)
+        & (((1 <= r.b) & (r.b <= limit::STRUCT_FIELDS))
+            & ((r.a as usize) + (r.b as usize) <= fields))
 }
 
 fn row_is_good(s: &[u8], l: Layout, t: usize) -> bool
@@ -66,9 +74,9 @@ fn letter_fits(s: &[u8], l: Layout, bit: u32, t: u32) -> bool
 {
     if bit == 1 {
         let r = row(s, l, t as usize);
-        r.kind == 16
+        r.kind == kind::STRUCT
     } else {
-        t == 4294967295
+        t == format::NO_TYPE
     }
 }
 
@@ -76,7 +84,7 @@ fn is_formed(s: &[u8], l: Layout, m: Method) -> bool
     requires { ⌜ Laid (now s) l ⌝ }
     ensures { λ x. ⌜ x ≡ formed (tableOf (now (s .entry))) m ⌝ }
 {
-    (m.form <= 15)
+    (m.form <= limit::LAST_FORM)
         & (letter_fits(s, l, m.form / 8 % 2, m.input)
             & (letter_fits(s, l, m.form / 4 % 2, m.output)
                 & (letter_fits(s, l, m.form / 2 % 2, m.input_stream)
@@ -186,29 +194,30 @@ fn check_rows(s: &[u8], l: Layout) -> Checked
     requires { ⌜ Laid (now s) l ⌝ }
     ensures { λ x. ⌜ x ≡ checkedTable (tableOf (now (s .entry))) ⌝ }
 {
-    if !((l.types <= 256) & ((l.fields <= 2048) & (l.methods <= 256))) {
+    if !((l.types <= limit::TYPES)
+        & ((l.fields <= limit::FIELDS) & (l.methods <= limit::METHODS))) {
         return Checked::Refused {
-            number: 41,
+            number: refusal::TOO_MANY_ROWS,
             place: 0,
         };
     }
     let types = bad_entry(s, l, 0, l.types);
     if let Found::At(i) = types {
         return Checked::Refused {
-            number: 42,
+            number: refusal::TYPE_ROW,
             place: i,
         };
     }
     let fields = bad_entry(s, l, 1, l.fields);
     if let Found::At(i) = fields {
         return Checked::Refused {
-            number: 43,
+            number: refusal::FIELD,
             place: i,
         };
     }
     match bad_method(s, l) {
         Found::At(i) => Checked::Refused {
-            number: 44,
+            number: refusal::METHOD,
             place: i,
         },
         Found::Missing => Checked::Good,
@@ -223,7 +232,7 @@ pub fn check(schema: &[u8]) -> Checked
         check_rows(schema, layout_of(schema))
     } else {
         Checked::Refused {
-            number: 40,
+            number: refusal::SCHEMA_SHAPE,
             place: 0,
         }
     }

@@ -12,6 +12,7 @@ use crate::rows::field_row;
 use crate::rows::find_among;
 use crate::rows::method_row;
 use crate::rows::row;
+use constants::kind;
 ghost use mathlib.Core.Path.{_≡_};
 ghost use Prim.Native.Nat.{_<_, _^_};
 ghost use Rattle.schema.specs.Table.{bitmapBytes};
@@ -75,7 +76,7 @@ fn keeps_row(old: &[u8], l: Layout, new: &[u8], k: Layout, r: TypeRow, q: TypeRo
     if q.kind != r.kind {
         return false;
     }
-    if r.kind == 16 {
+    if r.kind == kind::STRUCT {
         keeps_struct(old, l, new, k, r, q)
     } else {
         (q.a == r.a) & (q.b == r.b)
@@ -154,7 +155,7 @@ fn bitmap_bytes(n: u32) -> u64
 fn keeps_bitmap(r: TypeRow, q: TypeRow) -> bool
     ensures { λ x. ⌜ x ≡ bitmapKept r q ⌝ }
 {
-    !(r.kind == 16) | (bitmap_bytes(q.b) == bitmap_bytes(r.b))
+    !(r.kind == kind::STRUCT) | (bitmap_bytes(q.b) == bitmap_bytes(r.b))
 }
 
 fn keeps_bitmaps(old: &[u8], l: Layout, new: &[u8], k: Layout) -> bool

@@ -3,6 +3,7 @@ use crate::Field;
 use crate::Layout;
 use crate::Method;
 use crate::TypeRow;
+use constants::format;
 ghost use mathlib.Core.Path.{_≡_};
 ghost use mathlib.Core.Bool.{true};
 ghost use Prim.Native.Nat.{_+_, _≤_};
@@ -72,7 +73,7 @@ pub fn is_shaped(s: &[u8]) -> bool
     if trailer < methods {
         return false;
     }
-    (number == 1)
+    (number == format::LAYOUT)
         & ((own == trailer)
             & ((fields % 12 == 0)
                 & (((methods - fields) % 8 == 0) & ((trailer - methods) % 32 == 0))))

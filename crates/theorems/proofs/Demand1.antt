@@ -8,7 +8,7 @@ use mathlib.Core.Bool.{false, true}
 use Rattle.schema.specs.Check.{IsGood, checked}
 use Rattle.schema.specs.declared.Checked.the-variants.{Refused as schema-Refused}
 use Rattle.schema.specs.Faults.{TableFault}
-use Rattle.schema.specs.Listed.{Listed as TableListed}
+use Rattle.schema.specs.Listed.{TableNumber as TableListed}
 use Rattle.schema.specs.File.{tableOf}
 use Rattle.schema.specs.Table.{Table, shape, struct}
 use Rattle.schema.specs.Good.{GoodTable as schema-GoodTable}
@@ -38,10 +38,10 @@ use Rattle.scalar.specs.declared.Answer.the-variants.{Refused as scalar-Refused
 use Rattle.scalar.specs.Reasons.{Reason as scalar-Reason}
 use Rattle.writer.specs.Entry.{fileOutcome, outcome as writer-outcome}
 use Rattle.writer.specs.declared.Writing.the-variants.{Refused as writer-Refused}
-use Rattle.line.specs.Receive.{received}
-use Rattle.line.specs.Claims.{Listed as FrameListed, ReleaseListed, Stopping, Stops, Unready, Nothing, Front}
-use Rattle.line.specs.Release.{released}
-use Rattle.line.specs.Run.{State, Event as line-Event, stateAfter, Happens, numberOf}
+use Rattle.receiver.specs.Receive.{received}
+use Rattle.receiver.specs.Claims.{AnswerNumber as FrameListed, ReleaseListed, Stopping, Stops, Unready, Nothing, Front}
+use Rattle.receiver.specs.Release.{released}
+use Rattle.receiver.specs.Run.{State, Event as line-Event, stateAfter, Happens, numberOf}
 use Rattle.promises.specs.Claims.{ReadReason, WriteReason, shapes}
 use Rattle.schema.proofs.Faults as schema-Faults
 use Rattle.schema.proofs.Listed as schema-Listed
@@ -50,11 +50,11 @@ use Rattle.frame.proofs.Answers as frame-Answers
 use Rattle.calls.proofs.Used as calls-Used
 use Rattle.value.proofs.Statements as value-Statements
 use Rattle.scalar.proofs.Reasons as scalar-Reasons
-use Rattle.line.proofs.Listed as line-Listed
-use Rattle.line.proofs.Answers as line-Answers
-use Rattle.line.proofs.Records as line-Records
-use Rattle.line.proofs.Runs as line-Runs
-use Rattle.line.proofs.Releases as line-Releases
+use Rattle.receiver.proofs.Listed as line-Listed
+use Rattle.receiver.proofs.Answers as line-Answers
+use Rattle.receiver.proofs.Records as line-Records
+use Rattle.receiver.proofs.Runs as line-Runs
+use Rattle.receiver.proofs.Releases as line-Releases
 use Rattle.promises.proofs.Reading as promises-Reading
 use Rattle.promises.proofs.Refusals as promises-Refusals
 use Rattle.promises.proofs.ReadBack as promises-ReadBack

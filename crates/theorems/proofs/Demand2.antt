@@ -14,7 +14,7 @@ use Rattle.schema.specs.Good.{GoodTable as schema-GoodTable}
 use Rattle.frame.specs.declared.Header.{Header}
 use Rattle.frame.specs.Frame.{frameOf}
 use Rattle.frame.specs.declared.FrameRead.the-variants.{Frame as frame-Frame}
-use Rattle.frame.specs.IsFrame.{Starts as frame-Starts, Fits, IsFrame}
+use Rattle.frame.specs.IsFrame.{Starts as frame-Starts, HeaderFits, IsFrame}
 use Rattle.frame.specs.Written.{writtenOf, Accepted as frame-Accepted, ReadBack, outputOf, frameBytes}
 use Rattle.frame.specs.declared.FrameWritten.the-variants.{Written as frame-Written}
 use Rattle.calls.specs.Order.{Past, Ruling, Ruled, Releases, closed, Lawful, Reached}
@@ -33,10 +33,10 @@ use Rattle.reader.specs.Entry.{room, readOutcome, outcome as reader-outcome}
 use Rattle.reader.specs.declared.Reading.the-variants.{Shown}
 use Rattle.writer.specs.Entry.{fileOutcome, outcome as writer-outcome}
 use Rattle.writer.specs.declared.Writing.the-variants.{Written as writer-Written}
-use Rattle.line.specs.Run.{State, Event as line-Event, Input, answerAfter, fullAfter, pastIn, rowsAfter, callsAfter, freshTallies}
-use Rattle.line.specs.Order.{Stands as line-Stands, Said, said, ByRules, ReleasedAs}
-use Rattle.line.specs.Claims.{Front, payloadIn}
-use Rattle.line.specs.Release.{released}
+use Rattle.receiver.specs.Run.{State, Event as line-Event, Input, answerAfter, fullAfter, pastIn, rowsAfter, callsAfter, freshTallies}
+use Rattle.receiver.specs.Order.{Stands as line-Stands, Said, said, ByRules, ReleasedAs}
+use Rattle.receiver.specs.Claims.{Front, payloadIn}
+use Rattle.receiver.specs.Release.{released}
 use Rattle.valueframe.specs.Entry.{frameOutcome}
 use Rattle.promises.specs.Claims.{shapes, ReadsAs, firstRows}
 use Rattle.promises.specs.ValueFrames.{Carries, ReceivedBack}
@@ -45,7 +45,7 @@ use Rattle.frame.proofs.ReadBack as frame-ReadBack
 use Rattle.calls.proofs.Once as calls-Once
 use Rattle.calls.proofs.Pasts as calls-Pasts
 use Rattle.value.proofs.Statements as value-Statements
-use Rattle.line.proofs.Runs as line-Runs
+use Rattle.receiver.proofs.Runs as line-Runs
 use Rattle.promises.proofs.Reading as promises-Reading
 use Rattle.promises.proofs.ReadBack as promises-ReadBack
 use Rattle.promises.proofs.ValueFrames as promises-ValueFrames
@@ -130,19 +130,19 @@ pub read-back : (s : List ℕ) (ty : ℕ) (sheet B out : List ℕ) (n : ℕ) (ou
 read-back = promises-ReadBack.read-back
 
 -- the writer's output is read back
-pub output-read-back : (h : Header) (p out : List ℕ) {n : ℕ} → Fits h → writtenOf h p (length out) ≡ frame-Written n → ReadBack h p (outputOf (frame-Written n) h p out) n
+pub output-read-back : (h : Header) (p out : List ℕ) {n : ℕ} → HeaderFits h → writtenOf h p (length out) ≡ frame-Written n → ReadBack h p (outputOf (frame-Written n) h p out) n
 output-read-back = frame-ReadBack.output-read-back
 
 -- What was written, followed by anything, is read as a frame with the same header, and `read` shows its payload as the value that the sheet shows over
 -- its bytes, in a sheet with rows enough. Every header of the entry fits its fields.
-pub frame-read-back : (h : Header) (fits : Fits h) (s : List ℕ) (ty : ℕ) (sheet B out : List ℕ) (m : ℕ) (out′ : List ℕ)
+pub frame-read-back : (h : Header) (fits : HeaderFits h) (s : List ℕ) (ty : ℕ) (sheet B out : List ℕ) (m : ℕ) (out′ : List ℕ)
     (e : frameOutcome h s ty sheet B out ≡ writer-outcome (writer-Written m) out′)
     (after : List ℕ) → length sheet / 4 ≤ room after
     → (p : List ℕ) × Carries s ty sheet B after p × ((rest : List ℕ) → ReadBack h p (take m out′ ++ rest) m)
 frame-read-back = promises-ValueFrames.frame-read-back
 
 -- The same by `receive`, in any history from a good call table of 128 slots with as many tally rows as methods, for a frame that may come next.
-pub received-back : (h : Header) (fits : Fits h) (s : List ℕ) (ty : ℕ) (sheet B out : List ℕ) (m : ℕ) (out′ : List ℕ)
+pub received-back : (h : Header) (fits : HeaderFits h) (s : List ℕ) (ty : ℕ) (sheet B out : List ℕ) (m : ℕ) (out′ : List ℕ)
     (e : frameOutcome h s ty sheet B out ≡ writer-outcome (writer-Written m) out′)
     (st : State) (past : ℕ → Past) → line-Stands (tableOf s) (st .calls) (st .tallies) past → (is : List line-Event) (side : ℕ)
     → (after : List ℕ) → length sheet / 4 ≤ room after → (rest : List ℕ)

@@ -23,17 +23,17 @@ use Rattle.calls.specs.Judge.{rightSide}
 use Rattle.calls.specs.declared.FormRow.{FormRow}
 use Rattle.calls.specs.Good.{GoodCall}
 use Rattle.calls.specs.declared.Payload.the-variants.{Empty}
-use Rattle.line.specs.Claims.{Front, Nothing, rowFor, releaseReply, payloadIn}
-use Rattle.line.specs.Receive.{received}
-use Rattle.line.specs.Run.{State, Event as line-Event, stateAfter, Happens, numberOf, pastIn, callsAfter, Input, answerAfter, rowsAfter, RoomAfter, fullAfter}
-use Rattle.line.specs.Order.{Stands as line-Stands}
-use Rattle.line.specs.Release.{released}
+use Rattle.receiver.specs.Claims.{Front, Nothing, rowFor, releaseReply, payloadIn}
+use Rattle.receiver.specs.Receive.{received}
+use Rattle.receiver.specs.Run.{State, Event as line-Event, stateAfter, Happens, numberOf, pastIn, callsAfter, Input, answerAfter, rowsAfter, RoomAfter, fullAfter}
+use Rattle.receiver.specs.Order.{Stands as line-Stands}
+use Rattle.receiver.specs.Release.{released}
 use Rattle.listing.specs.Listing.{listing}
 use Rattle.listing.proofs.Examples.{crossed, crossedOutput}
 use Rattle.calls.proofs.Cancelled as calls-Cancelled
-use Rattle.line.proofs.Records as line-Records
-use Rattle.line.proofs.Runs as line-Runs
-use Rattle.line.proofs.Releases as line-Releases
+use Rattle.receiver.proofs.Records as line-Records
+use Rattle.receiver.proofs.Runs as line-Runs
+use Rattle.receiver.proofs.Releases as line-Releases
 use Rattle.listing.proofs.Examples as listing-Examples
 
 -- "a cancelled call shall stay open in its slot and keep its identifier."

@@ -29,21 +29,21 @@ use Rattle.calls.specs.Figures.{openOf, Balanced, figures, counted, Full}
 use Rattle.calls.specs.Good.{GoodTable as calls-GoodTable}
 use Rattle.calls.specs.declared.Figure.{Figure}
 use Rattle.reader.specs.Entry.{room}
-use Rattle.line.specs.Run.{Event as line-Event, freshState, runFrom, heardFrom, State, callsAfter, rowsAfter, Input, answerAfter}
-use Rattle.line.specs.Claims.{CountedSince, Stops, rowFor, Front, Ready, Unready, Alike, SameAnswer, About, Keeping, KeptWhole, Keeps}
-use Rattle.line.specs.Receive.{frameRise, received}
-use Rattle.line.specs.Release.{released}
-use Rattle.line.specs.Fresh.{inputs, freshLine, receivedFresh, freshRun}
+use Rattle.receiver.specs.Run.{Event as line-Event, freshState, runFrom, heardFrom, State, callsAfter, rowsAfter, Input, answerAfter}
+use Rattle.receiver.specs.Claims.{CountedSince, Stops, rowFor, Front, Ready, Unready, Alike, SameAnswer, About, Keeping, KeptWhole, Keeps}
+use Rattle.receiver.specs.Receive.{frameRise, received}
+use Rattle.receiver.specs.Release.{released}
+use Rattle.receiver.specs.Fresh.{inputs, freshLine, receivedFresh, freshRun}
 use Rattle.calls.proofs.Sides as calls-Sides
 use Rattle.calls.proofs.Goodness as calls-Goodness
 use Rattle.calls.proofs.Counted as calls-Counted
-use Rattle.line.proofs.Tallies as line-Tallies
-use Rattle.line.proofs.Runs as line-Runs
-use Rattle.line.proofs.Kept as line-Kept
-use Rattle.line.proofs.Answers as line-Answers
-use Rattle.line.proofs.Apart as line-Apart
-use Rattle.line.proofs.Listed as line-Listed
-use Rattle.line.proofs.FreshRows as line-FreshRows
+use Rattle.receiver.proofs.Tallies as line-Tallies
+use Rattle.receiver.proofs.Runs as line-Runs
+use Rattle.receiver.proofs.Kept as line-Kept
+use Rattle.receiver.proofs.Answers as line-Answers
+use Rattle.receiver.proofs.Apart as line-Apart
+use Rattle.receiver.proofs.Listed as line-Listed
+use Rattle.receiver.proofs.FreshRows as line-FreshRows
 
 -- "Each call's record shall carry the stream elements accepted each way, to 65,535."
 

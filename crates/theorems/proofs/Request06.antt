@@ -12,7 +12,7 @@ use Rattle.writer.specs.Entry.{outcome as writer-outcome, payloadBy}
 use Rattle.writer.specs.declared.Writing.the-variants.{Written as writer-Written, Refused as writer-Refused}
 use Rattle.valueframe.specs.Entry.{frameOutcome}
 use Rattle.valueframe.specs.Claims.{InTurn, Unwritten}
-use Rattle.valueframe.specs.Cases.{Case, header, worked as valueframe-worked, lent as valueframe-lent}
+use Rattle.valueframe.specs.Cases.{ValueFrameCase, header, worked as valueframe-worked, lent as valueframe-lent}
 use Rattle.valueframe.proofs.InTurn as valueframe-InTurn
 use Rattle.valueframe.proofs.Examples as valueframe-Examples
 
@@ -49,8 +49,8 @@ pub refused-iff-unwritten : (h : Header) (s : List ℕ) (ty : ℕ) (cells B out 
 refused-iff-unwritten = valueframe-InTurn.refused-iff-unwritten
 
 -- Computed, case by case: the number, the place or the length, and every byte of the output.
-pub cases-hold : map (λ (c : Case). frameOutcome (header (c .kind)) file (c .type) (c .cells) (c .source) (c .out)) valueframe-worked
-    ≡ map (λ (c : Case). writer-outcome (c .answer) (c .after)) valueframe-worked
+pub cases-hold : map (λ (c : ValueFrameCase). frameOutcome (header (c .kind)) file (c .type) (c .cells) (c .source) (c .out)) valueframe-worked
+    ≡ map (λ (c : ValueFrameCase). writer-outcome (c .answer) (c .after)) valueframe-worked
 cases-hold = valueframe-Examples.cases-hold
 
 -- No table: 40 before the kind, and where there is no value too.

@@ -19,7 +19,7 @@ use Rattle.salvage.specs.declared.Salvaging.the-variants.{Salvaged, Refused as 
 use Rattle.calls.specs.declared.Call.{Call}
 use Rattle.calls.specs.Slots.{goodTable}
 use Rattle.calls.specs.Limits.{FewIn}
-use Rattle.line.specs.Fresh.{receivedFresh}
+use Rattle.receiver.specs.Fresh.{receivedFresh}
 use Rattle.replay.specs.Run.{freshCalls}
 use Rattle.listing.specs.Listing.{listing}
 use Rattle.listing.specs.Text.{heading}
@@ -29,7 +29,7 @@ use Rattle.salvage.proofs.Covers as salvage-Covers
 use Rattle.salvage.proofs.Statements as salvage-Statements
 use Rattle.salvage.proofs.Outcomes as salvage-Outcomes
 use Rattle.salvage.proofs.Cells as salvage-Cells
-use Rattle.line.proofs.FreshRows as line-FreshRows
+use Rattle.receiver.proofs.FreshRows as line-FreshRows
 use Rattle.listing.proofs.Kept as listing-Kept
 
 -- An entry is found by a test, and told apart from the test by a relation:

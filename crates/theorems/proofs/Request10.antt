@@ -1,11 +1,13 @@
 -- Request 2026-10, maps that take too long: its sentences, and below each the theorems that state it, cited from the crate that proves them.
-use Prim.Native.Nat.{ℕ, _*_, _-_, _≤_}
-use mathlib.Core.List.{List}
+use Prim.Native.Nat.{ℕ, suc, _*_, _-_, _≤_, _<_}
+use mathlib.Core.List.{List, _∷_, _++_}
 use mathlib.Core.Path.{_≡_}
 use lib.ListN.{length}
 use mathlib.Core.Bool.{true}
 use mathlib.Core.Logic.{_↔_}
-use Rattle.schema.specs.Table.{Table, shape, struct}
+use Rattle.wire.specs.Varuint.{Spelled}
+use Rattle.parse.specs.Reader.{Cursor, CursorOf, refused}
+use Rattle.schema.specs.Table.{Table, shape, map, struct}
 use Rattle.schema.specs.Good.{GoodTable as schema-GoodTable}
 use Rattle.schema.specs.declared.Field.{Field}
 use Rattle.calls.specs.declared.Tally.{Tally}
@@ -16,14 +18,15 @@ use Rattle.value.specs.Spell.{RootSpells, MapsSmall, Spells, keysOf}
 use Rattle.value.specs.declared.Row.{Row as value-Row}
 use Rattle.value.specs.Fits.{Shows}
 use Rattle.value.specs.Comparisons.{due, pairsAmong, mapDue, comparisons, rowsDue}
-use Rattle.value.specs.Read.{plan, read, accepted}
+use Rattle.value.specs.Read.{plan, parse, read, accepted}
+use Rattle.value.specs.Write.{show}
 use Rattle.reader.specs.Entry.{readOutcome, outcome as reader-outcome}
 use Rattle.reader.specs.declared.Reading.the-variants.{Shown}
-use Rattle.line.specs.Receive.{received}
+use Rattle.receiver.specs.Receive.{received}
 use Rattle.promises.specs.Claims.{shapes, firstRows}
 use Rattle.calls.proofs.Used as calls-Used
 use Rattle.value.proofs.Statements as value-Statements
-use Rattle.line.proofs.Due as line-Due
+use Rattle.receiver.proofs.Due as line-Due
 use Rattle.promises.proofs.Reading as promises-Reading
 
 -- "Maps get at most 64 pairs, a premise demands 2 and 3 carry from here."
@@ -87,6 +90,21 @@ value-comparisons-within = value-Statements.comparisons-within
 
 -- "Refusals: 31 map above 64 pairs, at its count, after 20 and 21; for call and bytes used it is like 20 to 29, and the writers give it at the map's
 -- row after 50,"
+
+-- A map whose count is above 64 is refused with 31 at its count, where bytes enough for its pairs follow.
+pub pairs-refused : (T : Table) (good : schema-GoodTable T) (t : ℕ) (d k v n : ℕ) (u rest : List ℕ) (c : Cursor) → shape T t ≡ map k v → Spelled n u
+    → c .left ≡ u ++ rest → 2 * n ≤ length rest → 64 < n → parse (shape T) (suc d) t c ≡ refused 31 (c .at)
+pairs-refused = value-Statements.pairs-refused
+
+-- With too few bytes after it, it is refused with 20 there.
+pub count-refused : (T : Table) (good : schema-GoodTable T) (t : ℕ) (d k v n : ℕ) (u rest : List ℕ) (c : Cursor) → shape T t ≡ map k v → Spelled n u
+    → c .left ≡ u ++ rest → length rest < 2 * n → parse (shape T) (suc d) t c ≡ refused 20 (c .at)
+count-refused = value-Statements.count-refused
+
+-- A map's row whose count is above 64 is refused with 31 at that row, whatever rows follow.
+pub row-refused : (T : Table) (good : schema-GoodTable T) (t : ℕ) (d k v : ℕ) (B : List ℕ) (r : value-Row) (rs : List value-Row) (c : CursorOf value-Row)
+    → shape T t ≡ map k v → c .left ≡ r ∷ rs → r .ty ≡ t → 64 < r .count → show (shape T) B (suc d) t c ≡ refused 31 (c .at)
+row-refused = value-Statements.row-refused
 
 -- Bytes used: the frame's length for 0, 8 to 14, 16, 20 to 29 and 31, and for no other number.
 pub uses-iff : (n : ℕ) → (usesFrame n ≡ true) ↔ UsesFrame n

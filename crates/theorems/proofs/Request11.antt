@@ -27,7 +27,7 @@ use Rattle.writer.specs.Entry.{outcome as writer-outcome, fileOutcome}
 use Rattle.writer.specs.declared.Writing.the-variants.{Written as writer-Written, Refused as writer-Refused}
 use Rattle.forward.specs.Entry.{forwardOutcome}
 use Rattle.forward.specs.Claims.{Forwards, Passes, ForwardListed}
-use Rattle.forward.specs.Cases.{Hold as forward-Hold, worked as forward-worked, nine, by-nine, large, lent as forward-lent}
+use Rattle.forward.specs.Cases.{ForwardHold as forward-Hold, worked as forward-worked, nine, by-nine, large, lent as forward-lent}
 use Rattle.forward.specs.Forward.{forward, rootUnknown}
 use Rattle.promises.specs.Claims.{shapes, ReadsAs, ForwardReason}
 use Rattle.promises.specs.Cases.{RelaysP6}

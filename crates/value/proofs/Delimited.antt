@@ -6,7 +6,7 @@ use native.Mathlib.Nat.{zero-add, sub-zero}
 use native.Mathlib.Omega.{arith}
 use lib.ListN.{length, drop, length-append}
 use lib.Seq.{take-add, drop-drop}
-use Rattle.buffer.specs.Span.{span, Spans}
+use Rattle.buffer.specs.Span.{span, SpanIs}
 use Rattle.buffer.proofs.Spans.{length-span}
 use Rattle.parse.specs.Reader.{Cursor, seen, Reader, cursorAt}
 use Rattle.parse.proofs.Answers.{Seen, nothing, value as holds, seen-then, seen-after, seen-check, seen-map, seen-both, seen-end}
@@ -25,7 +25,7 @@ use Rattle.value.proofs.Placed.{OwnFits, own-placed}
 
 module _ (B : List ℕ) where
   -- Bytes that stand at a place are the span up to their end.
-  up-to : (a b : ℕ) (u : List ℕ) → b ≡ a + length u → Spans B a (length u) u → u ≡ span B a (b - a)
+  up-to : (a b : ℕ) (u : List ℕ) → b ≡ a + length u → SpanIs B a (length u) u → u ≡ span B a (b - a)
   up-to a b u e s = let k : b - a ≡ length u = omega arith in rw k (s .1)
 
   -- Two spans, the one after the other.
@@ -59,10 +59,10 @@ module _ (B : List ℕ) where
 
   -- The own bytes of a value: what they spell, and what its row names of them.
   abbrev OwnStands : Shape → Own → (start end : ℕ) → Type 0
-  OwnStands s (plain x) start end = LeafSpells s x (span B start (end - start)) × Spans B (end - length x) (length x) x × (end - length x + length x ≡ end)
+  OwnStands s (plain x) start end = LeafSpells s x (span B start (end - start)) × SpanIs B (end - length x) (length x) x × (end - length x + length x ≡ end)
   OwnStands s (parts p h) start end = HeadSpells s h (span B start (end - start)) × Begins s (parts p h) start end × (start ≤ end)
 
-  leaf-spans : (s : Shape) (p n c : ℕ) (x : List ℕ) → LeafFits B s p n c x → Spans B p n x
+  leaf-spans : (s : Shape) (p n c : ℕ) (x : List ℕ) → LeafFits B s p n c x → SpanIs B p n x
   leaf-spans (scalar _) p n c x f = f .2
   leaf-spans (text _) p n c x f = f .1
   leaf-spans unknown p n c x f = absurd f
@@ -83,7 +83,7 @@ module _ (B : List ℕ) where
       seen-map (seen-both (seen-both (stays-on B on (own-reads s c)) (own-placed B s c on)) (own-begins s c)) (λ o c′ w.
       (w .0 .0 .0, go o c′ (w .0 .0 .1 .0) (w .0 .0 .1 .1) (w .0 .0 .1 .2) (w .0 .0 .1 .3) (w .0 .1 .1) (w .1)))
     where
-      go : (o : Own) (c′ : Cursor) (u : List ℕ) → c′ .at ≡ c .at + length u → Spans B (c .at) (length u) u → OwnSpells s o u → OwnFits B s o c′
+      go : (o : Own) (c′ : Cursor) (u : List ℕ) → c′ .at ≡ c .at + length u → SpanIs B (c .at) (length u) u → OwnSpells s o u → OwnFits B s o c′
           → Begins s o (c .at) (c′ .at) → OwnStands s o (c .at) (c′ .at)
       go (plain x) c′ u e sp q f b =
           (rw (← up-to (c .at) (c′ .at) u e sp) q, leaf-spans s _ _ _ x f, omega (arith, leaf-long s x u q))

@@ -32,26 +32,26 @@ abbrev row : ℕ → ℕ → ℕ → ℕ → Row
 row t p l n = record { ty = t; place = p; length = l; count = n }
 
 -- ---- the reader: a type, a payload, the sheet's room and the answer
-pub record Case : Type 0 where
+pub record ReadCase : Type 0 where
   pub type : ℕ
   pub payload : List ℕ
   pub room : ℕ
   pub answer : Reading
 
-abbrev case : ℕ → List ℕ → ℕ → Reading → Case
+abbrev case : ℕ → List ℕ → ℕ → Reading → ReadCase
 case t p n a = record { type = t; payload = p; room = n; answer = a }
 
 -- The answer to a case, and those to several.
-unfoldable pub answered : Table → Case → Reading
+unfoldable pub answered : Table → ReadCase → Reading
 unfolding read.read read.rootStruct read.ending onesIn read.parse read.walk read.bitmap answer.count read.present read.complete table.shape value.rows value.value comparisons.comparisons comparisons.due
 answered T c = read.read T (c .type) (c .payload) (c .room)
 
-unfoldable pub answers : Table → List Case → List Reading
+unfoldable pub answers : Table → List ReadCase → List Reading
 unfolding answered answer.andThen answer.check answer.block answer.varUInt little.little varuint.front varuint.groups utf8.run utf8.next utf8.leadOf utf8.rows
 answers T cases = map (answered T) cases
 
-abbrev Hold : Table → List Case → Type 0
-Hold T cases = answers T cases ≡ map (λ (c : Case). c .answer) cases
+abbrev ReadHold : Table → List ReadCase → Type 0
+ReadHold T cases = answers T cases ≡ map (λ (c : ReadCase). c .answer) cases
 
 -- 01's table T, and P1 to P10.
 unfoldable pub T : Table
@@ -61,7 +61,7 @@ T = record {
   methods = [];
 }
 
-abbrev worked : List Case
+abbrev worked : List ReadCase
 worked =
     case 4 (0x01 ∷ 0x02 ∷ 0x03 ∷ 0x07 ∷ 0x02 ∷ 0x6F ∷ 0x6B ∷ 0x01 ∷ 0x00 ∷ []) 4096
     (accepted (row 4 0 9 1 ∷ row 3 2 7 2 ∷ row 2 2 5 2 ∷ row 0 3 1 0 ∷ row 1 5 2 0 ∷ row 2 7 2 1 ∷ row 0 8 1 0 ∷ []) 9 0 0)
@@ -76,7 +76,7 @@ worked =
     ∷ case 4 (0x01 ∷ 0x02 ∷ 0x01 ∷ 0x07 ∷ []) 4096 (refusal 20 4)
     ∷ []
 
-pub p1-to-p10 : Hold T worked
+pub p1-to-p10 : ReadHold T worked
 unfolding T answers
 p1-to-p10 = refl
 
@@ -93,7 +93,7 @@ kinds = record {
 }
 
 -- Two bytes of bitmap; 1, 1, 2, 4, 8, 1, 2, 4, 8, 4 and 8 bytes of scalars; "ok"; a byte; two numbers; and two pairs, the key before the value.
-pub each-kind : Hold kinds
+pub each-kind : ReadHold kinds
     (case 15
     (0xFF ∷ 0x7F
     ∷ 0x01 ∷ 0x80 ∷ 0x01 ∷ 0x02 ∷ 0x01 ∷ 0x02 ∷ 0x03 ∷ 0x04 ∷ 0x01 ∷ 0x02 ∷ 0x03 ∷ 0x04 ∷ 0x05 ∷ 0x06 ∷ 0x07 ∷ 0x08
@@ -127,13 +127,13 @@ rootAdded = record {
 }
 
 -- By the new tables P5 and P6 have no unknown bit. By T, P5 is 26 at the bitmap of the first struct that carries the field, and P6 has a tail.
-pub inner-added : Hold innerAdded
+pub inner-added : ReadHold innerAdded
     (case 4 (0x01 ∷ 0x02 ∷ 0x05 ∷ 0x00 ∷ 0x05 ∷ 0x01 ∷ 0x07 ∷ []) 4096
     (accepted (row 4 0 7 1 ∷ row 3 2 5 2 ∷ row 2 2 3 2 ∷ row 0 3 1 0 ∷ row 0 4 1 0 ∷ row 2 5 2 1 ∷ row 0 6 1 0 ∷ []) 7 0 0) ∷ [])
 unfolding innerAdded answers
 inner-added = refl
 
-pub root-added : Hold rootAdded
+pub root-added : ReadHold rootAdded
     (case 4 (0x05 ∷ 0x01 ∷ 0x01 ∷ 0x07 ∷ 0x09 ∷ []) 4096
     (accepted (row 4 0 5 2 ∷ row 3 2 2 1 ∷ row 2 2 2 1 ∷ row 0 3 1 0 ∷ row 0 4 1 0 ∷ []) 5 0 0) ∷ [])
 unfolding rootAdded answers
@@ -157,7 +157,7 @@ mapAdded = record {
   methods = [];
 }
 
-abbrev innerCases : List Case
+abbrev innerCases : List ReadCase
 innerCases =
     -- P5 with room for the rows shown, and for one less.
     case 4 (0x01 ∷ 0x02 ∷ 0x05 ∷ 0x00 ∷ 0x05 ∷ 0x01 ∷ 0x07 ∷ []) 6
@@ -165,7 +165,7 @@ innerCases =
     ∷ case 4 (0x01 ∷ 0x02 ∷ 0x05 ∷ 0x00 ∷ 0x05 ∷ 0x01 ∷ 0x07 ∷ []) 5 (refusal 30 0)
     ∷ []
 
-abbrev rootCases : List Case
+abbrev rootCases : List ReadCase
 rootCases =
     -- P6 has no tail here; a bit that theirs does not know gives one, and is 26 in an inner struct; P8 lacks the added field; type 0 is no struct.
     case 4 (0x05 ∷ 0x01 ∷ 0x01 ∷ 0x07 ∷ 0x09 ∷ []) 4 (accepted (row 4 0 5 1 ∷ row 3 2 2 1 ∷ row 2 2 2 1 ∷ row 0 3 1 0 ∷ []) 5 0 0)
@@ -175,7 +175,7 @@ rootCases =
     ∷ case 0 [] 4 (refusal 46 0)
     ∷ []
 
-abbrev wideCases : List Case
+abbrev wideCases : List ReadCase
 wideCases =
     -- The known bits are those of the first byte, with an added field's bit in it and without; the struct that only theirs has is 46.
     case 4 (0x01 ∷ 0x01 ∷ 0x05 ∷ 0x01 ∷ 0x07 ∷ 0xAA ∷ 0xBB ∷ []) 4 (accepted (row 4 0 7 1 ∷ row 3 2 5 1 ∷ row 2 2 5 1 ∷ row 0 4 1 0 ∷ []) 7 0 0)
@@ -183,7 +183,7 @@ wideCases =
     ∷ case 5 (0x01 ∷ 0x07 ∷ []) 4 (refusal 46 0)
     ∷ []
 
-abbrev mapCases : List Case
+abbrev mapCases : List ReadCase
 mapCases =
     -- An added map of three keys in the inner struct and one of two keys in the root: their comparisons are counted, 3 and 1. A key that comes
     -- again in an added map is refused at its place, though the map is not shown.
@@ -192,8 +192,8 @@ mapCases =
     ∷ case 4 (0x05 ∷ 0x00 ∷ 0x02 ∷ 0x01 ∷ 0x09 ∷ 0x01 ∷ 0x09 ∷ []) 4 (refusal 24 5)
     ∷ []
 
-abbrev HoldBeside : Table → List Case → Type 0
-HoldBeside theirs cases = map (λ (c : Case). beside.readBeside T theirs (c .type) (c .payload) (c .room)) cases ≡ map (λ (c : Case). c .answer) cases
+abbrev HoldBeside : Table → List ReadCase → Type 0
+HoldBeside theirs cases = map (λ (c : ReadCase). beside.readBeside T theirs (c .type) (c .payload) (c .room)) cases ≡ map (λ (c : ReadCase). c .answer) cases
 
 pub beside-cases : HoldBeside innerAdded innerCases × HoldBeside rootAdded rootCases × HoldBeside widened wideCases × HoldBeside mapAdded mapCases
 unfolding T innerAdded rootAdded widened mapAdded beside.readBeside beside.pruned answers
@@ -208,7 +208,7 @@ U = record {
   methods = [];
 }
 
-abbrev faults : List Case
+abbrev faults : List ReadCase
 faults =
     -- A bitmap: cut, though its required bit lacks already; then 25, before 26; then 26.
     case 5 (0x20 ∷ 0x00 ∷ []) 9 (refusal 20 1)
@@ -263,11 +263,11 @@ faults =
     ∷ case 5 (0x00 ∷ []) 0 (refusal 30 0)
     ∷ []
 
-pub read-faults : Hold U faults
+pub read-faults : ReadHold U faults
 unfolding U answers
 read-faults = refl
 
-abbrev limits : List Case
+abbrev limits : List ReadCase
 limits =
     -- 65 pairs are refused at the count: after 20 and 21, and before what a key shows, a repeated one's 24 and a deep one's 28. The map's own 28 comes first.
     case 5 (0x02 ∷ 0x41 ∷ replicate 130 0x00) 0 (refusal 31 1)
@@ -279,7 +279,7 @@ limits =
     ∷ case 5 (replicate 14 0x01 ++ (0x02 ∷ 0x40 ∷ replicate 128 0x00)) 0 (refusal 28 16)
     ∷ []
 
-pub read-limits : Hold U limits
+pub read-limits : ReadHold U limits
 unfolding U answers
 read-limits = refl
 
@@ -293,13 +293,13 @@ pairRows zero p = []
 pairRows (suc n) p = row 2 (p + 1) 1 0 ∷ row 1 (p + 2) 1 0 ∷ pairRows n (p + 3)
 
 -- 64 pairs are allowed, with 2,016 comparisons, and 65 are not.
-abbrev full : List Case
+abbrev full : List ReadCase
 full =
     case 5 (0x02 ∷ 0x40 ∷ pairBytes 64 0) 130 (accepted (row 5 0 194 1 ∷ row 3 2 192 64 ∷ pairRows 64 2) 194 0 2016)
     ∷ case 5 (0x02 ∷ 0x41 ∷ pairBytes 65 0) 132 (refusal 31 1)
     ∷ []
 
-pub read-full : Hold U full
+pub read-full : ReadHold U full
 unfolding U answers
 read-full = refl
 
@@ -316,7 +316,7 @@ abbrev uint8s : (n place : ℕ) → List Row
 uint8s zero p = []
 uint8s (suc n) p = row 0 p 1 0 ∷ uint8s n (p + 1)
 
-abbrev keys : List Case
+abbrev keys : List ReadCase
 keys =
     -- No key, and one alone: no comparison. Two: one. Three: three.
     case 4 (0x01 ∷ 0x00 ∷ []) 9 (accepted (row 4 0 2 1 ∷ row 1 2 0 0 ∷ []) 2 0 0)
@@ -333,7 +333,7 @@ keys =
     ∷ case 4 (0x09 ∷ 0x02 ∷ 0x01 ∷ 0x00 ∷ 0x02 ∷ 0x00 ∷ 0x02 ∷ 0x01 ∷ 0x00 ∷ 0x02 ∷ 0x00 ∷ []) 99 (accepted (row 4 0 6 1 ∷ row 1 2 4 2 ∷ uint8s 4 2) 6 5 1)
     ∷ []
 
-pub read-keys : Hold M keys
+pub read-keys : ReadHold M keys
 unfolding M answers
 read-keys = refl
 
@@ -420,7 +420,7 @@ sheets =
     ∷ []
 
 pub write-cases : map (λ (c : Sheet). write.write W (c .type) (c .rows) (c .over) (c .room)) sheets ≡ map (λ (c : Sheet). c .answer) sheets
-unfolding W write.write write.showRoot write.show write.rowOf write.nextRow write.bitsAt spell.encode little.little little.bytes varuint.shortest varuint.varuintBytes answers
+unfolding W write.write write.showRoot write.show write.rowDue write.nextRow write.bitsAt spell.encode little.little little.bytes varuint.shortest varuint.varuintBytes answers
 write-cases = refl
 
 -- The rows shown of T beside `widened`, written by T: the added field is left out, and the bitmap has T's one byte. Where an added field's bit stands in
@@ -432,6 +432,6 @@ shownSheets =
     ∷ []
 
 pub beside-written : map (λ (c : Sheet). write.write T (c .type) (c .rows) (c .over) (c .room)) shownSheets ≡ map (λ (c : Sheet). c .answer) shownSheets
-unfolding T write.write write.showRoot write.show write.rowOf write.nextRow write.bitsAt spell.encode little.little little.bytes varuint.shortest varuint.varuintBytes
+unfolding T write.write write.showRoot write.show write.rowDue write.nextRow write.bitsAt spell.encode little.little little.bytes varuint.shortest varuint.varuintBytes
     read.walk read.present read.complete table.shape answer.andThen answer.check utf8.run utf8.next utf8.leadOf utf8.rows value.value
 beside-written = refl

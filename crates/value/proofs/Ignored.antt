@@ -13,7 +13,7 @@ use Rattle.schema.specs.Table.{Shape, unknown, scalar, text, array, map, struct
 use Rattle.value.specs.declared.Row.{Row}
 use Rattle.value.specs.Value.{Tree, value, values}
 use Rattle.value.specs.Read.{Item, Own, plain, parts, plan, walk, onStruct}
-use Rattle.value.specs.Write.{RowReader, nextRow, rowOf, bitsAt, says, held, show, showRoot, sheetRoot, writing}
+use Rattle.value.specs.Write.{RowReader, nextRow, rowDue, bitsAt, says, held, show, showRoot, sheetRoot, writing}
 use Rattle.value.specs.Fits.{usedPlace, usedLength, used}
 
 module _ (S : ℕ → Shape) where
@@ -49,8 +49,8 @@ module _ (S : ℕ → Shape) where
   next-both (r ∷ rs) [] k l = differ cc
   next-both (r ∷ rs) (r′ ∷ rs′) k l = accept {a = r} {b = r′} rs rs′ (k + 1) (cc) (cc)
 
-  row-both : (t : ℕ) (rs rs′ : List Row) (k : ℕ) → Alike rs rs′ → Both (λ r r′. (used S r ≡ used S r′) × (r .ty ≡ t)) (rowOf t (from rs k)) (rowOf t (from rs′ k))
-  unfolding rowOf
+  row-both : (t : ℕ) (rs rs′ : List Row) (k : ℕ) → Alike rs rs′ → Both (λ r r′. (used S r ≡ used S r′) × (r .ty ≡ t)) (rowDue t (from rs k)) (rowDue t (from rs′ k))
+  unfolding rowDue
   row-both t rs rs′ k l =
       both-then _ _ (next-both rs rs′ k l) (λ r r′ us us′ j q m.
       let e : eqb (r′ .ty) t ≡ eqb (r .ty) t = ap (λ (x : Row). eqb (x .ty) t) (sym q) in

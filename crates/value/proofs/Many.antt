@@ -11,7 +11,7 @@ use Rattle.parse.proofs.Pieces.{var-complete, count-complete}
 use Rattle.schema.specs.Table.{Shape, map}
 use Rattle.value.specs.declared.Row.{Row}
 use Rattle.value.specs.Read.{parse}
-use Rattle.value.specs.Write.{nextRow, rowOf, show}
+use Rattle.value.specs.Write.{nextRow, rowDue, show}
 
 module _ (S : ℕ → Shape) (d t k v : ℕ) (is : S t ≡ map k v) where
   module _ (n : ℕ) (u rest : List ℕ) (c : Cursor) (s : Spelled n u) (e : c .left ≡ u ++ rest) where
@@ -27,5 +27,5 @@ module _ (S : ℕ → Shape) (d t k v : ℕ) (is : S t ≡ map k v) where
 
   pub row-refused : (B : List ℕ) (r : Row) (rs : List Row) (c : CursorOf Row) → c .left ≡ r ∷ rs → r .ty ≡ t → 64 < r .count
       → show S B (suc d) t c ≡ refused 31 (c .at)
-  unfolding show rowOf nextRow andThen check
+  unfolding show rowDue nextRow andThen check
   row-refused B r rs c e ty many = rw (e, eq-eqb (r .ty) t ty, is, lt-leb (r .count) 64 many)

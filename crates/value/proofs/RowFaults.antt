@@ -23,7 +23,7 @@ use Rattle.value.specs.declared.Row.{Row}
 use Rattle.value.specs.Value.{Tree, Forest, stop, plus, rows, rowsAll, Value, value, Values, none, some, values, content}
 use Rattle.value.specs.Read.{Item, plan, counted, Own, plain, parts, walk, knownBits}
 use Rattle.value.specs.Spell.{AllSpell, keysOf}
-use Rattle.value.specs.Write.{nextRow, rowOf, bitsAt, says, held, show, showRoot}
+use Rattle.value.specs.Write.{nextRow, rowDue, bitsAt, says, held, show, showRoot}
 use Rattle.value.specs.Fits.{BitsFit, HeadFits, AllFit, Fits}
 use Rattle.value.specs.SheetReasons.{NoRow, missing, other, BitsFault, outside, absent, RowFault, scalar-unfit, scalar-outside, no-bool, text-unfit, text-outside, no-string, many-pairs, bits, struct-unfit}
 use Rattle.value.specs.SheetReasons.{RowDue, SheetFaulty, too-deep, no-row, own, inner, repeated, RootRowDue, SheetFault, no-row as no-root, bits as root-bits, miscounted, field, left-over}
@@ -47,8 +47,8 @@ module _ {F : (u x rest : List Row) → ℕ → Type 0} (t : ℕ) (c : CursorOf 
       go [] e = blames {p = c .at} [] [] [] e (omega arith) (f [] [] missing)
       go (r ∷ rs) e = fine
 
-  row-blames : Blames c F (rowOf t c)
-  unfolding rowOf
+  row-blames : Blames c F (rowDue t c)
+  unfolding rowDue
   row-blames =
       blames-then (next-reads c) next-blames (λ r c₁ u _ l k q.
       blames-check _ _ _ _ _ (λ e. blames [] (r ∷ []) (c₁ .left) (l ∙ rw q) (omega arith) (f (r ∷ []) (c₁ .left) (other (eqb-false (r .ty) t e)))) (λ _. fine))

@@ -19,7 +19,7 @@ use Rattle.schema.proofs.Bools.{and-i, is-false, clash}
 use Rattle.value.specs.declared.Row.{Row}
 use Rattle.value.specs.Value.{branch, Forest, rows, rowsAll, Value, value, values, content}
 use Rattle.value.specs.Read.{Item, among, walk, knownBits}
-use Rattle.value.specs.Write.{nextRow, rowOf, bitsAt, says, show, showRoot}
+use Rattle.value.specs.Write.{nextRow, rowDue, bitsAt, says, show, showRoot}
 use Rattle.value.specs.Fits.{Fits}
 use Rattle.value.specs.SheetReasons.{NoRow, missing, other, BitsFault, outside, absent, RowFault, scalar-unfit, scalar-outside, no-bool, text-unfit, text-outside, no-string, many-pairs, bits, struct-unfit}
 use Rattle.value.specs.SheetReasons.{RowDue, SheetFaulty, too-deep, no-row, own, inner, repeated, RootRowDue, SheetFault, no-row as no-root, bits as root-bits, miscounted, field, left-over}
@@ -41,8 +41,8 @@ next-is : (c : CursorOf Row) (r : Row) (rest : List Row) → c .left ≡ r ∷ r
 unfolding nextRow
 next-is c r rest l = rw l
 
-row-refused : (t : ℕ) (x rest : List Row) (c : CursorOf Row) → NoRow t x rest → c .left ≡ x ++ rest → rowOf t c ≡ refused 50 (c .at)
-unfolding rowOf
+row-refused : (t : ℕ) (x rest : List Row) (c : CursorOf Row) → NoRow t x rest → c .left ≡ x ++ rest → rowDue t c ≡ refused 50 (c .at)
+unfolding rowDue
 row-refused t x rest c missing l = stops _ (no-next c l)
 row-refused t x rest c (other {r} h) l = steps _ (next-is c r rest l) (fails _ _ (ne-eqb (r .ty) t h) refl)
 

@@ -14,7 +14,7 @@ use Rattle.schema.specs.Table.{Shape, unknown, scalar, text, array, map, struct
 use Rattle.value.specs.declared.Row.{Row}
 use Rattle.value.specs.Value.{Tree, tip, branch, Forest, stop, plus, rows, rowsAll, values}
 use Rattle.value.specs.Read.{Item, Own, plain, parts, plan, walk}
-use Rattle.value.specs.Write.{RowReader, nextRow, rowOf, bitsAt, says, held, show, showRoot}
+use Rattle.value.specs.Write.{RowReader, nextRow, rowDue, bitsAt, says, held, show, showRoot}
 use Rattle.value.specs.Fits.{LeafFits, BitsFit, HeadFits, AllFit, WholeFits, Fits, RootFits}
 use Rattle.value.proofs.Keys.{Fresh, fresh-apart, apart-fresh}
 use Rattle.value.proofs.Sound.{asked}
@@ -37,8 +37,8 @@ next-reads c = go (c .left) refl
     go [] e = not-ok
     go (r ∷ rs) e = ok (r ∷ []) e refl refl
 
-pub row-reads : (t : ℕ) (c : CursorOf Row) → Reads c (λ r u. (u ≡ r ∷ []) × (r .ty ≡ t)) (rowOf t c)
-unfolding rowOf
+pub row-reads : (t : ℕ) (c : CursorOf Row) → Reads c (λ r u. (u ≡ r ∷ []) × (r .ty ≡ t)) (rowDue t c)
+unfolding rowDue
 row-reads t c = reads-then (next-reads c) (λ r c′ u q. reads-check _ _ _ _ _ (λ e. stay (rw (append-nil, q), eqb-true _ t e)))
 
 -- What a row says.
@@ -93,8 +93,8 @@ module _ (S : ℕ → Shape) (B : List ℕ) where
 
 -- ---- what fits is accepted
 
-pub row-complete : (t : ℕ) (r : Row) (rest : List Row) (c : CursorOf Row) → r .ty ≡ t → c .left ≡ r ∷ rest → rowOf t c ≡ seen r (record { left = rest; at = c .at + 1 })
-unfolding rowOf nextRow andThen
+pub row-complete : (t : ℕ) (r : Row) (rest : List Row) (c : CursorOf Row) → r .ty ≡ t → c .left ≡ r ∷ rest → rowDue t c ≡ seen r (record { left = rest; at = c .at + 1 })
+unfolding rowDue nextRow andThen
 row-complete t r rest c h e = rw (e, passes _ _ _ _ (eq-eqb (r .ty) t h))
 
 module _ (B : List ℕ) (k : ℕ) where
@@ -141,7 +141,7 @@ module _ (P : ℕ → Tree → Type 0) (p : ℕ → RowReader Tree)
         (yields-then (walk-shown _ is ts rest c′ (q .1) (rw (w .0) (f .1)) (w .1)) (λ ys c″ w′. gives (rw (w .0, w′ .0), w′ .1))))
 
     whole-shown : (B : List ℕ) (k : ℕ) (s : Shape) (t : ℕ) (tree : Tree) (rest : List Row) (c : CursorOf Row) → WholeFits P B s t tree → c .left ≡ rows tree ++ rest
-        → Yields (AtEnd tree rest) (andThen (rowOf t c) (λ r c. andThen (says B k s (r .place) (r .length) (r .count) c) (held p r s)))
+        → Yields (AtEnd tree rest) (andThen (rowDue t c) (λ r c. andThen (says B k s (r .place) (r .length) (r .count) c) (held p r s)))
     unfolding rows
     whole-shown B k s t (tip r x) rest c q l =
         goes _ (row-complete t r rest c (q .0) l) (goes _ (leaf-says B k s _ _ _ x _ (q .1)) (gives (refl, refl)))

@@ -3,7 +3,7 @@ use mathlib.Core.Path.{_≡_}
 use mathlib.Core.List.{List, [], _∷_}
 use Prim.Native.Nat.{ℕ, zero, suc, _+_, _-_, _≤_}
 use lib.ListN.{length, drop}
-use Rattle.buffer.specs.Span.{span, Spans}
+use Rattle.buffer.specs.Span.{span, SpanIs}
 use Rattle.schema.specs.declared.Field.{Field}
 use Rattle.schema.specs.Table.{Shape, unknown, scalar, text, array, map, struct, bitmapBytes}
 use Rattle.value.specs.Value.{Tree, tip, branch, Forest, stop, plus, Value, node, Values, values}
@@ -41,7 +41,7 @@ firstAt (text _) p = p
 abbrev pub Delimits : (ℕ → Shape) → List ℕ → (d t : ℕ) → Tree → (start end : ℕ) → Type 0
 Delimits S B zero t tree start end = ⊥
 Delimits S B (suc d) t (tip r x) start end =
-    LeafSpells (S t) x (span B start (end - start)) × Spans B (r .place) (r .length) x × (r .place + r .length ≡ end)
+    LeafSpells (S t) x (span B start (end - start)) × SpanIs B (r .place) (r .length) x × (r .place + r .length ≡ end)
 Delimits S B (suc d) t (branch r h ts) start end =
     NodeSpan (Spells S d) B (S t) h (values ts) start (r .place) (r .length)
     × (r .place + r .length ≡ end)

@@ -4,7 +4,7 @@ use mathlib.Core.List.{List, [], _∷_}
 use mathlib.Core.Bool.{true}
 use Prim.Native.Nat.{ℕ, zero, suc, _+_, _^_, _≤_, _<_}
 use lib.ListN.{length}
-use Rattle.buffer.specs.Span.{span, Spans}
+use Rattle.buffer.specs.Span.{span, SpanIs}
 use Rattle.wire.specs.Little.{little}
 use Rattle.wire.specs.Utf8.{Utf8}
 use Rattle.schema.specs.declared.Field.{Field}
@@ -18,8 +18,8 @@ use Rattle.value.specs.Spell.{keysOf, Apart}
 
 -- The row of a scalar, a string or bytes, by its place, length and count, shows the content x.
 abbrev pub LeafFits : List ℕ → Shape → (place n count : ℕ) → List ℕ → Type 0
-LeafFits B (scalar kind) p n c x = (n ≡ width kind) × (c ≡ 0) × Spans B p n x × (kind ≡ 1 → little x < 2)
-LeafFits B (text kind) p n c x = (c ≡ 0) × Spans B p n x × (kind ≡ 12 → Utf8 x)
+LeafFits B (scalar kind) p n c x = (n ≡ width kind) × (c ≡ 0) × SpanIs B p n x × (kind ≡ 1 → little x < 2)
+LeafFits B (text kind) p n c x = (c ≡ 0) × SpanIs B p n x × (kind ≡ 12 → Utf8 x)
 LeafFits B unknown p n c x = ⊥
 LeafFits B (array _) p n c x = ⊥
 LeafFits B (map _ _) p n c x = ⊥

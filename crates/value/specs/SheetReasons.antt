@@ -5,7 +5,7 @@ use mathlib.Core.List.{List, [], _∷_, _++_}
 use mathlib.Core.Bool.{true}
 use Prim.Native.Nat.{ℕ, suc, _+_, _≤_, _<_}
 use lib.ListN.{length}
-use Rattle.buffer.specs.Span.{span, Spans}
+use Rattle.buffer.specs.Span.{span, SpanIs}
 use Rattle.wire.specs.Little.{little}
 use Rattle.wire.specs.Utf8.{Utf8}
 use Rattle.schema.specs.declared.Field.{Field}
@@ -35,10 +35,10 @@ module _ (B : List ℕ) where
   pub data RowFault : Shape → (p n c : ℕ) (number : ℕ) → Type 0 where
     scalar-unfit : {kind p n c : ℕ} → (n ≡ width kind → ⊥) ⊎ (c ≡ 0 → ⊥) → RowFault (scalar kind) p n c 50
     scalar-outside : {kind p n : ℕ} → n ≡ width kind → length B < p + n → RowFault (scalar kind) p n 0 51
-    no-bool : {p n : ℕ} (b : ℕ) → n ≡ 1 → Spans B p n (b ∷ []) → 2 ≤ b → RowFault (scalar 1) p n 0 22
+    no-bool : {p n : ℕ} (b : ℕ) → n ≡ 1 → SpanIs B p n (b ∷ []) → 2 ≤ b → RowFault (scalar 1) p n 0 22
     text-unfit : {kind p n c : ℕ} → (c ≡ 0 → ⊥) → RowFault (text kind) p n c 50
     text-outside : {kind p n : ℕ} → length B < p + n → RowFault (text kind) p n 0 51
-    no-string : {p n : ℕ} (x : List ℕ) → Spans B p n x → (Utf8 x → ⊥) → RowFault (text 12) p n 0 23
+    no-string : {p n : ℕ} (x : List ℕ) → SpanIs B p n x → (Utf8 x → ⊥) → RowFault (text 12) p n 0 23
     many-pairs : {k v p n c : ℕ} → 64 < c → RowFault (map k v) p n c 31
     bits : {fs : List Field} {p n c number : ℕ} → BitsFault fs p number → RowFault (struct fs) p n c number
     struct-unfit : {fs : List Field} {p n c : ℕ} (m : ℕ) → BitsFit B fs p m → Beyond fs m ⊎ (c ≡ counted (struct fs) m → ⊥) → RowFault (struct fs) p n c 50

@@ -29,8 +29,8 @@ nextRow c = nextOf (c .left)
     nextOf (r ∷ rs) = seen r (record { left = rs; at = c .at + 1 })
 
 -- The next row, which is to be of type t.
-unfoldable pub rowOf : ℕ → RowReader Row
-rowOf t = at λ here. do
+unfoldable pub rowDue : ℕ → RowReader Row
+rowDue t = at λ here. do
   r ← nextRow
   check (eqb (r .ty) t) 50 (here .at)
   return r
@@ -77,14 +77,14 @@ held p r s (parts _ head) = do
 unfoldable pub show : (ℕ → Shape) → List ℕ → (d t : ℕ) → RowReader Tree
 show S B zero t = at λ here. refuse 28 (here .at)
 show S B (suc d) t = at λ here. do
-  r ← rowOf t
+  r ← rowDue t
   o ← says B (here .at) (S t) (r .place) (r .length) (r .count)
   held (show S B d) r (S t) o
 
 -- The root, a struct of the fields fs. Its unknown bits are left out; no row is left over.
 unfoldable pub showRoot : (ℕ → Shape) → List ℕ → ℕ → List Field → RowReader Tree
 showRoot S B t fs = at λ here. do
-  r ← rowOf t
+  r ← rowDue t
   m ← bitsAt B (here .at) fs (r .place)
   check (eqb (r .count) (counted (struct fs) (knownBits fs m))) 50 (here .at)
   ts ← walk (show S B 15) [] (plan (struct fs) (knownBits fs m))

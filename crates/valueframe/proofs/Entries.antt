@@ -23,7 +23,7 @@ use Rattle.value.specs.Sheet.{rowsOf}
 use Rattle.value.specs.Write.{Writing, refusal, written}
 use Rattle.value.proofs.Sheets.{length-rows}
 use Rattle.writer.specs.declared.Writing.the-variants.{Written, Refused}
-use Rattle.writer.specs.Entry.{Outcome, outcome, outcomeOf, payloadBy, lengthOf, within}
+use Rattle.writer.specs.Entry.{Outcome, outcome, outcomeOf, payloadBy, lengthOf, withinRoom}
 use Rattle.writer.proofs.Entries.{length-refused, length-written, written-length, payload-small}
 use Rattle.valueframe.specs.Entry.{emptyBy, payloadFor, framed, frameIn, valueFrame, frameOutcome}
 
@@ -144,7 +144,7 @@ module _ (h : Header) (s : List ℕ) (ty : ℕ) (cells B out : List ℕ) where
   frame-kind k = rw k
 
   module _ (known : knownKind (h .kind) ≡ true) where
-    pub frame-by : {w : Writing} → payloadFor s ty cells B ≡ w → valueFrame h s ty cells B (length out) ≡ within (length out) (framed h w)
+    pub frame-by : {w : Writing} → payloadFor s ty cells B ≡ w → valueFrame h s ty cells B (length out) ≡ withinRoom (length out) (framed h w)
     unfolding valueFrame
     frame-by e = rw (known, e)
 

@@ -23,35 +23,35 @@ use Rattle.value.specs.Sheet.{rowsOf}
 use Rattle.value.specs.Write as write
 use Rattle.value.specs.Write.{Writing, refusal}
 use Rattle.writer.specs.declared.Writing.the-variants.{Refused}
-use Rattle.writer.specs.Entry.{outcome, outcomeOf, payloadBy, within}
+use Rattle.writer.specs.Entry.{outcome, outcomeOf, payloadBy, withinRoom}
 use Rattle.valueframe.specs.Entry.{emptyBy, payloadFor, framed, valueFrame, frameOutcome}
-use Rattle.valueframe.specs.Cases.{Case, header, lent, worked}
+use Rattle.valueframe.specs.Cases.{ValueFrameCase, header, lent, worked}
 
 -- The answer by T itself.
 byTable : Header → (ty : ℕ) (cells B : List ℕ) (room : ℕ) → Writing
 byTable h ty cells B room =
     cond (knownKind (h .kind))
-    (within room (framed h (cond (eqb ty 4294967295) (emptyBy (rowsOf cells)) (write.write T ty (rowsOf cells) B 16384))))
+    (withinRoom room (framed h (cond (eqb ty 4294967295) (emptyBy (rowsOf cells)) (write.write T ty (rowsOf cells) B 16384))))
     (refusal 4 0)
 
 by-T : (h : Header) (ty : ℕ) (cells B out : List ℕ) → frameOutcome h file ty cells B out ≡ outcomeOf out (byTable h ty cells B (length out))
 unfolding frameOutcome valueFrame payloadFor payloadBy byTable
 by-T h ty cells B out = rw (T-good, T-rows)
 
-each-by-T : (cases : List Case) → map (λ (c : Case). frameOutcome (header (c .kind)) file (c .type) (c .cells) (c .source) (c .out)) cases
-    ≡ map (λ (c : Case). outcomeOf (c .out) (byTable (header (c .kind)) (c .type) (c .cells) (c .source) (length (c .out)))) cases
+each-by-T : (cases : List ValueFrameCase) → map (λ (c : ValueFrameCase). frameOutcome (header (c .kind)) file (c .type) (c .cells) (c .source) (c .out)) cases
+    ≡ map (λ (c : ValueFrameCase). outcomeOf (c .out) (byTable (header (c .kind)) (c .type) (c .cells) (c .source) (length (c .out)))) cases
 each-by-T [] = refl
 each-by-T (c ∷ cases) = ap₂ _∷_ (by-T (header (c .kind)) (c .type) (c .cells) (c .source) (c .out)) (each-by-T cases)
 
-computed : map (λ (c : Case). outcomeOf (c .out) (byTable (header (c .kind)) (c .type) (c .cells) (c .source) (length (c .out)))) worked
-    ≡ map (λ (c : Case). outcome (c .answer) (c .after)) worked
-unfolding byTable frameBytes frontBytes rowsOf write.write write.showRoot write.show write.rowOf write.nextRow write.bitsAt spell.encode little.little little.bytes
+computed : map (λ (c : ValueFrameCase). outcomeOf (c .out) (byTable (header (c .kind)) (c .type) (c .cells) (c .source) (length (c .out)))) worked
+    ≡ map (λ (c : ValueFrameCase). outcome (c .answer) (c .after)) worked
+unfolding byTable frameBytes frontBytes rowsOf write.write write.showRoot write.show write.rowDue write.nextRow write.bitsAt spell.encode little.little little.bytes
     varuint.shortest varuint.varuintBytes read.walk read.present read.complete table.shape answer.andThen answer.check utf8.run utf8.next utf8.leadOf utf8.rows value.value
 computed = refl
 
 -- Each case is answered so: the number, the place or the length, and every byte of the output.
-pub cases-hold : map (λ (c : Case). frameOutcome (header (c .kind)) file (c .type) (c .cells) (c .source) (c .out)) worked
-    ≡ map (λ (c : Case). outcome (c .answer) (c .after)) worked
+pub cases-hold : map (λ (c : ValueFrameCase). frameOutcome (header (c .kind)) file (c .type) (c .cells) (c .source) (c .out)) worked
+    ≡ map (λ (c : ValueFrameCase). outcome (c .answer) (c .after)) worked
 cases-hold = each-by-T worked ∙ computed
 
 -- No table: 40 before the kind, and where there is no value too.

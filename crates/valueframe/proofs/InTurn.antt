@@ -26,7 +26,7 @@ use Rattle.frame.proofs.ReadBack.{written-iff, refused-iff}
 use Rattle.value.specs.Sheet.{rowsOf}
 use Rattle.value.specs.Write.{Writing, refusal, written, write}
 use Rattle.writer.specs.declared.Writing.the-variants.{Written, Refused}
-use Rattle.writer.specs.Entry.{outcome, outcomeOf, payloadBy, lengthOf, within}
+use Rattle.writer.specs.Entry.{outcome, outcomeOf, payloadBy, lengthOf, withinRoom}
 use Rattle.writer.proofs.Entries.{room-last, payload-small, payload-other}
 use Rattle.writer.proofs.Outcomes.{taken-apart, refused-apart, write-by, refused-from, written-good, written-is}
 use Rattle.valueframe.specs.Entry.{payloadFor, framed, valueFrame, frameOutcome}
@@ -35,10 +35,10 @@ use Rattle.valueframe.proofs.Entries.{payload-value, payload-empty, pay
 
 -- ---- the room
 
-within-fits : (room : ℕ) (p : List ℕ) → length p ≤ room → within room (written p) ≡ written p
+within-fits : (room : ℕ) (p : List ℕ) → length p ≤ room → withinRoom room (written p) ≡ written p
 within-fits room p l = rw (le-leb (length p) room l)
 
-within-written : (room : ℕ) (w : Writing) (p : List ℕ) → within room w ≡ written p → (w ≡ written p) × (length p ≤ room)
+within-written : (room : ℕ) (w : Writing) (p : List ℕ) → withinRoom room w ≡ written p → (w ≡ written p) × (length p ≤ room)
 within-written room (refusal n q) p e = differ cc
 within-written room (written bs) p e = go (leb (length bs) room) refl e
   where
@@ -46,14 +46,14 @@ within-written room (written bs) p e = go (leb (length bs) room) refl e
     go true l e = let same : bs ≡ p = cc in (e, subst (λ (x : List ℕ). length x ≤ room) same (leb-true (length bs) room l))
     go false l e = differ cc
 
-within-refused : (room : ℕ) (p : List ℕ) {n q : ℕ} → within room (written p) ≡ refusal n q → (room < length p) × (refusal 52 0 ≡ refusal n q)
+within-refused : (room : ℕ) (p : List ℕ) {n q : ℕ} → withinRoom room (written p) ≡ refusal n q → (room < length p) × (refusal 52 0 ≡ refusal n q)
 within-refused room p {n} {q} e = go (leb (length p) room) refl e
   where
     go : (b : Bool) → leb (length p) room ≡ b → cond b (written p) (refusal 52 0) ≡ refusal n q → (room < length p) × (refusal 52 0 ≡ refusal n q)
     go true l e = differ cc
     go false l e = (leb-false (length p) room l, e)
 
-within-full : (room : ℕ) (p : List ℕ) → room < length p → within room (written p) ≡ refusal 52 0
+within-full : (room : ℕ) (p : List ℕ) → room < length p → withinRoom room (written p) ≡ refusal 52 0
 within-full room p l = rw (lt-leb (length p) room l)
 
 module _ (s : List ℕ) (ty : ℕ) (cells B mid : List ℕ) where
@@ -61,7 +61,7 @@ module _ (s : List ℕ) (ty : ℕ) (cells B mid : List ℕ) where
   enough : 16384 ≤ length mid → write (tableOf s) ty (rowsOf cells) B (length mid) ≡ payloadBy s ty cells B
   enough room = room-last s ty cells B (length mid) ∙ go (payloadBy s ty cells B) refl
     where
-      go : (w : Writing) → payloadBy s ty cells B ≡ w → within (length mid) w ≡ w
+      go : (w : Writing) → payloadBy s ty cells B ≡ w → withinRoom (length mid) w ≡ w
       go (refusal n q) e = refl
       go (written p) e = within-fits (length mid) p (omega (arith, payload-small s ty cells B p e))
 
@@ -118,7 +118,7 @@ module _ (h : Header) (s : List ℕ) (ty : ℕ) (cells B out : List ℕ) where
   unfolding valueFrame
   frame-of bs e = go (knownKind (h .kind)) refl (payloadFor s ty cells B) refl e
     where
-      go : (b : Bool) → knownKind (h .kind) ≡ b → (w : Writing) → payloadFor s ty cells B ≡ w → cond b (within (length out) (framed h w)) (refusal 4 0) ≡ written bs
+      go : (b : Bool) → knownKind (h .kind) ≡ b → (w : Writing) → payloadFor s ty cells B ≡ w → cond b (withinRoom (length out) (framed h w)) (refusal 4 0) ≡ written bs
           → (p : List ℕ) × (knownKind (h .kind) ≡ true) × (payloadFor s ty cells B ≡ written p) × (bs ≡ frameBytes h p) × (length bs ≤ length out)
       go false k w is e = differ cc
       go true k (refusal n q) is e = differ cc
@@ -198,7 +198,7 @@ module _ (h : Header) (s : List ℕ) (ty : ℕ) (cells B out : List ℕ) where
         unknown : knownKind (h .kind) ≡ false → (1 ≤ h .kind) × (h .kind ≤ 8) → ⊥
         unknown k (low, high) = let bad = sym k ∙ bounds-known (h .kind) low high in differ cc
 
-        go : (b : Bool) → knownKind (h .kind) ≡ b → (w : Writing) → payloadFor s ty cells B ≡ w → cond b (within (length out) (framed h w)) (refusal 4 0) ≡ refusal n q → Because n q
+        go : (b : Bool) → knownKind (h .kind) ≡ b → (w : Writing) → payloadFor s ty cells B ≡ w → cond b (withinRoom (length out) (framed h w)) (refusal 4 0) ≡ refusal n q → Because n q
         go false k w is e = moved (kind good (unknown k)) e
         go true k (refusal n′ q′) is e = moved (refused k is) e
         go true k (written p) is e =

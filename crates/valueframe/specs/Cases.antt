@@ -7,7 +7,7 @@ use Rattle.frame.specs.declared.Header.{Header}
 use Rattle.writer.specs.declared.Writing.{Writing}
 use Rattle.writer.specs.declared.Writing.the-variants.{Written, Refused}
 
-pub record Case : Type 0 where
+pub record ValueFrameCase : Type 0 where
   pub kind : ℕ
   pub type : ℕ
   pub cells : List ℕ
@@ -31,12 +31,12 @@ front kind =
     0x09 ∷ 0x00 ∷ 0x00 ∷ 0x00 ∷ 0x00 ∷ 0x00 ∷ 0x00 ∷ 0x00 ∷ []
 
 -- A case that is refused leaves the output as it was.
-abbrev refuses : (kind type : ℕ) (cells source : List ℕ) (room number place : ℕ) → Case
+abbrev refuses : (kind type : ℕ) (cells source : List ℕ) (room number place : ℕ) → ValueFrameCase
 refuses k t cells source room n q =
     record { kind = k; type = t; cells = cells; source = source; out = lent room; answer = Refused n q; after = lent room }
 
 -- A case that is written: a frame of this payload, which is shorter than 128 bytes, and `more` bytes after it.
-abbrev writes : (kind type : ℕ) (cells source : List ℕ) (more n size : ℕ) (payload : List ℕ) → Case
+abbrev writes : (kind type : ℕ) (cells source : List ℕ) (more n size : ℕ) (payload : List ℕ) → ValueFrameCase
 writes k t cells source more n size payload =
     record { kind = k; type = t; cells = cells; source = source; out = lent (n + more); answer = Written n; after = front k ++ (size ∷ (payload ++ lent more)) }
 
@@ -47,7 +47,7 @@ struct = 2 ∷ 0 ∷ 2 ∷ 1 ∷ []
 abbrev uint8 : List ℕ
 uint8 = 0 ∷ 1 ∷ 1 ∷ 0 ∷ []
 
-abbrev pub worked : List Case
+abbrev pub worked : List ValueFrameCase
 worked =
     -- The value 01 07 in an INVOKE, with just room enough, with a byte more, with a byte less.
     writes 1 2 (struct ++ uint8) (0x01 ∷ 0x07 ∷ []) 0 28 2 (0x01 ∷ 0x07 ∷ [])

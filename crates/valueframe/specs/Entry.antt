@@ -11,7 +11,7 @@ use Rattle.frame.specs.Written.{frameBytes}
 use Rattle.value.specs.declared.Row.{Row}
 use Rattle.value.specs.Sheet.{rowsOf}
 use Rattle.value.specs.Write.{Writing, refusal, written}
-use Rattle.writer.specs.Entry.{Outcome, outcomeOf, payloadBy, within, byVerdict}
+use Rattle.writer.specs.Entry.{Outcome, outcomeOf, payloadBy, withinRoom, byVerdict}
 
 -- No value: an empty payload. A row is left over.
 abbrev pub emptyBy : List Row → Writing
@@ -29,11 +29,11 @@ framed h (written p) = written (frameBytes h p)
 
 -- The frame of a payload in an output, where that has room for it.
 abbrev pub frameIn : Header → (out : List ℕ) → Writing → Outcome
-frameIn h out w = outcomeOf out (within (length out) (framed h w))
+frameIn h out w = outcomeOf out (withinRoom (length out) (framed h w))
 
 -- The kind, the payload, and then the room for the whole frame.
 unfoldable pub valueFrame : Header → (schema : List ℕ) (ty : ℕ) (cells B : List ℕ) (room : ℕ) → Writing
-valueFrame h schema ty cells B room = cond (knownKind (h .kind)) (within room (framed h (payloadFor schema ty cells B))) (refusal 4 0)
+valueFrame h schema ty cells B room = cond (knownKind (h .kind)) (withinRoom room (framed h (payloadFor schema ty cells B))) (refusal 4 0)
 
 -- Any table: its refusals come first. A refusal leaves the output as it was, and past the frame nothing changes.
 unfoldable pub frameOutcome : Header → (schema : List ℕ) (ty : ℕ) (cells B out : List ℕ) → Outcome

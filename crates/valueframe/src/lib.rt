@@ -1,4 +1,7 @@
 // Frames of values: the value that a sheet shows, written as a payload straight behind its header.
+use constants::format;
+use constants::limit;
+use constants::refusal;
 use frame::Header;
 use frame::known_kind;
 use frame::payload_place;
@@ -19,9 +22,6 @@ ghost use Rattle.writer.specs.Entry.{outcome, outcomeOf, lengthOf, payloadBy};
 ghost use Rattle.valueframe.specs.Entry.{emptyBy, frameIn, valueFrame, frameOutcome};
 ghost use Rattle.valueframe.specs.Part.{belongs, partAfter};
 
-// The type number for no value: the payload is empty.
-const NO_VALUE: u32 = 4294967295;
-
 // A part of the output, from one place up to another.
 struct Part {
     start: usize,
@@ -38,7 +38,7 @@ struct Guess {
 fn most_for(cells: usize) -> usize
     ensures { λ r. ⌜ r ≤ 16384 ⌝ }
 {
-    if cells <= 256 { 512 } else { 16384 }
+    if cells <= 256 { 512 } else { limit::PAYLOAD }
 }
 
 // The length in the root's row, where it can be the payload's, since each row takes a byte; otherwise two bytes a row. Only speed depends on it.
@@ -50,7 +50,7 @@ fn guess_of(sheet: &[u32]) -> Guess
     if 4 <= cells {
         let n = wide(sheet[2]);
         if cells / 4 <= n {
-            if n <= 16384 {
+            if n <= limit::PAYLOAD {
                 return Guess { length: n, kept };
             }
         }
@@ -141,7 +141,7 @@ fn write_keeping(
             let end = place + length;
             if out.len() < end {
                 return Writing::Refused {
-                    number: 52,
+                    number: refusal::OUTPUT_TOO_SHORT,
                     place: 0,
                 };
             }
@@ -163,7 +163,7 @@ fn write_empty(header: Header, sheet: &[u32], out: &mut [u8]) -> Writing
         let place = payload_place(0);
         if out.len() < place {
             return Writing::Refused {
-                number: 52,
+                number: refusal::OUTPUT_TOO_SHORT,
                 place: 0,
             };
         }
@@ -171,7 +171,7 @@ fn write_empty(header: Header, sheet: &[u32], out: &mut [u8]) -> Writing
         return Writing::Written { length: place };
     }
     Writing::Refused {
-        number: 50,
+        number: refusal::SHEET,
         place: 0,
     }
 }
@@ -190,11 +190,11 @@ fn write_frame(
 {
     if !known_kind(header.kind) {
         return Writing::Refused {
-            number: 4,
+            number: refusal::KIND,
             place: 0,
         };
     }
-    if ty == NO_VALUE {
+    if ty == format::NO_TYPE {
         return write_empty(header, sheet, out);
     }
     let g = guess_of(sheet);
@@ -202,7 +202,7 @@ fn write_frame(
         let mut kept = [0u8; 512];
         return write_keeping(header, s, ty, sheet, source, g, &mut kept, out);
     }
-    let mut kept = [0u8; 16384];
+    let mut kept = [0u8; limit::PAYLOAD];
     write_keeping(header, s, ty, sheet, source, g, &mut kept, out)
 }
 

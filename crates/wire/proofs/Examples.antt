@@ -9,7 +9,7 @@ use Rattle.wire.specs.declared.varuint.VarUInt.the-variants.{Number, Cut
 use Rattle.wire.specs.Little.{little, twos}
 use Rattle.wire.specs.Varuint.{groups, front, varuint, shortest, varuintBytes}
 use Rattle.wire.specs.Utf8.{rows, leadOf, next, run, utf8}
-use Rattle.wire.specs.Unicode.{above, sixes, encodeIn, encode}
+use Rattle.wire.specs.Unicode.{limitsBelow, sixes, encodeIn, encode}
 use Rattle.wire.specs.Bitmap.{bits, bitmap, total}
 
 -- int8 80 is -128, FF is -1
@@ -49,11 +49,11 @@ nine = refl
 
 -- ---- UTF-8: scalar values, and their bytes
 
-record Case : Type 0 where
+record TextCase : Type 0 where
   scalars : List ℕ
   bytes : List ℕ
 
-abbrev case : List ℕ → List ℕ → Case
+abbrev case : List ℕ → List ℕ → TextCase
 case xs s = record { scalars = xs; bytes = s }
 
 abbrev encoded : List ℕ → List ℕ
@@ -61,7 +61,7 @@ encoded [] = []
 encoded (x ∷ xs) = encode x ++ encoded xs
 
 -- the examples of the RFC's section 7; the ends of the gap that the surrogates leave, and the last scalar value
-abbrev texts : List Case
+abbrev texts : List TextCase
 texts =
     case (0x41 ∷ 0x2262 ∷ 0x391 ∷ 0x2E ∷ []) (0x41 ∷ 0xE2 ∷ 0x89 ∷ 0xA2 ∷ 0xCE ∷ 0x91 ∷ 0x2E ∷ [])
     ∷ case (0xD55C ∷ 0xAD6D ∷ 0xC5B4 ∷ []) (0xED ∷ 0x95 ∷ 0x9C ∷ 0xEA ∷ 0xB5 ∷ 0xAD ∷ 0xEC ∷ 0x96 ∷ 0xB4 ∷ [])
@@ -71,8 +71,8 @@ texts =
     ∷ case (0x10FFFF ∷ []) (0xF4 ∷ 0x8F ∷ 0xBF ∷ 0xBF ∷ [])
     ∷ []
 
-texts-hold : (map (λ (c : Case). utf8 (c .bytes)) texts ≡ replicate 6 true) × (map (λ (c : Case). encoded (c .scalars)) texts ≡ map (λ (c : Case). c .bytes) texts)
-unfolding run next leadOf rows above sixes encodeIn
+texts-hold : (map (λ (c : TextCase). utf8 (c .bytes)) texts ≡ replicate 6 true) × (map (λ (c : TextCase). encoded (c .scalars)) texts ≡ map (λ (c : TextCase). c .bytes) texts)
+unfolding run next leadOf rows limitsBelow sixes encodeIn
 texts-hold = (refl, refl)
 
 -- a longer form than needed, a surrogate, a number above 10FFFF, a lone following byte, and a character cut short

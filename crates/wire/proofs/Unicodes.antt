@@ -15,7 +15,7 @@ use lib.ListN.{length}
 use Rattle.wire.specs.declared.utf8.Range.{Range}
 use Rattle.wire.specs.declared.utf8.Row.{Row}
 use Rattle.wire.specs.Utf8.{range, rows, In, ranges, matches, isChar, Split, none, char, Utf8, utf8}
-use Rattle.wire.specs.Unicode.{isScalar, above, following, mark, sixes, encodeIn, encode, Encoded, none, scalar}
+use Rattle.wire.specs.Unicode.{isScalar, limitsBelow, following, mark, sixes, encodeIn, encode, Encoded, none, scalar}
 use Rattle.wire.proofs.Cases.{cond-case}
 use Rattle.wire.proofs.Utf8s.{and-both, both-and, in-range, every, every-at, utf8-is}
 
@@ -193,11 +193,11 @@ ranges-decode (g ∷ (d ∷ gs)) (b ∷ (e ∷ c)) t k =
 
 -- ---- the rows' intervals
 
-above-mono : (ls : List ℕ) (x y : ℕ) → x ≤ y → above ls x ≤ above ls y
-unfolding above
+above-mono : (ls : List ℕ) (x y : ℕ) → x ≤ y → limitsBelow ls x ≤ limitsBelow ls y
+unfolding limitsBelow
 above-mono [] x y h = omega arith
 above-mono (l ∷ ls) x y h =
-    cond-case (λ (a : ℕ). a ≤ above (l ∷ ls) y) (leb x l) 0 (suc (above ls x)) (λ _. omega arith)
+    cond-case (λ (a : ℕ). a ≤ limitsBelow (l ∷ ls) y) (leb x l) 0 (suc (limitsBelow ls x)) (λ _. omega arith)
     (λ e. let o = leb-false x l e in rw (lt-leb y l (omega arith)) (omega (arith, above-mono ls x y h)))
 
 abbrev scalars : (from to : ℕ) → Bool
@@ -210,7 +210,7 @@ right r =
     regular gs && (scalars (least gs) (limit gs) && (eqb (following (least gs)) (after gs) && eqb (following (limit gs - 1)) (after gs)))
 
 rows-right : T (every right rows)
-unfolding rows above
+unfolding rows limitsBelow
 rows-right = tt
 
 -- from p on, the rows leave out no scalar value: each begins where the one before it ends, or after the surrogates
@@ -264,7 +264,7 @@ within a b x t l h =
     or-right (ltb x 0xD800) (In high x) (to-range high x (omega (arith, leb→le 0xE000 a (both .0))) (omega (arith, leb→le b 0x110000 (both .1)))))
     (or-case (leb b 0xD800) (leb 0xE000 a && leb b 0x110000) t)
 
-between : (ls : List ℕ) (a b x n : ℕ) → above ls a ≡ n → above ls (b - 1) ≡ n → a ≤ x → x < b → above ls x ≡ n
+between : (ls : List ℕ) (a b x n : ℕ) → limitsBelow ls a ≡ n → limitsBelow ls (b - 1) ≡ n → a ≤ x → x < b → limitsBelow ls x ≡ n
 between ls a b x n p q l h = le-antisymm (rw q at (above-mono ls x (b - 1) (omega arith))) (rw p at (above-mono ls a x l))
 
 -- what is tested of a row's ranges

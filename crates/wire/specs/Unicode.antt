@@ -10,13 +10,13 @@ unfoldable pub isScalar : ℕ → Bool
 isScalar x = ltb x 0xD800 || (leb 0xE000 x && leb x 0x10FFFF)
 
 -- How many of the limits, which rise, x is above.
-unfoldable pub above : List ℕ → ℕ → ℕ
-above [] x = 0
-above (l ∷ ls) x = cond (leb x l) 0 (suc (above ls x))
+unfoldable pub limitsBelow : List ℕ → ℕ → ℕ
+limitsBelow [] x = 0
+limitsBelow (l ∷ ls) x = cond (leb x l) 0 (suc (limitsBelow ls x))
 
 -- How many bytes follow the first: no more than are needed.
 abbrev pub following : ℕ → ℕ
-following x = above (0x7F ∷ 0x7FF ∷ 0xFFFF ∷ []) x
+following x = limitsBelow (0x7F ∷ 0x7FF ∷ 0xFFFF ∷ []) x
 
 -- The fixed bits of the first byte, by how many follow: 0xxxxxxx, 110xxxxx, 1110xxxx, 11110xxx.
 abbrev pub mark : ℕ → ℕ

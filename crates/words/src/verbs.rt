@@ -3,6 +3,8 @@ use crate::lines::put_explained;
 use crate::lines::put_refusal;
 use crate::number::Parsed;
 use crate::number::number_of;
+use constants::limit;
+use constants::refusal;
 use schema::Checked;
 use schema::Extended;
 use text::put_word;
@@ -17,8 +19,8 @@ pub fn put_check(schema: &[u8], out: &mut [u8]) -> usize
     ensures { λ r. ⌜ Added (now (out .entry)) 0 (checkText (now (schema .entry))) r (now (out .exit)) ⌝ }
     ensures { λ r. ⌜ r ≤ 8192 ⌝ }
 {
-    if 65536 < schema.len() {
-        return put_refusal(out, 0, 45, 0);
+    if limit::FILE < schema.len() {
+        return put_refusal(out, 0, refusal::FILE_TOO_LONG, 0);
     }
     match schema::check::check(schema) {
         Checked::Good => put_word(out, 0, b"good\n"),
@@ -45,13 +47,13 @@ pub fn put_extends(old: &[u8], new: &[u8], out: &mut [u8]) -> usize
     ensures { λ r. ⌜ Added (now (out .entry)) 0 (extendsText (now (old .entry)) (now (new .entry))) r (now (out .exit)) ⌝ }
     ensures { λ r. ⌜ r ≤ 8192 ⌝ }
 {
-    if 65536 < old.len() {
+    if limit::FILE < old.len() {
         let at = put_word(out, 0, b"old ");
-        return put_refusal(out, at, 45, 0);
+        return put_refusal(out, at, refusal::FILE_TOO_LONG, 0);
     }
-    if 65536 < new.len() {
+    if limit::FILE < new.len() {
         let at = put_word(out, 0, b"new ");
-        return put_refusal(out, at, 45, 0);
+        return put_refusal(out, at, refusal::FILE_TOO_LONG, 0);
     }
     match schema::extension::extends(old, new) {
         Extended::Yes => put_word(out, 0, b"yes\n"),

@@ -24,17 +24,17 @@ use Rattle.value.specs.declared.Row.{Row}
 use Rattle.value.specs.Value.{Tree, tip, branch, Forest, stop, plus, value, values}
 use Rattle.value.specs.Read.{plainItem, pairs, plan, present, among, walk}
 use Rattle.value.specs.Spell.{leafBytes, headBytes, encode, encodeAll}
-use Rattle.value.specs.Write.{RowReader, rowOf, bitsAt, show}
-use Rattle.parts.specs.Shape.{leafShape}
-use Rattle.parts.proofs.Masks.{bitsLeft, Standing, standing-field}
-use Rattle.parts.proofs.Items.{keyItem, item-accepted, key-accepted, key-known, elements-some, pairs-some}
-use Rattle.parts.proofs.Walks.{deep}
+use Rattle.value.specs.Write.{RowReader, rowDue, bitsAt, show}
+use Rattle.walks.specs.Shape.{leafShape}
+use Rattle.walks.proofs.Masks.{bitsLeft, Standing, standing-field}
+use Rattle.walks.proofs.Items.{keyItem, item-accepted, key-accepted, key-known, elements-some, pairs-some}
+use Rattle.walks.proofs.Walks.{deep}
 use Rattle.writer.specs.declared.leaf.Due.{Due}
 use Rattle.writer.specs.declared.leaf.Due.the-variants.{Found, Missing}
 use Rattle.writer.specs.declared.leaf.Leaf.{Leaf}
-use Rattle.writer.specs.declared.leaf.Leaf.the-variants.{At, Bad as BadLeaf}
+use Rattle.writer.specs.declared.leaf.Leaf.the-variants.{At, Refused as LeafRefused}
 use Rattle.writer.specs.declared.leaf.Head.{Head}
-use Rattle.writer.specs.declared.leaf.Head.the-variants.{Bits, Fault}
+use Rattle.writer.specs.declared.leaf.Head.the-variants.{Bits, Refused as HeadRefused}
 use Rattle.writer.specs.declared.walk.Walk.the-variants.{Past}
 use Rattle.writer.specs.Emit.{cap, PutAt, Final, done, stopped, emit, emitAll}
 use Rattle.writer.specs.Leaf.{rowsAt, dueOf, DueIn, RowDue, leafOf, LeafIn, LeafRow, headOf, HeadIn, Headed}
@@ -49,7 +49,7 @@ module _ {cells B : List ℕ} {kind t row : ℕ} {r : Leaf} (read : LeafRow cell
     leaf-in = rw e at (read .within)
 
   module _ (S : ℕ → Shape) {d : ℕ} (is : S t ≡ leafShape kind) (some : d ≡ 0 → ⊥) where
-    pub leaf-failed : {n : ℕ} → r ≡ BadLeaf n → show S B d t (rowsAt cells row) ≡ refused n row
+    pub leaf-failed : {n : ℕ} → r ≡ LeafRefused n → show S B d t (rowsAt cells row) ≡ refused n row
     leaf-failed {n} e =
         rw (deep d some)
         (leaf-refused S B (d - 1) t (rowsAt cells row) (leafShape kind) is n row (sym (read .same) ∙ ap (leafOf cells B row) e))
@@ -95,7 +95,7 @@ module _ {t : ℕ} {cells : List ℕ} {row : ℕ} {due : Due} (found : RowDue ce
     pub due-in : DueIn cells row (Found p n c)
     due-in = rw e at (found .within)
 
-    pub row-read : rowOf t (rowsAt cells row) ≡ seen own (rowsAt cells (row + 1))
+    pub row-read : rowDue t (rowsAt cells row) ≡ seen own (rowsAt cells (row + 1))
     row-read = sym (found .same) ∙ ap (dueOf cells row t) e
 
     module _ (S : ℕ → Shape) (B : List ℕ) (d : ℕ) where
@@ -134,7 +134,7 @@ module _ {t : ℕ} {cells : List ℕ} {row : ℕ} {due : Due} (found : RowDue ce
 
       module _ {fs : List Field} (is : S t ≡ struct fs) where
         module _ {head : Head} (headed : Headed B fs p head) where
-          pub struct-fault : {number : ℕ} → head ≡ Fault number → show S B (suc d) t (rowsAt cells row) ≡ refused number row
+          pub struct-fault : {number : ℕ} → head ≡ HeadRefused number → show S B (suc d) t (rowsAt cells row) ≡ refused number row
           unfolding andThen
           struct-fault {number} q =
               show-bad S B d t (rowsAt cells row) (struct fs) is own (rowsAt cells (row + 1)) row-read number row

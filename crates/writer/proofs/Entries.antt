@@ -25,14 +25,14 @@ use Rattle.value.specs.Value.{Tree, value}
 use Rattle.value.specs.Spell.{encode}
 use Rattle.value.specs.Sheet.{rowsOf}
 use Rattle.value.specs.Write.{showRoot, sheetRoot, Writing, refusal, written, fitted, writing, write}
-use Rattle.parts.proofs.Tables.{no-struct}
+use Rattle.walks.proofs.Tables.{no-struct}
 use Rattle.writer.specs.declared.Writing.the-variants.{Written, Refused}
 use Rattle.writer.specs.declared.walk.Walk.{Walk}
 use Rattle.writer.specs.declared.walk.Walk.the-variants.{Past, Refused as Stopped}
 use Rattle.writer.specs.Emit.{cap, PutAt, done, stopped, emit}
 use Rattle.writer.specs.Leaf.{rowsAt}
 use Rattle.writer.specs.Walk.{endOf, Walked}
-use Rattle.writer.specs.Entry.{Outcome, outcome, outcomeOf, payloadBy, lengthOf, Fronts, within, sheetOutcome, fileOutcome}
+use Rattle.writer.specs.Entry.{Outcome, outcome, outcomeOf, payloadBy, lengthOf, Fronts, withinRoom, sheetOutcome, fileOutcome}
 
 -- ---- a payload and its length
 
@@ -56,18 +56,18 @@ pub written-length : {w : Writing} {bs : List ℕ} {n : ℕ} → w ≡ written b
 written-length is e = let f = sym (ap lengthOf is) ∙ e in cc
 
 -- the room for the output comes last
-room-fitted : (room : ℕ) (bs : List ℕ) → fitted room bs ≡ within room (fitted 16384 bs)
+room-fitted : (room : ℕ) (bs : List ℕ) → fitted room bs ≡ withinRoom room (fitted 16384 bs)
 room-fitted room bs = go (leb (length bs) 16384)
   where
-    go : (a : Bool) → cond a (cond (leb (length bs) room) (written bs) (refusal 52 0)) (refusal 7 0) ≡ within room (cond a (cond a (written bs) (refusal 52 0)) (refusal 7 0))
+    go : (a : Bool) → cond a (cond (leb (length bs) room) (written bs) (refusal 52 0)) (refusal 7 0) ≡ withinRoom room (cond a (cond a (written bs) (refusal 52 0)) (refusal 7 0))
     go true = refl
     go false = refl
 
-room-writing : (S : ℕ → Shape) (t room : ℕ) (m : AnswerOf Row Tree) → writing S t room m ≡ within room (writing S t 16384 m)
+room-writing : (S : ℕ → Shape) (t room : ℕ) (m : AnswerOf Row Tree) → writing S t room m ≡ withinRoom room (writing S t 16384 m)
 room-writing S t room (refused n p) = refl
 room-writing S t room (seen tree end) = room-fitted room (encode S (value tree) t)
 
-pub room-last : (s : List ℕ) (ty : ℕ) (cells B : List ℕ) (room : ℕ) → write (tableOf s) ty (rowsOf cells) B room ≡ within room (payloadBy s ty cells B)
+pub room-last : (s : List ℕ) (ty : ℕ) (cells B : List ℕ) (room : ℕ) → write (tableOf s) ty (rowsOf cells) B room ≡ withinRoom room (payloadBy s ty cells B)
 unfolding write payloadBy
 room-last s ty cells B room = room-writing (shape (tableOf s)) ty room (sheetRoot (shape (tableOf s)) ty (rowsOf cells) B)
 
@@ -200,9 +200,9 @@ module _ (s : List ℕ) (ty : ℕ) (cells B : List ℕ) (fs : List Field) (is : 
 -- ---- the entry: the payload, where the output has room for it
 
 module _ (s : List ℕ) (ty : ℕ) (cells B out : List ℕ) where
-  entry-by : {w : Writing} → payloadBy s ty cells B ≡ w → outcomeOf out (within (length out) w) ≡ sheetOutcome s ty cells B out
+  entry-by : {w : Writing} → payloadBy s ty cells B ≡ w → outcomeOf out (withinRoom (length out) w) ≡ sheetOutcome s ty cells B out
   unfolding sheetOutcome
-  entry-by e = ap (outcomeOf out) (ap (within (length out)) (sym e) ∙ sym (room-last s ty cells B (length out)))
+  entry-by e = ap (outcomeOf out) (ap (withinRoom (length out)) (sym e) ∙ sym (room-last s ty cells B (length out)))
 
   pub entry-refused : (n q : ℕ) → lengthOf (payloadBy s ty cells B) ≡ Refused n q → outcome (Refused n q) out ≡ sheetOutcome s ty cells B out
   entry-refused n q e = entry-by (length-refused _ e)

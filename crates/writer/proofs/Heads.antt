@@ -17,19 +17,19 @@ use Rattle.parse.specs.Reader.{andThen, check}
 use Rattle.schema.specs.declared.Field.{Field}
 use Rattle.value.specs.Read.{complete}
 use Rattle.value.specs.Write.{bitsAt}
-use Rattle.parts.proofs.Presence.{bits-read}
+use Rattle.walks.proofs.Presence.{bits-read}
 use Rattle.writer.specs.declared.leaf.Head.{Head}
-use Rattle.writer.specs.declared.leaf.Head.the-variants.{Bits, Fault}
+use Rattle.writer.specs.declared.leaf.Head.the-variants.{Bits, Refused}
 use Rattle.writer.specs.Leaf.{HeadIn, Headed}
 
 module _ (B : List ℕ) (fs : List Field) {n : ℕ} (p : ℕ) (many : length fs ≡ n) where
-  pub head-outside : length B < p + (n + 7) / 8 → Headed B fs p (Fault 51)
+  pub head-outside : length B < p + (n + 7) / 8 → Headed B fs p (Refused 51)
   unfolding bitsAt andThen check
   head-outside h = record { same = λ k cur. rw (many, lt-leb (p + (n + 7) / 8) (length B) h); within = tt }
 
   module _ (word known count unknown : ℕ) (inside : p + (n + 7) / 8 ≤ length B)
       (is : Present (span B p ((n + 7) / 8)) n word known count unknown) where
-    pub head-incomplete : complete fs word ≡ false → Headed B fs p (Fault 25)
+    pub head-incomplete : complete fs word ≡ false → Headed B fs p (Refused 25)
     unfolding bitsAt andThen check
     head-incomplete h =
         record { same = λ k cur. rw (many, le-leb (p + (n + 7) / 8) (length B) inside, ← is .word-is, h); within = tt }

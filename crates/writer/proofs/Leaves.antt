@@ -17,33 +17,33 @@ use Rattle.parse.proofs.Answers.{accepted-first, accepted-check}
 use Rattle.schema.specs.Table.{width}
 use Rattle.schema.proofs.Bools.{and-left, and-right}
 use Rattle.value.specs.declared.Row.{Row}
-use Rattle.value.specs.Write.{nextRow, rowOf, says}
+use Rattle.value.specs.Write.{nextRow, rowDue, says}
 use Rattle.value.proofs.Spans.{truth-byte}
 use Rattle.value.proofs.Sheets.{rows-from, no-rows}
-use Rattle.parts.specs.Shape.{leafShape}
-use Rattle.parts.proofs.Tables.{leaf-scalar, leaf-text}
+use Rattle.walks.specs.Shape.{leafShape}
+use Rattle.walks.proofs.Tables.{leaf-scalar, leaf-text}
 use Rattle.writer.specs.declared.leaf.Due.{Due}
 use Rattle.writer.specs.declared.leaf.Due.the-variants.{Found, Missing}
 use Rattle.writer.specs.declared.leaf.Verdict.{Verdict}
-use Rattle.writer.specs.declared.leaf.Verdict.the-variants.{Fine, Bad}
-use Rattle.writer.specs.declared.leaf.Leaf.the-variants.{At, Bad as BadLeaf}
+use Rattle.writer.specs.declared.leaf.Verdict.the-variants.{Fine, Refused as VerdictRefused}
+use Rattle.writer.specs.declared.leaf.Leaf.the-variants.{At, Refused as LeafRefused}
 use Rattle.writer.specs.Leaf.{rowsAt, placeAt, lengthAt, dueOf, DueIn, RowDue, saidOf, VerdictIn, Judged, rowSays, LeafRow}
 
 -- ---- rows
 
 module _ (cells : List ℕ) (k t : ℕ) where
   pub row-missing : length cells / 4 ≤ k → RowDue cells k t Missing
-  unfolding rowOf nextRow andThen
+  unfolding rowDue nextRow andThen
   row-missing h = record { same = rw (no-rows cells k h); within = tt }
 
   module _ (h : k < length cells / 4) where
     pub row-other : (getD cells (4 * k) 0 ≡ t → ⊥) → RowDue cells k t Missing
-    unfolding rowOf nextRow andThen check
+    unfolding rowDue nextRow andThen check
     row-other e = record { same = rw (rows-from cells k h, ne-eqb (getD cells (4 * k) 0) t e); within = tt }
 
     pub row-found : getD cells (4 * k) 0 ≡ t → (p n c : ℕ) → (p ≡ placeAt cells k) × (p < 4294967296) → (n ≡ lengthAt cells k) × (n < 4294967296) → c ≡ getD cells (4 * k + 3) 0
         → RowDue cells k t (Found p n c)
-    unfolding rowOf nextRow andThen check
+    unfolding rowDue nextRow andThen check
     row-found e p n c ep en ec =
         record {
           same = rw (rows-from cells k h, eq-eqb (getD cells (4 * k) 0) t e, e, ep .0, en .0, ec, add-one k);
@@ -51,7 +51,7 @@ module _ (cells : List ℕ) (k t : ℕ) where
         }
 
 -- a row that is accepted is there and of the type due
-row-known : (cells : List ℕ) (k t : ℕ) → Accepted (rowOf t (rowsAt cells k)) → (k < length cells / 4) × (getD cells (4 * k) 0 ≡ t)
+row-known : (cells : List ℕ) (k t : ℕ) → Accepted (rowDue t (rowsAt cells k)) → (k < length cells / 4) × (getD cells (4 * k) 0 ≡ t)
 row-known cells k t a = elim (decLt k (length cells / 4)) [
   | yes h ↦ elim (ℕ-discrete (getD cells (4 * k) 0) t) [
     | yes e ↦ (h, e)
@@ -64,17 +64,17 @@ row-known cells k t a = elim (decLt k (length cells / 4)) [
 
 module _ (B : List ℕ) (kind p n c : ℕ) where
   module _ (is : kind < 12) where
-    pub scalar-wide : (n ≡ width kind → ⊥) → Judged B kind p n c (Bad 50)
+    pub scalar-wide : (n ≡ width kind → ⊥) → Judged B kind p n c (VerdictRefused 50)
     unfolding andThen check
     scalar-wide e = record { same = λ k cur. rw (leaf-scalar kind is, ne-eqb n (width kind) e); within = tt }
 
     module _ (w : n ≡ width kind) where
-      pub scalar-counted : (c ≡ 0 → ⊥) → Judged B kind p n c (Bad 50)
+      pub scalar-counted : (c ≡ 0 → ⊥) → Judged B kind p n c (VerdictRefused 50)
       unfolding andThen check
       scalar-counted e = record { same = λ k cur. rw (leaf-scalar kind is, eq-eqb n (width kind) w, ne-eqb c 0 e); within = tt }
 
       module _ (z : c ≡ 0) where
-        pub scalar-outside : length B < p + n → Judged B kind p n c (Bad 51)
+        pub scalar-outside : length B < p + n → Judged B kind p n c (VerdictRefused 51)
         unfolding andThen check
         scalar-outside h = record { same = λ k cur. rw (leaf-scalar kind is, eq-eqb n (width kind) w, eq-eqb c 0 z, lt-leb (p + n) (length B) h); within = tt }
 
@@ -96,7 +96,7 @@ module _ (B : List ℕ) (kind p n c : ℕ) where
           pub scalar-other : (kind ≡ 1 → ⊥) → (not (eqb kind 1) || ltb (little (span B p n)) 2) ≡ true
           scalar-other k = rw (ne-eqb kind 1 k)
 
-          pub scalar-bad : kind ≡ 1 → 1 < getD B p 0 → Judged B kind p n c (Bad 22)
+          pub scalar-bad : kind ≡ 1 → 1 < getD B p 0 → Judged B kind p n c (VerdictRefused 22)
           unfolding andThen check
           scalar-bad k h =
               let f : ltb (little (span B p n)) 2 ≡ false = rw (truth-byte B kind p n w inside k) (le-ltb (getD B p 0) 2 h) in
@@ -106,12 +106,12 @@ module _ (B : List ℕ) (kind p n c : ℕ) where
               }
 
   module _ (is : 12 ≤ kind) where
-    pub text-counted : (c ≡ 0 → ⊥) → Judged B kind p n c (Bad 50)
+    pub text-counted : (c ≡ 0 → ⊥) → Judged B kind p n c (VerdictRefused 50)
     unfolding andThen check
     text-counted e = record { same = λ k cur. rw (leaf-text kind is, ne-eqb c 0 e); within = tt }
 
     module _ (z : c ≡ 0) where
-      pub text-outside : length B < p + n → Judged B kind p n c (Bad 51)
+      pub text-outside : length B < p + n → Judged B kind p n c (VerdictRefused 51)
       unfolding andThen check
       text-outside h = record { same = λ k cur. rw (leaf-text kind is, eq-eqb c 0 z, lt-leb (p + n) (length B) h); within = tt }
 
@@ -126,7 +126,7 @@ module _ (B : List ℕ) (kind p n c : ℕ) where
         pub text-plain : (kind ≡ 12 → ⊥) → Judged B kind p n c Fine
         text-plain k = text-fine (rw (ne-eqb kind 12 k))
 
-        pub text-bad : kind ≡ 12 → utf8 (span B p n) ≡ false → Judged B kind p n c (Bad 23)
+        pub text-bad : kind ≡ 12 → utf8 (span B p n) ≡ false → Judged B kind p n c (VerdictRefused 23)
         unfolding andThen check
         text-bad k e =
             record {
@@ -161,7 +161,7 @@ module _ (B : List ℕ) (kind p n c : ℕ) where
 -- ---- a whole row of such a value
 
 module _ (cells B : List ℕ) (kind t k : ℕ) (d : Due) (due : RowDue cells k t d) where
-  pub leaf-missing : d ≡ Missing → LeafRow cells B kind t k (BadLeaf 50)
+  pub leaf-missing : d ≡ Missing → LeafRow cells B kind t k (LeafRefused 50)
   unfolding rowSays andThen
   leaf-missing e = record { same = rw (sym (due .same) ∙ ap (dueOf cells k t) e); within = tt }
 
@@ -169,7 +169,7 @@ module _ (cells B : List ℕ) (kind t k : ℕ) (d : Due) (due : RowDue cells k t
     due-in : DueIn cells k (Found p n c)
     due-in = rw e at (due .within)
 
-    row-read : rowOf t (rowsAt cells k) ≡ seen (record { ty = t; place = p; length = n; count = c }) (rowsAt cells (k + 1))
+    row-read : rowDue t (rowsAt cells k) ≡ seen (record { ty = t; place = p; length = n; count = c }) (rowsAt cells (k + 1))
     row-read = sym (due .same) ∙ ap (dueOf cells k t) e
 
     pub row-small : (p < 4294967296) × (n < 4294967296)
@@ -188,15 +188,15 @@ module _ (cells B : List ℕ) (kind t k : ℕ) (d : Due) (due : RowDue cells k t
             within = (due-in .0, due-in .1, due-in .2, w);
           }
 
-      pub leaf-bad : (number : ℕ) → v ≡ Bad number → LeafRow cells B kind t k (BadLeaf number)
+      pub leaf-bad : (number : ℕ) → v ≡ VerdictRefused number → LeafRow cells B kind t k (LeafRefused number)
       leaf-bad number f =
           record { same = sym (row-says ∙ sym (judged .same k (rowsAt cells (k + 1))) ∙ ap (saidOf B p n k (rowsAt cells (k + 1))) f); within = tt }
 
 -- such a row that is accepted
 module _ (cells B : List ℕ) (kind t k : ℕ) (a : Accepted (rowSays B t (leafShape kind) (rowsAt cells k))) where
-  row-accepted : Accepted (rowOf t (rowsAt cells k))
+  row-accepted : Accepted (rowDue t (rowsAt cells k))
   unfolding rowSays
-  row-accepted = accepted-first (rowOf t (rowsAt cells k)) _ a
+  row-accepted = accepted-first (rowDue t (rowsAt cells k)) _ a
 
   pub leaf-row-in : k < length cells / 4
   leaf-row-in = row-known cells k t row-accepted .0

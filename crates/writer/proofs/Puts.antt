@@ -16,7 +16,7 @@ use Rattle.wire.proofs.Numbers.{length-bytes}
 use Rattle.wire.proofs.Varuints.{Rest, rest-more, rest-done, shortest-le}
 use Rattle.value.specs.Spell.{leafBytes}
 use Rattle.writer.specs.Emit.{cap, PutAt, lengthBytes}
-use Rattle.parts.specs.Shape.{leafShape}
+use Rattle.walks.specs.Shape.{leafShape}
 
 -- the place where the next bytes go matters only in an output of at most 16,384
 put-cap : (out : List ℕ) (pos : ℕ) (a b : List ℕ) → length out ≤ 16384 → put (put out pos a) (cap (pos + length a)) b ≡ put out pos (a ++ b)

@@ -18,12 +18,12 @@ use Rattle.value.specs.Sheet.{rowsOf}
 use Rattle.value.specs.Value.{Tree, branch, Forest, values}
 use Rattle.value.specs.Read.{present, knownBits, walk}
 use Rattle.value.specs.Spell.{encodeAll}
-use Rattle.value.specs.Write.{RowReader, rowOf, bitsAt, show, showRoot}
+use Rattle.value.specs.Write.{RowReader, rowDue, bitsAt, show, showRoot}
 use Rattle.value.proofs.Sheets.{length-rows}
 use Rattle.writer.specs.declared.leaf.Due.{Due}
 use Rattle.writer.specs.declared.leaf.Due.the-variants.{Found, Missing}
 use Rattle.writer.specs.declared.leaf.Head.{Head}
-use Rattle.writer.specs.declared.leaf.Head.the-variants.{Bits, Fault}
+use Rattle.writer.specs.declared.leaf.Head.the-variants.{Bits, Refused}
 use Rattle.writer.specs.Emit.{PutAt, done, stopped, emit, emitAll}
 use Rattle.writer.specs.Leaf.{rowsAt, dueOf, RowDue, headOf, HeadIn, Headed}
 use Rattle.writer.proofs.Steps.{done-put, branch-bytes}
@@ -39,7 +39,7 @@ module _ (S : ℕ → Shape) (B : List ℕ) (fs : List Field) {t : ℕ} {cells :
       andThen (check (eqb (r .count) (length (present fs (knownBits fs m)))) 50 0 c)
       (λ _ c₁. andThen (walk (show S B 15) [] (present fs (knownBits fs m)) c₁) (afterFields r (knownBits fs m)))
 
-  root-step : showRoot S B t fs (rowsAt cells 0) ≡ andThen (rowOf t (rowsAt cells 0)) (λ r c. andThen (bitsAt B 0 fs (r .place) c) (afterBits r))
+  root-step : showRoot S B t fs (rowsAt cells 0) ≡ andThen (rowDue t (rowsAt cells 0)) (λ r c. andThen (bitsAt B 0 fs (r .place) c) (afterBits r))
   unfolding showRoot afterFields afterBits
   root-step = refl
 
@@ -56,7 +56,7 @@ module _ (S : ℕ → Shape) (B : List ℕ) (fs : List Field) {t : ℕ} {cells :
     root-row = rw (root-step, row-read found e)
 
     module _ {head : Head} (headed : Headed B fs p head) where
-      pub root-fault : {number : ℕ} → head ≡ Fault number → showRoot S B t fs (rowsAt cells 0) ≡ refused number 0
+      pub root-fault : {number : ℕ} → head ≡ Refused number → showRoot S B t fs (rowsAt cells 0) ≡ refused number 0
       unfolding andThen
       root-fault q = rw (root-row, sym (headed .same 0 (rowsAt cells 1)) ∙ ap (headOf 0 (rowsAt cells 1)) q)
 

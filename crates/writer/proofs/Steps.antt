@@ -15,9 +15,9 @@ use Rattle.value.specs.declared.Row.{Row}
 use Rattle.value.specs.Value.{Tree, tip, branch, Forest, plus, value, values}
 use Rattle.value.specs.Read.{Item, plainItem, plan, plain, parts, among, walk}
 use Rattle.value.specs.Spell.{leafBytes, headBytes, encode, encodeAll}
-use Rattle.value.specs.Write.{RowReader, nextRow, rowOf, says, held, show}
-use Rattle.parts.proofs.Walks.{deep, deeper, shallower}
-use Rattle.parts.proofs.Items.{keyItem, afterItem, afterKey, item-step, key-step}
+use Rattle.value.specs.Write.{RowReader, nextRow, rowDue, says, held, show}
+use Rattle.walks.proofs.Walks.{deep, deeper, shallower}
+use Rattle.walks.proofs.Items.{keyItem, afterItem, afterKey, item-step, key-step}
 use Rattle.writer.specs.declared.walk.Walk.{Walk}
 use Rattle.writer.specs.declared.walk.Walk.the-variants.{Past, Refused}
 use Rattle.writer.specs.Emit.{cap, PutAt, Final, done, stopped, emit, emitAll}
@@ -57,9 +57,9 @@ shown-along S is is′ (refused n q) (seen b c) pos pos′ l m e h = differ cc
 shown-along S is is′ (refused n q) (refused n′ q′) pos pos′ l m e h = h
 
 -- what a walker may assume of the next one
-pub onward : {A A′ : Type 0} {s cells out out′ : List ℕ} {row row′ pos pos′ : ℕ} {judge : Bool} {o : AnswerOf Row A} {o′ : AnswerOf Row A′}
-    → Ready s cells out row pos judge o → row′ ≤ length cells / 4 → pos′ ≤ 16385 → length out′ ≡ length out → (Accepted o → Accepted o′)
-    → Ready s cells out′ row′ pos′ judge o′
+pub onward : {A A′ : Type 0} {s cells out out′ : List ℕ} {row row′ pos pos′ : ℕ} {judging : Bool} {o : AnswerOf Row A} {o′ : AnswerOf Row A′}
+    → Ready s cells out row pos judging o → row′ ≤ length cells / 4 → pos′ ≤ 16385 → length out′ ≡ length out → (Accepted o → Accepted o′)
+    → Ready s cells out′ row′ pos′ judging o′
 onward w inside behind long held =
     record { good = w .good; inside = inside; behind = behind; small = rw long (w .small); judged = λ j. held (w .judged j) }
 
@@ -152,15 +152,15 @@ module _ (S : ℕ → Shape) (B : List ℕ) (d t : ℕ) (c : CursorOf Row) where
   afterRow : Shape → Row → RowReader Tree
   afterRow sh r c₁ = andThen (says B (c .at) sh (r .place) (r .length) (r .count) c₁) (λ o. held (show S B d) r sh o)
 
-  show-step : show S B (suc d) t c ≡ andThen (rowOf t c) (afterRow (S t))
+  show-step : show S B (suc d) t c ≡ andThen (rowDue t c) (afterRow (S t))
   unfolding show afterRow
   show-step = refl
 
-  pub show-refused : (n q : ℕ) → rowOf t c ≡ refused n q → show S B (suc d) t c ≡ refused n q
+  pub show-refused : (n q : ℕ) → rowDue t c ≡ refused n q → show S B (suc d) t c ≡ refused n q
   unfolding andThen
   show-refused n q e = rw (show-step, e)
 
-  module _ (sh : Shape) (is : S t ≡ sh) (r : Row) (c₁ : CursorOf Row) (row : rowOf t c ≡ seen r c₁) where
+  module _ (sh : Shape) (is : S t ≡ sh) (r : Row) (c₁ : CursorOf Row) (row : rowDue t c ≡ seen r c₁) where
     show-row : show S B (suc d) t c ≡ andThen (says B (c .at) sh (r .place) (r .length) (r .count) c₁) (λ o. held (show S B d) r sh o)
     unfolding andThen afterRow
     show-row = rw (show-step, is, row)
@@ -192,12 +192,12 @@ module _ (S : ℕ → Shape) (B : List ℕ) (d t : ℕ) (c : CursorOf Row) where
     pub leaf-shown : (x : List ℕ) (c′ : CursorOf Row) → rowSays B t sh c ≡ seen (plain x) c′ → (r : Row) × (show S B (suc d) t c ≡ seen (tip r x) c′)
     unfolding rowSays
     leaf-shown x c′ e =
-        let w = leaf-cases x c′ (rowOf t c) e in
+        let w = leaf-cases x c′ (rowDue t c) e in
         (w .0, rw (show-step, is) (w .1))
 
     pub leaf-refused : (n q : ℕ) → rowSays B t sh c ≡ refused n q → show S B (suc d) t c ≡ refused n q
     unfolding rowSays
-    leaf-refused n q e = rw (show-step, is) (leaf-none n q (rowOf t c) e)
+    leaf-refused n q e = rw (show-step, is) (leaf-none n q (rowDue t c) e)
 
     leaf-first : (o : AnswerOf Row Row) → Accepted (andThen o (afterRow sh)) → Accepted (andThen o (λ r. says B (c .at) sh (r .place) (r .length) (r .count)))
     unfolding andThen afterRow
@@ -206,7 +206,7 @@ module _ (S : ℕ → Shape) (B : List ℕ) (d t : ℕ) (c : CursorOf Row) where
 
     leaf-said : Accepted (show S B (suc d) t c) → Accepted (rowSays B t sh c)
     unfolding rowSays
-    leaf-said h = leaf-first (rowOf t c) (rw (show-step, is) at h)
+    leaf-said h = leaf-first (rowDue t c) (rw (show-step, is) at h)
 
 -- ---- by the depth that is left
 
@@ -234,17 +234,17 @@ module _ (S : ℕ → Shape) (B : List ℕ) {d : ℕ} (some : d ≡ 0 → ⊥) (
       → Walked cells (emitAll S is (walk (show S B (suc (d - 1))) [] is c) pos out) r out′ → Walked cells (emitAll S is (walk (show S B d) [] is c) pos out) r out′
   items-shallower pos out {cells} {r} {out′} = shallower (λ k. Walked cells (emitAll S is (walk (show S B k) [] is c) pos out) r out′) d some
 
-row-none : (t k : ℕ) → rowOf t (record { left = []; at = k }) ≡ refused 50 k
-unfolding andThen rowOf nextRow
+row-none : (t k : ℕ) → rowDue t (record { left = []; at = k }) ≡ refused 50 k
+unfolding andThen rowDue nextRow
 row-none t k = refl
 
 module _ (r : Row) (rest : List Row) (t k : ℕ) where
-  row-typed : eqb (r .ty) t ≡ true → rowOf t (record { left = r ∷ rest; at = k }) ≡ seen r (record { left = rest; at = k + 1 })
-  unfolding andThen rowOf nextRow check
+  row-typed : eqb (r .ty) t ≡ true → rowDue t (record { left = r ∷ rest; at = k }) ≡ seen r (record { left = rest; at = k + 1 })
+  unfolding andThen rowDue nextRow check
   row-typed e = rw e
 
-  row-other : eqb (r .ty) t ≡ false → rowOf t (record { left = r ∷ rest; at = k }) ≡ refused 50 k
-  unfolding andThen rowOf nextRow check
+  row-other : eqb (r .ty) t ≡ false → rowDue t (record { left = r ∷ rest; at = k }) ≡ refused 50 k
+  unfolding andThen rowDue nextRow check
   row-other e = rw e
 
 -- a row of an unknown type is refused, whatever it is

@@ -14,7 +14,7 @@ use Rattle.value.specs.Value.{Tree, Forest, value, values}
 use Rattle.value.specs.Read.{Item}
 use Rattle.value.specs.Spell.{encode, encodeAll}
 
--- A length as far as it matters: above 16,384 it is 16,385. (Rows may share bytes, so that lengths add up to more than a number of the machine holds.)
+-- A length; all above 16,384 count as 16,385. Rows may share bytes, so that lengths could add up to more than a number of the machine holds.
 abbrev pub cap : ℕ → ℕ
 cap n = min n 16385
 

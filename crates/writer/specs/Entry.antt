@@ -37,9 +37,9 @@ abbrev pub Fronts : value.Writing → (memory after : List ℕ) → Type 0
 Fronts w memory after = (bs : List ℕ) → w ≡ value.written bs → length bs ≤ length memory → after ≡ bs ++ drop (length bs) memory
 
 -- The payload, where it fits into the room for the output; else 52.
-abbrev pub within : (room : ℕ) → value.Writing → value.Writing
-within room (value.refusal n q) = value.refusal n q
-within room (value.written bs) = cond (leb (length bs) room) (value.written bs) (value.refusal 52 0)
+abbrev pub withinRoom : (room : ℕ) → value.Writing → value.Writing
+withinRoom room (value.refusal n q) = value.refusal n q
+withinRoom room (value.written bs) = cond (leb (length bs) room) (value.written bs) (value.refusal 52 0)
 
 -- A sheet's cells over the bytes B, written by a good table.
 unfoldable pub sheetOutcome : (schema : List ℕ) (ty : ℕ) (cells B out : List ℕ) → Outcome

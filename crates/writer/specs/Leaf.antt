@@ -11,17 +11,17 @@ use Rattle.schema.specs.Table.{Shape}
 use Rattle.value.specs.declared.Row.{Row}
 use Rattle.value.specs.Sheet.{rowsOf}
 use Rattle.value.specs.Read.{Own, plain, present, knownBits}
-use Rattle.value.specs.Write.{RowReader, rowOf, bitsAt, says}
-use Rattle.parts.specs.Shape.{leafShape}
-use Rattle.parts.specs.Required.{Requires}
+use Rattle.value.specs.Write.{RowReader, rowDue, bitsAt, says}
+use Rattle.walks.specs.Shape.{leafShape}
+use Rattle.walks.specs.Required.{Requires}
 use Rattle.writer.specs.declared.leaf.Due.{Due}
 use Rattle.writer.specs.declared.leaf.Due.the-variants.{Found, Missing}
 use Rattle.writer.specs.declared.leaf.Verdict.{Verdict}
-use Rattle.writer.specs.declared.leaf.Verdict.the-variants.{Fine, Bad}
+use Rattle.writer.specs.declared.leaf.Verdict.the-variants.{Fine, Refused as VerdictRefused}
 use Rattle.writer.specs.declared.leaf.Leaf.{Leaf}
-use Rattle.writer.specs.declared.leaf.Leaf.the-variants.{At, Bad as BadLeaf}
+use Rattle.writer.specs.declared.leaf.Leaf.the-variants.{At, Refused as LeafRefused}
 use Rattle.writer.specs.declared.leaf.Head.{Head}
-use Rattle.writer.specs.declared.leaf.Head.the-variants.{Bits, Fault}
+use Rattle.writer.specs.declared.leaf.Head.the-variants.{Bits, Refused as HeadRefused}
 
 -- The cursor at a row of a sheet's cells.
 abbrev pub rowsAt : List ℕ → ℕ → CursorOf Row
@@ -46,7 +46,7 @@ DueIn cells k (Found p n c) = (k < length cells / 4) × (p ≡ placeAt cells k) 
 DueIn cells k Missing = Unit {0}
 
 pub record RowDue (cells : List ℕ) (k t : ℕ) (r : Due) : Type 0 where
-  pub same : dueOf cells k t r ≡ rowOf t (rowsAt cells k)
+  pub same : dueOf cells k t r ≡ rowDue t (rowsAt cells k)
   pub within : DueIn cells k r
 
 -- ---- contents
@@ -54,11 +54,11 @@ pub record RowDue (cells : List ℕ) (k t : ℕ) (r : Due) : Type 0 where
 -- A verdict on row k with the n bytes at place p, as the answer of a reader.
 abbrev pub saidOf : (B : List ℕ) (p n k : ℕ) → CursorOf Row → Verdict → AnswerOf Row Own
 saidOf B p n k cur Fine = seen (plain (span B p n)) cur
-saidOf B p n k cur (Bad number) = refused number k
+saidOf B p n k cur (VerdictRefused number) = refused number k
 
 abbrev pub VerdictIn : (size p n : ℕ) → Verdict → Type 0
 VerdictIn size p n Fine = p + n ≤ size
-VerdictIn size p n (Bad number) = Unit {0}
+VerdictIn size p n (VerdictRefused number) = Unit {0}
 
 -- It is what the row says, whichever row it is.
 pub record Judged (B : List ℕ) (kind p n c : ℕ) (r : Verdict) : Type 0 where
@@ -68,16 +68,16 @@ pub record Judged (B : List ℕ) (kind p n c : ℕ) (r : Verdict) : Type 0 where
 -- What the next row, of type t and shape s, says.
 unfoldable pub rowSays : List ℕ → (t : ℕ) → Shape → RowReader Own
 rowSays B t s = at λ here. do
-  r ← rowOf t
+  r ← rowDue t
   says B (here .at) s (r .place) (r .length) (r .count)
 
 abbrev pub leafOf : (cells B : List ℕ) (k : ℕ) → Leaf → AnswerOf Row Own
 leafOf cells B k (At p n) = seen (plain (span B p n)) (rowsAt cells (k + 1))
-leafOf cells B k (BadLeaf number) = refused number k
+leafOf cells B k (LeafRefused number) = refused number k
 
 abbrev pub LeafIn : (cells B : List ℕ) (k : ℕ) → Leaf → Type 0
 LeafIn cells B k (At p n) = (k < length cells / 4) × (p ≡ placeAt cells k) × (n ≡ lengthAt cells k) × (p + n ≤ length B)
-LeafIn cells B k (BadLeaf number) = Unit {0}
+LeafIn cells B k (LeafRefused number) = Unit {0}
 
 pub record LeafRow (cells B : List ℕ) (kind t k : ℕ) (r : Leaf) : Type 0 where
   pub same : leafOf cells B k r ≡ rowSays B t (leafShape kind) (rowsAt cells k)
@@ -87,13 +87,13 @@ pub record LeafRow (cells B : List ℕ) (kind t k : ℕ) (r : Leaf) : Type 0 whe
 
 abbrev pub headOf : (k : ℕ) → CursorOf Row → Head → AnswerOf Row ℕ
 headOf k cur (Bits word known ones unknown) = seen word cur
-headOf k cur (Fault number) = refused number k
+headOf k cur (HeadRefused number) = refused number k
 
 -- The known bits and their count, and that there is no unknown one exactly where the word is below 2 ^ fields.
 abbrev pub HeadIn : List Field → Head → Type 0
 HeadIn fs (Bits word known ones unknown) =
     (known ≡ knownBits fs word) × (ones ≡ length (present fs known)) × (ltb word (2 ^ length fs) ≡ eqb unknown 0)
-HeadIn fs (Fault number) = Unit {0}
+HeadIn fs (HeadRefused number) = Unit {0}
 
 -- They are what the bitmap at place p says, whichever row it is of.
 pub record Headed (B : List ℕ) (fs : List Field) (p : ℕ) (r : Head) : Type 0 where

@@ -11,7 +11,7 @@ use Rattle.value.specs.declared.Row.{Row}
 use Rattle.value.specs.Value.{Tree, Forest}
 use Rattle.value.specs.Read.{Item, walk}
 use Rattle.value.specs.Write.{show, showRoot}
-use Rattle.parts.specs.Shape.{shapeIn}
+use Rattle.walks.specs.Shape.{shapeIn}
 use Rattle.writer.specs.declared.walk.Walk.{Walk}
 use Rattle.writer.specs.declared.walk.Walk.the-variants.{Past, Refused}
 use Rattle.writer.specs.Emit.{Final, done, stopped, emit, emitAll}
@@ -54,10 +54,10 @@ pub record Walked (cells : List ℕ) (end : Final) (r : Walk) (out : List ℕ) :
   pub same : endOf cells r out ≡ end
   pub within : Within cells r
 
--- What a walker may assume. A walk that does not judge has been judged: its answer is known to accept.
-pub record Ready {A : Type 0} (s cells out : List ℕ) (row pos : ℕ) (judge : Bool) (o : AnswerOf Row A) : Type 0 where
+-- What a walker may assume. A walk that does not judging has been judged: its answer is known to accept.
+pub record Ready {A : Type 0} (s cells out : List ℕ) (row pos : ℕ) (judging : Bool) (o : AnswerOf Row A) : Type 0 where
   pub good : IsGood s
   pub inside : row ≤ length cells / 4
   pub behind : pos ≤ 16385
   pub small : length out ≤ 16384
-  pub judged : judge ≡ false → Accepted o
+  pub judged : judging ≡ false → Accepted o

@@ -1,4 +1,6 @@
 // What one row says: its cells, the content of a scalar, string or bytes, and the presence bits of a struct.
+use constants::kind;
+use constants::refusal;
 use wire::bitmap;
 use wire::utf8;
 ghost use mathlib.Core.Path.{_≡_};
@@ -7,8 +9,13 @@ ghost use Prim.Native.Nat.{_+_, _*_, _/_, _≤_, _<_};
 ghost use lib.ListN.{length};
 ghost use Rattle.parse.specs.Reader.{Accepted};
 ghost use Rattle.schema.specs.Table.{width};
-ghost use Rattle.parts.specs.Shape.{leafShape};
+ghost use Rattle.walks.specs.Shape.{leafShape};
 ghost use Rattle.writer.specs.Leaf.{rowsAt, RowDue, Judged, rowSays, LeafRow, HeadedBy};
+
+// Kinds, in the type in which the functions here are handed one.
+const BOOL: usize = kind::BOOL as usize;
+
+const STRING: usize = kind::STRING as usize;
 
 // A row of the type due, by its place, length and count; or none: the row is missing or of another type.
 pub enum Due {
@@ -23,7 +30,7 @@ pub enum Due {
 // Whether a row is right, or the number of its first fault.
 pub enum Verdict {
     Fine,
-    Bad { number: u32 },
+    Refused { number: u32 },
 }
 
 // A bitmap's word, the known fields' bits of it and their count, and the number of unknown bits set; or the number of its fault.
@@ -34,7 +41,7 @@ pub enum Head {
         ones: usize,
         unknown: usize,
     },
-    Fault {
+    Refused {
         number: u32,
     },
 }
@@ -80,17 +87,25 @@ fn scalar(source: &[u8], kind: usize, place: usize, n: usize, count: usize) -> V
     ensures { λ r. ⌜ Judged (now (source .entry)) kind place n count r ⌝ }
 {
     if n != width_of(kind) {
-        return Verdict::Bad { number: 50 };
+        return Verdict::Refused {
+            number: refusal::SHEET,
+        };
     }
     if count != 0 {
-        return Verdict::Bad { number: 50 };
+        return Verdict::Refused {
+            number: refusal::SHEET,
+        };
     }
     if source.len() < place + n {
-        return Verdict::Bad { number: 51 };
+        return Verdict::Refused {
+            number: refusal::OUTSIDE,
+        };
     }
-    if kind == 1 {
+    if kind == BOOL {
         if 1 < source[place] {
-            return Verdict::Bad { number: 22 };
+            return Verdict::Refused {
+                number: refusal::BOOL,
+            };
         }
     }
     Verdict::Fine
@@ -102,14 +117,20 @@ fn text(source: &[u8], kind: usize, place: usize, n: usize, count: usize) -> Ver
     ensures { λ r. ⌜ Judged (now (source .entry)) kind place n count r ⌝ }
 {
     if count != 0 {
-        return Verdict::Bad { number: 50 };
+        return Verdict::Refused {
+            number: refusal::SHEET,
+        };
     }
     if source.len() < place + n {
-        return Verdict::Bad { number: 51 };
+        return Verdict::Refused {
+            number: refusal::OUTSIDE,
+        };
     }
-    if kind == 12 {
+    if kind == STRING {
         if !utf8::valid(source, place, place + n) {
-            return Verdict::Bad { number: 23 };
+            return Verdict::Refused {
+                number: refusal::UTF8,
+            };
         }
     }
     Verdict::Fine
@@ -120,7 +141,7 @@ pub fn content(source: &[u8], kind: usize, place: usize, n: usize, count: usize)
     requires { ⌜ (place < 4294967296) × (n < 4294967296) ⌝ }
     ensures { λ r. ⌜ Judged (now (source .entry)) kind place n count r ⌝ }
 {
-    if kind < 12 {
+    if kind < STRING {
         scalar(source, kind, place, n, count)
     } else {
         text(source, kind, place, n, count)
@@ -134,11 +155,15 @@ pub fn presence(source: &[u8], required: u64, n: usize, place: usize) -> Head
 {
     let size = (n + 7) / 8;
     if source.len() < place + size {
-        return Head::Fault { number: 51 };
+        return Head::Refused {
+            number: refusal::OUTSIDE,
+        };
     }
     let b = bitmap::read(source, place, n);
     if required & b.bits != required {
-        return Head::Fault { number: 25 };
+        return Head::Refused {
+            number: refusal::ABSENT_FIELD,
+        };
     }
     Head::Bits {
         word: b.bits,
@@ -151,15 +176,22 @@ pub fn presence(source: &[u8], required: u64, n: usize, place: usize) -> Head
 // A content's place and length, or the number of the row's first fault.
 pub enum Leaf {
     At { place: usize, length: usize },
-    Bad { number: u32 },
+    Refused { number: u32 },
 }
 
-// A row of a value of type ty, which is of a kind from 1 to 13. Where nothing is judged, it is known to be right.
-pub fn leaf_row(sheet: &[u32], source: &[u8], kind: usize, ty: u32, row: usize, judge: bool) -> Leaf
-    requires { ⌜ (judge ≡ false → Accepted (rowSays (now source) ty (leafShape kind) (rowsAt (now sheet) row))) ⌝ }
+// A row of a value of type ty, which is of a kind from 1 to 13. A walk that does not judge knows that it is right.
+pub fn leaf_row(
+    sheet: &[u32],
+    source: &[u8],
+    kind: usize,
+    ty: u32,
+    row: usize,
+    judging: bool,
+) -> Leaf
+    requires { ⌜ (judging ≡ false → Accepted (rowSays (now source) ty (leafShape kind) (rowsAt (now sheet) row))) ⌝ }
     ensures { λ r. ⌜ LeafRow (now (sheet .entry)) (now (source .entry)) kind ty row r ⌝ }
 {
-    if !judge {
+    if !judging {
         let k = 4 * row;
         return Leaf::At {
             place: wide(sheet[k + 1]),
@@ -167,13 +199,15 @@ pub fn leaf_row(sheet: &[u32], source: &[u8], kind: usize, ty: u32, row: usize, 
         };
     }
     match row_due(sheet, row, ty) {
-        Due::Missing => Leaf::Bad { number: 50 },
+        Due::Missing => Leaf::Refused {
+            number: refusal::SHEET,
+        },
         Due::Found {
             place,
             length,
             count,
         } => match content(source, kind, place, length, count) {
-            Verdict::Bad { number } => Leaf::Bad { number },
+            Verdict::Refused { number } => Leaf::Refused { number },
             Verdict::Fine => Leaf::At { place, length },
         },
     }

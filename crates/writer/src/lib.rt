@@ -6,6 +6,9 @@ pub mod walk;
 use crate::put::put_span;
 use crate::walk::Walk;
 use crate::walk::root;
+use constants::kind;
+use constants::limit;
+use constants::refusal;
 use schema::Checked;
 use schema::access::type_row;
 use schema::check::check;
@@ -30,9 +33,9 @@ pub fn make(s: &[u8], ty: u32, sheet: &[u32], source: &[u8], scratch: &mut [u8])
     ensures { λ _. ⌜ Fronts (payloadBy (now (s .entry)) ty (now (sheet .entry)) (now (source .entry))) (now (scratch .entry)) (now (scratch .exit)) ⌝ }
 {
     let t = type_row(s, ty as usize);
-    if t.kind != 16 {
+    if t.kind != kind::STRUCT {
         return Writing::Refused {
-            number: 46,
+            number: refusal::NO_STRUCT,
             place: 0,
         };
     }
@@ -48,9 +51,9 @@ pub fn make(s: &[u8], ty: u32, sheet: &[u32], source: &[u8], scratch: &mut [u8])
     ) {
         Walk::Refused { number, place } => Writing::Refused { number, place },
         Walk::Past { row: _, pos } => {
-            if 16384 < pos {
+            if limit::PAYLOAD < pos {
                 return Writing::Refused {
-                    number: 7,
+                    number: refusal::PAYLOAD_TOO_LONG,
                     place: 0,
                 };
             }
@@ -87,7 +90,7 @@ fn write_through(
         Writing::Written { length } => {
             if out.len() < length {
                 return Writing::Refused {
-                    number: 52,
+                    number: refusal::OUTPUT_TOO_SHORT,
                     place: 0,
                 };
             }
@@ -110,7 +113,7 @@ pub fn write_sheet(s: &[u8], ty: u32, sheet: &[u32], source: &[u8], out: &mut [u
         let mut scratch = [0u8; 512];
         return write_through(s, ty, sheet, source, &mut scratch, out);
     }
-    let mut scratch = [0u8; 16384];
+    let mut scratch = [0u8; limit::PAYLOAD];
     write_through(s, ty, sheet, source, &mut scratch, out)
 }
 

@@ -1,5 +1,7 @@
-// Bytes put into the output, each where the output has a place for it; and the place after them, as far as it matters.
+// Bytes put into the output, each where the output has a place for it. The functions answer the place after them, and 16,385 for every place above 16,384.
 use buffer::put_byte;
+use constants::kind;
+use constants::limit;
 ghost use mathlib.Core.Path.{_≡_};
 ghost use Prim.Native.Nat.{_+_, _≤_, _<_};
 ghost use lib.ListN.{length};
@@ -8,14 +10,20 @@ ghost use Rattle.wire.specs.Little.{bytes};
 ghost use Rattle.wire.specs.Varuint.{varuintBytes};
 ghost use Rattle.value.specs.Spell.{leafBytes};
 ghost use Rattle.writer.specs.Emit.{cap, PutAt, lengthBytes};
-ghost use Rattle.parts.specs.Shape.{leafShape};
+ghost use Rattle.walks.specs.Shape.{leafShape};
 
-// A place n bytes further.
+// One byte more than a payload may have: what is longer counts as this.
+const OVER: usize = limit::PAYLOAD + 1;
+
+// Kinds, in the type in which the functions here are handed one.
+const STRING: usize = kind::STRING as usize;
+
+// The place n bytes further, and 16,385 for every place above 16,384.
 fn further(pos: usize, n: usize) -> usize
     requires { ⌜ pos ≤ 16385 ⌝ }
     ensures { λ r. ⌜ (r ≡ cap (pos + n)) × (r ≤ 16385) ⌝ }
 {
-    if 16385 - pos <= n { 16385 } else { pos + n }
+    if OVER - pos <= n { OVER } else { pos + n }
 }
 
 // The VarUInt of x.
@@ -63,7 +71,7 @@ fn put_length(out: &mut [u8], pos: usize, kind: usize, n: usize) -> usize
     requires { ⌜ pos ≤ 16385 ⌝ }
     ensures { λ r. ⌜ PutAt (now (out .entry)) pos (lengthBytes kind n) r (now (out .exit)) ⌝ }
 {
-    if kind < 12 {
+    if kind < STRING {
         return pos;
     }
     put_number(out, pos, n as u64)

@@ -1,6 +1,7 @@
-// The walkers: arrays, maps and structs, and what they hold, call each other in a cycle; the depth still allowed falls.
-// They go over the rows of the sheet by the schema table s and put each value's encoding into the output, from `pos` on, where it has a place.
-// A walk that does not judge trusts that the same walk has been judged: it skips the tests that would read contents or keys again.
+// The walkers: arrays, maps and structs, and what they hold, call each other in a cycle; the depth still allowed falls. They go over the rows of the sheet by
+// the schema table s and put each value's encoding into the output, from `pos` on, where it has a place.
+//
+// A walk that does not judge comes after one that did, and leaves out the tests that would read contents or keys again.
 use crate::leaf::Due;
 use crate::leaf::Head;
 use crate::leaf::Leaf;
@@ -10,14 +11,17 @@ use crate::leaf::row_due;
 use crate::put::put_bits;
 use crate::put::put_content;
 use crate::put::put_number;
-use parts::key::is_repeated;
-use parts::required_of;
-use parts::zeros_in;
+use constants::kind;
+use constants::limit;
+use constants::refusal;
 use schema::TypeRow;
 use schema::access::type_row;
 use schema::file::layout_of;
 use schema::rows::field_row;
 use schema::rows::row;
+use walks::key::is_repeated;
+use walks::required_of;
+use walks::zeros_in;
 ghost use mathlib.Core.Path.{_≡_};
 ghost use mathlib.Core.List.{[]};
 ghost use Prim.Native.Nat.{suc, _+_, _/_, _^_, _≤_, _<_};
@@ -26,9 +30,14 @@ ghost use Rattle.schema.specs.Table.{rowAt, array, map, struct};
 ghost use Rattle.schema.specs.File.{tableOf};
 ghost use Rattle.value.specs.Read.{plainItem, pairs, present};
 ghost use Rattle.writer.specs.declared.walk.Walk.the-variants.{Refused};
-ghost use Rattle.parts.specs.Shape.{fieldsFrom, shapeIn};
-ghost use Rattle.parts.specs.Required.{Requires};
+ghost use Rattle.walks.specs.Shape.{fieldsFrom, shapeIn};
+ghost use Rattle.walks.specs.Required.{Requires};
 ghost use Rattle.writer.specs.Walk.{valueIn, itemsIn, rootIn, valueEnd, itemsEnd, rootEnd, Walked, Ready};
+
+// Kinds, in the type in which the functions here are handed one.
+const ARRAY: usize = kind::ARRAY as usize;
+
+const STRUCT: usize = kind::STRUCT as usize;
 
 // The row and the place in the output after what was written, or a refusal with its row.
 pub enum Walk {
@@ -43,7 +52,7 @@ fn refused(number: u32, place: usize) -> Walk
 }
 
 // An array, a map or a struct of type ty in a row, whose type row is t; what it holds has so many levels of depth.
-fn composite(
+fn write_composite(
     s: &[u8],
     sheet: &[u32],
     source: &[u8],
@@ -53,20 +62,32 @@ fn composite(
     row: usize,
     pos: usize,
     depth: usize,
-    judge: bool,
+    judging: bool,
 ) -> Walk
-    requires { ⌜ Ready (now s) (now sheet) (now out) row pos judge (valueIn (now s) (now source) (now sheet) (suc depth) ty row) × (t ≡ rowAt (tableOf (now s)) ty) × (13 < t .kind) ⌝ }
+    requires { ⌜ Ready (now s) (now sheet) (now out) row pos judging (valueIn (now s) (now source) (now sheet) (suc depth) ty row) × (t ≡ rowAt (tableOf (now s)) ty) × (13 < t .kind) ⌝ }
     ensures { λ r. ⌜ Walked (now (sheet .entry)) (valueEnd (now (s .entry)) (now (source .entry)) (now (sheet .entry)) (suc depth) ty row pos (now (out .entry))) r (now (out .exit)) ⌝ }
 {
     let kind = t.kind;
-    if kind == 14 {
-        return array(s, sheet, source, out, ty, t.a, row, pos, depth, judge);
+    if kind == kind::ARRAY {
+        return write_array(s, sheet, source, out, ty, t.a, row, pos, depth, judging);
     }
-    if kind == 15 {
-        return mapping(s, sheet, source, out, ty, t.a, t.b, row, pos, depth, judge);
+    if kind == kind::MAP {
+        return write_map(
+            s,
+            sheet,
+            source,
+            out,
+            ty,
+            t.a,
+            t.b,
+            row,
+            pos,
+            depth,
+            judging,
+        );
     }
-    if kind == 16 {
-        return single(
+    if kind == kind::STRUCT {
+        return write_one_struct(
             s,
             sheet,
             source,
@@ -77,11 +98,11 @@ fn composite(
             row,
             pos,
             depth,
-            judge,
+            judging,
         );
     }
     // A good table has no composite of another kind: this is never reached, and 50 is what the definition has for a type that there is not.
-    refused(50, row)
+    refused(refusal::SHEET, row)
 }
 
 // A leaf of a kind in a row.
@@ -95,14 +116,14 @@ fn leaf(
     row: usize,
     pos: usize,
     depth: usize,
-    judge: bool,
+    judging: bool,
 ) -> Walk
-    requires { ⌜ Ready (now s) (now sheet) (now out) row pos judge (valueIn (now s) (now source) (now sheet) depth ty row) ⌝ }
+    requires { ⌜ Ready (now s) (now sheet) (now out) row pos judging (valueIn (now s) (now source) (now sheet) depth ty row) ⌝ }
     requires { ⌜ (0 < kind) × (kind ≡ rowAt (tableOf (now s)) ty .kind) × (kind < 14) × (0 < depth) ⌝ }
     ensures { λ r. ⌜ Walked (now (sheet .entry)) (valueEnd (now (s .entry)) (now (source .entry)) (now (sheet .entry)) depth ty row pos (now (out .entry))) r (now (out .exit)) ⌝ }
 {
-    match leaf_row(sheet, source, kind, ty, row, judge) {
-        Leaf::Bad { number } => refused(number, row),
+    match leaf_row(sheet, source, kind, ty, row, judging) {
+        Leaf::Refused { number } => refused(number, row),
         Leaf::At { place, length } => {
             let next = put_content(out, pos, kind, source, place, length);
             Walk::Past {
@@ -125,9 +146,9 @@ fn leaves(
     start: usize,
     pos: usize,
     depth: usize,
-    judge: bool,
+    judging: bool,
 ) -> Walk
-    requires { ⌜ Ready (now s) (now sheet) (now out) start pos judge (itemsIn (now s) (now source) (now sheet) depth [] (replicate n (plainItem elem)) start) ⌝ }
+    requires { ⌜ Ready (now s) (now sheet) (now out) start pos judging (itemsIn (now s) (now source) (now sheet) depth [] (replicate n (plainItem elem)) start) ⌝ }
     requires { ⌜ (0 < kind) × (kind ≡ rowAt (tableOf (now s)) elem .kind) × (kind < 14) ⌝ }
     ensures { λ r. ⌜ Walked (now (sheet .entry)) (itemsEnd (now (s .entry)) (now (source .entry)) (now (sheet .entry)) depth [] (replicate n (plainItem elem)) start pos (now (out .entry))) r (now (out .exit)) ⌝ }
 {
@@ -136,9 +157,9 @@ fn leaves(
     let mut to = pos;
     while 0 < left {
         if depth == 0 {
-            return refused(28, here);
+            return refused(refusal::TOO_DEEP, here);
         }
-        match leaf(s, sheet, source, out, kind, elem, here, to, depth, judge) {
+        match leaf(s, sheet, source, out, kind, elem, here, to, depth, judging) {
             Walk::Refused { number, place } => {
                 return Walk::Refused { number, place };
             }
@@ -153,7 +174,7 @@ fn leaves(
 }
 
 // An array of type ty, whose elements have the type elem and so many levels of depth.
-fn array(
+fn write_array(
     s: &[u8],
     sheet: &[u32],
     source: &[u8],
@@ -163,13 +184,13 @@ fn array(
     row: usize,
     pos: usize,
     depth: usize,
-    judge: bool,
+    judging: bool,
 ) -> Walk
-    requires { ⌜ Ready (now s) (now sheet) (now out) row pos judge (valueIn (now s) (now source) (now sheet) (suc depth) ty row) × (shapeIn (now s) ty ≡ array elem) × (0 < rowAt (tableOf (now s)) elem .kind) ⌝ }
+    requires { ⌜ Ready (now s) (now sheet) (now out) row pos judging (valueIn (now s) (now source) (now sheet) (suc depth) ty row) × (shapeIn (now s) ty ≡ array elem) × (0 < rowAt (tableOf (now s)) elem .kind) ⌝ }
     ensures { λ r. ⌜ Walked (now (sheet .entry)) (valueEnd (now (s .entry)) (now (source .entry)) (now (sheet .entry)) (suc depth) ty row pos (now (out .entry))) r (now (out .exit)) ⌝ }
 {
     match row_due(sheet, row, ty) {
-        Due::Missing => refused(50, row),
+        Due::Missing => refused(refusal::SHEET, row),
         Due::Found {
             place: _,
             length: _,
@@ -178,7 +199,7 @@ fn array(
             let next = put_number(out, pos, count as u64);
             let t = type_row(s, elem as usize);
             let kind = t.kind as usize;
-            if kind < 14 {
+            if kind < ARRAY {
                 return leaves(
                     s,
                     sheet,
@@ -190,11 +211,11 @@ fn array(
                     row + 1,
                     next,
                     depth,
-                    judge,
+                    judging,
                 );
             }
-            if (kind == 16) & (0 < depth) {
-                return structs(
+            if (kind == STRUCT) & (0 < depth) {
+                return write_structs(
                     s,
                     sheet,
                     source,
@@ -206,7 +227,7 @@ fn array(
                     row + 1,
                     next,
                     depth - 1,
-                    judge,
+                    judging,
                 );
             }
             let mut left = count;
@@ -214,9 +235,20 @@ fn array(
             let mut to = next;
             while 0 < left {
                 if depth == 0 {
-                    return refused(28, here);
+                    return refused(refusal::TOO_DEEP, here);
                 }
-                match composite(s, sheet, source, out, elem, t, here, to, depth - 1, judge) {
+                match write_composite(
+                    s,
+                    sheet,
+                    source,
+                    out,
+                    elem,
+                    t,
+                    here,
+                    to,
+                    depth - 1,
+                    judging,
+                ) {
                     Walk::Refused { number, place } => {
                         return Walk::Refused { number, place };
                     }
@@ -233,7 +265,7 @@ fn array(
 }
 
 // A map of type ty. One of more than 64 pairs is refused at its row. Its keys are kept in an array, a short one where there are few.
-fn mapping(
+fn write_map(
     s: &[u8],
     sheet: &[u32],
     source: &[u8],
@@ -244,21 +276,21 @@ fn mapping(
     row: usize,
     pos: usize,
     depth: usize,
-    judge: bool,
+    judging: bool,
 ) -> Walk
-    requires { ⌜ Ready (now s) (now sheet) (now out) row pos judge (valueIn (now s) (now source) (now sheet) (suc depth) ty row) × (shapeIn (now s) ty ≡ map key val) ⌝ }
+    requires { ⌜ Ready (now s) (now sheet) (now out) row pos judging (valueIn (now s) (now source) (now sheet) (suc depth) ty row) × (shapeIn (now s) ty ≡ map key val) ⌝ }
     requires { ⌜ (0 < rowAt (tableOf (now s)) key .kind) × (rowAt (tableOf (now s)) key .kind < 14) × (0 < rowAt (tableOf (now s)) val .kind) ⌝ }
     ensures { λ r. ⌜ Walked (now (sheet .entry)) (valueEnd (now (s .entry)) (now (source .entry)) (now (sheet .entry)) (suc depth) ty row pos (now (out .entry))) r (now (out .exit)) ⌝ }
 {
     match row_due(sheet, row, ty) {
-        Due::Missing => refused(50, row),
+        Due::Missing => refused(refusal::SHEET, row),
         Due::Found {
             place: _,
             length: _,
             count,
         } => {
-            if 64 < count {
-                return refused(31, row);
+            if limit::PAIRS < count {
+                return refused(refusal::MAP_TOO_LONG, row);
             }
             let next = put_number(out, pos, count as u64);
             if count == 0 {
@@ -269,7 +301,7 @@ fn mapping(
             }
             if count <= 8 {
                 let mut keys = [0usize; 18];
-                return pairs(
+                return write_pairs(
                     s,
                     sheet,
                     source,
@@ -281,10 +313,10 @@ fn mapping(
                     row + 1,
                     next,
                     depth,
-                    judge,
+                    judging,
                 );
             }
-            many(
+            write_many_pairs(
                 s,
                 sheet,
                 source,
@@ -295,14 +327,14 @@ fn mapping(
                 row + 1,
                 next,
                 depth,
-                judge,
+                judging,
             )
         }
     }
 }
 
 // The n pairs of a map, of more than a few. The long array stands here, so that no other map has to make room for it.
-fn many(
+fn write_many_pairs(
     s: &[u8],
     sheet: &[u32],
     source: &[u8],
@@ -313,14 +345,14 @@ fn many(
     start: usize,
     pos: usize,
     depth: usize,
-    judge: bool,
+    judging: bool,
 ) -> Walk
-    requires { ⌜ Ready (now s) (now sheet) (now out) start pos judge (itemsIn (now s) (now source) (now sheet) depth [] (pairs n key val) start) ⌝ }
+    requires { ⌜ Ready (now s) (now sheet) (now out) start pos judging (itemsIn (now s) (now source) (now sheet) depth [] (pairs n key val) start) ⌝ }
     requires { ⌜ (0 < rowAt (tableOf (now s)) key .kind) × (rowAt (tableOf (now s)) key .kind < 14) × (0 < rowAt (tableOf (now s)) val .kind) × (n ≤ 64) ⌝ }
     ensures { λ r. ⌜ Walked (now (sheet .entry)) (itemsEnd (now (s .entry)) (now (source .entry)) (now (sheet .entry)) depth [] (pairs n key val) start pos (now (out .entry))) r (now (out .exit)) ⌝ }
 {
-    let mut keys = [0usize; 130];
-    pairs(
+    let mut keys = [0usize; 2 * limit::PAIRS + 2];
+    write_pairs(
         s,
         sheet,
         source,
@@ -332,12 +364,12 @@ fn many(
         start,
         pos,
         depth,
-        judge,
+        judging,
     )
 }
 
 // The n pairs of a map from a row on. What `keys` holds afterwards means nothing.
-fn pairs(
+fn write_pairs(
     s: &[u8],
     sheet: &[u32],
     source: &[u8],
@@ -349,9 +381,9 @@ fn pairs(
     start: usize,
     pos: usize,
     depth: usize,
-    judge: bool,
+    judging: bool,
 ) -> Walk
-    requires { ⌜ Ready (now s) (now sheet) (now out) start pos judge (itemsIn (now s) (now source) (now sheet) depth [] (pairs n key val) start) ⌝ }
+    requires { ⌜ Ready (now s) (now sheet) (now out) start pos judging (itemsIn (now s) (now source) (now sheet) depth [] (pairs n key val) start) ⌝ }
     requires { ⌜ (0 < rowAt (tableOf (now s)) key .kind) × (rowAt (tableOf (now s)) key .kind < 14) × (0 < rowAt (tableOf (now s)) val .kind) × (n < length (now keys) / 2) × (n ≤ 64) ⌝ }
     ensures { λ r. ⌜ Walked (now (sheet .entry)) (itemsEnd (now (s .entry)) (now (source .entry)) (now (sheet .entry)) depth [] (pairs n key val) start pos (now (out .entry))) r (now (out .exit)) ⌝ }
 {
@@ -362,19 +394,19 @@ fn pairs(
     let mut to = pos;
     while i < n {
         if depth == 0 {
-            return refused(28, here);
+            return refused(refusal::TOO_DEEP, here);
         }
-        match leaf_row(sheet, source, k.kind as usize, key, here, judge) {
-            Leaf::Bad { number } => {
+        match leaf_row(sheet, source, k.kind as usize, key, here, judging) {
+            Leaf::Refused { number } => {
                 return refused(number, here);
             }
             Leaf::At { place, length } => {
-                if is_repeated(source, keys, i, place, length, judge) {
-                    return refused(24, here);
+                if is_repeated(source, keys, i, place, length, judging) {
+                    return refused(refusal::REPEATED_KEY, here);
                 }
                 let next = put_content(out, to, k.kind as usize, source, place, length);
-                if 13 < v.kind {
-                    match composite(
+                if kind::BYTES < v.kind {
+                    match write_composite(
                         s,
                         sheet,
                         source,
@@ -384,7 +416,7 @@ fn pairs(
                         here + 1,
                         next,
                         depth - 1,
-                        judge,
+                        judging,
                     ) {
                         Walk::Refused { number, place } => {
                             return Walk::Refused { number, place };
@@ -395,8 +427,8 @@ fn pairs(
                         }
                     }
                 } else {
-                    match leaf_row(sheet, source, v.kind as usize, val, here + 1, judge) {
-                        Leaf::Bad { number } => {
+                    match leaf_row(sheet, source, v.kind as usize, val, here + 1, judging) {
+                        Leaf::Refused { number } => {
                             return refused(number, here + 1);
                         }
                         Leaf::At { place, length } => {
@@ -412,9 +444,9 @@ fn pairs(
     Walk::Past { row: here, pos: to }
 }
 
-// A struct of type ty, which has n fields from the first on, as a run of one. It is a function of its own, so that arrays and maps do not copy what is lent
-// for this call.
-fn single(
+// A struct of type ty, which has n fields from the first on, as a run of one. It is a function of its own, which is inlined: called
+// outright, the arguments of that call would be copied for arrays and maps too.
+fn write_one_struct(
     s: &[u8],
     sheet: &[u32],
     source: &[u8],
@@ -425,13 +457,13 @@ fn single(
     row: usize,
     pos: usize,
     depth: usize,
-    judge: bool,
+    judging: bool,
 ) -> Walk
-    requires { ⌜ Ready (now s) (now sheet) (now out) row pos judge (valueIn (now s) (now source) (now sheet) (suc depth) ty row) × (shapeIn (now s) ty ≡ struct (fieldsFrom (tableOf (now s)) first n)) ⌝ }
+    requires { ⌜ Ready (now s) (now sheet) (now out) row pos judging (valueIn (now s) (now source) (now sheet) (suc depth) ty row) × (shapeIn (now s) ty ≡ struct (fieldsFrom (tableOf (now s)) first n)) ⌝ }
     requires { ⌜ (0 < n) × (n ≤ 64) × (first + n ≤ length (tableOf (now s) .fields)) ⌝ }
     ensures { λ r. ⌜ Walked (now (sheet .entry)) (valueEnd (now (s .entry)) (now (source .entry)) (now (sheet .entry)) (suc depth) ty row pos (now (out .entry))) r (now (out .exit)) ⌝ }
 {
-    structs(
+    write_structs(
         s,
         sheet,
         source,
@@ -443,12 +475,12 @@ fn single(
         row,
         pos,
         depth,
-        judge,
+        judging,
     )
 }
 
 // So many structs of one type from a row on, each of n fields from the first on. Which bits are required is found once for all.
-fn structs(
+fn write_structs(
     s: &[u8],
     sheet: &[u32],
     source: &[u8],
@@ -460,9 +492,9 @@ fn structs(
     start: usize,
     pos: usize,
     depth: usize,
-    judge: bool,
+    judging: bool,
 ) -> Walk
-    requires { ⌜ Ready (now s) (now sheet) (now out) start pos judge (itemsIn (now s) (now source) (now sheet) (suc depth) [] (replicate count (plainItem ty)) start) × (shapeIn (now s) ty ≡ struct (fieldsFrom (tableOf (now s)) first n)) ⌝ }
+    requires { ⌜ Ready (now s) (now sheet) (now out) start pos judging (itemsIn (now s) (now source) (now sheet) (suc depth) [] (replicate count (plainItem ty)) start) × (shapeIn (now s) ty ≡ struct (fieldsFrom (tableOf (now s)) first n)) ⌝ }
     requires { ⌜ (0 < n) × (n ≤ 64) × (first + n ≤ length (tableOf (now s) .fields)) ⌝ }
     ensures { λ r. ⌜ Walked (now (sheet .entry)) (itemsEnd (now (s .entry)) (now (source .entry)) (now (sheet .entry)) (suc depth) [] (replicate count (plainItem ty)) start pos (now (out .entry))) r (now (out .exit)) ⌝ }
 {
@@ -471,7 +503,7 @@ fn structs(
     let mut here = start;
     let mut to = pos;
     while 0 < left {
-        match structure(
+        match write_struct(
             s,
             sheet,
             source,
@@ -483,7 +515,7 @@ fn structs(
             here,
             to,
             depth,
-            judge,
+            judging,
         ) {
             Walk::Refused { number, place } => {
                 return Walk::Refused { number, place };
@@ -499,7 +531,7 @@ fn structs(
 }
 
 // An inner struct of type ty, which has n fields from the first on, of which those with bits in `required` have to be there. An unknown bit is refused.
-fn structure(
+fn write_struct(
     s: &[u8],
     sheet: &[u32],
     source: &[u8],
@@ -511,20 +543,20 @@ fn structure(
     row: usize,
     pos: usize,
     depth: usize,
-    judge: bool,
+    judging: bool,
 ) -> Walk
-    requires { ⌜ Ready (now s) (now sheet) (now out) row pos judge (valueIn (now s) (now source) (now sheet) (suc depth) ty row) × (shapeIn (now s) ty ≡ struct (fieldsFrom (tableOf (now s)) first n)) ⌝ }
+    requires { ⌜ Ready (now s) (now sheet) (now out) row pos judging (valueIn (now s) (now source) (now sheet) (suc depth) ty row) × (shapeIn (now s) ty ≡ struct (fieldsFrom (tableOf (now s)) first n)) ⌝ }
     requires { ⌜ (0 < n) × (n ≤ 64) × (first + n ≤ length (tableOf (now s) .fields)) × Requires required (fieldsFrom (tableOf (now s)) first n) ⌝ }
     ensures { λ r. ⌜ Walked (now (sheet .entry)) (valueEnd (now (s .entry)) (now (source .entry)) (now (sheet .entry)) (suc depth) ty row pos (now (out .entry))) r (now (out .exit)) ⌝ }
 {
     match row_due(sheet, row, ty) {
-        Due::Missing => refused(50, row),
+        Due::Missing => refused(refusal::SHEET, row),
         Due::Found {
             place,
             length: _,
             count,
         } => match presence(source, required, n, place) {
-            Head::Fault { number } => refused(number, row),
+            Head::Refused { number } => refused(number, row),
             Head::Bits {
                 word,
                 known,
@@ -532,13 +564,13 @@ fn structure(
                 unknown: _,
             } => {
                 if word != known {
-                    return refused(50, row);
+                    return refused(refusal::SHEET, row);
                 }
                 if count != ones {
-                    return refused(50, row);
+                    return refused(refusal::SHEET, row);
                 }
                 let next = put_bits(out, pos, (n + 7) / 8, known);
-                fields(
+                write_fields(
                     s,
                     sheet,
                     source,
@@ -549,7 +581,7 @@ fn structure(
                     row + 1,
                     next,
                     depth,
-                    judge,
+                    judging,
                 )
             }
         },
@@ -558,7 +590,7 @@ fn structure(
 
 // The fields of a struct whose bits are set in `known`, from the row `start` on.
 // Most fields are scalars, strings or bytes: these are written in the loop itself, without a call of their own.
-fn fields(
+fn write_fields(
     s: &[u8],
     sheet: &[u32],
     source: &[u8],
@@ -569,9 +601,9 @@ fn fields(
     start: usize,
     pos: usize,
     depth: usize,
-    judge: bool,
+    judging: bool,
 ) -> Walk
-    requires { ⌜ Ready (now s) (now sheet) (now out) start pos judge (itemsIn (now s) (now source) (now sheet) depth [] (present (fieldsFrom (tableOf (now s)) first n) known) start) ⌝ }
+    requires { ⌜ Ready (now s) (now sheet) (now out) start pos judging (itemsIn (now s) (now source) (now sheet) depth [] (present (fieldsFrom (tableOf (now s)) first n) known) start) ⌝ }
     requires { ⌜ (n ≤ 64) × (known < 2 ^ n) × (first + n ≤ length (tableOf (now s) .fields)) ⌝ }
     ensures { λ r. ⌜ Walked (now (sheet .entry)) (itemsEnd (now (s .entry)) (now (source .entry)) (now (sheet .entry)) depth [] (present (fieldsFrom (tableOf (now (s .entry))) first n) known) start pos (now (out .entry))) r (now (out .exit)) ⌝ }
 {
@@ -583,12 +615,23 @@ fn fields(
     while bits != 0 {
         if bits % 2 == 1 {
             if depth == 0 {
-                return refused(28, here);
+                return refused(refusal::TOO_DEEP, here);
             }
             let f = field_row(s, l, i);
             let t = row(s, l, f.ty as usize);
-            if 13 < t.kind {
-                match composite(s, sheet, source, out, f.ty, t, here, to, depth - 1, judge) {
+            if kind::BYTES < t.kind {
+                match write_composite(
+                    s,
+                    sheet,
+                    source,
+                    out,
+                    f.ty,
+                    t,
+                    here,
+                    to,
+                    depth - 1,
+                    judging,
+                ) {
                     Walk::Refused { number, place } => {
                         return Walk::Refused { number, place };
                     }
@@ -598,8 +641,8 @@ fn fields(
                     }
                 }
             } else {
-                match leaf_row(sheet, source, t.kind as usize, f.ty, here, judge) {
-                    Leaf::Bad { number } => {
+                match leaf_row(sheet, source, t.kind as usize, f.ty, here, judging) {
+                    Leaf::Refused { number } => {
                         return refused(number, here);
                     }
                     Leaf::At { place, length } => {
@@ -628,20 +671,20 @@ pub fn root(
     ty: u32,
     first: usize,
     n: usize,
-    judge: bool,
+    judging: bool,
 ) -> Walk
-    requires { ⌜ Ready (now s) (now sheet) (now out) 0 0 judge (rootIn (now s) (now source) (now sheet) ty (fieldsFrom (tableOf (now s)) first n)) × (shapeIn (now s) ty ≡ struct (fieldsFrom (tableOf (now s)) first n)) ⌝ }
+    requires { ⌜ Ready (now s) (now sheet) (now out) 0 0 judging (rootIn (now s) (now source) (now sheet) ty (fieldsFrom (tableOf (now s)) first n)) × (shapeIn (now s) ty ≡ struct (fieldsFrom (tableOf (now s)) first n)) ⌝ }
     requires { ⌜ (0 < n) × (n ≤ 64) × (first + n ≤ length (tableOf (now s) .fields)) ⌝ }
     ensures { λ r. ⌜ Walked (now (sheet .entry)) (rootEnd (now (s .entry)) (now (source .entry)) (now (sheet .entry)) ty (fieldsFrom (tableOf (now (s .entry))) first n) (now (out .entry))) r (now (out .exit)) ⌝ }
 {
     match row_due(sheet, 0, ty) {
-        Due::Missing => refused(50, 0),
+        Due::Missing => refused(refusal::SHEET, 0),
         Due::Found {
             place,
             length: _,
             count,
         } => match presence(source, required_of(s, layout_of(s), first, n), n, place) {
-            Head::Fault { number } => refused(number, 0),
+            Head::Refused { number } => refused(number, 0),
             Head::Bits {
                 word: _,
                 known,
@@ -649,14 +692,26 @@ pub fn root(
                 unknown: _,
             } => {
                 if count != ones {
-                    return refused(50, 0);
+                    return refused(refusal::SHEET, 0);
                 }
                 let next = put_bits(out, 0, (n + 7) / 8, known);
-                match fields(s, sheet, source, out, first, n, known, 1, next, 15, judge) {
+                match write_fields(
+                    s,
+                    sheet,
+                    source,
+                    out,
+                    first,
+                    n,
+                    known,
+                    1,
+                    next,
+                    limit::BELOW_ROOT,
+                    judging,
+                ) {
                     Walk::Refused { number, place } => Walk::Refused { number, place },
                     Walk::Past { row, pos } => {
                         if row < sheet.len() / 4 {
-                            return refused(50, row);
+                            return refused(refusal::SHEET, row);
                         }
                         Walk::Past { row, pos }
                     }

@@ -15,6 +15,7 @@ fn main() {
     let words: Vec<String> = std::env::args().skip(1).collect();
     let lines = Lines { words };
     lines.entries();
+    lines.chosen();
     lines.in_turn();
     lines.growth();
     if lines.words.is_empty() {
@@ -59,8 +60,10 @@ impl Drop for Table<'_> {
 
 const ENTRIES: &str =
     "| entry | input | library | fast | library / fast | reference | library / reference |";
+const CHOSEN: &str =
+    "| entry | chosen input | library | fast | library / fast | reference | library / reference |";
 const WRITES: &str = "| input | one write | two in turn | one / two |";
-const GROWTH: &str = "| what grows | from | library | fast | library, times the one before |";
+const GROWTH: &str = "| what grows | size | library | fast | library, times the one before |";
 const FRAMES: &str = "| frames | library | fast | library / fast |";
 
 /// The payloads on which one write is held against two in turn.
@@ -70,6 +73,17 @@ const IN_TURN: &[&str] = &[
     "64-pair maps, string keys",
     "receipt of 100 bytes",
 ];
+
+/// A frame of a kind, to the first of the calls that are open, or for INVOKE
+/// to the next after it.
+fn arrival(receipt: &Sample, kind: u32, open: Vec<u64>, payload: &[u8]) -> Arrival {
+    let first = open.first().map_or(9, |first| first + u64::from(kind == 1));
+    Arrival {
+        schema: receipt.schema.clone(),
+        bytes: samples::frame(kind, first, payload),
+        open,
+    }
+}
 
 impl Lines {
     fn wanted(&self, line: &str) -> bool {
@@ -140,16 +154,27 @@ impl Lines {
         }
     }
 
+    /// Inputs that are chosen against what the library looks by: flags of
+    /// methods, digests of keys, remainders of correlations.
+    fn chosen(&self) {
+        let table = &Table::new(CHOSEN);
+        let one_flag = samples::table_of_one_flag(256);
+        self.line(table, "table check", "256 methods of one flag", || {
+            lines::check_table(&one_flag)
+        });
+        let keys = samples::maps_of_one_digest();
+        self.line(table, "read", keys.name, || lines::read(&keys));
+        self.line(table, "write", keys.name, || lines::write(&keys));
+        let receipt = samples::receipt();
+        let same = arrival(&receipt, 8, (0..127).map(|call| call * 1021).collect(), &[]);
+        let input = "CANCEL, correlations 1,021 apart";
+        self.line(table, "receive, 127 calls open", input, || {
+            lines::receive(&same)
+        });
+    }
+
     fn receives(&self, table: &Table, receipt: &Sample) {
-        let arrival = |kind, open: Vec<u64>, payload: &[u8]| Arrival {
-            schema: receipt.schema.clone(),
-            bytes: samples::frame(
-                kind,
-                open.first().map_or(9, |first| first + u64::from(kind == 1)),
-                payload,
-            ),
-            open,
-        };
+        let arrival = |kind, open: Vec<u64>, payload: &[u8]| arrival(receipt, kind, open, payload);
         // Correlations that are even, so that the odd ones are free.
         let open = |calls: u64| (0..calls).map(|call| 2 * call).collect::<Vec<u64>>();
         for calls in [0, 16, 100, 127] {
@@ -201,8 +226,8 @@ impl Lines {
         }
     }
 
-    /// How the time grows with what is given: each step has twice or four times
-    /// as much of it as the one before.
+    /// How the time grows with what is given: each step has several times as
+    /// much of it as the one before.
     fn growth(&self) {
         let table = &Table::new(GROWTH);
         let sizes = [1_024, 2_048, 4_096, 8_192, 16_384];

@@ -69,6 +69,18 @@ pub fn table_of_scattered_methods(methods: usize) -> Vec<u8> {
     table_of_names((0..methods).map(|_| [next(), next(), next()]))
 }
 
+/// A good table whose methods' identifiers are chosen to share the flag by
+/// which the library looks for a method with the same identifiers.
+pub fn table_of_one_flag(methods: usize) -> Vec<u8> {
+    let part = |identifier: u64, factor: u64| identifier * factor % (1 << 32);
+    let flag = |method: u32| {
+        let sum = part(1, 4233791273) + part(2, 3546581957) + part(method.into(), 2745211177);
+        sum / 1048576 % 4096
+    };
+    let chosen = (0..u32::MAX).filter(|&method| flag(method) == 5);
+    table_of_names(chosen.take(methods).map(|method| [1, 2, method]))
+}
+
 /// A good table of one struct and methods with these identifiers.
 fn table_of_names(names: impl Iterator<Item = [u32; 3]>) -> Vec<u8> {
     let mut table = Table::default();
@@ -261,9 +273,33 @@ fn maps(
     longest(name, table, array, |room| counted(room, |_| map.clone()))
 }
 
+/// A number that stands in no order among those of the indexes before it.
+fn scattered(index: usize) -> u32 {
+    (index as u32).wrapping_mul(0x9E37_79B9)
+}
+
+/// Keys of 16 bytes chosen so that the digest by which the library looks for
+/// repeated keys is the same for all of them: nine times the first word and
+/// the second make one sum.
+fn of_one_digest(index: usize) -> [u8; 16] {
+    let (a, b) = ((index / 8) as u8, (index % 8) as u8);
+    let mut key = *b"receipt0-account";
+    key[6] = 0x30 + a;
+    key[7] = 0x30 + b;
+    key[14] = 0x7E - 9 * a;
+    key[15] = 0x7E - 9 * b;
+    key
+}
+
+/// 64-pair maps of such keys.
+pub fn maps_of_one_digest() -> Sample {
+    let name = "64-pair maps, 16-byte keys of one digest";
+    maps(name, 64, WORD, STRING, |index| text(&of_one_digest(index)))
+}
+
 /// Maps at their worst: the widest keys of a number, keys that differ in the
-/// middle alone, nearly the most keys to compare that a payload can have, and
-/// many small maps, beside each other and in each other.
+/// middle alone, nearly the most keys to compare that a payload can have, many
+/// small maps, beside each other and in each other, and keys that do not rise.
 fn worst_maps() -> Vec<Sample> {
     vec![
         maps("64-pair maps, uint64 keys", 64, WORD, UINT64, |index| {
@@ -282,6 +318,20 @@ fn worst_maps() -> Vec<Sample> {
         maps("2-pair maps, uint8 keys", 2, BYTE, UINT8, |index| {
             vec![index as u8]
         }),
+        maps(
+            "64-pair maps, uint32 keys in no order",
+            64,
+            WORD,
+            UINT32,
+            |index| scattered(index).to_le_bytes().to_vec(),
+        ),
+        maps(
+            "64-pair maps, uint8 keys that fall",
+            64,
+            BYTE,
+            UINT8,
+            |index| vec![200 - index as u8],
+        ),
         nested_maps(),
     ]
 }

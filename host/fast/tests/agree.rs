@@ -18,7 +18,19 @@ fn from_environment(name: &str, default: u64) -> u64 {
 #[test]
 fn agrees_with_the_reference() {
     let cases = from_environment("AGREE_CASES", 10_000);
-    let mut generator = Generator::new(from_environment("AGREE_SEED", 2026), CODES);
+    let seed = from_environment("AGREE_SEED", 2026);
+    agree(Generator::new(seed, CODES), cases);
+}
+
+/// Full tables, payloads up to 16,384 bytes and whole histories of calls.
+#[test]
+fn agrees_on_large_cases() {
+    let cases = from_environment("AGREE_CASES", 10_000) / 10;
+    let seed = from_environment("AGREE_SEED", 2026);
+    agree(Generator::large(seed, CODES), cases);
+}
+
+fn agree(mut generator: Generator, cases: u64) {
     for number in 1..=cases {
         let case = generator.case().expect("there are cases of these codes");
         let mut expected = String::new();
@@ -36,13 +48,10 @@ fn agrees_with_the_reference() {
 #[test]
 fn agrees_across_tables() {
     let cases = from_environment("AGREE_CASES", 10_000) / 10;
-    let mut generator = Generator::across(from_environment("AGREE_SEED", 2026));
-    for number in 1..=cases {
-        let case = generator.case().expect("there are cases");
-        let mut expected = String::new();
-        case.answer(&mut expected);
-        assert_eq!(answers(&case), expected, "case {number}");
-    }
+    agree(
+        Generator::across(from_environment("AGREE_SEED", 2026)),
+        cases,
+    );
 }
 
 /// The lines of this crate.

@@ -4,9 +4,9 @@ use mathlib.Core.Bool.{false≢true}
 use native.Mathlib.Omega.{arith}
 use lib.Seq.{length-take-le}
 use Rattle.schema.specs.File.{tableOf}
-use Rattle.parts.specs.Shape.{fieldsFrom}
-use Rattle.parts.proofs.Presence.{length-fields}
-use Rattle.parts.proofs.Tables.{shape-struct, struct-row}
+use Rattle.walks.specs.Shape.{fieldsFrom}
+use Rattle.walks.proofs.Presence.{length-fields}
+use Rattle.walks.proofs.Tables.{shape-struct, struct-row}
 use Rattle.forward.proofs.Entries.{
   as-refused,
   entry-other,

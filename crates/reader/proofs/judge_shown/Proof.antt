@@ -3,7 +3,7 @@ use mathlib.Core.Path.{sym, ap}
 use mathlib.Core.Bool.{false≢true}
 use native.Mathlib.Omega.{arith}
 use Rattle.schema.specs.File.{tableOf}
-use Rattle.parts.proofs.Tables.{struct-row, shape-struct}
+use Rattle.walks.proofs.Tables.{struct-row, shape-struct}
 use Rattle.reader.specs.Entry.{numberIn}
 use Rattle.reader.proofs.Steps.{was}
 use Rattle.reader.proofs.Entries.{entry-type, entry-long, entry-refused, entry-short, entry-fits}

@@ -3,8 +3,8 @@ use mathlib.Core.Path.{sym, ap}
 use mathlib.Core.Bool.{false≢true}
 use native.Mathlib.Omega.{arith}
 use Rattle.schema.specs.File.{tableOf}
-use Rattle.parts.specs.Shape.{fieldsFrom}
-use Rattle.parts.proofs.Tables.{shape-struct, struct-row}
+use Rattle.walks.specs.Shape.{fieldsFrom}
+use Rattle.walks.proofs.Tables.{shape-struct, struct-row}
 use Rattle.writer.specs.Entry.{lengthOf}
 use Rattle.writer.proofs.Entries.{payload-other, front-refused, payload-refused, payload-long, payload-length, payload-front}
 use borrow.Author.Needs.{needs}

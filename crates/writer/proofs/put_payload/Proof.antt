@@ -2,8 +2,8 @@
 use mathlib.Core.Path.{refl}
 use native.Mathlib.Omega.{arith}
 use Rattle.schema.specs.File.{tableOf}
-use Rattle.parts.specs.Shape.{fieldsFrom}
-use Rattle.parts.proofs.Tables.{shape-struct, struct-row}
+use Rattle.walks.specs.Shape.{fieldsFrom}
+use Rattle.walks.proofs.Tables.{shape-struct, struct-row}
 use Rattle.writer.proofs.Entries.{payload-struct, payload-room, payload-accepted, payload-put}
 use borrow.Author.Needs.{needs}
 use Rattle.writer.proofs.put_payload.Statement.{statement}

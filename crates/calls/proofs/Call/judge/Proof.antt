@@ -9,14 +9,14 @@ use Rattle.schema.specs.Check.{named}
 use Rattle.calls.specs.declared.Call.{Call}
 use Rattle.calls.specs.declared.Frame.{Frame}
 use Rattle.calls.specs.declared.FormRow.{FormRow}
-use Rattle.calls.specs.declared.Judged.the-variants.{Stop}
+use Rattle.calls.specs.declared.Judged.the-variants.{Refused}
 use Rattle.calls.specs.Record.{allowed}
 use Rattle.calls.specs.Judge.{callVerdict, placed}
 use Rattle.calls.proofs.Call.judge.Statement.{statement}
 use Rattle.calls.proofs.Call.judge.Tie as tie
 
 -- one of the three identifiers is not the call's
-differ : (m : Method) (f : Frame) (i : ℕ) (x : Call) → named (f .«package») (f .service) (f .method) m ≡ false → Stop 12 ≡ placed i (callVerdict m f x)
+differ : (m : Method) (f : Frame) (i : ℕ) (x : Call) → named (f .«package») (f .service) (f .method) m ≡ false → Refused 12 ≡ placed i (callVerdict m f x)
 differ m f i x e = rw e
 
 returns : tie.Need-returns

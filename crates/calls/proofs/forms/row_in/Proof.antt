@@ -2,16 +2,16 @@
 use mathlib.Core.Path.{sym}
 use lib.ListN.{List·getD-eq-default}
 use borrow.Author.Needs.{needs}
-use Rattle.calls.specs.Forms.{tableOne, rowOf, N}
+use Rattle.calls.specs.Forms.{tableOne, rowOfForm, N}
 use Rattle.calls.proofs.forms.row_in.Statement.{statement}
 use Rattle.calls.proofs.forms.row_in.Tie as tie
 
 returns : tie.Need-returns
-unfolding rowOf
+unfolding rowOfForm
 returns c = rw (c .before .before .pre)
 
 returns-2 : tie.Need-returns-2
-unfolding rowOf
+unfolding rowOfForm
 returns-2 c = sym (List·getD-eq-default tableOne (N, N, N, N) (c .if1 .left))
 
 pub row-in-spec : {M : Type 1} → statement M

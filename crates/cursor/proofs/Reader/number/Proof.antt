@@ -38,7 +38,7 @@ use denote.Triple.Table.{entered, cited}
 use denote.Triple.Walked.{says, Stays, stay-ref, stay-none, walkOf, goes-ref, goes-none, Walks, ends-at, walked, walk-meets}
 use denote.Exit.{yes}
 use denote.Triple.Clauses.{ensured, lasts}
-use Rattle.cursor.specs.Item.{numberAt}
+use Rattle.cursor.specs.Item.{fixedNumberAt}
 use Rattle.cursor.specs.Lent.{on, movedTo}
 use Rattle.cursor.specs.declared.Reader.{Reader}
 use Rattle.cursor.specs.declared.item.Width.{Width}
@@ -83,7 +83,7 @@ module _ {M : Type 1} (𝓤 : URA M) (H : Heap 𝓤) (A : Atoms 𝓤) (W : Given
   at = (vptr b o ∷ [], (v ∷ [], tt))
 
   abbrev found : NumberStep
-  found = on (numberAt n) h
+  found = on (fixedNumberAt n) h
 
   abbrev Post : Val → SProp 𝓤
   Post = walkOf 𝓤 H A method.ended stayed (method.clauses 𝓤 H A at-mem run) .post (((κ, (κ′, tt)), (q, (q′, tt)), bounds, x, at), tt)

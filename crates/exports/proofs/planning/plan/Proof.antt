@@ -5,8 +5,8 @@ use denote.Ref.{now}
 use borrow.Author.Needs.{needs}
 use Rattle.schema.specs.File.{tableOf}
 use Rattle.calls.specs.declared.Seat.{Seat}
-use Rattle.line.specs.Planning.{frontOf, seatPlan, goodPlan}
-use Rattle.line.proofs.Returns.{plan-faulty, plan-good, good-stop, good-whole}
+use Rattle.receiver.specs.Planning.{frontOf, seatPlan, goodPlan}
+use Rattle.receiver.proofs.Returns.{plan-faulty, plan-good, good-stop, good-whole}
 use Rattle.exports.specs.Records.{callsOf}
 use Rattle.exports.proofs.Plans.{goodCells, cells-plan}
 use Rattle.exports.proofs.planning.plan.Statement.{statement}

@@ -5,7 +5,7 @@ use Prim.Native.Nat.{ℕ}
 use denote.Ref.{now}
 use Rattle.schema.specs.File.{tableOf}
 use Rattle.calls.specs.declared.Seat.{Seat}
-use Rattle.line.specs.Planning.{callPlan, tablesFault}
+use Rattle.receiver.specs.Planning.{callPlan, tablesFault}
 use Rattle.exports.proofs.Plans.{cells-faulty, cells-stop, cells-call}
 use borrow.Author.Needs.{needs}
 use Rattle.exports.proofs.planning.plan_release.Statement.{statement}

@@ -5,7 +5,7 @@ use Prim.Native.Nat.{ℕ}
 use denote.Ref.{now}
 use borrow.Author.Needs.{needs}
 use Rattle.reader.specs.Entry.{numbers}
-use Rattle.line.specs.declared.Received.{Received}
+use Rattle.receiver.specs.declared.Received.{Received}
 use Rattle.exports.specs.declared.Kept.{Kept}
 use Rattle.exports.specs.Cells.{stored}
 use Rattle.exports.specs.Answers.{keptOf, callCells, receivedCells}

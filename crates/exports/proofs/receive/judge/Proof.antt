@@ -4,9 +4,9 @@ use denote.Ref.{now}
 use borrow.Author.Needs.{needs}
 use Rattle.schema.specs.Check.{checked}
 use Rattle.calls.specs.declared.Tally.{Tally}
-use Rattle.line.specs.declared.Settled.{Settled}
-use Rattle.line.specs.Answer.{Line, answerIn}
-use Rattle.line.specs.Receive.{settled}
+use Rattle.receiver.specs.declared.Settled.{Settled}
+use Rattle.receiver.specs.Answer.{Line, answerIn}
+use Rattle.receiver.specs.Receive.{settled}
 use Rattle.exports.specs.Records.{callsOf, areCalls, rowsOf, rowCells}
 use Rattle.exports.proofs.Tallies.{rows-long}
 use Rattle.exports.proofs.Judged.{judged-line}

@@ -4,8 +4,8 @@ use mathlib.Core.List.{List, [], _∷_}
 use Prim.Native.Nat.{ℕ}
 use denote.Ref.{now}
 use borrow.Author.Needs.{needs}
-use Rattle.line.specs.declared.Released.{Released}
-use Rattle.line.specs.Release.{releaseAnswer}
+use Rattle.receiver.specs.declared.Released.{Released}
+use Rattle.receiver.specs.Release.{releaseAnswer}
 use Rattle.exports.specs.declared.Kept.{Kept}
 use Rattle.exports.specs.Cells.{stored}
 use Rattle.exports.specs.Answers.{callCells, releasedCells}

@@ -4,7 +4,7 @@ use denote.Ref.{now}
 use borrow.Author.Needs.{needs}
 use Rattle.schema.specs.Check.{checked}
 use Rattle.calls.specs.declared.Tally.{Tally}
-use Rattle.line.specs.Release.{ReleaseLine, releaseIn, releaseSettled}
+use Rattle.receiver.specs.Release.{ReleaseLine, releaseIn, releaseSettled}
 use Rattle.exports.specs.Records.{callsOf, areCalls, rowsOf, rowCells}
 use Rattle.exports.proofs.Tallies.{rows-long}
 use Rattle.exports.proofs.Judged.{judged-release}

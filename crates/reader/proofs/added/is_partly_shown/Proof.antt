@@ -3,7 +3,7 @@ use borrow.Author.Needs.{needs}
 use mathlib.Core.Bool.{false≢true}
 use native.Mathlib.Omega.{arith}
 use Rattle.schema.specs.File.{tableOf}
-use Rattle.parts.proofs.Tables.{struct-row, struct-type, shape-struct}
+use Rattle.walks.proofs.Tables.{struct-row, struct-type, shape-struct}
 use Rattle.reader.proofs.Turns.{flat-struct}
 use Rattle.reader.proofs.added.is_partly_shown.Statement.{statement}
 use Rattle.reader.proofs.added.is_partly_shown.Tie as tie

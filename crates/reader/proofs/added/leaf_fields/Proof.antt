@@ -7,21 +7,21 @@ use Rattle.parse.specs.Reader.{cursorAt, Accepted}
 use Rattle.schema.specs.Table.{shape}
 use Rattle.schema.specs.File.{tableOf}
 use Rattle.value.specs.Read.{parse}
-use Rattle.parts.specs.Shape.{leafShape}
-use Rattle.parts.proofs.Tables.{few-fields}
-use Rattle.parts.proofs.Masks.{standing-shift, standing-less}
-use Rattle.parts.proofs.Walks.{deeper}
+use Rattle.walks.specs.Shape.{leafShape}
+use Rattle.walks.proofs.Tables.{few-fields}
+use Rattle.walks.proofs.Masks.{standing-shift, standing-less}
+use Rattle.walks.proofs.Walks.{deeper}
 use Rattle.reader.proofs.Steps.{own-accepted, leaf-failed}
 use Rattle.reader.proofs.Turns.{Going, going-first, going-skip, going-field, going-accepted, going-stop, going-on, going-rows, going-end}
 use Rattle.reader.proofs.added.leaf_fields.Statement.{statement}
 use Rattle.reader.proofs.added.leaf_fields.Tie as tie
 
 abbrev Inv-loop : tie.InvT-loop
-Inv-loop s l p sheet₀ ty first n known place start depth row judge i₀ bits₀ here₀ below₀ sheet i bits here below =
+Inv-loop s l p sheet₀ ty first n known place start depth row judging i₀ bits₀ here₀ below₀ sheet i bits here below =
     Going s p depth first n known start row sheet₀ i bits here below sheet
 
 abbrev μ-loop : tie.MeasureT-loop
-μ-loop s l p sheet₀ ty first n known place start depth row judge i₀ bits₀ here₀ below₀ sheet i bits here below = bits
+μ-loop s l p sheet₀ ty first n known place start depth row judging i₀ bits₀ here₀ below₀ sheet i bits here below = bits
 
 pub leaf-fields-spec : {M : Type 1} → statement M
 leaf-fields-spec =

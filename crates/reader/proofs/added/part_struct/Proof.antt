@@ -10,9 +10,9 @@ use Rattle.parse.specs.Reader.{cursorAt}
 use Rattle.schema.specs.Table.{struct, shape}
 use Rattle.schema.specs.File.{tableOf}
 use Rattle.value.specs.Read.{parse}
-use Rattle.parts.specs.Shape.{fieldsFrom}
-use Rattle.parts.proofs.Tables.{few-fields, struct-row, shape-struct}
-use Rattle.parts.proofs.Walks.{nothing-before}
+use Rattle.walks.specs.Shape.{fieldsFrom}
+use Rattle.walks.proofs.Tables.{few-fields, struct-row, shape-struct}
+use Rattle.walks.proofs.Walks.{nothing-before}
 use Rattle.reader.specs.Flat.{LeavesIn}
 use Rattle.reader.proofs.Steps.{was, as-refused, parse-refused}
 use Rattle.reader.proofs.Flats.{opened-in, opened-bits, opened-fault, flat-whole, part-valued}
@@ -44,7 +44,7 @@ part-struct-spec =
     omega (arith, few .1, pre .4))
     -- ones-in-requires
     (λ c κs. search needs)
-    -- leaf-fields-requires
+    -- leaf-read-fields-requires
     (λ c κs.
     let back = c .before .before .before .before .before .before .before .before .before in
     let args = back .before .before .before .args in
@@ -109,23 +109,23 @@ part-struct-spec =
     let pre = farther .pre in
     let few = struct-row _ (pre .0 .good) _ _ (pre .1 .is) (pre .3) in
     omega (arith, few .1))
-    -- slice-relend-prefix-leaf-fields
+    -- slice-relend-prefix-leaf-read-fields
     (λ c. search needs)
-    -- slice-aggregate-leaf-fields
+    -- slice-aggregate-leaf-read-fields
     (λ c. search needs)
-    -- add-leaf-fields
+    -- add-leaf-read-fields
     (λ c.
     let back = c .before .before .before .before .before .before .before .before .before in
     let farther = back .before .before .before .before .before .before .before .before .before in
     let pre = farther .before .before .pre in
     let few = struct-row _ (pre .0 .good) _ _ (pre .1 .is) (pre .3) in
     omega (arith, few .2, pre .4, few-fields _ (pre .0 .good)))
-    -- sub-leaf-fields
+    -- sub-leaf-read-fields
     (λ c.
     let back = c .before .before .before .before .before .before .before .before .before in
     let farther = back .before .before .before .before .before .before .before .before .before in
     omega (arith, farther .before .before .pre .4))
-    -- leaf-fields-requires-2
+    -- leaf-read-fields-requires-2
     (λ c κs.
     let back = c .before .before .before .before .before .before .before .before .before in
     let farther = back .before .before .before .before .before .before .before .before .before in

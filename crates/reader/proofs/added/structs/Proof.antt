@@ -10,8 +10,8 @@ use Rattle.parse.specs.Reader.{cursorAt, Accepted}
 use Rattle.schema.specs.Table.{Shape, array, shape}
 use Rattle.schema.specs.File.{tableOf}
 use Rattle.value.specs.Read.{plainItem, walk, parse}
-use Rattle.parts.proofs.Items.{elements-none}
-use Rattle.parts.proofs.Walks.{deeper, deep}
+use Rattle.walks.proofs.Items.{elements-none}
+use Rattle.walks.proofs.Walks.{deeper, deep}
 use Rattle.reader.specs.Walk.{told}
 use Rattle.reader.specs.Flat.{firstShape}
 use Rattle.reader.proofs.Steps.{renamed, was, stop-at, composite-past, composite-stop, rest-accepted, parse-deep}
@@ -21,14 +21,14 @@ use Rattle.reader.proofs.added.structs.Statement.{statement}
 use Rattle.reader.proofs.added.structs.Tie as tie
 
 abbrev Inv-loop : tie.InvT-loop
-Inv-loop s p sheet₀ ty elem m n start depth row judge f left₀ here₀ below₀ sum₀ sheet left here below sum =
+Inv-loop s p sheet₀ ty elem m n start depth row judging f left₀ here₀ below₀ sum₀ sheet left here below sum =
     ((R : ℕ → Shape)
     → R elem ≡ firstShape s elem m
     → aheadBy R s p depth (replicate left (plainItem elem)) here sum below sheet ≡ aheadBy R s p depth (replicate n (plainItem elem)) start 0 (row + 1) sheet₀)
     × (here ≤ length p) × (below ≤ here) × (sum + 16 * start ≤ 16 * here) × (length sheet ≡ length sheet₀)
 
 abbrev μ-loop : tie.MeasureT-loop
-μ-loop s p sheet₀ ty elem m n start depth row judge f left₀ here₀ below₀ sum₀ sheet left here below sum = left
+μ-loop s p sheet₀ ty elem m n start depth row judging f left₀ here₀ below₀ sum₀ sheet left here below sum = left
 
 pub structs-spec : {M : Type 1} → statement M
 structs-spec =
@@ -73,7 +73,7 @@ structs-spec =
     let same = f .ensures .same in
     let d0 = c .before .if1 .left in
     let items = replicate (loop .left) (plainItem (args .elem)) in
-    let judged : args .judge ≡ false → Accepted (parse S (suc (args .depth - 1)) (args .elem) here) =
+    let judged : args .judging ≡ false → Accepted (parse S (suc (args .depth - 1)) (args .elem) here) =
     λ j.
     deeper (λ k. Accepted (parse S k (args .elem) here)) (args .depth) d0
     (element-accepted all S P (args .elem) (loop .left) (c .before .before .loop-test .taken) here (loop .sum) (loop .below) (loop .sheet)

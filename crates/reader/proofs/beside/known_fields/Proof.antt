@@ -4,7 +4,7 @@ use mathlib.Core.Path.{_≡_, refl, _∙_}
 use Prim.Native.Nat.{_-_, _≤_}
 use native.Mathlib.Omega.{arith}
 use lib.ListN.{length, length-set}
-use Rattle.parts.proofs.Tables.{struct-row}
+use Rattle.walks.proofs.Tables.{struct-row}
 use Rattle.reader.proofs.Besides.{KnowsBelow, known-row, knows-more, knows-all}
 use Rattle.reader.proofs.beside.known_fields.Statement.{statement}
 use Rattle.reader.proofs.beside.known_fields.Tie as tie

@@ -17,7 +17,7 @@ read-widened-spec =
     let asked = c .before .before .before .before .before .before .before .pre in
     let t = c .before .before .type-row in
     beside-type (args .ours .now) (args .theirs .now) (asked .0) (asked .1) (args .ty) (args .payload .now) (args .sheet .now) (t .result) (t .ensures) (c .if1 .taken))
-    -- known-fields-requires
+    -- known-read-fields-requires
     (λ c κs. c .before .before .before .before .before .before .before .pre .0)
     -- read-shown-requires
     (λ c κs. c .before .before .before .before .before .before .before .before .before .before .pre .1)

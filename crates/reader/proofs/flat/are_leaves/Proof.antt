@@ -5,7 +5,7 @@ use Prim.Native.Nat.{_+_, _-_, _≤_}
 use native.Mathlib.Omega.{arith}
 use Rattle.schema.specs.File.{tableOf}
 use Rattle.schema.proofs.Checks.{good-shaped, good-laid}
-use Rattle.parts.proofs.Tables.{few-fields}
+use Rattle.walks.proofs.Tables.{few-fields}
 use Rattle.reader.specs.Flat.{LeavesIn}
 use Rattle.reader.proofs.Flats.{leaves-more}
 use Rattle.reader.proofs.flat.are_leaves.Statement.{statement}

@@ -5,8 +5,8 @@ use native.Mathlib.Omega.{arith}
 use Rattle.parse.specs.Reader.{cursorAt}
 use Rattle.schema.specs.Table.{shape}
 use Rattle.schema.specs.File.{tableOf}
-use Rattle.parts.specs.Shape.{leafShape}
-use Rattle.parts.proofs.Tables.{shape-leaf}
+use Rattle.walks.specs.Shape.{leafShape}
+use Rattle.walks.proofs.Tables.{shape-leaf}
 use Rattle.reader.proofs.Steps.{as-refused, own-accepted, leaf-failed, leaf-past}
 use Rattle.reader.proofs.Turns.{leaf-left}
 use Rattle.reader.proofs.flat.element.Statement.{statement}
@@ -22,7 +22,7 @@ element-spec =
     (λ c. search needs)
     -- returns
     (λ c. search needs)
-    -- flat-array-requires
+    -- flat-read-array-requires
     (λ c κs. search needs)
     -- same-length-2
     (λ c. search needs)

@@ -10,9 +10,9 @@ use Rattle.parse.specs.Reader.{cursorAt, Accepted}
 use Rattle.schema.specs.Table.{Shape, array, shape}
 use Rattle.schema.specs.File.{tableOf}
 use Rattle.value.specs.Read.{plainItem, walk, parse}
-use Rattle.parts.specs.Shape.{shapeIn}
-use Rattle.parts.proofs.Items.{elements-none}
-use Rattle.parts.proofs.Walks.{deeper, deep}
+use Rattle.walks.specs.Shape.{shapeIn}
+use Rattle.walks.proofs.Items.{elements-none}
+use Rattle.walks.proofs.Walks.{deeper, deep}
 use Rattle.reader.specs.Walk.{told}
 use Rattle.reader.proofs.Steps.{renamed, was, stop-at, composite-past, composite-stop, rest-accepted, parse-deep}
 use Rattle.reader.proofs.Composites.{element-past, element-stop, element-accepted}
@@ -21,14 +21,14 @@ use Rattle.reader.proofs.flat.elements.Statement.{statement}
 use Rattle.reader.proofs.flat.elements.Tie as tie
 
 abbrev Inv-loop : tie.InvT-loop
-Inv-loop s p sheet₀ ty elem n start depth row judge f left₀ here₀ below₀ sum₀ sheet left here below sum =
+Inv-loop s p sheet₀ ty elem n start depth row judging f left₀ here₀ below₀ sum₀ sheet left here below sum =
     ((R : ℕ → Shape)
     → R elem ≡ shapeIn s elem
     → aheadBy R s p depth (replicate left (plainItem elem)) here sum below sheet ≡ aheadBy R s p depth (replicate n (plainItem elem)) start 0 (row + 1) sheet₀)
     × (here ≤ length p) × (below ≤ here) × (sum + 16 * start ≤ 16 * here) × (length sheet ≡ length sheet₀)
 
 abbrev μ-loop : tie.MeasureT-loop
-μ-loop s p sheet₀ ty elem n start depth row judge f left₀ here₀ below₀ sum₀ sheet left here below sum = left
+μ-loop s p sheet₀ ty elem n start depth row judging f left₀ here₀ below₀ sum₀ sheet left here below sum = left
 
 pub elements-spec : {M : Type 1} → statement M
 elements-spec =
@@ -69,7 +69,7 @@ elements-spec =
     let d0 = c .before .if1 .left in
     let items = replicate (loop .left) (plainItem (args .elem)) in
     let same = f .ensures .same in
-    let judged : args .judge ≡ false → Accepted (parse S (suc (args .depth - 1)) (args .elem) here) =
+    let judged : args .judging ≡ false → Accepted (parse S (suc (args .depth - 1)) (args .elem) here) =
     λ j.
     deeper (λ k. Accepted (parse S k (args .elem) here)) (args .depth) d0
     (element-accepted S S P (args .elem) (loop .left) (c .before .before .loop-test .taken) here (loop .sum) (loop .below) (loop .sheet)

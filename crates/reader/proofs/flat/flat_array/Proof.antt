@@ -5,7 +5,7 @@ use Prim.Native.Nat.{_<_}
 use native.Mathlib.Omega.{arith}
 use Rattle.schema.specs.Table.{rowAt, shape}
 use Rattle.schema.specs.File.{tableOf}
-use Rattle.parts.proofs.Tables.{array-row, shape-array}
+use Rattle.walks.proofs.Tables.{array-row, shape-array}
 use Rattle.reader.proofs.Steps.{as-refused}
 use Rattle.reader.proofs.Composites.{count-in, array-refused, array-whole, array-valued}
 use Rattle.reader.proofs.flat.flat_array.Statement.{statement}

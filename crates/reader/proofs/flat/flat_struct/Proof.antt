@@ -7,23 +7,23 @@ use Rattle.parse.specs.Reader.{cursorAt, Accepted}
 use Rattle.schema.specs.Table.{struct, shape}
 use Rattle.schema.specs.File.{tableOf}
 use Rattle.value.specs.Read.{parse}
-use Rattle.parts.specs.Shape.{fieldsFrom, leafShape}
-use Rattle.parts.proofs.Tables.{few-fields, struct-row, shape-struct}
-use Rattle.parts.proofs.Walks.{deeper}
+use Rattle.walks.specs.Shape.{fieldsFrom, leafShape}
+use Rattle.walks.proofs.Tables.{few-fields, struct-row, shape-struct}
+use Rattle.walks.proofs.Walks.{deeper}
 use Rattle.reader.specs.Flat.{LeavesIn}
 use Rattle.reader.proofs.Steps.{as-refused, parse-refused, own-accepted, leaf-failed}
 use Rattle.reader.proofs.Flats.{opened-in, opened-bits, opened-fault, flat-whole, flat-valued}
-use Rattle.parts.proofs.Masks.{standing-shift, standing-less}
+use Rattle.walks.proofs.Masks.{standing-shift, standing-less}
 use Rattle.reader.proofs.Turns.{Going, going-first, going-skip, going-field, going-accepted, going-stop, going-on, going-rows, going-end}
 use Rattle.reader.proofs.flat.flat_struct.Statement.{statement}
 use Rattle.reader.proofs.flat.flat_struct.Tie as tie
 
 abbrev Inv-loop : tie.InvT-loop
-Inv-loop s f p sheet₀ at depth row judge known start i₀ bits₀ here₀ below₀ sheet i bits here below =
+Inv-loop s f p sheet₀ at depth row judging known start i₀ bits₀ here₀ below₀ sheet i bits here below =
     Going s p depth (f .row .a) (f .row .b) known start row sheet₀ i bits here below sheet
 
 abbrev μ-loop : tie.MeasureT-loop
-μ-loop s f p sheet₀ at depth row judge known start i₀ bits₀ here₀ below₀ sheet i bits here below = bits
+μ-loop s f p sheet₀ at depth row judging known start i₀ bits₀ here₀ below₀ sheet i bits here below = bits
 
 pub flat-struct-spec : {M : Type 1} → statement M
 flat-struct-spec =

@@ -6,7 +6,7 @@ use native.Mathlib.Omega.{arith}
 use borrow.Author.Tests.{ltb-true}
 use Rattle.schema.specs.Table.{rowAt}
 use Rattle.schema.specs.File.{tableOf}
-use Rattle.parts.proofs.Tables.{struct-row, struct-type, shape-struct}
+use Rattle.walks.proofs.Tables.{struct-row, struct-type, shape-struct}
 use Rattle.reader.proofs.Turns.{flat-array, array-shown, flat-struct, struct-shown}
 use Rattle.reader.proofs.flat.is_flat.Statement.{statement}
 use Rattle.reader.proofs.flat.is_flat.Tie as tie

@@ -9,10 +9,10 @@ use Rattle.parse.specs.Reader.{cursorAt, Accepted}
 use Rattle.schema.specs.Table.{Shape, array, shape}
 use Rattle.schema.specs.File.{tableOf}
 use Rattle.value.specs.Read.{plainItem, walk, parse}
-use Rattle.parts.specs.Shape.{leafShape}
-use Rattle.parts.proofs.Tables.{shape-leaf}
-use Rattle.parts.proofs.Items.{elements-none}
-use Rattle.parts.proofs.Walks.{deeper}
+use Rattle.walks.specs.Shape.{leafShape}
+use Rattle.walks.proofs.Tables.{shape-leaf}
+use Rattle.walks.proofs.Items.{elements-none}
+use Rattle.walks.proofs.Walks.{deeper}
 use Rattle.reader.specs.Walk.{told}
 use Rattle.reader.proofs.Steps.{stop-at, composite-past, composite-stop, rest-accepted, own-accepted, parse-deep, leaf-failed, leaf-in, leaf-past}
 use Rattle.reader.proofs.Composites.{element-past, element-stop, element-accepted}
@@ -21,13 +21,13 @@ use Rattle.reader.proofs.flat.leaves.Statement.{statement}
 use Rattle.reader.proofs.flat.leaves.Tie as tie
 
 abbrev Inv-loop : tie.InvT-loop
-Inv-loop s p sheet₀ ty elem n start depth row judge kind left₀ here₀ below₀ sheet left here below =
+Inv-loop s p sheet₀ ty elem n start depth row judging kind left₀ here₀ below₀ sheet left here below =
     ((R : ℕ → Shape)
     → aheadBy R s p depth (replicate left (plainItem elem)) here 0 below sheet ≡ aheadBy R s p depth (replicate n (plainItem elem)) start 0 (row + 1) sheet₀)
     × (here ≤ length p) × (below ≤ here) × (start ≤ here) × (length sheet ≡ length sheet₀)
 
 abbrev μ-loop : tie.MeasureT-loop
-μ-loop s p sheet₀ ty elem n start depth row judge kind left₀ here₀ below₀ sheet left here below = left
+μ-loop s p sheet₀ ty elem n start depth row judging kind left₀ here₀ below₀ sheet left here below = left
 
 pub leaves-spec : {M : Type 1} → statement M
 leaves-spec =

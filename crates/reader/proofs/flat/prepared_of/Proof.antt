@@ -2,7 +2,7 @@
 use borrow.Author.Needs.{needs}
 use mathlib.Core.Path.{refl}
 use Rattle.schema.proofs.Checks.{good-shaped, good-laid}
-use Rattle.parts.proofs.Tables.{struct-row}
+use Rattle.walks.proofs.Tables.{struct-row}
 use Rattle.reader.proofs.flat.prepared_of.Statement.{statement}
 use Rattle.reader.proofs.flat.prepared_of.Tie as tie
 

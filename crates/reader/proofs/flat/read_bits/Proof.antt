@@ -6,8 +6,8 @@ use native.Mathlib.Omega.{arith}
 use native.Mathlib.Nat.{mod-lt}
 use borrow.Author.Tests.{eq-eqb, ne-eqb}
 use lib.Pow.{pow-pos}
-use Rattle.parts.specs.Shape.{fieldsFrom}
-use Rattle.parts.proofs.Presence.{length-fields}
+use Rattle.walks.specs.Shape.{fieldsFrom}
+use Rattle.walks.proofs.Presence.{length-fields}
 use Rattle.reader.proofs.Heads.{head-cut, head-incomplete, head-bits}
 use Rattle.reader.proofs.Flats.{bits-fault, bits-unknown, bits-known}
 use Rattle.reader.proofs.flat.read_bits.Statement.{statement}

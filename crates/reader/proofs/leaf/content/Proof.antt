@@ -1,6 +1,6 @@
 -- `reader::leaf::content` meets its contract.
 use borrow.Author.Needs.{needs}
-use Rattle.parts.proofs.Tables.{leaf-scalar, leaf-text}
+use Rattle.walks.proofs.Tables.{leaf-scalar, leaf-text}
 use Rattle.reader.proofs.leaf.content.Statement.{statement}
 use Rattle.reader.proofs.leaf.content.Tie as tie
 

@@ -30,7 +30,7 @@ leaf-map-spec =
     let n = counted .0 .0 in
     let start = counted .0 .1 .0 in
     λ R shown. as-refused _ _ _ (map-many S (args .depth) (args .ty) p (args .at) (args .key) (args .val) (pre .0 .1) _ read n start (counted .1) (c .if1 .taken)))
-    -- leaf-pairs-requires
+    -- leaf-read-pairs-requires
     (λ c κs.
     let back = c .before .before .before .before .before .before .before .before .before in
     let args = back .before .before .args in

@@ -8,20 +8,20 @@ use Prim.Native.Nat.{ℕ, _+_, _-_}
 use native.Mathlib.Omega.{arith}
 use lib.ListN.{length}
 use Rattle.value.specs.Read.{among}
-use Rattle.parts.specs.Keys.{keysIn, Kept}
-use Rattle.parts.proofs.Keys.{keys-none}
+use Rattle.walks.specs.Keys.{keysIn, Kept}
+use Rattle.walks.proofs.Keys.{keys-none}
 use Rattle.reader.specs.Leaf.{part}
 use Rattle.reader.proofs.Pairs.{Along, along-first, along-end, along-deep, key-asked, key-failed, key-in, again-stop, value-asked, value-failed, value-in, along-turn}
 use Rattle.reader.proofs.maps.leaf_pairs.Statement.{statement}
 use Rattle.reader.proofs.maps.leaf_pairs.Tie as tie
 
 abbrev Inv-loop : tie.InvT-loop
-Inv-loop s p sheet₀ keys₀ ty key val n start depth row judge k v i₀ here₀ below₀ sheet keys i here below =
+Inv-loop s p sheet₀ keys₀ ty key val n start depth row judging k v i₀ here₀ below₀ sheet keys i here below =
     (had : List (List ℕ)) × Along s p depth key val n start row sheet₀ had i here below sheet
-    × (length keys ≡ length keys₀) × (judge ≡ true → (had ≡ keysIn p keys i) × Kept p keys true i)
+    × (length keys ≡ length keys₀) × (judging ≡ true → (had ≡ keysIn p keys i) × Kept p keys true i)
 
 abbrev μ-loop : tie.MeasureT-loop
-μ-loop s p sheet₀ keys₀ ty key val n start depth row judge k v i₀ here₀ below₀ sheet keys i here below = n - i
+μ-loop s p sheet₀ keys₀ ty key val n start depth row judging k v i₀ here₀ below₀ sheet keys i here below = n - i
 
 pub leaf-pairs-spec : {M : Type 1} → statement M
 leaf-pairs-spec =

@@ -10,9 +10,9 @@ use Rattle.parse.specs.Reader.{cursorAt, Accepted}
 use Rattle.schema.specs.Table.{Shape, array, shape}
 use Rattle.schema.specs.File.{tableOf}
 use Rattle.value.specs.Read.{plainItem, walk, parse}
-use Rattle.parts.specs.Shape.{shapeIn}
-use Rattle.parts.proofs.Items.{elements-none}
-use Rattle.parts.proofs.Walks.{deeper, deep}
+use Rattle.walks.specs.Shape.{shapeIn}
+use Rattle.walks.proofs.Items.{elements-none}
+use Rattle.walks.proofs.Walks.{deeper, deep}
 use Rattle.reader.specs.Walk.{told}
 use Rattle.reader.proofs.Steps.{renamed, was, stop-at, composite-past, composite-stop, rest-accepted, parse-deep}
 use Rattle.reader.proofs.Composites.{element-past, element-stop, element-accepted}
@@ -21,14 +21,14 @@ use Rattle.reader.proofs.maps.maps.Statement.{statement}
 use Rattle.reader.proofs.maps.maps.Tie as tie
 
 abbrev Inv-loop : tie.InvT-loop
-Inv-loop s p sheet₀ ty elem key val n start depth row judge keys₀ left₀ here₀ below₀ sum₀ sheet keys left here below sum =
+Inv-loop s p sheet₀ ty elem key val n start depth row judging keys₀ left₀ here₀ below₀ sum₀ sheet keys left here below sum =
     ((R : ℕ → Shape)
     → R elem ≡ shapeIn s elem
     → aheadBy R s p depth (replicate left (plainItem elem)) here sum below sheet ≡ aheadBy R s p depth (replicate n (plainItem elem)) start 0 (row + 1) sheet₀)
     × (here ≤ length p) × (below ≤ here) × (sum + 16 * start ≤ 16 * here) × (length sheet ≡ length sheet₀) × (length keys ≡ 130)
 
 abbrev μ-loop : tie.MeasureT-loop
-μ-loop s p sheet₀ ty elem key val n start depth row judge keys₀ left₀ here₀ below₀ sum₀ sheet keys left here below sum = left
+μ-loop s p sheet₀ ty elem key val n start depth row judging keys₀ left₀ here₀ below₀ sum₀ sheet keys left here below sum = left
 
 pub maps-spec : {M : Type 1} → statement M
 maps-spec =
@@ -71,7 +71,7 @@ maps-spec =
     let pre = c .before .before .before .before .before .before .before .before .pre in
     let ready = pre .0 .0 in
     let items = replicate (loop .left) (plainItem (args .elem)) in
-    let judged : args .judge ≡ false → Accepted (parse S (suc (args .depth - 1)) (args .elem) here) =
+    let judged : args .judging ≡ false → Accepted (parse S (suc (args .depth - 1)) (args .elem) here) =
     λ j.
     deeper (λ k. Accepted (parse S k (args .elem) here)) (args .depth) (c .before .before .if1 .left)
     (element-accepted S S P (args .elem) (loop .left) (c .before .before .before .loop-test .taken) here (loop .sum) (loop .below) (loop .sheet)

@@ -4,7 +4,7 @@ use mathlib.Core.Path.{_≡_}
 use native.Mathlib.Omega.{arith}
 use Rattle.schema.specs.Table.{shape}
 use Rattle.schema.specs.File.{tableOf}
-use Rattle.parts.proofs.Tables.{shape-kind}
+use Rattle.walks.proofs.Tables.{shape-kind}
 use Rattle.writer.proofs.Steps.{shown-refused, leaf-accepted}
 use Rattle.writer.proofs.Composites.{leaf-failed, leaf-in, leaf-past}
 use Rattle.writer.proofs.walk.leaf.Statement.{statement}

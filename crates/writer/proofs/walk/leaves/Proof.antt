@@ -9,7 +9,7 @@ use Rattle.schema.specs.Table.{shape}
 use Rattle.schema.specs.File.{tableOf}
 use Rattle.value.specs.Read.{plainItem, walk}
 use Rattle.value.specs.Write.{show}
-use Rattle.parts.proofs.Items.{elements-none}
+use Rattle.walks.proofs.Items.{elements-none}
 use Rattle.writer.specs.Emit.{emitAll}
 use Rattle.writer.specs.Leaf.{rowsAt}
 use Rattle.writer.proofs.Steps.{was, as-stopped, as-refused, shown-along, onward, walk-done, shown-stopped, show-deep}
@@ -18,13 +18,13 @@ use Rattle.writer.proofs.walk.leaves.Statement.{statement}
 use Rattle.writer.proofs.walk.leaves.Tie as tie
 
 abbrev Inv-loop : tie.InvT-loop
-Inv-loop s sheet source out₀ kind elem n start pos depth judge left₀ here₀ to₀ out left here to =
+Inv-loop s sheet source out₀ kind elem n start pos depth judging left₀ here₀ to₀ out left here to =
     (emitAll (shape (tableOf s)) (replicate left (plainItem elem)) (walk (show (shape (tableOf s)) source depth) [] (replicate left (plainItem elem)) (rowsAt sheet here)) to out
     ≡ emitAll (shape (tableOf s)) (replicate n (plainItem elem)) (walk (show (shape (tableOf s)) source depth) [] (replicate n (plainItem elem)) (rowsAt sheet start)) pos out₀)
     × (here ≤ length sheet / 4) × (to ≤ 16385) × (length out ≡ length out₀)
 
 abbrev μ-loop : tie.MeasureT-loop
-μ-loop s sheet source out₀ kind elem n start pos depth judge left₀ here₀ to₀ out left here to = left
+μ-loop s sheet source out₀ kind elem n start pos depth judging left₀ here₀ to₀ out left here to = left
 
 pub leaves-spec : {M : Type 1} → statement M
 leaves-spec =

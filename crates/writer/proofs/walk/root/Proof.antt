@@ -3,8 +3,8 @@ use borrow.Author.Needs.{needs}
 use native.Mathlib.Omega.{arith}
 use Rattle.schema.specs.File.{tableOf}
 use Rattle.schema.proofs.Checks.{good-shaped, good-laid}
-use Rattle.parts.specs.Shape.{fieldsFrom}
-use Rattle.parts.proofs.Presence.{length-fields}
+use Rattle.walks.specs.Shape.{fieldsFrom}
+use Rattle.walks.proofs.Presence.{length-fields}
 use Rattle.writer.proofs.Steps.{was, as-stopped, as-refused, shown-refused, onward}
 use Rattle.writer.proofs.Heads.{head-fits}
 use Rattle.writer.proofs.Composites.{due-in}
@@ -59,7 +59,7 @@ root-spec =
     (λ c. search needs)
     -- put-bits-requires
     (λ c κs. search needs)
-    -- fields-requires
+    -- write-fields-requires
     (λ c κs.
     let args = c .before .before .before .before .before .before .before .before .before .before .before .before .before .before .before .before .before .before .before .before .args in
     let asked = c .before .before .before .before .before .before .before .before .before .before .before .before .before .before .before .before .before .before .before .before .pre in
@@ -94,7 +94,7 @@ root-spec =
     let presence = c .before .before .before .before .before .before .before .before .before .before .before .before .before .before .before .before .before .presence in
     let bits = c .before .before .before .before .before .before .before .before .before .before .before .before .before .before .before .known in
     let if1 = c .before .before .before .before .before .before .before .before .before .before .before .before .before .if1 in
-    let fields = c .before .before .before .before .before .before .before .fields in
+    let fields = c .before .before .before .before .before .before .before .write-fields in
     let required = c .before .before .before .before .before .before .before .before .before .before .before .before .before .before .before .before .before .before .required-of in
     let T = tableOf (args .s .now) in
     let long = length-fields T (args .first) (args .n) (asked .1 .2) in
@@ -126,7 +126,7 @@ root-spec =
     let presence = c .before .before .before .before .before .before .before .before .before .before .before .before .before .before .before .presence in
     let bits = c .before .before .before .before .before .before .before .before .before .before .before .before .before .known in
     let if1 = c .before .before .before .before .before .before .before .before .before .before .before .if1 in
-    let fields = c .before .before .before .before .before .fields in
+    let fields = c .before .before .before .before .before .write-fields in
     let required = c .before .before .before .before .before .before .before .before .before .before .before .before .before .before .before .before .required-of in
     let T = tableOf (args .s .now) in
     let long = length-fields T (args .first) (args .n) (asked .1 .2) in
@@ -145,7 +145,7 @@ root-spec =
     let bits = c .before .before .before .before .before .before .before .before .before .before .before .before .before .before .known in
     let if1 = c .before .before .before .before .before .before .before .before .before .before .before .before .if1 in
     let put-bits = c .before .before .before .before .before .before .before .before .before .before .put-bits in
-    let fields = c .before .before .before .before .before .before .fields in
+    let fields = c .before .before .before .before .before .before .write-fields in
     let w = was (fields .ensures) (c .before .before .row .given .1) in
     let required = c .before .before .before .before .before .before .before .before .before .before .before .before .before .before .before .before .before .required-of in
     let T = tableOf (args .s .now) in

@@ -1,0 +1,2 @@
+-- The numbers of the papers by their names in code.
+pub mod Table

@@ -1,0 +1,4 @@
+// The sides of a line.
+pub const CLIENT: u8 = b'C';
+
+pub const SERVER: u8 = b'S';

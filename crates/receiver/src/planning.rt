@@ -1,0 +1,182 @@
+// A frame and a release judged up to the payload: which tally row they ask for, and what is left to do.
+use crate::Front;
+use crate::Next;
+use crate::Plan;
+use calls::CallTable;
+use calls::Frame;
+use calls::Seat;
+use constants::frame_kind;
+use constants::refusal;
+use frame::FrameRead;
+use frame::Header;
+use frame::read_frame;
+use schema::Checked;
+use schema::access::method_count;
+use schema::check::check;
+ghost use mathlib.Core.Path.{_≡_};
+ghost use Prim.Native.Nat.{_≤_};
+ghost use lib.ListN.{length};
+ghost use Rattle.schema.specs.File.{tableOf};
+ghost use Rattle.schema.specs.Check.{IsGood};
+ghost use Rattle.calls.specs.Slots.{goodTable};
+ghost use Rattle.receiver.specs.Planning.{frameFrom, Fitted, stopPlan, tablesFault, frontOf, seatPlan, callPlan, goodPlan, planOf, releasePlan};
+
+// What a step sees of a frame with this header.
+fn frame_from(side: u8, h: Header) -> Frame
+    requires { ⌜ h .kind ≤ 8 ⌝ }
+    ensures { λ r. ⌜ r ≡ frameFrom side h ⌝ }
+{
+    Frame {
+        side,
+        kind: h.kind as u8,
+        package: h.package,
+        service: h.service,
+        method: h.method,
+        correlation: h.correlation,
+    }
+}
+
+// A refusal, or 1: it asks for no row.
+pub fn stop(number: u32, place: usize) -> Plan
+    ensures { λ r. ⌜ r ≡ stopPlan number place ⌝ }
+{
+    Plan {
+        row: 0,
+        next: Next::Refused { number, place },
+    }
+}
+
+// ---- what knows no form of the call table
+
+// 15 for a call table that is not good, 19 for another number of tally rows than of methods, or 0.
+pub fn tables_fault(good: bool, schema: &[u8], rows: usize) -> u32
+    requires { ⌜ IsGood (now schema) ⌝ }
+    ensures { λ r. ⌜ r ≡ tablesFault good rows (tableOf (now (schema .entry))) ⌝ }
+{
+    if !good {
+        return refusal::CALL_TABLE;
+    }
+    if rows == method_count(schema) {
+        refusal::ACCEPTED
+    } else {
+        refusal::TALLY_ROWS
+    }
+}
+
+// The frame at the front of the bytes, after the call table and the tally rows.
+pub fn front(good: bool, schema: &[u8], side: u8, bytes: &[u8], rows: usize) -> Front
+    requires { ⌜ IsGood (now schema) ⌝ }
+    ensures { λ r. ⌜ r ≡ frontOf good rows (tableOf (now (schema .entry))) side (now (bytes .entry)) ⌝ }
+{
+    let fault = tables_fault(good, schema, rows);
+    if fault != refusal::ACCEPTED {
+        return Front::Stop(fault);
+    }
+    match read_frame(bytes) {
+        FrameRead::More => Front::Stop(refusal::MORE),
+        FrameRead::Refused(number) => Front::Stop(number),
+        FrameRead::Frame {
+            header,
+            place,
+            length,
+        } => Front::Whole {
+            frame: frame_from(side, header),
+            place,
+            end: place + length,
+        },
+    }
+}
+
+// A whole frame with its seat, whose payload stands between these places.
+pub fn plan_frame(seat: Seat, schema: &[u8], f: Frame, place: usize, end: usize) -> Plan
+    requires { ⌜ IsGood (now schema) ⌝ }
+    ensures { λ r. ⌜ r ≡ seatPlan (tableOf (now (schema .entry))) f seat place end ⌝ }
+{
+    let judged = seat.judge(schema, f);
+    let own = seat.own;
+    let rise = own.rise(f.kind, judged);
+    Plan {
+        row: rise.row,
+        next: Next::Settle {
+            judged,
+            rise,
+            place,
+            end,
+        },
+    }
+}
+
+// The release of the call with this seat.
+pub fn plan_call(seat: Seat) -> Plan
+    ensures { λ r. ⌜ r ≡ callPlan seat ⌝ }
+{
+    let judged = seat.judge_release();
+    let own = seat.own;
+    let rise = own.release_rise(judged);
+    Plan {
+        row: rise.row,
+        next: Next::Settle {
+            judged,
+            rise,
+            place: 0,
+            end: 0,
+        },
+    }
+}
+
+// ---- over a call table by value
+
+// The same under a good schema table.
+fn plan_good(table: CallTable, schema: &[u8], side: u8, bytes: &[u8], rows: usize) -> Plan
+    requires { ⌜ IsGood (now schema) ⌝ }
+    ensures { λ r. ⌜ r ≡ goodPlan (goodTable (tableOf (now (schema .entry))) (table .slots)) rows (tableOf (now (schema .entry))) side (now (bytes .entry)) (table .slots) ⌝ }
+{
+    match front(table.is_good(schema), schema, side, bytes, rows) {
+        Front::Stop(number) => stop(number, 0),
+        Front::Whole { frame, place, end } => {
+            plan_frame(
+                table.seat(frame.correlation, frame.kind == frame_kind::INVOKE),
+                schema,
+                frame,
+                place,
+                end,
+            )
+        }
+    }
+}
+
+// One frame from a side (the byte C or S) with so many tally rows lent, judged in the order: schema table, call table, tally rows, frame, side and call.
+pub fn plan(table: CallTable, schema: &[u8], side: u8, bytes: &[u8], rows: usize) -> Plan
+    ensures { λ r. ⌜ (r ≡ planOf (now (schema .entry)) side (now (bytes .entry)) rows (table .slots)) × Fitted (now (schema .entry)) (now (bytes .entry)) (r .next) ⌝ }
+{
+    match check(schema) {
+        Checked::Refused { number, place } => stop(number, place),
+        Checked::Good => plan_good(table, schema, side, bytes, rows),
+    }
+}
+
+// The same with as many tally rows as methods.
+pub fn plan_fresh(table: CallTable, schema: &[u8], side: u8, bytes: &[u8]) -> Plan
+    ensures { λ r. ⌜ (r ≡ planOf (now (schema .entry)) side (now (bytes .entry)) (length (tableOf (now (schema .entry)) .methods)) (table .slots)) × Fitted (now (schema .entry)) (now (bytes .entry)) (r .next) ⌝ }
+{
+    match check(schema) {
+        Checked::Refused { number, place } => stop(number, place),
+        Checked::Good => plan_good(table, schema, side, bytes, method_count(schema)),
+    }
+}
+
+// The release of a call with so many tally rows lent, judged in the order: schema table, call table, tally rows, call.
+pub fn plan_release(table: CallTable, schema: &[u8], correlation: u64, rows: usize) -> Plan
+    ensures { λ r. ⌜ r ≡ releasePlan (now (schema .entry)) (table .slots) correlation rows ⌝ }
+{
+    match check(schema) {
+        Checked::Refused { number, place } => stop(number, place),
+        Checked::Good => {
+            let fault = tables_fault(table.is_good(schema), schema, rows);
+            if fault != refusal::ACCEPTED {
+                return stop(fault, 0);
+            }
+            plan_call(table.seat(correlation, false))
+        }
+    }
+}
