@@ -24,7 +24,7 @@ use Rattle.calls.specs.declared.Judged.the-variants.{Refused, Opens, Goe
 use Rattle.calls.specs.Forms.{rowOfForm}
 use Rattle.calls.specs.Numbers.{endsCall, EndsCall, payload, many-pairs}
 use Rattle.calls.specs.Record.{emptyCall, openedCall, isCall, isFree, complete, allowed, notAllowed, atLimit, marked, withMark, afterFrame}
-use Rattle.calls.specs.Slots.{slot, firstSlot, countOpen, formRow, Own, none, one, recordAt, ownOf, full}
+use Rattle.calls.specs.Slots.{slot, firstSlot, countOpen, formRow, OwnCall, none, one, recordAt, ownOf, full}
 use Rattle.calls.specs.Judge.{rightSide, payloadOf, Verdict, stop, opens, goes, openVerdict, invokeVerdict, otherVerdict, verdictOf, releaseVerdict, placed, judgeOf, judgeRelease}
 use Rattle.calls.specs.Step.{numberOf, slotsAfter, stepOf, dueOf, receive, release}
 use Rattle.calls.specs.Good.{GoodTable}
@@ -66,7 +66,7 @@ due-by (Opens j c d) = refl
 due-by (Goes i c d) = refl
 
 -- whether a slot is free matters for INVOKE alone
-pub room-aside : (T : Table) (f : Frame) (own : Own) (a b : Bool) → (f .kind ≡ 1 → a ≡ b) → verdictOf T f own a ≡ verdictOf T f own b
+pub room-aside : (T : Table) (f : Frame) (own : OwnCall) (a b : Bool) → (f .kind ≡ 1 → a ≡ b) → verdictOf T f own a ≡ verdictOf T f own b
 unfolding verdictOf
 room-aside T f own a b h = go (eqb (f .kind) 1) refl
   where
@@ -101,7 +101,7 @@ release-answered id n l = number-by (judgeRelease id l) n ∙ ap (λ (v : Verdic
 module _ (T : Table) (f : Frame) (l₁ l₂ : List Call) (same : ownOf (f .correlation) l₁ ≡ ownOf (f .correlation) l₂) (room : f .kind ≡ 1 → full l₁ ≡ full l₂) where
   pub same-verdict : verdictOf T f (ownOf (f .correlation) l₁) (full l₁) ≡ verdictOf T f (ownOf (f .correlation) l₂) (full l₂)
   same-verdict =
-      ap (λ (o : Own). verdictOf T f o (full l₁)) same ∙ room-aside T f (ownOf (f .correlation) l₂) (full l₁) (full l₂) room
+      ap (λ (o : OwnCall). verdictOf T f o (full l₁)) same ∙ room-aside T f (ownOf (f .correlation) l₂) (full l₁) (full l₂) room
 
   pub same-judgement : verdict (judgeOf T f l₁) ≡ verdict (judgeOf T f l₂)
   same-judgement = judged-by T f l₁ ∙ same-verdict ∙ sym (judged-by T f l₂)
@@ -399,7 +399,7 @@ spared w (payload low high) = omega (arith, w .1, low)
 spared w many-pairs = omega (arith, w .1)
 
 -- a release that is accepted
-gone : (n : ℕ) (own : Own) → verdictNumber (releaseVerdict own) n ≡ 0 → verdictOwn (releaseVerdict own) n own ≡ none
+gone : (n : ℕ) (own : OwnCall) → verdictNumber (releaseVerdict own) n ≡ 0 → verdictOwn (releaseVerdict own) n own ≡ none
 gone n none e = absurd (omega arith)
 gone n (one c) e = go (c .cancelled) e
   where
@@ -417,13 +417,13 @@ Spares (opens c d) = Unit {0}
 Spares (goes c d) = Unit {0}
 
 module _ (T : Table) (f : Frame) (l : List Call) where
-  spares-opening : (c : Call) (d : Payload) (own : Own) (b : Bool) → Spares (openVerdict c d own b)
+  spares-opening : (c : Call) (d : Payload) (own : OwnCall) (b : Bool) → Spares (openVerdict c d own b)
   unfolding Spares
   spares-opening c d (one x) b = (lit≤ tt, lit≤ tt)
   spares-opening c d none true = (lit≤ tt, lit≤ tt)
   spares-opening c d none false = tt
 
-  spares-invoke : (n : Found) (own : Own) (b : Bool) → Spares (invokeVerdict T (f .correlation) n own b)
+  spares-invoke : (n : Found) (own : OwnCall) (b : Bool) → Spares (invokeVerdict T (f .correlation) n own b)
   unfolding Spares
   spares-invoke Missing own b = (lit≤ tt, lit≤ tt)
   spares-invoke (At m) own b = spares-opening (openedCall m (f .correlation)) (payloadOf (methodRow T m) 1) own b
@@ -433,7 +433,7 @@ module _ (T : Table) (f : Frame) (l : List Call) where
   spares-late true = (lit≤ tt, lit≤ tt)
   spares-late false = (lit≤ tt, lit≤ tt)
 
-  spares-other : (own : Own) → Spares (otherVerdict T f own)
+  spares-other : (own : OwnCall) → Spares (otherVerdict T f own)
   unfolding Spares
   spares-other none = (lit≤ tt, lit≤ tt)
   spares-other (one c) =
@@ -447,7 +447,7 @@ module _ (T : Table) (f : Frame) (l : List Call) where
       (λ _. spares-late (c .cancelled && (leb 4 (f .kind) && leb (f .kind) 7))))
       (λ _. (lit≤ tt, lit≤ tt))
 
-  spares-verdict : (own : Own) (b : Bool) → Spares (verdictOf T f own b)
+  spares-verdict : (own : OwnCall) (b : Bool) → Spares (verdictOf T f own b)
   unfolding verdictOf Spares
   spares-verdict own b =
       let invoke = invokeVerdict T (f .correlation) (findMethod T (f .«package») (f .service) (f .method)) own b in
@@ -539,7 +539,7 @@ error-payload : (m : Method) (kind : ℕ) → kind ≡ 7 → payloadOf m kind �
 unfolding payloadOf
 error-payload m kind e = rw e
 
-error-due : (T : Table) (f : Frame) (own : Own) (b : Bool) → f .kind ≡ 7 → verdictDue (verdictOf T f own b) ≡ Unread
+error-due : (T : Table) (f : Frame) (own : OwnCall) (b : Bool) → f .kind ≡ 7 → verdictDue (verdictOf T f own b) ≡ Unread
 unfolding verdictOf
 error-due T f own b e = go (rightSide (f .side) (f .kind)) (eqb (f .kind) 1) (ne-eqb (f .kind) 1 (λ z. omega arith)) own
   where
@@ -549,14 +549,14 @@ error-due T f own b e = go (rightSide (f .side) (f .kind)) (eqb (f .kind) 1) (ne
     call true false z x d n h = refl
     call false b z x d n h = refl
 
-    other : (own : Own) → verdictDue (otherVerdict T f own) ≡ Unread
+    other : (own : OwnCall) → verdictDue (otherVerdict T f own) ≡ Unread
     other none = refl
     other (one c) =
         let m = methodRow T (c .method) in
         call (named (f .«package») (f .service) (f .method) m) (allowed (rowOfForm (m .form)) (f .kind) c) (atLimit (f .kind) c)
         (afterFrame (rowOfForm (m .form)) (f .kind) c) (payloadOf m (f .kind)) (notAllowed (f .kind) c) (error-payload m (f .kind) e)
 
-    go : (a q : Bool) → q ≡ false → (own : Own) →
+    go : (a q : Bool) → q ≡ false → (own : OwnCall) →
         verdictDue (cond a (cond q (invokeVerdict T (f .correlation) (findMethod T (f .«package») (f .service) (f .method)) own b) (otherVerdict T f own)) (stop 8)) ≡ Unread
     go true true z own = clash false (sym z) refl
     go true false z own = other own

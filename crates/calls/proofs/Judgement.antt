@@ -18,7 +18,7 @@ use Rattle.calls.specs.declared.Payload.the-variants.{Unread}
 use Rattle.calls.specs.declared.Judged.the-variants.{Opens, Goes}
 use Rattle.calls.specs.Forms.{rowOfForm}
 use Rattle.calls.specs.Record.{isCall, isFree, emptyCall, openedCall, allowed, notAllowed, atLimit, afterFrame}
-use Rattle.calls.specs.Slots.{slot, firstSlot, slotOf, Own, none, one, recordAt, ownOf, full, formRow}
+use Rattle.calls.specs.Slots.{slot, firstSlot, slotOf, OwnCall, none, one, recordAt, ownOf, full, formRow}
 use Rattle.calls.specs.Judge.{rightSide, payloadOf, Verdict, stop, opens, goes, openVerdict, invokeVerdict, callVerdict, otherVerdict, verdictOf, releaseVerdict, placed, slotFor, judgeOf, judgeRelease}
 
 -- ---- the slot
@@ -77,18 +77,18 @@ module _ (T : Table) (f : Frame) where
   right = rightSide (f .side) (f .kind)
 
   -- INVOKE
-  open-opens : (new c : Call) (p d : Payload) (own : Own) (b : Bool) → openVerdict new p own b ≡ opens c d → (new ≡ c) × (own ≡ none) × (b ≡ false)
+  open-opens : (new c : Call) (p d : Payload) (own : OwnCall) (b : Bool) → openVerdict new p own b ≡ opens c d → (new ≡ c) × (own ≡ none) × (b ≡ false)
   open-opens new c p d (one x) b e = differ cc
   open-opens new c p d none true e = differ cc
   open-opens new c p d none false e = let q : new ≡ c = cc in (q, refl, refl)
 
-  open-never : (new c : Call) (p d : Payload) (own : Own) (b : Bool) → openVerdict new p own b ≡ goes c d → ⊥
+  open-never : (new c : Call) (p d : Payload) (own : OwnCall) (b : Bool) → openVerdict new p own b ≡ goes c d → ⊥
   open-never new c p d (one x) b e = differ cc
   open-never new c p d none true e = differ cc
   open-never new c p d none false e = differ cc
 
   -- of the method that its identifiers name; the identifier is not open, and there is room
-  pub record Invoked (own : Own) (b : Bool) (c : Call) : Type 0 where
+  pub record Invoked (own : OwnCall) (b : Bool) (c : Call) : Type 0 where
     pub method : ℕ
     pub isMethod : foundMethod ≡ At method
     pub isInvoke : f .kind ≡ 1
@@ -96,13 +96,13 @@ module _ (T : Table) (f : Frame) where
     pub notOpen : own ≡ none
     pub room : b ≡ false
 
-  invoke-opens : (g : Found) (own : Own) (b : Bool) (c : Call) (d : Payload) → foundMethod ≡ g → f .kind ≡ 1 → invokeVerdict T id g own b ≡ opens c d → Invoked own b c
+  invoke-opens : (g : Found) (own : OwnCall) (b : Bool) (c : Call) (d : Payload) → foundMethod ≡ g → f .kind ≡ 1 → invokeVerdict T id g own b ≡ opens c d → Invoked own b c
   invoke-opens Missing own b c d m k e = differ cc
   invoke-opens (At n) own b c d m k e =
       let r = open-opens (openedCall n id) c (payloadOf (methodRow T n) 1) d own b e in
       record { method = n; isMethod = m; isInvoke = k; isNew = sym (r .0); notOpen = r .1; room = r .2 }
 
-  invoke-never : (g : Found) (own : Own) (b : Bool) (c : Call) (d : Payload) → invokeVerdict T id g own b ≡ goes c d → ⊥
+  invoke-never : (g : Found) (own : OwnCall) (b : Bool) (c : Call) (d : Payload) → invokeVerdict T id g own b ≡ goes c d → ⊥
   invoke-never Missing own b c d e = differ cc
   invoke-never (At n) own b c d e = open-never (openedCall n id) c (payloadOf (methodRow T n) 1) d own b e
 
@@ -138,7 +138,7 @@ module _ (T : Table) (f : Frame) where
         differ cc
 
   -- to the open call x, where it is allowed; its record then is c
-  pub record Reached (own : Own) (c : Call) : Type 0 where
+  pub record Reached (own : OwnCall) (c : Call) : Type 0 where
     pub call : Call
     pub isOther : f .kind ≡ 1 → ⊥
     pub isOpen : own ≡ one call
@@ -146,18 +146,18 @@ module _ (T : Table) (f : Frame) where
     pub isBelow : atLimit (f .kind) call ≡ false
     pub isNext : c ≡ afterFrame (formRow T call) (f .kind) call
 
-  other-goes : (own : Own) (c : Call) (d : Payload) → (f .kind ≡ 1 → ⊥) → otherVerdict T f own ≡ goes c d → Reached own c
+  other-goes : (own : OwnCall) (c : Call) (d : Payload) → (f .kind ≡ 1 → ⊥) → otherVerdict T f own ≡ goes c d → Reached own c
   other-goes none c d n e = differ cc
   other-goes (one x) c d n e =
       let r = call-goes (methodRow T (x .method)) x c d e in
       record { call = x; isOther = n; isOpen = refl; isAllowed = r .0; isBelow = r .1; isNext = r .2 }
 
-  other-never : (own : Own) (c : Call) (d : Payload) → otherVerdict T f own ≡ opens c d → ⊥
+  other-never : (own : OwnCall) (c : Call) (d : Payload) → otherVerdict T f own ≡ opens c d → ⊥
   other-never none c d e = differ cc
   other-never (one x) c d e = call-never (methodRow T (x .method)) x c d e
 
   -- every frame
-  module _ (own : Own) (b : Bool) (c : Call) (d : Payload) where
+  module _ (own : OwnCall) (b : Bool) (c : Call) (d : Payload) where
     abbrev invoke : Verdict
     invoke = invokeVerdict T id foundMethod own b
 
@@ -238,14 +238,14 @@ module _ (id : ℕ) (l : List Call) where
     pub isCancelled : slot l i .cancelled ≡ true
     pub isNext : c ≡ emptyCall
 
-  release-goes : (own : Own) (c : Call) (d : Payload) → releaseVerdict own ≡ goes c d → (x : Call) × (own ≡ one x) × (x .cancelled ≡ true) × (c ≡ emptyCall)
+  release-goes : (own : OwnCall) (c : Call) (d : Payload) → releaseVerdict own ≡ goes c d → (x : Call) × (own ≡ one x) × (x .cancelled ≡ true) × (c ≡ emptyCall)
   release-goes none c d e = differ cc
   release-goes (one x) c d e =
       let r = chosen (x .cancelled) (goes emptyCall Unread) (stop 14) (λ q. differ cc) e in
       let q : goes emptyCall Unread ≡ goes c d = r .1 in
       (x, refl, r .0, cc)
 
-  release-never : (own : Own) (c : Call) (d : Payload) → releaseVerdict own ≡ opens c d → ⊥
+  release-never : (own : OwnCall) (c : Call) (d : Payload) → releaseVerdict own ≡ opens c d → ⊥
   release-never none c d e = differ cc
   release-never (one x) c d e =
       let q : goes emptyCall Unread ≡ opens c d = chosen (x .cancelled) (goes emptyCall Unread) (stop 14) (λ q. differ cc) e .1 in differ cc

@@ -26,7 +26,7 @@ use Rattle.calls.specs.declared.Rise.{Rise}
 use Rattle.calls.specs.Forms.{letter, lettersRow, rowOfForm}
 use Rattle.calls.specs.Numbers.{endsCall, EndsCall, payload, many-pairs}
 use Rattle.calls.specs.Record.{implies, emptyCall, openedCall, isCall, complete, allowed, notAllowed, isInput, isOutput, atLimit, counting, marked, ends, afterFrame}
-use Rattle.calls.specs.Slots.{slot, firstSlot, holds, Own, none, one, recordAt, ownOf, full}
+use Rattle.calls.specs.Slots.{slot, firstSlot, holds, OwnCall, none, one, recordAt, ownOf, full}
 use Rattle.calls.specs.Judge.{rightSide, payloadOf, Verdict, stop, opens, goes, invokeVerdict, callVerdict, otherVerdict, verdictOf, judgeOf, releaseVerdict, judgeRelease}
 use Rattle.calls.specs.Step.{receive, release}
 use Rattle.calls.specs.Counting.{noRise, ending, riseOf, releaseRise, figureBy}
@@ -206,7 +206,7 @@ rulingOf (opens c d) = comes d
 rulingOf (goes c d) = comes d
 
 -- the method of an open call is one of the table's
-Known : Table → Own → Type 0
+Known : Table → OwnCall → Type 0
 Known T none = Unit {0}
 Known T (one c) = c .method < length (T .methods)
 
@@ -220,7 +220,7 @@ module _ (T : Table) (g : GoodSchema T) (f : Frame) (b : Bool) where
 
   -- the ruling is the one by the past, and whatever number the payload has, the record afterwards reflects the past afterwards, and what rises is what
   -- the event counts as
-  abbrev VerdictFits : Past → Own → Verdict → Type 0
+  abbrev VerdictFits : Past → OwnCall → Verdict → Type 0
   VerdictFits past own v =
       Ruled T f b past (rulingOf v)
       × ((p : ℕ) → Reflects (after T (heard v p) past) (verdictOwn v p own))
@@ -233,7 +233,7 @@ module _ (T : Table) (g : GoodSchema T) (f : Frame) (b : Bool) where
   found = findMethod T (f .«package») (f .service) (f .method)
 
   -- a refusal before the payload
-  stays : (n : ℕ) → 8 ≤ n → n ≤ 17 → {past : Past} {own : Own} → Reflects past own → Reflects (after T (record { event = frame f; number = n }) past) own
+  stays : (n : ℕ) → 8 ≤ n → n ≤ 17 → {past : Past} {own : OwnCall} → Reflects past own → Reflects (after T (record { event = frame f; number = n }) past) own
   stays n low high r = rw (ne-eqb n 0 (λ z. omega arith), not-ending n (early low high)) r
     where
       early : {n : ℕ} → 8 ≤ n → n ≤ 17 → EndsCall n → ⊥
@@ -283,7 +283,7 @@ module _ (T : Table) (g : GoodSchema T) (f : Frame) (b : Bool) where
     belongs n e =
         invoke-belongs T (g .fewTypes) (methodRow T n) (g .methods n (found-named T (f .«package») (f .service) (f .method) n e .0))
 
-    invoked : (past : Past) (own : Own) → Reflects past own → (m : Found) → found ≡ m → VerdictFits past own (invokeVerdict T (f .correlation) m own b)
+    invoked : (past : Past) (own : OwnCall) → Reflects past own → (m : Found) → found ≡ m → VerdictFits past own (invokeVerdict T (f .correlation) m own b)
     invoked past own r Missing e = (unknown past s k e, λ p. stays 9 (lit≤ tt) (lit≤ tt) r, λ p. nowhere 9 (lit≤ tt) (lit≤ tt) past)
     invoked closed none nothing (At n) e = go b refl
       where
@@ -398,13 +398,13 @@ module _ (T : Table) (g : GoodSchema T) (f : Frame) (b : Bool) where
             λ k. nowhere 12 (lit≤ tt) (lit≤ tt) (since m before h),
           )
 
-    other : (past : Past) (own : Own) → Known T own → Reflects past own → VerdictFits past own (otherVerdict T f own)
+    other : (past : Past) (own : OwnCall) → Known T own → Reflects past own → VerdictFits past own (otherVerdict T f own)
     unfolding Known
     other closed none known nothing = (notOpen s n, λ p. stays 11 (lit≤ tt) (lit≤ tt) nothing, λ p. nowhere 11 (lit≤ tt) (lit≤ tt) closed)
     other (since m x h) (one c) known (call _ _ _ _ w) =
         subst (λ (k : ℕ). VerdictFits (since m x h) (one c) (callVerdict (methodRow T k) f c)) (sym (w .method)) (called m (rw (w .method) at known) x h c w)
 
-  every : (past : Past) (own : Own) → Known T own → Reflects past own → VerdictFits past own (verdictOf T f own b)
+  every : (past : Past) (own : OwnCall) → Known T own → Reflects past own → VerdictFits past own (verdictOf T f own b)
   unfolding verdictOf
   every past own known r = go right refl (eqb (f .kind) 1) refl
     where
@@ -417,7 +417,7 @@ module _ (T : Table) (g : GoodSchema T) (f : Frame) (b : Bool) where
 -- ---- a release
 -- the number is the one by the past, the record afterwards reflects the past afterwards, and what rises is what the release counts as; where 18 is the
 -- answer, nothing rises
-abbrev Suits : Table → (correlation : ℕ) → Past → Own → Verdict → Type 0
+abbrev Suits : Table → (correlation : ℕ) → Past → OwnCall → Verdict → Type 0
 Suits T id past own v =
     Releases past (verdictNumber v 0)
     × ((p : ℕ) → endsCall p ≡ false → Reflects (after T (record { event = event.release id; number = verdictNumber v p }) past) (verdictOwn v p own))
@@ -432,7 +432,7 @@ module _ (T : Table) (id : ℕ) where
       go true = nothing
       go false = call m b h c w
 
-  release-suits : (past : Past) (own : Own) → Reflects past own → Suits T id past own (releaseVerdict own)
+  release-suits : (past : Past) (own : OwnCall) → Reflects past own → Suits T id past own (releaseVerdict own)
   unfolding endsCall figureBy
   release-suits closed none nothing = (noCall, λ p n. nothing, λ p n. (refl, inl refl))
   release-suits (since m b h) (one c) (call _ _ _ _ w) =
@@ -451,7 +451,7 @@ module _ (T : Table) (g : GoodSchema T) (l : List Call) (w : GoodTable T l) wher
       go (At i) e = w .calls i (call-open id (slot l i) (found-passes (isCall id) l i e)) .methodExists
 
   module _ (f : Frame) (past : Past) (r : Reflects past (ownOf (f .correlation) l)) where
-    abbrev own : Own
+    abbrev own : OwnCall
     own = ownOf (f .correlation) l
 
     -- A frame is ruled by the kinds accepted for its call since INVOKE.

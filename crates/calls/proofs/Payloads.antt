@@ -20,7 +20,7 @@ use Rattle.calls.specs.declared.Payload.{Payload}
 use Rattle.calls.specs.declared.Payload.the-variants.{Struct, Empty, Unread}
 use Rattle.calls.specs.Forms.{rowOfForm}
 use Rattle.calls.specs.Record.{isCall, openedCall, allowed, notAllowed, atLimit, afterFrame}
-use Rattle.calls.specs.Slots.{slot, firstSlot, Own, none, one, recordAt, ownOf, full}
+use Rattle.calls.specs.Slots.{slot, firstSlot, OwnCall, none, one, recordAt, ownOf, full}
 use Rattle.calls.specs.Judge.{rightSide, typed, payloadOf, Verdict, stop, goes, openVerdict, invokeVerdict, otherVerdict, verdictOf, judgeOf}
 use Rattle.calls.specs.Apart.{verdictDue}
 use Rattle.calls.specs.Step.{dueOf}
@@ -75,12 +75,12 @@ module _ (s : List ℕ) (g : IsGood s) (f : Frame) where
   method-sound : (m kind : ℕ) → m < length (T .methods) → Sound T (payloadOf (methodRow T m) kind)
   method-sound m kind h = payload-sound T (methodRow T m) (good-table s g .methods m h) kind
 
-  opening-sound : (c : Call) (d : Payload) → Sound T d → (own : Own) (b : Bool) → Sound T (verdictDue (openVerdict c d own b))
+  opening-sound : (c : Call) (d : Payload) → Sound T d → (own : OwnCall) (b : Bool) → Sound T (verdictDue (openVerdict c d own b))
   opening-sound c d h (one x) b = unread
   opening-sound c d h none true = unread
   opening-sound c d h none false = h
 
-  invoke-sound : (n : Found) → findMethod T (f .«package») (f .service) (f .method) ≡ n → (own : Own) (b : Bool)
+  invoke-sound : (n : Found) → findMethod T (f .«package») (f .service) (f .method) ≡ n → (own : OwnCall) (b : Bool)
       → Sound T (verdictDue (invokeVerdict T (f .correlation) n own b))
   invoke-sound Missing e own b = unread
   invoke-sound (At m) e own b =

@@ -25,7 +25,7 @@ use Rattle.calls.specs.declared.Figure.the-variants.{Nothing, Opened, Co
 use Rattle.calls.specs.declared.Rise.{Rise}
 use Rattle.calls.specs.Numbers.{endsCall}
 use Rattle.calls.specs.Record.{counting, emptyCall, isCall, isFree, complete, marked, ends}
-use Rattle.calls.specs.Slots.{freshTable, slot, formRow, Own, none, one, ownOf, full}
+use Rattle.calls.specs.Slots.{freshTable, slot, formRow, OwnCall, none, one, ownOf, full}
 use Rattle.calls.specs.Judge.{Verdict, stop, opens, goes, verdictOf, judgeOf, releaseVerdict, judgeRelease}
 use Rattle.calls.specs.Step.{numberOf, slotsAfter, stepOf, dueOf, receive, release}
 use Rattle.calls.specs.Counting.{noTally, noRise, ending, riseOf, releaseRise, figureBy, raised}
@@ -64,15 +64,15 @@ module _ (id : ℕ) (l : List Call) where
 -- ---- the row is that of the call's method
 
 module _ (T : Table) (f : Frame) where
-  invoked-row : (own : Own) (m : ℕ) → f .kind ≡ 1 → findMethod T (f .«package») (f .service) (f .method) ≡ At m → callMethod T f own ≡ At m
+  invoked-row : (own : OwnCall) (m : ℕ) → f .kind ≡ 1 → findMethod T (f .«package») (f .service) (f .method) ≡ At m → callMethod T f own ≡ At m
   invoked-row none m k e = rw (eq-eqb (f .kind) 1 k) e
   invoked-row (one c) m k e = rw (eq-eqb (f .kind) 1 k) e
 
-  other-row : (own : Own) (x c : Call) (d : Payload) → own ≡ one x → (f .kind ≡ 1 → ⊥) → callMethod T f own ≡ At (verdictRise (f .kind) own (goes c d) .row)
+  other-row : (own : OwnCall) (x c : Call) (d : Payload) → own ≡ one x → (f .kind ≡ 1 → ⊥) → callMethod T f own ≡ At (verdictRise (f .kind) own (goes c d) .row)
   other-row none x c d e n = differ cc
   other-row (one y) x c d e n = rw (ne-eqb (f .kind) 1 n)
 
-  module _ (own : Own) (b : Bool) where
+  module _ (own : OwnCall) (b : Bool) where
     raised-by : (v : Verdict) → verdictOf T f own b ≡ v → (verdictRise (f .kind) own v ≡ noRise) ⊎ (callMethod T f own ≡ At (verdictRise (f .kind) own v .row))
     raised-by (stop n) e = inl refl
     raised-by (opens c d) e =

@@ -14,7 +14,7 @@ use Rattle.calls.specs.declared.Frame.{Frame}
 use Rattle.calls.specs.declared.Judged.{Judged}
 use Rattle.calls.specs.declared.Seat.{Seat}
 use Rattle.calls.specs.Record.{isCall, isFree}
-use Rattle.calls.specs.Slots.{firstSlot, slotOf, Own, ownOf, full}
+use Rattle.calls.specs.Slots.{firstSlot, slotOf, OwnCall, ownOf, full}
 use Rattle.calls.specs.Judge.{Verdict, verdictOf, releaseVerdict, placed, judgeOf, judgeRelease}
 use Rattle.calls.specs.Counting.{riseOf, releaseRise}
 use Rattle.calls.specs.Apart.{verdict, verdictRise, verdictReleaseRise}
@@ -30,7 +30,7 @@ module _ (T : Table) (f : Frame) (l : List Call) where
   unfolding judgedAt judgeOf full
   judged-seated = go (eqb (f .kind) 1) refl
     where
-      own : Own
+      own : OwnCall
       own = ownOf (f .correlation) l
 
       free : Found

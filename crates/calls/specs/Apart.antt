@@ -18,7 +18,7 @@ use Rattle.calls.specs.declared.Rise.{Rise}
 use Rattle.calls.specs.Numbers.{endsCall}
 use Rattle.calls.specs.Counting.{noRise, ending}
 use Rattle.calls.specs.Record.{isCall, complete, marked}
-use Rattle.calls.specs.Slots.{Own, none, one, formRow}
+use Rattle.calls.specs.Slots.{OwnCall, none, one, formRow}
 use Rattle.calls.specs.Judge.{Verdict, stop, opens, goes}
 use Rattle.calls.specs.Event.{Event, frame, release, identifier}
 
@@ -40,27 +40,27 @@ verdictNumber (opens c due) p = p
 verdictNumber (goes c due) p = p
 
 -- An ended call has no record.
-abbrev pub kept : Call → Own
+abbrev pub kept : Call → OwnCall
 kept c = cond (c .«open») (one c) none
 
-abbrev pub verdictOwn : Verdict → (payload : ℕ) → Own → Own
+abbrev pub verdictOwn : Verdict → (payload : ℕ) → OwnCall → OwnCall
 verdictOwn (stop n) p own = own
 verdictOwn (opens c due) p own = cond (eqb p 0) (kept c) own
 verdictOwn (goes c due) p own = cond (eqb p 0) (kept c) (cond (endsCall p) none own)
 
 -- The method of the call that a frame is about, by its own record: the call's, or for INVOKE the one that its identifiers name.
-abbrev pub callMethod : Table → Frame → Own → Found
+abbrev pub callMethod : Table → Frame → OwnCall → Found
 callMethod T f none = cond (eqb (f .kind) 1) (findMethod T (f .«package») (f .service) (f .method)) Missing
 callMethod T f (one c) = cond (eqb (f .kind) 1) (findMethod T (f .«package») (f .service) (f .method)) (At (c .method))
 
 -- The figure that an event with this verdict raises, and in which tally row.
-abbrev pub verdictRise : (kind : ℕ) → Own → Verdict → Rise
+abbrev pub verdictRise : (kind : ℕ) → OwnCall → Verdict → Rise
 verdictRise kind own (stop n) = noRise
 verdictRise kind own (opens c due) = record { row = c .method; accepted = Opened; refused = Nothing }
 verdictRise kind none (goes c due) = noRise
 verdictRise kind (one x) (goes c due) = record { row = x .method; accepted = ending kind x c; refused = Failed }
 
-abbrev pub verdictReleaseRise : Own → Verdict → Rise
+abbrev pub verdictReleaseRise : OwnCall → Verdict → Rise
 verdictReleaseRise own (stop n) = noRise
 verdictReleaseRise own (opens c due) = noRise
 verdictReleaseRise none (goes c due) = noRise

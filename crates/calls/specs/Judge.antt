@@ -17,7 +17,7 @@ use Rattle.calls.specs.declared.Judged.{Judged}
 use Rattle.calls.specs.declared.Judged.the-variants.{Refused, Opens, Goes}
 use Rattle.calls.specs.Forms.{rowOfForm}
 use Rattle.calls.specs.Record.{isCall, isFree, emptyCall, openedCall, allowed, notAllowed, atLimit, afterFrame}
-use Rattle.calls.specs.Slots.{firstSlot, slotOf, Own, none, one, ownOf, full}
+use Rattle.calls.specs.Slots.{firstSlot, slotOf, OwnCall, none, one, ownOf, full}
 
 -- Client kinds: 1 INVOKE, 2 IN_STREAM, 3 IN_CLOSE, 8 CANCEL. Server kinds: 4 OUT_STREAM, 5 OUT_CLOSE, 6 RESPONSE, 7 ERROR. The sides are the bytes C and S.
 abbrev pub rightSide : (side kind : ℕ) → Bool
@@ -48,13 +48,13 @@ pub data Verdict : Type 0 where
   goes : Call → Payload → Verdict
 
 -- INVOKE of a known method: 10, 13.
-abbrev pub openVerdict : Call → Payload → Own → (full : Bool) → Verdict
+abbrev pub openVerdict : Call → Payload → OwnCall → (full : Bool) → Verdict
 openVerdict new p (one c) f = stop 10
 openVerdict new p none true = stop 13
 openVerdict new p none false = opens new p
 
 -- INVOKE: 9 first.
-abbrev pub invokeVerdict : Table → (correlation : ℕ) → Found → Own → (full : Bool) → Verdict
+abbrev pub invokeVerdict : Table → (correlation : ℕ) → Found → OwnCall → (full : Bool) → Verdict
 invokeVerdict T id Missing own f = stop 9
 invokeVerdict T id (At m) own f = openVerdict (openedCall m id) (payloadOf (methodRow T m) 1) own f
 
@@ -68,7 +68,7 @@ callVerdict m f c =
     (stop 12)
 
 -- The others: 11 first.
-abbrev pub otherVerdict : Table → Frame → Own → Verdict
+abbrev pub otherVerdict : Table → Frame → OwnCall → Verdict
 otherVerdict T f none = stop 11
 otherVerdict T f (one c) = callVerdict (methodRow T (c .method)) f c
 
@@ -77,7 +77,7 @@ abbrev pub methodOf : Table → Frame → Found
 methodOf T f = findMethod T (f .«package») (f .service) (f .method)
 
 -- Every frame; `full` says that 128 calls are open.
-unfoldable pub verdictOf : Table → Frame → Own → (full : Bool) → Verdict
+unfoldable pub verdictOf : Table → Frame → OwnCall → (full : Bool) → Verdict
 verdictOf T f own full =
     cond (rightSide (f .side) (f .kind))
     (cond (eqb (f .kind) 1)
@@ -86,7 +86,7 @@ verdictOf T f own full =
     (stop 8)
 
 -- A release: 11 for a call that is not open, 14 for one that is not cancelled. A released call's slot is zeroed, and nothing is read.
-abbrev pub releaseVerdict : Own → Verdict
+abbrev pub releaseVerdict : OwnCall → Verdict
 releaseVerdict none = stop 11
 releaseVerdict (one c) = cond (c .cancelled) (goes emptyCall Unread) (stop 14)
 

@@ -16,7 +16,7 @@ use Rattle.calls.specs.declared.Payload.{Payload}
 use Rattle.calls.specs.Forms.{letter}
 use Rattle.calls.specs.Numbers.{endsCall}
 use Rattle.calls.specs.Record.{implies, counting}
-use Rattle.calls.specs.Slots.{holds, Own, none, one, ownOf}
+use Rattle.calls.specs.Slots.{holds, OwnCall, none, one, ownOf}
 use Rattle.calls.specs.Judge.{rightSide}
 use Rattle.calls.specs.Event.{Event, frame, release, identifier}
 use Rattle.calls.specs.Belongs.{Belongs}
@@ -192,7 +192,7 @@ pub record Marks (m : ℕ) (b : Elements) (h : List ℕ) (c : Call) : Type 0 whe
   pub outputElements : c .«output_elements» ≡ outputsOf b h
   pub noError : holds 7 h ≡ false
 
-pub data Reflects : Past → Own → Type 0 where
+pub data Reflects : Past → OwnCall → Type 0 where
   nothing : Reflects closed none
   call : (m : ℕ) (b : Elements) (h : List ℕ) (c : Call) → Marks m b h c → Reflects (since m b h) (one c)
 

@@ -11,8 +11,8 @@ use Rattle.schema.specs.Check.{methodRow, isMissing}
 use Rattle.calls.specs.declared.Call.{Call}
 use Rattle.calls.specs.declared.CallTable.{CallTable}
 use Rattle.calls.specs.declared.FormRow.{FormRow}
-pub use Rattle.calls.specs.declared.Own.{Own}
-pub use Rattle.calls.specs.declared.Own.the-variants.{None as none, One as one}
+pub use Rattle.calls.specs.declared.OwnCall.{OwnCall}
+pub use Rattle.calls.specs.declared.OwnCall.the-variants.{None as none, One as one}
 use Rattle.calls.specs.Forms.{rowOfForm}
 use Rattle.calls.specs.Record.{emptyCall, isCall, isFree, goodOpen, zeroCall}
 
@@ -35,12 +35,12 @@ slotOf Missing = 128
 slotOf (At i) = i
 
 -- The record at a slot that was found.
-abbrev pub recordAt : List Call → Found → Own
+abbrev pub recordAt : List Call → Found → OwnCall
 recordAt l Missing = none
 recordAt l (At i) = one (slot l i)
 
 -- The record of the call that is open under this correlation.
-unfoldable pub ownOf : (correlation : ℕ) → List Call → Own
+unfoldable pub ownOf : (correlation : ℕ) → List Call → OwnCall
 ownOf id l = recordAt l (firstSlot (isCall id) 0 l)
 
 -- No slot is free: as many calls are open as there are slots, 128.

@@ -2,7 +2,7 @@
 use crate::Call;
 use crate::Frame;
 use crate::Judged;
-use crate::Own;
+use crate::OwnCall;
 use crate::Payload;
 use crate::Seat;
 use crate::forms::row_of;
@@ -97,8 +97,8 @@ impl Seat {
         let own = self.own;
         let slot = self.slot;
         match own {
-            Own::One(_) => Judged::Refused(refusal::CALL_OPEN),
-            Own::None => match slot {
+            OwnCall::One(_) => Judged::Refused(refusal::CALL_OPEN),
+            OwnCall::None => match slot {
                 Found::At(j) => Judged::Opens(j, new, payload),
                 Found::Missing => Judged::Refused(refusal::TOO_MANY_CALLS),
             },
@@ -125,8 +125,8 @@ impl Seat {
         let own = self.own;
         let slot = self.slot;
         match own {
-            Own::None => Judged::Refused(refusal::CALL_NOT_OPEN),
-            Own::One(call) => call.judge(method(s, call.method as usize), f, slot_of(slot)),
+            OwnCall::None => Judged::Refused(refusal::CALL_NOT_OPEN),
+            OwnCall::One(call) => call.judge(method(s, call.method as usize), f, slot_of(slot)),
         }
     }
 
@@ -152,8 +152,8 @@ impl Seat {
         let own = self.own;
         let slot = self.slot;
         match own {
-            Own::None => Judged::Refused(refusal::CALL_NOT_OPEN),
-            Own::One(call) => {
+            OwnCall::None => Judged::Refused(refusal::CALL_NOT_OPEN),
+            OwnCall::One(call) => {
                 if call.cancelled {
                     Judged::Goes(slot_of(slot), EMPTY, Payload::Unread)
                 } else {

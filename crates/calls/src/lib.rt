@@ -51,14 +51,14 @@ pub enum Payload {
 }
 
 // The record of a call, or none.
-pub enum Own {
+pub enum OwnCall {
     None,
     One(Call),
 }
 
 // What a judgement sees of the call table: the record of its own call, and the slot that it changes, if there is one.
 pub struct Seat {
-    pub own: Own,
+    pub own: OwnCall,
     pub slot: Found,
 }
 

@@ -1,7 +1,7 @@
 // The slots of the call table.
 use crate::Call;
 use crate::CallTable;
-use crate::Own;
+use crate::OwnCall;
 use crate::Seat;
 use crate::record::EMPTY;
 use constants::limit;
@@ -78,12 +78,12 @@ impl CallTable {
     }
 
     // The record at a slot that was found.
-    fn own(self, found: Found) -> Own
+    fn own(self, found: Found) -> OwnCall
         ensures { λ r. ⌜ r ≡ recordAt (self .slots) found ⌝ }
     {
         match found {
-            Found::Missing => Own::None,
-            Found::At(i) => Own::One(self.at(i)),
+            Found::Missing => OwnCall::None,
+            Found::At(i) => OwnCall::One(self.at(i)),
         }
     }
 

@@ -2,7 +2,7 @@
 use crate::Call;
 use crate::Figure;
 use crate::Judged;
-use crate::Own;
+use crate::OwnCall;
 use crate::Rise;
 use crate::Tally;
 use crate::numbers::ends_call;
@@ -52,7 +52,7 @@ impl Call {
     }
 }
 
-impl Own {
+impl OwnCall {
     // What a judged frame of this kind to its own call raises.
     pub fn rise(self, kind: u8, judged: Judged) -> Rise
         ensures { λ r. ⌜ r ≡ verdictRise kind self (verdict judged) ⌝ }
@@ -65,8 +65,8 @@ impl Own {
                 refused: Figure::Nothing,
             },
             Judged::Goes(_, next, _) => match self {
-                Own::None => NO_RISE,
-                Own::One(call) => Rise {
+                OwnCall::None => NO_RISE,
+                OwnCall::One(call) => Rise {
                     row: call.method as usize,
                     accepted: call.ending(kind, next),
                     refused: Figure::Failed,
@@ -83,8 +83,8 @@ impl Own {
             Judged::Refused(_) => NO_RISE,
             Judged::Opens(_, _, _) => NO_RISE,
             Judged::Goes(_, _, _) => match self {
-                Own::None => NO_RISE,
-                Own::One(call) => {
+                OwnCall::None => NO_RISE,
+                OwnCall::One(call) => {
                     let row = call.method as usize;
                     let accepted = Figure::Cancelled;
                     let refused = Figure::Nothing;

@@ -25,9 +25,9 @@ use Rattle.calls.specs.Good.{GoodTable}
 use Rattle.calls.proofs.Goodness.{good-clauses}
 use Rattle.calls.proofs.Kept.{test-stays, release-test}
 use Rattle.calls.proofs.Limits.{FewIn, few-stays, few-released}
-use Rattle.receiver.specs.Answer.{Line, line, stopped}
+use Rattle.receiver.specs.Answer.{Effect, effect, stopped}
 use Rattle.receiver.specs.Receive.{received}
-use Rattle.receiver.specs.Release.{ReleaseLine, releaseLine, releaseAnswer, released}
+use Rattle.receiver.specs.Release.{ReleaseEffect, releaseEffect, releaseAnswer, released}
 use Rattle.receiver.specs.Run.{Event, input, release, State, stateAfter, runFrom}
 use Rattle.receiver.proofs.Kept.{holds, same-length, same-rows, release-holds, release-length, release-rows}
 use Rattle.receiver.proofs.Answers.{refused-untouched as sheet-kept, refused-rows as rows-kept}
@@ -333,7 +333,7 @@ module _ (cells schema : List ℕ) (side : ℕ) (bytes sheet tallies : List ℕ)
   abbrev rows : List Tally
   rows = rowsOf tallies
 
-  abbrev answer : Line
+  abbrev answer : Effect
   answer = receiving cells schema side bytes sheet tallies
 
   abbrev after : List ℕ
@@ -345,7 +345,7 @@ module _ (cells schema : List ℕ) (side : ℕ) (bytes sheet tallies : List ℕ)
   -- ---- cells that are no call table
   module _ (bad : areCalls cells ≡ false) where
     -- They are refused with 15, after the schema's faults.
-    pub cells-refused : answer ≡ line (notCalls (checked schema) (callsOf cells)) sheet rows
+    pub cells-refused : answer ≡ effect (notCalls (checked schema) (callsOf cells)) sheet rows
     unfolding judgement
     cells-refused = rw bad
 
@@ -387,7 +387,7 @@ module _ (cells schema : List ℕ) (side : ℕ) (bytes sheet tallies : List ℕ)
 
   -- Whatever the cells, afterwards they hold the table of the answer,
   pub after-held : callsOf after ≡ answer .answer .table .slots
-  after-held = ⊎-elim (λ t. next-held t ∙ ap (λ (a : Line). a .answer .table .slots) (sym (table-judged t))) (λ f. kept f) (cases (areCalls cells))
+  after-held = ⊎-elim (λ t. next-held t ∙ ap (λ (a : Effect). a .answer .table .slots) (sym (table-judged t))) (λ f. kept f) (cases (areCalls cells))
     where
       kept : areCalls cells ≡ false → callsOf after ≡ answer .answer .table .slots
       kept f = rw (cells-refused f, f) (sym (refused-slots (checked schema) (callsOf cells)))
@@ -396,8 +396,8 @@ module _ (cells schema : List ℕ) (side : ℕ) (bytes sheet tallies : List ℕ)
   rows-many : length (answer .tallies) ≡ length rows
   rows-many =
       ⊎-elim
-      (λ t. ap (λ (a : Line). length (a .tallies)) (table-judged t) ∙ same-rows schema side bytes sheet rows (callsOf cells))
-      (λ f. ap (λ (a : Line). length (a .tallies)) (cells-refused f))
+      (λ t. ap (λ (a : Effect). length (a .tallies)) (table-judged t) ∙ same-rows schema side bytes sheet rows (callsOf cells))
+      (λ f. ap (λ (a : Effect). length (a .tallies)) (cells-refused f))
       (cases (areCalls cells))
 
   pub rows-held : rowsOf rowsLeft ≡ answer .tallies
@@ -415,12 +415,12 @@ module _ (cells schema : List ℕ) (side : ℕ) (bytes sheet tallies : List ℕ)
         rw e (sheet-kept schema side bytes sheet rows l other .same),
         λ spares.
             let spared : endsCall (received schema side bytes sheet rows l .answer .number) ≡ false = rw e at spares in
-            let same : answer .tallies ≡ rows = ap (λ (a : Line). a .tallies) e ∙ rows-kept schema side bytes sheet rows l other spared in (
+            let same : answer .tallies ≡ rows = ap (λ (a : Effect). a .tallies) e ∙ rows-kept schema side bytes sheet rows l other spared in (
               after-is t ∙ ap (λ (x : List Call). stored cells (cellsOf x)) (refused-kept schema side bytes sheet rows l other spared) ∙ cells-kept cells (are-calls-iff cells .0 t),
               ap (rowCells tallies) same ∙ rows-same tallies,
             ),
       ))
-      (λ f. (rw (cells-refused f), λ spares. (rw f, ap (λ (a : Line). rowCells tallies (a .tallies)) (cells-refused f) ∙ rows-same tallies)))
+      (λ f. (rw (cells-refused f), λ spares. (rw f, ap (λ (a : Effect). rowCells tallies (a .tallies)) (cells-refused f) ∙ rows-same tallies)))
       (cases (areCalls cells))
 
 -- ---- the fresh table
@@ -456,7 +456,7 @@ module _ (cells schema : List ℕ) (id : ℕ) (tallies : List ℕ) where
   abbrev lent : List Tally
   lent = rowsOf tallies
 
-  abbrev reply : ReleaseLine
+  abbrev reply : ReleaseEffect
   reply = releasing cells schema id tallies
 
   abbrev left : List ℕ
@@ -466,7 +466,7 @@ module _ (cells schema : List ℕ) (id : ℕ) (tallies : List ℕ) where
   leftRows = rowCells tallies (reply .tallies)
 
   -- Cells that are no call table are refused with 15, after the schema's faults.
-  pub release-refused : areCalls cells ≡ false → reply ≡ releaseLine (notReleased (checked schema) (callsOf cells)) lent
+  pub release-refused : areCalls cells ≡ false → reply ≡ releaseEffect (notReleased (checked schema) (callsOf cells)) lent
   unfolding releaseJudgement
   release-refused bad = rw bad
 
@@ -503,7 +503,7 @@ module _ (cells schema : List ℕ) (id : ℕ) (tallies : List ℕ) where
 
   -- Whatever the cells, afterwards they hold the table of the answer,
   pub release-held : callsOf left ≡ reply .answer .table .slots
-  release-held = ⊎-elim (λ t. left-held t ∙ ap (λ (a : ReleaseLine). a .answer .table .slots) (sym (release-judged t))) (λ f. kept f) (cases (areCalls cells))
+  release-held = ⊎-elim (λ t. left-held t ∙ ap (λ (a : ReleaseEffect). a .answer .table .slots) (sym (release-judged t))) (λ f. kept f) (cases (areCalls cells))
     where
       kept : areCalls cells ≡ false → callsOf left ≡ reply .answer .table .slots
       kept f = rw (release-refused f, f) (sym (refused-release (checked schema) (callsOf cells)))
@@ -512,8 +512,8 @@ module _ (cells schema : List ℕ) (id : ℕ) (tallies : List ℕ) where
   left-many : length (reply .tallies) ≡ length lent
   left-many =
       ⊎-elim
-      (λ t. ap (λ (a : ReleaseLine). length (a .tallies)) (release-judged t) ∙ release-rows schema (callsOf cells) id lent)
-      (λ f. ap (λ (a : ReleaseLine). length (a .tallies)) (release-refused f))
+      (λ t. ap (λ (a : ReleaseEffect). length (a .tallies)) (release-judged t) ∙ release-rows schema (callsOf cells) id lent)
+      (λ f. ap (λ (a : ReleaseEffect). length (a .tallies)) (release-refused f))
       (cases (areCalls cells))
 
   pub left-rows-held : rowsOf leftRows ≡ reply .tallies
@@ -527,11 +527,11 @@ module _ (cells schema : List ℕ) (id : ℕ) (tallies : List ℕ) where
       let l = callsOf cells in
       let e = release-judged t in
       let other : released schema l id lent .answer .number ≡ 0 → ⊥ = rw e at z in
-      let same : reply .tallies ≡ lent = ap (λ (a : ReleaseLine). a .tallies) e ∙ release-rows-kept schema l id lent other in (
+      let same : reply .tallies ≡ lent = ap (λ (a : ReleaseEffect). a .tallies) e ∙ release-rows-kept schema l id lent other in (
         left-is t ∙ ap (λ (x : List Call). stored cells (cellsOf x)) (release-kept schema l id lent other) ∙ cells-kept cells (are-calls-iff cells .0 t),
         ap (rowCells tallies) same ∙ rows-same tallies,
       ))
-      (λ f. (rw f, ap (λ (a : ReleaseLine). rowCells tallies (a .tallies)) (release-refused f) ∙ rows-same tallies))
+      (λ f. (rw f, ap (λ (a : ReleaseEffect). rowCells tallies (a .tallies)) (release-refused f) ∙ rows-same tallies))
       (cases (areCalls cells))
 
 -- ---- a history
@@ -552,11 +552,11 @@ module _ (s : List ℕ) (start : Cells) (w : AreCalls (start .table)) where
   event-held (input i) c t =
       let slots = next-held (c .table) s (i .side) (i .bytes) (i .sheet) (c .tallies) t in
       let rows = rows-held (c .table) s (i .side) (i .bytes) (i .sheet) (c .tallies)
-      ∙ ap (λ (a : Line). a .tallies) (table-judged (c .table) s (i .side) (i .bytes) (i .sheet) (c .tallies) t) in
+      ∙ ap (λ (a : Effect). a .tallies) (table-judged (c .table) s (i .side) (i .bytes) (i .sheet) (c .tallies) t) in
       λ k. record { calls = slots k; tallies = rows k }
   event-held (release id) c t =
       let slots = left-held (c .table) s id (c .tallies) t in
-      let rows = left-rows-held (c .table) s id (c .tallies) ∙ ap (λ (a : ReleaseLine). a .tallies) (release-judged (c .table) s id (c .tallies) t) in
+      let rows = left-rows-held (c .table) s id (c .tallies) ∙ ap (λ (a : ReleaseEffect). a .tallies) (release-judged (c .table) s id (c .tallies) t) in
       λ k. record { calls = slots k; tallies = rows k }
 
   pub run-held : (es : List Event) → stateOf (runCells s start es) ≡ runFrom s (stateOf start) es

@@ -36,12 +36,12 @@ use Rattle.calls.specs.declared.Tally.{Tally}
 use Rattle.calls.specs.declared.Judged.{Judged}
 use Rattle.calls.specs.declared.Judged.the-variants.{Refused as JudgedRefused}
 use Rattle.receiver.specs.declared.Received.{Received}
-use Rattle.receiver.specs.Answer.{Line, line, stopped}
+use Rattle.receiver.specs.Answer.{Effect, effect, stopped}
 use Rattle.receiver.specs.declared.Plan.{Plan}
 use Rattle.receiver.specs.Planning.{stopPlan}
 use Rattle.receiver.specs.Receive.{received}
 use Rattle.receiver.specs.declared.Released.{Released}
-use Rattle.receiver.specs.Release.{ReleaseLine, releaseLine, releaseAnswer, released}
+use Rattle.receiver.specs.Release.{ReleaseEffect, releaseEffect, releaseAnswer, released}
 use Rattle.scalar.specs.declared.Scalar.{Scalar}
 use Rattle.scalar.specs.declared.Scalar.the-variants.{Truth, Signed, Unsigned, Float32, Float64, Span}
 use Rattle.scalar.specs.declared.Answer.{Answer}
@@ -190,12 +190,12 @@ refusedPlan check.Good = stopPlan 15 0
 refusedPlan (check.Refused number row) = stopPlan number row
 
 -- One frame against the call table l, which the cells are, or are not.
-unfoldable pub judgement : Bool → (schema : List ℕ) (side : ℕ) (bytes sheet : List ℕ) → List Tally → List Call → Line
+unfoldable pub judgement : Bool → (schema : List ℕ) (side : ℕ) (bytes sheet : List ℕ) → List Tally → List Call → Effect
 judgement known schema side bytes sheet ts l =
-    cond known (received schema side bytes sheet ts l) (line (notCalls (checked schema) l) sheet ts)
+    cond known (received schema side bytes sheet ts l) (effect (notCalls (checked schema) l) sheet ts)
 
 -- One frame against the call table and the tally rows that these cells hold. Cells that are no call table are refused as one that is not good.
-abbrev pub receiving : (table schema : List ℕ) (side : ℕ) (bytes sheet tallies : List ℕ) → Line
+abbrev pub receiving : (table schema : List ℕ) (side : ℕ) (bytes sheet tallies : List ℕ) → Effect
 receiving table schema side bytes sheet tallies = judgement (areCalls table) schema side bytes sheet (rowsOf tallies) (callsOf table)
 
 -- What an answer tells of the call table.
@@ -219,10 +219,10 @@ abbrev pub notReleased : Checked → List Call → Released
 notReleased check.Good l = releaseAnswer 15 0 l
 notReleased (check.Refused number row) l = releaseAnswer number row l
 
-unfoldable pub releaseJudgement : Bool → (schema : List ℕ) → List Call → (correlation : ℕ) → List Tally → ReleaseLine
-releaseJudgement known schema l id ts = cond known (released schema l id ts) (releaseLine (notReleased (checked schema) l) ts)
+unfoldable pub releaseJudgement : Bool → (schema : List ℕ) → List Call → (correlation : ℕ) → List Tally → ReleaseEffect
+releaseJudgement known schema l id ts = cond known (released schema l id ts) (releaseEffect (notReleased (checked schema) l) ts)
 
-abbrev pub releasing : (table schema : List ℕ) (correlation : ℕ) (tallies : List ℕ) → ReleaseLine
+abbrev pub releasing : (table schema : List ℕ) (correlation : ℕ) (tallies : List ℕ) → ReleaseEffect
 releasing table schema id tallies = releaseJudgement (areCalls table) schema (callsOf table) id (rowsOf tallies)
 
 -- The answer to a release: place, calls open.

@@ -1,7 +1,7 @@
 // The call table in cells that the caller lends, three a record.
 use crate::cells::put;
 use calls::Call;
-use calls::Own;
+use calls::OwnCall;
 use calls::Seat;
 use calls::forms::TABLE_1;
 use calls::good::distinct;
@@ -181,12 +181,12 @@ pub fn free_slot(cells: &[u64]) -> Found
 }
 
 // The record at a slot that was found.
-fn own(cells: &[u64], found: Found) -> Own
+fn own(cells: &[u64], found: Found) -> OwnCall
     ensures { λ r. ⌜ r ≡ recordAt (callsOf (now (cells .entry))) found ⌝ }
 {
     match found {
-        Found::Missing => Own::None,
-        Found::At(i) => Own::One(slot_at(cells, i)),
+        Found::Missing => OwnCall::None,
+        Found::At(i) => OwnCall::One(slot_at(cells, i)),
     }
 }
 

@@ -29,7 +29,7 @@ use Rattle.calls.specs.declared.Call.{Call}
 use Rattle.calls.specs.Slots.{goodTable}
 use Rattle.calls.proofs.Goodness.{fresh-good}
 use Rattle.calls.proofs.Limits.{FewIn, few-wide, few-fresh}
-use Rattle.receiver.specs.Fresh.{FreshLine}
+use Rattle.receiver.specs.Fresh.{FreshEffect}
 use Rattle.receiver.specs.declared.Received.{Received}
 use Rattle.receiver.proofs.Ways.{front-of}
 use Rattle.receiver.proofs.FreshRows.{rest-ignored, stays-good, few-more, used-or-rows}
@@ -66,7 +66,7 @@ module _ (schema : List ℕ) where
   same-answer : (side : ℕ) {h : Header} {p f : List ℕ} → IsFrame h p f → (rest : List ℕ) (l : List Call) → answerTo schema side (f ++ rest) l ≡ answerTo schema side f l
   unfolding answerTo
   same-answer side {h} {p} {f} is rest l =
-      ap (λ (a : FreshLine). a .answer) (rest-ignored schema side f sheet l _ (front-of side f h (length f - length p) (length p) (frame-reads is)) rest)
+      ap (λ (a : FreshEffect). a .answer) (rest-ignored schema side f sheet l _ (front-of side f h (length f - length p) (length p) (frame-reads is)) rest)
 
   lines-end : (entry : ℕ) (l : List Call) → linesOf schema entry [] l ≡ stoppedText 0 0
   unfolding linesOf

@@ -16,7 +16,7 @@ use Rattle.reader.specs.Entry.{outcome, readOutcome}
 use Rattle.calls.specs.declared.Payload.the-variants.{Struct, Empty, Unread}
 use Rattle.calls.specs.Slots.{countOpen}
 use Rattle.calls.specs.Order.{Past, Ruling, comes, pastOf, Ruled}
-use Rattle.receiver.specs.Answer.{Line, usedOf}
+use Rattle.receiver.specs.Answer.{Effect, usedOf}
 use Rattle.receiver.specs.Planning.{frameFrom}
 use Rattle.receiver.specs.Receive.{received}
 use Rattle.receiver.specs.Order.{Said, said, saidBy, Counted}
@@ -44,7 +44,7 @@ CountedNext schema st past is side h after y x =
     Counted (tableOf schema) (frameFrom side h) (pastNext schema st past is h) (runFrom schema st is .tallies) after y x
 
 -- The next answer.
-abbrev pub receivedNext : (schema : List ℕ) → State → List Event → (side : ℕ) (bytes after : List ℕ) → Line
+abbrev pub receivedNext : (schema : List ℕ) → State → List Event → (side : ℕ) (bytes after : List ℕ) → Effect
 receivedNext schema st is side bytes after = let now = runFrom schema st is in received schema side bytes after (now .tallies) (now .calls)
 
 -- `receive` answers such a frame, the first m of the bytes: a value that belongs as `read` answers it; with 0 an empty payload where nothing belongs, and any

@@ -108,7 +108,7 @@ Shown known s p depth ty fs place head at row sheet r after =
 abbrev pub Rooted : (known s p : List ℕ) (ty : ℕ) → List Field → (sheet : List ℕ) → Walk → (after : List ℕ) → Type 0
 Rooted known s p ty fs sheet r after = Walked p 1 (toldIn known s ty) (rootIn s p ty fs) 0 sheet r after
 
--- What a walker may assume. A walk that does not judging has been judged: its answer is known to accept.
+-- What a walker may assume. A walk that does not judge has been judged: its answer is known to accept.
 pub record Ready {A : Type 0} (s p : List ℕ) (at row : ℕ) (judging : Bool) (o : Answer A) : Type 0 where
   pub good : IsGood s
   pub small : length p ≤ 16384

@@ -1,7 +1,7 @@
 // The walkers: arrays, maps and structs, and what they hold, call each other in a cycle; the depth still allowed falls.
 // They read the payload p by the schema table s and write a row for each value, from `row` on, where the sheet has it.
 // Of a struct of type ty the first shown[ty] fields are shown: the others are read, and have no rows.
-// A walk that does not judging trusts that the same walk has been judged: it skips the tests that would read contents again.
+// A walk that does not judge trusts that the same walk has been judged: it skips the tests that would read contents again.
 use crate::added::is_partly_shown;
 use crate::added::structs;
 use crate::flat::elements;

@@ -36,9 +36,9 @@ use Rattle.calls.proofs.Apart.{error-unread}
 use Rattle.calls.proofs.Judgement.{judged-goes}
 use Rattle.value.specs.declared.Row.{Row}
 use Rattle.reader.specs.Entry.{Outcome}
-use Rattle.receiver.specs.Answer.{Line, line, inRow, stopped, payloadRead, numberIn, tallied, usedOf}
+use Rattle.receiver.specs.Answer.{Effect, effect, inRow, stopped, payloadRead, numberIn, tallied, usedOf}
 use Rattle.receiver.specs.Planning.{frameFrom}
-use Rattle.receiver.specs.Receive.{answered, frameSettled, frameLine, received}
+use Rattle.receiver.specs.Receive.{answered, frameSettled, frameEffect, received}
 use Rattle.receiver.specs.Claims.{Front, ShowsRows, Nothing, rowFor, Alike, tables, frameFault, needsMore, Keeping, elementLimit, tallyFull, rowsMiscounted, sheetSmall, KeptWhole}
 use Rattle.receiver.proofs.Ways.{front-is, Early, schema, calls, rows, frame, early, Way, stops, judges, ways, stops-early, judged}
 use Rattle.receiver.proofs.Rows.{unraised, rows-alike}
@@ -80,8 +80,8 @@ unfolding stopped
 stop-used l size w = rw (early-unused w)
 
 frame-used : (s : List ℕ) (f : Frame) (payload : List ℕ) (size : ℕ) (sheet : List ℕ) (ts : List Tally) (l : List Call)
-    → frameLine s f payload size sheet ts l .answer .used ≡ usedOf (frameLine s f payload size sheet ts l .answer .number) size
-unfolding frameLine frameSettled
+    → frameEffect s f payload size sheet ts l .answer .used ≡ usedOf (frameEffect s f payload size sheet ts l .answer .number) size
+unfolding frameEffect frameSettled
 frame-used s f payload size sheet ts l = refl
 
 -- ---- the calls open
@@ -91,14 +91,14 @@ unfolding stopped
 stop-counted l n q = refl
 
 frame-counted : (s : List ℕ) (f : Frame) (payload : List ℕ) (size : ℕ) (sheet : List ℕ) (ts : List Tally) (l : List Call)
-    → frameLine s f payload size sheet ts l .answer .«open» ≡ countOpen (frameLine s f payload size sheet ts l .answer .table .slots)
-unfolding frameLine frameSettled
+    → frameEffect s f payload size sheet ts l .answer .«open» ≡ countOpen (frameEffect s f payload size sheet ts l .answer .table .slots)
+unfolding frameEffect frameSettled
 frame-counted s f payload size sheet ts l = refl
 
 -- ---- a refusal
 
 -- no rows, no tail, no comparisons, and the sheet as it was
-stop-bare : (l : List Call) (n q : ℕ) (sheet : List ℕ) (ts : List Tally) → Nothing sheet (line (stopped l n q) sheet ts)
+stop-bare : (l : List Call) (n q : ℕ) (sheet : List ℕ) (ts : List Tally) → Nothing sheet (effect (stopped l n q) sheet ts)
 unfolding stopped
 stop-bare l n q sheet ts = record { rows = refl; tailPlace = refl; tailLength = refl; comparisons = refl; same = refl }
 
@@ -123,8 +123,8 @@ module _ (s payload sheet : List ℕ) (size : ℕ) (ts : List Tally) (l : List C
   refused-bare (Goes i c d) z = payload-bare (Goes i c d) d z
 
 module _ (s payload sheet : List ℕ) (size : ℕ) (ts : List Tally) (l : List Call) (f : Frame) where
-  frame-bare : (frameLine s f payload size sheet ts l .answer .number ≡ 0 → ⊥) → Nothing sheet (frameLine s f payload size sheet ts l)
-  unfolding frameLine frameSettled
+  frame-bare : (frameEffect s f payload size sheet ts l .answer .number ≡ 0 → ⊥) → Nothing sheet (frameEffect s f payload size sheet ts l)
+  unfolding frameEffect frameSettled
   frame-bare z =
       let J = judgeOf (tableOf s) f l in
       let r = riseOf (f .kind) l J in
@@ -162,8 +162,8 @@ none-raised false t = refl
 
 -- ---- ERROR
 
-error-bare : (s payload sheet : List ℕ) (size : ℕ) (ts : List Tally) (l : List Call) (f : Frame) → f .kind ≡ 7 → Nothing sheet (frameLine s f payload size sheet ts l)
-unfolding frameLine frameSettled
+error-bare : (s payload sheet : List ℕ) (size : ℕ) (ts : List Tally) (l : List Call) (f : Frame) → f .kind ≡ 7 → Nothing sheet (frameEffect s f payload size sheet ts l)
+unfolding frameEffect frameSettled
 error-bare s payload sheet size ts l f k =
     let J = judgeOf (tableOf s) f l in
     let r = riseOf (f .kind) l J in
@@ -174,7 +174,7 @@ module _ (s : List ℕ) (side : ℕ) (bytes sheet : List ℕ) (ts : List Tally) 
   pub used-by-number : received s side bytes sheet ts l .answer .used ≡ usedOf (received s side bytes sheet ts l .answer .number) (readUsed (frameOf bytes))
   used-by-number = go (ways s side bytes sheet ts l)
     where
-      go : {x : Line} → Way s side bytes sheet ts l x → x .answer .used ≡ usedOf (x .answer .number) (readUsed (frameOf bytes))
+      go : {x : Effect} → Way s side bytes sheet ts l x → x .answer .used ≡ usedOf (x .answer .number) (readUsed (frameOf bytes))
       go (stops {n} {q} w) = stop-used l (readUsed (frameOf bytes)) (early s l (length ts) bytes w)
       go (judges h place n w e) = rw e (frame-used s (frameFrom side h) (take n (drop place bytes)) (place + n) sheet ts l)
 
@@ -182,7 +182,7 @@ module _ (s : List ℕ) (side : ℕ) (bytes sheet : List ℕ) (ts : List Tally) 
   pub open-counted : received s side bytes sheet ts l .answer .«open» ≡ countOpen (received s side bytes sheet ts l .answer .table .slots)
   open-counted = go (ways s side bytes sheet ts l)
     where
-      go : {x : Line} → Way s side bytes sheet ts l x → x .answer .«open» ≡ countOpen (x .answer .table .slots)
+      go : {x : Effect} → Way s side bytes sheet ts l x → x .answer .«open» ≡ countOpen (x .answer .table .slots)
       go (stops {n} {q} w) = stop-counted l n q
       go (judges h place n w e) = frame-counted s (frameFrom side h) (take n (drop place bytes)) (place + n) sheet ts l
 
@@ -197,7 +197,7 @@ module _ (s : List ℕ) (side : ℕ) (bytes sheet : List ℕ) (ts : List Tally) 
   pub refused-untouched : (received s side bytes sheet ts l .answer .number ≡ 0 → ⊥) → Nothing sheet (received s side bytes sheet ts l)
   refused-untouched = go (ways s side bytes sheet ts l)
     where
-      go : {x : Line} → Way s side bytes sheet ts l x → (x .answer .number ≡ 0 → ⊥) → Nothing sheet x
+      go : {x : Effect} → Way s side bytes sheet ts l x → (x .answer .number ≡ 0 → ⊥) → Nothing sheet x
       go (stops {n} {q} w) z = stop-bare l n q sheet ts
       go (judges h place n w e) z = frame-bare s (take n (drop place bytes)) sheet (place + n) ts l (frameFrom side h) z
 
@@ -205,7 +205,7 @@ module _ (s : List ℕ) (side : ℕ) (bytes sheet : List ℕ) (ts : List Tally) 
   pub error-untouched : (f : Frame) → Front side bytes f → f .kind ≡ 7 → Nothing sheet (received s side bytes sheet ts l)
   error-untouched f w k = go (ways s side bytes sheet ts l)
     where
-      go : {x : Line} → Way s side bytes sheet ts l x → Nothing sheet x
+      go : {x : Effect} → Way s side bytes sheet ts l x → Nothing sheet x
       go (stops {n} {q} v) = stop-bare l n q sheet ts
       go (judges h place n r e) =
           let same : h ≡ w .header = cc in
@@ -215,7 +215,7 @@ module _ (s : List ℕ) (side : ℕ) (bytes sheet : List ℕ) (ts : List Tally) 
   pub rest-ignored : (f : Frame) → Front side bytes f → (rest : List ℕ) → received s side (bytes ++ rest) sheet ts l ≡ received s side bytes sheet ts l
   rest-ignored f w rest = go (ways s side bytes sheet ts l)
     where
-      go : {x : Line} → Way s side bytes sheet ts l x → received s side (bytes ++ rest) sheet ts l ≡ x
+      go : {x : Effect} → Way s side bytes sheet ts l x → received s side (bytes ++ rest) sheet ts l ≡ x
       go (stops (tables e)) = stops-early s side (bytes ++ rest) sheet ts l (tables e)
       go (stops (frameFault {n} r e)) = let bad : Refused n ≡ Whole (w .header) (w .place) (w .size) = sym (refused-iff bytes n .1 e) ∙ w .whole in differ cc
       go (stops (needsMore r e)) = let bad : More ≡ Whole (w .header) (w .place) (w .size) = sym (more-iff bytes .1 e) ∙ w .whole in differ cc

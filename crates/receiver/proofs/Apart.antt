@@ -25,9 +25,9 @@ use Rattle.reader.specs.declared.Reading.{Reading}
 use Rattle.reader.specs.Entry.{Outcome, readingIn, room, numbers}
 use Rattle.receiver.specs.declared.Next.{Next}
 use Rattle.receiver.specs.declared.Next.the-variants as next
-use Rattle.receiver.specs.Answer.{Line, line, inRow, stopped, payloadRead, tallied, usedOf, answerOf}
+use Rattle.receiver.specs.Answer.{Effect, effect, inRow, stopped, payloadRead, tallied, usedOf, answerOf}
 use Rattle.receiver.specs.Planning.{frameFrom, planOf}
-use Rattle.receiver.specs.Receive.{answered, frameSettled, settled, frameLine, received}
+use Rattle.receiver.specs.Receive.{answered, frameSettled, settled, frameEffect, received}
 use Rattle.receiver.specs.Claims.{Reply, replyOf, rowFor, Ready, Unready, schemaFault, callsBad, rowsWrong, Stops, tables, frameFault, needsMore, Alike, SameAnswer}
 use Rattle.receiver.proofs.Ways.{front-of, Way, stops, judges, ways, stops-early, judged}
 use Rattle.receiver.proofs.Payloads.{none-shown, Both, both-read, both-tallied}
@@ -58,7 +58,7 @@ reply-by size r l (Opens j c d) = refl
 reply-by size r l (Goes i c d) = refl
 
 module _ (sheet₁ sheet₂ : List ℕ) (ts₁ ts₂ : List Tally) (l₁ l₂ : List Call) where
-  stop-same : (n q : ℕ) → SameAnswer sheet₁ sheet₂ (line (stopped l₁ n q) sheet₁ ts₁) (line (stopped l₂ n q) sheet₂ ts₂)
+  stop-same : (n q : ℕ) → SameAnswer sheet₁ sheet₂ (effect (stopped l₁ n q) sheet₁ ts₁) (effect (stopped l₂ n q) sheet₂ ts₂)
   unfolding stopped
   stop-same n q =
       record { reply = refl; rows = []; first = record { rows = refl; cells = none-shown sheet₁ }; second = record { rows = refl; cells = none-shown sheet₂ } }
@@ -97,8 +97,8 @@ module _ (sheet₁ sheet₂ : List ℕ) (ts₁ ts₂ : List Tally) (l₁ l₂ : 
 
     frame-same : (f : Frame) (payload : List ℕ) (size : ℕ) → ownOf (f .correlation) l₁ ≡ ownOf (f .correlation) l₂ → (f .kind ≡ 1 → full l₁ ≡ full l₂)
         → ((m : ℕ) → callMethod T f (ownOf (f .correlation) l₁) ≡ At m → rowFor ts₁ m ≡ rowFor ts₂ m)
-        → SameAnswer sheet₁ sheet₂ (frameLine s f payload size sheet₁ ts₁ l₁) (frameLine s f payload size sheet₂ ts₂ l₂)
-    unfolding frameLine frameSettled
+        → SameAnswer sheet₁ sheet₂ (frameEffect s f payload size sheet₁ ts₁ l₁) (frameEffect s f payload size sheet₂ ts₂ l₂)
+    unfolding frameEffect frameSettled
     frame-same f payload size own slots rows =
         let J₁ = judgeOf T f l₁ in
         let J₂ = judgeOf T f l₂ in
@@ -138,7 +138,7 @@ module _ (sheet₁ sheet₂ : List ℕ) (ts₁ ts₂ : List Tally) (l₁ l₂ : 
       pub same-answer : SameAnswer sheet₁ sheet₂ (received s side bytes sheet₁ ts₁ l₁) (received s side bytes sheet₂ ts₂ l₂)
       same-answer = go (ways s side bytes sheet₁ ts₁ l₁)
         where
-          go : {x : Line} → Way s side bytes sheet₁ ts₁ l₁ x → SameAnswer sheet₁ sheet₂ x (received s side bytes sheet₂ ts₂ l₂)
+          go : {x : Effect} → Way s side bytes sheet₁ ts₁ l₁ x → SameAnswer sheet₁ sheet₂ x (received s side bytes sheet₂ ts₂ l₂)
           go (stops {n} {q} e) = rw (stops-early s side bytes sheet₂ ts₂ l₂ (stops-too e)) (stop-same n q)
           go (judges h place n r e) =
               let f = frameFrom side h in

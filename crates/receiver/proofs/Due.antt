@@ -20,9 +20,9 @@ use Rattle.reader.specs.declared.Reading.{Reading}
 use Rattle.reader.specs.declared.Reading.the-variants.{Shown, Refused}
 use Rattle.reader.specs.Entry.{Outcome, outcome, numbers}
 use Rattle.reader.proofs.Entries.{dueIn, payload-within}
-use Rattle.receiver.specs.Answer.{Line, stopped, payloadRead, numberIn, tallied}
+use Rattle.receiver.specs.Answer.{Effect, stopped, payloadRead, numberIn, tallied}
 use Rattle.receiver.specs.Planning.{frameFrom}
-use Rattle.receiver.specs.Receive.{frameSettled, frameLine, received}
+use Rattle.receiver.specs.Receive.{frameSettled, frameEffect, received}
 use Rattle.receiver.proofs.Ways.{Way, stops, judges, ways}
 
 module _ (s p sheet : List ℕ) (g : IsGood s) where
@@ -37,8 +37,8 @@ module _ (s p sheet : List ℕ) (g : IsGood s) where
       let o = payloadRead s d p sheet in
       cond-case (λ (x : Outcome). dueIn x ≤ 258048) (fullAt t (figureBy r (numberIn o))) (outcome (Refused 18 0) sheet) o (λ _. omega arith) (λ _. payload-few d)
 
-  frame-few : (f : Frame) (size : ℕ) (ts : List Tally) (l : List Call) → frameLine s f p size sheet ts l .answer .comparisons ≤ 258048
-  unfolding frameLine frameSettled
+  frame-few : (f : Frame) (size : ℕ) (ts : List Tally) (l : List Call) → frameEffect s f p size sheet ts l .answer .comparisons ≤ 258048
+  unfolding frameEffect frameSettled
   frame-few f size ts l = let J = judgeOf (tableOf s) f l in let r = riseOf (f .kind) l J in tallied-few (getD ts (r .row) noTally) r (dueOf J)
 
 stop-few : (l : List Call) (n q : ℕ) → stopped l n q .comparisons ≤ 258048
@@ -49,6 +49,6 @@ stop-few l n q = omega arith
 pub comparisons-within : (s : List ℕ) (side : ℕ) (bytes sheet : List ℕ) (ts : List Tally) (l : List Call) → received s side bytes sheet ts l .answer .comparisons ≤ 258048
 comparisons-within s side bytes sheet ts l = go (ways s side bytes sheet ts l)
   where
-    go : {x : Line} → Way s side bytes sheet ts l x → x .answer .comparisons ≤ 258048
+    go : {x : Effect} → Way s side bytes sheet ts l x → x .answer .comparisons ≤ 258048
     go (stops {n} {q} w) = stop-few l n q
     go (judges h place n w e) = frame-few s (take n (drop place bytes)) sheet (w .schemaGood) (frameFrom side h) (place + n) ts l

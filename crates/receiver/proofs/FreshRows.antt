@@ -36,12 +36,12 @@ use Rattle.reader.specs.declared.Reading.the-variants.{Refused as Failed}
 use Rattle.reader.specs.Entry.{Outcome, outcome, readingIn, sheetIn, room}
 use Rattle.receiver.specs.declared.Next.{Next}
 use Rattle.receiver.specs.declared.Next.the-variants.{Refused as NextRefused, Settle}
-use Rattle.receiver.specs.Answer.{Line, payloadRead, numberIn, tallied, answerOf, usedOf}
+use Rattle.receiver.specs.Answer.{Effect, payloadRead, numberIn, tallied, answerOf, usedOf}
 use Rattle.receiver.specs.Planning.{planOf}
 use Rattle.receiver.specs.Receive.{frameSettled, settled, received}
 use Rattle.receiver.specs.Claims.{Front, Keeps, limit, tally, fewRows, rowFor}
 use Rattle.receiver.specs.Run.{Input, input, frameHeard, numberOf, runFrom, heardFrom, callsAfter, rowsAfter, answerAfter, freshTallies, freshState}
-use Rattle.receiver.specs.Fresh.{FreshLine, freshLine, receivedFresh, inputs, freshRun}
+use Rattle.receiver.specs.Fresh.{FreshEffect, freshEffect, receivedFresh, inputs, freshRun}
 use Rattle.receiver.proofs.Rows.{fresh-row}
 use Rattle.receiver.proofs.Lent.{fresh-long}
 use Rattle.receiver.proofs.Kept.{holds, stays-good as rows-good}
@@ -57,7 +57,7 @@ module _ (s : List ℕ) (side : ℕ) (bytes sheet : List ℕ) (l : List Call) wh
   abbrev fresh : List Tally
   fresh = freshTallies (tableOf s)
 
-  abbrev a : FreshLine
+  abbrev a : FreshEffect
   a = receivedFresh s side bytes sheet l
 
   -- Bytes used: the frame's length, or 0, by the number.
@@ -68,7 +68,7 @@ module _ (s : List ℕ) (side : ℕ) (bytes sheet : List ℕ) (l : List Call) wh
   -- Bytes after the frame change nothing.
   pub rest-ignored : (f : Frame) → Front side bytes f → (rest : List ℕ) → receivedFresh s side (bytes ++ rest) sheet l ≡ a
   unfolding receivedFresh
-  rest-ignored f w rest = ap (λ (x : Line). freshLine (x .answer) (x .sheet)) (rows-rest s side bytes sheet fresh l f w rest)
+  rest-ignored f w rest = ap (λ (x : Effect). freshEffect (x .answer) (x .sheet)) (rows-rest s side bytes sheet fresh l f w rest)
 
   -- The answer depends on the sheet's room alone.
   pub same-room : (sheet₂ : List ℕ) → room sheet ≡ room sheet₂ → a .answer ≡ receivedFresh s side bytes sheet₂ l .answer
@@ -184,7 +184,7 @@ module _ (s : List ℕ) (g : IsGood s) where
   -- After fewer than 4294967295 frames from a fresh start the next one has the same answer and sheet with the rows of that run as with fresh ones.
   pub fresh-answers : (is : List Input) → length is < 4294967295 → (i : Input) →
       let x = answerAfter s (freshState T) (inputs is) i in
-      freshLine (x .answer) (x .sheet) ≡ receivedFresh s (i .side) (i .bytes) (i .sheet) (callsAfter s (freshState T) (inputs is))
+      freshEffect (x .answer) (x .sheet) ≡ receivedFresh s (i .side) (i .bytes) (i .sheet) (callsAfter s (freshState T) (inputs is))
   unfolding receivedFresh
   fresh-answers is h i =
       let n = length (T .methods) in
@@ -194,12 +194,12 @@ module _ (s : List ℕ) (g : IsGood s) where
       let here = unfull-answer s (i .bytes) (i .sheet) l (i .side) n (rowsAfter s (freshState T) (inputs is)) long
       (λ m. subst Unfull (sym (rows-follow s g (inputs is) m)) (small-figure es m (omega (arith, h, heard-most s is)))) in
       let there = unfull-answer s (i .bytes) (i .sheet) l (i .side) n (freshTallies T) (fresh-long T) (λ m. subst Unfull (sym (fresh-row T m)) zero-full) in
-      λ j. freshLine ((here .0 ∙ sym (there .0)) j) ((here .1 ∙ sym (there .1)) j)
+      λ j. freshEffect ((here .0 ∙ sym (there .0)) j) ((here .1 ∙ sym (there .1)) j)
 
   -- So a record of fewer than 2^32 entries leaves the same calls.
   pub fresh-calls : (is : List Input) → length is < 4294967296 → callsAfter s (freshState T) (inputs is) ≡ freshRun s is (freshTable .slots)
   unfolding runFrom freshRun
   fresh-calls [] h = refl
   fresh-calls (i ∷ is) h =
-      ap (λ (x : FreshLine). x .answer .table .slots) (fresh-answers is (omega (arith, h)) i)
+      ap (λ (x : FreshEffect). x .answer .table .slots) (fresh-answers is (omega (arith, h)) i)
       ∙ ap (λ (l : List Call). receivedFresh s (i .side) (i .bytes) (i .sheet) l .answer .table .slots) (fresh-calls is (omega (arith, h)))

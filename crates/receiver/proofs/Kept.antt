@@ -23,11 +23,11 @@ use Rattle.calls.specs.Counting.{noRise, releaseRise, figureBy, raised, rowAfte
 use Rattle.calls.proofs.Goodness.{good-test}
 use Rattle.calls.proofs.Kept.{test-stays, stays-long, release-test, release-long}
 use Rattle.calls.proofs.Rises.{figure-answered, release-figure, Known, frame-known, release-known}
-use Rattle.receiver.specs.Answer.{Line, stopped, payloadRead, numberIn, tallied}
+use Rattle.receiver.specs.Answer.{Effect, stopped, payloadRead, numberIn, tallied}
 use Rattle.receiver.specs.Planning.{frameFrom}
 pub use Rattle.receiver.specs.Receive.{frameRise}
-use Rattle.receiver.specs.Receive.{frameSettled, frameLine, received}
-use Rattle.receiver.specs.Release.{ReleaseLine, releaseAnswer, released}
+use Rattle.receiver.specs.Receive.{frameSettled, frameEffect, received}
+use Rattle.receiver.specs.Release.{ReleaseEffect, releaseAnswer, released}
 use Rattle.receiver.specs.Claims.{Front, Ready, Unready, Stops, rowFor}
 use Rattle.receiver.proofs.Ways.{front-of, Way, stops, judges, ways, releasedNumber, number-spares, ReleaseWay, unready, releases, release-ways}
 use Rattle.receiver.proofs.Rows.{rowsWith, rows-with}
@@ -47,20 +47,20 @@ by-number m r n p t e = ap (λ (f : Figure). cond (eqb (r .row) m) (raised t f) 
 module _ (s : List ℕ) (f : Frame) (payload : List ℕ) (size : ℕ) (sheet : List ℕ) (ts : List Tally) (l : List Call) where
   -- a whole frame is a step
   pub frame-holds : (P : ℕ → List Call → Type 0) → let r = receive (tableOf s) f (readingOf s f payload sheet ts l) l in
-      P (r .number) (r .table .slots) → P (frameLine s f payload size sheet ts l .answer .number) (frameLine s f payload size sheet ts l .answer .table .slots)
-  unfolding frameLine frameSettled receive stepOf
+      P (r .number) (r .table .slots) → P (frameEffect s f payload size sheet ts l .answer .number) (frameEffect s f payload size sheet ts l .answer .table .slots)
+  unfolding frameEffect frameSettled receive stepOf
   frame-holds P h = h
 
-  frame-rows : frameLine s f payload size sheet ts l .tallies ≡ rowsWith ts (frameRise s f l) (readingOf s f payload sheet ts l (dueOf (judgeOf (tableOf s) f l)))
-  unfolding frameLine frameSettled
+  frame-rows : frameEffect s f payload size sheet ts l .tallies ≡ rowsWith ts (frameRise s f l) (readingOf s f payload sheet ts l (dueOf (judgeOf (tableOf s) f l)))
+  unfolding frameEffect frameSettled
   frame-rows = refl
 
-  frame-number : frameLine s f payload size sheet ts l .answer .number ≡ numberOf (judgeOf (tableOf s) f l) (readingOf s f payload sheet ts l (dueOf (judgeOf (tableOf s) f l)))
-  unfolding frameLine frameSettled stepOf
+  frame-number : frameEffect s f payload size sheet ts l .answer .number ≡ numberOf (judgeOf (tableOf s) f l) (readingOf s f payload sheet ts l (dueOf (judgeOf (tableOf s) f l)))
+  unfolding frameEffect frameSettled stepOf
   frame-number = refl
 
   -- every row afterwards
-  pub frame-row : Ready s l (length ts) → (m : ℕ) → let a = frameLine s f payload size sheet ts l in
+  pub frame-row : Ready s l (length ts) → (m : ℕ) → let a = frameEffect s f payload size sheet ts l in
       rowFor (a .tallies) m ≡ rowAfter m (frameRise s f l) (a .answer .number) (rowFor ts m)
   frame-row w m =
       let J = judgeOf (tableOf s) f l in
@@ -84,7 +84,7 @@ module _ (s : List ℕ) (side : ℕ) (bytes sheet : List ℕ) (ts : List Tally) 
       → let a = received s side bytes sheet ts l in P (a .answer .number) (a .answer .table .slots) (rowFor (a .tallies) m)
   holds-row m P stop step = go (ways s side bytes sheet ts l)
     where
-      go : {x : Line} → Way s side bytes sheet ts l x → P (x .answer .number) (x .answer .table .slots) (rowFor (x .tallies) m)
+      go : {x : Effect} → Way s side bytes sheet ts l x → P (x .answer .number) (x .answer .table .slots) (rowFor (x .tallies) m)
       go (stops {n} {q} w) = stop-holds (λ k l′. P k l′ (rowFor ts m)) l n q (stop n q w)
       go (judges h place n w e) =
           let f = frameFrom side h in
@@ -111,7 +111,7 @@ module _ (s : List ℕ) (side : ℕ) (bytes sheet : List ℕ) (ts : List Tally) 
   pub same-rows : length (received s side bytes sheet ts l .tallies) ≡ length ts
   same-rows = go (ways s side bytes sheet ts l)
     where
-      go : {x : Line} → Way s side bytes sheet ts l x → length (x .tallies) ≡ length ts
+      go : {x : Effect} → Way s side bytes sheet ts l x → length (x .tallies) ≡ length ts
       go (stops w) = refl
       go (judges h place n w e) =
           let f = frameFrom side h in
@@ -139,7 +139,7 @@ module _ (s : List ℕ) (l : List Call) (id : ℕ) (ts : List Tally) where
       → let a = released s l id ts in P (a .answer .number) (a .answer .table .slots) (rowFor (a .tallies) m)
   release-holds-row m P stop step = go (release-ways s l id ts)
     where
-      go : {x : ReleaseLine} → ReleaseWay s l id ts x → P (x .answer .number) (x .answer .table .slots) (rowFor (x .tallies) m)
+      go : {x : ReleaseEffect} → ReleaseWay s l id ts x → P (x .answer .number) (x .answer .table .slots) (rowFor (x .tallies) m)
       go (unready {n} {q} w) = told-holds (λ k l′. P k l′ (rowFor ts m)) n q l (stop n q w)
       go (releases w) =
           let n = releasedNumber s l id ts in
@@ -167,6 +167,6 @@ module _ (s : List ℕ) (l : List Call) (id : ℕ) (ts : List Tally) where
   pub release-rows : length (released s l id ts .tallies) ≡ length ts
   release-rows = go (release-ways s l id ts)
     where
-      go : {x : ReleaseLine} → ReleaseWay s l id ts x → length (x .tallies) ≡ length ts
+      go : {x : ReleaseEffect} → ReleaseWay s l id ts x → length (x .tallies) ≡ length ts
       go (unready w) = refl
       go (releases w) = length-set ts _ _

@@ -38,8 +38,8 @@ use Rattle.calls.specs.Record.{emptyCall, allowed, notAllowed, atLimit, afterFr
 use Rattle.calls.specs.declared.Rise.{Rise}
 use Rattle.calls.specs.Counting.{riseOf, releaseRise, figureBy, fullAt}
 use Rattle.calls.specs.Slots.{ownOf, full}
-use Rattle.calls.specs.declared.Own.{Own}
-use Rattle.calls.specs.declared.Own.the-variants.{None as none, One as one}
+use Rattle.calls.specs.declared.OwnCall.{OwnCall}
+use Rattle.calls.specs.declared.OwnCall.the-variants.{None as none, One as one}
 use Rattle.calls.specs.Judge.{rightSide, payloadOf, releaseVerdict, judgeOf, judgeRelease, Verdict, stop, opens, goes, invokeVerdict, otherVerdict, verdictOf}
 use Rattle.calls.specs.Step.{stepOf, dueOf, release}
 use Rattle.calls.specs.Apart.{verdict, verdictNumber}
@@ -55,10 +55,10 @@ use Rattle.reader.specs.declared.Reading.{Reading}
 use Rattle.reader.specs.declared.Reading.the-variants.{Shown, Refused}
 use Rattle.reader.specs.Entry.{Outcome, outcome, readingIn, outcomeOf, room, payloadOutcome, numbers}
 use Rattle.calls.proofs.Counted.{full-iff}
-use Rattle.receiver.specs.Answer.{Line, stopped, payloadRead, numberIn, tallied}
+use Rattle.receiver.specs.Answer.{Effect, stopped, payloadRead, numberIn, tallied}
 use Rattle.receiver.specs.Planning.{frameFrom}
-use Rattle.receiver.specs.Receive.{answered, frameSettled, frameLine, received}
-use Rattle.receiver.specs.Release.{ReleaseLine, releaseAnswer, released}
+use Rattle.receiver.specs.Receive.{answered, frameSettled, frameEffect, received}
+use Rattle.receiver.specs.Release.{ReleaseEffect, releaseAnswer, released}
 use Rattle.receiver.specs.Claims as claims
 use Rattle.receiver.specs.Claims.{AnswerNumber, accepted, frame, call, value as fault, pairs, payload, shape as formed, row}
 use Rattle.receiver.specs.Claims.{Stopping, ofFrame, ofCalls, ofRows, ofSchema, Keeps, limit, tally, fewRows, rowFor, Ready, Unready, schemaFault, callsBad, rowsWrong}
@@ -69,10 +69,10 @@ use Rattle.receiver.proofs.Ways.{releasedRow, releasedNumber, ReleaseWa
 -- ---- the payload
 
 -- A judged frame's number: one that uses the frame, or one that keeps it.
-abbrev Judging : (kind : ℕ) → Own → List Tally → (number place : ℕ) → Type 0
+abbrev Judging : (kind : ℕ) → OwnCall → List Tally → (number place : ℕ) → Type 0
 Judging kind own ts n p = AnswerNumber n p × (UsesFrame n ⊎ Keeps kind own ts n)
 
-module _ (kind : ℕ) (own : Own) (ts : List Tally) where
+module _ (kind : ℕ) (own : OwnCall) (ts : List Tally) where
   -- the number and place of a payload's reading
   abbrev Told : Outcome → Type 0
   Told o = Judging kind own ts (numberIn o) (numbers (readingIn o) .place)
@@ -107,19 +107,19 @@ module _ (kind : ℕ) (own : Own) (ts : List Tally) where
 
 -- ---- the side and the call
 
-abbrev Refusing : (kind : ℕ) → Own → List Tally → ℕ → Type 0
+abbrev Refusing : (kind : ℕ) → OwnCall → List Tally → ℕ → Type 0
 Refusing kind own ts n = (8 ≤ n) × ((n ≤ 17) × (UsesFrame n ⊎ Keeps kind own ts n))
 
-Stops : (kind : ℕ) → Own → List Tally → Verdict → Type 0
+Stops : (kind : ℕ) → OwnCall → List Tally → Verdict → Type 0
 Stops kind own ts (stop n) = Refusing kind own ts n
 Stops kind own ts (opens c d) = Unit {0}
 Stops kind own ts (goes c d) = Unit {0}
 
 module _ (T : Table) (f : Frame) (ts : List Tally) where
-  refusing : (own : Own) (n : ℕ) → 8 ≤ n → n ≤ 14 → Refusing (f .kind) own ts n
+  refusing : (own : OwnCall) (n : ℕ) → 8 ≤ n → n ≤ 14 → Refusing (f .kind) own ts n
   refusing own n low high = (low, (omega (arith, high), inl (call-used low high)))
 
-  invoke-stops : (m : Found) (own : Own) (b : Bool) → Stops (f .kind) own ts (invokeVerdict T (f .correlation) m own b)
+  invoke-stops : (m : Found) (own : OwnCall) (b : Bool) → Stops (f .kind) own ts (invokeVerdict T (f .correlation) m own b)
   unfolding Stops
   invoke-stops Missing own b = refusing own _ (lit≤ tt) (lit≤ tt)
   invoke-stops (At m) (one c) b = refusing (one c) _ (lit≤ tt) (lit≤ tt)
@@ -132,7 +132,7 @@ module _ (T : Table) (f : Frame) (ts : List Tally) where
       cond-case (Refusing (f .kind) (one c) ts) (c .cancelled && (leb 4 (f .kind) && leb (f .kind) 7)) 16 14 (λ _. (lit≤ tt, (lit≤ tt, inl dropped)))
       (λ _. refusing (one c) 14 (lit≤ tt) (lit≤ tt))
 
-  other-stops : (own : Own) → Stops (f .kind) own ts (otherVerdict T f own)
+  other-stops : (own : OwnCall) → Stops (f .kind) own ts (otherVerdict T f own)
   unfolding Stops
   other-stops none = refusing none _ (lit≤ tt) (lit≤ tt)
   other-stops (one c) =
@@ -147,7 +147,7 @@ module _ (T : Table) (f : Frame) (ts : List Tally) where
       (λ _. cond-case P (atLimit (f .kind) c) (stop 17) next (λ e. (lit≤ tt, (lit≤ tt, inr (limit c refl e)))) (λ _. tt)) (λ _. late-stops c))
       (λ _. refusing (one c) _ (lit≤ tt) (lit≤ tt))
 
-  verdict-stops : (own : Own) (b : Bool) → Stops (f .kind) own ts (verdictOf T f own b)
+  verdict-stops : (own : OwnCall) (b : Bool) → Stops (f .kind) own ts (verdictOf T f own b)
   unfolding verdictOf Stops
   verdict-stops own b =
       let invoke = invokeVerdict T (f .correlation) (findMethod T (f .«package») (f .service) (f .method)) own b in
@@ -158,7 +158,7 @@ module _ (T : Table) (f : Frame) (ts : List Tally) where
 
 -- ---- the whole answer
 
-answered-listed : (kind : ℕ) (own : Own) (s p sheet : List ℕ) (size : ℕ) (ts : List Tally) (l : List Call) (r : Rise) (J : Judged) → Stops kind own ts (verdict J)
+answered-listed : (kind : ℕ) (own : OwnCall) (s p sheet : List ℕ) (size : ℕ) (ts : List Tally) (l : List Call) (r : Rise) (J : Judged) → Stops kind own ts (verdict J)
     → Told kind own ts (tallied (rowFor ts (r .row)) r sheet (payloadRead s (dueOf J) p sheet))
     → let t = rowFor ts (r .row) in
     let a = answered size l J r t (tallied t r sheet (payloadRead s (dueOf J) p sheet)) in Judging kind own ts (a .answer .number) (a .answer .place)
@@ -182,8 +182,8 @@ answered-listed kind own s p sheet size ts l r (Opens j c d) w told = told
 answered-listed kind own s p sheet size ts l r (Goes i c d) w told = told
 
 frame-listed : (s : List ℕ) (f : Frame) (p : List ℕ) (size : ℕ) (sheet : List ℕ) (ts : List Tally) (l : List Call) → Ready s l (length ts) → length p ≤ 16384
-    → let a = frameLine s f p size sheet ts l in Judging (f .kind) (ownOf (f .correlation) l) ts (a .answer .number) (a .answer .place)
-unfolding frameLine frameSettled
+    → let a = frameEffect s f p size sheet ts l in Judging (f .kind) (ownOf (f .correlation) l) ts (a .answer .number) (a .answer .place)
+unfolding frameEffect frameSettled
 frame-listed s f p size sheet ts l w small =
     let J = judgeOf (tableOf s) f l in
     let r = riseOf (f .kind) l J in
@@ -208,15 +208,15 @@ pub listed : (s : List ℕ) (side : ℕ) (bytes sheet : List ℕ) (ts : List Tal
     → let a = received s side bytes sheet ts l in AnswerNumber (a .answer .number) (a .answer .place)
 listed s side bytes sheet ts l = go (ways s side bytes sheet ts l)
   where
-    go : {x : Line} → Way s side bytes sheet ts l x → AnswerNumber (x .answer .number) (x .answer .place)
+    go : {x : Effect} → Way s side bytes sheet ts l x → AnswerNumber (x .answer .number) (x .answer .place)
     go (stops w) = stop-listed l (early s l (length ts) bytes w)
     go (judges h place n w e) =
         let small : length (take n (drop place bytes)) ≤ 16384 = simp length-take (omega (arith, read-bounds bytes e .small)) in
         frame-listed s (frameFrom side h) (take n (drop place bytes)) (place + n) sheet ts l w small .0
 
-by-number : (s : List ℕ) (f : Frame) (p : List ℕ) (size : ℕ) (sheet : List ℕ) (ts : List Tally) (l : List Call) {A : Type 0} → let a = frameLine s f p size sheet ts l in
+by-number : (s : List ℕ) (f : Frame) (p : List ℕ) (size : ℕ) (sheet : List ℕ) (ts : List Tally) (l : List Call) {A : Type 0} → let a = frameEffect s f p size sheet ts l in
     UsesFrame (a .answer .number) ⊎ A → (a .answer .used ≡ size) ⊎ A
-unfolding frameLine frameSettled
+unfolding frameEffect frameSettled
 by-number s f p size sheet ts l (inl u) = inl (ap (λ (b : Bool). cond b size 0) (uses-iff _ .1 u))
 by-number s f p size sheet ts l (inr z) = inr z
 
@@ -226,7 +226,7 @@ pub used-or-kept : (s : List ℕ) (side : ℕ) (bytes sheet : List ℕ) (ts : Li
     → let a = received s side bytes sheet ts l in (a .answer .used ≡ place + n) ⊎ Keeps (h .kind) (ownOf (h .correlation) l) ts (a .answer .number)
 used-or-kept s side bytes sheet ts l {h} {place} {n} w e =
     let small : length (take n (drop place bytes)) ≤ 16384 = simp length-take (omega (arith, read-bounds bytes e .small)) in
-    subst (λ (x : Line). (x .answer .used ≡ place + n) ⊎ Keeps (h .kind) (ownOf (h .correlation) l) ts (x .answer .number)) (sym (judged s side bytes sheet ts l h place n w e))
+    subst (λ (x : Effect). (x .answer .used ≡ place + n) ⊎ Keeps (h .kind) (ownOf (h .correlation) l) ts (x .answer .number)) (sym (judged s side bytes sheet ts l h place n w e))
     (by-number s (frameFrom side h) (take n (drop place bytes)) (place + n) sheet ts l
     (frame-listed s (frameFrom side h) (take n (drop place bytes)) (place + n) sheet ts l w small .1))
 
@@ -247,7 +247,7 @@ none-used dropped e w = stopping-between w .3 (omega (arith, e), omega (arith, e
 none-used (value-used low high) e w = omega (arith, stopping-between w .2 (omega (arith, low, e)), high, e)
 none-used refused-pairs e w = omega (arith, stopping-between w .2 (omega (arith, e)), e)
 
-none-kept : {kind : ℕ} {own : Own} {ts : List Tally} {m : ℕ} → Keeps kind own ts m → {n : ℕ} → m ≡ n → Stopping n → ⊥
+none-kept : {kind : ℕ} {own : OwnCall} {ts : List Tally} {m : ℕ} → Keeps kind own ts m → {n : ℕ} → m ≡ n → Stopping n → ⊥
 none-kept (limit c o t) e w = stopping-between w .3 (omega (arith, e), omega (arith, e))
 none-kept (tally m x f) e w = stopping-between w .3 (omega (arith, e), omega (arith, e))
 none-kept fewRows e w = omega (arith, stopping-between w .2 (omega (arith, e)), e)
@@ -261,7 +261,7 @@ pub stopped-iff : (s : List ℕ) (side : ℕ) (bytes sheet : List ℕ) (ts : Lis
     → let a = received s side bytes sheet ts l .answer in ((a .number ≡ n) × (a .place ≡ q)) ↔ claims.Stops s bytes l (length ts) n q
 stopped-iff s side bytes sheet ts l n q w = (λ (e, e′). go (ways s side bytes sheet ts l) e e′, back)
   where
-    go : {x : Line} → Way s side bytes sheet ts l x → x .answer .number ≡ n → x .answer .place ≡ q → claims.Stops s bytes l (length ts) n q
+    go : {x : Effect} → Way s side bytes sheet ts l x → x .answer .number ≡ n → x .answer .place ≡ q → claims.Stops s bytes l (length ts) n q
     go (stops {n = m} {q = p} v) e e′ =
         let told = stop-told l m p in
         subst (claims.Stops s bytes l (length ts) n) (sym (told .1) ∙ e′)
@@ -286,7 +286,7 @@ unready-number s l k (rowsWrong g w n) = inr (inl refl)
 unready-number s l k (schemaFault {n} {row} e) = inr (inr (listed-bounds (tableOf s) (schema-listed s n row (schema-refused s n row .1 e)) .0))
 
 -- the number of a release that may be made is 0 or 18
-judged-listed : (n : ℕ) → ReleaseListed n 0 → (own : Own) → ReleaseListed (verdictNumber (releaseVerdict own) n) 0
+judged-listed : (n : ℕ) → ReleaseListed n 0 → (own : OwnCall) → ReleaseListed (verdictNumber (releaseVerdict own) n) 0
 judged-listed n w none = notOpen
 judged-listed n w (one c) = cond-case (λ (v : Verdict). ReleaseListed (verdictNumber v n) 0) (c .cancelled) (goes emptyCall Unread) (stop 14) (λ _. w) (λ _. notCancelled)
 
@@ -305,7 +305,7 @@ release-listed s l id ts = go (release-ways s l id ts)
     listed-number =
         cond-case (λ (k : ℕ). ReleaseListed k 0) (fullAt (releasedRow s l id ts) (figureBy (releaseRise l (judgeRelease id l)) 0)) 18 0 (λ _. fullTally) (λ _. released-call)
 
-    go : {x : ReleaseLine} → ReleaseWay s l id ts x → ReleaseListed (x .answer .number) (x .answer .place)
+    go : {x : ReleaseEffect} → ReleaseWay s l id ts x → ReleaseListed (x .answer .number) (x .answer .place)
     go (faulty w) = answer-listed l (unready-early s l (length ts) w) (unready-number s l (length ts) w)
     go (releases w) = released-told (release id n l .table .slots) (release id n l .number) (rw (release-answered id n l) (judged-listed n listed-number (ownOf id l)))
 
@@ -313,7 +313,7 @@ release-listed s l id ts = go (release-ways s l id ts)
 abbrev JudgedNumber : ℕ → Type 0
 JudgedNumber k = UsesFrame k ⊎ (k ≡ 18)
 
-judged-number : (n : ℕ) → JudgedNumber n → (own : Own) → JudgedNumber (verdictNumber (releaseVerdict own) n)
+judged-number : (n : ℕ) → JudgedNumber n → (own : OwnCall) → JudgedNumber (verdictNumber (releaseVerdict own) n)
 judged-number n w none = inl (call-used (lit≤ tt) (lit≤ tt))
 judged-number n w (one c) =
     cond-case (λ (v : Verdict). JudgedNumber (verdictNumber v n)) (c .cancelled) (goes emptyCall Unread) (stop 14) (λ _. w) (λ _. inl (call-used (lit≤ tt) (lit≤ tt)))
@@ -331,7 +331,7 @@ pub release-stopped-iff : (s : List ℕ) (l : List Call) (id : ℕ) (ts : List T
     → let a = released s l id ts .answer in ((a .number ≡ n) × (a .place ≡ q)) ↔ Unready s l (length ts) n q
 release-stopped-iff s l id ts n q w = (λ (e, e′). go (release-ways s l id ts) e e′, back)
   where
-    go : {x : ReleaseLine} → ReleaseWay s l id ts x → x .answer .number ≡ n → x .answer .place ≡ q → Unready s l (length ts) n q
+    go : {x : ReleaseEffect} → ReleaseWay s l id ts x → x .answer .number ≡ n → x .answer .place ≡ q → Unready s l (length ts) n q
     go (faulty {n = m} {q = p} v) e e′ =
         let told = release-told l m p in
         subst (Unready s l (length ts) n) (sym (told .1) ∙ e′) (subst (λ (k : ℕ). Unready s l (length ts) k p) (sym (told .0) ∙ e) v)

@@ -21,8 +21,8 @@ use Rattle.calls.specs.declared.Judged.the-variants.{Refused, Opens, Goes}
 use Rattle.calls.specs.Numbers.{endsCall, EndsCall, payload, many-pairs}
 use Rattle.calls.specs.Record.{isCall, withMark}
 use Rattle.calls.specs.Slots.{slot, ownOf, full}
-use Rattle.calls.specs.declared.Own.{Own}
-use Rattle.calls.specs.declared.Own.the-variants.{None as none}
+use Rattle.calls.specs.declared.OwnCall.{OwnCall}
+use Rattle.calls.specs.declared.OwnCall.the-variants.{None as none}
 use Rattle.calls.specs.Judge.{judgeOf, Verdict, stop, opens, goes, verdictOf}
 use Rattle.calls.specs.Step.{receive}
 use Rattle.calls.specs.Apart.{verdictDue, verdictNumber, verdictOwn, touched, Freed}
@@ -42,7 +42,7 @@ use Rattle.receiver.proofs.Kept.{holds}
 use Rattle.receiver.proofs.Apart.{same-answer}
 
 -- the payload's number matters only where the payload is read
-own-by : (v : Verdict) (p : ℕ) (own : Own) → verdictOwn v p own ≡ verdictOwn v (verdictNumber v p) own
+own-by : (v : Verdict) (p : ℕ) (own : OwnCall) → verdictOwn v p own ≡ verdictOwn v (verdictNumber v p) own
 own-by (stop n) p own = refl
 own-by (opens c d) p own = refl
 own-by (goes c d) p own = refl
@@ -67,7 +67,7 @@ early-zero calls z = omega arith
 early-zero rows z = omega arith
 early-zero (frame a b) z = omega arith
 
-own-kept : (v : Verdict) (own : Own) {n q : ℕ} → Early n q → verdictOwn v n own ≡ own
+own-kept : (v : Verdict) (own : OwnCall) {n q : ℕ} → Early n q → verdictOwn v n own ≡ own
 own-kept (stop m) own e = refl
 own-kept (opens c d) own {n} e = rw (ne-eqb n 0 (early-zero e))
 own-kept (goes c d) own {n} e = rw (ne-eqb n 0 (early-zero e), early-spares e)

@@ -19,8 +19,8 @@ use Rattle.calls.specs.declared.Payload.the-variants.{Unread}
 use Rattle.calls.specs.Numbers.{endsCall}
 use Rattle.calls.specs.Record.{emptyCall, isCall}
 use Rattle.calls.specs.Slots.{slot, countOpen, goodTable, ownOf}
-use Rattle.calls.specs.declared.Own.{Own}
-use Rattle.calls.specs.declared.Own.the-variants.{None as none, One as one}
+use Rattle.calls.specs.declared.OwnCall.{OwnCall}
+use Rattle.calls.specs.declared.OwnCall.the-variants.{None as none, One as one}
 use Rattle.calls.specs.Judge.{Verdict, stop, goes, releaseVerdict, judgeRelease}
 use Rattle.calls.specs.Step.{release}
 use Rattle.calls.specs.Counting.{releaseRise, figureBy, countedNumber}
@@ -29,7 +29,7 @@ use Rattle.calls.specs.Apart.{verdictNumber, verdictReleaseRise, Freed}
 use Rattle.calls.proofs.Goodness.{good-clauses, good-test}
 use Rattle.calls.proofs.Apart as calls
 use Rattle.calls.proofs.Rises.{release-rise-by}
-use Rattle.receiver.specs.Release.{ReleaseLine, releaseAnswer, released}
+use Rattle.receiver.specs.Release.{ReleaseEffect, releaseAnswer, released}
 use Rattle.receiver.specs.Claims.{Ready, Unready, schemaFault, callsBad, rowsWrong, rowFor, ReleaseReply, releaseReply}
 use Rattle.receiver.proofs.Ways.{Early, schema, calls, rows, frame, unready-early, releasedNumber, ReleaseWay, unready, releases, release-ways, release-stops, release-judged}
 use Rattle.receiver.proofs.Rows.{unraised, rows-alike}
@@ -42,7 +42,7 @@ early-number rows z = omega arith
 early-number (frame a b) z = omega arith
 
 -- a release's number ends no call
-spared : (n : ℕ) → endsCall n ≡ false → (own : Own) → endsCall (verdictNumber (releaseVerdict own) n) ≡ false
+spared : (n : ℕ) → endsCall n ≡ false → (own : OwnCall) → endsCall (verdictNumber (releaseVerdict own) n) ≡ false
 unfolding endsCall
 spared n k none = refl
 spared n k (one c) = cond-case (λ (v : Verdict). endsCall (verdictNumber v n) ≡ false) (c .cancelled) (goes emptyCall Unread) (stop 14) (λ _. k) (λ _. refl)
@@ -65,7 +65,7 @@ module _ (s : List ℕ) (l : List Call) (id : ℕ) (ts : List Tally) where
   pub open-counted : released s l id ts .answer .«open» ≡ countOpen slots
   open-counted = go (release-ways s l id ts)
     where
-      go : {x : ReleaseLine} → ReleaseWay s l id ts x → x .answer .«open» ≡ countOpen (x .answer .table .slots)
+      go : {x : ReleaseEffect} → ReleaseWay s l id ts x → x .answer .«open» ≡ countOpen (x .answer .table .slots)
       go (unready {n} {q} w) = counted n q l
       go (releases w) = let x = release id (releasedNumber s l id ts) l in counted (x .number) 0 (x .table .slots)
 
@@ -109,7 +109,7 @@ module _ (s : List ℕ) (id : ℕ) (l₁ l₂ : List Call) (ts₁ ts₂ : List T
   same-rise = release-rise-by id l₁ ∙ (λ i. verdictReleaseRise (own i) (releaseVerdict (own i))) ∙ sym (release-rise-by id l₂)
 
   -- the number by a row that is asked for
-  numbered : (own : Own) → ((c : Call) → own ≡ one c → rowFor ts₁ (c .method) ≡ rowFor ts₂ (c .method)) → let r = verdictReleaseRise own (releaseVerdict own) in
+  numbered : (own : OwnCall) → ((c : Call) → own ≡ one c → rowFor ts₁ (c .method) ≡ rowFor ts₂ (c .method)) → let r = verdictReleaseRise own (releaseVerdict own) in
       countedNumber (rowFor ts₁ (r .row)) r 0 ≡ countedNumber (rowFor ts₂ (r .row)) r 0
   unfolding figureBy
   numbered none h = refl
@@ -161,13 +161,13 @@ module _ (s : List ℕ) (id : ℕ) (l₁ l₂ : List Call) (ts₁ ts₂ : List T
           ∙ (λ i. verdictNumber (releaseVerdict (own i)) (same-number i))
           ∙ sym (calls.release-answered id n₂ l₂)
 
-      go : {x : ReleaseLine} → ReleaseWay s l₁ id ts₁ x → releaseReply (x .answer) ≡ releaseReply (released s l₂ id ts₂ .answer)
+      go : {x : ReleaseEffect} → ReleaseWay s l₁ id ts₁ x → releaseReply (x .answer) ≡ releaseReply (released s l₂ id ts₂ .answer)
       go (unready {n} {q} e) =
-          told-reply n q l₁ ∙ sym (ap (λ (x : ReleaseLine). releaseReply (x .answer)) (release-stops s l₂ id ts₂ (unready-too e)) ∙ told-reply n q l₂)
+          told-reply n q l₁ ∙ sym (ap (λ (x : ReleaseEffect). releaseReply (x .answer)) (release-stops s l₂ id ts₂ (unready-too e)) ∙ told-reply n q l₂)
       go (releases w) =
           told-reply (release id n₁ l₁ .number) 0 (release id n₁ l₁ .table .slots)
           ∙ ap (λ (n : ℕ). reply n 0) numbers
-          ∙ sym (ap (λ (x : ReleaseLine). releaseReply (x .answer)) (release-judged s l₂ id ts₂ (ready-too w))
+          ∙ sym (ap (λ (x : ReleaseEffect). releaseReply (x .answer)) (release-judged s l₂ id ts₂ (ready-too w))
           ∙ told-reply (release id n₂ l₂ .number) 0 (release id n₂ l₂ .table .slots))
 
   pub same-own : ownOf id (released s l₁ id ts₁ .answer .table .slots) ≡ ownOf id (released s l₂ id ts₂ .answer .table .slots)

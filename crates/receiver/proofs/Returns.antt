@@ -46,7 +46,7 @@ use Rattle.receiver.specs.declared.Front.the-variants as front
 use Rattle.receiver.specs.declared.Plan.{Plan}
 use Rattle.receiver.specs.declared.Next.{Next}
 use Rattle.receiver.specs.declared.Next.the-variants.{Refused as NextRefused, Settle}
-use Rattle.receiver.specs.Answer.{RowLine, rowLine, stopped, payloadRead, numberIn, tallied, countedRead, answerOf, answerIn}
+use Rattle.receiver.specs.Answer.{RowEffect, rowEffect, stopped, payloadRead, numberIn, tallied, countedRead, answerOf, answerIn}
 use Rattle.receiver.specs.Planning.{onGood, onFrame, onCalls, frameFrom, stopPlan, judgedPlan, framePlan, tablesFault, frontOf, seatPlan, callPlan, goodPlan, bytesPlan, planOf, releasePlan, Fitted, stops, settles}
 use Rattle.receiver.specs.Receive.{frameSettled, settled}
 use Rattle.receiver.specs.Release.{releaseAnswer, releaseIn, releaseSettled}
@@ -250,18 +250,18 @@ pub frame-settled : (schema : List ℕ) (J : Judged) (r : Rise) (payload : List 
     → f ≡ figureBy r n
     → row ≡ raised t f
     → x ≡ answerOf size (stepOf J (numbers reading .number) l) reading
-    → rowLine x after row ≡ frameSettled schema J r payload size sheet t l
+    → rowEffect x after row ≡ frameSettled schema J r payload size sheet t l
 unfolding frameSettled
 frame-settled schema J r payload size sheet t l due reading after n f row x d o k g w e = rw (← d, ← o, e, w, g, k)
 
 -- ---- a plan settled
 
 module _ (schema bytes sheet : List ℕ) (l : List Call) (t : Tally) (next : Next) where
-  pub settled-stop : (n q : ℕ) (x : Received) → next ≡ NextRefused n q → x ≡ stopped l n q → rowLine x sheet t ≡ settled schema bytes sheet l t next
+  pub settled-stop : (n q : ℕ) (x : Received) → next ≡ NextRefused n q → x ≡ stopped l n q → rowEffect x sheet t ≡ settled schema bytes sheet l t next
   unfolding settled
   settled-stop n q x e y = rw (e, y)
 
-  pub settled-frame : (J : Judged) (r : Rise) (place end : ℕ) (x : RowLine) → next ≡ Settle J r place end
+  pub settled-frame : (J : Judged) (r : Rise) (place end : ℕ) (x : RowEffect) → next ≡ Settle J r place end
       → x ≡ frameSettled schema J r (take (end - place) (drop place bytes)) end sheet t l → x ≡ settled schema bytes sheet l t next
   unfolding settled
   settled-frame J r place end x e y = rw (e, y)
@@ -307,9 +307,9 @@ settle-stop e = differ cc
 
 module _ (t : Tally) (next : Next) where
   module _ (n q : ℕ) (d : Done) (e : next ≡ NextRefused n q) (is : d ≡ refusal n q t) where
-    pub stop-settled : (schema bytes sheet : List ℕ) (l : List Call) → rowLine (answerIn d l) sheet (d .row) ≡ settled schema bytes sheet l t next
+    pub stop-settled : (schema bytes sheet : List ℕ) (l : List Call) → rowEffect (answerIn d l) sheet (d .row) ≡ settled schema bytes sheet l t next
     stop-settled schema bytes sheet l =
-        ap (λ (x : Done). rowLine (answerIn x l) sheet (x .row)) is
+        ap (λ (x : Done). rowEffect (answerIn x l) sheet (x .row)) is
         ∙ settled-stop schema bytes sheet l t next n q (answerIn (refusal n q t) l) e (stop-answer l n q)
 
     pub stop-released : (l : List Call) → releaseIn d l ≡ releaseSettled l t next

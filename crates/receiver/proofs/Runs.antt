@@ -32,8 +32,8 @@ use Rattle.calls.specs.declared.Judged.the-variants.{Refused as JudgedRefused, 
 use Rattle.calls.specs.declared.Payload.the-variants.{Struct, Empty, Unread}
 use Rattle.calls.specs.Record.{emptyCall, isCall}
 use Rattle.calls.specs.Slots.{freshTable, slot, countOpen, goodTable, holds, ownOf, full}
-use Rattle.calls.specs.declared.Own.{Own}
-use Rattle.calls.specs.declared.Own.the-variants.{None as none, One as one}
+use Rattle.calls.specs.declared.OwnCall.{OwnCall}
+use Rattle.calls.specs.declared.OwnCall.the-variants.{None as none, One as one}
 use Rattle.calls.specs.Judge.{rightSide, judgeOf, judgeRelease, Verdict, stop, goes, releaseVerdict}
 use Rattle.calls.specs.Step.{stepOf, dueOf}
 use Rattle.calls.specs.Counting.{noTally, noRise, riseOf, releaseRise, figureBy, fullAt, countedNumber}
@@ -59,10 +59,10 @@ use Rattle.calls.proofs.Used.{uses-iff, not-ending}
 use Rattle.calls.proofs.Once.{may-not, ruled-once, release-once}
 use Rattle.reader.specs.declared.Reading.the-variants.{Shown, Refused as Failed}
 use Rattle.reader.specs.Entry.{Outcome, outcome, readOutcome}
-use Rattle.receiver.specs.Answer.{Line, inRow, emptyRead, payloadRead, numberIn, tallied, usedOf}
+use Rattle.receiver.specs.Answer.{Effect, inRow, emptyRead, payloadRead, numberIn, tallied, usedOf}
 use Rattle.receiver.specs.Planning.{frameFrom}
-use Rattle.receiver.specs.Receive.{answered as answeredBy, frameSettled, frameLine, received}
-use Rattle.receiver.specs.Release.{ReleaseLine, releaseAnswer, released}
+use Rattle.receiver.specs.Receive.{answered as answeredBy, frameSettled, frameEffect, received}
+use Rattle.receiver.specs.Release.{ReleaseEffect, releaseAnswer, released}
 use Rattle.receiver.specs.Claims.{Front, payloadIn, Ready, rowFor, Stops, frameFault, needsMore, Nothing}
 use Rattle.receiver.specs.Order.{Said, said, saidBy, Answered, stops, value, empty, surplus, error, Counted, fullTally, rises, ByRules, ReleasedAs, refusedRelease, fullRelease, releasedNow, Stands}
 use Rattle.receiver.specs.Run.{Input, Event, input, release, State, stateAfter, numberOf, Happens, frame, releases, frameHeard, heardIn, runFrom, heardFrom}
@@ -143,7 +143,7 @@ error-frees s side bytes sheet ts l k o late = go (ways s side bytes sheet ts l)
     Told : ℕ → List Call → Type 0
     Told n l′ = slot l′ k .«open» ≡ false → (f : Frame) × Front side bytes f × (isCall (f .correlation) (slot l k) ≡ true) × (f .kind ≡ 7) × (n ≡ 0)
 
-    go : {x : Line} → Way s side bytes sheet ts l x → Told (x .answer .number) (x .answer .table .slots)
+    go : {x : Effect} → Way s side bytes sheet ts l x → Told (x .answer .number) (x .answer .table .slots)
     go (way-stops {n} {q} w) = stop-holds Told l n q (λ z. clash (slot l k .«open») o z)
     go (way-judges h place n r e) =
         let f = frameFrom side h in
@@ -309,16 +309,16 @@ module _ (s : List ℕ) (g : IsGood s) (l : List Call) (ts : List Tally) (k : Go
 
   module _ (side : ℕ) (bytes sheet : List ℕ) (f : Frame) (w : Front side bytes f) where
     -- under good tables the frame at the front is judged
-    pub front-judged : received s side bytes sheet ts l ≡ frameLine s f (payloadIn w) (w .place + w .size) sheet ts l
+    pub front-judged : received s side bytes sheet ts l ≡ frameEffect s f (payloadIn w) (w .place + w .size) sheet ts l
     front-judged =
         judged s side bytes sheet ts l (w .header) (w .place) (w .size) ready (w .whole)
-        ∙ ap (λ (x : Frame). frameLine s x (payloadIn w) (w .place + w .size) sheet ts l) (sym (front-is w))
+        ∙ ap (λ (x : Frame). frameEffect s x (payloadIn w) (w .place + w .size) sheet ts l) (sym (front-is w))
 
     abbrev byRuling : Said
     byRuling = answerBy s (payloadIn w) sheet g (rulingOf (verdict (judgeOf (tableOf s) f l)))
 
     front-said : said (received s side bytes sheet ts l) ≡ tallySaid s (payloadIn w) sheet g (rowFor ts (frameRise s f l .row)) (frameRise s f l) byRuling
-    unfolding frameLine frameSettled
+    unfolding frameEffect frameSettled
     front-said = rw front-judged (judged-said s (payloadIn w) sheet g (f .kind) (w .place + w .size) ts l (judgeOf (tableOf s) f l))
 
     module _ (past : Past) (r : Reflects past (ownOf (f .correlation) l)) where
@@ -421,7 +421,7 @@ only-released ts (since m b h) n (releasedNow m′ b′ h′ e w q) =
     rw (was-cancelled w refl, ne-eqb (rowFor ts m .cancelled) 4294967295 (λ z. q (ap (λ (k : ℕ). rowFor ts k .cancelled) (sym same) ∙ z)))
 
 -- by the own record
-released-is : (ts : List Tally) (past : Past) (own : Own) → Reflects past own → let r = verdictReleaseRise own (releaseVerdict own) in
+released-is : (ts : List Tally) (past : Past) (own : OwnCall) → Reflects past own → let r = verdictReleaseRise own (releaseVerdict own) in
     verdictNumber (releaseVerdict own) (countedNumber (rowFor ts (r .row)) r 0) ≡ releaseBy ts past
 unfolding figureBy
 released-is ts closed none nothing = refl
@@ -457,7 +457,7 @@ module _ (s : List ℕ) (g : IsGood s) (l : List Call) (ts : List Tally) (k : Go
   judged-release = release-judged s l id ts (record { schemaGood = g; callsGood = k; rowsRight = rowed })
 
   pub number-told : released s l id ts .answer .number ≡ x₀ .number
-  number-told = ap (λ (a : ReleaseLine). a .answer .number) judged-release ∙ told-number-of (x₀ .number) 0 (x₀ .table .slots)
+  number-told = ap (λ (a : ReleaseEffect). a .answer .number) judged-release ∙ told-number-of (x₀ .number) 0 (x₀ .table .slots)
 
   module _ (past : Past) (r : Reflects past (ownOf id l)) where
     own-released : let a = released s l id ts .answer in
@@ -532,7 +532,7 @@ module _ (s : List ℕ) (g : IsGood s) (start : State) (past : ℕ → Past) (st
         Reflects (pastOf T id (past id) (frameHeard (i .side) (frameOf (i .bytes)) (a .answer .number) (heardFrom s start es))) (ownOf id (a .answer .table .slots))
     input-more i = go (frameOf (i .bytes)) refl
       where
-        a : Line
+        a : Effect
         a = answerAfter s start es i
 
         same : (n : ℕ) → Stops s (i .bytes) (callsAfter s start es) (length (rowsAfter s start es)) n 0 → Reflects (pastIn s start past es id) (ownOf id (a .answer .table .slots))
@@ -584,7 +584,7 @@ module _ (s : List ℕ) (g : IsGood s) (start : State) (past : ℕ → Past) (st
       ((a .number ≡ 0) ↔ (payloadIn w ≡ [])) × ((payloadIn w ≡ [] → ⊥) → (a .number ≡ 29) × (a .place ≡ 0))
   nothing-belongs es i f w room0 room29 r = ((accepted, empty-accepted), surplus-refused)
     where
-      a : Line
+      a : Effect
       a = answerAfter s start es i
 
       says : {x : Said} → Answered s (payloadIn w) (i .sheet) (comes Empty) x → RoomAfter s start past es f (x .numbers .number) → said a ≡ x
@@ -663,7 +663,7 @@ module _ (s : List ℕ) (g : IsGood s) (start : State) (past : ℕ → Past) (st
       × ((k : ℕ) → rowFor (a .tallies) k ≡ rowFor (rowsAfter s start es) k)
   crossing-dropped es i f w m b h e side ids x = (number, place, used, untouched, unchanged, rows-unchanged)
     where
-      a : Line
+      a : Effect
       a = answerAfter s start es i
 
       told : said a ≡ saidBy (outcome (Failed 16 0) (i .sheet))
@@ -701,7 +701,7 @@ module _ (s : List ℕ) (g : IsGood s) (start : State) (past : ℕ → Past) (st
       → let a = answerAfter s start es i in (a .answer .number ≡ 0) × (ownOf (f .correlation) (a .answer .table .slots) ≡ none)
   error-ends-cancelled es i f w m b h e spacious side kind ids = (number, ended)
     where
-      a : Line
+      a : Effect
       a = answerAfter s start es i
 
       few : {k : ℕ} → rules.TooMany b h k → k ≡ 7 → ⊥
@@ -733,5 +733,5 @@ module _ (s : List ℕ) (g : IsGood s) (start : State) (past : ℕ → Past) (st
           (subst (λ (p : Past). Reflects p (ownOf (f .correlation) (a .answer .table .slots))) closes
           (front-reflects s g (callsAfter s start es) (rowsAfter s start es) (calls-good es) (rows-right es) (i .side) (i .bytes) (i .sheet) f w (pastIn s start past es (f .correlation)) (reflected es (f .correlation))))
         where
-          no-record : {own : Own} → Reflects closed own → own ≡ none
+          no-record : {own : OwnCall} → Reflects closed own → own ≡ none
           no-record nothing = refl

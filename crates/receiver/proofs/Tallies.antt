@@ -31,8 +31,8 @@ use Rattle.calls.specs.Numbers.{endsCall}
 use Rattle.calls.specs.declared.Payload.the-variants.{Unread}
 use Rattle.calls.specs.Record.{emptyCall}
 use Rattle.calls.specs.Slots.{ownOf, full}
-use Rattle.calls.specs.declared.Own.{Own}
-use Rattle.calls.specs.declared.Own.the-variants.{None as none, One as one}
+use Rattle.calls.specs.declared.OwnCall.{OwnCall}
+use Rattle.calls.specs.declared.OwnCall.the-variants.{None as none, One as one}
 use Rattle.calls.specs.Judge.{Verdict, stop, goes, releaseVerdict, judgeRelease}
 use Rattle.calls.specs.Step as calls-step
 use Rattle.calls.specs.Counting.{noRise, releaseRise, figureBy, raised}
@@ -44,7 +44,7 @@ use Rattle.calls.proofs.Rises.{rise-by, release-rise-by, rise-method, rowAfter,
 use Rattle.calls.proofs.Counted.{no-figures, counted-step}
 use Rattle.calls.proofs.Ordered.{CountsAs, release-rises-as}
 use Rattle.reader.specs.Entry.{room}
-use Rattle.receiver.specs.Answer.{Line}
+use Rattle.receiver.specs.Answer.{Effect}
 use Rattle.receiver.specs.Planning.{frameFrom}
 use Rattle.receiver.specs.Receive.{received}
 use Rattle.receiver.specs.Release.{released}
@@ -117,15 +117,15 @@ module _ (s : List ℕ) (g : IsGood s) where
         rowFor (a .tallies) m ≡ figures T m (frameHeard (i .side) (frameOf (i .bytes)) (a .answer .number) heard)
     input-follows i = go (frameOf (i .bytes)) refl
       where
-        a : Line
+        a : Effect
         a = received s (i .side) (i .bytes) (i .sheet) ts l
 
         ready : Ready s l (length ts)
         ready = ready-after s g start (λ _. closed) (fresh-stands T) es
 
         go : (v : FrameRead) → frameOf (i .bytes) ≡ v → rowFor (a .tallies) m ≡ figures T m (frameHeard (i .side) v (a .answer .number) heard)
-        go More e = ap (λ (x : Line). rowFor (x .tallies) m) (stops-early s (i .side) (i .bytes) (i .sheet) ts l (needsMore ready (more-iff (i .bytes) .0 e))) ∙ ih
-        go (Refused n) e = ap (λ (x : Line). rowFor (x .tallies) m) (stops-early s (i .side) (i .bytes) (i .sheet) ts l (frameFault ready (refused-iff (i .bytes) n .0 e))) ∙ ih
+        go More e = ap (λ (x : Effect). rowFor (x .tallies) m) (stops-early s (i .side) (i .bytes) (i .sheet) ts l (needsMore ready (more-iff (i .bytes) .0 e))) ∙ ih
+        go (Refused n) e = ap (λ (x : Effect). rowFor (x .tallies) m) (stops-early s (i .side) (i .bytes) (i .sheet) ts l (frameFault ready (refused-iff (i .bytes) n .0 e))) ∙ ih
         go (Whole h place n) e =
             let f = frameFrom (i .side) h in
             let w = front-of (i .side) (i .bytes) h place n e in
@@ -197,15 +197,15 @@ module _ (T : Table) where
       cond-case Begun (eqb (calls.identifier (e .event)) id) (after T e (pastOf T id closed es)) (pastOf T id closed es)
       (λ _. begun-after e (pastOf T id closed es) (begun-past id es)) (λ _. begun-past id es)
 
-counts-since : (past : Past) (own : Own) → Begun past → Reflects past own → (c : Call) → own ≡ one c → CountedSince c past
+counts-since : (past : Past) (own : OwnCall) → Begun past → Reflects past own → (c : Call) → own ≡ one c → CountedSince c past
 unfolding Begun
 counts-since closed own w r c e = no-call r e
   where
-    no-call : {x : Own} → Reflects closed x → x ≡ one c → CountedSince c closed
+    no-call : {x : OwnCall} → Reflects closed x → x ≡ one c → CountedSince c closed
     no-call nothing e = differ cc
 counts-since (since m b h) own w r c e = with-call r e
   where
-    with-call : {x : Own} → Reflects (since m b h) x → x ≡ one c → CountedSince c (since m b h)
+    with-call : {x : OwnCall} → Reflects (since m b h) x → x ≡ one c → CountedSince c (since m b h)
     with-call (call _ _ _ x k) e =
         let same : x ≡ c = cc in
         let input : c .«input_elements» ≡ times 2 h = ap (λ (y : Call). y .«input_elements») (sym same) ∙ k .inputElements ∙ ap (λ (y : Elements). y .inputs + times 2 h) w ∙ omega arith in
@@ -246,7 +246,7 @@ other-rows s side bytes sheet ts l m other =
         (rise-method (tableOf s) f (ownOf (f .correlation) l) (full l)))
 
 -- nothing rises by a release, or in the row of its call's method
-release-method : (own : Own) → let r = verdictReleaseRise own (releaseVerdict own) in (r ≡ noRise) ⊎ ((c : Call) × (own ≡ one c) × (r .row ≡ c .method))
+release-method : (own : OwnCall) → let r = verdictReleaseRise own (releaseVerdict own) in (r ≡ noRise) ⊎ ((c : Call) × (own ≡ one c) × (r .row ≡ c .method))
 release-method none = inl refl
 release-method (one c) =
     cond-case (λ (v : Verdict). let r = verdictReleaseRise (one c) v in (r ≡ noRise) ⊎ ((x : Call) × (one c ≡ one x) × (r .row ≡ x .method)))
@@ -274,10 +274,10 @@ release-other-rows s l id ts m other =
 -- Call tables and tally rows alike for a frame leave the row of its call's method alike.
 module _ (s : List ℕ) (side : ℕ) (bytes sheet₁ sheet₂ : List ℕ) (ts₁ ts₂ : List Tally) (l₁ l₂ : List Call) (space : room sheet₁ ≡ room sheet₂)
     (w : Alike (tableOf s) side bytes l₁ l₂ ts₁ ts₂) (m : ℕ) (about : About (tableOf s) side bytes l₁ m) where
-  abbrev a₁ : Line
+  abbrev a₁ : Effect
   a₁ = received s side bytes sheet₁ ts₁ l₁
 
-  abbrev a₂ : Line
+  abbrev a₂ : Effect
   a₂ = received s side bytes sheet₂ ts₂ l₂
 
   same-number : a₁ .answer .number ≡ a₂ .answer .number
@@ -291,11 +291,11 @@ module _ (s : List ℕ) (side : ℕ) (bytes sheet₁ sheet₂ : List ℕ) (ts₁
   pub same-row-after : rowFor (a₁ .tallies) m ≡ rowFor (a₂ .tallies) m
   same-row-after = go (ways s side bytes sheet₁ ts₁ l₁)
     where
-      go : {x : Line} → Way s side bytes sheet₁ ts₁ l₁ x → rowFor (a₁ .tallies) m ≡ rowFor (a₂ .tallies) m
+      go : {x : Effect} → Way s side bytes sheet₁ ts₁ l₁ x → rowFor (a₁ .tallies) m ≡ rowFor (a₂ .tallies) m
       go (stops e) =
-          ap (λ (x : Line). rowFor (x .tallies) m) (stops-early s side bytes sheet₁ ts₁ l₁ e)
+          ap (λ (x : Effect). rowFor (x .tallies) m) (stops-early s side bytes sheet₁ ts₁ l₁ e)
           ∙ w .row m about
-          ∙ sym (ap (λ (x : Line). rowFor (x .tallies) m) (stops-early s side bytes sheet₂ ts₂ l₂ (stops-too sheet₁ sheet₂ ts₁ ts₂ l₁ l₂ s space side bytes w e)))
+          ∙ sym (ap (λ (x : Effect). rowFor (x .tallies) m) (stops-early s side bytes sheet₂ ts₂ l₂ (stops-too sheet₁ sheet₂ ts₁ ts₂ l₁ l₂ s space side bytes w e)))
       go (judges h place n r e) =
           let f = frameFrom side h in
           let front = front-of side bytes h place n e in

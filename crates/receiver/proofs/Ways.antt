@@ -35,11 +35,11 @@ use Rattle.calls.specs.Counting.{noTally, releaseRise, figureBy, fullAt, raised
 use Rattle.calls.specs.Good.{GoodTable}
 use Rattle.calls.proofs.Goodness.{good-clauses, good-test}
 use Rattle.receiver.specs.declared.Plan.{Plan}
-use Rattle.receiver.specs.Answer.{Line, line, inRow, stopped}
+use Rattle.receiver.specs.Answer.{Effect, effect, inRow, stopped}
 use Rattle.receiver.specs.Planning.{onGood, onFrame, frameFrom, stopPlan, judgedPlan, framePlan, onTables, bytesPlan, planOf, releasePlan}
 use Rattle.receiver.specs.Claims.{SeenAs, Front, Ready, Unready, schemaFault, callsBad, rowsWrong, Stops, tables, frameFault, needsMore}
-use Rattle.receiver.specs.Receive.{settled, frameLine, received}
-use Rattle.receiver.specs.Release.{ReleaseLine, releaseLine, releaseAnswer, steppedAnswer, releaseSettled, released}
+use Rattle.receiver.specs.Receive.{settled, frameEffect, received}
+use Rattle.receiver.specs.Release.{ReleaseEffect, releaseEffect, releaseAnswer, steppedAnswer, releaseSettled, released}
 
 -- ---- the frame at the front
 
@@ -126,37 +126,37 @@ module _ (s : List ℕ) (side : ℕ) (bytes sheet : List ℕ) (ts : List Tally) 
   k = length ts
 
   -- a plan settled among the rows
-  abbrev lineOf : Plan → Line
-  lineOf plan = inRow ts (plan .row) (settled s bytes sheet l (getD ts (plan .row) noTally) (plan .next))
+  abbrev effectOf : Plan → Effect
+  effectOf plan = inRow ts (plan .row) (settled s bytes sheet l (getD ts (plan .row) noTally) (plan .next))
 
-  stop-line : (n q : ℕ) → lineOf (stopPlan n q) ≡ line (stopped l n q) sheet ts
+  stop-effect : (n q : ℕ) → effectOf (stopPlan n q) ≡ effect (stopped l n q) sheet ts
   unfolding settled
-  stop-line n q = ap (line (stopped l n q) sheet) (same-row ts 0)
+  stop-effect n q = ap (effect (stopped l n q) sheet) (same-row ts 0)
 
-  frame-line : (f : Frame) (place n : ℕ) → lineOf (framePlan T f l place (place + n)) ≡ frameLine s f (take n (drop place bytes)) (place + n) sheet ts l
-  unfolding settled frameLine
-  frame-line f place n = let size : place + n - place ≡ n = omega arith in rw size
+  frame-effect : (f : Frame) (place n : ℕ) → effectOf (framePlan T f l place (place + n)) ≡ frameEffect s f (take n (drop place bytes)) (place + n) sheet ts l
+  unfolding settled frameEffect
+  frame-effect f place n = let size : place + n - place ≡ n = omega arith in rw size
 
-  pub data Way : Line → Type 0 where
-    stops : {n q : ℕ} → Stops s bytes l k n q → Way (line (stopped l n q) sheet ts)
+  pub data Way : Effect → Type 0 where
+    stops : {n q : ℕ} → Stops s bytes l k n q → Way (effect (stopped l n q) sheet ts)
     judges : (h : Header) (place n : ℕ) → Ready s l k → frameOf bytes ≡ Whole h place n
-        → Way (frameLine s (frameFrom side h) (take n (drop place bytes)) (place + n) sheet ts l)
+        → Way (frameEffect s (frameFrom side h) (take n (drop place bytes)) (place + n) sheet ts l)
 
-  front-way : Ready s l k → Way (lineOf (bytesPlan T side bytes l))
+  front-way : Ready s l k → Way (effectOf (bytesPlan T side bytes l))
   unfolding bytesPlan
   front-way w = go (frameOf bytes) refl
     where
       go : (v : FrameRead) → frameOf bytes ≡ v →
-          Way (lineOf (onFrame v (λ number. stopPlan number 0) (λ h place n. framePlan T (frameFrom side h) l place (place + n))))
-      go More e = subst Way (sym (stop-line 1 0)) (stops (needsMore w (more-iff bytes .0 e)))
-      go (Refused n) e = subst Way (sym (stop-line n 0)) (stops (frameFault w (refused-iff bytes n .0 e)))
-      go (Whole h place n) e = subst Way (sym (frame-line (frameFrom side h) place n)) (judges h place n w e)
+          Way (effectOf (onFrame v (λ number. stopPlan number 0) (λ h place n. framePlan T (frameFrom side h) l place (place + n))))
+      go More e = subst Way (sym (stop-effect 1 0)) (stops (needsMore w (more-iff bytes .0 e)))
+      go (Refused n) e = subst Way (sym (stop-effect n 0)) (stops (frameFault w (refused-iff bytes n .0 e)))
+      go (Whole h place n) e = subst Way (sym (frame-effect (frameFrom side h) place n)) (judges h place n w e)
 
   pub ways : Way (received s side bytes sheet ts l)
   unfolding received planOf
   ways =
-      on-tables s l k (λ (P : Plan). Way (lineOf P)) stopPlan (bytesPlan T side bytes l)
-      (λ n q e. subst Way (sym (stop-line n q)) (stops (tables e))) front-way
+      on-tables s l k (λ (P : Plan). Way (effectOf P)) stopPlan (bytesPlan T side bytes l)
+      (λ n q e. subst Way (sym (stop-effect n q)) (stops (tables e))) front-way
 
   plan-stops : {n q : ℕ} → Stops s bytes l k n q → planOf s side bytes k l ≡ stopPlan n q
   unfolding planOf bytesPlan
@@ -165,9 +165,9 @@ module _ (s : List ℕ) (side : ℕ) (bytes sheet : List ℕ) (ts : List Tally) 
   plan-stops (needsMore w e) = tables-go s l k stopPlan (bytesPlan T side bytes l) w ∙ rw (more-iff bytes .1 e)
 
   -- Such an answer has this number and place, and nothing else: no bytes used, no rows, no tail, and the calls, the sheet and the tally rows as they were.
-  pub stops-early : {n q : ℕ} → Stops s bytes l k n q → received s side bytes sheet ts l ≡ line (stopped l n q) sheet ts
+  pub stops-early : {n q : ℕ} → Stops s bytes l k n q → received s side bytes sheet ts l ≡ effect (stopped l n q) sheet ts
   unfolding received
-  stops-early {n} {q} e = ap lineOf (plan-stops e) ∙ stop-line n q
+  stops-early {n} {q} e = ap effectOf (plan-stops e) ∙ stop-effect n q
 
   plan-judges : (h : Header) (place n : ℕ) → Ready s l k → frameOf bytes ≡ Whole h place n → planOf s side bytes k l ≡ framePlan T (frameFrom side h) l place (place + n)
   unfolding planOf bytesPlan
@@ -175,9 +175,9 @@ module _ (s : List ℕ) (side : ℕ) (bytes sheet : List ℕ) (ts : List Tally) 
 
   -- Under good tables a whole frame is judged.
   pub judged : (h : Header) (place n : ℕ) → Ready s l k → frameOf bytes ≡ Whole h place n
-      → received s side bytes sheet ts l ≡ frameLine s (frameFrom side h) (take n (drop place bytes)) (place + n) sheet ts l
+      → received s side bytes sheet ts l ≡ frameEffect s (frameFrom side h) (take n (drop place bytes)) (place + n) sheet ts l
   unfolding received
-  judged h place n w e = ap lineOf (plan-judges h place n w e) ∙ frame-line (frameFrom side h) place n
+  judged h place n w e = ap effectOf (plan-judges h place n w e) ∙ frame-effect (frameFrom side h) place n
 
 -- ---- a release
 
@@ -193,30 +193,30 @@ module _ (s : List ℕ) (l : List Call) (id : ℕ) (ts : List Tally) where
   releasedNumber = countedNumber releasedRow released-rise 0
 
   -- the call is judged
-  abbrev pub releaseJudged : ReleaseLine
+  abbrev pub releaseJudged : ReleaseEffect
   releaseJudged =
-      releaseLine (steppedAnswer (release id releasedNumber l)) (set ts (released-rise .row) (raised releasedRow (figureBy released-rise releasedNumber)))
+      releaseEffect (steppedAnswer (release id releasedNumber l)) (set ts (released-rise .row) (raised releasedRow (figureBy released-rise releasedNumber)))
 
   pub number-spares : endsCall releasedNumber ≡ false
   unfolding endsCall
   number-spares = cond-case (λ (n : ℕ). endsCall n ≡ false) (fullAt releasedRow (figureBy released-rise 0)) 18 0 (λ _. refl) (λ _. refl)
 
-  abbrev told : Plan → ReleaseLine
+  abbrev told : Plan → ReleaseEffect
   told plan =
       let x = releaseSettled l (getD ts (plan .row) noTally) (plan .next) in
-      releaseLine (x .answer) (set ts (plan .row) (x .row))
+      releaseEffect (x .answer) (set ts (plan .row) (x .row))
 
-  stop-told : (n q : ℕ) → told (stopPlan n q) ≡ releaseLine (releaseAnswer n q l) ts
+  stop-told : (n q : ℕ) → told (stopPlan n q) ≡ releaseEffect (releaseAnswer n q l) ts
   unfolding releaseSettled
-  stop-told n q = ap (releaseLine (releaseAnswer n q l)) (same-row ts 0)
+  stop-told n q = ap (releaseEffect (releaseAnswer n q l)) (same-row ts 0)
 
   judged-told : told (judgedPlan (judgeRelease id l) released-rise 0 0) ≡ releaseJudged
   unfolding releaseSettled release
   judged-told = refl
 
   -- It stops at a fault of the tables, or the call is judged.
-  pub data ReleaseWay : ReleaseLine → Type 0 where
-    unready : {n q : ℕ} → Unready s l (length ts) n q → ReleaseWay (releaseLine (releaseAnswer n q l) ts)
+  pub data ReleaseWay : ReleaseEffect → Type 0 where
+    unready : {n q : ℕ} → Unready s l (length ts) n q → ReleaseWay (releaseEffect (releaseAnswer n q l) ts)
     releases : Ready s l (length ts) → ReleaseWay releaseJudged
 
   pub release-ways : ReleaseWay (released s l id ts)
@@ -226,7 +226,7 @@ module _ (s : List ℕ) (l : List Call) (id : ℕ) (ts : List Tally) where
       (λ n q e. subst ReleaseWay (sym (stop-told n q)) (unready e)) (λ w. subst ReleaseWay (sym judged-told) (releases w))
 
   -- Such an answer has this number and place, and the calls and the tally rows as they were.
-  pub release-stops : {n q : ℕ} → Unready s l (length ts) n q → released s l id ts ≡ releaseLine (releaseAnswer n q l) ts
+  pub release-stops : {n q : ℕ} → Unready s l (length ts) n q → released s l id ts ≡ releaseEffect (releaseAnswer n q l) ts
   unfolding released releasePlan
   release-stops {n} {q} e = ap told (tables-stop s l (length ts) stopPlan (judgedPlan (judgeRelease id l) released-rise 0 0) e) ∙ stop-told n q
 

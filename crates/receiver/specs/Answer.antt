@@ -22,26 +22,26 @@ use Rattle.receiver.specs.declared.Received.{Received}
 use Rattle.receiver.specs.declared.Done.{Done}
 
 -- An answer with the sheet (01's term: the cells that show a read value) and the tally rows as they are left.
-pub record Line : Type 0 where
+pub record Effect : Type 0 where
   pub answer : Received
   pub sheet : List ℕ
   pub tallies : List Tally
 
-abbrev pub line : Received → List ℕ → List Tally → Line
-line r sheet ts = record { answer = r; sheet = sheet; tallies = ts }
+abbrev pub effect : Received → List ℕ → List Tally → Effect
+effect r sheet ts = record { answer = r; sheet = sheet; tallies = ts }
 
 -- The same with the one tally row that is asked for.
-pub record RowLine : Type 0 where
+pub record RowEffect : Type 0 where
   pub answer : Received
   pub sheet : List ℕ
   pub row : Tally
 
-abbrev pub rowLine : Received → List ℕ → Tally → RowLine
-rowLine r sheet t = record { answer = r; sheet = sheet; row = t }
+abbrev pub rowEffect : Received → List ℕ → Tally → RowEffect
+rowEffect r sheet t = record { answer = r; sheet = sheet; row = t }
 
 -- That row is put back among the rows lent.
-abbrev pub inRow : List Tally → (row : ℕ) → RowLine → Line
-inRow ts i x = line (x .answer) (x .sheet) (set ts i (x .row))
+abbrev pub inRow : List Tally → (row : ℕ) → RowEffect → Effect
+inRow ts i x = effect (x .answer) (x .sheet) (set ts i (x .row))
 
 -- The numbers of an answer that a payload's reading has too: number, place, rows, the tail's place and length, comparisons.
 abbrev pub numbersOf : Received → Numbers

@@ -23,8 +23,8 @@ use Rattle.calls.specs.Figures.{Full}
 use Rattle.calls.specs.Record.{atLimit}
 use Rattle.calls.specs.Apart.{callMethod}
 use Rattle.calls.specs.Slots.{goodTable, ownOf, full}
-use Rattle.calls.specs.declared.Own.{Own}
-use Rattle.calls.specs.declared.Own.the-variants.{One as one}
+use Rattle.calls.specs.declared.OwnCall.{OwnCall}
+use Rattle.calls.specs.declared.OwnCall.the-variants.{One as one}
 use Rattle.calls.specs.Good.{GoodTable}
 use Rattle.calls.specs.Order.{times, noElements, Past, since}
 use Rattle.value.specs.declared.Row.{Row}
@@ -32,7 +32,7 @@ use Rattle.reader.specs.Sheet.{shownIn}
 use Rattle.reader.specs.Entry.{Numbers}
 use Rattle.receiver.specs.declared.Received.{Received}
 use Rattle.receiver.specs.declared.Released.{Released}
-use Rattle.receiver.specs.Answer.{Line, numbersOf}
+use Rattle.receiver.specs.Answer.{Effect, numbersOf}
 
 -- What a step sees of a frame with this header: the side that it comes from, and each number of the header.
 pub record SeenAs (from : ℕ) (h : Header) (f : Frame) : Type 0 where
@@ -88,12 +88,12 @@ abbrev pub replyOf : Received → Reply
 replyOf r = record { numbers = numbersOf r; used = r .used }
 
 -- The sheet shows these rows from the first on, as many as the answer says, and is otherwise as it was.
-pub record ShowsRows (rs : List Row) (sheet : List ℕ) (a : Line) : Type 0 where
+pub record ShowsRows (rs : List Row) (sheet : List ℕ) (a : Effect) : Type 0 where
   pub rows : a .answer .rows ≡ length rs
   pub cells : a .sheet ≡ shownIn sheet rs
 
 -- No rows, tail 0, 0, no comparisons, and the sheet untouched.
-pub record Nothing (sheet : List ℕ) (a : Line) : Type 0 where
+pub record Nothing (sheet : List ℕ) (a : Effect) : Type 0 where
   pub rows : a .answer .rows ≡ 0
   pub tailPlace : a .answer .«tail_place» ≡ 0
   pub tailLength : a .answer .«tail_length» ≡ 0
@@ -120,7 +120,7 @@ rowFor ts m = getD ts m noTally
 
 -- The numbers that keep a whole frame under good tables, so that it can come again: its own call is at the element limit, a lent tally is full, or the
 -- sheet has too few rows.
-pub data Keeps (kind : ℕ) (own : Own) (ts : List Tally) : (number : ℕ) → Type 0 where
+pub data Keeps (kind : ℕ) (own : OwnCall) (ts : List Tally) : (number : ℕ) → Type 0 where
   limit : (c : Call) → own ≡ one c → atLimit kind c ≡ true → Keeps kind own ts 17
   tally : (m : ℕ) (x : Figure) → Full (rowFor ts m) x → Keeps kind own ts 18
   fewRows : Keeps kind own ts 30
@@ -133,7 +133,7 @@ pub data Keeping : (number : ℕ) → Type 0 where
   sheetSmall : Keeping 30
 
 -- Nothing is changed, and no bytes are used: no rows, tail or comparisons, and sheet, calls and tally rows as they were.
-pub record KeptWhole (sheet : List ℕ) (ts : List Tally) (l : List Call) (a : Line) : Type 0 where
+pub record KeptWhole (sheet : List ℕ) (ts : List Tally) (l : List Call) (a : Effect) : Type 0 where
   pub used : a .answer .used ≡ 0
   pub nothing : Nothing sheet a
   pub slots : a .answer .table .slots ≡ l
@@ -146,7 +146,7 @@ pub record About (T : Table) (side : ℕ) (bytes : List ℕ) (l : List Call) (m 
   pub isMethod : callMethod T frame (ownOf (frame .correlation) l) ≡ At m
 
 -- Two answers that are the same but for the calls: equal replies, and sheets that show the same rows.
-pub record SameAnswer (sheet₁ sheet₂ : List ℕ) (a₁ a₂ : Line) : Type 0 where
+pub record SameAnswer (sheet₁ sheet₂ : List ℕ) (a₁ a₂ : Effect) : Type 0 where
   pub reply : replyOf (a₁ .answer) ≡ replyOf (a₂ .answer)
   pub rows : List Row
   pub first : ShowsRows rows sheet₁ a₁

@@ -8,17 +8,17 @@ use Rattle.receiver.specs.Receive.{received}
 use Rattle.receiver.specs.Run.{Input, Event, input, freshTallies}
 
 -- An answer with the sheet as it is left.
-pub record FreshLine : Type 0 where
+pub record FreshEffect : Type 0 where
   pub answer : Received
   pub sheet : List ℕ
 
-abbrev pub freshLine : Received → List ℕ → FreshLine
-freshLine r sheet = record { answer = r; sheet = sheet }
+abbrev pub freshEffect : Received → List ℕ → FreshEffect
+freshEffect r sheet = record { answer = r; sheet = sheet }
 
 -- The answer with a row of noughts for each method.
-unfoldable pub receivedFresh : (schema : List ℕ) (side : ℕ) (bytes sheet : List ℕ) → List Call → FreshLine
+unfoldable pub receivedFresh : (schema : List ℕ) (side : ℕ) (bytes sheet : List ℕ) → List Call → FreshEffect
 receivedFresh schema side bytes sheet l =
-    let a = received schema side bytes sheet (freshTallies (tableOf schema)) l in freshLine (a .answer) (a .sheet)
+    let a = received schema side bytes sheet (freshTallies (tableOf schema)) l in freshEffect (a .answer) (a .sheet)
 
 -- ---- a run of inputs, the last first
 

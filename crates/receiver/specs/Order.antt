@@ -19,7 +19,7 @@ use Rattle.calls.specs.Order as rules
 use Rattle.calls.specs.Figures.{eventAs, methodIn, Full}
 use Rattle.reader.specs.declared.Reading.the-variants.{Shown, Refused}
 use Rattle.reader.specs.Entry.{Outcome, outcome, readingIn, sheetIn, readOutcome, Numbers, numbers}
-use Rattle.receiver.specs.Answer.{Line, numbersOf}
+use Rattle.receiver.specs.Answer.{Effect, numbersOf}
 use Rattle.receiver.specs.Claims.{rowFor}
 
 -- What an answer says of the payload: number, place, rows, the tail's place and length, comparisons; and the sheet as it is left.
@@ -27,7 +27,7 @@ pub record Said : Type 0 where
   pub numbers : Numbers
   pub sheet : List ℕ
 
-abbrev pub said : Line → Said
+abbrev pub said : Effect → Said
 said a = record { numbers = numbersOf (a .answer); sheet = a .sheet }
 
 abbrev pub saidBy : Outcome → Said

@@ -18,12 +18,12 @@ use Rattle.receiver.specs.declared.SettledRelease.{SettledRelease}
 use Rattle.receiver.specs.Planning.{releasePlan}
 
 -- An answer with the tally rows as they are left.
-pub record ReleaseLine : Type 0 where
+pub record ReleaseEffect : Type 0 where
   pub answer : Released
   pub tallies : List Tally
 
-abbrev pub releaseLine : Released → List Tally → ReleaseLine
-releaseLine a ts = record { answer = a; tallies = ts }
+abbrev pub releaseEffect : Released → List Tally → ReleaseEffect
+releaseEffect a ts = record { answer = a; tallies = ts }
 
 -- The answer by its number and place and by the records that it leaves; the calls open are those of the next table.
 unfoldable pub releaseAnswer : (number place : ℕ) → List Call → Released
@@ -46,8 +46,8 @@ releaseSettled l t (Settle J r place end) =
     record { row = raised t (figureBy r n); answer = steppedAnswer (stepOf J n l) }
 
 -- Any schema file, call table, correlation and tally rows.
-unfoldable pub released : (schema : List ℕ) → List Call → (correlation : ℕ) → List Tally → ReleaseLine
+unfoldable pub released : (schema : List ℕ) → List Call → (correlation : ℕ) → List Tally → ReleaseEffect
 released schema l id ts =
     let plan = releasePlan schema l id (length ts) in
     let x = releaseSettled l (getD ts (plan .row) noTally) (plan .next) in
-    releaseLine (x .answer) (set ts (plan .row) (x .row))
+    releaseEffect (x .answer) (set ts (plan .row) (x .row))

@@ -16,7 +16,7 @@ use Rattle.calls.specs.Slots.{freshTable, countOpen}
 use Rattle.calls.specs.Counting.{noTally}
 use Rattle.calls.specs.Event as calls
 use Rattle.calls.specs.Order.{Past, Heard, pastOf}
-use Rattle.receiver.specs.Answer.{Line}
+use Rattle.receiver.specs.Answer.{Effect}
 use Rattle.receiver.specs.Planning.{frameFrom}
 use Rattle.receiver.specs.Receive.{received}
 use Rattle.receiver.specs.Release.{released}
@@ -87,7 +87,7 @@ callsAfter schema st es = runFrom schema st es .calls
 abbrev pub rowsAfter : (schema : List ℕ) → State → List Event → List Tally
 rowsAfter schema st es = runFrom schema st es .tallies
 
-abbrev pub answerAfter : (schema : List ℕ) → State → List Event → Input → Line
+abbrev pub answerAfter : (schema : List ℕ) → State → List Event → Input → Effect
 answerAfter schema st es i = received schema (i .side) (i .bytes) (i .sheet) (rowsAfter schema st es) (callsAfter schema st es)
 
 -- Whether 128 calls are open after it.

@@ -6,7 +6,7 @@ use crate::settling::settle;
 use calls::CallTable;
 use calls::Tally;
 ghost use mathlib.Core.Path.{_≡_};
-ghost use Rattle.receiver.specs.Answer.{line};
+ghost use Rattle.receiver.specs.Answer.{effect};
 ghost use Rattle.receiver.specs.Receive.{received};
 
 // One frame from a side (the byte C or S), judged in the order: schema table, call table, number of tally rows, frame, side and call, payload, tally.
@@ -18,7 +18,7 @@ pub fn receive(
     sheet: &mut [u32],
     tallies: &mut [Tally],
 ) -> Received
-    ensures { λ r. ⌜ line r (now (sheet .exit)) (now (tallies .exit)) ≡ received (now (schema .entry)) side (now (bytes .entry)) (now (sheet .entry)) (now (tallies .entry)) (table .slots) ⌝ }
+    ensures { λ r. ⌜ effect r (now (sheet .exit)) (now (tallies .exit)) ≡ received (now (schema .entry)) side (now (bytes .entry)) (now (sheet .entry)) (now (tallies .entry)) (table .slots) ⌝ }
 {
     let rows = tallies.len();
     let plan = plan(table, schema, side, bytes, rows);

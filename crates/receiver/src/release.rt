@@ -6,11 +6,11 @@ use crate::settling::settle_release;
 use calls::CallTable;
 use calls::Tally;
 ghost use mathlib.Core.Path.{_≡_};
-ghost use Rattle.receiver.specs.Release.{releaseLine, released};
+ghost use Rattle.receiver.specs.Release.{releaseEffect, released};
 
 // Ends the cancelled call with this correlation, judged in the order: schema table, call table, number of tally rows, call, tally.
 pub fn release(table: CallTable, schema: &[u8], correlation: u64, tallies: &mut [Tally]) -> Released
-    ensures { λ r. ⌜ releaseLine r (now (tallies .exit)) ≡ released (now (schema .entry)) (table .slots) correlation (now (tallies .entry)) ⌝ }
+    ensures { λ r. ⌜ releaseEffect r (now (tallies .exit)) ≡ released (now (schema .entry)) (table .slots) correlation (now (tallies .entry)) ⌝ }
 {
     let rows = tallies.len();
     let plan = plan_release(table, schema, correlation, rows);

@@ -25,7 +25,7 @@ ghost use Prim.Native.Nat.{ℕ};
 ghost use Rattle.schema.specs.Check.{IsGood};
 ghost use Rattle.calls.specs.declared.Call.{Call};
 ghost use Rattle.calls.specs.Counting.{noTally, countedNumber};
-ghost use Rattle.receiver.specs.Answer.{rowLine, answerIn, countedRead};
+ghost use Rattle.receiver.specs.Answer.{rowEffect, answerIn, countedRead};
 ghost use Rattle.receiver.specs.Planning.{Fitted};
 ghost use Rattle.receiver.specs.Receive.{frameSettled, settled, Unkept};
 ghost use Rattle.receiver.specs.Release.{releaseIn, releaseSettled};
@@ -55,7 +55,7 @@ fn settle_frame(
     tally: Tally,
 ) -> Done
     requires { ⌜ IsGood (now schema) ⌝ }
-    ensures { λ r. ⌜ ((l : List Call) → rowLine (answerIn r l) (now (sheet .exit)) (r .row) ≡ frameSettled (now (schema .entry)) judged rise (now (payload .entry)) size (now (sheet .entry)) tally l) ⌝ }
+    ensures { λ r. ⌜ ((l : List Call) → rowEffect (answerIn r l) (now (sheet .exit)) (r .row) ≡ frameSettled (now (schema .entry)) judged rise (now (payload .entry)) size (now (sheet .entry)) tally l) ⌝ }
 {
     let reading = read_counted(schema, due_of(judged), payload, sheet, tally, rise);
     let row = tally.raised(rise.figure(number_of(reading)));
@@ -70,7 +70,7 @@ fn settle_frame(
 // A planned frame, by the schema table and the bytes of its plan, for every call table.
 pub fn settle_plan(plan: Plan, schema: &[u8], bytes: &[u8], sheet: &mut [u32], tally: Tally) -> Done
     requires { ⌜ Fitted (now schema) (now bytes) (plan .next) ⌝ }
-    ensures { λ r. ⌜ ((l : List Call) → rowLine (answerIn r l) (now (sheet .exit)) (r .row) ≡ settled (now (schema .entry)) (now (bytes .entry)) (now (sheet .entry)) l tally (plan .next)) ⌝ }
+    ensures { λ r. ⌜ ((l : List Call) → rowEffect (answerIn r l) (now (sheet .exit)) (r .row) ≡ settled (now (schema .entry)) (now (bytes .entry)) (now (sheet .entry)) l tally (plan .next)) ⌝ }
     ensures { λ r. ⌜ ((n q : ℕ) → plan .next ≡ Next.Refused n q → r .judged ≡ Judged.Refused n) ⌝ }
 {
     let left = plan.next;
@@ -137,7 +137,7 @@ pub fn settle(
     tally: Tally,
 ) -> Settled
     requires { ⌜ Fitted (now schema) (now bytes) (plan .next) ⌝ }
-    ensures { λ r. ⌜ rowLine (r .answer) (now (sheet .exit)) (r .row) ≡ settled (now (schema .entry)) (now (bytes .entry)) (now (sheet .entry)) (table .slots) tally (plan .next) ⌝ }
+    ensures { λ r. ⌜ rowEffect (r .answer) (now (sheet .exit)) (r .row) ≡ settled (now (schema .entry)) (now (bytes .entry)) (now (sheet .entry)) (table .slots) tally (plan .next) ⌝ }
 {
     let done = settle_plan(plan, schema, bytes, sheet, tally);
     let row = done.row;

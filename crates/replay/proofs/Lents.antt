@@ -9,30 +9,30 @@ use Rattle.schema.specs.File.{tableOf}
 use Rattle.schema.specs.Check.{IsGood}
 use Rattle.receiver.specs.declared.Received.{Received}
 use Rattle.receiver.specs.Receive.{received}
-use Rattle.receiver.specs.Fresh.{FreshLine, inputs}
-use Rattle.receiver.specs.Run as line
+use Rattle.receiver.specs.Fresh.{FreshEffect, inputs}
+use Rattle.receiver.specs.Run as receiver
 use Rattle.receiver.proofs.FreshRows.{fresh-answers}
 use Rattle.replay.specs.Run.{sheet, freshCalls, answerTo, stops, entryOf, Run, halted, onward, runFrom, runOf}
 use Rattle.replay.specs.Lent.{lentFrom, lentRun}
 
 module _ (s : List ℕ) (good : IsGood s) where
   -- the state after some entries, the last first
-  abbrev after : List line.Input → line.State
-  after is = line.runFrom s (line.freshState (tableOf s)) (inputs is)
+  abbrev after : List receiver.Input → receiver.State
+  after is = receiver.runFrom s (receiver.freshState (tableOf s)) (inputs is)
 
-  abbrev here : (side : ℕ) (bytes : List ℕ) → line.Input
+  abbrev here : (side : ℕ) (bytes : List ℕ) → receiver.Input
   here side bytes = record { side = side; bytes = bytes; sheet = sheet }
 
   -- the next entry has the same answer
-  next-answer : (is : List line.Input) (side : ℕ) (bytes : List ℕ) → length is < 4294967295
+  next-answer : (is : List receiver.Input) (side : ℕ) (bytes : List ℕ) → length is < 4294967295
       → received s side bytes sheet (after is .tallies) (after is .calls) .answer ≡ answerTo s side bytes (after is .calls)
   unfolding answerTo
-  next-answer is side bytes h = ap (λ (x : FreshLine). x .answer) (fresh-answers s good is h (here side bytes))
+  next-answer is side bytes h = ap (λ (x : FreshEffect). x .answer) (fresh-answers s good is h (here side bytes))
 
   -- and so have all that follow
-  lent-from : (k place : ℕ) (left : List ℕ) (is : List line.Input) → k + length is < 4294967296
+  lent-from : (k place : ℕ) (left : List ℕ) (is : List receiver.Input) → k + length is < 4294967296
       → lentFrom s k place left (after is) ≡ runFrom s k place left (after is .calls)
-  unfolding lentFrom runFrom line.runFrom
+  unfolding lentFrom runFrom receiver.runFrom
   lent-from zero place left is h = refl
   lent-from (suc k) place [] is h = refl
   lent-from (suc k) place (side ∷ bytes) is h =
@@ -45,5 +45,5 @@ module _ (s : List ℕ) (good : IsGood s) where
 
   -- A record of fewer than 2^32 bytes has one run, whether its tally rows are carried along or fresh for each entry.
   pub lent-run : (entries : List ℕ) → length entries < 4294967296 → lentRun s entries ≡ runOf s entries
-  unfolding lentRun runOf freshCalls line.runFrom
+  unfolding lentRun runOf freshCalls receiver.runFrom
   lent-run entries h = lent-from (length entries) 0 entries [] (omega (arith, h))

@@ -26,11 +26,11 @@ use Rattle.calls.specs.Step.{stepOf}
 use Rattle.calls.proofs.Sides.{no-side}
 use Rattle.reader.specs.Entry.{room}
 use Rattle.receiver.specs.declared.Received.{Received}
-use Rattle.receiver.specs.Answer.{Line, stopped}
+use Rattle.receiver.specs.Answer.{Effect, stopped}
 use Rattle.receiver.specs.Planning.{frameFrom}
-use Rattle.receiver.specs.Receive.{frameSettled, frameLine}
+use Rattle.receiver.specs.Receive.{frameSettled, frameEffect}
 use Rattle.receiver.specs.Run.{freshTallies}
-use Rattle.receiver.specs.Fresh.{FreshLine, freshLine, receivedFresh}
+use Rattle.receiver.specs.Fresh.{FreshEffect, freshEffect, receivedFresh}
 use Rattle.receiver.proofs.Ways.{Way, stops, judges, ways}
 use Rattle.receiver.proofs.FreshRows.{used-by-number, same-room}
 use Rattle.replay.specs.Run.{sheet, answerTo, noHeader, headerIn, stops as stopsAt}
@@ -58,9 +58,9 @@ pub sheet-rows : room sheet ≡ 4096
 sheet-rows = ap (λ (n : ℕ). n / 4) (length-replicate {A = ℕ} 16384 0)
 
 pub by-sheet : (s : List ℕ) (side : ℕ) (bytes cells : List ℕ) (l : List Call) → room cells ≡ room sheet
-    → (r : Received) (after : List ℕ) → freshLine r after ≡ receivedFresh s side bytes cells l → r ≡ answerTo s side bytes l
+    → (r : Received) (after : List ℕ) → freshEffect r after ≡ receivedFresh s side bytes cells l → r ≡ answerTo s side bytes l
 unfolding answerTo
-by-sheet s side bytes cells l space r after h = ap (λ (a : FreshLine). a .answer) h ∙ same-room s side bytes cells l sheet space
+by-sheet s side bytes cells l space r after h = ap (λ (a : FreshEffect). a .answer) h ∙ same-room s side bytes cells l sheet space
 
 -- ---- bytes used
 
@@ -104,15 +104,15 @@ module _ (s : List ℕ) (side : ℕ) (bytes : List ℕ) (l : List Call) (client 
   unfolding judgeOf verdictOf
   unsent h = rw (no-side side (h .kind) client server)
 
-  unsent-number : (h : Header) (payload : List ℕ) (size : ℕ) (ts : List Tally) → frameLine s (frameFrom side h) payload size sheet ts l .answer .number ≡ 8
-  unfolding frameLine frameSettled stepOf
+  unsent-number : (h : Header) (payload : List ℕ) (size : ℕ) (ts : List Tally) → frameEffect s (frameFrom side h) payload size sheet ts l .answer .number ≡ 8
+  unfolding frameEffect frameSettled stepOf
   unsent-number h payload size ts = rw (unsent h)
 
   pub no-sender : (answerTo s side bytes l .used ≡ 0) ⊎ (answerTo s side bytes l .number ≡ 8)
   unfolding answerTo receivedFresh stopped
   no-sender = go (ways s side bytes sheet (freshTallies (tableOf s)) l)
     where
-      go : {x : Line} → Way s side bytes sheet (freshTallies (tableOf s)) l x → (x .answer .used ≡ 0) ⊎ (x .answer .number ≡ 8)
+      go : {x : Effect} → Way s side bytes sheet (freshTallies (tableOf s)) l x → (x .answer .used ≡ 0) ⊎ (x .answer .number ≡ 8)
       go (stops {n} {q} w) = inl refl
       go (judges h place n w e) = inr (unsent-number h (take n (drop place bytes)) (place + n) (freshTallies (tableOf s)))
 

@@ -21,7 +21,7 @@ use Rattle.calls.specs.declared.Call.{Call}
 use Rattle.calls.specs.Numbers.{endsCall, EndsCall}
 use Rattle.calls.specs.declared.Frame.{Frame as calls-Frame}
 use Rattle.calls.specs.Slots.{ownOf, slot}
-use Rattle.calls.specs.declared.Own.the-variants.{None as calls-none}
+use Rattle.calls.specs.declared.OwnCall.the-variants.{None as calls-none}
 use Rattle.calls.specs.Event.{Event as calls-Event}
 use Rattle.calls.specs.Apart.{Freed}
 use Rattle.value.specs.declared.Row.{Row as value-Row}
@@ -41,7 +41,7 @@ use Rattle.writer.specs.declared.Writing.the-variants.{Refused as writer-Refuse
 use Rattle.receiver.specs.Receive.{received}
 use Rattle.receiver.specs.Claims.{AnswerNumber as FrameListed, ReleaseListed, Stopping, Stops, Unready, Nothing, Front}
 use Rattle.receiver.specs.Release.{released}
-use Rattle.receiver.specs.Run.{State, Event as line-Event, stateAfter, Happens, numberOf}
+use Rattle.receiver.specs.Run.{State, Event as receiver-Event, stateAfter, Happens, numberOf}
 use Rattle.promises.specs.Claims.{ReadReason, WriteReason, shapes}
 use Rattle.schema.proofs.Faults as schema-Faults
 use Rattle.schema.proofs.Listed as schema-Listed
@@ -50,11 +50,11 @@ use Rattle.frame.proofs.Answers as frame-Answers
 use Rattle.calls.proofs.Used as calls-Used
 use Rattle.value.proofs.Statements as value-Statements
 use Rattle.scalar.proofs.Reasons as scalar-Reasons
-use Rattle.receiver.proofs.Listed as line-Listed
-use Rattle.receiver.proofs.Answers as line-Answers
-use Rattle.receiver.proofs.Records as line-Records
-use Rattle.receiver.proofs.Runs as line-Runs
-use Rattle.receiver.proofs.Releases as line-Releases
+use Rattle.receiver.proofs.Listed as receiver-Listed
+use Rattle.receiver.proofs.Answers as receiver-Answers
+use Rattle.receiver.proofs.Records as receiver-Records
+use Rattle.receiver.proofs.Runs as receiver-Runs
+use Rattle.receiver.proofs.Releases as receiver-Releases
 use Rattle.promises.proofs.Reading as promises-Reading
 use Rattle.promises.proofs.Refusals as promises-Refusals
 use Rattle.promises.proofs.ReadBack as promises-ReadBack
@@ -67,23 +67,23 @@ use Rattle.promises.proofs.ReadBack as promises-ReadBack
 -- The contract of each entry is an equation with a definition that gives number and place; the theorems say what these are.
 
 -- Every answer to a frame has one of 01's numbers for it, or 16 to 19, with its place.
-pub line-listed : (s : List ℕ) (side : ℕ) (bytes sheet : List ℕ) (ts : List Tally) (l : List Call)
+pub receiver-listed : (s : List ℕ) (side : ℕ) (bytes sheet : List ℕ) (ts : List Tally) (l : List Call)
     → let a = received s side bytes sheet ts l in FrameListed (a .answer .number) (a .answer .place)
-line-listed = line-Listed.listed
+receiver-listed = receiver-Listed.listed
 
 -- Every answer to a release has one of the request's numbers for it, with its place.
 pub release-listed : (s : List ℕ) (l : List Call) (id : ℕ) (ts : List Tally) → let a = released s l id ts .answer in ReleaseListed (a .number) (a .place)
-release-listed = line-Listed.release-listed
+release-listed = receiver-Listed.release-listed
 
 -- The answer has one of the numbers that come before a frame is judged, at a place, exactly for that reason.
 pub stopped-iff : (s : List ℕ) (side : ℕ) (bytes sheet : List ℕ) (ts : List Tally) (l : List Call) (n q : ℕ) → Stopping n
     → let a = received s side bytes sheet ts l .answer in ((a .number ≡ n) × (a .place ≡ q)) ↔ Stops s bytes l (length ts) n q
-stopped-iff = line-Listed.stopped-iff
+stopped-iff = receiver-Listed.stopped-iff
 
 -- The answer to a release has one of the numbers that come before the call is judged, at a place, exactly for that fault of the tables.
 pub release-stopped-iff : (s : List ℕ) (l : List Call) (id : ℕ) (ts : List Tally) (n q : ℕ) → Stopping n
     → let a = released s l id ts .answer in ((a .number ≡ n) × (a .place ≡ q)) ↔ Unready s l (length ts) n q
-release-stopped-iff = line-Listed.release-stopped-iff
+release-stopped-iff = receiver-Listed.release-stopped-iff
 
 -- Bytes are refused with a number exactly where they start with the field at fault that has it, all before it right,
 pub frame-refused-iff : (s : List ℕ) (n : ℕ) → (frameOf s ≡ frame-Refused n) ↔ FrameFault s n
@@ -193,9 +193,9 @@ pub writer-refused-untouched : (s : List ℕ) (ty : ℕ) (sheet B out : List ℕ
 writer-refused-untouched = promises-ReadBack.refused-untouched
 
 -- A refusal, and 1, have no rows, tail 0, 0 and no comparisons, and leave the sheet untouched.
-pub line-refused-untouched : (s : List ℕ) (side : ℕ) (bytes sheet : List ℕ) (ts : List Tally) (l : List Call)
+pub receiver-refused-untouched : (s : List ℕ) (side : ℕ) (bytes sheet : List ℕ) (ts : List Tally) (l : List Call)
     → (received s side bytes sheet ts l .answer .number ≡ 0 → ⊥) → Nothing sheet (received s side bytes sheet ts l)
-line-refused-untouched = line-Answers.refused-untouched
+receiver-refused-untouched = receiver-Answers.refused-untouched
 
 -- Stated in other files: `Request11.refused-iff`, `Request06.refused-iff-unwritten`.
 
@@ -205,13 +205,13 @@ line-refused-untouched = line-Answers.refused-untouched
 pub refused-kept : (s : List ℕ) (side : ℕ) (bytes sheet : List ℕ) (ts : List Tally) (l : List Call) →
     let slots = received s side bytes sheet ts l .answer .table .slots in let number = received s side bytes sheet ts l .answer .number in
     (number ≡ 0 → ⊥) → endsCall number ≡ false → slots ≡ l
-refused-kept = line-Records.refused-kept
+refused-kept = receiver-Records.refused-kept
 
 -- Payload refusals end the open call.
 pub refused-ends : (s : List ℕ) (side : ℕ) (bytes sheet : List ℕ) (ts : List Tally) (l : List Call) (f : calls-Frame) (w : Front side bytes f) →
     let slots = received s side bytes sheet ts l .answer .table .slots in let number = received s side bytes sheet ts l .answer .number in
     (f .kind ≡ 1 → ⊥) → endsCall number ≡ true → ownOf (f .correlation) slots ≡ calls-none
-refused-ends = line-Records.refused-ends
+refused-ends = receiver-Records.refused-ends
 
 -- Payload refusals 20 to 29 and 31 end the open call, and no other number does.
 pub ends-iff : (n : ℕ) → (endsCall n ≡ true) ↔ EndsCall n
@@ -221,28 +221,28 @@ ends-iff = calls-Used.ends-iff
 pub others-kept : (s : List ℕ) (side : ℕ) (bytes sheet : List ℕ) (ts : List Tally) (l : List Call) →
     let slots = received s side bytes sheet ts l .answer .table .slots in
     (k : ℕ) → ((f : calls-Frame) → Front side bytes f → k ≡ f .correlation → ⊥) → ownOf k slots ≡ ownOf k l
-others-kept = line-Records.others-kept
+others-kept = receiver-Records.others-kept
 
 -- An open slot under another correlation than the frame's is unchanged.
 pub open-kept : (s : List ℕ) (side : ℕ) (bytes sheet : List ℕ) (ts : List Tally) (l : List Call) →
     let slots = received s side bytes sheet ts l .answer .table .slots in
     (i : ℕ) → slot l i .«open» ≡ true → ((f : calls-Frame) → Front side bytes f → slot l i .correlation ≡ f .correlation → ⊥)
     → slot slots i ≡ slot l i
-open-kept = line-Records.open-kept
+open-kept = receiver-Records.open-kept
 
 -- A slot is freed only by a payload refusal, the completion of the call, ERROR, or the release of a cancelled call, each its own.
-pub freed : (s : List ℕ) (st : State) (e : line-Event) (i : ℕ) → slot (st .calls) i .«open» ≡ true → slot (stateAfter s e st .calls) i .«open» ≡ false
+pub freed : (s : List ℕ) (st : State) (e : receiver-Event) (i : ℕ) → slot (st .calls) i .«open» ≡ true → slot (stateAfter s e st .calls) i .«open» ≡ false
     → (x : calls-Event) × Happens e x × Freed (tableOf s) x (numberOf s e st) (slot (st .calls) i)
-freed = line-Runs.freed
+freed = receiver-Runs.freed
 
 -- A release that is refused changes no call,
 pub release-refused-kept : (s : List ℕ) (l : List Call) (id : ℕ) (ts : List Tally) →
     let slots = released s l id ts .answer .table .slots in let number = released s l id ts .answer .number in
     (number ≡ 0 → ⊥) → slots ≡ l
-release-refused-kept = line-Releases.refused-kept
+release-refused-kept = receiver-Releases.refused-kept
 
 -- and every tally row stays as it was.
 pub refused-rows : (s : List ℕ) (l : List Call) (id : ℕ) (ts : List Tally) →
     let number = released s l id ts .answer .number in
     (number ≡ 0 → ⊥) → released s l id ts .tallies ≡ ts
-refused-rows = line-Releases.refused-rows
+refused-rows = receiver-Releases.refused-rows

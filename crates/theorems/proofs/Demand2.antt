@@ -33,8 +33,8 @@ use Rattle.reader.specs.Entry.{room, readOutcome, outcome as reader-outcome}
 use Rattle.reader.specs.declared.Reading.the-variants.{Shown}
 use Rattle.writer.specs.Entry.{fileOutcome, outcome as writer-outcome}
 use Rattle.writer.specs.declared.Writing.the-variants.{Written as writer-Written}
-use Rattle.receiver.specs.Run.{State, Event as line-Event, Input, answerAfter, fullAfter, pastIn, rowsAfter, callsAfter, freshTallies}
-use Rattle.receiver.specs.Order.{Stands as line-Stands, Said, said, ByRules, ReleasedAs}
+use Rattle.receiver.specs.Run.{State, Event as receiver-Event, Input, answerAfter, fullAfter, pastIn, rowsAfter, callsAfter, freshTallies}
+use Rattle.receiver.specs.Order.{Stands as receiver-Stands, Said, said, ByRules, ReleasedAs}
 use Rattle.receiver.specs.Claims.{Front, payloadIn}
 use Rattle.receiver.specs.Release.{released}
 use Rattle.valueframe.specs.Entry.{frameOutcome}
@@ -45,7 +45,7 @@ use Rattle.frame.proofs.ReadBack as frame-ReadBack
 use Rattle.calls.proofs.Once as calls-Once
 use Rattle.calls.proofs.Pasts as calls-Pasts
 use Rattle.value.proofs.Statements as value-Statements
-use Rattle.receiver.proofs.Runs as line-Runs
+use Rattle.receiver.proofs.Runs as receiver-Runs
 use Rattle.promises.proofs.Reading as promises-Reading
 use Rattle.promises.proofs.ReadBack as promises-ReadBack
 use Rattle.promises.proofs.ValueFrames as promises-ValueFrames
@@ -84,17 +84,17 @@ written-iff = frame-ReadBack.written-iff
 -- Call order, with the step of 02, 2026-01 ("Demand 2 reads this step in place of 01's"):
 
 -- The answer to the next frame is the one by the rules, and no other: number, place, rows, tail, comparisons and sheet.
-pub by-order : (s : List ℕ) (g : IsGood s) (start : State) (past : ℕ → Past) (st : line-Stands (tableOf s) (start .calls) (start .tallies) past)
-    (es : List line-Event) (i : Input) (f : calls-Frame) (w : Front (i .side) (i .bytes) f) (x : Said) →
+pub by-order : (s : List ℕ) (g : IsGood s) (start : State) (past : ℕ → Past) (st : receiver-Stands (tableOf s) (start .calls) (start .tallies) past)
+    (es : List receiver-Event) (i : Input) (f : calls-Frame) (w : Front (i .side) (i .bytes) f) (x : Said) →
     (said (answerAfter s start es i) ≡ x)
     ↔ ByRules s (payloadIn w) (i .sheet) f (fullAfter s start es) (pastIn s start past es (f .correlation)) (rowsAfter s start es) x
-by-order = line-Runs.by-order
+by-order = receiver-Runs.by-order
 
 -- The answer to a release is the one by the rules, and no other.
-pub release-by-order : (s : List ℕ) (g : IsGood s) (start : State) (past : ℕ → Past) (st : line-Stands (tableOf s) (start .calls) (start .tallies) past)
-    (es : List line-Event) (id n : ℕ) → (released s (callsAfter s start es) id (rowsAfter s start es) .answer .number ≡ n)
+pub release-by-order : (s : List ℕ) (g : IsGood s) (start : State) (past : ℕ → Past) (st : receiver-Stands (tableOf s) (start .calls) (start .tallies) past)
+    (es : List receiver-Event) (id n : ℕ) → (released s (callsAfter s start es) id (rowsAfter s start es) .answer .number ≡ n)
     ↔ ReleasedAs (rowsAfter s start es) (pastIn s start past es id) n
-release-by-order = line-Runs.release-by-order
+release-by-order = receiver-Runs.release-by-order
 
 -- A frame has one ruling by the past of its identifier.
 pub ruled-once : (T : Table) (f : calls-Frame) (full : Bool) (past : Past) (q r : Ruling) → Ruled T f full past q → Ruled T f full past r → q ≡ r
@@ -105,13 +105,13 @@ pub release-once : (past : Past) (m n : ℕ) → Releases past m → Releases pa
 release-once = calls-Once.release-once
 
 -- A fresh start stands with no call open.
-pub fresh-stands : (T : Table) → line-Stands T (freshTable .slots) (freshTallies T) (λ _. closed)
-fresh-stands = line-Runs.fresh-stands
+pub fresh-stands : (T : Table) → receiver-Stands T (freshTable .slots) (freshTallies T) (λ _. closed)
+fresh-stands = receiver-Runs.fresh-stands
 
 -- So does every good table of 128 slots with as many tally rows as methods, with pasts that the rules allow.
 pub good-stands : (s : List ℕ) → IsGood s → (l : List Call) (ts : List Tally) → length l ≡ 128 → calls-GoodTable (tableOf s) l → length ts ≡ length (tableOf s .methods) →
-    (past : ℕ → Past) × ((id : ℕ) → Lawful (tableOf s) (past id)) × line-Stands (tableOf s) l ts past
-good-stands = line-Runs.good-stands
+    (past : ℕ → Past) × ((id : ℕ) → Lawful (tableOf s) (past id)) × receiver-Stands (tableOf s) l ts past
+good-stands = receiver-Runs.good-stands
 
 -- The record of an open call is good exactly where the rules allow kinds that leave its marks.
 pub good-iff-reached : (T : Table) (g : schema-GoodTable T) (c : Call) → GoodCall T c ↔ Reached T c
@@ -144,7 +144,7 @@ frame-read-back = promises-ValueFrames.frame-read-back
 -- The same by `receive`, in any history from a good call table of 128 slots with as many tally rows as methods, for a frame that may come next.
 pub received-back : (h : Header) (fits : HeaderFits h) (s : List ℕ) (ty : ℕ) (sheet B out : List ℕ) (m : ℕ) (out′ : List ℕ)
     (e : frameOutcome h s ty sheet B out ≡ writer-outcome (writer-Written m) out′)
-    (st : State) (past : ℕ → Past) → line-Stands (tableOf s) (st .calls) (st .tallies) past → (is : List line-Event) (side : ℕ)
+    (st : State) (past : ℕ → Past) → receiver-Stands (tableOf s) (st .calls) (st .tallies) past → (is : List receiver-Event) (side : ℕ)
     → (after : List ℕ) → length sheet / 4 ≤ room after → (rest : List ℕ)
     → (p : List ℕ) × Carries s ty sheet B after p × ReceivedBack s ty p after st past is side h m (take m out′ ++ rest)
 received-back = promises-ValueFrames.received-back

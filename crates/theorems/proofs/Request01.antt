@@ -15,7 +15,7 @@ use Rattle.calls.specs.declared.Call.{Call}
 use Rattle.calls.specs.declared.Frame.{Frame as calls-Frame}
 use Rattle.calls.specs.Record.{isCall, withMark, allowed, notAllowed}
 use Rattle.calls.specs.Slots.{slot, ownOf, holds, goodTable, countOpen}
-use Rattle.calls.specs.declared.Own.the-variants.{None as calls-none, One as one}
+use Rattle.calls.specs.declared.OwnCall.the-variants.{None as calls-none, One as one}
 use Rattle.calls.specs.Event.{Event as calls-Event, identifier}
 use Rattle.calls.specs.Apart.{EndsCancelled}
 use Rattle.calls.specs.Order.{Past, Reflects, Elements, since, same, Crosses, methodNamed, cancelled, Ruled, comes}
@@ -25,15 +25,15 @@ use Rattle.calls.specs.Good.{GoodCall}
 use Rattle.calls.specs.declared.Payload.the-variants.{Empty}
 use Rattle.receiver.specs.Claims.{Front, Nothing, rowFor, releaseReply, payloadIn}
 use Rattle.receiver.specs.Receive.{received}
-use Rattle.receiver.specs.Run.{State, Event as line-Event, stateAfter, Happens, numberOf, pastIn, callsAfter, Input, answerAfter, rowsAfter, RoomAfter, fullAfter}
-use Rattle.receiver.specs.Order.{Stands as line-Stands}
+use Rattle.receiver.specs.Run.{State, Event as receiver-Event, stateAfter, Happens, numberOf, pastIn, callsAfter, Input, answerAfter, rowsAfter, RoomAfter, fullAfter}
+use Rattle.receiver.specs.Order.{Stands as receiver-Stands}
 use Rattle.receiver.specs.Release.{released}
 use Rattle.listing.specs.Listing.{listing}
 use Rattle.listing.proofs.Examples.{crossed, crossedOutput}
 use Rattle.calls.proofs.Cancelled as calls-Cancelled
-use Rattle.receiver.proofs.Records as line-Records
-use Rattle.receiver.proofs.Runs as line-Runs
-use Rattle.receiver.proofs.Releases as line-Releases
+use Rattle.receiver.proofs.Records as receiver-Records
+use Rattle.receiver.proofs.Runs as receiver-Runs
+use Rattle.receiver.proofs.Releases as receiver-Releases
 use Rattle.listing.proofs.Examples as listing-Examples
 
 -- "a cancelled call shall stay open in its slot and keep its identifier."
@@ -43,36 +43,36 @@ pub cancel-marked : (s : List ℕ) (side : ℕ) (bytes sheet : List ℕ) (ts : L
     let slots = received s side bytes sheet ts l .answer .table .slots in let number = received s side bytes sheet ts l .answer .number in
     f .kind ≡ 8 → number ≡ 0 → (i : ℕ) → isCall (f .correlation) (slot l i) ≡ true →
     (slot slots i ≡ withMark true (slot l i)) × ((j : ℕ) → (j ≡ i → ⊥) → slot slots j ≡ slot l j)
-cancel-marked = line-Records.cancel-marked
+cancel-marked = receiver-Records.cancel-marked
 
 -- It frees no slot.
 pub cancel-frees-none : (s : List ℕ) (side : ℕ) (bytes sheet : List ℕ) (ts : List Tally) (l : List Call) (f : calls-Frame) (w : Front side bytes f) →
     let slots = received s side bytes sheet ts l .answer .table .slots in let number = received s side bytes sheet ts l .answer .number in
     f .kind ≡ 8 → number ≡ 0 → (i : ℕ) → slot l i .«open» ≡ true → slot slots i .«open» ≡ true
-cancel-frees-none = line-Records.cancel-frees-none
+cancel-frees-none = receiver-Records.cancel-frees-none
 
 -- Only its ERROR, accepted, or its release frees the slot of a cancelled call.
-pub cancelled-freed : (s : List ℕ) (st : State) (e : line-Event) (i : ℕ) → slot (st .calls) i .«open» ≡ true → slot (st .calls) i .cancelled ≡ true
+pub cancelled-freed : (s : List ℕ) (st : State) (e : receiver-Event) (i : ℕ) → slot (st .calls) i .«open» ≡ true → slot (st .calls) i .cancelled ≡ true
     → slot (stateAfter s e st .calls) i .«open» ≡ false
     → (x : calls-Event) × Happens e x × (isCall (identifier x) (slot (st .calls) i) ≡ true) × EndsCancelled x (numberOf s e st)
-cancelled-freed = line-Runs.cancelled-freed
+cancelled-freed = receiver-Runs.cancelled-freed
 
 -- The record of each identifier reflects the kinds that were accepted for its call.
-pub reflected : (s : List ℕ) (g : IsGood s) (start : State) (past : ℕ → Past) (st : line-Stands (tableOf s) (start .calls) (start .tallies) past)
-    (es : List line-Event) (id : ℕ) → Reflects (pastIn s start past es id) (ownOf id (callsAfter s start es))
-reflected = line-Runs.reflected
+pub reflected : (s : List ℕ) (g : IsGood s) (start : State) (past : ℕ → Past) (st : receiver-Stands (tableOf s) (start .calls) (start .tallies) past)
+    (es : List receiver-Event) (id : ℕ) → Reflects (pastIn s start past es id) (ownOf id (callsAfter s start es))
+reflected = receiver-Runs.reflected
 
 -- "Its server frames are then dropped, payload unread, with answer 16 and all bytes used;"
 
 -- The server's frames of a cancelled call, ERROR aside, are dropped, payload unread, with answer 16 and all bytes used; nothing is changed.
-pub crossing-dropped : (s : List ℕ) (g : IsGood s) (start : State) (past : ℕ → Past) (st : line-Stands (tableOf s) (start .calls) (start .tallies) past) →
+pub crossing-dropped : (s : List ℕ) (g : IsGood s) (start : State) (past : ℕ → Past) (st : receiver-Stands (tableOf s) (start .calls) (start .tallies) past) →
     let T = tableOf s in
-    (es : List line-Event) (i : Input) (f : calls-Frame) (w : Front (i .side) (i .bytes) f) (m : ℕ) (b : Elements) (h : List ℕ)
+    (es : List receiver-Event) (i : Input) (f : calls-Frame) (w : Front (i .side) (i .bytes) f) (m : ℕ) (b : Elements) (h : List ℕ)
     → pastIn s start past es (f .correlation) ≡ since m b h → rightSide (f .side) (f .kind) ≡ true → same T f m ≡ true → Crosses h (f .kind)
     → let a = answerAfter s start es i in
     (a .answer .number ≡ 16) × (a .answer .place ≡ 0) × (a .answer .used ≡ w .place + w .size) × Nothing (i .sheet) a × (a .answer .table .slots ≡ callsAfter s start es)
     × ((k : ℕ) → rowFor (a .tallies) k ≡ rowFor (rowsAfter s start es) k)
-crossing-dropped = line-Runs.crossing-dropped
+crossing-dropped = receiver-Runs.crossing-dropped
 
 -- Of the kinds 2 to 8 a cancelled call allows ERROR alone.
 pub error-alone : (row : FormRow) (c : Call) → c .cancelled ≡ true →
@@ -90,12 +90,12 @@ late-kinds = calls-Cancelled.late-kinds
 -- "ERROR is accepted and ends it;"
 
 -- ERROR of a cancelled call is accepted and ends it, unless its tally is full.
-pub error-ends-cancelled : (s : List ℕ) (g : IsGood s) (start : State) (past : ℕ → Past) (st : line-Stands (tableOf s) (start .calls) (start .tallies) past) →
+pub error-ends-cancelled : (s : List ℕ) (g : IsGood s) (start : State) (past : ℕ → Past) (st : receiver-Stands (tableOf s) (start .calls) (start .tallies) past) →
     let T = tableOf s in
-    (es : List line-Event) (i : Input) (f : calls-Frame) (w : Front (i .side) (i .bytes) f) (m : ℕ) (b : Elements) (h : List ℕ)
+    (es : List receiver-Event) (i : Input) (f : calls-Frame) (w : Front (i .side) (i .bytes) f) (m : ℕ) (b : Elements) (h : List ℕ)
     → pastIn s start past es (f .correlation) ≡ since m b h → RoomAfter s start past es f 0 → f .side ≡ 83 → f .kind ≡ 7 → same T f m ≡ true
     → let a = answerAfter s start es i in (a .answer .number ≡ 0) × (ownOf (f .correlation) (a .answer .table .slots) ≡ calls-none)
-error-ends-cancelled = line-Runs.error-ends-cancelled
+error-ends-cancelled = receiver-Runs.error-ends-cancelled
 
 -- "so does a new public release call naming the correlation."
 -- By the contract of `arf::release`, answer, next call table and tally rows afterwards are `released`.
@@ -104,7 +104,7 @@ error-ends-cancelled = line-Runs.error-ends-cancelled
 pub released-ends : (s : List ℕ) (l : List Call) (id : ℕ) (ts : List Tally) →
     let slots = released s l id ts .answer .table .slots in let number = released s l id ts .answer .number in
     number ≡ 0 → ownOf id slots ≡ calls-none
-released-ends = line-Releases.released-ends
+released-ends = receiver-Releases.released-ends
 
 -- Stated in another file: `Demand2.release-by-order`.
 
@@ -122,21 +122,21 @@ any-open = calls-Cancelled.any-open
 -- "Refusals: INVOKE on a cancelled call stays 10, its other client frames 14, after 12;"
 
 -- INVOKE of a known method on an open call's identifier, cancelled or not, is 10.
-pub invoke-open : (s : List ℕ) (g : IsGood s) (start : State) (past : ℕ → Past) (st : line-Stands (tableOf s) (start .calls) (start .tallies) past) →
+pub invoke-open : (s : List ℕ) (g : IsGood s) (start : State) (past : ℕ → Past) (st : receiver-Stands (tableOf s) (start .calls) (start .tallies) past) →
     let T = tableOf s in
-    (es : List line-Event) (i : Input) (f : calls-Frame) (w : Front (i .side) (i .bytes) f) (m n : ℕ) (b : Elements) (h : List ℕ)
+    (es : List receiver-Event) (i : Input) (f : calls-Frame) (w : Front (i .side) (i .bytes) f) (m n : ℕ) (b : Elements) (h : List ℕ)
     → pastIn s start past es (f .correlation) ≡ since m b h → f .side ≡ 67 → f .kind ≡ 1 → methodNamed T f ≡ At n
     → answerAfter s start es i .answer .number ≡ 10
-invoke-open = line-Runs.invoke-open
+invoke-open = receiver-Runs.invoke-open
 
 -- A client frame of a cancelled call (IN_STREAM, IN_CLOSE, CANCEL) is 12 where its identifiers are not the call's, and else 14.
-pub client-late : (s : List ℕ) (g : IsGood s) (start : State) (past : ℕ → Past) (st : line-Stands (tableOf s) (start .calls) (start .tallies) past) →
+pub client-late : (s : List ℕ) (g : IsGood s) (start : State) (past : ℕ → Past) (st : receiver-Stands (tableOf s) (start .calls) (start .tallies) past) →
     let T = tableOf s in
-    (es : List line-Event) (i : Input) (f : calls-Frame) (w : Front (i .side) (i .bytes) f) (m : ℕ) (b : Elements) (h : List ℕ)
+    (es : List receiver-Event) (i : Input) (f : calls-Frame) (w : Front (i .side) (i .bytes) f) (m : ℕ) (b : Elements) (h : List ℕ)
     → pastIn s start past es (f .correlation) ≡ since m b h → cancelled h ≡ true → f .side ≡ 67 → holds (f .kind) (2 ∷ 3 ∷ 8 ∷ []) ≡ true
     → let a = answerAfter s start es i .answer in
     (same T f m ≡ false → a .number ≡ 12) × (same T f m ≡ true → a .number ≡ 14)
-client-late = line-Runs.client-late
+client-late = receiver-Runs.client-late
 
 -- "16 stands where 14 would;"
 
@@ -153,26 +153,26 @@ pub same-answer : (s : List ℕ) (id : ℕ) (l₁ l₂ : List Call) (ts₁ ts₂
     (own : ownOf id l₁ ≡ ownOf id l₂) (rows : length ts₁ ≡ length ts₂)
     (row : (c : Call) → ownOf id l₁ ≡ one c → rowFor ts₁ (c .method) ≡ rowFor ts₂ (c .method))
     → releaseReply (released s l₁ id ts₁ .answer) ≡ releaseReply (released s l₂ id ts₂ .answer)
-same-answer = line-Releases.same-answer
+same-answer = receiver-Releases.same-answer
 
 -- So does the record of its call afterwards.
 pub same-own : (s : List ℕ) (id : ℕ) (l₁ l₂ : List Call) (ts₁ ts₂ : List Tally) (good : goodTable (tableOf s) l₁ ≡ goodTable (tableOf s) l₂)
     (own : ownOf id l₁ ≡ ownOf id l₂) (rows : length ts₁ ≡ length ts₂)
     (row : (c : Call) → ownOf id l₁ ≡ one c → rowFor ts₁ (c .method) ≡ rowFor ts₂ (c .method))
     → ownOf id (released s l₁ id ts₁ .answer .table .slots) ≡ ownOf id (released s l₂ id ts₂ .answer .table .slots)
-same-own = line-Releases.same-own
+same-own = receiver-Releases.same-own
 
 -- The record of every other identifier is unchanged,
 pub others-kept : (s : List ℕ) (l : List Call) (id : ℕ) (ts : List Tally) →
     let slots = released s l id ts .answer .table .slots in
     (k : ℕ) → (k ≡ id → ⊥) → ownOf k slots ≡ ownOf k l
-others-kept = line-Releases.others-kept
+others-kept = receiver-Releases.others-kept
 
 -- and every slot but the one where the call is open.
 pub slots-kept : (s : List ℕ) (l : List Call) (id : ℕ) (ts : List Tally) →
     let slots = released s l id ts .answer .table .slots in
     (i : ℕ) → isCall id (slot l i) ≡ false → slot slots i ≡ slot l i
-slots-kept = line-Releases.slots-kept
+slots-kept = receiver-Releases.slots-kept
 
 -- What frees a slot:
 
@@ -181,14 +181,14 @@ slots-kept = line-Releases.slots-kept
 -- 01's "Closes and CANCEL are empty", for a CANCEL that may come:
 
 -- Where nothing belongs, a frame that may come is accepted exactly without a payload, and else refused with 29 at place 0, unless the tally that this raises is full.
-pub nothing-belongs : (s : List ℕ) (g : IsGood s) (start : State) (past : ℕ → Past) (st : line-Stands (tableOf s) (start .calls) (start .tallies) past) →
+pub nothing-belongs : (s : List ℕ) (g : IsGood s) (start : State) (past : ℕ → Past) (st : receiver-Stands (tableOf s) (start .calls) (start .tallies) past) →
     let T = tableOf s in
-    (es : List line-Event) (i : Input) (f : calls-Frame) (w : Front (i .side) (i .bytes) f)
+    (es : List receiver-Event) (i : Input) (f : calls-Frame) (w : Front (i .side) (i .bytes) f)
     → (payloadIn w ≡ [] → RoomAfter s start past es f 0) → ((payloadIn w ≡ [] → ⊥) → RoomAfter s start past es f 29) →
     Ruled T f (fullAfter s start es) (pastIn s start past es (f .correlation)) (comes Empty) →
     let a = answerAfter s start es i .answer in
     ((a .number ≡ 0) ↔ (payloadIn w ≡ [])) × ((payloadIn w ≡ [] → ⊥) → (a .number ≡ 29) × (a .place ≡ 0))
-nothing-belongs = line-Runs.nothing-belongs
+nothing-belongs = receiver-Runs.nothing-belongs
 
 -- The whole listing of a record in which a RESPONSE crosses a CANCEL, and a CANCEL has a payload.
 pub crossing : listing file crossed ≡ crossedOutput
@@ -202,4 +202,4 @@ crossing = listing-Examples.crossing
 pub open-counted : (s : List ℕ) (l : List Call) (id : ℕ) (ts : List Tally) →
     let slots = released s l id ts .answer .table .slots in
     released s l id ts .answer .«open» ≡ countOpen slots
-open-counted = line-Releases.open-counted
+open-counted = receiver-Releases.open-counted

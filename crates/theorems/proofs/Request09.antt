@@ -29,7 +29,7 @@ use Rattle.salvage.proofs.Covers as salvage-Covers
 use Rattle.salvage.proofs.Statements as salvage-Statements
 use Rattle.salvage.proofs.Outcomes as salvage-Outcomes
 use Rattle.salvage.proofs.Cells as salvage-Cells
-use Rattle.receiver.proofs.FreshRows as line-FreshRows
+use Rattle.receiver.proofs.FreshRows as receiver-FreshRows
 use Rattle.listing.proofs.Kept as listing-Kept
 
 -- An entry is found by a test, and told apart from the test by a relation:
@@ -154,13 +154,13 @@ listing-whole = listing-Kept.listing-whole
 pub used-or-rows : (s : List ℕ) (side : ℕ) (bytes sheet : List ℕ) (l : List Call) {h : Header} {place n : ℕ}
     → IsGood s → goodTable (tableOf s) l ≡ true → FewIn 65534 l → frameOf bytes ≡ frame-Frame h place n
     → let a = receivedFresh s side bytes sheet l in (a .answer .used ≡ place + n) ⊎ (a .answer .number ≡ 30)
-used-or-rows = line-FreshRows.used-or-rows
+used-or-rows = receiver-FreshRows.used-or-rows
 
 -- A good table stays good.
 pub stays-good : (s : List ℕ) (side : ℕ) (bytes sheet : List ℕ) (l : List Call) →
     let a = receivedFresh s side bytes sheet l in
     goodTable (tableOf s) l ≡ true → goodTable (tableOf s) (a .answer .table .slots) ≡ true
-stays-good = line-FreshRows.stays-good
+stays-good = receiver-FreshRows.stays-good
 
 -- Whole entries by good tables are listed one line each, and the listing stops early only at 30. There are too few of them for the element limit.
 pub entries-lines : (schema : List ℕ)

@@ -26,7 +26,7 @@ use Rattle.receiver.specs.Receive.{received}
 use Rattle.promises.specs.Claims.{shapes, firstRows}
 use Rattle.calls.proofs.Used as calls-Used
 use Rattle.value.proofs.Statements as value-Statements
-use Rattle.receiver.proofs.Due as line-Due
+use Rattle.receiver.proofs.Due as receiver-Due
 use Rattle.promises.proofs.Reading as promises-Reading
 
 -- "Maps get at most 64 pairs, a premise demands 2 and 3 carry from here."
@@ -77,16 +77,16 @@ pub comparisons-within : (s : List ℕ) (ty : ℕ) (payload sheet : List ℕ) (k
 comparisons-within = promises-Reading.comparisons-within
 
 -- For any frame and call table.
-pub line-comparisons-within : (s : List ℕ) (side : ℕ) (bytes sheet : List ℕ) (ts : List Tally) (l : List Call)
+pub receiver-comparisons-within : (s : List ℕ) (side : ℕ) (bytes sheet : List ℕ) (ts : List Tally) (l : List Call)
     → received s side bytes sheet ts l .answer .comparisons ≤ 258048
-line-comparisons-within = line-Due.comparisons-within
+receiver-comparisons-within = receiver-Due.comparisons-within
 
 -- Of a good table alone.
 pub value-comparisons-within : (T : Table) (good : schema-GoodTable T) (t : ℕ)
     (payload : List ℕ) (room : ℕ) (rs : List value-Row) (place n c : ℕ) → read T t payload room ≡ accepted rs place n c → c ≤ 258048
 value-comparisons-within = value-Statements.comparisons-within
 
--- Stated in another file: `Demand1.line-refused-untouched`.
+-- Stated in another file: `Demand1.receiver-refused-untouched`.
 
 -- "Refusals: 31 map above 64 pairs, at its count, after 20 and 21; for call and bytes used it is like 20 to 29, and the writers give it at the map's
 -- row after 50,"

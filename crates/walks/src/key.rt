@@ -18,7 +18,7 @@ fn mix(d: usize, w: usize) -> usize
     wrapping_add_usize(wrapping_add_usize(d << 3, d), w)
 }
 
-// The digest of the n bytes at a place, by words of eight bytes. A walk that does not judging needs none, and gets 0.
+// The digest of the n bytes at a place, by words of eight bytes. A walk that does not judge needs none, and gets 0.
 fn digest_of(s: &[u8], place: usize, n: usize, judging: bool) -> usize
     requires { ⌜ place + n ≤ length (now s) ⌝ }
     ensures { λ r. ⌜ (judging ≡ true → r ≡ digest (span (now (s .entry)) place n)) ⌝ }
@@ -77,7 +77,7 @@ fn is_key(s: &[u8], keys: &[usize], j: usize, place: usize, n: usize) -> bool
     is_same(s, place, n, x / 4294967296, x % 4294967296)
 }
 
-// Whether the n bytes at a place, whose digest is d, are the content of one of the first held keys. A walk that does not judging knows that they are not.
+// Whether the n bytes at a place, whose digest is d, are the content of one of the first held keys. A walk that does not judge knows that they are not.
 fn is_among(
     s: &[u8],
     keys: &[usize],
@@ -107,7 +107,7 @@ fn is_among(
     false
 }
 
-// Whether the n bytes at a place are the content of one of the first i keys; they are kept as the next. A walk that does not judging knows that they are not.
+// Whether the n bytes at a place are the content of one of the first i keys; they are kept as the next. A walk that does not judge knows that they are not.
 pub fn is_repeated(
     s: &[u8],
     keys: &mut [usize],

@@ -14,7 +14,7 @@ ghost use Rattle.value.specs.Read.{complete};
 ghost use Rattle.walks.specs.Shape.{fieldsFrom};
 ghost use Rattle.walks.specs.Required.{requiredBit, Requires};
 
-// Whether each of n fields from the first on has its bit or is optional. A walk that does not judging knows that it is so.
+// Whether each of n fields from the first on has its bit or is optional. A walk that does not judge knows that it is so.
 pub fn is_complete(s: &[u8], first: usize, n: usize, word: u64, judging: bool) -> bool
     requires { ⌜ IsGood (now s) × (first + n ≤ length (tableOf (now s) .fields)) × (judging ≡ false → complete (fieldsFrom (tableOf (now s)) first n) word ≡ true) ⌝ }
     ensures { λ r. ⌜ r ≡ complete (fieldsFrom (tableOf (now (s .entry))) first n) word ⌝ }

@@ -54,7 +54,7 @@ pub record Walked (cells : List ℕ) (end : Final) (r : Walk) (out : List ℕ) :
   pub same : endOf cells r out ≡ end
   pub within : Within cells r
 
--- What a walker may assume. A walk that does not judging has been judged: its answer is known to accept.
+-- What a walker may assume. A walk that does not judge has been judged: its answer is known to accept.
 pub record Ready {A : Type 0} (s cells out : List ℕ) (row pos : ℕ) (judging : Bool) (o : AnswerOf Row A) : Type 0 where
   pub good : IsGood s
   pub inside : row ≤ length cells / 4

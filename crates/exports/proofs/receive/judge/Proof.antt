@@ -5,11 +5,11 @@ use borrow.Author.Needs.{needs}
 use Rattle.schema.specs.Check.{checked}
 use Rattle.calls.specs.declared.Tally.{Tally}
 use Rattle.receiver.specs.declared.Settled.{Settled}
-use Rattle.receiver.specs.Answer.{Line, answerIn}
+use Rattle.receiver.specs.Answer.{Effect, answerIn}
 use Rattle.receiver.specs.Receive.{settled}
 use Rattle.exports.specs.Records.{callsOf, areCalls, rowsOf, rowCells}
 use Rattle.exports.proofs.Tallies.{rows-long}
-use Rattle.exports.proofs.Judged.{judged-line}
+use Rattle.exports.proofs.Judged.{judged-effect}
 use Rattle.exports.proofs.Plans.{refused-stops}
 use Rattle.exports.proofs.receive.judge.Statement.{statement}
 use Rattle.exports.proofs.receive.judge.Tie as tie
@@ -34,12 +34,12 @@ returns c =
     let d = at-settle .settle-plan .result in
     let x : Settled = record { row = d .row; answer = answerIn d l } in
     let is = at-settle .settle-plan .ensures .0 l ∙ ap (λ (t : Tally). settled s bytes sheet l t (p .next)) (row .row-in .ensures) in
-    let e = judged-line s (a .side) bytes sheet (rowsOf tallies) l (areCalls cells) _ p (sym (rows-long tallies)) (plan .plan .ensures .0) x _ is in (
-      ap (λ (y : Line). y .answer) e,
+    let e = judged-effect s (a .side) bytes sheet (rowsOf tallies) l (areCalls cells) _ p (sym (rows-long tallies)) (plan .plan .ensures .0) x _ is in (
+      ap (λ (y : Effect). y .answer) e,
       (
-        ap (λ (y : Line). y .sheet) e,
+        ap (λ (y : Effect). y .sheet) e,
         (
-          put .put-row .ensures ∙ ap (λ (y : Line). rowCells tallies (y .tallies)) e,
+          put .put-row .ensures ∙ ap (λ (y : Effect). rowCells tallies (y .tallies)) e,
           refused-stops (areCalls cells) _ p (checked s) (d .judged) (plan .plan .ensures .0) (at-settle .settle-plan .ensures .1),
         ),
       ),

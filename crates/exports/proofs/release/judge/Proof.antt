@@ -4,7 +4,7 @@ use denote.Ref.{now}
 use borrow.Author.Needs.{needs}
 use Rattle.schema.specs.Check.{checked}
 use Rattle.calls.specs.declared.Tally.{Tally}
-use Rattle.receiver.specs.Release.{ReleaseLine, releaseIn, releaseSettled}
+use Rattle.receiver.specs.Release.{ReleaseEffect, releaseIn, releaseSettled}
 use Rattle.exports.specs.Records.{callsOf, areCalls, rowsOf, rowCells}
 use Rattle.exports.proofs.Tallies.{rows-long}
 use Rattle.exports.proofs.Judged.{judged-release}
@@ -27,9 +27,9 @@ returns c =
     let d = at-settle .settle-call .result in
     let is = at-settle .settle-call .ensures .0 l ∙ ap (λ (t : Tally). releaseSettled l t (p .next)) (row .row-in .ensures) in
     let e = judged-release s l (a .correlation) (rowsOf tallies) (areCalls cells) _ p (sym (rows-long tallies)) (plan .plan-release .ensures) (releaseIn d l) is in (
-      ap (λ (x : ReleaseLine). x .answer) e,
+      ap (λ (x : ReleaseEffect). x .answer) e,
       (
-        put .put-row .ensures ∙ ap (λ (x : ReleaseLine). rowCells tallies (x .tallies)) e,
+        put .put-row .ensures ∙ ap (λ (x : ReleaseEffect). rowCells tallies (x .tallies)) e,
         refused-stops (areCalls cells) _ p (checked s) (d .judged) (plan .plan-release .ensures) (at-settle .settle-call .ensures .1),
       ),
     )

@@ -12,7 +12,7 @@ use Rattle.calls.specs.declared.CallTable.{CallTable}
 use Rattle.calls.specs.Counting.{noTally}
 use Rattle.receiver.specs.declared.Plan.{Plan}
 use Rattle.receiver.specs.declared.Received.{Received}
-use Rattle.receiver.specs.Answer.{rowLine, line}
+use Rattle.receiver.specs.Answer.{rowEffect, effect}
 use Rattle.receiver.specs.Planning.{Fitted, planOf}
 use Rattle.receiver.specs.Receive.{settled, received}
 use Rattle.receiver.proofs.Lent.{in-room, within, beyond}
@@ -107,7 +107,7 @@ module _ {M : Type 1} (𝓤 : URA M) (H : Heap 𝓤) (A : Atoms 𝓤) (W : Given
 
   -- the definition of the answer, over what is lent
   abbrev Told : Received → List ℕ → List Tally → Type 0
-  Told r cs zs = line r cs zs ≡ received (schema .now) side (bytes .now) (sheet .now) ys (s .slots)
+  Told r cs zs = effect r cs zs ≡ received (schema .now) side (bytes .now) (sheet .now) ys (s .slots)
 
   abbrev rows-seen : List Tally → Fml
   rows-seen zs = fobs γ (codedHoleys T.the-row .code (heres T.the-row zs))
@@ -258,7 +258,7 @@ module _ {M : Type 1} (𝓤 : URA M) (H : Heap 𝓤) (A : Atoms 𝓤) (W : Given
         (s, (p, (schema, (bytes, (sheet, (getD ys (p .row) noTally, tt))))))
         (table-vals s, (plan-vals p, (slice-vals schema, (slice-vals bytes, (slice-vals sheet, (row-vals (getD ys (p .row) noTally), tt))))))
         tt to-settle (settle-asks p p-is (planned .1) (getD ys (p .row) noTally) was)
-        (λ r cs. rowLine (r .answer) (cs .1 .1 .1 .1 .0) (r .row) ≡ settled (schema .now) (bytes .now) (sheet .now) (s .slots) (getD ys (p .row) noTally) (p .next))
+        (λ r cs. rowEffect (r .answer) (cs .1 .1 .1 .1 .0) (r .row) ≡ settled (schema .now) (bytes .now) (sheet .now) (s .slots) (getD ys (p .row) noTally) (p .next))
         (λ r cs. id⊢ 𝓤 _)
         (and-then ! (load ! (from ! (stop !)) (look ! 41 refl)) (and-then ! (load ! (from ! (stop !)) (look ! 27 refl))
         (and-then ! (load ! (from ! (stop !)) (look ! 39 refl)) (and-then ! (load ! (from ! (stop !)) (look ! 35 refl)) (and-then ! (load ! (from ! (stop !)) (look ! 13 refl)) (and-then ! (load ! (from ! (stop !)) (look ! 11 refl)) (no-more !)))))))

@@ -9,7 +9,7 @@ use Rattle.calls.specs.Counting.{noTally}
 use Rattle.receiver.specs.declared.Plan.{Plan}
 use Rattle.receiver.specs.declared.Released.{Released}
 use Rattle.receiver.specs.Planning.{releasePlan}
-use Rattle.receiver.specs.Release.{releaseLine, releaseSettled, released}
+use Rattle.receiver.specs.Release.{releaseEffect, releaseSettled, released}
 use Rattle.receiver.proofs.Lent.{in-room, release-within, release-beyond}
 use Rattle.receiver.proofs.Walk.{_*_, _≡_, refl, sym, ℕ, _<_, _^_, [], _∷_, List, ltb→lt, nltb→le, length, set, getD, length-set, URA, fullShare, named, w64, tyPtr, Val, vint, vptr, SProp, ent, id⊢, via, fst∗, emp, Lft}
 use Rattle.receiver.proofs.Walk.{Share, GName, ftrue, fat, flft, fobs, fres, Memory, Routine, Heap, Calls, Loops, WpFn, Tables, Atoms, Fun, givenOf, tables, tablesOf, Given, ‵, _⊛_, ⋆, _$_, _∵_, !, qed, by, move, keep, drop}
@@ -85,7 +85,7 @@ module _ {M : Type 1} (𝓤 : URA M) (H : Heap 𝓤) (A : Atoms 𝓤) (W : Given
 
   -- the definition of the answer, over what is lent
   abbrev Told : Released → List Tally → Type 0
-  Told r zs = releaseLine r zs ≡ released (schema .now) (s .slots) id ys
+  Told r zs = releaseEffect r zs ≡ released (schema .now) (s .slots) id ys
 
   abbrev rows-seen : List Tally → Fml
   rows-seen zs = fobs γ (codedHoleys T.the-row .code (heres T.the-row zs))

@@ -1,7 +1,7 @@
--- `Own::rise` meets its contract, case by case of the judgement and of the own record.
+-- `OwnCall::rise` meets its contract, case by case of the judgement and of the own record.
 use borrow.Author.Needs.{needs}
-use Rattle.calls.proofs.Own.rise.Statement.{statement}
-use Rattle.calls.proofs.Own.rise.Tie as tie
+use Rattle.calls.proofs.OwnCall.rise.Statement.{statement}
+use Rattle.calls.proofs.OwnCall.rise.Tie as tie
 
 returns : tie.Need-returns
 returns c = rw (c .enum-told .given .1)
