@@ -8,7 +8,7 @@ use mathlib.Core.Bool.{false, true}
 use Rattle.schema.specs.Check.{IsGood, checked}
 use Rattle.schema.specs.declared.Checked.the-variants.{Refused as schema-Refused}
 use Rattle.schema.specs.Faults.{TableFault}
-use Rattle.schema.specs.Listed.{TableNumber as TableListed}
+use Rattle.schema.specs.Listed.{TableNumber}
 use Rattle.schema.specs.File.{tableOf}
 use Rattle.schema.specs.Table.{Table, shape, struct}
 use Rattle.schema.specs.Good.{GoodTable as schema-GoodTable}
@@ -39,7 +39,7 @@ use Rattle.scalar.specs.Reasons.{Reason as scalar-Reason}
 use Rattle.writer.specs.Entry.{fileOutcome, outcome as writer-outcome}
 use Rattle.writer.specs.declared.Writing.the-variants.{Refused as writer-Refused}
 use Rattle.receiver.specs.Receive.{received}
-use Rattle.receiver.specs.Claims.{AnswerNumber as FrameListed, ReleaseListed, Stopping, Stops, Unready, Nothing, Front}
+use Rattle.receiver.specs.Claims.{AnswerNumber, ReleaseListed, Stopping, Stops, Unready, Nothing, Front}
 use Rattle.receiver.specs.Release.{released}
 use Rattle.receiver.specs.Run.{State, Event as receiver-Event, stateAfter, Happens, numberOf}
 use Rattle.promises.specs.Claims.{ReadReason, WriteReason, shapes}
@@ -68,7 +68,7 @@ use Rattle.promises.proofs.ReadBack as promises-ReadBack
 
 -- Every answer to a frame has one of 01's numbers for it, or 16 to 19, with its place.
 pub receiver-listed : (s : List ℕ) (side : ℕ) (bytes sheet : List ℕ) (ts : List Tally) (l : List Call)
-    → let a = received s side bytes sheet ts l in FrameListed (a .answer .number) (a .answer .place)
+    → let a = received s side bytes sheet ts l in AnswerNumber (a .answer .number) (a .answer .place)
 receiver-listed = receiver-Listed.listed
 
 -- Every answer to a release has one of the request's numbers for it, with its place.
@@ -105,7 +105,7 @@ number-iff = frame-Faults.number-iff
 pub number-once : (s : List ℕ) {n m : ℕ} → FrameNumber s n → FrameNumber s m → n ≡ m
 number-once = frame-Faults.number-once
 
--- a refusal has one of the reader's numbers
+-- A refusal has one of the frame reader's numbers, 2 to 7.
 pub refused-numbers : (s : List ℕ) {number : ℕ} → frameOf s ≡ frame-Refused number → (2 ≤ number) × (number ≤ 7)
 refused-numbers = frame-Answers.refused-numbers
 
@@ -120,7 +120,7 @@ pub schema-refused-iff : (s : List ℕ) (n q : ℕ) → (checked s ≡ schema-Re
 schema-refused-iff = schema-Faults.refused-iff
 
 -- A refusal is 40 or 41 at 0, or 42, 43 or 44 at a row that its section has.
-pub schema-listed : (s : List ℕ) (n q : ℕ) → checked s ≡ schema-Refused n q → TableListed (tableOf s) n q
+pub schema-listed : (s : List ℕ) (n q : ℕ) → checked s ≡ schema-Refused n q → TableNumber (tableOf s) n q
 schema-listed = schema-Listed.listed
 
 -- A row is refused with a number at a place exactly for its reason.

@@ -68,16 +68,16 @@ written-iff-shown = promises-ReadBack.written-iff-shown
 
 -- Frames:
 
--- a frame is read exactly where the bytes start with one
+-- A frame is read exactly where the bytes start with one.
 pub read-iff-frame : (s : List ℕ) (h : Header) (place n : ℕ) → (frameOf s ≡ frame-Frame h place n) ↔ frame-Starts s h place n
 read-iff-frame = frame-Theorems.read-iff-frame
 
--- no frame is read in two ways: bytes start with at most one frame, and it has one header and one payload
+-- No frame is read in two ways: bytes start with at most one frame, and it has one header and one payload.
 pub one-reading : {h h′ : Header} {p p′ f f′ : List ℕ} (r r′ : List ℕ) → IsFrame h p f → IsFrame h′ p′ f′ → f ++ r ≡ f′ ++ r′
     → (h ≡ h′) × ((p ≡ p′) × (f ≡ f′))
 one-reading = frame-Theorems.one-reading
 
--- the writer accepts a known kind, a payload within the limit and an output with room, and answers the frame's length
+-- The frame writer accepts a known kind, a payload within the limit and an output with room, and answers the frame's length.
 pub written-iff : (h : Header) (p : List ℕ) (room n : ℕ) → (writtenOf h p room ≡ frame-Written n) ↔ frame-Accepted h p room n
 written-iff = frame-ReadBack.written-iff
 
@@ -129,7 +129,7 @@ pub read-back : (s : List ℕ) (ty : ℕ) (sheet B out : List ℕ) (n : ℕ) (ou
     × ReadsAs s ty fs (take n out′) sheet′ v n 0
 read-back = promises-ReadBack.read-back
 
--- the writer's output is read back
+-- What the frame writer writes is read back.
 pub output-read-back : (h : Header) (p out : List ℕ) {n : ℕ} → HeaderFits h → writtenOf h p (length out) ≡ frame-Written n → ReadBack h p (outputOf (frame-Written n) h p out) n
 output-read-back = frame-ReadBack.output-read-back
 
@@ -191,12 +191,12 @@ pub payload-is-encoding : (T : Table) (good : schema-GoodTable T) (t : ℕ) (fs 
     (payload : List ℕ) (v : Value) → Bytes payload → RootSpells (shape T) fs v payload [] → payload ≡ encode (shape T) v t
 payload-is-encoding = value-Statements.payload-is-encoding
 
--- a frame that was read, written from its header and its payload, is the same bytes
+-- A frame that was read, written from its header and its payload, is the same bytes.
 pub written-again : (s : List ℕ) {h : Header} {place n : ℕ} → Bytes s → frameOf s ≡ frame-Frame h place n → (out : List ℕ) → place + n ≤ length out
     → let p = take n (drop place s) in
     (writtenOf h p (length out) ≡ frame-Written (place + n)) × (outputOf (frame-Written (place + n)) h p out ≡ take (place + n) s ++ drop (place + n) out)
 written-again = frame-ReadBack.written-again
 
--- a header and a payload have one frame
+-- A header and a payload have one frame.
 pub one-frame : {h : Header} {p f : List ℕ} → IsFrame h p f → Bytes f → f ≡ frameBytes h p
 one-frame = frame-ReadBack.one-frame

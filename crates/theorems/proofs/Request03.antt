@@ -40,7 +40,7 @@ p1-to-p10 = promises-Examples.p1-to-p10
 -- "Refusals: 21 in payloads and 6 in frames, at the places they already have."
 
 -- The front of a frame with other lengths, computed: cut; with a spare group, of two bytes, of ten, and of a number above 16,384, before the payload is there; a tenth
--- byte above 1; above 16,384 in two forms, before the payload is there; the payload cut; whole
+-- byte above 1; above 16,384 in two forms, before the payload is there; the payload cut; whole.
 pub lengths-judged : map (λ (l : List ℕ). frameOf (take 25 invoke-bytes ++ l))
     ((0x80 ∷ [])
     ∷ (0x80 ∷ 0x00 ∷ [])

@@ -36,7 +36,7 @@ in-turn-written = valueframe-InTurn.in-turn-written
 
 -- "An empty payload goes by a type number of 4294967295 and an empty sheet; a row there is left over."
 
--- no table has the type number 4294967295: the value writer answers 46
+-- No table has the type number 4294967295: the value writer answers 46.
 pub no-type : (s : List ℕ) (ty : ℕ) (cells B mid : List ℕ) → IsGood s → ty ≡ 4294967295 → payloadBy s ty cells B ≡ write-refusal 46 0
 no-type = valueframe-InTurn.no-type
 

@@ -23,22 +23,22 @@ use Rattle.wire.proofs.Pairs as wire-Pairs
 -- splits into characters that each match a row, and in one way only. All answers stay."
 -- By the contract of `wire::utf8::valid`, the answer is the test `utf8` over the constant table `wire/specs/Utf8.rows`.
 
--- a string is accepted exactly when it splits into characters that each match a row, and in one way only
+-- A string is accepted exactly when it splits into characters that each match a row, and in one way only.
 pub accepted-once : (s : List ℕ) → (utf8 s ≡ true) ↔ ((cs : List (List ℕ)) × Split cs s × ((ds : List (List ℕ)) → Split ds s → ds ≡ cs))
 accepted-once = wire-Utf8s.accepted-once
 
--- each character matches one row only
+-- Each character matches one row only.
 pub row-once : (c : List ℕ) (r q : wire-Row) → List·Memᴰ r rows → List·Memᴰ q rows → T (isChar r c) → T (isChar q c) → r ≡ q
 row-once = wire-Utf8s.row-once
 
--- bytes are UTF-8 exactly when they are scalar values, encoded
+-- Bytes are UTF-8 exactly when they are scalar values, encoded.
 pub utf8-encoded : (s : List ℕ) → (utf8 s ≡ true) ↔ ((xs : List ℕ) × Encoded xs s)
 utf8-encoded = wire-Unicodes.utf8-encoded
 
--- n bytes at a place, judged as one number: no top bit is set exactly where each is a character of the row UTF8-1
+-- Bytes at a place, n of them, judged as one number: no top bit is set exactly where each is a character of the row UTF8-1.
 pub tops-at : (n : ℕ) (s : List ℕ) (at x : ℕ) → Bytes s → at + n ≤ length s → x ≡ little (take n (drop at s)) → eqb (bitAnd x (tops n)) 0 ≡ ascii (take n (drop at s))
 tops-at = wire-Asciis.tops-at
 
--- n pairs of bytes, judged as one number: they pass exactly where each is a character of the row UTF8-2
+-- Pairs of bytes, n of them, judged as one number: they pass exactly where each is a character of the row UTF8-2.
 pub word-pairs : (n : ℕ) (s : List ℕ) → Bytes s → length s ≡ 2 * n → (pair-shapes n (little s) && carries n (little s)) ≡ pairs s
 word-pairs = wire-Pairs.word-pairs

@@ -67,7 +67,7 @@ same-file = promises-Beside.same-file
 pub widens-iff : (old new : Table) (g : schema-GoodTable old) (g′ : schema-GoodTable new) → widened old new ≡ true ↔ Widens old new
 widens-iff = schema-Extending.widens-iff
 
--- a method found in the old table is found in the new one, the same
+-- A method found in the old table is found in the new one, the same.
 pub still-found : (old new : Table) (g : schema-GoodTable old) (g′ : schema-GoodTable new) (x : Widens old new)
     (p q r i : ℕ) → findMethod old p q r ≡ At i → (j : ℕ) × (findMethod new p q r ≡ At j) × (methodRow new j ≡ methodRow old i)
 still-found = schema-Extending.still-found

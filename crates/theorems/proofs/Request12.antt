@@ -16,7 +16,7 @@ use Rattle.index.specs.Row.{Rising, Row as index-Row, isRising, ofCall}
 use Rattle.index.specs.Index.{rowsFor, makeIndex, outcome as index-outcome, indexBytes}
 use Rattle.index.specs.IsIndex.{IsIndex, rowsIn, isIndex, Reads}
 use Rattle.index.specs.Claims.{Has, Finds, Judges, Accepted as index-Accepted, Refuses as index-Refuses}
-use Rattle.index.specs.LookUp.{lookUp, verdict, lookText, looked, outcome as look-up-outcome}
+use Rattle.index.specs.LookUp.{lookUp, Outcome as look-up-Outcome, verdict, lookText, looked, outcome as look-up-outcome}
 use Rattle.index.specs.Text.{textOf, callText}
 use Rattle.index.specs.declared.Indexing.the-variants.{Made, Refused as index-Refused}
 use Rattle.index.specs.declared.Finding.the-variants.{Printed, Refused as look-up-Refused}
@@ -55,7 +55,7 @@ call-rises = index-Statements.call-rises
 pub entries-stand : (s entries : List ℕ) (e : Entry) → List·Memᴰ e (runOf s entries .entries) → replay-Stands entries e
 entries-stand = replay-Replays.entries-stand
 
--- the rows of 01's worked record: two calls, three entries and two
+-- The rows of 01's worked record: two calls, three entries and two.
 pub worked-rows : rowsFor file entries
     ≡ record { correlation = 9; place = 0; answer = 0 }
     ∷ record { correlation = 9; place = 29; answer = 0 }
@@ -74,7 +74,7 @@ pub interleaved-rows : rowsFor file interleaved
     ∷ []
 interleaved-rows = listing-Examples.interleaved-rows
 
--- no entry, and one: a cut frame alone; the entry from the wrong side
+-- No entry, and one: a cut frame alone; the entry from the wrong side.
 pub few-rows : (rowsFor file (take 28 entries) ≡ []) × (rowsFor file unsided ≡ record { correlation = 9; place = 0; answer = 8 } ∷ [])
 few-rows = listing-Examples.few-rows
 
@@ -127,6 +127,11 @@ run-iff = replay-Replays.run-iff
 -- For any index, record, correlation and output: the lines of exactly the call's rows of an index that is accepted, or none, and last the verdict.
 pub looked-up : (index entries : List ℕ) (c : ℕ) (out : List ℕ) → Bytes index → Finds index (length entries) c out (lookUp index entries c out)
 looked-up = index-Statements.looked-up
+
+-- It answers and leaves nothing else.
+pub looked-up-iff : (index entries : List ℕ) (c : ℕ) (out : List ℕ) → Bytes index → (o : look-up-Outcome)
+    → (lookUp index entries c out ≡ o) ↔ Finds index (length entries) c out o
+looked-up-iff = index-Statements.looked-up-iff
 
 -- Of an index for a record of that length: the rows of the correlation in order, and last 0.
 pub rows-printed : (index : List ℕ) (size c : ℕ)
