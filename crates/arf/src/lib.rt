@@ -1,8 +1,5 @@
-// The public entries. None of them asks anything of its caller: whatever the bytes and numbers, each ends and answers, and its statement fixes the answer and
-// every cell of lent memory.
-//
-// `receive` judges the frame at the front of the bytes from a side, the byte C or S; `release` ends the cancelled call with a correlation. Both answer with
-// the next call table, and stand in `receiver` as they are, since a lent slice of rows is not handed on.
+// The public entries. None of them asks anything of its caller, and each fixes its answer and every cell of lent memory.
+// `receive` and `release` stand in `receiver`, since a lent slice of rows is not handed on.
 use calls::CallTable;
 use frame::FrameRead;
 use frame::FrameWritten;
@@ -57,8 +54,8 @@ pub fn read(schema: &[u8], ty: u32, payload: &[u8], sheet: &mut [u32]) -> Readin
     reader::read(schema, ty, payload, sheet)
 }
 
-// Reads a payload by the writer's table, and shows it by ours, without the fields that theirs has added. Theirs has to extend ours, but its bitmaps may have
-// grown: else 47, after 40 to 44 for ours and then for theirs. The answer is that of `read`.
+// Reads a payload by the writer's table, and shows it by ours, without the fields that theirs has added; the answer is that of `read`.
+// Theirs has to extend ours, but its bitmaps may have grown: else 47, after 40 to 44 for ours and then for theirs.
 pub fn read_beside(
     ours: &[u8],
     theirs: &[u8],
@@ -116,8 +113,8 @@ pub fn write_frame(header: Header, payload: &[u8], out: &mut [u8]) -> FrameWritt
     frame::write_frame(header, payload, out)
 }
 
-// Writes the frame of a header and of the value that the sheet's rows show over the source, straight to the output: the bytes that `write` and then
-// `write_frame` give. Type 4294967295 stands for an empty payload. The frame's length, or the refusal's number and place, which leaves the output as it was.
+// Writes what `write` and then `write_frame` give straight to the output; type 4294967295 stands for an empty payload.
+// The frame's length, or the refusal's number and place, which leaves the output as it was.
 pub fn write_value_frame(
     header: Header,
     schema: &[u8],
@@ -146,16 +143,16 @@ pub fn salvage(record: &[u8], copy: &mut [u8], spans: &mut [u32]) -> Salvaging
     salvage::salvage(record, copy, spans)
 }
 
-// Makes the index of a record by a schema file at the start of the output, with a row for each entry that the listing prints: its length, or the refusal's
-// number (the table's, 45, 52) and place, which leaves the output as it was. It has a sheet of its own, and needs 160 KiB of stack.
+// Makes the index of a record at the start of the output: its length, or the refusal's number (the table's, 45, 52) and place, which leaves it as it was.
+// It has a sheet of its own, and needs 160 KiB of stack.
 pub fn make_index(schema: &[u8], record: &[u8], out: &mut [u8]) -> Indexing
     ensures { λ r. ⌜ making.outcome r (now (out .exit)) ≡ making.makeIndex (now (schema .entry)) (now («record» .entry)) (now (out .entry)) ⌝ }
 {
     index::make_index(schema, record, out)
 }
 
-// Prints the rows of one call in an index at the start of the output, as text: a heading, a line with place and answer for each, and last `stopped` with 0,
-// 65 or 66. That number and the text's length, or 52 where the text does not fit, which leaves the output as it was.
+// Prints the rows of one call in an index at the start of the output, and last `stopped` with 0, 65 or 66.
+// That number and the text's length, or 52 where the text does not fit, which leaves the output as it was.
 pub fn look_up(index: &[u8], record: &[u8], correlation: u64, out: &mut [u8]) -> Finding
     ensures { λ r. ⌜ look.outcome r (now (out .exit)) ≡ look.lookUp (now (index .entry)) (now («record» .entry)) correlation (now (out .entry)) ⌝ }
 {

@@ -26,8 +26,8 @@ use Rattle.calls.specs.Numbers.{endsCall, EndsCall, payload, many-pairs}
 use Rattle.calls.specs.Record.{emptyCall, openedCall, isCall, isFree, complete, allowed, notAllowed, atLimit, marked, withMark, afterFrame}
 use Rattle.calls.specs.Slots.{slot, firstSlot, countOpen, formRow, OwnCall, none, one, recordAt, ownOf, full}
 use Rattle.calls.specs.Judge.{rightSide, payloadOf, Verdict, stop, opens, goes, openVerdict, invokeVerdict, otherVerdict, verdictOf, releaseVerdict, placed, judgeOf, judgeRelease}
-use Rattle.calls.specs.Step.{numberOf, slotsAfter, stepOf, dueOf, receive, release}
-use Rattle.calls.specs.Good.{GoodTable}
+use Rattle.calls.specs.Step.{numberAfter, slotsAfter, stepOf, dueOf, receive, release}
+use Rattle.calls.specs.Good.{GoodCalls}
 use Rattle.calls.specs.Event.{frame}
 use Rattle.calls.specs.Event as event
 use Rattle.calls.specs.Apart.{verdict, verdictDue, verdictNumber, kept, verdictOwn, touched, Cause, refusal, completion, error, released, Freed}
@@ -54,7 +54,7 @@ pub released-by : (id : ℕ) (l : List Call) → verdict (judgeRelease id l) ≡
 unfolding judgeRelease
 released-by id l = placed-by _ (releaseVerdict (ownOf id l))
 
-number-by : (J : Judged) (p : ℕ) → numberOf J p ≡ verdictNumber (verdict J) p
+number-by : (J : Judged) (p : ℕ) → numberAfter J p ≡ verdictNumber (verdict J) p
 number-by (Refused n) p = refl
 number-by (Opens j c d) p = refl
 number-by (Goes i c d) p = refl
@@ -141,7 +141,7 @@ module _ (T : Table) (id : ℕ) (l : List Call) where
   is-own : (i : ℕ) (c : Call) → Moves T id l i c → isCall id (slot l i) ≡ true
   is-own i c w = found-passes (isCall id) l i (w .isOwn)
 
-  module _ (g : GoodTable T l) where
+  module _ (g : GoodCalls T l) where
     opening-own : (j : ℕ) (c : Call) → Starts T id l j c → ownOf id (set l j c) ≡ kept c
     opening-own j c w =
         own-set id l j c (found-in isFree l j (w .lowest)) (λ o. w .fresh)
@@ -172,7 +172,7 @@ module _ (T : Table) (id : ℕ) (l : List Call) where
         go false false = refl
 
 -- The own record afterwards, by the judgement without a slot.
-pub own-after : (T : Table) (f : Frame) (l : List Call) → GoodTable T l → (reading : Payload → ℕ) →
+pub own-after : (T : Table) (f : Frame) (l : List Call) → GoodCalls T l → (reading : Payload → ℕ) →
     let v = verdictOf T f (ownOf (f .correlation) l) (full l) in
     ownOf (f .correlation) (receive T f reading l .table .slots) ≡ verdictOwn v (reading (verdictDue v)) (ownOf (f .correlation) l)
 unfolding receive stepOf
@@ -183,7 +183,7 @@ own-after T f l g reading =
     ∙ ap (λ (d : Payload). verdictOwn (verdict J) (reading d) own) (due-by J)
     ∙ ap (λ (v : Verdict). verdictOwn v (reading (verdictDue v)) own) (judged-by T f l)
 
-pub release-own : (T : Table) (id n : ℕ) (l : List Call) → GoodTable T l → ownOf id (release id n l .table .slots) ≡ verdictOwn (releaseVerdict (ownOf id l)) n (ownOf id l)
+pub release-own : (T : Table) (id n : ℕ) (l : List Call) → GoodCalls T l → ownOf id (release id n l .table .slots) ≡ verdictOwn (releaseVerdict (ownOf id l)) n (ownOf id l)
 unfolding release stepOf
 release-own T id n l g =
     stepped-own T id l g n (release-fits T id l) ∙ ap (λ (v : Verdict). verdictOwn v n (ownOf id l)) (released-by id l)
@@ -338,7 +338,7 @@ module _ (T : Table) (id : ℕ) (l : List Call) (i : ℕ) (o : slot l i .«open�
 
 -- Only a payload refusal, the completion of the call or ERROR frees a slot, and its own.
 module _ (T : Table) (f : Frame) (l : List Call) (i : ℕ) (o : slot l i .«open» ≡ true) where
-  freed-by : (p : ℕ) → slot (slotsAfter (judgeOf T f l) p l) i .«open» ≡ false → Freed T (frame f) (numberOf (judgeOf T f l) p) (slot l i)
+  freed-by : (p : ℕ) → slot (slotsAfter (judgeOf T f l) p l) i .«open» ≡ false → Freed T (frame f) (numberAfter (judgeOf T f l) p) (slot l i)
   freed-by p q =
       let w = emptied T (f .correlation) l i o p (frame-fits T f l) q in
       let g = judged-goes T f l i (w .next) (w .due) (w .isGoing) in
@@ -370,8 +370,8 @@ release-freed T id n l k i o q =
     rw (w .isGoing, z) (record { isOwn = w .isOwn; cause = released id (g .isCancelled) })
 
 -- ---- what changes no call
-same-slots : (T : Table) (f : Frame) (l : List Call) (p : ℕ) (J : Judged) → judgeOf T f l ≡ J → (numberOf J p ≡ 0 → ⊥) →
-    (endsCall (numberOf J p) ≡ false) ⊎ (f .kind ≡ 1) → slotsAfter J p l ≡ l
+same-slots : (T : Table) (f : Frame) (l : List Call) (p : ℕ) (J : Judged) → judgeOf T f l ≡ J → (numberAfter J p ≡ 0 → ⊥) →
+    (endsCall (numberAfter J p) ≡ false) ⊎ (f .kind ≡ 1) → slotsAfter J p l ≡ l
 same-slots T f l p (Refused n) e h w = refl
 same-slots T f l p (Opens j c d) e h w = rw (ne-eqb p 0 h)
 same-slots T f l p (Goes i c d) e h w = ⊎-elim (λ (q : endsCall p ≡ false). rw (ne-eqb p 0 h, q)) (λ k. absurd (judged-goes T f l i c d e .isOther k)) w
@@ -388,7 +388,7 @@ pub release-same : (id n : ℕ) (l : List Call) → endsCall n ≡ false → let
 unfolding release stepOf
 release-same id n l k = go (judgeRelease id l)
   where
-    go : (J : Judged) → (numberOf J n ≡ 0 → ⊥) → slotsAfter J n l ≡ l
+    go : (J : Judged) → (numberAfter J n ≡ 0 → ⊥) → slotsAfter J n l ≡ l
     go (Refused m) h = refl
     go (Opens j c d) h = rw (ne-eqb n 0 h)
     go (Goes i c d) h = rw (ne-eqb n 0 h, k)
@@ -407,7 +407,7 @@ gone n (one c) e = go (c .cancelled) e
     go true z = rw z
     go false z = absurd (omega arith)
 
-pub release-ends : (T : Table) (id n : ℕ) (l : List Call) → GoodTable T l → release id n l .number ≡ 0 → ownOf id (release id n l .table .slots) ≡ none
+pub release-ends : (T : Table) (id n : ℕ) (l : List Call) → GoodCalls T l → release id n l .number ≡ 0 → ownOf id (release id n l .table .slots) ≡ none
 release-ends T id n l g e = release-own T id n l g ∙ gone n (ownOf id l) (sym (release-answered id n l) ∙ e)
 
 -- the numbers before the payload are 8 to 17
@@ -464,8 +464,8 @@ module _ (T : Table) (f : Frame) (l : List Call) where
   unfolding Spares
   stop-number n e = subst (λ (J : Judged). Spares (verdict J)) e spares
 
-  module _ (g : GoodTable T l) (other : f .kind ≡ 1 → ⊥) where
-    ended-own : (p : ℕ) (J : Judged) → judgeOf T f l ≡ J → endsCall (numberOf J p) ≡ true → ownOf (f .correlation) (slotsAfter J p l) ≡ none
+  module _ (g : GoodCalls T l) (other : f .kind ≡ 1 → ⊥) where
+    ended-own : (p : ℕ) (J : Judged) → judgeOf T f l ≡ J → endsCall (numberAfter J p) ≡ true → ownOf (f .correlation) (slotsAfter J p l) ≡ none
     ended-own p (Refused n) e t = absurd (spared (stop-number n e) (ends-iff n .0 t))
     ended-own p (Opens j c d) e t = absurd (other (judged-opens T f l j c d e .isInvoke))
     ended-own p (Goes i c d) e t =
@@ -482,7 +482,7 @@ module _ (T : Table) (f : Frame) (l : List Call) where
 -- ---- a cancelled call
 
 -- An accepted CANCEL sets the mark of its call in its slot, and changes nothing else.
-pub cancel-marked : (T : Table) (f : Frame) (l : List Call) → GoodTable T l → f .kind ≡ 8 → (reading : Payload → ℕ) →
+pub cancel-marked : (T : Table) (f : Frame) (l : List Call) → GoodCalls T l → f .kind ≡ 8 → (reading : Payload → ℕ) →
     let r = receive T f reading l in
     r .number ≡ 0 → (i : ℕ) → isCall (f .correlation) (slot l i) ≡ true → r .table .slots ≡ set l i (withMark true (slot l i))
 unfolding receive stepOf
@@ -513,7 +513,7 @@ cancel-marked T f l g k reading z i t = go (judgeOf T f l) refl z
         let now : c ≡ afterFrame row 8 own = rw k at (w .isNext) in
         rw e (ap (set l i) (now ∙ next (uncancelled (rw k at (w .isAllowed)))))
 
-    go : (J : Judged) → judgeOf T f l ≡ J → numberOf J (reading (dueOf J)) ≡ 0 → slotsAfter J (reading (dueOf J)) l ≡ set l i (withMark true own)
+    go : (J : Judged) → judgeOf T f l ≡ J → numberAfter J (reading (dueOf J)) ≡ 0 → slotsAfter J (reading (dueOf J)) l ≡ set l i (withMark true own)
     go (Refused n) e q = absurd (omega (arith, stop-number T f l n e .0, q))
     go (Opens j c d) e q = absurd (omega (arith, k, judged-opens T f l j c d e .isInvoke))
     go (Goes j c d) e q =
@@ -523,7 +523,7 @@ cancel-marked T f l g k reading z i t = go (judgeOf T f l) refl z
         subst (λ (n : ℕ). slotsAfter (Goes n c d) (reading d) l ≡ set l i (withMark true own)) (sym same) (marks c d (subst (λ (n : ℕ). Going T f l n c) same w) q)
 
 -- It frees none.
-pub cancel-frees-none : (T : Table) (f : Frame) (l : List Call) → GoodTable T l → f .kind ≡ 8 → (reading : Payload → ℕ) →
+pub cancel-frees-none : (T : Table) (f : Frame) (l : List Call) → GoodCalls T l → f .kind ≡ 8 → (reading : Payload → ℕ) →
     let r = receive T f reading l in r .number ≡ 0 → (i : ℕ) → slot l i .«open» ≡ true → slot (r .table .slots) i .«open» ≡ true
 cancel-frees-none T f l g k reading z i o =
     let own = slot l i in
@@ -572,14 +572,14 @@ module _ (T : Table) (f : Frame) (l : List Call) (i : ℕ) (o : slot l i .«open
   is-error a = ⊎-elim (eqb-true (f .kind) 7) (λ q. clash false (rw late at q) refl) (or-cases (eqb (f .kind) 7) _ a)
 
   freed-late : (reading : Payload → ℕ) → endsCall (reading Unread) ≡ false → (J : Judged) → judgeOf T f l ≡ J → Emptied (f .correlation) l (reading (dueOf J)) J i
-      → (isCall (f .correlation) (slot l i) ≡ true) × (f .kind ≡ 7) × (numberOf J (reading (dueOf J)) ≡ 0)
+      → (isCall (f .correlation) (slot l i) ≡ true) × (f .kind ≡ 7) × (numberAfter J (reading (dueOf J)) ≡ 0)
   freed-late reading z J e w =
       let going : judgeOf T f l ≡ Goes i (w .next) (w .due) = e ∙ w .isGoing in
       let k = is-error (judged-goes T f l i (w .next) (w .due) going .isAllowed) in
       let due : w .due ≡ Unread = sym (ap dueOf going) ∙ error-unread T f l k in
       let same : reading (dueOf J) ≡ reading Unread = ap (λ (x : Judged). reading (dueOf x)) (w .isGoing) ∙ ap reading due in
       let zero : reading (dueOf J) ≡ 0 = ⊎-elim (λ t. clash (endsCall (reading Unread)) (sym (ap endsCall same) ∙ t) z) (λ r. r .0) (w .why) in
-      (w .isOwn, k, ap (λ (x : Judged). numberOf x (reading (dueOf J))) (w .isGoing) ∙ zero)
+      (w .isOwn, k, ap (λ (x : Judged). numberAfter x (reading (dueOf J))) (w .isGoing) ∙ zero)
 
   pub cancelled-freed : (reading : Payload → ℕ) → endsCall (reading Unread) ≡ false → let r = receive T f reading l in
       slot (r .table .slots) i .«open» ≡ false → (isCall (f .correlation) (slot l i) ≡ true) × (f .kind ≡ 7) × (r .number ≡ 0)

@@ -1,20 +1,27 @@
--- The loop that tests whether the numbers of a list differ, from its end on. A table of booleans says which remainders the numbers passed have,
--- and a number whose remainder is not among them is none of those passed.
+-- The loop that tests whether the numbers of a list differ, from its end on. A table of booleans says which flags the numbers passed have,
+-- and a number whose flag is not among them is none of those passed.
 use mathlib.Core.Path.{_≡_, refl, sym, _∙_, ap, subst}
 use mathlib.Core.Bool.{Bool, true, false, not, _&&_, _||_}
 use mathlib.Core.List.{List, [], _∷_}
-use Prim.Native.Nat.{ℕ, zero, suc, _-_, _%_, _<_, _≤_}
+use Prim.Native.Nat.{ℕ, zero, suc, _-_, _*_, _/_, _%_, _^_, _<_, _≤_}
 use native.Mathlib.Omega.{arith}
 use lib.ListN.{length, getD, take, drop, set, length-set, length-drop, drop-of-length-le}
 use lib.Seq.{take-all, drop-nil, drop-cons, getD-set-same}
 use lib.Dec.{eqb}
 use borrow.Author.Tests.{eqb-true}
-use Rattle.calls.specs.Slots.{holds, distinct}
+use Rattle.calls.specs.Slots.{holds, flagOfNumber, distinct}
 use Rattle.schema.proofs.Bools.{clash}
 use Rattle.schema.proofs.Flags.{set-kept}
 
+below : (x : ℕ) → x % 2 ^ 64 / 2 ^ 54 < 1024
+below x = omega arith
+
+pub flag-below : (x : ℕ) → flagOfNumber x < 1024
+unfolding flagOfNumber
+flag-below x = below (x * 0x9E37_79B9_7F4A_7C15)
+
 abbrev bits : List Bool → ℕ → Bool
-bits seen x = getD seen (x % 1021) false
+bits seen x = getD seen (flagOfNumber x) false
 
 abbrev Seen : List Bool → List ℕ → Type 0
 Seen seen [] = Unit {0}
@@ -22,9 +29,9 @@ Seen seen (x ∷ xs) = (bits seen x ≡ true) × Seen seen xs
 
 seen-kept : (seen : List Bool) (i : ℕ) (xs : List ℕ) → Seen seen xs → Seen (set seen i true) xs
 seen-kept seen i [] s = tt
-seen-kept seen i (x ∷ xs) s = (set-kept seen i (x % 1021) (s .0), seen-kept seen i xs (s .1))
+seen-kept seen i (x ∷ xs) s = (set-kept seen i (flagOfNumber x) (s .0), seen-kept seen i xs (s .1))
 
--- looking through the list only where the remainder is seen makes no difference
+-- looking through the list only where the flag is seen makes no difference
 module _ (seen : List Bool) (x : ℕ) where
   unseen : (xs : List ℕ) → Seen seen xs → bits seen x ≡ false → holds x xs ≡ false
   unseen [] s q = refl
@@ -50,7 +57,7 @@ drop-false (x ∷ xs) (suc i) h = go (not (holds x xs)) (drop-false xs i h)
     go true e = e
     go false e = refl
 
--- ---- the loop: the numbers from place i on differ, and their remainders are seen
+-- ---- the loop: the numbers from place i on differ, and their flags are seen
 pub record Apart (l : List ℕ) (seen : List Bool) (i : ℕ) : Type 0 where
   pub differ : distinct (drop i l) ≡ true
   pub seenBits : Seen seen (drop i l)
@@ -67,17 +74,17 @@ apart-all l seen i a h =
     let z : i ≡ 0 = omega arith in
     sym (subst (λ (n : ℕ). distinct (drop n l) ≡ true) z (a .differ))
 
-module _ (l : List ℕ) (seen : List Bool) (i : ℕ) (a : Apart l seen i) (h : 0 < i) where
+module _ (l : List ℕ) (seen : List Bool) (i : ℕ) (a : Apart l seen i) (h : 0 < i) (k : ℕ) (e : k ≡ flagOfNumber (getD l (i - 1) 0)) where
   abbrev x : ℕ
   x = getD l (i - 1) 0
 
   -- the number is among the later ones, as the code asks it: the part runs to the end of the list
   abbrev again : Bool
-  again = bits seen x && holds x (take (length l - i) (drop i l))
+  again = getD seen k false && holds x (take (length l - i) (drop i l))
 
   again-holds : again ≡ holds x (drop i l)
   again-holds =
-      ap (λ (r : List ℕ). bits seen x && holds x r) (take-all (length l - i) (drop i l) (omega (arith, length-drop i l)))
+      (λ j. getD seen (e j) false && holds x (take-all (length l - i) (drop i l) (omega (arith, length-drop i l)) j))
       ∙ looked seen x (drop i l) (a .seenBits)
 
   before : drop (i - 1) l ≡ x ∷ drop i l
@@ -89,12 +96,12 @@ module _ (l : List ℕ) (seen : List Bool) (i : ℕ) (a : Apart l seen i) (h : 0
   pub apart-here : again ≡ true → false ≡ distinct l
   apart-here t = sym (drop-false l (i - 1) (rw (before, sym again-holds ∙ t)))
 
-  pub apart-next : again ≡ false → Apart l (set seen (x % 1021) true) (i - 1)
+  pub apart-next : again ≡ false → Apart l (set seen k true) (i - 1)
   apart-next t =
-      let w : x % 1021 < length seen = omega (arith, a .wide) in
+      let w : flagOfNumber x < length seen = omega (arith, a .wide, flag-below x) in
       record {
         differ = rw (before, sym again-holds ∙ t) (a .differ);
-        seenBits = rw before (getD-set-same seen (x % 1021) true false w, seen-kept seen (x % 1021) (drop i l) (a .seenBits));
+        seenBits = rw (before, e) (getD-set-same seen (flagOfNumber x) true false w, seen-kept seen (flagOfNumber x) (drop i l) (a .seenBits));
         within = omega (arith, a .within);
-        wide = length-set seen (x % 1021) true ∙ a .wide;
+        wide = length-set seen k true ∙ a .wide;
       }

@@ -13,7 +13,7 @@ use Rattle.calls.specs.declared.Call.{Call}
 use Rattle.calls.specs.declared.FormRow.{FormRow}
 use Rattle.calls.specs.Record.{emptyCall, implies, complete, zeroCall, goodOpen}
 use Rattle.calls.specs.Slots.{freshTable, slot, formRow, goodCall, goodCalls, openIds, holds, distinct, goodTable}
-use Rattle.calls.specs.Good.{GoodCall, GoodTable}
+use Rattle.calls.specs.Good.{GoodCall, GoodCalls}
 use Rattle.schema.proofs.Bools.{cases, clash, and-i, and-left, and-right, or-right, or-cases, not-i, is-false}
 use Rattle.calls.proofs.Bools.{imp-i, imp-e}
 
@@ -209,7 +209,7 @@ module _ (T : Table) where
   good-all (x ∷ xs) f = and-i (goodCall T x) (goodCalls T xs) (f 0) (good-all xs (λ i. f (suc i)))
 
   module _ (l : List Call) where
-    pub good-clauses : goodTable T l ≡ true → GoodTable T l
+    pub good-clauses : goodTable T l ≡ true → GoodCalls T l
     unfolding goodTable
     good-clauses g =
         let at : (i : ℕ) → goodCall T (slot l i) ≡ true = λ i. good-at l i (and-left (goodCalls T l) (distinct (openIds l)) g) in
@@ -219,7 +219,7 @@ module _ (T : Table) where
           calls = λ i o. call-open T (slot l i) (at i) o;
         }
 
-    pub good-test : GoodTable T l → goodTable T l ≡ true
+    pub good-test : GoodCalls T l → goodTable T l ≡ true
     unfolding goodTable
     good-test g =
         and-i (goodCalls T l) (distinct (openIds l)) (good-all l (λ i. call-test T (slot l i) (g .calls i) (g .freeZero i)))

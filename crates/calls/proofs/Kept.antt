@@ -19,7 +19,7 @@ use Rattle.calls.specs.Record.{emptyCall, openedCall, isCall, isFree, co
 use Rattle.calls.specs.Slots.{slot, firstSlot, formRow, goodTable}
 use Rattle.calls.specs.Judge.{judgeOf, judgeRelease}
 use Rattle.calls.specs.Step.{slotsAfter, stepOf, dueOf, receive, release}
-use Rattle.calls.specs.Good.{GoodCall, GoodTable}
+use Rattle.calls.specs.Good.{GoodCall, GoodCalls}
 use Rattle.schema.specs.declared.Found.the-variants.{At, Missing}
 use Rattle.schema.proofs.Bools.{cases, clash, and-i, and-left, and-right, or-left, or-cases, or-false}
 use Rattle.schema.proofs.Methods.{found-named}
@@ -37,7 +37,7 @@ slot-cases l i x j h =
     (λ q. inr (eqb-false j i q, slot-other l i x j (eqb-false j i q)))
     (cases (eqb j i))
 
-module _ (T : Table) (l : List Call) (g : GoodTable T l) (i : ℕ) (h : i < length l) (x : Call) where
+module _ (T : Table) (l : List Call) (g : GoodCalls T l) (i : ℕ) (h : i < length l) (x : Call) where
   -- the new record is good by itself, and no other record is open under its correlation
   module _
       (good : x .«open» ≡ true → GoodCall T x)
@@ -81,7 +81,7 @@ module _ (T : Table) (l : List Call) (g : GoodTable T l) (i : ℕ) (h : i < leng
         (slot-cases l i x k h))
         (slot-cases l i x j h)
 
-    good-set : GoodTable T (set l i x)
+    good-set : GoodCalls T (set l i x)
     good-set = record { freeZero = free-zero; differ = differ; calls = good-calls }
 
 -- ---- the records that a step writes
@@ -265,16 +265,16 @@ release-fits T id l = go (judgeRelease id l) refl
         let never : c .«open» ≡ true → ⊥ = λ o. clash false (subst (λ (x : Call). x .«open» ≡ true) (w .isNext) o) refl in
         goes i c d (record { isOwn = w .isOwn; same = λ o. absurd (never o); good = λ g o. absurd (never o); zero = λ o. w .isNext })
 
-module _ (T : Table) (id : ℕ) (l : List Call) (g : GoodTable T l) where
-  good-opening : (j : ℕ) (c : Call) → Starts T id l j c → GoodTable T (set l j c)
+module _ (T : Table) (id : ℕ) (l : List Call) (g : GoodCalls T l) where
+  good-opening : (j : ℕ) (c : Call) → Starts T id l j c → GoodCalls T (set l j c)
   good-opening j c w =
       good-set T l g j (found-in isFree l j (w .lowest)) c (w .good) (w .zero)
       (λ o k n p e. clash (isCall id (slot l k)) (is-call id (slot l k) p (e ∙ w .fresh)) (none-passes (isCall id) l 0 (w .notOpen) k (past-end l k p)))
 
-  good-ended : (i : ℕ) → i < length l → GoodTable T (set l i emptyCall)
+  good-ended : (i : ℕ) → i < length l → GoodCalls T (set l i emptyCall)
   good-ended i h = good-set T l g i h emptyCall (λ o. clash false o refl) (λ o. refl) (λ o. clash false o refl)
 
-  good-going : (i : ℕ) (c : Call) → Moves T id l i c → GoodTable T (set l i c)
+  good-going : (i : ℕ) (c : Call) → Moves T id l i c → GoodCalls T (set l i c)
   good-going i c w =
       let own = slot l i in
       let here = found-passes (isCall id) l i (w .isOwn) in
@@ -282,16 +282,16 @@ module _ (T : Table) (id : ℕ) (l : List Call) (g : GoodTable T l) where
       good-set T l g i (found-in (isCall id) l i (w .isOwn)) c (w .good (g .calls i o)) (w .zero)
       (λ q k n p e. n (g .differ k i p o (e ∙ w .same q ∙ sym (call-id id own here))))
 
-  good-step : (p : ℕ) {J : Judged} → JudgedFits T id l J → GoodTable T (slotsAfter J p l)
+  good-step : (p : ℕ) {J : Judged} → JudgedFits T id l J → GoodCalls T (slotsAfter J p l)
   good-step p (stops n) = g
   good-step p (opens j c d w) = go (eqb p 0)
     where
-      go : (b : Bool) → GoodTable T (cond b (set l j c) l)
+      go : (b : Bool) → GoodCalls T (cond b (set l j c) l)
       go true = good-opening j c w
       go false = g
   good-step p (goes i c d w) = go (eqb p 0) (endsCall p)
     where
-      go : (b q : Bool) → GoodTable T (cond b (set l i c) (cond q (set l i emptyCall) l))
+      go : (b q : Bool) → GoodCalls T (cond b (set l i c) (cond q (set l i emptyCall) l))
       go true q = good-going i c w
       go false true = good-ended i (found-in (isCall id) l i (w .isOwn))
       go false false = g
@@ -312,7 +312,7 @@ slots-length p (Goes i c d) l = go (eqb p 0) (endsCall p)
 
 -- a good table stays good
 module _ (T : Table) (f : Frame) (reading : Payload → ℕ) (l : List Call) where
-  pub stays-good : GoodTable T l → GoodTable T (receive T f reading l .table .slots)
+  pub stays-good : GoodCalls T l → GoodCalls T (receive T f reading l .table .slots)
   unfolding receive stepOf
   stays-good g = good-step T (f .correlation) l g (reading (dueOf (judgeOf T f l))) (frame-fits T f l)
 
@@ -325,7 +325,7 @@ module _ (T : Table) (f : Frame) (reading : Payload → ℕ) (l : List Call) whe
 
 -- so does a release
 module _ (T : Table) (id n : ℕ) (l : List Call) where
-  pub release-good : GoodTable T l → GoodTable T (release id n l .table .slots)
+  pub release-good : GoodCalls T l → GoodCalls T (release id n l .table .slots)
   unfolding release stepOf
   release-good g = good-step T id l g n (release-fits T id l)
 

@@ -12,7 +12,7 @@ use Rattle.calls.specs.declared.Frame.{Frame}
 use Rattle.calls.specs.declared.Payload.{Payload}
 use Rattle.calls.specs.Judge.{rightSide}
 use Rattle.calls.specs.Belongs.{Belongs}
-use Rattle.calls.specs.Order.{MayCome, inStream, inClose, outStream, outClose, response, error, cancel, Crosses, cancelled, TooMany}
+use Rattle.calls.specs.Order.{MayCome, inStream, inClose, outStream, outClose, response, error, cancel, Crosses, cancelled, TooManyElements}
 use Rattle.calls.specs.Order.{Past, closed, since, Ruling, refused, comes, same, Ruled, wrongSide, unknown, already, noRoom, opens, notOpen, differ, notNow, dropped, tooMany, goes}
 use Rattle.calls.specs.Order.{Releases, noCall, notCancelled, released}
 use Rattle.calls.proofs.Searches.{missing-at, at-missing}
@@ -53,9 +53,9 @@ module _ (T : Table) (f : Frame) (full : Bool) where
   Following (since m b h) r =
       (same T f m ≡ false → r ≡ refused 12)
       × (same T f m ≡ true → (May m h → ⊥) → (Crosses h (f .kind) → ⊥) → r ≡ refused 14)
-      × (same T f m ≡ true → May m h → (TooMany b h (f .kind) → ⊥) → (d : Payload) → Belongs (methodRow T m) (f .kind) d → r ≡ comes d)
+      × (same T f m ≡ true → May m h → (TooManyElements b h (f .kind) → ⊥) → (d : Payload) → Belongs (methodRow T m) (f .kind) d → r ≡ comes d)
       × (same T f m ≡ true → Crosses h (f .kind) → r ≡ refused 16)
-      × (same T f m ≡ true → May m h → TooMany b h (f .kind) → r ≡ refused 17)
+      × (same T f m ≡ true → May m h → TooManyElements b h (f .kind) → r ≡ refused 17)
 
   -- INVOKE is the client's
   other-kind : {h : List ℕ} → Crosses h (f .kind) → f .kind ≡ 1 → ⊥

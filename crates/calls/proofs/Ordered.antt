@@ -12,7 +12,7 @@ use Rattle.schema.specs.declared.Found.{Found}
 use Rattle.schema.specs.declared.Found.the-variants.{At, Missing}
 use Rattle.schema.specs.Table.{Table}
 use Rattle.schema.specs.Check.{methodRow, named, findMethod}
-use Rattle.schema.specs.Good.{GoodTable as GoodSchema}
+use Rattle.schema.specs.Good.{GoodSchema}
 use Rattle.schema.proofs.Bools.{clash, and-i, and-left, and-right, or-left, or-cases, or-none, or-comm}
 use Rattle.schema.proofs.Methods.{found-named}
 use Rattle.calls.specs.declared.Call.{Call}
@@ -30,13 +30,13 @@ use Rattle.calls.specs.Slots.{slot, firstSlot, holds, OwnCall, none, one
 use Rattle.calls.specs.Judge.{rightSide, payloadOf, Verdict, stop, opens, goes, invokeVerdict, callVerdict, otherVerdict, verdictOf, judgeOf, releaseVerdict, judgeRelease}
 use Rattle.calls.specs.Step.{receive, release}
 use Rattle.calls.specs.Counting.{noRise, ending, riseOf, releaseRise, figureBy}
-use Rattle.calls.specs.Good.{GoodTable}
+use Rattle.calls.specs.Good.{GoodCalls}
 use Rattle.calls.specs.Event.{Event, frame}
 use Rattle.calls.specs.Event as event
 use Rattle.calls.specs.Apart.{verdictDue, verdictNumber, kept, verdictOwn, verdictRise, verdictReleaseRise}
 use Rattle.calls.specs.Figures.{acceptedAs, eventAs, methodIn}
 use Rattle.calls.specs.Belongs.{Belongs}
-use Rattle.calls.specs.Order.{cancelled, MayCome, inStream, inClose, outStream, outClose, response, error, cancel, Crosses, allCame, over, Elements, noElements, times, TooMany, inputs, outputs}
+use Rattle.calls.specs.Order.{cancelled, MayCome, inStream, inClose, outStream, outClose, response, error, cancel, Crosses, allCame, over, Elements, noElements, times, TooManyElements, inputs, outputs}
 use Rattle.calls.specs.Order.{Past, closed, since, Heard, continued, accepted, after, Marks, Reflects, nothing, call}
 use Rattle.calls.specs.Order.{Ruling, refused, comes, Ruled, wrongSide, unknown, already, noRoom, opens as opensCall, notOpen, differ, notNow, dropped, tooMany, goes as goesOn}
 use Rattle.calls.specs.Order.{Releases, noCall, notCancelled, released}
@@ -139,7 +139,7 @@ module _ (form : ℕ) (before : Elements) (h : List ℕ) (c : Call) (m : ℕ) (w
       (λ t. refuses (λ x. clash (c .cancelled && server) (and-i (c .cancelled) server (w .isCancelled ∙ x .isCancelled) (x .fromServer)) t))
 
   -- the element limit
-  limited : (kind : ℕ) → atLimit kind c ≡ true → TooMany before h kind
+  limited : (kind : ℕ) → atLimit kind c ≡ true → TooManyElements before h kind
   limited kind t =
       let a = eqb (c .«input_elements») 65535 in
       let b = eqb (c .«output_elements») 65535 in
@@ -148,7 +148,7 @@ module _ (form : ℕ) (before : Elements) (h : List ℕ) (c : Call) (m : ℕ) (w
       (λ p. rw (eqb-true kind 4 (and-left (isOutput kind) b p)) (outputs (sym (w .outputElements) ∙ eqb-true (c .«output_elements») 65535 (and-right (isOutput kind) b p))))
       (or-cases (isInput kind && a) (isOutput kind && b) t)
 
-  limits : {kind : ℕ} → TooMany before h kind → atLimit kind c ≡ true
+  limits : {kind : ℕ} → TooManyElements before h kind → atLimit kind c ≡ true
   limits (inputs e) = or-left (eqb (c .«input_elements») 65535) false (eq-eqb (c .«input_elements») 65535 (w .inputElements ∙ e))
   limits (outputs e) = eq-eqb (c .«output_elements») 65535 (w .outputElements ∙ e)
 
@@ -377,7 +377,7 @@ module _ (T : Table) (g : GoodSchema T) (f : Frame) (b : Bool) where
               )
           go true true false p q l =
               let may = may-come form before h c m w (f .kind) (bounds .0) (bounds .1) (rw letters at q) in
-              let few : TooMany before h (f .kind) → ⊥ = λ x. clash (atLimit (f .kind) c) (limits form before h c m w x) l in
+              let few : TooManyElements before h (f .kind) → ⊥ = λ x. clash (atLimit (f .kind) c) (limits form before h c m w x) l in
               (goesOn m before h _ s n p may few (payload-belongs T (g .fewTypes) (methodRow T m) (g .methods m known) h may), going, counted)
           go true false z p q l =
               let bar : allowed (lettersRow form) (f .kind) c ≡ false = rw letters at q in
@@ -441,7 +441,7 @@ module _ (T : Table) (id : ℕ) where
       (λ t. (notCancelled m b h (sym (w .isCancelled) ∙ t), λ p n. call m b h c w, λ p n. (refl, inl refl)))
 
 -- ---- under good tables
-module _ (T : Table) (g : GoodSchema T) (l : List Call) (w : GoodTable T l) where
+module _ (T : Table) (g : GoodSchema T) (l : List Call) (w : GoodCalls T l) where
   own-known : (id : ℕ) → Known T (ownOf id l)
   unfolding ownOf Known
   own-known id = go (firstSlot (isCall id) 0 l) refl

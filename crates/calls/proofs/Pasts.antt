@@ -11,14 +11,15 @@ use Rattle.schema.specs.declared.Found.{Found}
 use Rattle.schema.specs.declared.Found.the-variants.{At, Missing}
 use Rattle.schema.specs.Table.{Table}
 use Rattle.schema.specs.Check.{methodRow}
-use Rattle.schema.specs.Good.{GoodTable as GoodSchema}
+use Rattle.schema.specs.Good.{GoodSchema}
 use Rattle.schema.proofs.Bools.{clash, and-i, and-left, and-right, or-false, is-false}
 use Rattle.calls.specs.declared.Call.{Call}
 use Rattle.calls.specs.Forms.{letter, lettersRow}
 use Rattle.calls.specs.Record.{implies, isCall}
 use Rattle.calls.specs.Slots.{slot, firstSlot, formRow, holds, ownOf}
-use Rattle.calls.specs.Good.{GoodCall, GoodTable}
-use Rattle.calls.specs.Order.{cancelled, MayCome, inStream, inClose, outStream, outClose, response, error, cancel, allCame, over, Came, begun, next, Elements, times, closed, since, Lawful, idle, calling, Marks, nothing, call, Reached, PastIn}
+use Rattle.calls.specs.Good.{GoodCall, GoodCalls}
+use Rattle.calls.specs.Order.{cancelled, MayCome, inStream, inClose, outStream, outClose, response, error, cancel, allCame, over, Came, begun}
+use Rattle.calls.specs.Order.{next, Elements, times, closed, since, Lawful, idle, calling, Marks, nothing, call, LawfulRecord, PastIn}
 use Rattle.calls.proofs.Bools.{imp-i, imp-e}
 use Rattle.calls.proofs.Letters.{by-letters}
 use Rattle.calls.proofs.Searches.{found-passes}
@@ -199,7 +200,7 @@ module _ (T : Table) (g : GoodSchema T) (c : Call) where
   letters : c .method < length (T .methods) → formRow T c ≡ lettersRow form
   letters h = let few = g .methods (c .method) h .form in by-letters form (omega arith)
 
-  good-reached : GoodCall T c → Reached T c
+  good-reached : GoodCall T c → LawfulRecord T c
   good-reached w =
       let r = c .responded in
       let i = c .«input_closed» in
@@ -228,7 +229,7 @@ module _ (T : Table) (g : GoodSchema T) (c : Call) where
             };
       }
 
-  reached-good : Reached T c → GoodCall T c
+  reached-good : LawfulRecord T c → GoodCall T c
   reached-good w = go (w .before) (w .kinds) (w .lawful) (w .marks)
     where
       go : (b : Elements) (h : List ℕ) → Lawful T (since (c .method) b h) → Marks (c .method) b h c → GoodCall T c
@@ -248,11 +249,11 @@ module _ (T : Table) (g : GoodSchema T) (c : Call) where
           }
 
   -- The record of an open call is good exactly where the rules allow kinds that leave its marks.
-  pub good-iff-reached : GoodCall T c ↔ Reached T c
+  pub good-iff-reached : GoodCall T c ↔ LawfulRecord T c
   good-iff-reached = (good-reached, reached-good)
 
 -- Each identifier of a good call table has a past that the rules allow and that the table reflects.
-pub some-past : (T : Table) → GoodSchema T → (l : List Call) → GoodTable T l → (id : ℕ) → PastIn T l id
+pub some-past : (T : Table) → GoodSchema T → (l : List Call) → GoodCalls T l → (id : ℕ) → PastIn T l id
 unfolding ownOf
 some-past T g l w id = go (firstSlot (isCall id) 0 l) refl
   where

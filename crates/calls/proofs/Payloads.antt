@@ -24,7 +24,7 @@ use Rattle.calls.specs.Slots.{slot, firstSlot, OwnCall, none, one, recor
 use Rattle.calls.specs.Judge.{rightSide, typed, payloadOf, Verdict, stop, goes, openVerdict, invokeVerdict, otherVerdict, verdictOf, judgeOf}
 use Rattle.calls.specs.Apart.{verdictDue}
 use Rattle.calls.specs.Step.{dueOf}
-use Rattle.calls.specs.Good.{GoodTable}
+use Rattle.calls.specs.Good.{GoodCalls}
 use Rattle.schema.proofs.Bools.{cases}
 use Rattle.schema.specs.Good.{Letter, GoodMethod}
 use Rattle.schema.proofs.Goods.{good-table}
@@ -100,7 +100,7 @@ module _ (s : List ℕ) (g : IsGood s) (f : Frame) where
       (λ _. unread))
       (λ _. unread)
 
-  module _ (l : List Call) (w : GoodTable T l) where
+  module _ (l : List Call) (w : GoodCalls T l) where
     other-sound : Sound T (verdictDue (otherVerdict T f (ownOf (f .correlation) l)))
     unfolding ownOf
     other-sound = go (firstSlot (isCall (f .correlation)) 0 l) refl

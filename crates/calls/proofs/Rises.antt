@@ -27,11 +27,11 @@ use Rattle.calls.specs.Numbers.{endsCall}
 use Rattle.calls.specs.Record.{counting, emptyCall, isCall, isFree, complete, marked, ends}
 use Rattle.calls.specs.Slots.{freshTable, slot, formRow, OwnCall, none, one, ownOf, full}
 use Rattle.calls.specs.Judge.{Verdict, stop, opens, goes, verdictOf, judgeOf, releaseVerdict, judgeRelease}
-use Rattle.calls.specs.Step.{numberOf, slotsAfter, stepOf, dueOf, receive, release}
+use Rattle.calls.specs.Step.{numberAfter, slotsAfter, stepOf, dueOf, receive, release}
 use Rattle.calls.specs.Counting.{noTally, noRise, ending, riseOf, releaseRise, figureBy, raised}
 pub use Rattle.calls.specs.Counting.{rowAfter}
 use Rattle.calls.specs.Apart.{verdict, callMethod, verdictRise, verdictReleaseRise}
-use Rattle.calls.specs.Good.{GoodTable}
+use Rattle.calls.specs.Good.{GoodCalls}
 use Rattle.calls.specs.Figures.{openOf, Balanced}
 use Rattle.calls.proofs.Searches.{found-in, found-passes}
 use Rattle.calls.proofs.Judgement.{judged-opens, judged-goes, released-goes, released-never, own-at, verdict-opens, verdict-goes}
@@ -258,13 +258,13 @@ module _ (T : Table) (f : Frame) (l : List Call) (m : ℕ) where
         go false true = over-follows m l i Failed here is-open (refl, refl)
         go false false = refl
 
-  frame-follows : (p : ℕ) (J : Judged) → judgeOf T f l ≡ J → Follows m (riseOf (f .kind) l J) (numberOf J p) l (slotsAfter J p l)
+  frame-follows : (p : ℕ) (J : Judged) → judgeOf T f l ≡ J → Follows m (riseOf (f .kind) l J) (numberAfter J p) l (slotsAfter J p l)
   unfolding riseOf
   frame-follows p (Refused n) e = stop-follows m n l
   frame-follows p (Opens j c d) e = opens-follows p j c d e
   frame-follows p (Goes i c d) e = goes-follows i c d e p
 
-release-follows : (id : ℕ) (l : List Call) (m p : ℕ) → endsCall p ≡ false → (J : Judged) → judgeRelease id l ≡ J → Follows m (releaseRise l J) (numberOf J p) l (slotsAfter J p l)
+release-follows : (id : ℕ) (l : List Call) (m p : ℕ) → endsCall p ≡ false → (J : Judged) → judgeRelease id l ≡ J → Follows m (releaseRise l J) (numberAfter J p) l (slotsAfter J p l)
 unfolding releaseRise figureBy opensBy closesBy
 release-follows id l m p n (Refused k) e = stop-follows m k l
 release-follows id l m p n (Opens j c d) e = absurd (released-never id l j c d e)
@@ -285,13 +285,13 @@ release-follows id l m p n (Goes i c d) e =
 -- ---- the figure of an answer
 
 -- The payload's number and the answer's raise the same.
-pub figure-answered : (kind : ℕ) (l : List Call) (J : Judged) (p : ℕ) → figureBy (riseOf kind l J) (numberOf J p) ≡ figureBy (riseOf kind l J) p
+pub figure-answered : (kind : ℕ) (l : List Call) (J : Judged) (p : ℕ) → figureBy (riseOf kind l J) (numberAfter J p) ≡ figureBy (riseOf kind l J) p
 unfolding riseOf
 figure-answered kind l (Refused n) p = no-figure n ∙ sym (no-figure p)
 figure-answered kind l (Opens j c d) p = refl
 figure-answered kind l (Goes i c d) p = refl
 
-pub release-figure : (l : List Call) (J : Judged) (p : ℕ) → figureBy (releaseRise l J) (numberOf J p) ≡ figureBy (releaseRise l J) p
+pub release-figure : (l : List Call) (J : Judged) (p : ℕ) → figureBy (releaseRise l J) (numberAfter J p) ≡ figureBy (releaseRise l J) p
 unfolding releaseRise
 release-figure l (Refused n) p = no-figure n ∙ sym (no-figure p)
 release-figure l (Opens j c d) p = no-figure p ∙ sym (no-figure p)
@@ -301,7 +301,7 @@ release-figure l (Goes i c d) p = refl
 abbrev pub Known : Table → Rise → Type 0
 Known T r = (r ≡ noRise) ⊎ (r .row < length (T .methods))
 
-module _ (T : Table) (l : List Call) (g : GoodTable T l) where
+module _ (T : Table) (l : List Call) (g : GoodCalls T l) where
   frame-row : (f : Frame) (J : Judged) → judgeOf T f l ≡ J → Known T (riseOf (f .kind) l J)
   unfolding riseOf
   frame-row f (Refused n) e = inl refl
@@ -343,7 +343,7 @@ unfolding receive stepOf
 frame-balanced T f l reading m t =
     let J = judgeOf T f l in
     let p = reading (dueOf J) in
-    balanced m (riseOf (f .kind) l J) (numberOf J p) l (slotsAfter J p l) (frame-follows T f l m p J refl) t
+    balanced m (riseOf (f .kind) l J) (numberAfter J p) l (slotsAfter J p l) (frame-follows T f l m p J refl) t
 
 -- and so does a release, accepted or not.
 pub release-balanced : (id n : ℕ) (l : List Call) → endsCall n ≡ false → (m : ℕ) (t : Tally) → Balanced m t l →
@@ -351,7 +351,7 @@ pub release-balanced : (id n : ℕ) (l : List Call) → endsCall n ≡ false →
 unfolding release stepOf
 release-balanced id n l k m t =
     let J = judgeRelease id l in
-    balanced m (releaseRise l J) (numberOf J n) l (slotsAfter J n l) (release-follows id l m n k J refl) t
+    balanced m (releaseRise l J) (numberAfter J n) l (slotsAfter J n l) (release-follows id l m n k J refl) t
 
 -- The fresh table and a fresh row are in balance.
 pub fresh-balanced : (m : ℕ) → Balanced m noTally (freshTable .slots)

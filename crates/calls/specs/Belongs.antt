@@ -7,8 +7,8 @@ use Rattle.calls.specs.declared.Payload.{Payload}
 use Rattle.calls.specs.declared.Payload.the-variants.{Struct, Empty, Unread}
 use Rattle.calls.specs.Forms.{letter}
 
--- A Y has a struct type, and the payload is a value of it. Without unary input INVOKE is empty, without unary output RESPONSE is. Closes and CANCEL are
--- empty; ERROR carries any bytes.
+-- A Y has a struct type, and the payload is a value of it; INVOKE and RESPONSE without it are empty.
+-- Closes and CANCEL are empty; ERROR carries any bytes.
 pub data Belongs (m : Method) : (kind : ℕ) → Payload → Type 0 where
   input : letter 8 (m .form) ≡ true → Belongs m 1 (Struct (m .input))
   noInput : letter 8 (m .form) ≡ false → Belongs m 1 Empty

@@ -22,8 +22,8 @@ noTally = record { opened = 0; completed = 0; errored = 0; cancelled = 0; failed
 abbrev pub noRise : Rise
 noRise = record { row = 0; accepted = Nothing; refused = Nothing }
 
--- An accepted frame of this kind to the call c, whose record it makes `next`: ERROR counts a cancelled call as cancelled and any other as errored; the frame
--- that completes the call counts as completed; CANCEL and the others raise nothing, the call is still open.
+-- An accepted frame of this kind to the call c, whose record it makes `next`: ERROR counts as cancelled or errored, the frame that completes the call
+-- as completed. The others raise nothing: the call is still open.
 abbrev pub ending : (kind : ℕ) (c next : Call) → Figure
 ending kind c next = cond (eqb kind 7) (cond (c .cancelled) Cancelled Errored) (cond (next .«open») Nothing Completed)
 

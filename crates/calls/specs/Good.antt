@@ -19,7 +19,7 @@ pub record GoodCall (T : Table) (c : Call) : Type 0 where
   pub outputElements : formRow T c .2 ≡ false → c .«output_elements» ≡ 0
   pub notComplete : complete (formRow T c) c ≡ false
 
-pub record GoodTable (T : Table) (l : List Call) : Type 0 where
+pub record GoodCalls (T : Table) (l : List Call) : Type 0 where
   pub freeZero : (i : ℕ) → slot l i .«open» ≡ false → slot l i ≡ emptyCall
   pub differ : (i j : ℕ) → slot l i .«open» ≡ true → slot l j .«open» ≡ true → slot l i .correlation ≡ slot l j .correlation → i ≡ j
   pub calls : (i : ℕ) → slot l i .«open» ≡ true → GoodCall T (slot l i)

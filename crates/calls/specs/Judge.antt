@@ -1,4 +1,4 @@
--- A frame judged before its payload is read: 8; INVOKE 9, 10, 13; the others 11, 12, 14 or 16, 17. And what its payload holds.
+-- A frame judged before its payload is read (8; INVOKE 9, 10, 13; the others 11, 12, 14 or 16, 17), and what its payload holds.
 -- The judgement is a function of the frame, of its own call's record and, for INVOKE, of whether 128 calls are open; the slot is added last.
 use Prim.Native.Nat.{ℕ}
 use mathlib.Core.Bool.{Bool, true, false, cond, _&&_, _||_}
@@ -19,7 +19,7 @@ use Rattle.calls.specs.Forms.{rowOfForm}
 use Rattle.calls.specs.Record.{isCall, isFree, emptyCall, openedCall, allowed, notAllowed, atLimit, afterFrame}
 use Rattle.calls.specs.Slots.{firstSlot, slotOf, OwnCall, none, one, ownOf, full}
 
--- Client kinds: 1 INVOKE, 2 IN_STREAM, 3 IN_CLOSE, 8 CANCEL. Server kinds: 4 OUT_STREAM, 5 OUT_CLOSE, 6 RESPONSE, 7 ERROR. The sides are the bytes C and S.
+-- The client (C) sends 1 INVOKE, 2 IN_STREAM, 3 IN_CLOSE and 8 CANCEL, the server (S) 4 OUT_STREAM, 5 OUT_CLOSE, 6 RESPONSE and 7 ERROR.
 abbrev pub rightSide : (side kind : ℕ) → Bool
 rightSide side kind =
     (eqb side 67 && ((leb 1 kind && leb kind 3) || eqb kind 8)) || (eqb side 83 && (leb 4 kind && leb kind 7))

@@ -83,9 +83,9 @@ abbrev pub outputsOf : Elements → List ℕ → ℕ
 outputsOf b h = b .outputs + times 4 h
 
 -- An element more of this kind would be above 65,535.
-pub data TooMany (b : Elements) (h : List ℕ) : (kind : ℕ) → Type 0 where
-  inputs : inputsOf b h ≡ 65535 → TooMany b h 2
-  outputs : outputsOf b h ≡ 65535 → TooMany b h 4
+pub data TooManyElements (b : Elements) (h : List ℕ) : (kind : ℕ) → Type 0 where
+  inputs : inputsOf b h ≡ 65535 → TooManyElements b h 2
+  outputs : outputsOf b h ≡ 65535 → TooManyElements b h 4
 
 -- Elements are counted only where the form has the stream.
 pub record Streams (form : ℕ) (b : Elements) : Type 0 where
@@ -169,9 +169,9 @@ module _ (T : Table) (f : Frame) (full : Bool) where
     -- 16 stands where 14 would.
     dropped : (m : ℕ) (b : Elements) (h : List ℕ) → sent T f → same T f m ≡ true → Crosses h (f .kind) → Ruled (since m b h) (refused 16)
     tooMany : (m : ℕ) (b : Elements) (h : List ℕ) → sent T f → (f .kind ≡ 1 → ⊥) → same T f m ≡ true → MayCome (methodRow T m .form) h (f .kind)
-        → TooMany b h (f .kind) → Ruled (since m b h) (refused 17)
+        → TooManyElements b h (f .kind) → Ruled (since m b h) (refused 17)
     goes : (m : ℕ) (b : Elements) (h : List ℕ) (d : Payload) → sent T f → (f .kind ≡ 1 → ⊥) → same T f m ≡ true → MayCome (methodRow T m .form) h (f .kind)
-        → (TooMany b h (f .kind) → ⊥) → Belongs (methodRow T m) (f .kind) d → Ruled (since m b h) (comes d)
+        → (TooManyElements b h (f .kind) → ⊥) → Belongs (methodRow T m) (f .kind) d → Ruled (since m b h) (comes d)
 
 -- What the rules say of a release: 11 for a call not open, 14 for one not cancelled.
 pub data Releases : Past → (number : ℕ) → Type 0 where
@@ -197,7 +197,7 @@ pub data Reflects : Past → OwnCall → Type 0 where
   call : (m : ℕ) (b : Elements) (h : List ℕ) (c : Call) → Marks m b h c → Reflects (since m b h) (one c)
 
 -- The record is that of a call whose kinds came in an order that the rules allow.
-pub record Reached (T : Table) (c : Call) : Type 0 where
+pub record LawfulRecord (T : Table) (c : Call) : Type 0 where
   pub before : Elements
   pub kinds : List ℕ
   pub lawful : Lawful T (since (c .method) before kinds)

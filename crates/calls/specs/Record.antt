@@ -30,8 +30,8 @@ implies a b = not a || b
 abbrev pub complete : FormRow → Call → Bool
 complete row c = c .responded && (implies (row .1) (c .«input_closed») && implies (row .3) (c .«output_closed»))
 
--- Whether a frame that is no INVOKE is allowed now: 7 ERROR always; a cancelled call allows nothing else. 2 IN_STREAM and 3 IN_CLOSE need the input
--- stream, not closed; 4 OUT_STREAM and 5 OUT_CLOSE the output stream, not closed, and RESPONSE; 6 RESPONSE comes once; 8 CANCEL may come at any time.
+-- Whether a frame that is no INVOKE is allowed: 7 ERROR always; a cancelled call allows nothing else. 2 and 3 need the input stream, not closed;
+-- 4 and 5 the output stream, not closed, and RESPONSE; 6 RESPONSE comes once; 8 CANCEL at any time.
 abbrev pub allowed : FormRow → ℕ → Call → Bool
 allowed row kind c =
     eqb kind 7 ||
@@ -110,8 +110,8 @@ zeroCall c =
     (not (c .«output_closed») &&
     (not (c .cancelled) && (eqb (c .«input_elements») 0 && eqb (c .«output_elements») 0))))))
 
--- An open record: its method is one of the table's, a closed mark stands only where the form has that stream, output isn't ended before
--- RESPONSE, both counts of elements are 0 where the form lacks the stream, and the call is not complete. The cancelled mark may stand in any.
+-- An open record is good: its method is one of the table's, closed marks and counts of elements stand only where the form has that stream,
+-- output is not ended before RESPONSE, and the call is not complete.
 abbrev pub goodOpen : (methods : ℕ) → FormRow → Call → Bool
 goodOpen methods row c =
     ltb (c .method) methods &&

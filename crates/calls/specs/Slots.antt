@@ -1,5 +1,5 @@
 -- The call table (01's term) as a list of 128 records, one a slot: searches, the count of open calls, and the test whether it is good.
-use Prim.Native.Nat.{ℕ, suc}
+use Prim.Native.Nat.{ℕ, suc, _*_, _/_, _%_, _^_}
 use mathlib.Core.Bool.{Bool, true, false, not, cond, _&&_, _||_}
 use mathlib.Core.List.{List, [], _∷_}
 use lib.ListN.{length, getD, replicate}
@@ -74,6 +74,10 @@ openIds (x ∷ xs) = cond (x .«open») (x .correlation ∷ openIds xs) (openIds
 abbrev pub holds : ℕ → List ℕ → Bool
 holds n [] = false
 holds n (x ∷ xs) = eqb x n || holds n xs
+
+-- The flag of a number, one of 1,024. The code looks for a number among others only if one of them has its flag.
+unfoldable pub flagOfNumber : ℕ → ℕ
+flagOfNumber n = n * 0x9E37_79B9_7F4A_7C15 % 2 ^ 64 / 2 ^ 54
 
 -- No two of the list are equal.
 abbrev pub distinct : List ℕ → Bool

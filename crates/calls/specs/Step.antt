@@ -19,10 +19,10 @@ use Rattle.calls.specs.Record.{emptyCall}
 use Rattle.calls.specs.Judge.{judgeOf, judgeRelease}
 
 -- The answer's number: the judgement's, or else the payload's.
-abbrev pub numberOf : Judged → (payload : ℕ) → ℕ
-numberOf (Refused n) p = n
-numberOf (Opens j c due) p = p
-numberOf (Goes i c due) p = p
+abbrev pub numberAfter : Judged → (payload : ℕ) → ℕ
+numberAfter (Refused n) p = n
+numberAfter (Opens j c due) p = p
+numberAfter (Goes i c due) p = p
 
 -- The records afterwards, where p is 0 for a payload that is right. An INVOKE refused for its payload opens none.
 abbrev pub slotsAfter : Judged → (payload : ℕ) → List Call → List Call
@@ -31,7 +31,7 @@ slotsAfter (Opens j c due) p l = cond (eqb p 0) (set l j c) l
 slotsAfter (Goes i c due) p l = cond (eqb p 0) (set l i c) (cond (endsCall p) (set l i emptyCall) l)
 
 unfoldable pub stepOf : Judged → (payload : ℕ) → List Call → Stepped
-stepOf J p l = record { number = numberOf J p; table = record { slots = slotsAfter J p l } }
+stepOf J p l = record { number = numberAfter J p; table = record { slots = slotsAfter J p l } }
 
 -- What the answer to a judgement changes, for every table of 128 records; none is changed by a judgement that stops.
 pub record Changes (J : Judged) (payload : ℕ) (change : Change) : Type 0 where

@@ -4,11 +4,14 @@ use constants::limit;
 ghost use mathlib.Core.Path.{_≡_};
 ghost use Rattle.calls.specs.Forms.{tableOne, rowOfForm};
 
+// A row for each form.
+pub const ROWS: usize = limit::FORMS as usize;
+
 const Y: bool = true;
 
 const N: bool = false;
 
-pub const TABLE_1: [FormRow; 16] = [
+pub const TABLE_1: [FormRow; ROWS] = [
     FormRow(N, N, N, N), // NNNN
     FormRow(N, N, Y, Y), // NNNY
     FormRow(Y, Y, N, N), // NNYN
@@ -27,8 +30,8 @@ pub const TABLE_1: [FormRow; 16] = [
     FormRow(Y, Y, Y, Y), // YYYY
 ];
 
-// The row of a form in that table; there is none past 15, and nothing is allowed then. A caller in a loop lays the table out once.
-pub fn row_in(table: [FormRow; 16], form: u32) -> FormRow
+// The row of a form in that table; there is none past 15, and nothing is allowed then. The table is a parameter, so that a loop lays it out once.
+pub fn row_in(table: [FormRow; ROWS], form: u32) -> FormRow
     requires { ⌜ table ≡ tableOne ⌝ }
     ensures { λ r. ⌜ r ≡ rowOfForm form ⌝ }
 {

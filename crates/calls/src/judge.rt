@@ -24,7 +24,7 @@ ghost use Rattle.calls.specs.Slots.{slotOf};
 ghost use Rattle.calls.specs.Judge.{rightSide, typed, payloadOf, callVerdict, openVerdict, invokeVerdict, otherVerdict, methodOf, releaseVerdict, placed};
 ghost use Rattle.calls.specs.Seats.{judgedAt};
 
-// The kind comes from this side, the byte C or S.
+// Whether the kind comes from this side, the byte C or S.
 pub fn right_side(side: u8, kind: u8) -> bool
     ensures { λ r. ⌜ r ≡ rightSide side kind ⌝ }
 {

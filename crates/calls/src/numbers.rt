@@ -3,7 +3,7 @@ use constants::refusal;
 ghost use mathlib.Core.Path.{_≡_};
 ghost use Rattle.calls.specs.Numbers.{endsCall, usesFrame};
 
-// A payload refusal that ends the open call.
+// Whether it is a payload refusal that ends the open call.
 pub fn ends_call(number: u32) -> bool
     ensures { λ r. ⌜ r ≡ endsCall number ⌝ }
 {
@@ -11,7 +11,7 @@ pub fn ends_call(number: u32) -> bool
         | (number == refusal::MAP_TOO_LONG)
 }
 
-// The frame's bytes are used.
+// Whether the frame's bytes are used.
 pub fn uses_frame(number: u32) -> bool
     ensures { λ r. ⌜ r ≡ usesFrame number ⌝ }
 {

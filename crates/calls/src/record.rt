@@ -47,7 +47,7 @@ impl Call {
         }
     }
 
-    // It is open under this correlation.
+    // Whether it is open under this correlation.
     pub fn is_call(self, id: u64) -> bool
         ensures { λ r. ⌜ r ≡ isCall id self ⌝ }
     {
@@ -60,14 +60,14 @@ impl Call {
         !self.open
     }
 
-    // RESPONSE has come and each stream that it has is closed.
+    // Whether RESPONSE has come and each stream that it has is closed.
     pub fn is_complete(self, row: FormRow) -> bool
         ensures { λ r. ⌜ r ≡ complete row self ⌝ }
     {
         self.responded & ((!row.1 | self.input_closed) & (!row.3 | self.output_closed))
     }
 
-    // A frame that is no INVOKE is allowed now.
+    // Whether a frame that is no INVOKE is allowed.
     pub fn allows(self, row: FormRow, kind: u8) -> bool
         ensures { λ r. ⌜ r ≡ allowed row kind self ⌝ }
     {
@@ -94,7 +94,7 @@ impl Call {
         }
     }
 
-    // An element of this kind would be one above 65,535.
+    // Whether an element of this kind would be one above 65,535.
     pub fn at_limit(self, kind: u8) -> bool
         ensures { λ r. ⌜ r ≡ atLimit kind self ⌝ }
     {
@@ -145,7 +145,7 @@ impl Call {
                                 & ((self.input_elements == 0) & (self.output_elements == 0)))))))
     }
 
-    // An open record is good by itself, where the schema has so many methods and its own has this form.
+    // Whether an open record is good by itself, where the schema has so many methods and its own has this form.
     pub fn is_good_open(self, methods: usize, row: FormRow) -> bool
         ensures { λ r. ⌜ r ≡ goodOpen methods row self ⌝ }
     {

@@ -8,11 +8,11 @@ use crate::record::EMPTY;
 use constants::limit;
 use constants::refusal;
 ghost use mathlib.Core.Path.{_≡_};
-ghost use Rattle.calls.specs.Step.{numberOf, Changes, stepOf};
+ghost use Rattle.calls.specs.Step.{numberAfter, Changes, stepOf};
 
 // The answer's number: the judgement's, or else the payload's.
 pub fn number_after(judged: Judged, payload: u32) -> u32
-    ensures { λ r. ⌜ r ≡ numberOf judged payload ⌝ }
+    ensures { λ r. ⌜ r ≡ numberAfter judged payload ⌝ }
 {
     match judged {
         Judged::Refused(n) => n,

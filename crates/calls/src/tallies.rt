@@ -129,7 +129,7 @@ impl Tally {
         }
     }
 
-    // The figure can rise no more.
+    // Whether the figure is full.
     pub fn is_full(self, f: Figure) -> bool
         ensures { λ r. ⌜ r ≡ fullAt self f ⌝ }
     {

@@ -1,5 +1,5 @@
-// Names for the numbers of the papers: refusals, kinds, limits, and what is fixed in a frame and in a file.
-// Definitions keep the numerals. Where the two meet, in `table` and specs/Table.antt, each number stands beside the paper's words.
+// Names for the numbers of the papers; definitions keep the numerals.
+// Where the two meet, in `table` and specs/Table.antt, each number stands beside the paper's words.
 pub mod format;
 pub mod frame_kind;
 pub mod kind;

@@ -1,4 +1,4 @@
-// The numbers that come back, by the names that they have for Rust and C, too.
+// The numbers that come back, by their names in host/arf; C has ARF_ or ARF_BAD_ before them (ARF_BAD_SCHEMA for 40).
 
 pub const ACCEPTED: u32 = 0;
 

@@ -1,4 +1,4 @@
-// The sides of a line.
+// The sides of a connection.
 pub const CLIENT: u8 = b'C';
 
 pub const SERVER: u8 = b'S';

@@ -4,12 +4,12 @@ use mathlib.Core.List.{List, [], _∷_, _++_}
 use Prim.Native.Nat.{ℕ}
 use lib.ListN.{replicate}
 use Rattle.wire.specs.Little.{little}
-use Rattle.wire.specs.Varuint.{groups, front}
+use Rattle.wire.specs.Varuint.{groups, frontVarUInt}
 use Rattle.parse.specs.Reader.{andThen, check, block, varUInt, count}
 use Rattle.cursor.specs.declared.item.Width.the-variants.{One, Two, Four}
 use Rattle.cursor.specs.declared.item.Number.the-variants as Number
 use Rattle.cursor.specs.declared.item.Span.the-variants as Span
-use Rattle.cursor.specs.Item.{numberOf, span, varuintAt, fixedNumberAt, spanAt}
+use Rattle.cursor.specs.Item.{fixedNumber, spanItem, varuintAt, fixedNumberAt, spanAt}
 
 -- the payload P1 of 01
 abbrev p1 : List ℕ
@@ -26,5 +26,5 @@ pub items :
     × (varuintAt (0x80 ∷ 0x00 ∷ []) 0 ≡ record { item = Number.Refused 21 0; next = 0 })
     × (varuintAt (0x80 ∷ []) 0 ≡ record { item = Number.Refused 20 0; next = 0 })
     × (spanAt (replicate 9 0x80 ++ (0x02 ∷ [])) 0 ≡ record { item = Span.Refused 21 0; next = 0 })
-unfolding little groups front andThen check block varUInt count numberOf span
+unfolding little groups frontVarUInt andThen check block varUInt count fixedNumber spanItem
 items = (refl, refl, refl, refl, refl, refl, refl, refl, refl, refl)

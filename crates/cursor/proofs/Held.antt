@@ -64,23 +64,23 @@ module _ {M : Type 1} (𝓤 : URA M) (H : Heap 𝓤) (A : Atoms 𝓤) (W : Given
 
   module _ (a : NamedLft) (h : Reader) where
     -- what the reader owns
-    abbrev pub Own : Fml
-    Own = T.the-row a .own h (T′.lowered h ∷ [])
+    abbrev pub OwnFml : Fml
+    OwnFml = T.the-row a .own h (T′.lowered h ∷ [])
 
     pub lends : (Rs : List RattleType) (xs : Denots Rs) (vss : Valss Rs) → ent 𝓤 (emp 𝓤) (sem 𝓤 H A (owns Rs xs vss)) → (q : Share) → h .at < 2 ^ 64
-        → ent 𝓤 (⋆ 𝓤 H A (‵ Own ∷ (‵ (flft (a .lft) q) ⊛ ‵ ftrue) ∷ []))
-        (sep 𝓤 (sep 𝓤 (⋆ 𝓤 H A ((‵ (flft (a .lft) q) ⊛ ‵ ftrue) ∷ ‵ (owns (ShrSlice (named 0) (a .lft) u8 ∷ usize ∷ Rs) (h .payload, (h .at, xs)) (passed h .0, (passed h .1 .0, vss))) ∷ [])) (emp 𝓤)) (sem 𝓤 H A Own))
+        → ent 𝓤 (⋆ 𝓤 H A (‵ OwnFml ∷ (‵ (flft (a .lft) q) ⊛ ‵ ftrue) ∷ []))
+        (sep 𝓤 (sep 𝓤 (⋆ 𝓤 H A ((‵ (flft (a .lft) q) ⊛ ‵ ftrue) ∷ ‵ (owns (ShrSlice (named 0) (a .lft) u8 ∷ usize ∷ Rs) (h .payload, (h .at, xs)) (passed h .0, (passed h .1 .0, vss))) ∷ [])) (emp 𝓤)) (sem 𝓤 H A OwnFml))
     lends Rs xs vss others q fits =
-        qed W (‵ Own ∷ (‵ (flft (a .lft) q) ⊛ ‵ ftrue) ∷ []) ∵
-        use1 W (‵ Own ⊛ ‵ Own) (LL.copy (T.the-type a) (T′.the-copy a) 𝓤 H A W .twice h (T′.lowered h ∷ [])) $ split ! $
+        qed W (‵ OwnFml ∷ (‵ (flft (a .lft) q) ⊛ ‵ ftrue) ∷ []) ∵
+        use1 W (‵ OwnFml ⊛ ‵ OwnFml) (LL.copy (T.the-type a) (T′.the-copy a) 𝓤 H A W .twice h (T′.lowered h ∷ [])) $ split ! $
         use1 W (‵ (ShrSlice (named 0) (a .lft) u8 .own (h .payload) (passed h .0))) (first-own (T.the-type a) (T′.the-laws a) (h .payload, (h .at, tt)) (T′.lowered h)) $
         use0 W (‵ (owns Rs xs vss)) others $ owned ! usize (Is usize) (uint-makes 𝓤 H A W w64) (h .at) _ (refl, fits) $ fjoin ! $ move ! (1 ∷ 0 ∷ []) $ fjoin ! $
         -- [what is passed; what the reader owns; the token]
         move ! (2 ∷ 0 ∷ []) $ join ! $ nothing ! $ move ! (1 ∷ 0 ∷ []) $ join ! $ done !
 
     -- what payload owns is kept, and at's facts are made anew
-    again : (n : ℕ) → n < 2 ^ 64 → ent 𝓤 (sem 𝓤 H A Own) (sem 𝓤 H A (T.the-row a .own (movedTo h n) (T′.lowered (movedTo h n) ∷ [])))
-    again n ok = qed W (‵ Own ∷ []) ∵ owned ! usize (Is usize) (uint-makes 𝓤 H A W w64) n _ (refl, ok) $ move ! (1 ∷ 0 ∷ []) $ by ! (own-put 𝓤 H A W (T.the-type a) (T′.the-laws a) 1 (h .payload, (h .at, tt)) n (T′.lowered h))
+    again : (n : ℕ) → n < 2 ^ 64 → ent 𝓤 (sem 𝓤 H A OwnFml) (sem 𝓤 H A (T.the-row a .own (movedTo h n) (T′.lowered (movedTo h n) ∷ [])))
+    again n ok = qed W (‵ OwnFml ∷ []) ∵ owned ! usize (Is usize) (uint-makes 𝓤 H A W w64) n _ (refl, ok) $ move ! (1 ∷ 0 ∷ []) $ by ! (own-put 𝓤 H A W (T.the-type a) (T′.the-laws a) 1 (h .payload, (h .at, tt)) n (T′.lowered h))
 
   -- a reader that lies in a local: what `Denote/Lend.antt` lends and gives back
   pub laid : (κ : Lft) (h : Reader) (w : Val) (b o : ℕ) → ent 𝓤 (⋆ 𝓤 H A (‵ (fat fullShare (T′.mir erased) b o w) ∷ ‵ (row κ .own h (w ∷ [])) ∷ [])) (sem 𝓤 H A (mem (row κ) .lies h b o))
@@ -100,7 +100,7 @@ module _ {M : Type 1} (𝓤 : URA M) (H : Heap 𝓤) (A : Atoms 𝓤) (W : Given
 module _ {M : Type 1} {𝓤 : URA M} {H : Heap 𝓤} {A : Atoms 𝓤} {K : Type 0} {W : Given 𝓤 H A} {Γ : List (Item 𝓤)} {G : Goal 𝓤 H} where
   pub opened : K → Soaks G → (a : NamedLft) (h : Reader) {κ : Lft} {q : Share} {γ : GName} (b o : ℕ)
       → (Holds (hasTy (T′.mir (a .mir)) (T′.lowered h)) × WT (T′.lowered h)
-      → Seq K W (‵ (fat fullShare (T′.mir erased) b o (T′.lowered h)) ∷ ‵ (Own 𝓤 H A W a h) ∷ ‵ (fobor κ q (Body (mem (T.the-row a)) b o γ)) ∷ ‵ (fobs γ (T.the-row a .coded .code h)) ∷ ‵ (fauth γ (T.the-row a .coded .code h)) ∷ Γ) G)
+      → Seq K W (‵ (fat fullShare (T′.mir erased) b o (T′.lowered h)) ∷ ‵ (OwnFml 𝓤 H A W a h) ∷ ‵ (fobor κ q (Body (mem (T.the-row a)) b o γ)) ∷ ‵ (fobs γ (T.the-row a .coded .code h)) ∷ ‵ (fauth γ (T.the-row a .coded .code h)) ∷ Γ) G)
       → Seq K W (‵ (fobs γ (T.the-row a .coded .code h)) ∷ ‵ (fbor κ (Body (mem (T.the-row a)) b o γ)) ∷ ‵ (flft κ q) ∷ Γ) G
   opened t z a h b o k =
       opens t z (T.the-row a) {h = h} b o (λ vs. spelt t (T.the-row a) (Is (T.the-row a)) (shows 𝓤 H A (T.the-row a)) (LL.vals (T.the-type a) (T′.the-laws a)) (LL.tells (T.the-type a) (T′.the-laws a)) fullShare h vs b o $
@@ -109,7 +109,7 @@ module _ {M : Type 1} {𝓤 : URA M} {H : Heap 𝓤} {A : Atoms 𝓤} {K : Type 
 
   pub shut : K → Soaks G → (a : NamedLft) (h : Reader) {κ : Lft} {q : Share} {u v : Gv} {γ : GName} (b o n : ℕ) → n < 2 ^ 64
       → Step K W (‵ (fobs γ (T.the-row a .coded .code (movedTo h n))) ∷ ‵ (fbor κ (Body (mem (T.the-row a)) b o γ)) ∷ ‵ (flft κ q) ∷ Γ) G
-      (‵ (fat fullShare (T′.mir erased) b o (T′.lowered (movedTo h n))) ∷ ‵ (Own 𝓤 H A W a h) ∷ ‵ (fobor κ q (Body (mem (T.the-row a)) b o γ)) ∷ ‵ (fobs γ u) ∷ ‵ (fauth γ v) ∷ Γ) G
+      (‵ (fat fullShare (T′.mir erased) b o (T′.lowered (movedTo h n))) ∷ ‵ (OwnFml 𝓤 H A W a h) ∷ ‵ (fobor κ q (Body (mem (T.the-row a)) b o γ)) ∷ ‵ (fobs γ u) ∷ ‵ (fauth γ v) ∷ Γ) G
   shut t z a h b o n ok = step (λ s.
       move t (1 ∷ []) $ use1 W (‵ (T.the-row a .own (movedTo h n) (T′.lowered (movedTo h n) ∷ []))) (again 𝓤 H A W a h n ok) $ move t (1 ∷ 0 ∷ []) $
       use1 W (‵ (cellAt fullShare (T.the-row a .mir) (T′.lowered (movedTo h n) ∷ []) b o)) (W .laws .at-raw fullShare (T′.mir erased) b o (T′.lowered (movedTo h n))) $

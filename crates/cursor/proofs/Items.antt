@@ -17,7 +17,7 @@ use Rattle.parse.specs.Reader.{Answer, refused, seen, andThen, cursorAt, varUIn
 use Rattle.parse.proofs.Places.{var-here, cut-here, malformed-here, block-here, block-short, count-stops, count-short, count-here}
 use Rattle.cursor.specs.declared.item.NumberStep.{NumberStep}
 use Rattle.cursor.specs.declared.item.Number.the-variants.{Is, Refused}
-use Rattle.cursor.specs.Item.{numberOf, span, numberStep, varuintAt, Fair, cut, malformed, past}
+use Rattle.cursor.specs.Item.{fixedNumber, spanItem, numberStep, varuintAt, Fair, cut, malformed, past}
 
 module _ (p : List ℕ) (from : ℕ) where
   -- ---- VarUInts
@@ -34,21 +34,21 @@ module _ (p : List ℕ) (from : ℕ) where
 
   -- ---- numbers
 
-  number-is : (n : ℕ) → n ≤ length p - from → numberOf n (cursorAt p from) ≡ seen (little (take n (drop from p))) (cursorAt p (from + n))
-  unfolding numberOf andThen
+  number-is : (n : ℕ) → n ≤ length p - from → fixedNumber n (cursorAt p from) ≡ seen (little (take n (drop from p))) (cursorAt p (from + n))
+  unfolding fixedNumber andThen
   number-is n h = rw (block-here p from n h)
 
-  pub number-cut : (n : ℕ) → length p - from < n → numberOf n (cursorAt p from) ≡ refused 20 from
-  unfolding numberOf andThen
+  pub number-cut : (n : ℕ) → length p - from < n → fixedNumber n (cursorAt p from) ≡ refused 20 from
+  unfolding fixedNumber andThen
   number-cut n h = rw (block-short p from n h)
 
-  pub number-step : (w n v : ℕ) → n ≡ w → n ≤ length p - from → v ≡ little (take n (drop from p)) → record { item = Is v; next = from + n } ≡ numberStep from (numberOf w (cursorAt p from))
+  pub number-step : (w n v : ℕ) → n ≡ w → n ≤ length p - from → v ≡ little (take n (drop from p)) → record { item = Is v; next = from + n } ≡ numberStep from (fixedNumber w (cursorAt p from))
   number-step w n v e h k = rw (← e, number-is n h, k)
 
-  pub number-fair : (n : ℕ) → 0 < n → Fair p from (numberOf n (cursorAt p from))
+  pub number-fair : (n : ℕ) → 0 < n → Fair p from (fixedNumber n (cursorAt p from))
   number-fair n z = go (leb n (length p - from)) refl
     where
-      go : (b : Bool) → leb n (length p - from) ≡ b → Fair p from (numberOf n (cursorAt p from))
+      go : (b : Bool) → leb n (length p - from) ≡ b → Fair p from (fixedNumber n (cursorAt p from))
       go true e =
           let l = leb-true n (length p - from) e in
           rw (number-is n l) (past {next = from + n} (omega arith) (omega arith))
@@ -85,18 +85,18 @@ module _ (p : List ℕ) (from : ℕ) where
 
   -- ---- spans
 
-  pub span-refused : (n q : ℕ) → count 1 (cursorAt p from) ≡ refused n q → span (cursorAt p from) ≡ refused n q
-  unfolding span andThen
+  pub span-refused : (n q : ℕ) → count 1 (cursorAt p from) ≡ refused n q → spanItem (cursorAt p from) ≡ refused n q
+  unfolding spanItem andThen
   span-refused n q e = rw e
 
-  pub span-here : (n start : ℕ) → count 1 (cursorAt p from) ≡ seen n (cursorAt p start) → n ≤ length p - start → span (cursorAt p from) ≡ seen (record { place = start; size = n }) (cursorAt p (start + n))
-  unfolding span andThen
+  pub span-here : (n start : ℕ) → count 1 (cursorAt p from) ≡ seen n (cursorAt p start) → n ≤ length p - start → spanItem (cursorAt p from) ≡ seen (record { place = start; size = n }) (cursorAt p (start + n))
+  unfolding spanItem andThen
   span-here n start e h = rw (e, block-here p start n h)
 
-  pub span-fair : Fair p from (span (cursorAt p from))
+  pub span-fair : Fair p from (spanItem (cursorAt p from))
   span-fair = go (count 1 (cursorAt p from)) refl count-sized
     where
-      go : (a : Answer ℕ) → count 1 (cursorAt p from) ≡ a → Sized p from a → Fair p from (span (cursorAt p from))
+      go : (a : Answer ℕ) → count 1 (cursorAt p from) ≡ a → Sized p from a → Fair p from (spanItem (cursorAt p from))
       go a e large = rw (span-refused _ _ e) cut
       go a e broken = rw (span-refused _ _ e) malformed
       go a e (room {n} {start} l m) = rw (span-here n start e (omega arith)) (past {next = start + n} (omega arith) m)
@@ -114,7 +114,7 @@ step-seen p from a v (past {a = w} {next} l m) e = ap (λ (x : ℕ). seen x (cur
 
 -- A span, by the step over its length.
 module _ (p : List ℕ) (from : ℕ) (step : NumberStep) (over : step ≡ varuintAt p from) where
-  pub refused-span : (n q : ℕ) → step .item ≡ Refused n q → span (cursorAt p from) ≡ refused n q
+  pub refused-span : (n q : ℕ) → step .item ≡ Refused n q → spanItem (cursorAt p from) ≡ refused n q
   refused-span n q e = span-refused p from n q (count-stops p from 1 n q (step-refused from _ n q (ap (λ (s : NumberStep). s .item) (sym over) ∙ e)))
 
   module _ (v : ℕ) (is : step .item ≡ Is v) where
@@ -123,8 +123,8 @@ module _ (p : List ℕ) (from : ℕ) (step : NumberStep) (over : step ≡ varuin
         step-seen p from _ v (varuint-fair p from) (ap (λ (s : NumberStep). s .item) (sym over) ∙ is)
         ∙ ap (λ (s : NumberStep). seen v (cursorAt p (s .next))) (sym over)
 
-    pub long-span : length p - step .next < v → span (cursorAt p from) ≡ refused 20 from
+    pub long-span : length p - step .next < v → spanItem (cursorAt p from) ≡ refused 20 from
     long-span h = span-refused p from 20 from (count-short p from 1 v (step .next) length-seen (omega arith))
 
-    pub whole-span : v ≤ length p - step .next → span (cursorAt p from) ≡ seen (record { place = step .next; size = v }) (cursorAt p (step .next + v))
+    pub whole-span : v ≤ length p - step .next → spanItem (cursorAt p from) ≡ seen (record { place = step .next; size = v }) (cursorAt p (step .next + v))
     whole-span h = span-here p from v (step .next) (count-here p from 1 v (step .next) length-seen (omega arith)) h

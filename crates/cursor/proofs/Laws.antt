@@ -17,7 +17,7 @@ use Rattle.value.specs.Read.{plain, own}
 use Rattle.cursor.specs.declared.Reader.{Reader as Lent}
 use Rattle.cursor.specs.declared.item.Number.the-variants as Number
 use Rattle.cursor.specs.declared.item.Span.the-variants as Span
-use Rattle.cursor.specs.Item.{Content, contentOf, numberOf, numberStep, spanStep, varuintAt, spanAt, Fair, cut, malformed, past}
+use Rattle.cursor.specs.Item.{ContentSpan, contentOf, fixedNumber, numberStep, spanStep, varuintAt, spanAt, Fair, cut, malformed, past}
 use Rattle.cursor.specs.Lent.{standing}
 use Rattle.cursor.proofs.Items.{step-seen, whole-span}
 
@@ -32,7 +32,7 @@ module _ (p : List ℕ) (from : ℕ) where
   number-within a malformed h = (omega arith, h)
   number-within a (past l m) h = (omega arith, m)
 
-  pub span-within : (a : Answer Content) → Fair p from a → from ≤ length p → (from ≤ spanStep from a .next) × (spanStep from a .next ≤ length p)
+  pub span-within : (a : Answer ContentSpan) → Fair p from a → from ≤ length p → (from ≤ spanStep from a .next) × (spanStep from a .next ≤ length p)
   span-within a cut h = (omega arith, h)
   span-within a malformed h = (omega arith, h)
   span-within a (past l m) h = (omega arith, m)
@@ -43,7 +43,7 @@ module _ (p : List ℕ) (from : ℕ) where
   number-refusal a malformed n q e = (inr cc, cc, refl)
   number-refusal a (past l m) n q e = differ cc
 
-  pub span-refusal : (a : Answer Content) → Fair p from a → (n q : ℕ) → spanStep from a .item ≡ Span.Refused n q → ((n ≡ 20) ⊎ (n ≡ 21)) × (q ≡ from) × (spanStep from a .next ≡ from)
+  pub span-refusal : (a : Answer ContentSpan) → Fair p from a → (n q : ℕ) → spanStep from a .item ≡ Span.Refused n q → ((n ≡ 20) ⊎ (n ≡ 21)) × (q ≡ from) × (spanStep from a .next ≡ from)
   span-refusal a cut n q e = (inl cc, cc, refl)
   span-refusal a malformed n q e = (inr cc, cc, refl)
   span-refusal a (past l m) n q e = differ cc
@@ -53,7 +53,7 @@ module _ (p : List ℕ) (from : ℕ) where
   unfolding andThen
   number-turn a w v e f = ap (λ (x : Answer ℕ). andThen x f) (step-seen p from a v w e)
 
-  pub span-turn : {B : Type 0} (a : Answer Content) → Fair p from a → (place size : ℕ) → spanStep from a .item ≡ Span.At place size → (f : Content → Reader B)
+  pub span-turn : {B : Type 0} (a : Answer ContentSpan) → Fair p from a → (place size : ℕ) → spanStep from a .item ≡ Span.At place size → (f : ContentSpan → Reader B)
       → andThen a f ≡ f (record { place = place; size = size }) (cursorAt p (spanStep from a .next))
   unfolding andThen
   span-turn a cut place size e f = differ cc
@@ -69,8 +69,8 @@ module _ (p : List ℕ) (from : ℕ) where
   span-by-turns v e h = ap (spanStep from) (whole-span p from (varuintAt p from) refl v e h)
 
 -- The number of a scalar's width is that of the scalar's content.
-pub scalar-number : (kind : ℕ) (c : Cursor) → (kind ≡ 1 → ⊥) → numberOf (width kind) c ≡ andThen (own (scalar kind) c) (λ o c. seen (little (contentOf o)) c)
-unfolding numberOf andThen check
+pub scalar-number : (kind : ℕ) (c : Cursor) → (kind ≡ 1 → ⊥) → fixedNumber (width kind) c ≡ andThen (own (scalar kind) c) (λ o c. seen (little (contentOf o)) c)
+unfolding fixedNumber andThen check
 scalar-number kind c k = go (block (width kind) c)
   where
     go : (a : Answer (List ℕ)) → andThen a (λ x c. seen (little x) c) ≡ andThen (andThen a (λ x c′. andThen (check (not (eqb kind 1) || ltb (little x) 2) 22 (c .at) c′) (λ _ c. seen (plain x) c))) (λ o c. seen (little (contentOf o)) c)

@@ -15,7 +15,7 @@ use Rattle.schema.specs.Table.{text}
 use Rattle.value.specs.Read.{own}
 use Rattle.cursor.specs.declared.item.Span.{Span}
 use Rattle.cursor.specs.declared.item.Span.the-variants.{At, Refused}
-use Rattle.cursor.specs.Item.{Content, span, spanStep, spanAt, checked, judged, textSpan, textAt}
+use Rattle.cursor.specs.Item.{ContentSpan, spanItem, spanStep, spanAt, contentChecked, contentJudged, textSpan, textFrom}
 use Rattle.cursor.proofs.Items.{Sized, large, broken, room, count-sized, span-refused, span-here}
 
 module _ (p : List ℕ) where
@@ -25,32 +25,32 @@ module _ (p : List ℕ) where
     text-refused kind n q e = rw e
 
     text-here : (kind n start : ℕ) → count 1 (cursorAt p from) ≡ seen n (cursorAt p start) → n ≤ length p - start
-        → own (text kind) (cursorAt p from) ≡ judged p kind (record { place = start; size = n }) (cursorAt p (start + n))
+        → own (text kind) (cursorAt p from) ≡ contentJudged p kind (record { place = start; size = n }) (cursorAt p (start + n))
     unfolding andThen
     text-here kind n start e h = rw (e, block-here p start n h)
 
     -- A string or bytes, as the payload reader reads them: the span, and for a string its UTF-8, refused at the content's start.
-    pub text-by-span : (kind : ℕ) → own (text kind) (cursorAt p from) ≡ andThen (span (cursorAt p from)) (judged p kind)
+    pub text-by-span : (kind : ℕ) → own (text kind) (cursorAt p from) ≡ andThen (spanItem (cursorAt p from)) (contentJudged p kind)
     unfolding andThen
     text-by-span kind = go (count 1 (cursorAt p from)) refl (count-sized p from)
       where
-        go : (a : Answer ℕ) → count 1 (cursorAt p from) ≡ a → Sized p from a → own (text kind) (cursorAt p from) ≡ andThen (span (cursorAt p from)) (judged p kind)
-        go a e large = text-refused kind 20 from e ∙ ap (λ (x : Answer Content). andThen x (judged p kind)) (sym (span-refused p from 20 from e))
-        go a e broken = text-refused kind 21 from e ∙ ap (λ (x : Answer Content). andThen x (judged p kind)) (sym (span-refused p from 21 from e))
+        go : (a : Answer ℕ) → count 1 (cursorAt p from) ≡ a → Sized p from a → own (text kind) (cursorAt p from) ≡ andThen (spanItem (cursorAt p from)) (contentJudged p kind)
+        go a e large = text-refused kind 20 from e ∙ ap (λ (x : Answer ContentSpan). andThen x (contentJudged p kind)) (sym (span-refused p from 20 from e))
+        go a e broken = text-refused kind 21 from e ∙ ap (λ (x : Answer ContentSpan). andThen x (contentJudged p kind)) (sym (span-refused p from 21 from e))
         go a e (room {n} {start} l m) =
             let h : n ≤ length p - start = omega arith in
-            text-here kind n start e h ∙ ap (λ (x : Answer Content). andThen x (judged p kind)) (sym (span-here p from n start e h))
+            text-here kind n start e h ∙ ap (λ (x : Answer ContentSpan). andThen x (contentJudged p kind)) (sym (span-here p from n start e h))
 
     -- The span that was found.
     module _ (found : Span) (is : found ≡ spanAt p from .item) where
       -- of the answer a it is the item
-      item-of : (a : Answer Content) → span (cursorAt p from) ≡ a → spanStep from a .item ≡ found
-      item-of a e = ap (λ (x : Answer Content). spanStep from x .item) (sym e) ∙ sym is
+      item-of : (a : Answer ContentSpan) → spanItem (cursorAt p from) ≡ a → spanStep from a .item ≡ found
+      item-of a e = ap (λ (x : Answer ContentSpan). spanStep from x .item) (sym e) ∙ sym is
 
-      pub text-none : (n q : ℕ) → found ≡ Refused n q → Refused n q ≡ textAt p from
+      pub text-none : (n q : ℕ) → found ≡ Refused n q → Refused n q ≡ textFrom p from
       text-none n q e = go (count 1 (cursorAt p from)) refl (count-sized p from)
         where
-          go : (a : Answer ℕ) → count 1 (cursorAt p from) ≡ a → Sized p from a → Refused n q ≡ textAt p from
+          go : (a : Answer ℕ) → count 1 (cursorAt p from) ≡ a → Sized p from a → Refused n q ≡ textFrom p from
           go a k large = sym (item-of _ (span-refused p from 20 from k) ∙ e) ∙ ap textSpan (sym (text-refused 12 20 from k))
           go a k broken = sym (item-of _ (span-refused p from 21 from k) ∙ e) ∙ ap textSpan (sym (text-refused 12 21 from k))
           go a k (room {n = v} {start} l m) =
@@ -82,20 +82,20 @@ module _ (p : List ℕ) where
         abbrev content : List ℕ
         content = take size (drop place p)
 
-        text-judged : (b r : Bool) → b ≡ utf8 (slice place (place + size) p) → b ≡ r → own (text 12) (cursorAt p from) ≡ checked r place content (cursorAt p (place + size))
+        text-judged : (b r : Bool) → b ≡ utf8 (slice place (place + size) p) → b ≡ r → own (text 12) (cursorAt p from) ≡ contentChecked r place content (cursorAt p (place + size))
         text-judged b r k f =
             let i = span-inside in
             let t : length (take place p) ≡ place = length-take-le place p (omega arith) in
             let s : slice place (place + size) p ≡ content = ap (drop place) (take-add place size p) ∙ ap (λ (j : ℕ). drop j (take place p ++ content)) (sym t) ∙ drop-append-seam (take place p) content in
             let h : size ≤ length p - place = omega arith in
-            text-here 12 size place (span-known .0) h ∙ ap (λ (g : Bool). checked g place content (cursorAt p (place + size))) (sym (k ∙ ap utf8 s) ∙ f)
+            text-here 12 size place (span-known .0) h ∙ ap (λ (g : Bool). contentChecked g place content (cursorAt p (place + size))) (sym (k ∙ ap utf8 s) ∙ f)
 
         module _ (b : Bool) (k : b ≡ utf8 (slice place (place + size) p)) where
-          pub text-bad : not b ≡ true → Refused 23 place ≡ textAt p from
+          pub text-bad : not b ≡ true → Refused 23 place ≡ textFrom p from
           unfolding andThen check
           text-bad f = ap textSpan (sym (text-judged b false k (not-true b f)))
 
-          pub text-good : not b ≡ false → At place size ≡ textAt p from
+          pub text-good : not b ≡ false → At place size ≡ textFrom p from
           unfolding andThen check
           text-good f =
               let i = span-inside in

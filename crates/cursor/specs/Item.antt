@@ -18,30 +18,30 @@ use Rattle.cursor.specs.declared.item.NumberStep.{NumberStep}
 use Rattle.cursor.specs.declared.item.SpanStep.{SpanStep}
 
 -- How many bytes a width has.
-abbrev pub bytesOf : Width → ℕ
-bytesOf One = 1
-bytesOf Two = 2
-bytesOf Four = 4
-bytesOf Eight = 8
+abbrev pub widthBytes : Width → ℕ
+widthBytes One = 1
+widthBytes Two = 2
+widthBytes Four = 4
+widthBytes Eight = 8
 
 -- A number of n bytes, the lowest first.
-unfoldable pub numberOf : ℕ → Reader ℕ
-numberOf n = do
+unfoldable pub fixedNumber : ℕ → Reader ℕ
+fixedNumber n = do
   x ← block n
   return (little x)
 
 -- Where a content stands, and how many bytes it has.
-pub record Content : Type 0 where
+pub record ContentSpan : Type 0 where
   pub place : ℕ
   pub size : ℕ
 
 -- Its bytes, in a payload.
-abbrev pub bytesIn : List ℕ → Content → List ℕ
-bytesIn p s = take (s .size) (drop (s .place) p)
+abbrev pub contentBytes : List ℕ → ContentSpan → List ℕ
+contentBytes p s = take (s .size) (drop (s .place) p)
 
 -- A span, as strings and bytes have it: a length, and a content of that many bytes.
-unfoldable pub span : Reader Content
-span = do
+unfoldable pub spanItem : Reader ContentSpan
+spanItem = do
   n ← count 1
   at λ start. do
     x ← block n
@@ -52,7 +52,7 @@ abbrev pub numberStep : ℕ → Answer ℕ → NumberStep
 numberStep from (refused n p) = record { item = Number.Refused n p; next = from }
 numberStep from (seen v c) = record { item = Number.Is v; next = c .at }
 
-abbrev pub spanStep : ℕ → Answer Content → SpanStep
+abbrev pub spanStep : ℕ → Answer ContentSpan → SpanStep
 spanStep from (refused n p) = record { item = Span′.Refused n p; next = from }
 spanStep from (seen s c) = record { item = Span′.At (s .place) (s .size); next = c .at }
 
@@ -61,10 +61,10 @@ abbrev pub varuintAt : List ℕ → ℕ → NumberStep
 varuintAt p from = numberStep from (varUInt (cursorAt p from))
 
 abbrev pub fixedNumberAt : Width → List ℕ → ℕ → NumberStep
-fixedNumberAt width p from = numberStep from (numberOf (bytesOf width) (cursorAt p from))
+fixedNumberAt width p from = numberStep from (fixedNumber (widthBytes width) (cursorAt p from))
 
 abbrev pub spanAt : List ℕ → ℕ → SpanStep
-spanAt p from = spanStep from (span (cursorAt p from))
+spanAt p from = spanStep from (spanItem (cursorAt p from))
 
 -- The answer to an item at a place: 20 or 21 at the place itself, or what was read, with the cursor at a later place of the payload.
 pub data Fair {A : Type 0} (p : List ℕ) (from : ℕ) : Answer A → Type 0 where
@@ -73,11 +73,11 @@ pub data Fair {A : Type 0} (p : List ℕ) (from : ℕ) : Answer A → Type 0 whe
   past : {a : A} {next : ℕ} → from < next → next ≤ length p → Fair p from (seen a (cursorAt p next))
 
 -- A content x at a place, refused with 23 where the test fails; for a string the test is that it is UTF-8.
-abbrev pub checked : Bool → (place : ℕ) → List ℕ → Reader Own
-checked good place x c = andThen (check good 23 place c) (λ _ c. seen (plain x) c)
+abbrev pub contentChecked : Bool → (place : ℕ) → List ℕ → Reader Own
+contentChecked good place x c = andThen (check good 23 place c) (λ _ c. seen (plain x) c)
 
-abbrev pub judged : (payload : List ℕ) (kind : ℕ) → Content → Reader Own
-judged p kind s c = checked (not (eqb kind 12) || utf8 (bytesIn p s)) (s .place) (bytesIn p s) c
+abbrev pub contentJudged : (payload : List ℕ) (kind : ℕ) → ContentSpan → Reader Own
+contentJudged p kind s c = contentChecked (not (eqb kind 12) || utf8 (contentBytes p s)) (s .place) (contentBytes p s) c
 
 -- The content of a leaf. (A leaf has no parts.)
 abbrev pub contentOf : Own → List ℕ
@@ -91,5 +91,5 @@ textSpan (seen (plain x) c) = Span′.At (c .at - length x) (length x)
 textSpan (seen (parts start head) c) = Span′.At start 0
 
 -- The string at a place, by the payload reader's own rule.
-abbrev pub textAt : List ℕ → ℕ → Span
-textAt p from = textSpan (own (text 12) (cursorAt p from))
+abbrev pub textFrom : List ℕ → ℕ → Span
+textFrom p from = textSpan (own (text 12) (cursorAt p from))

@@ -6,7 +6,7 @@ use wire::varuint::VarUInt;
 ghost use mathlib.Core.Path.{_≡_};
 ghost use Prim.Native.Nat.{_-_, _≤_, _<_};
 ghost use lib.ListN.{length};
-ghost use Rattle.cursor.specs.Item.{bytesOf, varuintAt, fixedNumberAt, spanAt};
+ghost use Rattle.cursor.specs.Item.{widthBytes, varuintAt, fixedNumberAt, spanAt};
 
 // A number's width in bytes: 1, 2, 4 or 8.
 pub enum Width {
@@ -77,7 +77,7 @@ pub fn varuint_at(payload: &[u8], at: usize) -> NumberStep
 
 // How many bytes a width has.
 fn bytes_of(width: Width) -> usize
-    ensures { λ r. ⌜ (r ≡ bytesOf width) × (0 < r) × (r ≤ 8) ⌝ }
+    ensures { λ r. ⌜ (r ≡ widthBytes width) × (0 < r) × (r ≤ 8) ⌝ }
 {
     match width {
         Width::One => 1,

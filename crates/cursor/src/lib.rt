@@ -9,7 +9,7 @@ use wire::utf8;
 ghost use mathlib.Core.Path.{_≡_};
 ghost use Prim.Native.Nat.{_-_};
 ghost use lib.ListN.{length};
-ghost use Rattle.cursor.specs.Item.{varuintAt, fixedNumberAt, spanAt, textAt};
+ghost use Rattle.cursor.specs.Item.{varuintAt, fixedNumberAt, spanAt, textFrom};
 ghost use Rattle.cursor.specs.Lent.{on, movedTo};
 
 // The payload and the position in it. Beyond the payload's end nothing is left.
@@ -72,7 +72,7 @@ pub fn span_from(payload: &[u8], at: usize) -> Span
 
 // The string at a place: a span whose content is UTF-8.
 pub fn text_from(payload: &[u8], at: usize) -> Span
-    ensures { λ s. ⌜ s ≡ textAt (now (payload .entry)) at ⌝ }
+    ensures { λ s. ⌜ s ≡ textFrom (now (payload .entry)) at ⌝ }
 {
     let found = span_from(payload, at);
     match found {

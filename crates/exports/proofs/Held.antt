@@ -21,14 +21,14 @@ use Rattle.calls.specs.declared.Tally.{Tally}
 use Rattle.calls.specs.Numbers.{endsCall}
 use Rattle.calls.specs.Record.{emptyCall}
 use Rattle.calls.specs.Slots.{slot, freshTable}
-use Rattle.calls.specs.Good.{GoodTable}
+use Rattle.calls.specs.Good.{GoodCalls}
 use Rattle.calls.proofs.Goodness.{good-clauses}
 use Rattle.calls.proofs.Kept.{test-stays, release-test}
 use Rattle.calls.proofs.Limits.{FewIn, few-stays, few-released}
 use Rattle.receiver.specs.Answer.{Effect, effect, stopped}
 use Rattle.receiver.specs.Receive.{received}
 use Rattle.receiver.specs.Release.{ReleaseEffect, releaseEffect, releaseAnswer, released}
-use Rattle.receiver.specs.Run.{Event, input, release, State, stateAfter, runFrom}
+use Rattle.receiver.specs.Run.{Event, input, release, State, stateAfter, stateFrom}
 use Rattle.receiver.proofs.Kept.{holds, same-length, same-rows, release-holds, release-length, release-rows}
 use Rattle.receiver.proofs.Answers.{refused-untouched as sheet-kept, refused-rows as rows-kept}
 use Rattle.receiver.proofs.Records.{refused-kept}
@@ -319,7 +319,7 @@ refused-slots Good l = refl
 refused-slots (Faulty n q) l = refl
 
 -- A good call table of a good schema table has few methods, and no call that was read has more elements than a cell holds.
-good-fits : (T : Table) (l : List Call) → length (T .methods) ≤ 256 → GoodTable T l → FewIn 65535 l → CallsFit l
+good-fits : (T : Table) (l : List Call) → length (T .methods) ≤ 256 → GoodCalls T l → FewIn 65535 l → CallsFit l
 good-fits T l few g h i =
     ⊎-elim
     (λ e. record { method = omega (arith, few, g .calls i e .methodExists); inputs = omega (arith, h i .inputs); outputs = omega (arith, h i .outputs) })
@@ -559,20 +559,20 @@ module _ (s : List ℕ) (start : Cells) (w : AreCalls (start .table)) where
       let rows = left-rows-held (c .table) s id (c .tallies) ∙ ap (λ (a : ReleaseEffect). a .tallies) (release-judged (c .table) s id (c .tallies) t) in
       λ k. record { calls = slots k; tallies = rows k }
 
-  pub run-held : (es : List Event) → stateOf (runCells s start es) ≡ runFrom s (stateOf start) es
-  unfolding runCells runFrom
+  pub run-held : (es : List Event) → stateOf (runCells s start es) ≡ stateFrom s (stateOf start) es
+  unfolding runCells stateFrom
   run-held [] = refl
   run-held (e ∷ es) = event-held e (runCells s start es) (run-calls es) ∙ ap (stateAfter s e) (run-held es)
 
   -- So each answer is the one that `arf::receive` gives over the table and the rows themselves,
-  pub answer-held : (es : List Event) (side : ℕ) (bytes sheet : List ℕ) → let c = runCells s start es in let st = runFrom s (stateOf start) es in
+  pub answer-held : (es : List Event) (side : ℕ) (bytes sheet : List ℕ) → let c = runCells s start es in let st = stateFrom s (stateOf start) es in
       receiving (c .table) s side bytes sheet (c .tallies) ≡ received s side bytes sheet (st .tallies) (st .calls)
   answer-held es side bytes sheet =
       let c = runCells s start es in
       table-judged (c .table) s side bytes sheet (c .tallies) (run-calls es) ∙ ap (λ (st : State). received s side bytes sheet (st .tallies) (st .calls)) (run-held es)
 
   -- or `arf::release`.
-  pub reply-held : (es : List Event) (id : ℕ) → let c = runCells s start es in let st = runFrom s (stateOf start) es in
+  pub reply-held : (es : List Event) (id : ℕ) → let c = runCells s start es in let st = stateFrom s (stateOf start) es in
       releasing (c .table) s id (c .tallies) ≡ released s (st .calls) id (st .tallies)
   reply-held es id =
       let c = runCells s start es in

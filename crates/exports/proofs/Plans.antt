@@ -18,7 +18,7 @@ use Rattle.calls.specs.declared.Call.{Call}
 use Rattle.calls.specs.declared.Change.{Change}
 use Rattle.calls.specs.declared.Judged.{Judged}
 use Rattle.calls.specs.declared.Judged.the-variants.{Refused as JudgedRefused}
-use Rattle.calls.specs.Step.{numberOf, slotsAfter, Changes, stepOf}
+use Rattle.calls.specs.Step.{numberAfter, slotsAfter, Changes, stepOf}
 use Rattle.calls.specs.Slots.{goodTable, countOpen}
 use Rattle.calls.specs.Judge.{judgeRelease}
 use Rattle.calls.specs.Counting.{releaseRise}
@@ -30,9 +30,9 @@ use Rattle.receiver.specs.declared.Next.the-variants.{Refused as NextRefused}
 use Rattle.receiver.specs.Answer.{usedOf, answerIn}
 use Rattle.receiver.specs.Planning.{onGood, onCalls, stopPlan, judgedPlan, tablesFault, callPlan, goodPlan, planOf, releasePlan, Fitted}
 use Rattle.receiver.proofs.Returns.{checkedPlan, checked-fitted, plan-faulty, plan-good, calls-fault, calls-right, call-planned}
-use Rattle.exports.specs.Records.{recordCells, marksOf, cellsOf, callsOf, areCalls, AreCalls}
+use Rattle.exports.specs.Records.{recordCells, marksOf, cellsOf, callsOf, CountsOpen, areCalls, AreCalls}
 use Rattle.exports.specs.Cells.{stored}
-use Rattle.exports.specs.Answers.{refusedPlan, keptOf, callCells, Stops}
+use Rattle.exports.specs.Answers.{refusedPlan, keptOf, callCells, RefusedCells}
 use Rattle.exports.proofs.Tables.{calls-long}
 use Rattle.exports.proofs.Held.{are-calls-iff, cells-kept, cells-long, stored-whole}
 
@@ -60,10 +60,10 @@ module _ (cells schema : List ℕ) (rows : ℕ) where
     known-plan false = refused-checked (checked schema)
 
     -- the frame's plan lies in the bytes
-    pub cells-plan : (r : Plan) → r ≡ checkedPlan schema (goodPlan goodCells rows T side bytes l)
-        → (r ≡ cond (areCalls cells) (planOf schema side bytes rows l) (refusedPlan (checked schema))) × Fitted schema bytes (r .next)
-    cells-plan r e =
-        (e ∙ sym (known-plan (areCalls cells)), subst (λ (x : Plan). Fitted schema bytes (x .next)) (sym e) (checked-fitted schema goodCells rows side bytes l))
+    pub cells-plan : (r : Plan) → r ≡ checkedPlan schema (goodPlan goodCells rows T side bytes l) → {k : ℕ} → CountsOpen cells k
+        → (r ≡ cond (areCalls cells) (planOf schema side bytes rows l) (refusedPlan (checked schema))) × (Fitted schema bytes (r .next) × CountsOpen cells k)
+    cells-plan r e n =
+        (e ∙ sym (known-plan (areCalls cells)), (subst (λ (x : Plan). Fitted schema bytes (x .next)) (sym e) (checked-fitted schema goodCells rows side bytes l), n))
 
   module _ (id : ℕ) where
     abbrev release : Plan
@@ -173,9 +173,9 @@ module _ (cells : List ℕ) (d : Done) where
   abbrev n : ℕ
   n = numbers (d .reading) .number
 
-  module _ (payload number : ℕ) (change : Change) (is : payload ≡ n) (num : number ≡ numberOf J payload) (ch : Changes J payload change) where
-    number-is : number ≡ numberOf J n
-    number-is = num ∙ ap (numberOf J) is
+  module _ (payload number : ℕ) (change : Change) (is : payload ≡ n) (num : number ≡ numberAfter J payload) (ch : Changes J payload change) where
+    number-is : number ≡ numberAfter J n
+    number-is = num ∙ ap (numberAfter J) is
 
     after-is : set slots (change .slot) (change .call) ≡ slotsAfter J n slots
     after-is = ch .after slots (calls-long cells 0 128) ∙ ap (λ (k : ℕ). slotsAfter J k slots) is
@@ -184,11 +184,11 @@ module _ (cells : List ℕ) (d : Done) where
         → record { number = number; used = used; «open» = calls } ≡ keptOf (answerIn d slots)
     unfolding stepOf
     answer-kept used calls u o =
-        let a : used ≡ usedOf (numberOf J n) (d .size) = u ∙ ap (λ (k : ℕ). usedOf k (d .size)) number-is in
+        let a : used ≡ usedOf (numberAfter J n) (d .size) = u ∙ ap (λ (k : ℕ). usedOf k (d .size)) number-is in
         let b : calls ≡ countOpen (slotsAfter J n slots) = o ∙ ap countOpen after-is in
         λ i. record { number = number-is i; used = a i; «open» = b i }
 
-    pub answer-table : Stops cells J
+    pub answer-table : RefusedCells cells J
         → cond (ltb (change .slot) 128) (sets cells (3 * change .slot) (recordCells (change .call))) cells ≡ callCells cells (answerIn d slots .table .slots)
     unfolding stepOf
     answer-table f = go (areCalls cells) refl

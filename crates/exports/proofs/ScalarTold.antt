@@ -22,13 +22,13 @@ use Rattle.schema.specs.Table.{Shape, unknown, scalar, text, array, map, struct
 use Rattle.schema.specs.File.{tableOf}
 use Rattle.schema.specs.Check.{checked}
 use Rattle.schema.proofs.Bools.{cases}
-use Rattle.schema.proofs.Listed.{listed, listed-bounds}
+use Rattle.schema.proofs.Numbered.{listed, listed-bounds}
 use Rattle.value.specs.declared.Row.{Row}
 use Rattle.scalar.specs.declared.Scalar.{Scalar}
 use Rattle.scalar.specs.declared.Scalar.the-variants.{Truth, Signed, Unsigned, Float32, Float64, Span}
 use Rattle.scalar.specs.declared.Answer.{Answer}
 use Rattle.scalar.specs.declared.Answer.the-variants.{Is, Refused}
-use Rattle.scalar.specs.Scalar.{valueOf, textAt, byShape, scalarOf, afterTable, scalarBy, numberOf, scalarAt}
+use Rattle.scalar.specs.Scalar.{valueOf, textAt, byShape, scalarOf, afterTable, scalarBy, scalarNumber, scalarAt}
 use Rattle.scalar.proofs.Widths.{width-bounds}
 use Rattle.exports.specs.Answers.{bitsOf, scalarCells}
 use Rattle.exports.specs.Told.{scalarTold}
@@ -148,11 +148,11 @@ module _ (schema : List ℕ) (r : Row) (bytes : List ℕ) (h : (i : ℕ) → get
       go (check.Refused n q) e = refuses {n = n} (omega (arith, listed-bounds (tableOf schema) (listed schema n q e) .0))
 
   -- The number and the cells determine the answer, for bytes below 256.
-  pub scalar-entry : let a = scalarBy schema r bytes in scalarTold (numberOf a) (scalarCells a) ≡ a
-  unfolding numberOf
+  pub scalar-entry : let a = scalarBy schema r bytes in scalarTold (scalarNumber a) (scalarCells a) ≡ a
+  unfolding scalarNumber
   scalar-entry = go row-told
     where
-      go : {a : Answer} → Told a → scalarTold (numberOf a) (scalarCells a) ≡ a
+      go : {a : Answer} → Told a → scalarTold (scalarNumber a) (scalarCells a) ≡ a
       go (is {x = x} s) = value-told x s
       go (refuses {n = zero} l) = absurd (omega arith)
       go (refuses {n = suc n} l) = refl

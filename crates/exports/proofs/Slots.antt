@@ -1,12 +1,12 @@
 -- The slots of the call table in cells: the record at each, searches, the count of open calls, and the loop that tests whether the table is good.
 use mathlib.Core.Path.{_≡_, refl, sym, ap, subst, _∙_}
 use mathlib.Core.Bool.{Bool, true, false, cond, _&&_, _||_}
-use mathlib.Core.List.{List, [], _∷_}
+use mathlib.Core.List.{List, [], _∷_, append-nil}
 use Prim.Native.Nat.{ℕ, zero, suc, _+_, _-_, _*_, _%_, _≤_, _<_}
 use native.Mathlib.Omega.{arith}
 use lib.Dec.{eqb, ltb}
 use lib.ListN.{length, getD, drop, take, set}
-use lib.Seq.{getD-take, set-out}
+use lib.Seq.{getD-take, length-take-le, set-out}
 use borrow.Author.Tests.{eq-eqb, ne-eqb, eqb-true, ltb-true, ltb-false, le-ltb}
 use Rattle.schema.proofs.Bools.{and-left, and-right}
 use Rattle.schema.specs.declared.Found.the-variants.{At, Missing}
@@ -14,9 +14,9 @@ use Rattle.schema.specs.Table.{Table}
 use Rattle.calls.specs.declared.Call.{Call}
 use Rattle.calls.specs.declared.FormRow.{FormRow}
 use Rattle.calls.specs.Record.{emptyCall, goodOpen}
-use Rattle.calls.specs.Slots.{slot, firstSlot, countOpen, goodCall, goodTable, distinct, formRow}
+use Rattle.calls.specs.Slots.{slot, firstSlot, countOpen, goodCall, goodTable, openIds, distinct, formRow}
 use Rattle.calls.proofs.Scan.{rest-step, rest-end, first-here, first-next, first-none, Gathered, gathered-none, gathered-bad, gathered-open, gathered-free, gathered-end}
-use Rattle.exports.specs.Records.{callOf, callAt, callsFrom, callsOf, plain, plainFrom, areCalls}
+use Rattle.exports.specs.Records.{callOf, callAt, callsFrom, callsOf, CountsOpen, plain, plainFrom, areCalls}
 use Rattle.exports.proofs.Tables.{calls-long, too-few, plain-here, plain-next, plain-end}
 
 -- ---- the record at a slot
@@ -152,6 +152,14 @@ abbrev pub tested : Table → List ℕ → ℕ → Bool
 tested T cells i =
     plain (getD cells (3 * i + 1) 0) (getD cells (3 * i + 2) 0) && goodCall T (callOf (getD cells (3 * i) 0) (getD cells (3 * i + 1) 0) (getD cells (3 * i + 2) 0))
 
+ids-counted : (l : List Call) → length (openIds l) ≡ countOpen l
+ids-counted [] = refl
+ids-counted (x ∷ xs) = go (x .«open») (ids-counted xs)
+  where
+    go : (b : Bool) → length (openIds xs) ≡ countOpen xs → length (cond b (x .correlation ∷ openIds xs) (openIds xs)) ≡ cond b (suc (countOpen xs)) (countOpen xs)
+    go true e = ap suc e
+    go false e = e
+
 pub record Passed (T : Table) (cells ids : List ℕ) (n i : ℕ) : Type 0 where
   pub enough : 384 ≤ length cells
   pub plains : plainFrom cells 0 128 ≡ plainFrom cells i (128 - i)
@@ -210,6 +218,14 @@ module _ (T : Table) (cells ids : List ℕ) (n i : ℕ) (w : Passed T cells ids 
   passed-end e =
       gathered-end T l ids n i (w .gathered) (omega (arith, long cells, e))
       ∙ ap (λ (b : Bool). b && goodTable T l) (plain-end cells i e (w .enough) (w .plains))
+
+  -- as many correlations are copied as calls are open
+  pub passed-count : i ≡ 128 → CountsOpen cells n
+  passed-count e =
+      let g = w .gathered in
+      let all : take n ids ≡ openIds l = sym (append-nil (take n ids)) ∙ rw (rest-end emptyCall l i (omega (arith, long cells, e))) at (g .copied) in
+      let few : n ≤ length ids = omega (arith, g .few, g .long, long cells, e) in
+      (sym (length-take-le n ids few) ∙ ap length all ∙ ids-counted l, omega (arith, g .few, e))
 
 -- ---- a record changed
 

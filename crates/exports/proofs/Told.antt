@@ -12,7 +12,7 @@ use Rattle.schema.specs.Check.{checked}
 use Rattle.schema.specs.Extend.{ifGood, extended, extension}
 use Rattle.frame.specs.declared.Header.{Header}
 use Rattle.frame.proofs.Answers.{refused-numbers}
-use Rattle.schema.proofs.Listed.{listed, listed-bounds}
+use Rattle.schema.proofs.Numbered.{listed, listed-bounds}
 use Rattle.schema.specs.declared.Checked.{Checked}
 use Rattle.schema.specs.declared.Checked.the-variants as check
 use Rattle.schema.specs.declared.Extended.{Extended}
@@ -135,14 +135,14 @@ pub make-index-entry : (schema entries out : List ℕ) → let a = making.makeIn
 make-index-entry schema entries out = index-told (making.makeIndex schema entries out .answer) (λ n q e. index-above schema entries out e)
 
 pub look-up-entry : (index entries : List ℕ) (c : ℕ) (out : List ℕ) → let a = look.lookUp index entries c out .answer in findTold (look.findNumber a) (findCells a) ≡ a
-unfolding look.lookUp look.put
+unfolding look.lookUp look.printedText
 look-up-entry s entries c out = go (ltb (length out) (length (look.lookText s (length entries) c)))
   where
-    known : eqb (look.verdict s (length entries)) 52 ≡ false
+    known : eqb (look.stoppedNumber s (length entries)) 52 ≡ false
     known = ⊎-elim (λ e. rw e) (⊎-elim (λ e. rw e) (λ e. rw e)) (verdict-known s (length entries))
 
     go : (b : Bool) → let text = look.lookText s (length entries) c in
-        let o = cond b (look.outcome (find.Refused 52) out) (look.outcome (find.Printed (look.verdict s (length entries)) (length text)) (text ++ drop (length text) out)) in
+        let o = cond b (look.outcome (find.Refused 52) out) (look.outcome (find.Printed (look.stoppedNumber s (length entries)) (length text)) (text ++ drop (length text) out)) in
         findTold (look.findNumber (o .answer)) (findCells (o .answer)) ≡ o .answer
     go true = refl
     go false = rw known

@@ -203,8 +203,8 @@ abbrev pub keptOf : Received → Kept
 keptOf r = record { number = r .number; used = r .used; «open» = r .«open» }
 
 -- Where the cells are no call table, the judgement stops.
-abbrev pub Stops : (table : List ℕ) → Judged → Type 0
-Stops table J = areCalls table ≡ false → (n : ℕ) × (J ≡ JudgedRefused n)
+abbrev pub RefusedCells : (table : List ℕ) → Judged → Type 0
+RefusedCells table J = areCalls table ≡ false → (n : ℕ) × (J ≡ JudgedRefused n)
 
 -- The cells afterwards: those of the next table; cells that are no call table stay as they are.
 abbrev pub callCells : (table : List ℕ) → List Call → List ℕ

@@ -1,4 +1,5 @@
 -- The call table and the tally rows as cells that a caller lends; a record of the table has three, for the correlation, the method number and the marks with the elements.
+use mathlib.Core.Path.{_≡_}
 use mathlib.Core.Bool.{Bool, true, cond, _&&_}
 use mathlib.Core.List.{List, [], _∷_}
 use Prim.Native.Nat.{ℕ, zero, suc, _+_, _*_, _/_, _%_, _≤_, _<_}
@@ -6,6 +7,7 @@ use lib.Dec.{eqb, leb, ltb}
 use lib.ListN.{length, getD}
 use Rattle.calls.specs.declared.Call.{Call}
 use Rattle.calls.specs.declared.Tally.{Tally}
+use Rattle.calls.specs.Slots.{countOpen}
 
 -- The marks count 1 open, 2 RESPONSE, 4 input closed, 8 output closed, 16 cancelled; above them stand 16 bits of input elements and 16 of output elements. A
 -- method number has 32 bits.
@@ -35,6 +37,10 @@ callsFrom cells i (suc n) = callAt cells i ∷ callsFrom cells (suc i) n
 -- The call table that the cells hold.
 abbrev pub callsOf : List ℕ → List Call
 callsOf cells = callsFrom cells 0 128
+
+-- So many calls are open in it.
+abbrev pub CountsOpen : List ℕ → ℕ → Type 0
+CountsOpen cells n = (n ≡ countOpen (callsOf cells)) × (n ≤ 128)
 
 abbrev pub marksOf : Call → ℕ
 marksOf c =

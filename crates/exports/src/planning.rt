@@ -1,8 +1,10 @@
 // A frame and a release judged up to the payload against the call table in cells: which tally row they ask for, and what is left to do.
 use crate::records::are_good;
+use crate::records::open_count;
 use crate::records::seat;
 use constants::frame_kind;
 use constants::refusal;
+use frame::read_frame;
 use receiver::Front;
 use receiver::Plan;
 use receiver::planning::front;
@@ -16,18 +18,37 @@ ghost use mathlib.Core.Path.{_≡_};
 ghost use mathlib.Core.Bool.{cond};
 ghost use Rattle.schema.specs.Check.{checked};
 ghost use Rattle.receiver.specs.Planning.{Fitted, planOf, releasePlan};
-ghost use Rattle.exports.specs.Records.{callsOf, areCalls};
+ghost use Rattle.exports.specs.Records.{callsOf, CountsOpen, areCalls};
 ghost use Rattle.exports.specs.Answers.{refusedPlan};
 
-// One frame from a side with so many tally rows lent, judged in the order: schema table, call table, tally rows, frame, side and call.
-pub fn plan(cells: &[u64], schema: &[u8], side: u8, bytes: &[u8], rows: usize) -> Plan
+// One frame from a side with so many tally rows lent, judged in the order: schema table, call table, tally rows, frame, side and call. `calls` is how
+// many are open before.
+pub fn plan(
+    cells: &[u64],
+    schema: &[u8],
+    side: u8,
+    bytes: &[u8],
+    rows: usize,
+    calls: &mut usize,
+) -> Plan
     ensures { λ r. ⌜ (r ≡ cond (areCalls (now (cells .entry))) (planOf (now (schema .entry)) side (now (bytes .entry)) rows (callsOf (now (cells .entry)))) (refusedPlan (checked (now (schema .entry))))) ⌝ }
     ensures { λ r. ⌜ Fitted (now (schema .entry)) (now (bytes .entry)) (r .next) ⌝ }
+    ensures { λ _. ⌜ CountsOpen (now (cells .entry)) (now (calls .exit)) ⌝ }
 {
     match check(schema) {
-        Checked::Refused { number, place } => stop(number, place),
-        Checked::Good => match front(are_good(cells, schema), schema, side, bytes, rows) {
-            Front::Stop(number) => stop(number, 0),
+        Checked::Refused { number, place } => {
+            *calls = open_count(cells);
+            stop(number, place)
+        }
+        Checked::Good => match front(
+            are_good(cells, schema, calls),
+            schema,
+            side,
+            bytes,
+            read_frame(bytes),
+            rows,
+        ) {
+            Front::Refused(number) => stop(number, 0),
             Front::Whole { frame, place, end } => {
                 plan_frame(
                     seat(cells, frame.correlation, frame.kind == frame_kind::INVOKE),
@@ -41,14 +62,24 @@ pub fn plan(cells: &[u64], schema: &[u8], side: u8, bytes: &[u8], rows: usize) -
     }
 }
 
-// The release of a call with so many tally rows lent, judged in the order: schema table, call table, tally rows, call.
-pub fn plan_release(cells: &[u64], schema: &[u8], correlation: u64, rows: usize) -> Plan
+// The release of a call with so many tally rows lent, judged in the order: schema table, call table, tally rows, call. `calls` is how many are open before.
+pub fn plan_release(
+    cells: &[u64],
+    schema: &[u8],
+    correlation: u64,
+    rows: usize,
+    calls: &mut usize,
+) -> Plan
     ensures { λ r. ⌜ r ≡ cond (areCalls (now (cells .entry))) (releasePlan (now (schema .entry)) (callsOf (now (cells .entry))) correlation rows) (refusedPlan (checked (now (schema .entry)))) ⌝ }
+    ensures { λ _. ⌜ CountsOpen (now (cells .entry)) (now (calls .exit)) ⌝ }
 {
     match check(schema) {
-        Checked::Refused { number, place } => stop(number, place),
+        Checked::Refused { number, place } => {
+            *calls = open_count(cells);
+            stop(number, place)
+        }
         Checked::Good => {
-            let fault = tables_fault(are_good(cells, schema), schema, rows);
+            let fault = tables_fault(are_good(cells, schema, calls), schema, rows);
             if fault != refusal::ACCEPTED {
                 return stop(fault, 0);
             }

@@ -12,10 +12,10 @@ ghost use mathlib.Core.List.{[], _∷_};
 ghost use Rattle.reader.specs.Entry.{numbers};
 ghost use Rattle.receiver.specs.Answer.{answerIn};
 ghost use Rattle.exports.specs.Cells.{stored};
-ghost use Rattle.exports.specs.Records.{callsOf, rowCells};
-ghost use Rattle.exports.specs.Answers.{receiving, callCells, receivedCells, Stops};
+ghost use Rattle.exports.specs.Records.{callsOf, CountsOpen, rowCells};
+ghost use Rattle.exports.specs.Answers.{receiving, callCells, receivedCells, RefusedCells};
 
-// Judges the frame at the front of the bytes up to the call table, which stays as it is.
+// Judges the frame at the front of the bytes up to the call table, which stays as it is. `calls` is how many are open in it.
 fn judge(
     table: &[u64],
     schema: &[u8],
@@ -23,13 +23,14 @@ fn judge(
     bytes: &[u8],
     sheet: &mut [u32],
     tallies: &mut [u32],
+    calls: &mut usize,
 ) -> Done
     ensures { λ r. ⌜ answerIn r (callsOf (now (table .entry))) ≡ receiving (now (table .entry)) (now (schema .entry)) side (now (bytes .entry)) (now (sheet .entry)) (now (tallies .entry)) .answer ⌝ }
     ensures { λ _. ⌜ now (sheet .exit) ≡ receiving (now (table .entry)) (now (schema .entry)) side (now (bytes .entry)) (now (sheet .entry)) (now (tallies .entry)) .sheet ⌝ }
     ensures { λ _. ⌜ now (tallies .exit) ≡ rowCells (now (tallies .entry)) (receiving (now (table .entry)) (now (schema .entry)) side (now (bytes .entry)) (now (sheet .entry)) (now (tallies .entry)) .tallies) ⌝ }
-    ensures { λ r. ⌜ Stops (now (table .entry)) (r .judged) ⌝ }
+    ensures { λ r. ⌜ CountsOpen (now (table .entry)) (now (calls .exit)) × RefusedCells (now (table .entry)) (r .judged) ⌝ }
 {
-    let plan = plan(table, schema, side, bytes, tallies.len() / 5);
+    let plan = plan(table, schema, side, bytes, tallies.len() / 5, calls);
     let row = plan.row;
     let old = row_in(tallies, row);
     let done = settle_plan(plan, schema, bytes, sheet, old);
@@ -81,8 +82,9 @@ pub extern "C" fn arf_receive(
     ensures { λ _. ⌜ now (tallies .exit) ≡ rowCells (now (tallies .entry)) (receiving (now (table .entry)) (now (schema .entry)) side (now (bytes .entry)) (now (sheet .entry)) (now (tallies .entry)) .tallies) ⌝ }
     ensures { λ _. ⌜ now (answer .exit) ≡ stored (now (answer .entry)) (receivedCells (receiving (now (table .entry)) (now (schema .entry)) side (now (bytes .entry)) (now (sheet .entry)) (now (tallies .entry)) .answer)) ⌝ }
 {
-    let done = judge(table, schema, side, bytes, sheet, tallies);
-    let kept = keep(table, done);
+    let mut calls: usize = 0;
+    let done = judge(table, schema, side, bytes, sheet, tallies, &mut calls);
+    let kept = keep(table, calls, done);
     let reading = done.reading;
     let cells = received_cells(reading, kept.used, kept.open);
     store(answer, &cells);

@@ -18,12 +18,25 @@ ghost use lib.Seq.{sets};
 ghost use Rattle.schema.specs.File.{tableOf};
 ghost use Rattle.schema.specs.Check.{IsGood};
 ghost use Rattle.calls.specs.Record.{isCall, isFree};
-ghost use Rattle.calls.specs.Slots.{slot, recordAt, goodCall, goodTable, firstSlot, countOpen};
+ghost use Rattle.calls.specs.Slots.{slot, recordAt, goodCall, goodTable, firstSlot};
 ghost use Rattle.calls.specs.Seats.{seatOf};
-ghost use Rattle.exports.specs.Records.{callOf, callAt, callsOf, marksOf, recordCells, plain, areCalls};
+ghost use Rattle.exports.specs.Records.{callOf, callAt, callsOf, CountsOpen, marksOf, recordCells, plain, areCalls};
 
 // The cells of a call table, three for each record.
 const CELLS: usize = 3 * limit::CALLS;
+
+// The marks' cell: a bit for each of the five marks, then the counts of input and of output elements.
+const INPUTS: u64 = 32;
+
+// Counts of elements, and what comes after the two of them.
+const COUNTS: u64 = 65536;
+
+const OUTPUTS: u64 = INPUTS * COUNTS;
+
+const MARKS: u64 = OUTPUTS * COUNTS;
+
+// 2^32: a method's number is below it.
+const METHODS: u64 = 4294967296;
 
 // One cell, and 0 past the last.
 fn cell(cells: &[u64], i: usize) -> u64
@@ -37,14 +50,14 @@ fn call_of(correlation: u64, method: u64, marks: u64) -> Call
 {
     Call {
         correlation,
-        method: (method % 4294967296) as u32,
+        method: (method % METHODS) as u32,
         open: marks % 2 == 1,
         responded: marks / 2 % 2 == 1,
         input_closed: marks / 4 % 2 == 1,
         output_closed: marks / 8 % 2 == 1,
         cancelled: marks / 16 % 2 == 1,
-        input_elements: (marks / 32 % 65536) as u16,
-        output_elements: (marks / 2097152 % 65536) as u16,
+        input_elements: (marks / INPUTS % COUNTS) as u16,
+        output_elements: (marks / OUTPUTS % COUNTS) as u16,
     }
 }
 
@@ -62,7 +75,7 @@ fn call_at(cells: &[u64], i: usize) -> Call
 fn is_plain(method: u64, marks: u64) -> bool
     ensures { λ r. ⌜ r ≡ plain method marks ⌝ }
 {
-    (method < 4294967296) & (marks < 137438953472)
+    (method < METHODS) & (marks < MARKS)
 }
 
 // The record at a slot, and an empty one past the last.
@@ -76,7 +89,7 @@ pub fn slot_at(cells: &[u64], i: usize) -> Call
     }
 }
 
-// A record is good by a good schema table. A free one, and one with no mark but open, need no look at the form.
+// Whether a record is good by a good schema table. A free one, and one with no mark but open, need no look at the form.
 fn is_good(s: &[u8], id: u64, method: u64, marks: u64) -> bool
     requires { ⌜ IsGood (now s) ⌝ }
     ensures { λ r. ⌜ r ≡ (plain method marks && goodCall (tableOf (now (s .entry))) (callOf id method marks)) ⌝ }
@@ -90,12 +103,15 @@ fn is_good(s: &[u8], id: u64, method: u64, marks: u64) -> bool
     is_plain(method, marks) & call_of(id, method, marks).is_good(s, TABLE_1)
 }
 
-// The cells are a call table that is good by a good schema table. The open correlations are copied out once and compared there.
-pub fn are_good(cells: &[u64], s: &[u8]) -> bool
+// Whether the cells are a call table that is good by a good schema table. The open correlations are copied out once and compared there; `calls` is how
+// many there are.
+pub fn are_good(cells: &[u64], s: &[u8], calls: &mut usize) -> bool
     requires { ⌜ IsGood (now s) ⌝ }
     ensures { λ r. ⌜ r ≡ (areCalls (now (cells .entry)) && goodTable (tableOf (now (s .entry))) (callsOf (now (cells .entry)))) ⌝ }
+    ensures { λ _. ⌜ CountsOpen (now (cells .entry)) (now (calls .exit)) ⌝ }
 {
     if cells.len() < CELLS {
+        *calls = open_count(cells);
         return false;
     }
     let mut ids = [0u64; limit::CALLS];
@@ -105,6 +121,7 @@ pub fn are_good(cells: &[u64], s: &[u8]) -> bool
         let id = cells[3 * i];
         let marks = cells[3 * i + 2];
         if !is_good(s, id, cells[3 * i + 1], marks) {
+            *calls = open_count(cells);
             return false;
         }
         if marks % 2 == 1 {
@@ -113,10 +130,11 @@ pub fn are_good(cells: &[u64], s: &[u8]) -> bool
         }
         i += 1;
     }
+    *calls = n;
     distinct(&ids[..n])
 }
 
-// The record at a slot is that of an open call.
+// Whether the record at a slot is that of an open call.
 fn is_open(cells: &[u64], i: usize) -> bool
     requires { ⌜ i < 128 ⌝ }
     ensures { λ r. ⌜ r ≡ callAt (now (cells .entry)) i .«open» ⌝ }
@@ -124,7 +142,7 @@ fn is_open(cells: &[u64], i: usize) -> bool
     cell(cells, 3 * i + 2) % 2 == 1
 }
 
-// The same under this correlation.
+// Whether it is that of a call open under this correlation.
 fn is_call(cells: &[u64], i: usize, id: u64) -> bool
     requires { ⌜ i < 128 ⌝ }
     ensures { λ r. ⌜ r ≡ isCall id (callAt (now (cells .entry)) i) ⌝ }
@@ -146,7 +164,7 @@ fn find_in(cells: &[u64], id: u64) -> Found
     Found::Missing
 }
 
-// The same. Where the cells of a whole table are lent, the loop needs no test for one that is missing.
+// `find_in` over the table's 384 cells alone, so that the loop needs no bounds test.
 pub fn find(cells: &[u64], id: u64) -> Found
     ensures { λ r. ⌜ r ≡ firstSlot (isCall id) 0 (callsOf (now (cells .entry))) ⌝ }
 {
@@ -170,7 +188,7 @@ fn free_slot_in(cells: &[u64]) -> Found
     Found::Missing
 }
 
-// The same. Where the cells of a whole table are lent, the loop needs no test for one that is missing.
+// `free_slot_in` over the table's 384 cells alone, so that the loop needs no bounds test.
 pub fn free_slot(cells: &[u64]) -> Found
     ensures { λ r. ⌜ r ≡ firstSlot isFree 0 (callsOf (now (cells .entry))) ⌝ }
 {
@@ -204,7 +222,7 @@ pub fn seat(cells: &[u64], id: u64, opens: bool) -> Seat
 
 // How many calls are open.
 fn open_count_in(cells: &[u64]) -> usize
-    ensures { λ r. ⌜ (r ≡ countOpen (callsOf (now (cells .entry)))) × (r ≤ 128) ⌝ }
+    ensures { λ r. ⌜ CountsOpen (now (cells .entry)) r ⌝ }
 {
     let mut n: usize = 0;
     let mut i: usize = 0;
@@ -217,9 +235,9 @@ fn open_count_in(cells: &[u64]) -> usize
     n
 }
 
-// The same. Where the cells of a whole table are lent, the loop needs no test for one that is missing.
+// `open_count_in` over the table's 384 cells alone, so that the loop needs no bounds test.
 pub fn open_count(cells: &[u64]) -> usize
-    ensures { λ r. ⌜ (r ≡ countOpen (callsOf (now (cells .entry)))) × (r ≤ 128) ⌝ }
+    ensures { λ r. ⌜ CountsOpen (now (cells .entry)) r ⌝ }
 {
     if CELLS <= cells.len() {
         return open_count_in(&cells[..CELLS]);
@@ -241,8 +259,8 @@ fn marks_of(call: Call) -> u64
         + 4 * mark(call.input_closed)
         + 8 * mark(call.output_closed)
         + 16 * mark(call.cancelled)
-        + 32 * (call.input_elements as u64)
-        + 2097152 * (call.output_elements as u64)
+        + INPUTS * (call.input_elements as u64)
+        + OUTPUTS * (call.output_elements as u64)
 }
 
 // The cells of one record, as many as there are.

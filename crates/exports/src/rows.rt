@@ -6,7 +6,7 @@ ghost use lib.ListN.{getD, set};
 ghost use Rattle.calls.specs.Counting.{noTally};
 ghost use Rattle.exports.specs.Records.{rowsOf, rowCells};
 
-// The row of a method; past the last whole row it is noughts.
+// The row of a method; past the last whole row it is zeros.
 pub fn row_in(cells: &[u32], i: usize) -> Tally
     ensures { λ r. ⌜ r ≡ getD (rowsOf (now (cells .entry))) i noTally ⌝ }
 {

@@ -7,12 +7,12 @@ use value::Row;
 ghost use mathlib.Core.Path.{_≡_};
 ghost use mathlib.Core.List.{_∷_};
 ghost use lib.Ieee.{binary32, binary64};
-ghost use Rattle.scalar.specs.Scalar.{scalarBy, numberOf};
+ghost use Rattle.scalar.specs.Scalar.{scalarBy, scalarNumber};
 ghost use Rattle.exports.specs.Cells.{stored};
 ghost use Rattle.exports.specs.Answers.{bitsOf, floatBits, sheetRow, valueCells, scalarCells};
 
 fn scalar_number(a: Answer) -> u32
-    ensures { λ r. ⌜ r ≡ numberOf a ⌝ }
+    ensures { λ r. ⌜ r ≡ scalarNumber a ⌝ }
 {
     match a {
         Answer::Is(_) => refusal::ACCEPTED,
@@ -83,7 +83,7 @@ pub extern "C" fn arf_scalar(
     bytes: &[u8],
     answer: &mut [u64],
 ) -> u32
-    ensures { λ r. ⌜ r ≡ numberOf (scalarBy (now (schema .entry)) (sheetRow ty place length count) (now (bytes .entry))) ⌝ }
+    ensures { λ r. ⌜ r ≡ scalarNumber (scalarBy (now (schema .entry)) (sheetRow ty place length count) (now (bytes .entry))) ⌝ }
     ensures { λ _. ⌜ now (answer .exit) ≡ stored (now (answer .entry)) (scalarCells (scalarBy (now (schema .entry)) (sheetRow ty place length count) (now (bytes .entry)))) ⌝ }
 {
     let row = Row {

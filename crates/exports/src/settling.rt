@@ -1,6 +1,5 @@
 // An answer put back into the cells of the call table: the record at one slot changes.
 use crate::Kept;
-use crate::records::open_count;
 use crate::records::put_slot;
 use crate::records::slot_at;
 use calls::Change;
@@ -16,8 +15,8 @@ ghost use Prim.Native.Nat.{_≤_};
 ghost use lib.ListN.{set};
 ghost use Rattle.calls.specs.Slots.{countOpen};
 ghost use Rattle.receiver.specs.Answer.{answerIn};
-ghost use Rattle.exports.specs.Records.{callsOf, areCalls};
-ghost use Rattle.exports.specs.Answers.{keptOf, callCells, Stops};
+ghost use Rattle.exports.specs.Records.{callsOf, CountsOpen, areCalls};
+ghost use Rattle.exports.specs.Answers.{keptOf, callCells, RefusedCells};
 
 fn one(b: bool) -> usize
     ensures { λ r. ⌜ (r ≡ cond b 1 0) × (r ≤ 1) ⌝ }
@@ -25,11 +24,11 @@ fn one(b: bool) -> usize
     if b { 1 } else { 0 }
 }
 
-// How many calls are open after a change.
-fn open_after(cells: &[u64], change: Change) -> usize
+// How many calls are open after a change, where n are before.
+fn open_after(cells: &[u64], n: usize, change: Change) -> usize
+    requires { ⌜ CountsOpen (now cells) n ⌝ }
     ensures { λ r. ⌜ r ≡ countOpen (set (callsOf (now (cells .entry))) (change .slot) (change .call)) ⌝ }
 {
-    let n = open_count(cells);
     let i = change.slot;
     if i < limit::CALLS {
         let old = slot_at(cells, i);
@@ -39,9 +38,9 @@ fn open_after(cells: &[u64], change: Change) -> usize
     n
 }
 
-// What is told of the call table, and its cells afterwards. Where they are none, the judgement stops.
-pub fn keep(cells: &mut [u64], done: Done) -> Kept
-    requires { ⌜ Stops (now cells) (done .judged) ⌝ }
+// What is told of the call table, in which so many calls are open, and its cells afterwards. Cells that are no call table were refused before, and stay.
+pub fn keep(cells: &mut [u64], calls: usize, done: Done) -> Kept
+    requires { ⌜ CountsOpen (now cells) calls × RefusedCells (now cells) (done .judged) ⌝ }
     ensures { λ r. ⌜ r ≡ keptOf (answerIn done (callsOf (now (cells .entry)))) ⌝ }
     ensures { λ _. ⌜ now (cells .exit) ≡ callCells (now (cells .entry)) (answerIn done (callsOf (now (cells .entry))) .table .slots) ⌝ }
 {
@@ -51,7 +50,7 @@ pub fn keep(cells: &mut [u64], done: Done) -> Kept
     let number = number_after(judged, payload);
     let used = used_of(number, done.size);
     let change = change_of(judged, payload);
-    let open = open_after(cells, change);
+    let open = open_after(cells, calls, change);
     put_slot(cells, change.slot, change.call);
     Kept { number, used, open }
 }

@@ -47,7 +47,7 @@ use Rattle.writer.specs.Leaf.{rowsAt}
 use Rattle.writer.specs.Walk.{endOf, Walked}
 use Rattle.writer.specs.Entry.{Outcome, outcome, outcomeOf}
 use Rattle.writer.proofs.Entries.{emit-done, emit-stopped}
-use Rattle.forward.specs.Forward.{rootPlace, rootBytes, rootUnknown, suits, joined, withTail, forwarding, forward, faultOf}
+use Rattle.forward.specs.Forward.{rootPlace, rootBytes, rootUnknown, suits, spliced, withTail, forwarding, forward, faultOf}
 use Rattle.forward.specs.Entry.{sheetForwarded, forwardOutcome}
 use Rattle.forward.proofs.Laws.{root-inside, bytes-length, root-long, joined-length}
 
@@ -131,7 +131,7 @@ test-passed false b c d e = absurd (omega arith)
 -- ---- the bytes, over those of the plain writer
 
 put-joined : (bits plain tail out : List ℕ) (pos : ℕ) → length plain ≡ pos → length bits ≤ pos → pos + length tail ≤ length out
-    → put (put (plain ++ drop pos out) 0 bits) pos tail ≡ joined bits plain tail ++ drop (pos + length tail) out
+    → put (put (plain ++ drop pos out) 0 bits) pos tail ≡ spliced bits plain tail ++ drop (pos + length tail) out
 put-joined bits plain tail out pos l b h =
     let front : List ℕ = bits ++ drop (length bits) plain in
     let rest : length (drop pos out) ≡ length out - pos = length-drop pos out in
@@ -240,14 +240,14 @@ module _ (s : List ℕ) (ty : ℕ) (cells B : List ℕ) (place n : ℕ) (out : L
             ∙ ap (faultOf (length B) (rootUnknown fs (rowsOf cells) B) place n (cap (length plain))) (ap length same-out)
             ∙ fault-cap (length B) (rootUnknown fs (rowsOf cells) B) place n (length plain) (length out)
 
-        whole-length : place + n ≤ length B → length (joined bits plain tail) ≡ length plain + n
+        whole-length : place + n ≤ length B → length (spliced bits plain tail) ≡ length plain + n
         whole-length within =
             joined-length (shape (tableOf s)) B ty fs is (rowsOf cells) (value tree) shows tail ∙ ap (λ (i : ℕ). length plain + i) (length-span B place n within)
 
         tests : withTail (rowsOf cells) B place n (length out) fs plain
             ≡ cond (inside B place n)
             (cond (suits (rootUnknown fs (rowsOf cells) B) n)
-            (cond (leb (length plain + n) 16384) (cond (leb (length plain + n) (length out)) (written (joined bits plain tail)) (refusal 52 0)) (refusal 7 0))
+            (cond (leb (length plain + n) 16384) (cond (leb (length plain + n) (length out)) (written (spliced bits plain tail)) (refusal 52 0)) (refusal 7 0))
             (refusal 50 0))
             (refusal 51 0)
         tests = ⊎-elim (λ a. rw (a, whole-length (leb-true (place + n) (length B) a))) (λ a. rw a) (cases (inside B place n))
@@ -255,7 +255,7 @@ module _ (s : List ℕ) (ty : ℕ) (cells B : List ℕ) (place n : ℕ) (out : L
         pub entry-fault : (k ≡ 0 → ⊥) → outcome (Refused k 0) (o′ ++ out) ≡ sheetForwarded s ty cells B place n out
         unfolding faultOf
         entry-fault h =
-            let f = test-refused (inside B place n) (suits (rootUnknown fs (rowsOf cells) B) n) (leb (length plain + n) 16384) (leb (length plain + n) (length out)) (joined bits plain tail) k fault-plain h in
+            let f = test-refused (inside B place n) (suits (rootUnknown fs (rowsOf cells) B) n) (leb (length plain + n) 16384) (leb (length plain + n) (length out)) (spliced bits plain tail) k fault-plain h in
             rw (same-out, entry-by, tests) (ap (outcomeOf out) f)
 
         module _ (none : k ≡ 0) where
@@ -316,11 +316,11 @@ module _ (s : List ℕ) (ty : ℕ) (cells B : List ℕ) (place n : ℕ) (out : L
               let few = bytes-length (shape (tableOf s)) B ty fs is (rowsOf cells) (value tree) shows in
               let many = root-long (shape (tableOf s)) B ty fs is (rowsOf cells) (value tree) shows in
               let last = length-span B place n entry-tail in
-              let end : length (joined bits plain tail) ≡ pos + n = whole-length entry-tail ∙ ap (λ (i : ℕ). i + n) long in
+              let end : length (spliced bits plain tail) ≡ pos + n = whole-length entry-tail ∙ ap (λ (i : ℕ). i + n) long in
               let room : pos + n ≤ length out = rw (ap length same-out) at entry-room in
               let second = put-joined bits plain tail out pos long (omega (arith, few, many, long)) (omega (arith, last, room)) in
-              let all : out₃ ≡ joined bits plain tail ++ drop (pos + n) out =
-              is₃ ∙ ap₂ (λ (x y : List ℕ). put (put x 0 y) pos tail) first bits-is ∙ second ∙ ap (λ (i : ℕ). joined bits plain tail ++ drop (pos + i) out) last in
+              let all : out₃ ≡ spliced bits plain tail ++ drop (pos + n) out =
+              is₃ ∙ ap₂ (λ (x y : List ℕ). put (put x 0 y) pos tail) first bits-is ∙ second ∙ ap (λ (i : ℕ). spliced bits plain tail ++ drop (pos + i) out) last in
               rw (entry-by, tests, passed .0, passed .1, passed .2, passed .3, end, all)
 
 -- ---- any table

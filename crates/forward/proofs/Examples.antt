@@ -55,7 +55,7 @@ nine-rows = refl
 computed : (map (byTable T) worked ≡ map (λ (c : ForwardCase). outcome (c .answer) (c .after)) worked)
     × (map (byTable T) large ≡ map (λ (c : ForwardCase). outcome (c .answer) (c .after)) large)
     × (map (byTable N) by-nine ≡ map (λ (c : ForwardCase). outcome (c .answer) (c .after)) by-nine)
-unfolding forward rowsOf write.showRoot write.show write.rowDue write.nextRow write.bitsAt read.walk read.present read.complete onesIn table.shape
+unfolding forward rowsOf write.showRoot write.show write.rowDue write.nextRow write.bitsAt read.walk read.present read.requiredSet onesIn table.shape
     answer.andThen answer.check little.little little.bytes varuint.varuintBytes varuint.shortest utf8.run utf8.next utf8.leadOf utf8.rows value.value spell.encode
 computed = (refl, refl, refl)
 

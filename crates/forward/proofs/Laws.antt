@@ -25,7 +25,7 @@ use Rattle.value.proofs.Shapes.{Solid}
 use Rattle.value.proofs.Encode.{root-parts}
 use Rattle.value.proofs.Root.{root-tail}
 use Rattle.value.proofs.Written.{root-written}
-use Rattle.forward.specs.Forward.{rootPlace, rootBytes, rootUnknown, suits, joined}
+use Rattle.forward.specs.Forward.{rootPlace, rootBytes, rootUnknown, suits, spliced}
 
 -- ---- the tail
 
@@ -69,7 +69,7 @@ module _ (S : ℕ → Shape) (B : List ℕ) (t : ℕ) (fs : List Field) where
   -- Its encoding, with the bits as they stand and a tail that fits them, spells it.
   fits-spells : ((t : ℕ) → Solid (S t)) → S t ≡ struct fs → (tree : Tree) (rs : List Row) → rows tree ≡ rs → RootFits S B t fs tree
       → length (encode S (value tree) t) ≤ 16384 → (tail : List ℕ) → TailFits (rootUnknown fs rs B) tail
-      → RootSpells S fs (value tree) (joined (rootBytes fs rs B) (encode S (value tree) t) tail) tail
+      → RootSpells S fs (value tree) (spliced (rootBytes fs rs B) (encode S (value tree) t) tail) tail
   unfolding rows value
   fits-spells solid st (tip r x) rs e f l tail fit = absurd f
   fits-spells solid st (branch r h ts) rs e f l tail fit =
@@ -80,7 +80,7 @@ module _ (S : ℕ → Shape) (B : List ℕ) (t : ℕ) (fs : List Field) where
       let rest : drop (length (span B (r .place) (bitmapBytes (length fs)))) (encode S (value (branch r h ts)) t) ≡ y =
       ap (drop (length (span B (r .place) (bitmapBytes (length fs))))) whole′ ∙ drop-at x y (length (span B (r .place) (bitmapBytes (length fs)))) (bitmap .0 ∙ sym long) in
       let fit′ : TailFits (rootUnknown fs (rows (branch r h ts)) B) tail = subst (λ (l : List Row). TailFits (rootUnknown fs l B) tail) (sym e) fit in
-      subst (λ (l : List Row). RootSpells S fs (value (branch r h ts)) (joined (rootBytes fs l B) (encode S (value (branch r h ts)) t) tail) tail) e (
+      subst (λ (l : List Row). RootSpells S fs (value (branch r h ts)) (spliced (rootBytes fs l B) (encode S (value (branch r h ts)) t) tail) tail) e (
         m,
         span B (r .place) (bitmapBytes (length fs)),
         drop (length (span B (r .place) (bitmapBytes (length fs)))) (encode S (value (branch r h ts)) t),
@@ -105,24 +105,24 @@ module _ (S : ℕ → Shape) (B : List ℕ) (t : ℕ) (fs : List Field) (st : S 
   root-long = rw (← shows .3) (fits-long S B t fs st (shows .0) (shows .2))
 
   -- The whole is as long as the encoding and the tail.
-  pub joined-length : (tail : List ℕ) → length (joined (rootBytes fs rs B) (encode S v t) tail) ≡ length (encode S v t) + length tail
+  pub joined-length : (tail : List ℕ) → length (spliced (rootBytes fs rs B) (encode S v t) tail) ≡ length (encode S v t) + length tail
   joined-length tail =
       let b = bytes-length in
       let l = root-long in
       simp (length-append, length-drop) (omega arith)
 
-  pub joined-front : (tail : List ℕ) → take (bitmapBytes (length fs)) (joined (rootBytes fs rs B) (encode S v t) tail) ≡ rootBytes fs rs B
+  pub joined-front : (tail : List ℕ) → take (bitmapBytes (length fs)) (spliced (rootBytes fs rs B) (encode S v t) tail) ≡ rootBytes fs rs B
   joined-front tail = take-at (rootBytes fs rs B) _ (bitmapBytes (length fs)) bytes-length
 
   pub joined-spells : ((t : ℕ) → Solid (S t)) → length (encode S v t) ≤ 16384 → (tail : List ℕ) → TailFits (rootUnknown fs rs B) tail
-      → RootSpells S fs v (joined (rootBytes fs rs B) (encode S v t) tail) tail
+      → RootSpells S fs v (spliced (rootBytes fs rs B) (encode S v t) tail) tail
   joined-spells solid l tail fit =
-      subst (λ (w : Value). RootSpells S fs w (joined (rootBytes fs rs B) (encode S w t) tail) tail) (shows .3)
+      subst (λ (w : Value). RootSpells S fs w (spliced (rootBytes fs rs B) (encode S w t) tail) tail) (shows .3)
       (fits-spells S B t fs solid st (shows .0) rs (shows .1) (shows .2) (rw (shows .3) l) tail fit)
 
   -- Bytes that spell the value with these presence bytes and this tail are those, and the tail fits.
   module _ (out tail : List ℕ) (b : Bytes out) (q : RootSpells S fs v out tail) (front : take (bitmapBytes (length fs)) out ≡ rootBytes fs rs B) where
-    pub spelled-joined : out ≡ joined (rootBytes fs rs B) (encode S v t) tail
+    pub spelled-joined : out ≡ spliced (rootBytes fs rs B) (encode S v t) tail
     spelled-joined =
         root-parts S t fs st v out tail b q
         ∙ ap₂ (λ (x : List ℕ) (i : ℕ). x ++ (drop i (encode S v t) ++ tail)) front (sym bytes-length)

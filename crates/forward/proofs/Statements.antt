@@ -18,7 +18,7 @@ use Rattle.parse.specs.Reader.{AnswerOf, refused, seen}
 use Rattle.parse.proofs.Answers.{yields-end}
 use Rattle.schema.specs.declared.Field.{Field}
 use Rattle.schema.specs.Table.{Table, Shape, unknown, scalar, text, array, map, struct, shape, bitmapBytes}
-use Rattle.schema.specs.Good.{GoodTable}
+use Rattle.schema.specs.Good.{GoodSchema}
 use Rattle.schema.proofs.Bools.{cases}
 use Rattle.value.specs.declared.Row.{Row}
 use Rattle.value.specs.Value.{Tree, tip, branch, rows, Value, value}
@@ -31,8 +31,8 @@ use Rattle.value.proofs.Shapes.{good-solid}
 use Rattle.value.proofs.Shown.{root-shown}
 use Rattle.value.proofs.Writing.{fitted-inv, sheet-shows}
 use Rattle.value.proofs.Statements as value
-use Rattle.forward.specs.Forward.{rootPlace, rootBytes, rootUnknown, suits, joined, withTail, forwarding, forward}
-use Rattle.forward.specs.Claims.{ForwardListed, by-rows, outside, unfit, whole-long, whole-tight, Passes, Forwards}
+use Rattle.forward.specs.Forward.{rootPlace, rootBytes, rootUnknown, suits, spliced, withTail, forwarding, forward}
+use Rattle.forward.specs.Claims.{TailReason, by-rows, outside, unfit, whole-long, whole-tight, Passes, Forwards}
 use Rattle.forward.proofs.Laws.{suits-fits, fits-suits, unfit-suits, root-first, joined-length, joined-front, joined-spells, spelled-joined, spelled-fits}
 
 never : {A : Type 0} {n p : ℕ} {out : List ℕ} → refusal n p ≡ written out → A
@@ -85,7 +85,7 @@ module _ (T : Table) (t : ℕ) (rs : List Row) (B : List ℕ) (place n room : �
 
   module _ (fs : List Field) (st : shape T t ≡ struct fs) (v : Value) (shows : Shows (shape T) B t fs rs v) where
     abbrev whole : List ℕ
-    whole = joined (rootBytes fs rs B) (encode (shape T) v t) (span B place n)
+    whole = spliced (rootBytes fs rs B) (encode (shape T) v t) (span B place n)
 
     shown-forward : forward T t rs B place n room ≡ withTail rs B place n room fs (encode (shape T) v t)
     unfolding forward
@@ -150,9 +150,9 @@ module _ (T : Table) (t : ℕ) (rs : List Row) (B : List ℕ) (place n room : �
 
   -- ---- each refusal is listed, for the reason that is said there
 
-  module _ (good : GoodTable T) where
+  module _ (good : GoodSchema T) where
     abbrev ListedAs : (k q : ℕ) → Type 0
-    ListedAs k q = ForwardListed (shape T) t rs B place n room k q
+    ListedAs k q = TailReason (shape T) t rs B place n room k q
 
     listed-same : {k q k′ q′ : ℕ} → refusal k q ≡ refusal k′ q′ → ListedAs k′ q′ → ListedAs k q
     listed-same {k} {q} {k′} {q′} e l =
@@ -244,7 +244,7 @@ module _ (T : Table) (t : ℕ) (rs : List Row) (B : List ℕ) (place n room : �
     listed-refused _ _ (whole-tight fs v st shows within fits l h) = no-room fs st v shows within fits l h
 
     -- A sheet with a tail is refused with a number at a row exactly for its reason.
-    pub refused-iff : (k q : ℕ) → (forward T t rs B place n room ≡ refusal k q) ↔ ForwardListed (shape T) t rs B place n room k q
+    pub refused-iff : (k q : ℕ) → (forward T t rs B place n room ≡ refusal k q) ↔ TailReason (shape T) t rs B place n room k q
     refused-iff k q = (refused-listed k q, listed-refused k q)
 
   -- A sheet is forwarded exactly when it shows a value and the tail fits, with the whole a payload and room for it.
@@ -261,7 +261,7 @@ module _ (T : Table) (t : ℕ) (rs : List Row) (B : List ℕ) (place n room : �
   )
 
   -- What is written spells the value that the sheet shows, ends in the tail and keeps the presence bytes as they stand; and nothing else does.
-  pub forwarded-iff-spelled : GoodTable T → (out : List ℕ) → Bytes out → (forward T t rs B place n room ≡ written out) ↔ Forwards (shape T) t rs B place n room out
+  pub forwarded-iff-spelled : GoodSchema T → (out : List ℕ) → Bytes out → (forward T t rs B place n room ≡ written out) ↔ Forwards (shape T) t rs B place n room out
   forwarded-iff-spelled good out b = (
     λ e.
         let (fs, v, st, shows) = forward-shows out e in
@@ -288,7 +288,7 @@ read-root S B fs (tip r x) end d = absurd d
 read-root S B fs (branch r h ts) end d = (d .0, d .1)
 
 -- What is read by a table, with a tail or without one, is forwarded by the same table to the very same bytes.
-pub same-bytes : (T : Table) → GoodTable T → (t : ℕ) (payload : List ℕ) (room : ℕ) (rs : List Row) (place n c : ℕ) → Bytes payload
+pub same-bytes : (T : Table) → GoodSchema T → (t : ℕ) (payload : List ℕ) (room : ℕ) (rs : List Row) (place n c : ℕ) → Bytes payload
     → read T t payload room ≡ accepted rs place n c → (room′ : ℕ) → length payload ≤ room′ → forward T t rs payload place n room′ ≡ written payload
 same-bytes T good t payload room rs place n c b e room′ h =
     let (tree, (fs, st, f, d, p, short), r, _, _) = value.rows-delimit T good t payload room rs place n c .0 e in

@@ -13,18 +13,18 @@ use Rattle.value.specs.Fits.{Shows}
 use Rattle.value.specs.SheetReasons.{SheetReason}
 use Rattle.forward.specs.Forward.{rootUnknown}
 
--- The refusals of a sheet with a tail of n bytes at a place of B. One that shows no value has the plain writer's. For one that does, all at 0 and each where
--- those before it are not: 51 for a tail outside B, 50 for one that does not fit the unknown bits, 7 and 52 for the whole.
-pub data ForwardListed (S : ℕ → Shape) (t : ℕ) (rs : List Row) (B : List ℕ) (place n room : ℕ) : (number at : ℕ) → Type 0 where
+-- The refusals of a sheet with a tail of n bytes at a place of B: the plain writer's where it shows no value; else, in this order and at 0,
+-- 51 for a tail outside B, 50 for one that does not fit the unknown bits, 7 and 52 for the whole.
+pub data TailReason (S : ℕ → Shape) (t : ℕ) (rs : List Row) (B : List ℕ) (place n room : ℕ) : (number at : ℕ) → Type 0 where
   by-rows : {k q : ℕ} → SheetReason S t rs B room k q → ((fs : List Field) (v : Value) → S t ≡ struct fs → Shows S B t fs rs v → ⊥)
-      → ForwardListed S t rs B place n room k q
-  outside : (fs : List Field) (v : Value) → S t ≡ struct fs → Shows S B t fs rs v → length B < place + n → ForwardListed S t rs B place n room 51 0
+      → TailReason S t rs B place n room k q
+  outside : (fs : List Field) (v : Value) → S t ≡ struct fs → Shows S B t fs rs v → length B < place + n → TailReason S t rs B place n room 51 0
   unfit : (fs : List Field) (v : Value) → S t ≡ struct fs → Shows S B t fs rs v → place + n ≤ length B → (TailFits (rootUnknown fs rs B) (span B place n) → ⊥)
-      → ForwardListed S t rs B place n room 50 0
+      → TailReason S t rs B place n room 50 0
   whole-long : (fs : List Field) (v : Value) → S t ≡ struct fs → Shows S B t fs rs v → place + n ≤ length B → TailFits (rootUnknown fs rs B) (span B place n)
-      → 16384 < length (encode S v t) + n → ForwardListed S t rs B place n room 7 0
+      → 16384 < length (encode S v t) + n → TailReason S t rs B place n room 7 0
   whole-tight : (fs : List Field) (v : Value) → S t ≡ struct fs → Shows S B t fs rs v → place + n ≤ length B → TailFits (rootUnknown fs rs B) (span B place n)
-      → length (encode S v t) + n ≤ 16384 → room < length (encode S v t) + n → ForwardListed S t rs B place n room 52 0
+      → length (encode S v t) + n ≤ 16384 → room < length (encode S v t) + n → TailReason S t rs B place n room 52 0
 
 module _ (S : ℕ → Shape) (t : ℕ) (rs : List Row) (B : List ℕ) (place n room : ℕ) where
   -- The sheet shows a value, the tail is in its bytes and fits the root's unknown bits, and the whole is a payload and fits into the room.

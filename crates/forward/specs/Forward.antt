@@ -32,8 +32,8 @@ abbrev pub suits : (unknown n : ℕ) → Bool
 suits unknown n = leb unknown n && (not (eqb unknown 0) || eqb n 0)
 
 -- What the plain writer writes, with the presence bytes that are kept in place of its own, and the tail after the known fields.
-abbrev pub joined : (bits plain tail : List ℕ) → List ℕ
-joined bits plain tail = bits ++ (drop (length bits) plain ++ tail)
+abbrev pub spliced : (bits plain tail : List ℕ) → List ℕ
+spliced bits plain tail = bits ++ (drop (length bits) plain ++ tail)
 
 -- A sheet's rows over the bytes B, with a tail of n bytes at a place of B.
 module _ (rs : List Row) (B : List ℕ) (place n room : ℕ) where
@@ -41,7 +41,7 @@ module _ (rs : List Row) (B : List ℕ) (place n room : ℕ) where
   abbrev pub withTail : List Field → (plain : List ℕ) → Writing
   withTail fs plain =
       cond (inside B place n)
-      (cond (suits (rootUnknown fs rs B) n) (fitted room (joined (rootBytes fs rs B) plain (span B place n))) (refusal 50 0))
+      (cond (suits (rootUnknown fs rs B) n) (fitted room (spliced (rootBytes fs rs B) plain (span B place n))) (refusal 50 0))
       (refusal 51 0)
 
   abbrev pub forwarding : (ℕ → Shape) → ℕ → List Field → AnswerOf Row Tree → Writing

@@ -5,11 +5,11 @@ use Prim.Native.Nat.{ℕ}
 use lib.Dec.{lit<, lit≤}
 use lib.ListN.{take, replicate}
 use Rattle.wire.specs.Little.{little, bytes}
-use Rattle.wire.specs.Varuint.{groups, front}
+use Rattle.wire.specs.Varuint.{groups, frontVarUInt}
 use Rattle.wire.proofs.Varuints.{one-byte}
 use Rattle.frame.specs.declared.Header.{Header}
 use Rattle.frame.specs.declared.FrameRead.the-variants.{More, Frame, Refused}
-use Rattle.frame.specs.Frame.{onceWhole, payloadOf, frameOf}
+use Rattle.frame.specs.Frame.{onceWhole, framePayload, frameOf}
 use Rattle.frame.specs.Written.{frontBytes, frameBytes}
 use Rattle.frame.proofs.Theorems.{frame-read}
 use Rattle.frame.proofs.ReadBack.{shortest-frame}
@@ -91,5 +91,5 @@ pub lengths-judged : map (λ (l : List ℕ). frameOf (take 25 invoke-bytes ++ l)
     ∷ (0x02 ∷ payload)
     ∷ [])
     ≡ More ∷ Refused 6 ∷ Refused 6 ∷ Refused 6 ∷ Refused 6 ∷ Refused 6 ∷ Refused 7 ∷ Refused 7 ∷ More ∷ Frame invoke 26 2 ∷ []
-unfolding frameOf onceWhole payloadOf little front groups invoke payload invoke-bytes
+unfolding frameOf onceWhole framePayload little frontVarUInt groups invoke payload invoke-bytes
 lengths-judged = refl

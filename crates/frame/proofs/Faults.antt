@@ -12,13 +12,13 @@ use lib.Seq.{drop-at, getD-take, length-take-le, take-append-seam}
 use Rattle.wire.specs.Little.{little}
 use Rattle.wire.specs.declared.varuint.VarUInt.{VarUInt}
 use Rattle.wire.specs.declared.varuint.VarUInt.the-variants.{Number, Cut, Malformed}
-use Rattle.wire.specs.Varuint.{front, Spelled, Completed, Spare, TenthAbove}
+use Rattle.wire.specs.Varuint.{frontVarUInt, Spelled, Completed, Spare, TenthAbove}
 use Rattle.wire.proofs.Cases.{differ}
 use Rattle.wire.proofs.Varuints.{spelled-reads, read-spelled, spelled-cut, cut-completed, malformed-iff}
 use Rattle.frame.specs.declared.Header.{Header}
 use Rattle.frame.specs.declared.FrameRead.{FrameRead}
 use Rattle.frame.specs.declared.FrameRead.the-variants.{More, Frame, Refused}
-use Rattle.frame.specs.Frame.{isMagic, knownKind, payloadOf, frameOf, readNumber}
+use Rattle.frame.specs.Frame.{isMagic, knownKind, framePayload, frameOf, readNumber}
 use Rattle.frame.specs.Places.{headerAt}
 use Rattle.frame.specs.Faults.{IsKind, RightHeader, header, Faulty, magic, version, kind, flags, spare-group, tenth-byte, too-long, FrameFault}
 use Rattle.frame.specs.Faults.{CutFrame, in-magic, at-version, at-kind, at-flags, in-identifiers, in-length, in-payload, FrameNumber, whole, cut, fault}
@@ -47,7 +47,7 @@ start-read k t w =
     ∙ passed s 5 _ 5 _ (omega arith) refl
 
 -- behind a right header the length is read
-header-read : {f : List ℕ} → RightHeader f → (t : List ℕ) → frameOf (f ++ t) ≡ payloadOf (25 + length t) (headerAt (f ++ t)) (front t 25)
+header-read : {f : List ℕ} → RightHeader f → (t : List ℕ) → frameOf (f ++ t) ≡ framePayload (25 + length t) (headerAt (f ++ t)) (frontVarUInt t 25)
 header-read (header {k = k} {identifiers = ids} w e) t =
     let s : List ℕ = 0xAF ∷ 0x01 ∷ 0x01 ∷ k ∷ 0x00 ∷ (ids ++ t) in
     let long : length s ≡ 25 + length t = omega (arith, e, length-append ids t) in
@@ -57,32 +57,32 @@ header-read (header {k = k} {identifiers = ids} w e) t =
 
 -- the answer from the length on
 module _ (end : ℕ) (h : Header) where
-  is-malformed : payloadOf end h Malformed ≡ Refused 6
-  unfolding payloadOf
+  is-malformed : framePayload end h Malformed ≡ Refused 6
+  unfolding framePayload
   is-malformed = refl
 
-  is-cut : payloadOf end h Cut ≡ More
-  unfolding payloadOf
+  is-cut : framePayload end h Cut ≡ More
+  unfolding framePayload
   is-cut = refl
 
-  is-long : (n place : ℕ) → 16384 < n → payloadOf end h (Number n place) ≡ Refused 7
-  unfolding payloadOf
+  is-long : (n place : ℕ) → 16384 < n → framePayload end h (Number n place) ≡ Refused 7
+  unfolding framePayload
   is-long n place l = rw (lt-leb n 16384 l)
 
-  is-short : (n place : ℕ) → n ≤ 16384 → end < place + n → payloadOf end h (Number n place) ≡ More
-  unfolding payloadOf
+  is-short : (n place : ℕ) → n ≤ 16384 → end < place + n → framePayload end h (Number n place) ≡ More
+  unfolding framePayload
   is-short n place l c = rw (le-leb n 16384 l, lt-leb (place + n) end c)
 
 -- a VarUInt that is malformed by its tenth byte, whatever follows
-tenth-malformed : (x t : List ℕ) → length x ≡ 10 → TenthAbove x → front (x ++ t) 25 ≡ Malformed
+tenth-malformed : (x t : List ℕ) → length x ≡ 10 → TenthAbove x → frontVarUInt (x ++ t) 25 ≡ Malformed
 tenth-malformed x t e (long, more, high) =
     malformed-iff (x ++ t) 25 .1
     (inr (omega (arith, e, length-append x t), λ i h. rw (List·getD-append x t 0 i (omega arith)) (more i h), rw (List·getD-append x t 0 9 (omega arith)) high))
 
-size-read : {f : List ℕ} {v : VarUInt} {r : FrameRead} (w : RightHeader f) (x t : List ℕ) → front (x ++ t) 25 ≡ v
-    → ((end : ℕ) (h : Header) → payloadOf end h v ≡ r) → frameOf ((f ++ x) ++ t) ≡ r
+size-read : {f : List ℕ} {v : VarUInt} {r : FrameRead} (w : RightHeader f) (x t : List ℕ) → frontVarUInt (x ++ t) 25 ≡ v
+    → ((end : ℕ) (h : Header) → framePayload end h v ≡ r) → frameOf ((f ++ x) ++ t) ≡ r
 size-read {f = f} w x t e answer =
-    ap frameOf (append-assoc f x t) ∙ header-read w (x ++ t) ∙ ap (payloadOf (25 + length (x ++ t)) (headerAt (f ++ (x ++ t)))) e ∙ answer (25 + length (x ++ t)) (headerAt (f ++ (x ++ t)))
+    ap frameOf (append-assoc f x t) ∙ header-read w (x ++ t) ∙ ap (framePayload (25 + length (x ++ t)) (headerAt (f ++ (x ++ t)))) e ∙ answer (25 + length (x ++ t)) (headerAt (f ++ (x ++ t)))
 
 -- The bytes up to the end of the field at fault decide.
 pub faulty-refused : {f : List ℕ} {n : ℕ} → Faulty f n → (t : List ℕ) → frameOf (f ++ t) ≡ Refused n
@@ -110,7 +110,7 @@ fault-refused s w = ap frameOf (w .split) ∙ faulty-refused (w .faulty) (w .res
 
 -- ---- what is cut asks for more
 
-cut-front : (x : List ℕ) → Completed Spelled x → front x 25 ≡ Cut
+cut-front : (x : List ℕ) → Completed Spelled x → frontVarUInt x 25 ≡ Cut
 cut-front x (n, t, some, s) = rw (take-append-seam x t) at (spelled-cut n (x ++ t) (length x) 25 s (omega (arith, length-append x t)))
 
 cut-more : {s : List ℕ} → CutFrame s → frameOf s ≡ More
@@ -125,10 +125,10 @@ cut-more (at-flags {k = k} w) =
     by-places s ∙ passed s 2 _ 2 _ (omega arith) refl ∙ passed s 3 _ 3 _ (omega arith) refl ∙ passed s 4 _ 4 _ (omega arith) (kind-known k w) ∙ short s 5 _ 5 _ (omega arith)
 cut-more (in-identifiers {k = k} {part = p} w l) = start-read k p w ∙ rw (lt-leb 25 (length (0xAF ∷ 0x01 ∷ 0x01 ∷ k ∷ 0x00 ∷ p)) (omega arith))
 cut-more (in-length {front = f} x w c) =
-    header-read w x ∙ ap (payloadOf (25 + length x) (headerAt (f ++ x))) (cut-front x c) ∙ is-cut (25 + length x) (headerAt (f ++ x))
+    header-read w x ∙ ap (framePayload (25 + length x) (headerAt (f ++ x))) (cut-front x c) ∙ is-cut (25 + length x) (headerAt (f ++ x))
 cut-more (in-payload {front = f} n x p w spells small l) =
     header-read w (x ++ p)
-    ∙ ap (payloadOf (25 + length (x ++ p)) (headerAt (f ++ (x ++ p)))) (spelled-reads n x p 25 spells)
+    ∙ ap (framePayload (25 + length (x ++ p)) (headerAt (f ++ (x ++ p)))) (spelled-reads n x p 25 spells)
     ∙ is-short (25 + length (x ++ p)) (headerAt (f ++ (x ++ p))) n (25 + length x) small (omega (arith, length-append x p))
 
 -- ---- all bytes are one of these
@@ -153,7 +153,7 @@ module _ (f : List ℕ) (w : RightHeader f) where
           let s : List ℕ = f ++ (x ++ t) in
           let read : frameOf s ≡ Frame (headerAt s) (25 + length x) n =
           header-read w (x ++ t)
-          ∙ ap (payloadOf (25 + length (x ++ t)) (headerAt s)) (spelled-reads n x t 25 spells)
+          ∙ ap (framePayload (25 + length (x ++ t)) (headerAt s)) (spelled-reads n x t 25 spells)
           ∙ payload-whole (25 + length (x ++ t)) (headerAt s) n (25 + length x) l (omega (arith, length-append x t)) in
           (0, whole (headerAt s) (25 + length x) n (read-iff-frame s (headerAt s) (25 + length x) n .0 read))
     ]
@@ -173,9 +173,9 @@ module _ (f : List ℕ) (w : RightHeader f) where
       subst Told (append-assoc f x rest ∙ ap (λ (l : List ℕ). f ++ l) (sym e)) (told-fault (f ++ x) rest (spare-group n x w g two last))
 
   told-length : (t : List ℕ) → Told (f ++ t)
-  told-length t = go (front t 25) refl
+  told-length t = go (frontVarUInt t 25) refl
     where
-      go : (v : VarUInt) → front t 25 ≡ v → Told (f ++ t)
+      go : (v : VarUInt) → frontVarUInt t 25 ≡ v → Told (f ++ t)
       go Cut e = told-cut (in-length t w (cut-completed t 25 e))
       go Malformed e = ⊎-elim (told-spare t) (told-tenth t) (malformed-iff t 25 .0 e)
       go (Number n place) e =
@@ -185,9 +185,9 @@ told-identifiers : (k : ℕ) (t : List ℕ) → IsKind k → Told (0xAF ∷ 0x01
 told-identifiers k t w = elim (decLt (length t) 20) [
   | yes l ↦ told-cut (in-identifiers w l)
   | no l ↦
-      let front : List ℕ = 0xAF ∷ 0x01 ∷ 0x01 ∷ k ∷ 0x00 ∷ take 20 t in
+      let frontVarUInt : List ℕ = 0xAF ∷ 0x01 ∷ 0x01 ∷ k ∷ 0x00 ∷ take 20 t in
       subst (λ (x : List ℕ). Told (0xAF ∷ 0x01 ∷ 0x01 ∷ k ∷ 0x00 ∷ x)) (take-append-drop 20 t)
-      (told-length front (header w (length-take-le 20 t (omega arith))) (drop 20 t))
+      (told-length frontVarUInt (header w (length-take-le 20 t (omega arith))) (drop 20 t))
 ]
 
 told-flags : (k : ℕ) (t : List ℕ) → IsKind k → Told (0xAF ∷ 0x01 ∷ 0x01 ∷ k ∷ t)

@@ -11,7 +11,7 @@ use lib.Seq.{take-at, drop-at, drop-drop, length-take-le}
 use Rattle.wire.specs.Little.{little}
 use Rattle.wire.specs.declared.varuint.VarUInt.{VarUInt}
 use Rattle.wire.specs.declared.varuint.VarUInt.the-variants.{Number, Cut, Malformed}
-use Rattle.wire.specs.Varuint.{front, varuint, Spelled}
+use Rattle.wire.specs.Varuint.{frontVarUInt, varuint, Spelled}
 use Rattle.wire.proofs.Numbers.{little-one}
 use Rattle.wire.proofs.Varuints.{spelled-reads, read-spelled}
 use Rattle.wire.proofs.Cases.{chosen, differ}
@@ -19,9 +19,9 @@ use Rattle.parse.specs.Test.{test}
 use Rattle.frame.specs.declared.Header.{Header}
 use Rattle.frame.specs.declared.FrameRead.{FrameRead}
 use Rattle.frame.specs.declared.FrameRead.the-variants.{More, Frame, Refused}
-use Rattle.frame.specs.Frame.{onceWhole, isMagic, knownKind, payloadOf, frameOf}
+use Rattle.frame.specs.Frame.{onceWhole, isMagic, knownKind, framePayload, frameOf}
 use Rattle.frame.specs.Places.{numberAt, headerAt}
-use Rattle.frame.specs.IsFrame.{Holds, IsFrame, frame, Starts}
+use Rattle.frame.specs.IsFrame.{IsNumber, IsFrame, frame, Starts}
 use Rattle.frame.proofs.Tests.{known-bounds, bounds-known, magic-bytes}
 use Rattle.frame.proofs.Places.{field, fromLength, fromFlags, fromKind, fromVersion, by-places}
 
@@ -37,9 +37,9 @@ byte-number x = omega arith
 
 -- the fields before the length
 fields-read : (h : Header) (p s m c r : List ℕ) → 1 ≤ h .kind → h .kind ≤ 8
-    → Holds 4 (h .«package») p → Holds 4 (h .service) s → Holds 4 (h .method) m → Holds 8 (h .correlation) c
+    → IsNumber 4 (h .«package») p → IsNumber 4 (h .service) s → IsNumber 4 (h .method) m → IsNumber 8 (h .correlation) c
     → let f : List ℕ = 0xAF ∷ 0x01 ∷ 0x01 ∷ h .kind ∷ 0x00 ∷ (p ++ (s ++ (m ++ (c ++ r)))) in
-    frameOf f ≡ payloadOf (length f) h (front r 25)
+    frameOf f ≡ framePayload (length f) h (frontVarUInt r 25)
 unfolding frameOf
 fields-read h p s m c r lo hi P S M C =
     let t : List ℕ = p ++ (s ++ (m ++ (c ++ r))) in
@@ -62,12 +62,12 @@ fields-read h p s m c r lo hi P S M C =
       C .value,
     )
 
-fields-length : (k : ℕ) {x y z u : ℕ} {p s m c : List ℕ} (r : List ℕ) → Holds 4 x p → Holds 4 y s → Holds 4 z m → Holds 8 u c
+fields-length : (k : ℕ) {x y z u : ℕ} {p s m c : List ℕ} (r : List ℕ) → IsNumber 4 x p → IsNumber 4 y s → IsNumber 4 z m → IsNumber 8 u c
     → length (0xAF ∷ 0x01 ∷ 0x01 ∷ k ∷ 0x00 ∷ (p ++ (s ++ (m ++ (c ++ r))))) ≡ 25 + length r
 fields-length k r P S M C = simp (length-append, P .width, S .width, M .width, C .width) (omega arith)
 
-pub payload-whole : (end : ℕ) (h : Header) (n place : ℕ) → n ≤ 16384 → place + n ≤ end → payloadOf end h (Number n place) ≡ Frame h place n
-unfolding payloadOf
+pub payload-whole : (end : ℕ) (h : Header) (n place : ℕ) → n ≤ 16384 → place + n ≤ end → framePayload end h (Number n place) ≡ Frame h place n
+unfolding framePayload
 payload-whole end h n place l e = rw (le-leb n 16384 l, le-leb (place + n) end e)
 
 pub frame-reads : {h : Header} {p f : List ℕ} → IsFrame h p f → frameOf f ≡ Frame h (length f - length p) (length p)
@@ -76,7 +76,7 @@ frame-reads (frame {h = h} {«package» = p} {service = s} {method = m} {correla
     let long : length f ≡ 25 + length (l ++ q) = fields-length (h .kind) (l ++ q) P S M C in
     let place : length f - length q ≡ 25 + length l = omega (arith, length-append l q) in
     fields-read h p s m c (l ++ q) lo hi P S M C
-    ∙ ap (payloadOf (length f) h) (spelled-reads (length q) l q 25 spells)
+    ∙ ap (framePayload (length f) h) (spelled-reads (length q) l q 25 spells)
     ∙ payload-whole (length f) h (length q) (25 + length l) small (omega (arith, length-append l q))
     ∙ ap (λ (x : ℕ). Frame h x (length q)) (sym place)
 
@@ -102,8 +102,8 @@ record Whole (end : ℕ) (h : Header) (v : VarUInt) (h′ : Header) (place n : �
   small : n ≤ 16384
   inside : place + n ≤ end
 
-payload-frame : (end : ℕ) (h : Header) (v : VarUInt) {h′ : Header} {place n : ℕ} → payloadOf end h v ≡ Frame h′ place n → Whole end h v h′ place n
-unfolding payloadOf
+payload-frame : (end : ℕ) (h : Header) (v : VarUInt) {h′ : Header} {place n : ℕ} → framePayload end h v ≡ Frame h′ place n → Whole end h v h′ place n
+unfolding framePayload
 payload-frame end h Cut e = absurd (not-more e)
 payload-frame end h Malformed e = absurd (not-refused e)
 payload-frame end h (Number m at) {h′ = h′} {place = place} {n = n} e =
@@ -126,7 +126,7 @@ five (x₀ ∷ x₁ ∷ x₂ ∷ []) h q₀ q₁ q₂ q₃ q₄ = absurd (omega 
 five (x₀ ∷ x₁ ∷ x₂ ∷ x₃ ∷ []) h q₀ q₁ q₂ q₃ q₄ = absurd (omega arith)
 five (x₀ ∷ x₁ ∷ x₂ ∷ x₃ ∷ x₄ ∷ s) h q₀ q₁ q₂ q₃ q₄ = cc
 
-holds : (s : List ℕ) (at n : ℕ) → at + n ≤ length s → Holds n (numberAt s at n) (take n (drop at s))
+holds : (s : List ℕ) (at n : ℕ) → at + n ≤ length s → IsNumber n (numberAt s at n) (take n (drop at s))
 holds s at n h = record { width = length-take-le n (drop at s) (rw length-drop (omega arith)); value = refl }
 
 -- the parts of the bytes, put together
@@ -176,6 +176,6 @@ read-is-frame s e =
     let version = field-frame s 3 (eqb (numberAt s 2 1) 1) 3 (fromKind s) (magic .1 .1) in
     let kind = field-frame s 4 (knownKind (numberAt s 3 1)) 4 (fromFlags s) (version .1 .1) in
     let flags = field-frame s 5 (eqb (numberAt s 4 1) 0) 5 (fromLength s) (kind .1 .1) in
-    let length-whole = chosen (leb 25 (length s)) (payloadOf (length s) (headerAt s) (varuint s 25)) More not-more (flags .1 .1) in
+    let length-whole = chosen (leb 25 (length s)) (framePayload (length s) (headerAt s) (varuint s 25)) More not-more (flags .1 .1) in
     built s (leb-true 25 (length s) (length-whole .0)) (magic .1 .0) (eqb-true (numberAt s 2 1) 1 (version .1 .0)) (kind .1 .0) (eqb-true (numberAt s 4 1) 0 (flags .1 .0))
     (payload-frame (length s) (headerAt s) (varuint s 25) (length-whole .1))

@@ -13,7 +13,7 @@ use Rattle.wire.specs.Varuint.{varuint}
 use Rattle.parse.specs.Test.{test}
 use Rattle.frame.specs.declared.FrameRead.{FrameRead}
 use Rattle.frame.specs.declared.FrameRead.the-variants.{More, Refused}
-use Rattle.frame.specs.Frame.{onceWhole, isMagic, knownKind, payloadOf, frameOf}
+use Rattle.frame.specs.Frame.{onceWhole, isMagic, knownKind, framePayload, frameOf}
 use Rattle.frame.specs.Places.{numberAt, headerAt}
 
 -- a field that ends at e
@@ -34,7 +34,7 @@ module _ (s : List ℕ) (e : ℕ) (right : Bool) (number : ℕ) (next : FrameRea
   passed h w = rw (le-leb e (length s) h, w)
 
 abbrev pub fromLength : List ℕ → FrameRead
-fromLength s = cond (leb 25 (length s)) (payloadOf (length s) (headerAt s) (varuint s 25)) More
+fromLength s = cond (leb 25 (length s)) (framePayload (length s) (headerAt s) (varuint s 25)) More
 
 abbrev pub fromFlags : List ℕ → FrameRead
 fromFlags s = field s 5 (eqb (numberAt s 4 1) 0) 5 (fromLength s)

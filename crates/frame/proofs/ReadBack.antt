@@ -19,14 +19,14 @@ use Rattle.frame.specs.declared.FrameRead.the-variants.{Frame}
 use Rattle.frame.specs.declared.FrameWritten.the-variants.{Written, Refused}
 use Rattle.frame.specs.Frame.{knownKind, frameOf}
 use Rattle.frame.specs.Written.{frontBytes, frameBytes, writtenOf, outputOf, Accepted, Unwritten, kind, long, full, ReadBack}
-use Rattle.frame.specs.IsFrame.{Holds, IsFrame, frame, HeaderFits}
+use Rattle.frame.specs.IsFrame.{IsNumber, IsFrame, frame, HeaderFits}
 use Rattle.frame.proofs.Tests.{known-bounds, bounds-known}
 use Rattle.frame.proofs.Writes.{length-frame, fitting}
 use Rattle.frame.proofs.Frames.{read-is-frame}
 use Rattle.frame.proofs.Answers.{read-bounds}
 use Rattle.frame.proofs.Theorems.{starts, payload-there, frame-read}
 
-holds-bytes : (n x : ℕ) → x < 256 ^ n → Holds n x (bytes n x)
+holds-bytes : (n x : ℕ) → x < 256 ^ n → IsNumber n x (bytes n x)
 holds-bytes n x h = record { width = length-bytes n x; value = little-bytes n x h }
 
 -- what the writer writes is a frame
@@ -113,7 +113,7 @@ output-read-back h p out {n = n} fits e = read-back h p (length out) fits e (dro
 
 -- ---- the same bytes
 
-held : (n x : ℕ) (b : List ℕ) → Holds n x b → Bytes b → b ≡ bytes n x
+held : (n x : ℕ) (b : List ℕ) → IsNumber n x b → Bytes b → b ≡ bytes n x
 held n x b w u = sym (bytes-little b u) ∙ ap₂ bytes (w .width) (w .value)
 
 -- a header and a payload have one frame

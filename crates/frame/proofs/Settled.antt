@@ -11,14 +11,14 @@ use lib.ListN.{length, drop, length-append, length-drop, List·getD-append}
 use lib.Seq.{take-append-le, drop-append-le}
 use Rattle.wire.specs.declared.varuint.VarUInt.{VarUInt}
 use Rattle.wire.specs.declared.varuint.VarUInt.the-variants.{Number, Cut, Malformed}
-use Rattle.wire.specs.Varuint.{front}
+use Rattle.wire.specs.Varuint.{frontVarUInt}
 use Rattle.wire.proofs.Varuints.{front-settled}
 use Rattle.wire.proofs.Cases.{differ}
 use Rattle.parse.specs.Test.{test}
 use Rattle.frame.specs.declared.Header.{Header}
 use Rattle.frame.specs.declared.FrameRead.{FrameRead}
 use Rattle.frame.specs.declared.FrameRead.the-variants.{More, Frame, Refused}
-use Rattle.frame.specs.Frame.{isMagic, knownKind, payloadOf, frameOf}
+use Rattle.frame.specs.Frame.{isMagic, knownKind, framePayload, frameOf}
 use Rattle.frame.specs.Places.{numberAt, headerAt}
 use Rattle.frame.proofs.Places.{field, fromLength, by-places}
 
@@ -46,12 +46,12 @@ module _ (s t : List ℕ) where
       tested true h = h
       tested false h = same
 
-  cut : (h : Header) (v : VarUInt) → Before (payloadOf (length s) h Cut) (payloadOf (length (s ++ t)) h v)
-  unfolding payloadOf
+  cut : (h : Header) (v : VarUInt) → Before (framePayload (length s) h Cut) (framePayload (length (s ++ t)) h v)
+  unfolding framePayload
   cut h v = more
 
-  payload-before : (h : Header) (v : VarUInt) → Before (payloadOf (length s) h v) (payloadOf (length (s ++ t)) h v)
-  unfolding payloadOf
+  payload-before : (h : Header) (v : VarUInt) → Before (framePayload (length s) h v) (framePayload (length (s ++ t)) h v)
+  unfolding framePayload
   payload-before h Cut = more
   payload-before h Malformed = same
   payload-before h (Number n place) = tested (leb n 16384) _
@@ -72,15 +72,15 @@ module _ (s t : List ℕ) where
   length-before = elim (decLe 25 (length s)) [
     | yes l ↦
         rw (le-leb 25 (length s) l, le-leb 25 (length (s ++ t)) (omega (arith, longer)), header-same l, drop-append-le 25 s t l)
-        (read (front (drop 25 s) 25) refl)
+        (read (frontVarUInt (drop 25 s) 25) refl)
     | no l ↦ rw (lt-leb 25 (length s) (omega arith)) more
   ]
     where
-      kept : (v : VarUInt) → front (drop 25 s) 25 ≡ v → (v ≡ Cut → ⊥) → Before (payloadOf (length s) (headerAt s) (front (drop 25 s) 25)) (payloadOf (length (s ++ t)) (headerAt s) (front (drop 25 s ++ t) 25))
-      kept v e h = rw (front-settled (drop 25 s) t 25 (λ c. h (sym e ∙ c))) (payload-before (headerAt s) (front (drop 25 s) 25))
+      kept : (v : VarUInt) → frontVarUInt (drop 25 s) 25 ≡ v → (v ≡ Cut → ⊥) → Before (framePayload (length s) (headerAt s) (frontVarUInt (drop 25 s) 25)) (framePayload (length (s ++ t)) (headerAt s) (frontVarUInt (drop 25 s ++ t) 25))
+      kept v e h = rw (front-settled (drop 25 s) t 25 (λ c. h (sym e ∙ c))) (payload-before (headerAt s) (frontVarUInt (drop 25 s) 25))
 
-      read : (v : VarUInt) → front (drop 25 s) 25 ≡ v → Before (payloadOf (length s) (headerAt s) (front (drop 25 s) 25)) (payloadOf (length (s ++ t)) (headerAt s) (front (drop 25 s ++ t) 25))
-      read Cut e = rw e (cut (headerAt s) (front (drop 25 s ++ t) 25))
+      read : (v : VarUInt) → frontVarUInt (drop 25 s) 25 ≡ v → Before (framePayload (length s) (headerAt s) (frontVarUInt (drop 25 s) 25)) (framePayload (length (s ++ t)) (headerAt s) (frontVarUInt (drop 25 s ++ t) 25))
+      read Cut e = rw e (cut (headerAt s) (frontVarUInt (drop 25 s ++ t) 25))
       read Malformed e = kept Malformed e (λ c. differ cc)
       read (Number n place) e = kept (Number n place) e (λ c. differ cc)
 

@@ -33,8 +33,8 @@ pub record FrameFault (s : List ℕ) (number : ℕ) : Type 0 where
   pub split : s ≡ front ++ rest
   pub faulty : Faulty front number
 
--- The bytes s end before a frame does, and no field that is whole is at fault. They end in the magic, where one byte is not judged, whatever it is; after
--- the magic, the version or the kind; in package, service, method or correlation; in the length, even one that is too long already; or in the payload.
+-- The bytes s end before a frame does, and no field that is whole is at fault.
+-- One byte of the magic is not judged, whatever it is, and a length that is cut may be too long already.
 pub data CutFrame : (s : List ℕ) → Type 0 where
   in-magic : {s : List ℕ} → length s < 2 → CutFrame s
   at-version : CutFrame (0xAF ∷ 0x01 ∷ [])

@@ -7,7 +7,7 @@ use lib.ListN.{length, getD, take, drop}
 use Rattle.wire.specs.Little.{little}
 use Rattle.wire.specs.declared.varuint.VarUInt.{VarUInt}
 use Rattle.wire.specs.declared.varuint.VarUInt.the-variants.{Number, Cut, Malformed}
-use Rattle.wire.specs.Varuint.{front}
+use Rattle.wire.specs.Varuint.{frontVarUInt}
 use Rattle.parse.specs.Test.{test}
 use Rattle.frame.specs.declared.Header.{Header}
 use Rattle.frame.specs.declared.FrameRead.{FrameRead}
@@ -26,10 +26,10 @@ abbrev pub knownKind : ℕ → Bool
 knownKind k = leb 1 k && leb k 8
 
 -- The payload, from its length on; the bytes end at `end`.
-unfoldable pub payloadOf : ℕ → Header → VarUInt → FrameRead
-payloadOf end h Cut = More
-payloadOf end h Malformed = Refused 6
-payloadOf end h (Number n place) = test (leb n 16384) (Refused 7) (cond (leb (place + n) end) (Frame h place n) More)
+unfoldable pub framePayload : ℕ → Header → VarUInt → FrameRead
+framePayload end h Cut = More
+framePayload end h Malformed = Refused 6
+framePayload end h (Number n place) = test (leb n 16384) (Refused 7) (cond (leb (place + n) end) (Frame h place n) More)
 
 -- What is read at the front of the bytes: 25 bytes of fields, then the payload's length and the payload.
 unfoldable pub frameOf : List ℕ → FrameRead
@@ -42,7 +42,7 @@ frameOf bytes =
     onceWhole 4 s λ service s.
     onceWhole 4 s λ method s.
     onceWhole 8 s λ correlation s.
-    payloadOf (length bytes)
+    framePayload (length bytes)
     (record {
       kind = little kind;
       «package» = little «package»;
@@ -50,7 +50,7 @@ frameOf bytes =
       method = little method;
       correlation = little correlation;
     })
-    (front s 25)))))
+    (frontVarUInt s 25)))))
 
 -- 01's number of an answer.
 abbrev pub readNumber : FrameRead → ℕ

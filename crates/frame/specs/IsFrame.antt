@@ -8,7 +8,7 @@ use Rattle.wire.specs.Varuint.{Spelled}
 use Rattle.frame.specs.declared.Header.{Header}
 
 -- The bytes b are n in number, and hold x.
-pub record Holds (n x : ℕ) (b : List ℕ) : Type 0 where
+pub record IsNumber (n x : ℕ) (b : List ℕ) : Type 0 where
   pub width : length b ≡ n
   pub value : little b ≡ x
 
@@ -17,10 +17,10 @@ pub data IsFrame : (h : Header) (payload frame : List ℕ) → Type 0 where
   frame : {h : Header} {«package» service method correlation payload : List ℕ} (size : List ℕ)
       → 1 ≤ h .kind
       → h .kind ≤ 8
-      → Holds 4 (h .«package») «package»
-      → Holds 4 (h .service) service
-      → Holds 4 (h .method) method
-      → Holds 8 (h .correlation) correlation
+      → IsNumber 4 (h .«package») «package»
+      → IsNumber 4 (h .service) service
+      → IsNumber 4 (h .method) method
+      → IsNumber 8 (h .correlation) correlation
       → Spelled (length payload) size
       → length payload ≤ 16384
       → IsFrame h payload

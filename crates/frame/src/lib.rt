@@ -13,7 +13,7 @@ ghost use Prim.Native.Nat.{_+_, _≤_};
 ghost use lib.ListN.{length};
 ghost use Rattle.buffer.specs.Store.{written};
 ghost use Rattle.wire.specs.Varuint.{varuint, varuintBytes};
-ghost use Rattle.frame.specs.Frame.{knownKind, payloadOf, frameOf};
+ghost use Rattle.frame.specs.Frame.{knownKind, framePayload, frameOf};
 ghost use Rattle.frame.specs.Places.{numberAt, headerAt, judged};
 ghost use Rattle.frame.specs.Written.{frontBytes, writtenOf, outputOf};
 
@@ -61,7 +61,7 @@ pub enum FrameWritten {
     Refused(u32),
 }
 
-// One of the eight kinds.
+// Whether it is one of the eight kinds.
 pub fn known_kind(kind: u32) -> bool
     ensures { λ r. ⌜ r ≡ knownKind kind ⌝ }
 {
@@ -109,7 +109,7 @@ fn header_at(s: &[u8]) -> Header
 // From the payload's length on: malformed is 6, above 16,384 is 7, whether or not the payload is there.
 fn read_payload(s: &[u8]) -> FrameRead
     requires { ⌜ 25 ≤ length (now s) ⌝ }
-    ensures { λ r. ⌜ r ≡ payloadOf (length (now (s .entry))) (headerAt (now (s .entry))) (varuint (now (s .entry)) 25) ⌝ }
+    ensures { λ r. ⌜ r ≡ framePayload (length (now (s .entry))) (headerAt (now (s .entry))) (varuint (now (s .entry)) 25) ⌝ }
 {
     match wire::varuint::read(s, format::HEADER) {
         VarUInt::Number { value, next } => {
@@ -134,7 +134,7 @@ fn read_payload(s: &[u8]) -> FrameRead
 // What the header says as far as it is there, each field judged once it is whole: a refusal's number, 1 where more bytes are needed,
 // and 0 where the header is whole and right.
 fn judge_header(bytes: &[u8]) -> u32
-    ensures { λ r. ⌜ (judged r (payloadOf (length (now (bytes .entry))) (headerAt (now (bytes .entry))) (varuint (now (bytes .entry)) 25)) ≡ frameOf (now (bytes .entry))) × (r ≡ 0 → 25 ≤ length (now (bytes .entry))) ⌝ }
+    ensures { λ r. ⌜ (judged r (framePayload (length (now (bytes .entry))) (headerAt (now (bytes .entry))) (varuint (now (bytes .entry)) 25)) ≡ frameOf (now (bytes .entry))) × (r ≡ 0 → 25 ≤ length (now (bytes .entry))) ⌝ }
 {
     let n = bytes.len();
     if n < 2 {

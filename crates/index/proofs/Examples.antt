@@ -148,5 +148,5 @@ pub look-ups : look.lookUp two (fill 31) 9 (fill 35)
     ∷ look.outcome (Printed 65 24) (refused 54 53)
     ∷ look.outcome (Refused 52) (fill 23)
     ∷ []
-unfolding little.little decimal.digits decimal.decimal texts.field rowsIn isShaped isRising isIndex ofCall lineText linesText stoppedText textOf look.verdict look.looked look.lookText look.put look.lookUp
+unfolding little.little decimal.digits decimal.decimal texts.field rowsIn isShaped isRising isIndex ofCall lineText linesText stoppedText textOf look.stoppedNumber look.looked look.lookText look.printedText look.lookUp
 look-ups = refl

@@ -15,7 +15,7 @@ use Rattle.index.specs.declared.Finding.the-variants.{Printed, Refused}
 use Rattle.index.specs.Row.{Row, isOf, ofCall}
 use Rattle.index.specs.IsIndex.{rowAt, rowsIn}
 use Rattle.index.specs.Text.{heading, lineText, linesText, stoppedText, textOf}
-use Rattle.index.specs.LookUp.{lookText, outcome, put, lookUp}
+use Rattle.index.specs.LookUp.{lookText, outcome, printedText, lookUp}
 use Rattle.index.proofs.Orders.{call-is, call-not, call-none}
 use Rattle.index.proofs.Shapes.{rows-on, rows-over, JudgedAs}
 
@@ -114,11 +114,11 @@ module _ (index entries : List ℕ) (c : ℕ) (out : List ℕ) (number rows : �
     size-is = text-length some text measured ∙ ap length text-is
 
     pub no-room : length out < n → outcome (Refused 52) out ≡ lookUp index entries c out
-    unfolding lookUp put
+    unfolding lookUp printedText
     no-room h = rw (lt-ltb (length out) (length (lookText index (length entries) c)) (omega (arith, size-is, h)))
 
     pub printed : n ≤ length out → (next : ℕ) (done : List ℕ) → Added out 0 text next done → outcome (Printed number n) done ≡ lookUp index entries c out
-    unfolding lookUp put
+    unfolding lookUp printedText
     printed h next done f =
         let long : next ≡ n = text-length out text f ∙ sym (text-length some text measured) in
         let whole : done ≡ text ++ drop next out = text-whole out text f (omega (arith, long, h)) in

@@ -12,7 +12,7 @@ use Rattle.schema.proofs.Bools.{and-left, and-right}
 use Rattle.wire.specs.Little.{little}
 use Rattle.index.specs.Row.{Row, isBefore, isRising}
 use Rattle.index.specs.IsIndex.{rowAt, rowsIn, countIn, trailerCell, sizeIn, isShaped, isOrdered, isIndex}
-use Rattle.index.specs.LookUp.{verdict, looked}
+use Rattle.index.specs.LookUp.{stoppedNumber, looked}
 
 -- ---- the shape
 
@@ -114,16 +114,16 @@ module _ (n i : ℕ) (s : List ℕ) (sofar : restRising n i s ≡ isRising (rows
 -- ---- the verdict
 
 pub record JudgedAs (s : List ℕ) (size number rows : ℕ) : Type 0 where
-  pub number-is : number ≡ verdict s size
+  pub number-is : number ≡ stoppedNumber s size
   pub rows-is : rows ≡ looked s size
   pub inside : 16 * rows ≤ length s
   pub few : rows < 4294967296
 
 module _ (s : List ℕ) (size : ℕ) where
   refused-index : isIndex s ≡ false → (number rows : ℕ) → number ≡ 65 → rows ≡ 0 → JudgedAs s size number rows
-  unfolding verdict looked
+  unfolding stoppedNumber looked
   refused-index e number rows n z =
-      let v : verdict s size ≡ 65 = rw e in
+      let v : stoppedNumber s size ≡ 65 = rw e in
       record {
         number-is = n ∙ sym v;
         rows-is = z ∙ rw v;
@@ -146,9 +146,9 @@ module _ (s : List ℕ) (size : ℕ) where
       accepted-index = ap (λ (b : Bool). b && isOrdered s) shape ∙ order
 
       pub judged-size : (x : ℕ) → x ≡ little (take 4 (drop (length s - 16 + 8) s)) → (x ≡ size → ⊥) → (number rows : ℕ) → number ≡ 66 → rows ≡ 0 → JudgedAs s size number rows
-      unfolding verdict looked
+      unfolding stoppedNumber looked
       judged-size x e h number rows k z =
-          let v : verdict s size ≡ 66 = rw (accepted-index, ne-eqb (sizeIn s) size (λ q. h (cell-read 8 x s e ∙ q))) in
+          let v : stoppedNumber s size ≡ 66 = rw (accepted-index, ne-eqb (sizeIn s) size (λ q. h (cell-read 8 x s e ∙ q))) in
           record {
             number-is = k ∙ sym v;
             rows-is = z ∙ rw v;
@@ -157,9 +157,9 @@ module _ (s : List ℕ) (size : ℕ) where
           }
 
       pub judged-right : (x : ℕ) → x ≡ little (take 4 (drop (length s - 16 + 8) s)) → x ≡ size → (n : ℕ) → n ≡ countIn s → n < 4294967296 → JudgedAs s size 0 n
-      unfolding verdict looked
+      unfolding stoppedNumber looked
       judged-right x e h n is few =
-          let v : verdict s size ≡ 0 = rw (accepted-index, eq-eqb (sizeIn s) size (sym (cell-read 8 x s e) ∙ h)) in
+          let v : stoppedNumber s size ≡ 0 = rw (accepted-index, eq-eqb (sizeIn s) size (sym (cell-read 8 x s e) ∙ h)) in
           record {
             number-is = sym v;
             rows-is = is ∙ rw v;

@@ -18,7 +18,7 @@ use Rattle.schema.specs.declared.Checked.the-variants.{Good, Refused as Faulty}
 use Rattle.schema.specs.File.{tableOf}
 use Rattle.schema.specs.Check.{checked, IsGood}
 use Rattle.schema.proofs.Faults.{refused-iff as schema-refused}
-use Rattle.schema.proofs.Listed.{listed as schema-listed, listed-bounds}
+use Rattle.schema.proofs.Numbered.{listed as schema-listed, listed-bounds}
 use Rattle.schema.proofs.Bools.{cases, clash, is-false}
 use Rattle.frame.specs.declared.Header.{Header}
 use Rattle.frame.specs.Frame.{frameOf}
@@ -28,7 +28,7 @@ use Rattle.calls.specs.declared.Call.{Call}
 use Rattle.receiver.specs.Claims as line
 use Rattle.receiver.specs.Fresh.{receivedFresh}
 use Rattle.receiver.specs.Run.{freshTallies}
-use Rattle.receiver.proofs.Listed.{listed}
+use Rattle.receiver.proofs.Numbered.{listed}
 use Rattle.replay.specs.Run.{sheet, freshCalls, answerTo, headerIn, Entry, Run, runOf}
 use Rattle.replay.specs.Runs.{Runs, at-end, halting, answering}
 use Rattle.replay.proofs.Turns.{listed-frame}
@@ -323,11 +323,11 @@ module _ (schema entries out : List ℕ) where
 
 -- "Refusals: 65 index shape or order, 66 record of another length, 65 first": of any bytes a look-up either accepts an index whose rows rise strictly, for
 -- a record of that length, or gives 66 or 65 and looks at no row.
-pub judged : (index : List ℕ) (size : ℕ) → Bytes index → Judges index size (look.verdict index size) (rowsIn (look.looked index size) index)
-unfolding look.verdict look.looked rowsIn
+pub judged : (index : List ℕ) (size : ℕ) → Bytes index → Judges index size (look.stoppedNumber index size) (rowsIn (look.looked index size) index)
+unfolding look.stoppedNumber look.looked rowsIn
 judged index size b =
-    let told : (n : ℕ) → look.verdict index size ≡ n → Judges index size n (rowsIn (cond (eqb n 0) (countIn index) 0) index)
-    → Judges index size (look.verdict index size) (rowsIn (look.looked index size) index) =
+    let told : (n : ℕ) → look.stoppedNumber index size ≡ n → Judges index size n (rowsIn (cond (eqb n 0) (countIn index) 0) index)
+    → Judges index size (look.stoppedNumber index size) (rowsIn (look.looked index size) index) =
     λ n v w. subst (λ (k : ℕ). Judges index size k (rowsIn (cond (eqb k 0) (countIn index) 0) index)) (sym v) w in
     ⊎-elim
     (λ (e : isIndex index ≡ true).
@@ -341,37 +341,37 @@ judged index size b =
 
 module _ (index : List ℕ) (size c : ℕ) where
   -- "for exactly the rows of one correlation, in order, and last `stopped` and 0"
-  pub rows-printed : {rows : List Row} → IsIndex index rows size → (look.verdict index size ≡ 0) × (look.lookText index size c ≡ textOf (ofCall c rows) 0)
-  unfolding look.verdict look.looked look.lookText
+  pub rows-printed : {rows : List Row} → IsIndex index rows size → (look.stoppedNumber index size ≡ 0) × (look.lookText index size c ≡ textOf (ofCall c rows) 0)
+  unfolding look.stoppedNumber look.looked look.lookText
   rows-printed {rows} w =
       let r = index-reads w in
-      let v : look.verdict index size ≡ 0 = rw (r .passes, eq-eqb (sizeIn index) size (r .size-is)) in
+      let v : look.stoppedNumber index size ≡ 0 = rw (r .passes, eq-eqb (sizeIn index) size (r .size-is)) in
       (v, rw v (ap (λ (l : List Row). textOf (ofCall c l) 0) (r .rows-are)))
 
   -- "or, without rows, the refusal"
-  pub other-printed : {rows : List Row} {n : ℕ} → IsIndex index rows n → (n ≡ size → ⊥) → (look.verdict index size ≡ 66) × (look.lookText index size c ≡ textOf [] 66)
-  unfolding look.verdict look.looked look.lookText rowsIn ofCall
+  pub other-printed : {rows : List Row} {n : ℕ} → IsIndex index rows n → (n ≡ size → ⊥) → (look.stoppedNumber index size ≡ 66) × (look.lookText index size c ≡ textOf [] 66)
+  unfolding look.stoppedNumber look.looked look.lookText rowsIn ofCall
   other-printed w h =
       let r = index-reads w in
-      let v : look.verdict index size ≡ 66 = rw (r .passes, ne-eqb (sizeIn index) size (λ q. h (sym (r .size-is) ∙ q))) in
+      let v : look.stoppedNumber index size ≡ 66 = rw (r .passes, ne-eqb (sizeIn index) size (λ q. h (sym (r .size-is) ∙ q))) in
       (v, rw v)
 
-  pub none-printed : Bytes index → ((rows : List Row) (n : ℕ) → IsIndex index rows n → ⊥) → (look.verdict index size ≡ 65) × (look.lookText index size c ≡ textOf [] 65)
-  unfolding look.verdict look.looked look.lookText rowsIn ofCall
+  pub none-printed : Bytes index → ((rows : List Row) (n : ℕ) → IsIndex index rows n → ⊥) → (look.stoppedNumber index size ≡ 65) × (look.lookText index size c ≡ textOf [] 65)
+  unfolding look.stoppedNumber look.looked look.lookText rowsIn ofCall
   none-printed b none =
       let e : isIndex index ≡ false = is-false (isIndex index) (λ t. none (rowsIn (countIn index) index) (sizeIn index) (reads-index index b t)) in
-      let v : look.verdict index size ≡ 65 = rw e in
+      let v : look.stoppedNumber index size ≡ 65 = rw e in
       (v, rw v)
 
 -- What a look-up answers and leaves: the text at the start of the output where it fits, or 52.
 pub look-up-fits : (index entries : List ℕ) (c : ℕ) (out : List ℕ) → let text = look.lookText index (length entries) c in length text ≤ length out
-    → look.lookUp index entries c out ≡ look.outcome (Printed (look.verdict index (length entries)) (length text)) (text ++ drop (length text) out)
-unfolding look.lookUp look.put
+    → look.lookUp index entries c out ≡ look.outcome (Printed (look.stoppedNumber index (length entries)) (length text)) (text ++ drop (length text) out)
+unfolding look.lookUp look.printedText
 look-up-fits index entries c out h = rw (le-ltb (length out) (length (look.lookText index (length entries) c)) h)
 
 pub look-up-full : (index entries : List ℕ) (c : ℕ) (out : List ℕ) → length out < length (look.lookText index (length entries) c)
     → look.lookUp index entries c out ≡ look.outcome (Unprinted 52) out
-unfolding look.lookUp look.put
+unfolding look.lookUp look.printedText
 look-up-full index entries c out h = rw (lt-ltb (length out) (length (look.lookText index (length entries) c)) h)
 
 -- So for any index, record, correlation and output: the lines of exactly the call's rows of an index that is accepted, or none, and last the verdict.
@@ -388,7 +388,7 @@ looked-up index entries c out b =
 
 -- what was judged is the verdict, and gives the text
 judged-text : (index : List ℕ) (size c : ℕ) {number : ℕ} {rows : List Row} → Bytes index → Judges index size number rows
-    → (look.verdict index size ≡ number) × (look.lookText index size c ≡ textOf (ofCall c rows) number)
+    → (look.stoppedNumber index size ≡ number) × (look.lookText index size c ≡ textOf (ofCall c rows) number)
 judged-text index size c b (right w) = rows-printed index size c w
 judged-text index size c b (other-record w h) =
     let (v, t) = other-printed index size c w h in
@@ -427,7 +427,7 @@ call-lines c (e ∷ es) =
 -- An index made from a record is accepted for it, and the text of a call is the place and the answer of exactly the entries of that correlation in the
 -- record's run, in order.
 pub call-text : (schema entries out : List ℕ) {n : ℕ} {after : List ℕ} → makeIndex schema entries out ≡ outcome (Made n) after → Bytes entries → (c : ℕ)
-    → (look.verdict (take n after) (length entries) ≡ 0) × (look.lookText (take n after) (length entries) c ≡ callText c (runOf schema entries .entries))
+    → (look.stoppedNumber (take n after) (length entries) ≡ 0) × (look.lookText (take n after) (length entries) c ≡ callText c (runOf schema entries .entries))
 unfolding textOf callText
 call-text schema entries out {n} {after} e b c =
     let a = made-iff schema entries out n after .0 e in
@@ -435,7 +435,7 @@ call-text schema entries out {n} {after} e b c =
     let size = length entries in
     let front : take n after ≡ indexBytes rows size = ap (take n) (a .after-is) ∙ take-at (indexBytes rows size) (drop n out) n (index-long rows size ∙ sym (a .size)) in
     let w = rows-printed (indexBytes rows size) size c (made-index schema entries b (a .small)) in (
-      ap (λ (s : List ℕ). look.verdict s size) front ∙ w .0,
+      ap (λ (s : List ℕ). look.stoppedNumber s size) front ∙ w .0,
       ap (λ (s : List ℕ). look.lookText s size c) front
           ∙ w .1
           ∙ ap (λ (l : List Row). textOf l 0) (call-rows schema entries c)
@@ -465,8 +465,8 @@ refused-above schema entries out {number} {place} e =
     of-fault (no-room g l h) = omega arith
 
 -- What follows `stopped` is 0, 65 or 66.
-pub verdict-known : (index : List ℕ) (size : ℕ) → (look.verdict index size ≡ 0) ⊎ ((look.verdict index size ≡ 65) ⊎ (look.verdict index size ≡ 66))
-unfolding look.verdict
+pub verdict-known : (index : List ℕ) (size : ℕ) → (look.stoppedNumber index size ≡ 0) ⊎ ((look.stoppedNumber index size ≡ 65) ⊎ (look.stoppedNumber index size ≡ 66))
+unfolding look.stoppedNumber
 verdict-known index size = go (isIndex index) (eqb (sizeIn index) size)
   where
     go : (a b : Bool) → let n : ℕ = cond {A = ℕ} a (cond {A = ℕ} b 0 66) 65 in (n ≡ 0) ⊎ ((n ≡ 65) ⊎ (n ≡ 66))

@@ -1,5 +1,5 @@
--- An index as bytes: 16-byte rows, and a trailer of 16 bytes that points back to the first row, with row count, the record's length and layout number 1;
--- and what making one answers and leaves in the output. All numbers are little-endian.
+-- An index (02's term) as bytes: 16-byte rows, and a trailer of 16 bytes that points back to the first row, with row count, the record's length and
+-- layout number 1, all little-endian; and what making one answers and leaves in the output.
 use mathlib.Core.Bool.{cond}
 use mathlib.Core.List.{List, [], _∷_, _++_}
 use Prim.Native.Nat.{ℕ, _+_}

@@ -11,16 +11,16 @@ use Rattle.index.specs.IsIndex.{rowsIn, countIn, isIndex, sizeIn}
 use Rattle.index.specs.Text.{textOf}
 
 -- The number that follows `stopped`, for a record of so many bytes.
-unfoldable pub verdict : (index : List ℕ) (size : ℕ) → ℕ
-verdict index size = cond (isIndex index) (cond (eqb (sizeIn index) size) 0 66) 65
+unfoldable pub stoppedNumber : (index : List ℕ) (size : ℕ) → ℕ
+stoppedNumber index size = cond (isIndex index) (cond (eqb (sizeIn index) size) 0 66) 65
 
 -- How many rows are looked at: none at a refusal.
 unfoldable pub looked : (index : List ℕ) (size : ℕ) → ℕ
-looked index size = cond (eqb (verdict index size) 0) (countIn index) 0
+looked index size = cond (eqb (stoppedNumber index size) 0) (countIn index) 0
 
 -- The text of a look-up.
 unfoldable pub lookText : (index : List ℕ) (size correlation : ℕ) → List ℕ
-lookText index size c = textOf (ofCall c (rowsIn (looked index size) index)) (verdict index size)
+lookText index size c = textOf (ofCall c (rowsIn (looked index size) index)) (stoppedNumber index size)
 
 -- An answer, with the output as it is left.
 pub record Outcome : Type 0 where
@@ -31,12 +31,12 @@ abbrev pub outcome : Finding → List ℕ → Outcome
 outcome r out = record { answer = r; out = out }
 
 -- The text at the start of the output, or 52 where it does not fit.
-unfoldable pub put : (number : ℕ) (text out : List ℕ) → Outcome
-put number text out =
+unfoldable pub printedText : (number : ℕ) (text out : List ℕ) → Outcome
+printedText number text out =
     cond (ltb (length out) (length text)) (outcome (Refused 52) out) (outcome (Printed number (length text)) (text ++ drop (length text) out))
 
 unfoldable pub lookUp : (index entries : List ℕ) (correlation : ℕ) (out : List ℕ) → Outcome
-lookUp index entries c out = put (verdict index (length entries)) (lookText index (length entries) c) out
+lookUp index entries c out = printedText (stoppedNumber index (length entries)) (lookText index (length entries) c) out
 
 -- ---- what the answers stand for
 

@@ -1,5 +1,6 @@
 // The text of a look-up.
 use crate::judge::Judged;
+use crate::judge::ROW;
 use text::put_byte;
 use text::put_decimal;
 use text::put_field;
@@ -33,7 +34,7 @@ fn put_rows(index: &[u8], n: usize, correlation: u64, out: &mut [u8], start: usi
     let mut pos = start;
     let mut i = 0;
     while i < n {
-        let at = 16 * i;
+        let at = ROW * i;
         let same = number(index, at, 8) == correlation;
         if same {
             pos = put_row(index, at, out, pos);

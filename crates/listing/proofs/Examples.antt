@@ -58,11 +58,11 @@ output =
 
 -- what the file of table T makes of a record
 listed : List ℕ → List ℕ
-unfolding little.little varuint.front varuint.groups utf8.run utf8.next utf8.leadOf utf8.rows onesIn table.shape file.cell file.shaped file.layoutOf
+unfolding little.little varuint.frontVarUInt varuint.groups utf8.run utf8.next utf8.leadOf utf8.rows onesIn table.shape file.cell file.shaped file.layoutOf
     file.tabulate file.tableOf check.lowest check.goodRow check.goodField check.findAmong check.goodMethod check.small check.badRow check.badField
-    check.badMethod check.checkedTable check.checked frame.onceWhole frame.payloadOf frame.frameOf forms.rowOfForm numbers.endsCall numbers.usesFrame
+    check.badMethod check.checkedTable check.checked frame.onceWhole frame.framePayload frame.frameOf forms.rowOfForm numbers.endsCall numbers.usesFrame
     slots.goodCall slots.goodTable slots.ownOf slots.full judge.payloadOf judge.verdictOf judge.judgeOf step.stepOf answer.andThen answer.check
-    answer.block answer.varUInt value.rows value.value read.present answer.count read.complete read.bitmap read.walk read.parse read.ending
+    answer.block answer.varUInt value.rows value.value read.present answer.count read.requiredSet read.bitmap read.walk read.parse read.rootEnding
     read.rootStruct read.read entry.payloadOutcome counting.riseOf counting.figureBy counting.raised line.stopped line.payloadRead
     planning.bytesPlan planning.planOf receive.frameSettled receive.settled receive.received run.freshTallies fresh.receivedFresh
     decimal.digits decimal.decimal texts.field replay.freshCalls replay.answerTo replay.headerIn replay.runFrom replay.runOf

@@ -14,7 +14,7 @@ use Rattle.schema.proofs.Files.{filled, type-count, field-count, method-count}
 use Rattle.schema.proofs.Checks.{good-shaped}
 use Rattle.schema.proofs.Goods.{good-table}
 use Rattle.replay.specs.Run.{Entry, runOf}
-use Rattle.replay.specs.Runs.{Stands}
+use Rattle.replay.specs.Runs.{StandsIn}
 use Rattle.replay.proofs.Replays.{entries-stand}
 use Rattle.index.specs.declared.Indexing.the-variants.{Made}
 use Rattle.index.specs.declared.Finding.the-variants.{Printed}
@@ -44,7 +44,7 @@ listed schema entries good short =
 -- stands in the record at its place; the index has a row with a correlation, place and answer exactly where one of these entries has them, and as many rows as there are entries.
 pub index-listed : (schema entries : List ℕ) → IsGood schema → length entries ≤ 65536 → let es = runOf schema entries .entries in
     (listing schema entries ≡ heading ++ runText 1 (runOf schema entries))
-    × ((e : Entry) → List·Memᴰ e es → Stands entries e)
+    × ((e : Entry) → List·Memᴰ e es → StandsIn entries e)
     × ((c p n : ℕ) → List·Memᴰ (record { correlation = c; place = p; answer = n }) (rowsFor schema entries) ↔ Has es c p n)
     × (length (rowsFor schema entries) ≡ length es)
 index-listed schema entries good short = (listed schema entries good short, entries-stand schema entries, rows-cover schema entries, rows-many schema entries)

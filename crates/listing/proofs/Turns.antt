@@ -8,6 +8,7 @@ use native.Mathlib.Omega.{arith}
 use lib.ListN.{length, drop, getD, drop-of-length-le}
 use lib.Seq.{drop-drop}
 use Rattle.schema.proofs.Bools.{cases}
+use Rattle.frame.specs.declared.Header.{Header}
 use Rattle.frame.specs.Frame.{frameOf}
 use Rattle.calls.specs.declared.Call.{Call}
 use Rattle.calls.specs.declared.CallTable.{CallTable}
@@ -116,10 +117,10 @@ module _ (s entries : List ℕ) (whole : (next : ℕ) (after : List ℕ) → Typ
         ∙ stop-turn s (w .most - 1) entry side bytes l (rw is at e)))
         (rw (left-long, is) at f))
 
-    pub rest-line : stops side (r .number) (r .used) ≡ false → (26 ≤ r .used) → (mid : List ℕ) (next : ℕ)
-        → Added out pos (lineText entry side (headerIn (frameOf bytes)) r) next mid
+    pub rest-line : stops side (r .number) (r .used) ≡ false → (26 ≤ r .used) → (x : Header) → x ≡ headerIn (frameOf bytes) → (mid : List ℕ) (next : ℕ)
+        → Added out pos (lineText entry side x r) next mid
         → Rest s entries whole mid next (entry + 1) (at + 1 + r .used) (r .table .slots)
-    rest-line e least mid next f =
+    rest-line e least x header mid next f =
         record {
           most = w .most - 1;
           enough = omega (arith, w .enough);
@@ -132,5 +133,5 @@ module _ (s entries : List ℕ) (whole : (next : ℕ) (after : List ℕ) → Typ
               ∙ ap (λ (x : Received). lineText entry side (headerIn (frameOf bytes)) x ++ entriesText s (w .most - 1) (entry + 1) (drop (x .used) bytes) (x .table .slots)) (sym is)
               ∙ ap (λ (left : List ℕ). lineText entry side (headerIn (frameOf bytes)) r ++ entriesText s (w .most - 1) (entry + 1) left (r .table .slots))
               (ap (drop (r .used)) tail ∙ drop-drop (r .used) (at + 1) entries)))
-              (added-then f g));
+              (added-then (subst (λ (y : Header). Added out pos (lineText entry side y r) next mid) header f) g));
         }

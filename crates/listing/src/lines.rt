@@ -1,16 +1,13 @@
 // The lines of a listing.
 use frame::Header;
 use receiver::Received;
-use replay::header;
 use text::put_byte;
 use text::put_decimal;
 use text::put_field;
 use text::put_word;
 ghost use mathlib.Core.Path.{_≡_};
 ghost use Prim.Native.Nat.{_+_, _≤_};
-ghost use Rattle.frame.specs.Frame.{frameOf};
 ghost use Rattle.text.specs.Text.{Added};
-ghost use Rattle.replay.specs.Run.{headerIn};
 ghost use Rattle.listing.specs.Text.{heading, lineStart, lineText, stoppedText};
 
 // The first line.
@@ -34,20 +31,13 @@ fn put_start(out: &mut [u8], pos: usize, entry: u64, side: u8, h: Header) -> usi
     put_field(out, at, h.correlation)
 }
 
-// The line of an entry with this side, whose frame is at the front of the bytes, and this answer.
-pub fn put_line(
-    out: &mut [u8],
-    pos: usize,
-    entry: u64,
-    side: u8,
-    bytes: &[u8],
-    a: Received,
-) -> usize
+// The line of an entry with this side, header and answer.
+pub fn put_line(out: &mut [u8], pos: usize, entry: u64, side: u8, h: Header, a: Received) -> usize
     requires { ⌜ pos ≤ 400000 ⌝ }
-    ensures { λ r. ⌜ Added (now (out .entry)) pos (lineText entry side (headerIn (frameOf (now (bytes .entry)))) a) r (now (out .exit)) ⌝ }
+    ensures { λ r. ⌜ Added (now (out .entry)) pos (lineText entry side h a) r (now (out .exit)) ⌝ }
     ensures { λ r. ⌜ r ≤ pos + 149 ⌝ }
 {
-    let mut at = put_start(out, pos, entry, side, header(bytes));
+    let mut at = put_start(out, pos, entry, side, h);
     at = put_field(out, at, a.number as u64);
     at = put_field(out, at, a.place as u64);
     at = put_field(out, at, a.rows as u64);

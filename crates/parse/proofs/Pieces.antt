@@ -9,7 +9,7 @@ use lib.Dec.{leb}
 use lib.ListN.{length, take, drop, take-append-drop, length-append, List·getD-append}
 use lib.Seq.{length-take-le, take-append-seam, drop-append-seam, getD-take}
 use borrow.Author.Tests.{leb-true, leb-false, le-leb, lt-leb}
-use Rattle.wire.specs.Varuint.{front, Spelled, Completed, TenthAbove}
+use Rattle.wire.specs.Varuint.{frontVarUInt, Spelled, Completed, TenthAbove}
 use Rattle.wire.specs.declared.varuint.VarUInt.{VarUInt}
 use Rattle.wire.specs.declared.varuint.VarUInt.the-variants.{Number, Cut, Malformed}
 use Rattle.wire.proofs.Varuints.{read-spelled, spelled-reads, spelled-cut, cut-completed, malformed-iff}
@@ -34,9 +34,9 @@ past s u rest at next e h =
 
 pub var-reads : (c : Cursor) → Reads c (λ n u. Spelled n u) (varUInt c)
 unfolding varUInt
-var-reads c = go (front (c .left) (c .at)) refl
+var-reads c = go (frontVarUInt (c .left) (c .at)) refl
   where
-    go : (r : VarUInt) → front (c .left) (c .at) ≡ r → Reads c (λ n u. Spelled n u) (numberRead c r)
+    go : (r : VarUInt) → frontVarUInt (c .left) (c .at) ≡ r → Reads c (λ n u. Spelled n u) (numberRead c r)
     go (Number n next) e =
         let s = read-spelled (c .left) (c .at) n next e in
         ok (s .bytes) (s .split ∙ ap (λ (l : List ℕ). s .bytes ++ l) (sym (past (c .left) (s .bytes) (s .rest) (c .at) next (s .split) (s .place)))) (s .place) (s .spells)
@@ -63,7 +63,7 @@ block-complete n x rest c h e =
 pub var-complete : (n : ℕ) (u rest : List ℕ) (c : Cursor) → Spelled n u → c .left ≡ u ++ rest → varUInt c ≡ seen n (record { left = rest; at = c .at + length u })
 unfolding varUInt
 var-complete n u rest c s e =
-    let f : front (c .left) (c .at) ≡ Number n (c .at + length u) = rw e (spelled-reads n u rest (c .at) s) in
+    let f : frontVarUInt (c .left) (c .at) ≡ Number n (c .at + length u) = rw e (spelled-reads n u rest (c .at) s) in
     rw (f, past (c .left) u rest (c .at) (c .at + length u) e refl)
 
 pub count-complete : (least n : ℕ) (u rest : List ℕ) (c : Cursor) → Spelled n u → c .left ≡ u ++ rest → least * n ≤ length rest
@@ -89,9 +89,9 @@ module _ {F : (u x rest : List ℕ) → ℕ → Type 0} (c : Cursor) where
 
   pub var-blames : (Completed Spelled (c .left) → F [] (c .left) [] 20) → ((x rest : List ℕ) → MalformedBytes x → F [] x rest 21) → Blames c F (varUInt c)
   unfolding varUInt
-  var-blames f g = go (front (c .left) (c .at)) refl
+  var-blames f g = go (frontVarUInt (c .left) (c .at)) refl
     where
-      go : (r : VarUInt) → front (c .left) (c .at) ≡ r → Blames c F (numberRead c r)
+      go : (r : VarUInt) → frontVarUInt (c .left) (c .at) ≡ r → Blames c F (numberRead c r)
       go (Number n next) e = fine
       go Cut e = blames {p = c .at} [] (c .left) [] (sym (append-nil (c .left))) (omega arith) (f (cut-completed (c .left) (c .at) e))
       go Malformed e =
@@ -110,10 +110,10 @@ module _ (c : Cursor) where
   pub var-cut : (x : List ℕ) → c .left ≡ x ++ [] → Completed Spelled x → varUInt c ≡ refused 20 (c .at)
   unfolding varUInt
   var-cut x l (n, t, some, s) =
-      let e : front (c .left) (c .at) ≡ Cut = rw (l, append-nil) (rw (take-append-seam x t) at (spelled-cut n (x ++ t) (length x) (c .at) s (simp length-append (omega arith)))) in
+      let e : frontVarUInt (c .left) (c .at) ≡ Cut = rw (l, append-nil) (rw (take-append-seam x t) at (spelled-cut n (x ++ t) (length x) (c .at) s (simp length-append (omega arith)))) in
       rw e
 
-  malformed-bad : (x rest : List ℕ) → MalformedBytes x → front (x ++ rest) (c .at) ≡ Malformed
+  malformed-bad : (x rest : List ℕ) → MalformedBytes x → frontVarUInt (x ++ rest) (c .at) ≡ Malformed
   malformed-bad x rest (inl (n, groups, two, last)) = malformed-iff (x ++ rest) (c .at) .1 (inl (n, x, rest, refl, groups, two, last))
   malformed-bad x rest (inr (l, (long, more, high))) =
       malformed-iff (x ++ rest) (c .at) .1

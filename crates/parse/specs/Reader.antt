@@ -6,7 +6,7 @@ use mathlib.Core.Bool.{Bool, true, false}
 use Prim.Native.Nat.{ℕ, _+_, _-_, _*_, _<_}
 use lib.Dec.{leb}
 use lib.ListN.{length, take, drop}
-use Rattle.wire.specs.Varuint.{Groups, lastOr, TenthAbove, front}
+use Rattle.wire.specs.Varuint.{Groups, lastOr, TenthAbove, frontVarUInt}
 use Rattle.wire.specs.declared.varuint.VarUInt.{VarUInt}
 use Rattle.wire.specs.declared.varuint.VarUInt.the-variants.{Number, Cut, Malformed}
 
@@ -81,7 +81,7 @@ numberRead c Cut = refused 20 (c .at)
 numberRead c Malformed = refused 21 (c .at)
 
 unfoldable pub varUInt : Reader ℕ
-varUInt c = numberRead c (front (c .left) (c .at))
+varUInt c = numberRead c (frontVarUInt (c .left) (c .at))
 
 -- The bytes of a malformed VarUInt: two groups or more of which the last is 0, or nine groups that go on and a tenth byte above 1.
 abbrev pub MalformedBytes : List ℕ → Type 0

@@ -28,9 +28,9 @@ use Rattle.value.specs.Spell.{RootSpells}
 use Rattle.value.specs.Fits.{Shows, ShowsKnown}
 use Rattle.value.specs.Added.{reached, firstAdded, without, NoneAdded}
 use Rattle.value.specs.Claims.{DelimitedTree}
-use Rattle.value.specs.Listed.{ValueFault, within-list, many-pairs}
+use Rattle.value.specs.Numbered.{ValueFault, within-list, many-pairs}
 use Rattle.value.proofs.Numbers.{fault-number as root-fault-number}
-use Rattle.value.specs.Beside.{readBeside, RightfulBeside, TooFewRows, ListedBeside, no-struct, too-long, faulty, too-few-rows, ShownAs, DelimitedBeside, SomeOf, rootLength}
+use Rattle.value.specs.Beside.{readBeside, RightfulBeside, TooFewRows, BesideReason, no-struct, too-long, faulty, too-few-rows, ShownAs, DelimitedBeside, SomeOf, rootLength}
 use Rattle.value.proofs.Telling.{shows-known}
 use Rattle.value.proofs.Reading.{sized}
 use Rattle.value.proofs.Sheets.{length-rows}
@@ -131,7 +131,7 @@ fault-number (within-list h k) = omega arith
 fault-number many-pairs = omega arith
 
 -- A payload's refusals are 7 to 46, and 46 is only for a type that is no struct of ours.
-payload-number : (S S′ : ℕ → Shape) (t : ℕ) (payload : List ℕ) (rows : ℕ) {n p : ℕ} → ListedBeside S S′ t payload rows n p
+payload-number : (S S′ : ℕ → Shape) (t : ℕ) (payload : List ℕ) (rows : ℕ) {n p : ℕ} → BesideReason S S′ t payload rows n p
     → (7 ≤ n) × (n ≤ 46) × (n ≡ 46 → (fs : List Field) → S t ≡ struct fs → ⊥)
 payload-number S S′ t payload rows (no-struct h) = (omega arith, omega arith, λ e. h)
 payload-number S S′ t payload rows (too-long h) = (omega arith, omega arith, λ e. absurd (omega arith))

@@ -90,8 +90,8 @@ computed : (read.read innerTable 4 P5 7 ≡ accepted innerRows 7 0 0)
     × ((n : ℕ) → read.read T 4 P5 n ≡ refusal 26 2)
     × (read.read rootTable 4 P6 5 ≡ accepted rootRows 5 0 0)
     × (read.read T 4 P6 4 ≡ accepted knownRows 4 1 0)
-unfolding innerAdded rootAdded read.read read.rootStruct read.ending onesIn read.parse read.walk read.bitmap answer.count read.present read.complete
-    table.shape answer.andThen answer.check answer.block answer.varUInt little.little varuint.front varuint.groups utf8.run utf8.next utf8.leadOf utf8.rows value.rows value.value comparisons.comparisons
+unfolding innerAdded rootAdded read.read read.rootStruct read.rootEnding onesIn read.parse read.walk read.bitmap answer.count read.present read.requiredSet
+    table.shape answer.andThen answer.check answer.block answer.varUInt little.little varuint.frontVarUInt varuint.groups utf8.run utf8.next utf8.leadOf utf8.rows value.rows value.value comparisons.comparisons
 computed = (refl, λ n. refl, refl, refl)
 
 -- More room does not matter.
@@ -133,8 +133,8 @@ module _ (s : List ℕ) (T : Table) (good : checked s ≡ Good) (is : tableOf s 
   cases-by (c ∷ cases) = ap₂ _∷_ (ap (caseOf (c .payload)) (by-rows sheet s T t (c .payload) _ good is refl)) (cases-by cases)
 
 worked-by-T : map (λ (c : Case). caseOf (c .payload) (outcomeOf lent (read.read T 4 (c .payload) (room lent)))) worked ≡ worked
-unfolding cellsOf read.read read.rootStruct read.ending onesIn read.parse read.walk read.bitmap answer.count read.present read.complete
-    table.shape answer.andThen answer.check answer.block answer.varUInt little.little varuint.front varuint.groups utf8.run utf8.next utf8.leadOf utf8.rows value.rows value.value comparisons.comparisons
+unfolding cellsOf read.read read.rootStruct read.rootEnding onesIn read.parse read.walk read.bitmap answer.count read.present read.requiredSet
+    table.shape answer.andThen answer.check answer.block answer.varUInt little.little varuint.frontVarUInt varuint.groups utf8.run utf8.next utf8.leadOf utf8.rows value.rows value.value comparisons.comparisons
 worked-by-T = refl
 
 pub p1-to-p10 : Hold file 4 lent worked
@@ -145,7 +145,7 @@ p1-to-p10 = cases-by file T T-good T-rows 4 lent worked ∙ worked-by-T
 relay-written : (write.write rootTable 4 (rowsOf newCells) P6 6 ≡ write.written P6)
     × (forward T 4 (rowsOf oldCells) P6 4 1 6 ≡ write.written P6)
     × (write.write T 4 (rowsOf oldCells) P6 6 ≡ write.written (0x01 ∷ 0x01 ∷ 0x01 ∷ 0x07 ∷ []))
-unfolding rootAdded rowsOf forward write.write write.showRoot write.show write.rowDue write.nextRow write.bitsAt read.walk read.present read.complete onesIn
+unfolding rootAdded rowsOf forward write.write write.showRoot write.show write.rowDue write.nextRow write.bitsAt read.walk read.present read.requiredSet onesIn
     table.shape answer.andThen answer.check little.little little.bytes varuint.varuintBytes varuint.shortest utf8.run utf8.next utf8.leadOf utf8.rows value.value spell.encode
 relay-written = (refl, refl, refl)
 

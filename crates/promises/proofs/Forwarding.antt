@@ -34,7 +34,7 @@ use Rattle.writer.specs.Entry.{fileOutcome}
 use Rattle.writer.proofs.Outcomes.{taken-apart, refused-apart, refused-is, write-by, written-is}
 use Rattle.forward.specs.Forward.{rootUnknown, forward}
 use Rattle.forward.specs.Entry.{sheetForwarded, forwardOutcome}
-use Rattle.forward.specs.Claims.{ForwardListed, by-rows, outside, unfit, whole-long, whole-tight, Passes, Forwards}
+use Rattle.forward.specs.Claims.{TailReason, by-rows, outside, unfit, whole-long, whole-tight, Passes, Forwards}
 use Rattle.forward.proofs.Statements as forward
 use Rattle.promises.specs.Claims.{shapes, firstRows, ReadsAs, ForwardReason}
 use Rattle.promises.proofs.Entries.{rows-back, shown-good, shown-from}
@@ -147,7 +147,7 @@ module _ (s : List ℕ) (ty : ℕ) (sheet B : List ℕ) (place n : ℕ) (out : L
       iff good bs b = forward.forwarded-iff-spelled (tableOf s) ty (rowsOf sheet) B place n (length out) (good-table s good) bs b
 
 -- No refusal has the number 0.
-listed-above : {S : ℕ → Shape} {t : ℕ} {rs : List Row} {B : List ℕ} {place n space k q : ℕ} → ForwardListed S t rs B place n space k q → 0 < k
+listed-above : {S : ℕ → Shape} {t : ℕ} {rs : List Row} {B : List ℕ} {place n space k q : ℕ} → TailReason S t rs B place n space k q → 0 < k
 listed-above (by-rows r _) = write-number-above (sheet-reason-number r)
 listed-above (outside _ _ _ _ _) = omega arith
 listed-above (unfit _ _ _ _ _ _) = omega arith

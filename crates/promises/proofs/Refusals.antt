@@ -14,7 +14,7 @@ use Rattle.schema.specs.Check.{checked, IsGood}
 use Rattle.schema.specs.Faults.{TableFault}
 use Rattle.schema.proofs.Faults.{refused-iff as schema-refused}
 use Rattle.schema.proofs.Goods.{good-table}
-use Rattle.schema.proofs.Listed as file
+use Rattle.schema.proofs.Numbered as file
 use Rattle.value.specs.Read.{refusal, read}
 use Rattle.value.specs.Sheet.{rowsOf}
 use Rattle.value.specs.Reasons.{RootFault, Reason, Settles}

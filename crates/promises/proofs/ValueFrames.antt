@@ -21,11 +21,11 @@ use Rattle.valueframe.specs.Claims as turn
 use Rattle.valueframe.proofs.InTurn.{payload-good, written-iff-in-turn}
 use Rattle.calls.specs.Order.{Past, Ruling}
 use Rattle.receiver.specs.Answer.{usedOf}
-use Rattle.receiver.specs.Order.{Said, said, Answered, Stands}
+use Rattle.receiver.specs.Order.{Said, said, Answered, Reflected}
 use Rattle.receiver.specs.Order as order
 use Rattle.receiver.specs.Claims.{Front}
 use Rattle.receiver.specs.Planning.{frameFrom}
-use Rattle.receiver.specs.Run.{Event, Input, State, runFrom}
+use Rattle.receiver.specs.Run.{Event, Input, State, stateFrom}
 use Rattle.receiver.proofs.Answers.{used-by-number}
 use Rattle.receiver.proofs.Runs.{by-order}
 use Rattle.promises.specs.ValueFrames.{Carries, value, none, RuledNext, CountedNext, receivedNext, ReceivedBack}
@@ -74,7 +74,7 @@ module _ (h : Header) (fits : HeaderFits h) (s : List ℕ) (ty : ℕ) (sheet B o
       omega (arith, size, length-frame h (in-turn .payload))
 
   -- The same by `receive`, in any history from a good call table of 128 slots with as many tally rows as methods, for a frame that may come next.
-  pub received-back : (st : State) (past : ℕ → Past) → Stands (tableOf s) (st .calls) (st .tallies) past → (is : List Event) (side : ℕ)
+  pub received-back : (st : State) (past : ℕ → Past) → Reflected (tableOf s) (st .calls) (st .tallies) past → (is : List Event) (side : ℕ)
       → (after : List ℕ) → length sheet / 4 ≤ room after → (rest : List ℕ)
       → (p : List ℕ) × Carries s ty sheet B after p × ReceivedBack s ty p after st past is side h m (take m out′ ++ rest)
   received-back st past stands is side after rows rest =
@@ -101,7 +101,7 @@ module _ (h : Header) (fits : HeaderFits h) (s : List ℕ) (ty : ℕ) (sheet B o
         answered = subst (λ (q : List ℕ). Answered s q after ruling y) (sym (back .payload)) a;
         counted = counts;
       }) in
-      let now = runFrom s st is in
+      let now = stateFrom s st is in
       let length-used : readUsed (frameOf bytes) ≡ m = ap readUsed (back .reads) ∙ whole-length in
       let used-all = used-by-number s side bytes after (now .tallies) (now .calls) ∙ ap (usedOf (receivedNext s st is side bytes after .answer .number)) length-used in (
         p,

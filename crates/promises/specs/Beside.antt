@@ -11,7 +11,7 @@ use Rattle.value.specs.Value.{Value, size}
 use Rattle.value.specs.Comparisons.{comparisons}
 use Rattle.value.specs.Fits.{ShowsKnown}
 use Rattle.value.specs.Added.{without}
-use Rattle.value.specs.Beside.{ListedBeside}
+use Rattle.value.specs.Beside.{BesideReason}
 use Rattle.reader.specs.declared.Reading.the-variants.{Shown, Refused}
 use Rattle.reader.specs.Entry.{outcome, room}
 use Rattle.reader.specs.Beside.{besideOutcome}
@@ -22,8 +22,8 @@ abbrev pub Unextended : (ours theirs : List ℕ) → Type 0
 Unextended ours theirs = IsGood ours × IsGood theirs × (Widens (tableOf ours) (tableOf theirs) → ⊥)
 
 module _ (ours theirs : List ℕ) (ty : ℕ) (payload : List ℕ) where
-  -- The reader shows w, of type ty, one row a value: the first rows of the sheet afterwards show w by ours over the payload, whatever further bits its
-  -- structs have there, and the cells after them are as they were; the tail is at a place, of n bytes, and so many key comparisons are due.
+  -- The reader shows w, of type ty, in the first rows of the sheet, by ours and whatever further bits its structs have; the other cells are as they were.
+  -- The tail is at a place, of n bytes, and so many key comparisons are due.
   abbrev pub ReadsBeside : (sheet : List ℕ) → Value → (place n due : ℕ) → Type 0
   ReadsBeside sheet w place n due =
       (after : List ℕ) × (besideOutcome ours theirs ty payload sheet ≡ outcome (Shown (size w) place n due) after)
@@ -31,8 +31,8 @@ module _ (ours theirs : List ℕ) (ty : ℕ) (payload : List ℕ) where
       × (length after ≡ length sheet)
       × (drop (4 * size w) after ≡ drop (4 * size w) sheet)
 
-  -- What is answered to a payload that is v by theirs, and nothing more: v without the added fields is shown, and there is no tail, where the sheet has
-  -- rows enough for that; otherwise the answer is 30. The key comparisons due are those of the whole of v.
+  -- The answer to a payload that is v by theirs: v without the added fields, no tail, and the key comparisons of the whole of v; or 30 where the sheet has
+  -- too few rows for that.
   abbrev pub NewBeside : (sheet : List ℕ) → Value → Type 0
   NewBeside sheet v =
       (size (without (shapes ours) v ty) ≤ room sheet
@@ -46,4 +46,4 @@ module _ (ours theirs : List ℕ) (ty : ℕ) (payload : List ℕ) where
     by-theirs : {n q : ℕ} → IsGood ours → TableFault theirs n q → RefusedBeside rows n q
     no-extension : IsGood ours → IsGood theirs → (Widens (tableOf ours) (tableOf theirs) → ⊥) → RefusedBeside rows 47 0
     by-payload : {n q : ℕ} → IsGood ours → IsGood theirs → Widens (tableOf ours) (tableOf theirs)
-        → ListedBeside (shapes ours) (shapes theirs) ty payload rows n q → RefusedBeside rows n q
+        → BesideReason (shapes ours) (shapes theirs) ty payload rows n q → RefusedBeside rows n q

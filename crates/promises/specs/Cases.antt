@@ -174,8 +174,8 @@ newCells = 4 ∷ 0 ∷ 5 ∷ 2 ∷ 3 ∷ 2 ∷ 2 ∷ 1 ∷ 2 ∷ 2 ∷ 2 ∷ 1 �
 abbrev pub blank : List ℕ
 blank = replicate 6 0xA5
 
--- P6 by four entries in turn, by an old file and a new one: written by the new file; read by the old one, with a tail; forwarded by the old one, as just the
--- rows shown with that tail, to P6 again; and read by the new one, which shows the added field. The plain writer by the old file loses it.
+-- P6 by four entries in turn: written by a new file; read by an old one, with a tail; forwarded with it by the old one, to P6 again; and read by the new
+-- one, which shows the added field. The plain writer by the old file loses it.
 pub record RelaysP6 (old new : List ℕ) : Type 0 where
   pub written : fileOutcome new 4 newCells P6 blank ≡ writer.outcome (Written 5) (P6 ++ (0xA5 ∷ []))
   pub read : readOutcome old 4 P6 lent ≡ outcome (Shown 4 4 1 0) (oldCells ++ drop 16 lent)

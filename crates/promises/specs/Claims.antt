@@ -24,7 +24,7 @@ use Rattle.value.specs.SheetReasons.{SheetReason}
 use Rattle.value.specs.Added.{inner, firstAdded, rootCarries, without, addedItems, addedValues}
 use Rattle.reader.specs.declared.Reading.the-variants.{Shown, Refused}
 use Rattle.reader.specs.Entry.{outcome, readingIn, sheetIn, room, readOutcome, numbers}
-use Rattle.forward.specs.Claims.{ForwardListed}
+use Rattle.forward.specs.Claims.{TailReason}
 
 -- The shapes of the types that a schema file holds.
 abbrev pub shapes : List ℕ → ℕ → Shape
@@ -34,8 +34,8 @@ shapes schema = shape (tableOf schema)
 abbrev pub firstRows : (k : ℕ) → List ℕ → List Row
 firstRows k cells = rowsOf (take (4 * k) cells)
 
--- The reader shows v, a root of type ty with the fields fs, one row a value: the first rows of the sheet afterwards show v over the payload, and the
--- cells after them are as they were; the tail is at a place, of n bytes. The key comparisons that it answers are those of v.
+-- The reader shows v, a root of type ty with the fields fs, in the first rows of the sheet, and leaves the other cells as they were.
+-- The tail is at a place, of n bytes, and the key comparisons are those of v.
 abbrev pub ReadsAs : (schema : List ℕ) (ty : ℕ) (fs : List Field) (payload sheet : List ℕ) → Value → (place n : ℕ) → Type 0
 ReadsAs schema ty fs payload sheet v place n =
     (after : List ℕ) × (readOutcome schema ty payload sheet ≡ outcome (Shown (size v) place n (comparisons (shapes schema) v ty)) after)
@@ -65,13 +65,13 @@ WriteReason schema ty rs bytes space n q = TableFault schema n q ⊎ (IsGood sch
 
 -- The same for such rows with a tail of m bytes at a place of those bytes.
 abbrev pub ForwardReason : (schema : List ℕ) (ty : ℕ) → List Row → (bytes : List ℕ) (place m space number row : ℕ) → Type 0
-ForwardReason schema ty rs bytes place m space n q = TableFault schema n q ⊎ (IsGood schema × ForwardListed (shapes schema) ty rs bytes place m space n q)
+ForwardReason schema ty rs bytes place m space n q = TableFault schema n q ⊎ (IsGood schema × TailReason (shapes schema) ty rs bytes place m space n q)
 
 -- ---- an old file and a new one that extends it: a root of type ty has the fields fs in the old one and fs ++ gs in the new one
 
 module _ (old new : List ℕ) (ty : ℕ) (fs gs : List Field) (payload sheet : List ℕ) (v : Value) where
-  -- What the old reader answers where the new rules allow the payload as v: 26 at the first inner struct that carries an added field. Without one it shows v
-  -- without the added fields, or answers 30; the tail is the bytes of the added fields that the root carries.
+  -- What the old reader answers where the new rules allow the payload as v: 26 at the first inner struct that carries an added field; without one v without
+  -- the added fields, or 30. The tail is the bytes of the added fields that the root carries.
   abbrev pub OldAnswers : (first : Option ℕ) → Type 0
   OldAnswers (some p) = readOutcome old ty payload sheet ≡ outcome (Refused 26 p) sheet
   OldAnswers none =

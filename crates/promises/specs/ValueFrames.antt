@@ -20,7 +20,7 @@ use Rattle.receiver.specs.Answer.{Effect, usedOf}
 use Rattle.receiver.specs.Planning.{frameFrom}
 use Rattle.receiver.specs.Receive.{received}
 use Rattle.receiver.specs.Order.{Said, said, saidBy, Counted}
-use Rattle.receiver.specs.Run.{Event, State, runFrom, heardFrom}
+use Rattle.receiver.specs.Run.{Event, State, stateFrom, heardFrom}
 use Rattle.promises.specs.Claims.{shapes, ReadsAs}
 
 -- The payload holds what the sheet shows over the bytes B: `read` shows it in the sheet after, whole and with no tail. Without a value it is empty.
@@ -36,16 +36,16 @@ pastNext schema st past is h = pastOf (tableOf schema) (h .correlation) (past (h
 -- What the rules say of the header's frame from this side, next after that history.
 abbrev pub RuledNext : (schema : List ℕ) → State → (ℕ → Past) → List Event → (side : ℕ) → Header → Ruling → Type 0
 RuledNext schema st past is side h ruling =
-    Ruled (tableOf schema) (frameFrom side h) (eqb (countOpen (runFrom schema st is .calls)) 128) (pastNext schema st past is h) ruling
+    Ruled (tableOf schema) (frameFrom side h) (eqb (countOpen (stateFrom schema st is .calls)) 128) (pastNext schema st past is h) ruling
 
 -- The answer x in place of y, by the tally rows of that history: y itself, or 18 where the tally that would rise is full.
 abbrev pub CountedNext : (schema : List ℕ) → State → (ℕ → Past) → List Event → (side : ℕ) → Header → (after : List ℕ) → (y x : Said) → Type 0
 CountedNext schema st past is side h after y x =
-    Counted (tableOf schema) (frameFrom side h) (pastNext schema st past is h) (runFrom schema st is .tallies) after y x
+    Counted (tableOf schema) (frameFrom side h) (pastNext schema st past is h) (stateFrom schema st is .tallies) after y x
 
 -- The next answer.
 abbrev pub receivedNext : (schema : List ℕ) → State → List Event → (side : ℕ) (bytes after : List ℕ) → Effect
-receivedNext schema st is side bytes after = let now = runFrom schema st is in received schema side bytes after (now .tallies) (now .calls)
+receivedNext schema st is side bytes after = let now = stateFrom schema st is in received schema side bytes after (now .tallies) (now .calls)
 
 -- `receive` answers such a frame, the first m of the bytes: a value that belongs as `read` answers it; with 0 an empty payload where nothing belongs, and any
 -- payload of an ERROR; each unless a tally is full. Bytes used are m or 0, by the number.

@@ -13,11 +13,11 @@ use Rattle.parse.specs.Reader.{Cursor, refused, seen, Reader, andThen, check, c
 use Rattle.parse.proofs.Answers.{accepted-first}
 use Rattle.schema.specs.declared.Field.{Field}
 use Rattle.schema.specs.Table.{Table, Shape, array, map, struct}
-use Rattle.schema.specs.Check.{field}
+use Rattle.schema.specs.Check.{fieldRow}
 use Rattle.value.specs.Narrow.{firstOf}
 use Rattle.value.specs.Comparisons.{due}
 use Rattle.value.specs.Value.{Tree, tip}
-use Rattle.value.specs.Read.{Item, plainItem, pairs, present, parts, bitmap, among, walk, whole, parse}
+use Rattle.value.specs.Read.{Item, plainItem, pairs, present, parts, bitmap, among, walk, wholeValue, parse}
 use Rattle.value.proofs.Narrowed.{first-all}
 use Rattle.value.proofs.Comparisons.{due-half, due-few}
 use Rattle.walks.specs.Shape.{fieldsFrom}
@@ -30,14 +30,14 @@ use Rattle.reader.specs.declared.leaf.Head.the-variants.{Bits, Refused a
 use Rattle.reader.specs.declared.walk.Walk.{Walk}
 use Rattle.reader.specs.declared.walk.Walk.the-variants.{Past}
 use Rattle.reader.specs.Sheet.{putRow}
-use Rattle.reader.specs.Leaf.{part, countOf, CountIn, Counted, headOf, HeadIn, Headed}
+use Rattle.reader.specs.Leaf.{part, countOf, CountIn, CountRead, headOf, HeadIn, Headed}
 use Rattle.reader.specs.Walk.{firstFields, told, toldAll, toldHeld, Final, done, stopped, walkOf, Walked}
 use Rattle.reader.proofs.Steps.{ahead, renamed, further, composite-past, as-told, spanRow, walk-length, item-past, item-stop, key-stop, key-again, key-new, accepted-along, parse-refused, parse-whole, own-accepted}
 
 -- ---- heads
 
 module _ (S : ℕ → Shape) (d t : ℕ) (p : List ℕ) (at : ℕ) where
-  module _ (least : ℕ) (r : Count) (read : Counted p at least (count least (cursorAt p at)) r) where
+  module _ (least : ℕ) (r : Count) (read : CountRead p at least (count least (cursorAt p at)) r) where
     pub count-in : (n start : ℕ) → r ≡ Is n start → CountIn (length p) at least (Is n start)
     count-in n start e = rw e at (read .within)
 
@@ -47,13 +47,13 @@ module _ (S : ℕ → Shape) (d t : ℕ) (p : List ℕ) (at : ℕ) where
     not-read : (number : ℕ) → r ≡ CountRefused number → count least (cursorAt p at) ≡ refused number at
     not-read number e = sym (read .same) ∙ ap (countOf p at) e
 
-  module _ (e : ℕ) (is : S t ≡ array e) (r : Count) (read : Counted p at 1 (count 1 (cursorAt p at)) r) where
+  module _ (e : ℕ) (is : S t ≡ array e) (r : Count) (read : CountRead p at 1 (count 1 (cursorAt p at)) r) where
     pub array-refused : (number : ℕ) → r ≡ CountRefused number → parse S (suc d) t (cursorAt p at) ≡ refused number at
     unfolding andThen
     array-refused number q = parse-refused S d t (cursorAt p at) (array e) is number at (rw (not-read 1 r read number q))
 
     pub array-whole : (n start : ℕ) → r ≡ Is n start
-        → parse S (suc d) t (cursorAt p at) ≡ whole (parse S d) t (array e) (parts start n) (cursorAt p start)
+        → parse S (suc d) t (cursorAt p at) ≡ wholeValue (parse S d) t (array e) (parts start n) (cursorAt p start)
     unfolding andThen
     array-whole n start q =
         parse-whole S d t (cursorAt p at) (array e) is (parts start n) (cursorAt p start) (rw (read-as 1 r read n start q))
@@ -61,13 +61,13 @@ module _ (S : ℕ → Shape) (d t : ℕ) (p : List ℕ) (at : ℕ) where
     -- an array as it is told from its head on
     module _ (R : ℕ → Shape) (shown : R t ≡ array e) (n start : ℕ) (q : r ≡ Is n start) where
       pub array-valued : {row : ℕ} {l : List ℕ} (w : Walk) {m : List ℕ}
-          → Walked p start (toldHeld R S 0 (replicate n (plainItem e))) (whole (parse S d) t (array e) (parts start n) (cursorAt p start)) row l w m
+          → Walked p start (toldHeld R S 0 (replicate n (plainItem e))) (wholeValue (parse S d) t (array e) (parts start n) (cursorAt p start)) row l w m
           → Walked p (at + 1) (told R S t) (parse S (suc d) t (cursorAt p at)) row l w m
       array-valued w h =
           let i = count-in 1 r read n start q in
           renamed (array-whole n start q) (further start (at + 1) w (omega (arith, i .0)) (as-told R S (parse S d) (array e) t start n (cursorAt p start) _ _ shown is h))
 
-  module _ (k v : ℕ) (is : S t ≡ map k v) (r : Count) (read : Counted p at 2 (count 2 (cursorAt p at)) r) where
+  module _ (k v : ℕ) (is : S t ≡ map k v) (r : Count) (read : CountRead p at 2 (count 2 (cursorAt p at)) r) where
     pub map-refused : (number : ℕ) → r ≡ CountRefused number → parse S (suc d) t (cursorAt p at) ≡ refused number at
     unfolding andThen
     map-refused number q = parse-refused S d t (cursorAt p at) (map k v) is number at (rw (not-read 2 r read number q))
@@ -77,7 +77,7 @@ module _ (S : ℕ → Shape) (d t : ℕ) (p : List ℕ) (at : ℕ) where
       unfolding andThen check
       map-many h = parse-refused S d t (cursorAt p at) (map k v) is 31 at (rw (read-as 2 r read n start q, lt-leb n 64 h))
 
-      pub map-whole : n ≤ 64 → parse S (suc d) t (cursorAt p at) ≡ whole (parse S d) t (map k v) (parts start n) (cursorAt p start)
+      pub map-whole : n ≤ 64 → parse S (suc d) t (cursorAt p at) ≡ wholeValue (parse S d) t (map k v) (parts start n) (cursorAt p start)
       unfolding andThen check
       map-whole h =
           parse-whole S d t (cursorAt p at) (map k v) is (parts start n) (cursorAt p start)
@@ -85,7 +85,7 @@ module _ (S : ℕ → Shape) (d t : ℕ) (p : List ℕ) (at : ℕ) where
 
       -- a map as it is told from its head on
       pub map-valued : (R : ℕ → Shape) → R t ≡ map k v → n ≤ 64 → {row : ℕ} {l : List ℕ} (w : Walk) {m : List ℕ}
-          → Walked p start (toldHeld R S (due n) (pairs n k v)) (whole (parse S d) t (map k v) (parts start n) (cursorAt p start)) row l w m
+          → Walked p start (toldHeld R S (due n) (pairs n k v)) (wholeValue (parse S d) t (map k v) (parts start n) (cursorAt p start)) row l w m
           → Walked p (at + 1) (told R S t) (parse S (suc d) t (cursorAt p at)) row l w m
       map-valued R shown few w h =
           let i = count-in 2 r read n start q in
@@ -117,7 +117,7 @@ module _ (S : ℕ → Shape) (d t : ℕ) (p : List ℕ) (at : ℕ) where
 
         -- without unknown bits the known ones are the word
         pub struct-whole : unknown ≡ 0
-            → parse S (suc d) t (cursorAt p at) ≡ whole (parse S d) t (struct fs) (parts at known) (cursorAt p start)
+            → parse S (suc d) t (cursorAt p at) ≡ wholeValue (parse S d) t (struct fs) (parts at known) (cursorAt p start)
         unfolding andThen check
         struct-whole h =
             let f : ltb word (2 ^ length fs) ≡ true = head-in .3 ∙ eq-eqb unknown 0 h in
@@ -126,7 +126,7 @@ module _ (S : ℕ → Shape) (d t : ℕ) (p : List ℕ) (at : ℕ) where
 
         -- a struct as it is told from its bits on
         pub struct-valued : (R : ℕ → Shape) → unknown ≡ 0 → {row : ℕ} {l : List ℕ} (w : Walk) {m : List ℕ}
-            → Walked p start (told R S t) (whole (parse S d) t (struct fs) (parts at known) (cursorAt p start)) row l w m
+            → Walked p start (told R S t) (wholeValue (parse S d) t (struct fs) (parts at known) (cursorAt p start)) row l w m
             → Walked p (at + 1) (told R S t) (parse S (suc d) t (cursorAt p at)) row l w m
         struct-valued R h w x = renamed (struct-whole h) (further start (at + 1) w (omega (arith, head-in .4)) x)
 
@@ -178,7 +178,7 @@ pub record Turned (R S : ℕ → Shape) (P : ℕ → Reader Tree) (p : List ℕ)
 
 module _ (R S : ℕ → Shape) (P : ℕ → Reader Tree) (p : List ℕ) (T : Table) (i left bits here sum below : ℕ) (l : List ℕ)
     (some : 0 < left) (room : i + left ≤ length (T .fields)) where
-  module _ (f : Field) (is : f ≡ field T i) (b : bits % 2 ≡ 1) where
+  module _ (f : Field) (is : f ≡ fieldRow T i) (b : bits % 2 ≡ 1) where
     pub field-stop : (n q : ℕ) → stopped n q ≡ walkOf (told R S (f .ty)) (P (f .ty) (cursorAt p here)) 0 below l
         → stopped n q ≡ ahead R S P [] (leftOver T i left bits) (cursorAt p here) sum below l
     field-stop n q h =
@@ -210,7 +210,7 @@ module _ (R S : ℕ → Shape) (P : ℕ → Reader Tree) (p : List ℕ) (T : Tab
   -- a present field that stops, whatever its type is
   pub field-deep : bits % 2 ≡ 1 → (n q : ℕ) → ((ty : ℕ) → stopped n q ≡ walkOf (told R S ty) (P ty (cursorAt p here)) 0 below l)
       → stopped n q ≡ ahead R S P [] (leftOver T i left bits) (cursorAt p here) sum below l
-  field-deep b n q h = field-stop (field T i) refl b n q (h (field T i .ty))
+  field-deep b n q h = field-stop (fieldRow T i) refl b n q (h (fieldRow T i .ty))
 
   pub field-absent : (bits % 2 ≡ 1 → ⊥) → here ≤ length p → below ≤ here
       → (here′ sum′ below′ : ℕ) (m : List ℕ) → here′ ≡ here → sum′ ≡ sum → below′ ≡ below → m ≡ l
@@ -315,7 +315,7 @@ pub own-due : (n : ℕ) → n * (n - 1) / 2 ≡ due n
 own-due n = rw (← due-half n) (omega arith)
 
 -- a map without pairs, which has its own row alone
-module _ (S : ℕ → Shape) (d t : ℕ) (p : List ℕ) (at k v : ℕ) (is : S t ≡ map k v) (r : Count) (read : Counted p at 2 (count 2 (cursorAt p at)) r) where
+module _ (S : ℕ → Shape) (d t : ℕ) (p : List ℕ) (at k v : ℕ) (is : S t ≡ map k v) (r : Count) (read : CountRead p at 2 (count 2 (cursorAt p at)) r) where
   pub map-none : (n start : ℕ) → r ≡ Is n start → n ≡ 0 → (R : ℕ → Shape) → R t ≡ map k v → (row : ℕ) (l m : List ℕ) → row ≤ at
       → m ≡ putRow l row (record { ty = t; place = start; length = 0; count = 0 })
       → Walked p (at + 1) (told R S t) (parse S (suc d) t (cursorAt p at)) row l (Past 0 start (row + 1)) m

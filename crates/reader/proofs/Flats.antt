@@ -14,8 +14,8 @@ use Rattle.parse.specs.Reader.{refused, seen, andThen, check, cursorAt}
 use Rattle.schema.specs.declared.Field.{Field}
 use Rattle.schema.specs.declared.TypeRow.{TypeRow}
 use Rattle.schema.specs.Table.{Table, Shape, struct, rowAt}
-use Rattle.schema.specs.Check.{field}
-use Rattle.value.specs.Read.{parts, present, bitmap, own, whole, parse}
+use Rattle.schema.specs.Check.{fieldRow}
+use Rattle.value.specs.Read.{parts, present, bitmap, own, wholeValue, parse}
 use Rattle.walks.specs.Shape.{fieldsFrom}
 use Rattle.walks.specs.Required.{Requires}
 use Rattle.reader.specs.declared.flat.Opened.{Opened}
@@ -27,13 +27,13 @@ use Rattle.reader.proofs.Steps.{renamed, further, as-told, parse-whole}
 
 -- ---- fields that are scalars, strings or bytes
 
-pub leaves-more : (T : Table) (first i : ℕ) → LeavesIn T first i → (f : Field) → f ≡ field T i → (r : TypeRow) → r ≡ rowAt T (f .ty) → r .kind ≤ 13
+pub leaves-more : (T : Table) (first i : ℕ) → LeavesIn T first i → (f : Field) → f ≡ fieldRow T i → (r : TypeRow) → r ≡ rowAt T (f .ty) → r .kind ≤ 13
     → LeavesIn T first (i + 1)
 leaves-more T first i h f is r row leaf j a b = elim (decLt j i) [
   | yes l ↦ h j a l
   | no g ↦
       let e : j ≡ i = omega arith in
-      let k : rowAt T (field T i .ty) .kind < 14 = rw (← is, ← row) (omega arith) in
+      let k : rowAt T (fieldRow T i .ty) .kind < 14 = rw (← is, ← row) (omega arith) in
       rw e k
 ]
 
@@ -76,15 +76,15 @@ module _ (p : List ℕ) (required n at : ℕ) (r : Opened) (u : Unfolded p requi
 -- a struct as it is told from its bits on
 module _ (S : ℕ → Shape) (d t : ℕ) (p : List ℕ) (at : ℕ) (fs : List Field) (is : S t ≡ struct fs) (known start : ℕ)
     (read : seen (parts at known) (cursorAt p start) ≡ own (struct fs) (cursorAt p at)) (forth : at < start) where
-  pub flat-whole : parse S (suc d) t (cursorAt p at) ≡ whole (parse S d) t (struct fs) (parts at known) (cursorAt p start)
+  pub flat-whole : parse S (suc d) t (cursorAt p at) ≡ wholeValue (parse S d) t (struct fs) (parts at known) (cursorAt p start)
   flat-whole = parse-whole S d t (cursorAt p at) (struct fs) is (parts at known) (cursorAt p start) (sym read)
 
   pub part-valued : (R : ℕ → Shape) {row : ℕ} {l : List ℕ} (w : Walk) {m : List ℕ}
-      → Walked p start (told R S t) (whole (parse S d) t (struct fs) (parts at known) (cursorAt p start)) row l w m
+      → Walked p start (told R S t) (wholeValue (parse S d) t (struct fs) (parts at known) (cursorAt p start)) row l w m
       → Walked p (at + 1) (told R S t) (parse S (suc d) t (cursorAt p at)) row l w m
   part-valued R w h = renamed flat-whole (further start (at + 1) w (omega (arith, forth)) h)
 
   pub flat-valued : (R : ℕ → Shape) → R t ≡ S t → {row : ℕ} {l : List ℕ} (w : Walk) {m : List ℕ}
-      → Walked p start (toldHeld R S 0 (present fs known)) (whole (parse S d) t (struct fs) (parts at known) (cursorAt p start)) row l w m
+      → Walked p start (toldHeld R S 0 (present fs known)) (wholeValue (parse S d) t (struct fs) (parts at known) (cursorAt p start)) row l w m
       → Walked p (at + 1) (told R S t) (parse S (suc d) t (cursorAt p at)) row l w m
   flat-valued R shown w h = part-valued R w (as-told R S (parse S d) (struct fs) t at known (cursorAt p start) _ _ (shown ∙ is) is h)

@@ -12,7 +12,7 @@ use Rattle.wire.proofs.Numbers.{bytes-drop, bytes-take}
 use Rattle.parse.specs.Reader.{Accepted, seen, andThen, check, cursorAt}
 use Rattle.parse.proofs.Answers.{accepted-check}
 use Rattle.schema.specs.Table.{Table}
-use Rattle.value.specs.Read.{complete, bitmap}
+use Rattle.value.specs.Read.{requiredSet, bitmap}
 use Rattle.walks.specs.Shape.{fieldsFrom}
 use Rattle.walks.proofs.Presence.{length-fields, bits-read}
 use Rattle.reader.specs.declared.leaf.Head.the-variants.{Bits, Refused}
@@ -29,19 +29,19 @@ module _ (p : List ℕ) (T : Table) (first n at : ℕ) (room : first + n ≤ len
     bits-are : part p at (at + (n + 7) / 8) ≡ take ((n + 7) / 8) (drop at p)
     bits-are = let e : at + (n + 7) / 8 - at ≡ (n + 7) / 8 = omega arith in rw e
 
-    pub head-known : Accepted (bitmap (fieldsFrom T first n) (cursorAt p at)) → complete (fieldsFrom T first n) word ≡ true
+    pub head-known : Accepted (bitmap (fieldsFrom T first n) (cursorAt p at)) → requiredSet (fieldsFrom T first n) word ≡ true
     unfolding bitmap andThen
     head-known h =
-        accepted-check (complete (fieldsFrom T first n) word) 25 at (cursorAt p (at + (n + 7) / 8)) (λ _ c. seen word c)
+        accepted-check (requiredSet (fieldsFrom T first n) word) 25 at (cursorAt p (at + (n + 7) / 8)) (λ _ c. seen word c)
         (rw (length-fields T first n room, block-reads p at ((n + 7) / 8) inside, bits-are, ← is .word-is) at h) .0
 
-    pub head-incomplete : complete (fieldsFrom T first n) word ≡ false
+    pub head-incomplete : requiredSet (fieldsFrom T first n) word ≡ false
         → Headed p at (fieldsFrom T first n) (bitmap (fieldsFrom T first n) (cursorAt p at)) (Refused 25)
     unfolding bitmap andThen check
     head-incomplete h =
         record { same = rw (length-fields T first n room, block-reads p at ((n + 7) / 8) inside, bits-are, ← is .word-is, h); within = tt }
 
-    pub head-bits : complete (fieldsFrom T first n) word ≡ true → 0 < n → n ≤ 64 → Bytes p
+    pub head-bits : requiredSet (fieldsFrom T first n) word ≡ true → 0 < n → n ≤ 64 → Bytes p
         → Headed p at (fieldsFrom T first n) (bitmap (fieldsFrom T first n) (cursorAt p at)) (Bits word known count unknown (at + (n + 7) / 8))
     unfolding bitmap andThen check
     head-bits h z few bytes =

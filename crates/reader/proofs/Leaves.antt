@@ -23,7 +23,7 @@ use Rattle.value.proofs.Spans.{truth-byte}
 use Rattle.reader.specs.declared.leaf.Count.{Count}
 use Rattle.reader.specs.declared.leaf.Count.the-variants.{Is, Refused as CountRefused}
 use Rattle.reader.specs.declared.leaf.Span.the-variants.{At, Refused as SpanRefused}
-use Rattle.reader.specs.Leaf.{part, countOf, CountIn, Counted, Spanned}
+use Rattle.reader.specs.Leaf.{part, countOf, CountIn, CountRead, Spanned}
 
 -- ---- parts of the payload
 
@@ -56,27 +56,27 @@ module _ (p : List ℕ) (at : ℕ) where
       rw (e, drop-drop (next - at) at p, f)
 
   module _ (least : ℕ) where
-    pub count-cut : varuint p at ≡ Cut → Counted p at least (count least (cursorAt p at)) (CountRefused 20)
+    pub count-cut : varuint p at ≡ Cut → CountRead p at least (count least (cursorAt p at)) (CountRefused 20)
     unfolding count varUInt andThen
     count-cut e = record { same = rw e; within = tt }
 
-    pub count-malformed : varuint p at ≡ Malformed → Counted p at least (count least (cursorAt p at)) (CountRefused 21)
+    pub count-malformed : varuint p at ≡ Malformed → CountRead p at least (count least (cursorAt p at)) (CountRefused 21)
     unfolding count varUInt andThen
     count-malformed e = record { same = rw e; within = tt }
 
     module _ (n next : ℕ) (is : varuint p at ≡ Number n next) where
-      pub count-large : length p - next < least * n → Counted p at least (count least (cursorAt p at)) (CountRefused 20)
+      pub count-large : length p - next < least * n → CountRead p at least (count least (cursorAt p at)) (CountRefused 20)
       unfolding count andThen check
       count-large h =
           let l : length (drop next p) < least * n = rw length-drop h in
           record { same = rw (number-reads n next is, lt-leb (least * n) (length (drop next p)) l); within = tt }
 
-      pub count-above : 0 < least → length p - next < n → Counted p at least (count least (cursorAt p at)) (CountRefused 20)
+      pub count-above : 0 < least → length p - next < n → CountRead p at least (count least (cursorAt p at)) (CountRefused 20)
       count-above z h =
           let m : 1 * n ≤ least * n = mul-le-mul {n₁ = 1} {m₁ = n} (omega arith) (omega arith) in
           count-large (omega arith)
 
-      pub count-is : least * n ≤ length p - next → Counted p at least (count least (cursorAt p at)) (Is n next)
+      pub count-is : least * n ≤ length p - next → CountRead p at least (count least (cursorAt p at)) (Is n next)
       unfolding count andThen check
       count-is h =
           let l : least * n ≤ length (drop next p) = rw length-drop h in
@@ -112,7 +112,7 @@ module _ (p : List ℕ) (kind at w : ℕ) (is : w ≡ width kind) where
 
 -- ---- strings and bytes
 
-module _ (p : List ℕ) (kind at : ℕ) (r : Count) (counted : Counted p at 1 (count 1 (cursorAt p at)) r) where
+module _ (p : List ℕ) (kind at : ℕ) (r : Count) (counted : CountRead p at 1 (count 1 (cursorAt p at)) r) where
   pub text-refused : (number : ℕ) → r ≡ CountRefused number → Spanned p at (own (text kind) (cursorAt p at)) (SpanRefused at number)
   unfolding andThen
   text-refused number e = record { same = rw (sym (counted .same), e); within = tt }

@@ -13,7 +13,7 @@ use Rattle.schema.specs.Table.{Table, Shape, struct}
 use Rattle.value.specs.Value as tree
 use Rattle.value.specs.Value.{Tree, branch, Forest, stop, plus, rows, rowsAll, values}
 use Rattle.value.specs.Comparisons.{comparisons, comparisonsAll}
-use Rattle.value.specs.Read.{Item, present, parts, walk, nodeRow, whole, knownBits}
+use Rattle.value.specs.Read.{Item, present, parts, walk, nodeRow, wholeValue, knownBits}
 use Rattle.value.specs.Beside.{pruned, prunedAll}
 use Rattle.value.proofs.Bits.{present-append, present-mod, known-ones}
 use Rattle.value.proofs.Root.{present-unkeyed}
@@ -48,13 +48,13 @@ module _ (R S : ℕ → Shape) (P : ℕ → Reader Tree) (t place : ℕ) (fs gs 
 
   -- The answers: the whole struct from its bits on, its first fields, and the added ones from a place on.
   abbrev all : Answer Tree
-  all = whole P t (struct (fs ++ gs)) (parts place h) (cursorAt p start)
+  all = wholeValue P t (struct (fs ++ gs)) (parts place h) (cursorAt p start)
 
   abbrev first : (mine : ℕ) → Answer Tree
-  first mine = whole P t (struct fs) (parts place mine) (cursorAt p start)
+  first mine = wholeValue P t (struct fs) (parts place mine) (cursorAt p start)
 
   abbrev added : (here rest : ℕ) → Answer Tree
-  added here rest = whole P t (struct gs) (parts here rest) (cursorAt p here)
+  added here rest = wholeValue P t (struct gs) (parts here rest) (cursorAt p here)
 
   -- A struct with these trees.
   withRow : (place count head : ℕ) → Forest → Reader Tree
@@ -213,40 +213,40 @@ module _ (T : Table) (first n m : ℕ) (le : m ≤ n) (room : first + n ≤ leng
     gs = fieldsFrom T (first + m) (n - m)
 
     abbrev Whole : Answer Tree
-    Whole = whole P t (struct (fieldsFrom T first n)) (parts place h) (cursorAt p start)
+    Whole = wholeValue P t (struct (fieldsFrom T first n)) (parts place h) (cursorAt p start)
 
-    all-split : Whole ≡ whole P t (struct (fs ++ gs)) (parts place h) (cursorAt p start)
+    all-split : Whole ≡ wholeValue P t (struct (fs ++ gs)) (parts place h) (cursorAt p start)
     all-split = rw split
 
     module _ (mine : ℕ) (is : mine ≡ h % 2 ^ m) where
       mine-is : mine ≡ knownBits fs h
       mine-is = rw long is
 
-      pub fields-accepted : Accepted Whole → Accepted (whole P t (struct fs) (parts place mine) (cursorAt p start))
+      pub fields-accepted : Accepted Whole → Accepted (wholeValue P t (struct fs) (parts place mine) (cursorAt p start))
       fields-accepted a = first-accepted R S P t place fs gs h p start row l mine mine-is (rw split at a)
 
       pub fields-stop : (a q : ℕ) (after : List ℕ)
-          → Walked p start (toldHeld R S 0 (present fs mine)) (whole P t (struct fs) (parts place mine) (cursorAt p start)) row l (Refused a q) after
+          → Walked p start (toldHeld R S 0 (present fs mine)) (wholeValue P t (struct fs) (parts place mine) (cursorAt p start)) row l (Refused a q) after
           → Walked p start (told R S t) Whole row l (Refused a q) after
       fields-stop a q after w = renamed all-split (first-stop R S P t place fs gs h p start row l mine mine-is a q after w)
 
       module _ (sum here below : ℕ) (m₁ : List ℕ)
-          (w : Walked p start (toldHeld R S 0 (present fs mine)) (whole P t (struct fs) (parts place mine) (cursorAt p start)) row l (Past sum here below) m₁)
+          (w : Walked p start (toldHeld R S 0 (present fs mine)) (wholeValue P t (struct fs) (parts place mine) (cursorAt p start)) row l (Past sum here below) m₁)
           (rest : ℕ) (rest-is : rest ≡ h / 2 ^ m % 2 ^ (n - m)) where
         rest-known : rest ≡ knownBits gs (h / 2 ^ length fs)
         rest-known = let e : length gs ≡ n - m = length-fields T (first + m) (n - m) (omega arith) in rw (long, e) rest-is
 
-        pub others-accepted : Accepted Whole → Accepted (whole P t (struct gs) (parts here rest) (cursorAt p here))
+        pub others-accepted : Accepted Whole → Accepted (wholeValue P t (struct gs) (parts here rest) (cursorAt p here))
         others-accepted a = added-accepted R S P t place fs gs h p start row l mine mine-is sum here below m₁ w rest rest-known (rw split at a)
 
         pub others-stop : (a q : ℕ) (k m₂ after : List ℕ)
-            → Walked p here (toldHeld R S 0 (present gs rest)) (whole P t (struct gs) (parts here rest) (cursorAt p here)) row k (Refused a q) m₂
+            → Walked p here (toldHeld R S 0 (present gs rest)) (wholeValue P t (struct gs) (parts here rest) (cursorAt p here)) row k (Refused a q) m₂
             → Walked p start (told R S t) Whole row l (Refused a q) after
         others-stop a q k m₂ after v =
             renamed all-split (added-stop R S P t place fs gs h p start row l mine mine-is sum here below m₁ w rest rest-known a q k m₂ after v)
 
         pub others-past : R t ≡ struct fs → S t ≡ struct (fieldsFrom T first n) → (due next below₂ : ℕ) (k m₂ after : List ℕ)
-            → Walked p here (toldHeld R S 0 (present gs rest)) (whole P t (struct gs) (parts here rest) (cursorAt p here)) row k (Past due next below₂) m₂
+            → Walked p here (toldHeld R S 0 (present gs rest)) (wholeValue P t (struct gs) (parts here rest) (cursorAt p here)) row k (Past due next below₂) m₂
             → after ≡ putRow m₁ row (nodeRow t place next (ones mine))
             → Walked p start (told R S t) Whole row l (Past (sum + due) next below) after
         others-past shown read due next below₂ k m₂ after v put =

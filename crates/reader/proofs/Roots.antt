@@ -11,7 +11,7 @@ use Rattle.parse.proofs.Answers.{accepted-first}
 use Rattle.schema.specs.declared.Field.{Field}
 use Rattle.schema.specs.Table.{Shape, struct}
 use Rattle.value.specs.Value.{Tree, branch, Forest}
-use Rattle.value.specs.Read.{counted, plan, bitmap, parts, walk, nodeRow, whole, parse, ending, rootStruct}
+use Rattle.value.specs.Read.{rowCount, plan, bitmap, parts, walk, nodeRow, wholeValue, parse, rootEnding, rootStruct}
 use Rattle.reader.specs.declared.leaf.Head.{Head}
 use Rattle.reader.specs.declared.leaf.Head.the-variants.{Bits, Refused as HeadRefused}
 use Rattle.reader.specs.declared.walk.Walk.the-variants.{Past, Refused}
@@ -21,22 +21,22 @@ use Rattle.reader.specs.Walk.{Told, done, stopped, walkOf, Walked}
 -- ---- what follows the known fields
 
 module _ (p : List ℕ) (next : ℕ) where
-  pub ending-surplus : (u : ℕ) → u ≡ 0 → (length p - next ≡ 0 → ⊥) → ending u (cursorAt p next) ≡ refused 27 next
-  unfolding ending check
+  pub ending-surplus : (u : ℕ) → u ≡ 0 → (length p - next ≡ 0 → ⊥) → rootEnding u (cursorAt p next) ≡ refused 27 next
+  unfolding rootEnding check
   ending-surplus zero e h =
       let k : length (drop next p) ≡ 0 → ⊥ = λ z. h (sym (length-drop next p) ∙ z) in
       rw (ne-eqb (length (drop next p)) 0 k)
   ending-surplus (suc u) e h = absurd (omega arith)
 
-  pub ending-short : (u : ℕ) → length p - next < u → ending u (cursorAt p next) ≡ refused 20 next
-  unfolding ending check
+  pub ending-short : (u : ℕ) → length p - next < u → rootEnding u (cursorAt p next) ≡ refused 20 next
+  unfolding rootEnding check
   ending-short zero h = absurd (omega arith)
   ending-short (suc u) h =
       let k : length (drop next p) < suc u = rw length-drop h in
       rw (lt-leb (suc u) (length (drop next p)) k)
 
-  pub ending-fits : (u : ℕ) → u ≤ length p - next → (u ≡ 0 → length p - next ≡ 0) → ending u (cursorAt p next) ≡ seen tt (cursorAt p next)
-  unfolding ending check
+  pub ending-fits : (u : ℕ) → u ≤ length p - next → (u ≡ 0 → length p - next ≡ 0) → rootEnding u (cursorAt p next) ≡ seen tt (cursorAt p next)
+  unfolding rootEnding check
   ending-fits zero h z =
       let k : length (drop next p) ≡ 0 = length-drop next p ∙ z refl in
       rw (eq-eqb (length (drop next p)) 0 k)
@@ -48,24 +48,24 @@ module _ (p : List ℕ) (next : ℕ) where
 
 -- The end of a root with so many unknown bits, after its known fields.
 afterFields : ℕ → Tree → Reader Tree
-afterFields u tree c = andThen (ending u c) (λ _ c. seen tree c)
+afterFields u tree c = andThen (rootEnding u c) (λ _ c. seen tree c)
 
 module _ (t place n h u : ℕ) where
   regrouped : (o : Answer Forest)
-      → andThen o (λ ts end. andThen (ending u end) (λ _ c. seen (branch (nodeRow t place (end .at) n) h ts) c))
+      → andThen o (λ ts end. andThen (rootEnding u end) (λ _ c. seen (branch (nodeRow t place (end .at) n) h ts) c))
       ≡ andThen (andThen o (λ ts end. seen (branch (nodeRow t place (end .at) n) h ts) end)) (afterFields u)
   unfolding andThen afterFields
   regrouped (seen ts c) = refl
   regrouped (refused m q) = refl
 
 module _ (tell : Tree → Told) (p : List ℕ) (due next row′ : ℕ) (l m : List ℕ) (u : ℕ) where
-  end-past : (o : Answer Tree) → done (cursorAt p next) due row′ m ≡ walkOf tell o 0 0 l → ending u (cursorAt p next) ≡ seen tt (cursorAt p next)
+  end-past : (o : Answer Tree) → done (cursorAt p next) due row′ m ≡ walkOf tell o 0 0 l → rootEnding u (cursorAt p next) ≡ seen tt (cursorAt p next)
       → done (cursorAt p next) due row′ m ≡ walkOf tell (andThen o (afterFields u)) 0 0 l
   unfolding andThen afterFields
   end-past (seen tree c) e f = let k : cursorAt p next ≡ c = cc in rw (← k, f) (rw (← k) at e)
   end-past (refused a q) e f = differ cc
 
-  end-stop : (o : Answer Tree) → done (cursorAt p next) due row′ m ≡ walkOf tell o 0 0 l → (a q : ℕ) → ending u (cursorAt p next) ≡ refused a q
+  end-stop : (o : Answer Tree) → done (cursorAt p next) due row′ m ≡ walkOf tell o 0 0 l → (a q : ℕ) → rootEnding u (cursorAt p next) ≡ refused a q
       → stopped a q ≡ walkOf tell (andThen o (afterFields u)) 0 0 l
   unfolding andThen afterFields
   end-stop (seen tree c) e a q f = let k : cursorAt p next ≡ c = cc in rw (← k, f)
@@ -94,29 +94,29 @@ module _ (S : ℕ → Shape) (t : ℕ) (fs : List Field) (p : List ℕ) where
 
       -- the known fields are read as those of an inner struct
       inner : Answer Tree
-      inner = whole (parse S 15) t (struct fs) (parts 0 known) (cursorAt p start)
+      inner = wholeValue (parse S 15) t (struct fs) (parts 0 known) (cursorAt p start)
 
       root-step : rootStruct S t fs (cursorAt p 0) ≡ andThen inner (afterFields unknown)
       unfolding rootStruct andThen inner
       root-step =
           rw (sym (read .same) ∙ ap (headOf p 0) is, ← root-in .0, ← root-in .2)
-          (regrouped t 0 (counted (struct fs) known) known unknown (walk (parse S 15) [] (plan (struct fs) known) (cursorAt p start)))
+          (regrouped t 0 (rowCount (struct fs) known) known unknown (walk (parse S 15) [] (plan (struct fs) known) (cursorAt p start)))
 
-      pub root-fields : Accepted (rootStruct S t fs (cursorAt p 0)) → Accepted (whole (parse S 15) t (struct fs) (parts 0 known) (cursorAt p start))
+      pub root-fields : Accepted (rootStruct S t fs (cursorAt p 0)) → Accepted (wholeValue (parse S 15) t (struct fs) (parts 0 known) (cursorAt p start))
       unfolding inner
       root-fields h = accepted-first inner (afterFields unknown) (rw root-step at h)
 
       -- what is told of the fields is told of the root
       module _ (tell : Tree → Told) where
         pub root-stop : (a q : ℕ) (l m : List ℕ)
-            → Walked p start tell (whole (parse S 15) t (struct fs) (parts 0 known) (cursorAt p start)) 0 l (Refused a q) m
+            → Walked p start tell (wholeValue (parse S 15) t (struct fs) (parts 0 known) (cursorAt p start)) 0 l (Refused a q) m
             → Walked p 1 tell (rootStruct S t fs (cursorAt p 0)) 0 l (Refused a q) m
         unfolding inner
         root-stop a q l m w = record { same = rw root-step (fields-stop tell l unknown a q inner (w .same)); within = tt }
 
         module _ (due next row′ : ℕ) (l m : List ℕ)
-            (w : Walked p start tell (whole (parse S 15) t (struct fs) (parts 0 known) (cursorAt p start)) 0 l (Past due next row′) m) where
-          pub root-end : (a q : ℕ) → ending unknown (cursorAt p next) ≡ refused a q
+            (w : Walked p start tell (wholeValue (parse S 15) t (struct fs) (parts 0 known) (cursorAt p start)) 0 l (Past due next row′) m) where
+          pub root-end : (a q : ℕ) → rootEnding unknown (cursorAt p next) ≡ refused a q
               → Walked p 1 tell (rootStruct S t fs (cursorAt p 0)) 0 l (Refused a q) m
           unfolding inner
           root-end a q e = record { same = rw root-step (end-stop tell p due next row′ l m unknown inner (w .same) a q e); within = tt }

@@ -13,7 +13,7 @@ use Rattle.value.specs.declared.Row.{Row}
 use Rattle.value.specs.Value as tree
 use Rattle.value.specs.Value.{Tree, tip, branch, Forest, plus, rows, rowsAll, values}
 use Rattle.value.specs.Comparisons.{mapDue, comparisons, comparisonsAll}
-use Rattle.value.specs.Read.{Item, plainItem, plan, counted, Own, plain, parts, own, among, walk, leafRow, nodeRow, whole, parse}
+use Rattle.value.specs.Read.{Item, plainItem, plan, rowCount, Own, plain, parts, own, among, walk, leafRow, nodeRow, wholeValue, parse}
 use Rattle.value.specs.Beside.{pruned, prunedAll}
 use Rattle.walks.specs.Shape.{shapeIn}
 use Rattle.walks.proofs.Items.{keyItem, afterItem, afterKey, item-step, key-step}
@@ -154,8 +154,8 @@ module _ (R S : ℕ → Shape) where
 module _ (R S : ℕ → Shape) (P : ℕ → Reader Tree) (sh : Shape) (t place h : ℕ) (c : Cursor) (row : ℕ) (l : List ℕ) where
   own-row : (o : Answer Forest) (c′ : Cursor) (sum due below : ℕ) (m : List ℕ) → due ≡ mapDue sh h + sum
       → done c′ sum below m ≡ walkOf (toldAll R S (plan sh h)) o 0 (row + 1) l
-      → done c′ due below (putRow m row (nodeRow t place (c′ .at) (counted sh h)))
-      ≡ walkOf (toldHeld R S (mapDue sh h) (plan sh h)) (andThen o (λ ts end. seen (branch (nodeRow t place (end .at) (counted sh h)) h ts) end)) 0 row l
+      → done c′ due below (putRow m row (nodeRow t place (c′ .at) (rowCount sh h)))
+      ≡ walkOf (toldHeld R S (mapDue sh h) (plan sh h)) (andThen o (λ ts end. seen (branch (nodeRow t place (end .at) (rowCount sh h)) h ts) end)) 0 row l
   unfolding andThen toldHeld putRows
   own-row (seen ts c₁) c′ sum due below m d e =
       let f : c′ ≡ c₁ = cc in
@@ -170,9 +170,9 @@ module _ (R S : ℕ → Shape) (P : ℕ → Reader Tree) (sh : Shape) (t place h
       → is ≡ []
       → ahead R S P keys is (cursorAt p here) sum below m ≡ ahead R S P [] (plan sh h) c 0 (row + 1) l
       → due ≡ mapDue sh h + sum
-      → after ≡ putRow m row (nodeRow t place here (counted sh h))
+      → after ≡ putRow m row (nodeRow t place here (rowCount sh h))
       → here ≤ length p → below ≤ here → due + 16 * least ≤ 16 * here
-      → Walked p least (toldHeld R S (mapDue sh h) (plan sh h)) (whole P t sh (parts place h) c) row l (Past due here below) after
+      → Walked p least (toldHeld R S (mapDue sh h) (plan sh h)) (wholeValue P t sh (parts place h) c) row l (Past due here below) after
   composite-past p least here sum due below m after keys is none e d put i b f =
       record {
         same = rw put (own-row (walk P [] (plan sh h) c) (cursorAt p here) sum due below m d (walk-end R S P keys (cursorAt p here) sum below m ∙ rw none at e));
@@ -181,40 +181,40 @@ module _ (R S : ℕ → Shape) (P : ℕ → Reader Tree) (sh : Shape) (t place h
 
   pub composite-stop : (p : List ℕ) (least n q : ℕ) (after : List ℕ)
       → stopped n q ≡ ahead R S P [] (plan sh h) c 0 (row + 1) l
-      → Walked p least (toldHeld R S (mapDue sh h) (plan sh h)) (whole P t sh (parts place h) c) row l (Refused n q) after
+      → Walked p least (toldHeld R S (mapDue sh h) (plan sh h)) (wholeValue P t sh (parts place h) c) row l (Refused n q) after
   unfolding andThen
   composite-stop p least n q after e = record { same = go (walk P [] (plan sh h) c) e; within = tt }
     where
       go : (o : Answer Forest) → stopped n q ≡ walkOf (toldAll R S (plan sh h)) o 0 (row + 1) l
-          → stopped n q ≡ walkOf (toldHeld R S (mapDue sh h) (plan sh h)) (andThen o (λ ts end. seen (branch (nodeRow t place (end .at) (counted sh h)) h ts) end)) 0 row l
+          → stopped n q ≡ walkOf (toldHeld R S (mapDue sh h) (plan sh h)) (andThen o (λ ts end. seen (branch (nodeRow t place (end .at) (rowCount sh h)) h ts) end)) 0 row l
       go (seen ts c₁) e = differ cc
       go (refused n′ q′) e = e
 
   -- what is left of an accepted composite is accepted
   pub rest-accepted : (o : Answer Forest) (is : List Item) (sum below : ℕ) (m : List ℕ)
       → walkOf (toldAll R S is) o sum below m ≡ ahead R S P [] (plan sh h) c 0 (row + 1) l
-      → Accepted (whole P t sh (parts place h) c) → Accepted o
+      → Accepted (wholeValue P t sh (parts place h) c) → Accepted o
   rest-accepted o is sum below m e a =
       accepted-along (toldAll R S is) (toldAll R S (plan sh h)) o (walk P [] (plan sh h) c) sum 0 below (row + 1) m l e (accepted-first (walk P [] (plan sh h) c) _ a)
 
   -- where all that it holds is shown, it is shown as it is
   module _ (shown : R t ≡ sh) (read : S t ≡ sh) where
     held-same : (o : Answer Forest)
-        → walkOf (toldHeld R S (mapDue sh h) (plan sh h)) (andThen o (λ ts end. seen (branch (nodeRow t place (end .at) (counted sh h)) h ts) end)) 0 row l
-        ≡ walkOf (told R S t) (andThen o (λ ts end. seen (branch (nodeRow t place (end .at) (counted sh h)) h ts) end)) 0 row l
+        → walkOf (toldHeld R S (mapDue sh h) (plan sh h)) (andThen o (λ ts end. seen (branch (nodeRow t place (end .at) (rowCount sh h)) h ts) end)) 0 row l
+        ≡ walkOf (told R S t) (andThen o (λ ts end. seen (branch (nodeRow t place (end .at) (rowCount sh h)) h ts) end)) 0 row l
     unfolding andThen toldHeld told toldAll rows rowsAll pruned prunedAll tree.value values comparisons comparisonsAll
     held-same (seen ts c₁) = rw (shown, read)
     held-same (refused n q) = refl
 
     pub as-told : {p : List ℕ} {least : ℕ} {r : Walk} {m : List ℕ}
-        → Walked p least (toldHeld R S (mapDue sh h) (plan sh h)) (whole P t sh (parts place h) c) row l r m
-        → Walked p least (told R S t) (whole P t sh (parts place h) c) row l r m
+        → Walked p least (toldHeld R S (mapDue sh h) (plan sh h)) (wholeValue P t sh (parts place h) c) row l r m
+        → Walked p least (told R S t) (wholeValue P t sh (parts place h) c) row l r m
     as-told w = record { same = w .same ∙ held-same (walk P [] (plan sh h) c); within = w .within }
 
 -- ---- a value by its own bytes
 
 module _ (S : ℕ → Shape) (d t : ℕ) (c : Cursor) (sh : Shape) (is : S t ≡ sh) where
-  parse-step : parse S (suc d) t c ≡ andThen (own (S t) c) (λ o. whole (parse S d) t (S t) o)
+  parse-step : parse S (suc d) t c ≡ andThen (own (S t) c) (λ o. wholeValue (parse S d) t (S t) o)
   unfolding parse
   parse-step = refl
 
@@ -222,7 +222,7 @@ module _ (S : ℕ → Shape) (d t : ℕ) (c : Cursor) (sh : Shape) (is : S t ≡
   unfolding andThen
   parse-refused n q e = rw (parse-step, is, e)
 
-  pub parse-whole : (o : Own) (c′ : Cursor) → own sh c ≡ seen o c′ → parse S (suc d) t c ≡ whole (parse S d) t sh o c′
+  pub parse-whole : (o : Own) (c′ : Cursor) → own sh c ≡ seen o c′ → parse S (suc d) t c ≡ wholeValue (parse S d) t sh o c′
   unfolding andThen
   parse-whole o c′ e = rw (parse-step, is, e)
 

@@ -13,8 +13,8 @@ use Rattle.schema.specs.declared.Field.{Field}
 use Rattle.schema.specs.declared.TypeRow.{TypeRow}
 use Rattle.schema.specs.Table.{Shape, scalar, text, array, struct, rowAt, shape}
 use Rattle.schema.specs.File.{tableOf}
-use Rattle.schema.specs.Check.{IsGood, field}
-use Rattle.value.specs.Read.{Item, present, parts, own, walk, whole, parse}
+use Rattle.schema.specs.Check.{IsGood, fieldRow}
+use Rattle.value.specs.Read.{Item, present, parts, own, walk, wholeValue, parse}
 use Rattle.value.specs.Narrow.{firstOf}
 use Rattle.walks.specs.Shape.{fieldsFrom, leafShape, shapeIn}
 use Rattle.walks.proofs.Masks.{Standing, standing-first, standing-some, standing-next, standing-field, standing-kind, standing-skip, standing-same, standing-end}
@@ -156,18 +156,18 @@ module _ (s p : List ℕ) (depth a b known start row : ℕ) (sheet : List ℕ) w
           count = rw skip (g .count);
         }
 
-    module _ (room : a + b ≤ length (tableOf s .fields)) (good : IsGood s) (leaves : LeavesIn (tableOf s) a (a + b)) (f : Field) (is : f ≡ field (tableOf s) i)
+    module _ (room : a + b ≤ length (tableOf s .fields)) (good : IsGood s) (leaves : LeavesIn (tableOf s) a (a + b)) (f : Field) (is : f ≡ fieldRow (tableOf s) i)
         (r : TypeRow) (row-is : r ≡ rowAt (tableOf s) (f .ty)) where
       pub going-field : LeafField s f r
       going-field =
           let other = standing-kind (g .on) some s good room f is r row-is in
-          let kind : rowAt (tableOf s) (field (tableOf s) i .ty) .kind < 14 = leaves i (g .on .first) (omega (arith, standing-some (g .on) some)) in
+          let kind : rowAt (tableOf s) (fieldRow (tableOf s) i .ty) .kind < 14 = leaves i (g .on .first) (omega (arith, standing-some (g .on) some)) in
           let leaf : r .kind < 14 = rw (row-is, is) kind in
           record { some = other; leaf = leaf; is = shape-leaf (tableOf s) (f .ty) r row-is other leaf }
 
       module _ (odd : bits % 2 ≡ 1) where
         pub going-accepted : (ty place : ℕ)
-            → Accepted (whole (parse (shapeIn s) depth) ty (struct (fieldsFrom (tableOf s) a b)) (parts place known) (cursorAt p start))
+            → Accepted (wholeValue (parse (shapeIn s) depth) ty (struct (fieldsFrom (tableOf s) a b)) (parts place known) (cursorAt p start))
             → Accepted (parse (shapeIn s) depth (f .ty) (cursorAt p here))
         going-accepted ty place h =
             let S = shapeIn s in
@@ -178,7 +178,7 @@ module _ (s p : List ℕ) (depth a b known start row : ℕ) (sheet : List ℕ) w
 
         pub going-stop : (R : ℕ → Shape) (ty place n q : ℕ) (after : List ℕ) → parse (shapeIn s) depth (f .ty) (cursorAt p here) ≡ refused n q
             → Walked p start (toldHeld R (shapeIn s) 0 (present (fieldsFrom (tableOf s) a b) known))
-            (whole (parse (shapeIn s) depth) ty (struct (fieldsFrom (tableOf s) a b)) (parts place known) (cursorAt p start)) row sheet (Refused n q) after
+            (wholeValue (parse (shapeIn s) depth) ty (struct (fieldsFrom (tableOf s) a b)) (parts place known) (cursorAt p start)) row sheet (Refused n q) after
         going-stop R ty place n q after e =
             let S = shapeIn s in
             let P = parse S depth in
@@ -227,7 +227,7 @@ module _ (s p : List ℕ) (depth a b known start row : ℕ) (sheet : List ℕ) w
     pub going-end : (R : ℕ → Shape) (ty place : ℕ) (after : List ℕ)
         → after ≡ putRow l row (record { ty = ty; place = place; length = here - place; count = below - row - 1 })
         → Walked p start (toldHeld R (shapeIn s) 0 (present (fieldsFrom (tableOf s) a b) known))
-        (whole (parse (shapeIn s) depth) ty (struct (fieldsFrom (tableOf s) a b)) (parts place known) (cursorAt p start)) row sheet (Past 0 here below) after
+        (wholeValue (parse (shapeIn s) depth) ty (struct (fieldsFrom (tableOf s) a b)) (parts place known) (cursorAt p start)) row sheet (Past 0 here below) after
     going-end R ty place after put =
         let S = shapeIn s in
         composite-past R S (parse S depth) (struct (fieldsFrom (tableOf s) a b)) ty place known (cursorAt p start) row sheet

@@ -7,7 +7,7 @@ use lib.ListN.{length}
 use Rattle.parse.specs.Reader.{Answer, refused, seen, cursorAt}
 use Rattle.schema.specs.Table.{Table, Shape, rowAt, array, map, struct}
 use Rattle.schema.specs.File.{tableOf, Laid}
-use Rattle.schema.specs.Check.{field}
+use Rattle.schema.specs.Check.{fieldRow}
 use Rattle.value.specs.Comparisons.{mapDue}
 use Rattle.value.specs.Read.{Own, parts, own, plan}
 use Rattle.walks.specs.Shape.{fieldsFrom, shapeIn}
@@ -20,7 +20,7 @@ use Rattle.reader.specs.Walk.{valueIn, wholeIn, told, toldHeld, Walked, 
 
 -- The fields from one number up to another are scalars, strings or bytes.
 abbrev pub LeavesIn : Table → (first end : ℕ) → Type 0
-LeavesIn T first end = (i : ℕ) → first ≤ i → i < end → rowAt T (field T i .ty) .kind < 14
+LeavesIn T first end = (i : ℕ) → first ≤ i → i < end → rowAt T (fieldRow T i .ty) .kind < 14
 
 -- Such a value itself, an array of them, or a struct of them; what it holds is within the depth.
 pub record IsFlat (s : List ℕ) (depth ty : ℕ) : Type 0 where

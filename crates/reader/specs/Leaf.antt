@@ -29,13 +29,13 @@ abbrev pub CountIn : (size at least : ℕ) → Count → Type 0
 CountIn size at least (Is n start) = (at < start) × (start + least * n ≤ size)
 CountIn size at least (CountRefused number) = Unit {0}
 
-pub record Counted (p : List ℕ) (at least : ℕ) (o : Answer ℕ) (r : Count) : Type 0 where
+pub record CountRead (p : List ℕ) (at least : ℕ) (o : Answer ℕ) (r : Count) : Type 0 where
   pub same : countOf p at r ≡ o
   pub within : CountIn (length p) at least r
 
 -- That a map's count at `at`, of pairs of at least two bytes, is 0.
 abbrev pub Uncounted : (p : List ℕ) (at : ℕ) → Answer ℕ → Type 0
-Uncounted p at o = Counted p at 2 o (Is 0 (at + 1))
+Uncounted p at o = CountRead p at 2 o (Is 0 (at + 1))
 
 -- ---- contents
 

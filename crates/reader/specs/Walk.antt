@@ -11,7 +11,7 @@ use Rattle.schema.specs.Check.{IsGood}
 use Rattle.value.specs.declared.Row.{Row}
 use Rattle.value.specs.Value.{Tree, tip, branch, Forest, rowsAll, value, values}
 use Rattle.value.specs.Comparisons.{mapDue, comparisons, comparisonsAll}
-use Rattle.value.specs.Read.{Item, plan, parts, whole, parse, rootStruct}
+use Rattle.value.specs.Read.{Item, plan, parts, wholeValue, parse, rootStruct}
 use Rattle.value.specs.Beside.{prunedAll, shownRows}
 use Rattle.value.specs.Narrow.{firstOf}
 use Rattle.walks.specs.Shape.{shapeIn}
@@ -26,7 +26,7 @@ valueIn s p depth ty at = parse (shapeIn s) depth ty (cursorAt p at)
 
 -- A composite of this shape from its head on; its place is `place`.
 abbrev pub wholeIn : (s p : List ℕ) (depth ty : ℕ) → Shape → (place head at : ℕ) → Answer Tree
-wholeIn s p depth ty sh place head at = whole (parse (shapeIn s) depth) ty sh (parts place head) (cursorAt p at)
+wholeIn s p depth ty sh place head at = wholeValue (parse (shapeIn s) depth) ty sh (parts place head) (cursorAt p at)
 
 abbrev pub rootIn : (s p : List ℕ) (ty : ℕ) → List Field → Answer Tree
 rootIn s p ty fs = rootStruct (shapeIn s) ty fs (cursorAt p 0)
@@ -75,7 +75,8 @@ abbrev pub walkOf : {A : Type 0} → (A → Told) → Answer A → (due row : �
 walkOf tell (seen a c) due row sheet = done c (due + tell a .due) (row + length (tell a .rows)) (putRows sheet row (tell a .rows))
 walkOf tell (refused n q) due row sheet = stopped n q
 
--- A walker's answer over the payload p, with the sheet that it leaves. Of a refusal's sheet nothing is said: the judging walk is lent no cell of it.
+-- A walker's answer over the payload p, with the sheet that it leaves. Of what a refusal leaves there nothing is said: the entry lends memory of its own,
+-- or puts back what stood there.
 abbrev pub endOf : List ℕ → Walk → List ℕ → Final
 endOf p (Past due next row) sheet = done (cursorAt p next) due row sheet
 endOf p (Refused n q) sheet = stopped n q

@@ -30,7 +30,7 @@ ghost use Rattle.walks.specs.Shape.{fieldsFrom};
 ghost use Rattle.reader.specs.Walk.{valueIn, wholeIn, Ready};
 ghost use Rattle.reader.specs.Flat.{LeavesIn, IsFlat, Described, HeldFields, ValuedPart, HeldPart};
 
-// Whether the values of a type are such structs.
+// Whether a type is a struct of leaves of which only the first fields are shown.
 pub fn is_partly_shown(shown: &[u8; limit::TYPES], s: &[u8], ty: u32, depth: usize) -> bool
     requires { ⌜ IsGood (now s) ⌝ }
     ensures { λ r. ⌜ (r ≡ true → IsFlat (now (s .entry)) depth ty × (rowAt (tableOf (now (s .entry))) ty .kind ≡ 16) × (getD (now (shown .entry)) ty 0 < rowAt (tableOf (now (s .entry))) ty .b)) ⌝ }

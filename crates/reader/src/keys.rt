@@ -19,7 +19,7 @@ pub fn is_again(
     n: usize,
     judging: bool,
 ) -> bool
-    requires { ⌜ (place < 4294967296) × (n < 4294967296) × (place + n ≤ length (now s)) × (judging ≡ true → (i + 1 < length (now keys) / 2) × Kept (now s) (now keys) true i) ⌝ }
+    requires { ⌜ (place < 4294967296) × (n < 4294967296) × (place + n ≤ length (now s)) × (judging ≡ true → (i + 4 < length (now keys) / 2) × Kept (now s) (now keys) true i) ⌝ }
     ensures { λ r. ⌜ (judging ≡ false → r ≡ false) ⌝ }
     ensures { λ r. ⌜ (judging ≡ true → r ≡ among (span (now (s .entry)) place n) (keysIn (now (s .entry)) (now (keys .entry)) i)) ⌝ }
     ensures { λ _. ⌜ (judging ≡ true → keysIn (now (s .entry)) (now (keys .exit)) (i + 1) ≡ span (now (s .entry)) place n ∷ keysIn (now (s .entry)) (now (keys .entry)) i) ⌝ }

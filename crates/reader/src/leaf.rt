@@ -21,7 +21,7 @@ ghost use Rattle.schema.specs.File.{tableOf};
 ghost use Rattle.schema.specs.Check.{IsGood};
 ghost use Rattle.value.specs.Read.{own, bitmap};
 ghost use Rattle.walks.specs.Shape.{leafShape, fieldsFrom};
-ghost use Rattle.reader.specs.Leaf.{Counted, Uncounted, Spanned, Headed};
+ghost use Rattle.reader.specs.Leaf.{CountRead, Uncounted, Spanned, Headed};
 
 // Kinds, in the type in which the functions here are handed one.
 const BOOL: usize = kind::BOOL as usize;
@@ -58,7 +58,7 @@ pub enum Head {
 // A count of what takes at least `least` bytes each.
 pub fn read_count(p: &[u8], at: usize, least: usize) -> Count
     requires { ⌜ (length (now p) ≤ 16384) × (0 < least) × (least ≤ 2) ⌝ }
-    ensures { λ r. ⌜ Counted (now (p .entry)) at least (count least (cursorAt (now (p .entry)) at)) r ⌝ }
+    ensures { λ r. ⌜ CountRead (now (p .entry)) at least (count least (cursorAt (now (p .entry)) at)) r ⌝ }
 {
     match varuint::read(p, at) {
         VarUInt::Cut => Count::Refused {
@@ -96,7 +96,7 @@ fn byte_at(s: &[u8], i: usize) -> usize
 // The count of a map, whose pairs take at least two bytes each. Up to 64 it is a single byte, which is answered at once.
 pub fn map_count(p: &[u8], at: usize) -> Count
     requires { ⌜ length (now p) ≤ 16384 ⌝ }
-    ensures { λ r. ⌜ Counted (now (p .entry)) at 2 (count 2 (cursorAt (now (p .entry)) at)) r ⌝ }
+    ensures { λ r. ⌜ CountRead (now (p .entry)) at 2 (count 2 (cursorAt (now (p .entry)) at)) r ⌝ }
 {
     if at < p.len() {
         let n = byte_at(p, at);

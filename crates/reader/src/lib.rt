@@ -25,6 +25,11 @@ ghost use Rattle.reader.specs.Beside.{shownOutcome};
 // All fields that a struct can have.
 const ALL_FIELDS: u8 = limit::STRUCT_FIELDS as u8;
 
+// Rows of the small sheet that the first walk writes into, and its cells.
+const FEW_ROWS: usize = 32;
+
+const FEW_CELLS: usize = 4 * FEW_ROWS;
+
 // The answer: the number of rows with the tail's place and length and the key comparisons due, or the refusal's number and place.
 pub enum Reading {
     Shown {
@@ -39,8 +44,8 @@ pub enum Reading {
     },
 }
 
-// Reads a payload as a struct of type ty by a good table, and shows the first fields of each struct, as many as `shown` has for its type. One walk judges,
-// and writes into a small sheet of its own; few rows are copied from there, and more are written by a second walk.
+// Reads a payload as a struct of type ty by a good table, and shows the first fields of each struct, as many as `shown` has for its type.
+// One walk judges and writes into a small sheet of its own, from which few rows are copied; more are written by a second walk.
 fn read_shown(
     shown: &[u8; limit::TYPES],
     schema: &[u8],
@@ -66,7 +71,7 @@ fn read_shown(
     }
     let first = t.a as usize;
     let n = t.b as usize;
-    let mut few = [0u32; 128];
+    let mut few = [0u32; FEW_CELLS];
     match root(shown, schema, payload, &mut few, ty, first, n, true) {
         Walk::Refused { number, place } => Reading::Refused { number, place },
         Walk::Past { due, next, row } => {
@@ -76,7 +81,7 @@ fn read_shown(
                     place: 0,
                 };
             }
-            if row <= 32 {
+            if row <= FEW_ROWS {
                 copy_cells(sheet, &few, 4 * row);
             } else {
                 root(shown, schema, payload, sheet, ty, first, n, false);

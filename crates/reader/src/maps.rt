@@ -7,11 +7,12 @@ use crate::leaf::map_count;
 use crate::sheet::put_row;
 use crate::walk::Walk;
 use constants::kind;
-use constants::limit;
 use constants::refusal;
 use schema::TypeRow;
 use schema::access::known_row;
 use schema::access::type_row;
+use value::MOST_PAIRS;
+use walks::key::clear_flags;
 ghost use mathlib.Core.Path.{_≡_};
 ghost use mathlib.Core.Bool.{true};
 ghost use Prim.Native.Nat.{suc, _+_, _/_, _≤_, _<_};
@@ -62,7 +63,7 @@ fn leaf_pairs(
     row: usize,
     judging: bool,
 ) -> Walk
-    requires { ⌜ PairsReady (now s) (now p) depth ty key val n start row judging × (judging ≡ true → n < length (now keys) / 2) ⌝ }
+    requires { ⌜ PairsReady (now s) (now p) depth ty key val n start row judging × (judging ≡ true → n + 4 ≤ length (now keys) / 2) ⌝ }
     ensures { λ r. ⌜ HeldPairs (now (s .entry)) (now (p .entry)) depth ty key val start n start row (now (sheet .entry)) r (now (sheet .exit)) ⌝ }
 {
     let k = known_row(s, key as usize);
@@ -126,13 +127,13 @@ fn leaf_map(
     judging: bool,
 ) -> Walk
     requires { ⌜ Ready (now s) (now p) at row judging (valueIn (now s) (now p) (suc depth) ty at) × (shapeIn (now s) ty ≡ map key val) ⌝ }
-    requires { ⌜ PairsIn (tableOf (now s)) key val × (64 < length (now keys) / 2) ⌝ }
+    requires { ⌜ PairsIn (tableOf (now s)) key val × (68 ≤ length (now keys) / 2) ⌝ }
     ensures { λ r. ⌜ ValuedFlat (now (s .entry)) (now (p .entry)) (suc depth) ty at row (now (sheet .entry)) r (now (sheet .exit)) ⌝ }
 {
     match map_count(p, at) {
         Count::Refused { number } => Walk::Refused { number, place: at },
         Count::Is { n, start } => {
-            if limit::PAIRS < n {
+            if MOST_PAIRS < n {
                 return Walk::Refused {
                     number: refusal::MAP_TOO_LONG,
                     place: at,
@@ -156,7 +157,7 @@ fn leaf_map(
     }
 }
 
-// The n elements of an array from a place on, maps of the type elem. The largest digest is put back to 0 before each, so that keys that rise need no search.
+// The n elements of an array from a place on, maps of the type elem. They share one slice for their keys, whose flags are cleared before each.
 pub fn maps(
     s: &[u8],
     p: &[u8],
@@ -175,7 +176,7 @@ pub fn maps(
     requires { ⌜ PairsIn (tableOf (now s)) key val ⌝ }
     ensures { λ r. ⌜ HeldFlat (now (s .entry)) (now (p .entry)) depth ty elem start n start row (now (sheet .entry)) r (now (sheet .exit)) ⌝ }
 {
-    let mut keys = [0usize; 2 * limit::PAIRS + 2];
+    let mut keys = [0usize; 2 * MOST_PAIRS + 8];
     let mut left = n;
     let mut here = start;
     let mut below = row + 1;
@@ -187,7 +188,7 @@ pub fn maps(
                 place: here,
             };
         }
-        keys[limit::PAIRS] = 0;
+        clear_flags(&mut keys);
         match leaf_map(
             s,
             p,

@@ -1,7 +1,5 @@
-// The walkers: arrays, maps and structs, and what they hold, call each other in a cycle; the depth still allowed falls.
-// They read the payload p by the schema table s and write a row for each value, from `row` on, where the sheet has it.
-// Of a struct of type ty the first shown[ty] fields are shown: the others are read, and have no rows.
-// A walk that does not judge trusts that the same walk has been judged: it skips the tests that would read contents again.
+// The walkers read the payload p by the schema table s and write rows from `row` on where the sheet has them, of a struct of type ty for the first shown[ty]
+// fields. They call each other in a cycle, in which the depth still allowed falls; a walk that does not judge skips tests that would read contents again.
 use crate::added::is_partly_shown;
 use crate::added::structs;
 use crate::flat::elements;
@@ -27,6 +25,7 @@ use schema::TypeRow;
 use schema::access::field;
 use schema::access::known_row;
 use schema::access::type_row;
+use value::MOST_PAIRS;
 use wire::bitmap::low_bits;
 ghost use mathlib.Core.Path.{_≡_};
 ghost use mathlib.Core.Bool.{true};
@@ -37,6 +36,12 @@ ghost use Rattle.schema.specs.File.{tableOf};
 ghost use Rattle.value.specs.Read.{present};
 ghost use Rattle.walks.specs.Shape.{fieldsFrom, shapeIn};
 ghost use Rattle.reader.specs.Walk.{valueIn, wholeIn, rootIn, Valued, Held, Shown, Rooted, Ready};
+
+// Pairs of a map whose keys are kept in the shortest array.
+const SHORT_MAP: usize = 2;
+
+// Pairs of one whose keys are kept in the next.
+const MIDDLE_MAP: usize = 8;
 
 // The place and the row after what was read, and the key comparisons due in it; or a refusal.
 // The narrow number comes first: two wide ones side by side would be moved as one, and wait for both.
@@ -191,7 +196,7 @@ fn read_map(
     match map_count(p, at) {
         Count::Refused { number } => Walk::Refused { number, place: at },
         Count::Is { n, start } => {
-            if limit::PAIRS < n {
+            if MOST_PAIRS < n {
                 return Walk::Refused {
                     number: refusal::MAP_TOO_LONG,
                     place: at,
@@ -205,8 +210,8 @@ fn read_map(
                     row: row + 1,
                 };
             }
-            if n <= 2 {
-                let mut keys = [0usize; 6];
+            if n <= SHORT_MAP {
+                let mut keys = [0usize; 2 * SHORT_MAP + 8];
                 return read_pairs(
                     shown,
                     s,
@@ -223,8 +228,8 @@ fn read_map(
                     judging,
                 );
             }
-            if n <= 8 {
-                let mut keys = [0usize; 18];
+            if n <= MIDDLE_MAP {
+                let mut keys = [0usize; 2 * MIDDLE_MAP + 8];
                 return read_pairs(
                     shown,
                     s,
@@ -278,7 +283,7 @@ fn read_many_pairs(
     requires { ⌜ (0 < rowAt (tableOf (now s)) key .kind) × (rowAt (tableOf (now s)) key .kind < 14) × (0 < rowAt (tableOf (now s)) val .kind) × (0 < n) × (n ≤ 64) ⌝ }
     ensures { λ r. ⌜ Held (now (shown .entry)) (now (s .entry)) (now (p .entry)) depth ty (map key val) start n start row (now (sheet .entry)) r (now (sheet .exit)) ⌝ }
 {
-    let mut keys = [0usize; 2 * limit::PAIRS + 2];
+    let mut keys = [0usize; 2 * MOST_PAIRS + 8];
     read_pairs(
         shown,
         s,
@@ -296,7 +301,7 @@ fn read_many_pairs(
     )
 }
 
-// The n pairs of a map from a place on. What `keys` holds afterwards means nothing. A value that is an empty map is answered without a call of its own.
+// The n pairs of a map from a place on; what `keys` holds afterwards means nothing. A value that is an empty map is answered without a call of its own.
 fn read_pairs(
     shown: &[u8; limit::TYPES],
     s: &[u8],
@@ -314,7 +319,7 @@ fn read_pairs(
 ) -> Walk
     requires { ⌜ Ready (now s) (now p) start (row + 1) judging (wholeIn (now s) (now p) depth ty (map key val) start n start) ⌝ }
     requires { ⌜ (0 < rowAt (tableOf (now s)) key .kind) × (rowAt (tableOf (now s)) key .kind < 14) × (0 < rowAt (tableOf (now s)) val .kind) × (0 < n) × (n ≤ 64) ⌝ }
-    requires { ⌜ (judging ≡ true → n < length (now keys) / 2) ⌝ }
+    requires { ⌜ (judging ≡ true → n + 4 ≤ length (now keys) / 2) ⌝ }
     ensures { λ r. ⌜ Held (now (shown .entry)) (now (s .entry)) (now (p .entry)) depth ty (map key val) start n start row (now (sheet .entry)) r (now (sheet .exit)) ⌝ }
 {
     let k = known_row(s, key as usize);

@@ -28,7 +28,7 @@ use Rattle.receiver.specs.declared.Next.the-variants as next
 use Rattle.receiver.specs.Answer.{Effect, effect, inRow, stopped, payloadRead, tallied, usedOf, answerOf}
 use Rattle.receiver.specs.Planning.{frameFrom, planOf}
 use Rattle.receiver.specs.Receive.{answered, frameSettled, settled, frameEffect, received}
-use Rattle.receiver.specs.Claims.{Reply, replyOf, rowFor, Ready, Unready, schemaFault, callsBad, rowsWrong, Stops, tables, frameFault, needsMore, Alike, SameAnswer}
+use Rattle.receiver.specs.Claims.{Reply, replyOf, rowFor, TablesReady, Unready, schemaFault, callsBad, rowsWrong, Stops, tables, frameFault, needsMore, Alike, SameAnswer}
 use Rattle.receiver.proofs.Ways.{front-of, Way, stops, judges, ways, stops-early, judged}
 use Rattle.receiver.proofs.Payloads.{none-shown, Both, both-read, both-tallied}
 
@@ -115,7 +115,7 @@ module _ (sheet₁ sheet₂ : List ℕ) (ts₁ ts₂ : List Tally) (l₁ l₂ : 
         answered-same size J₁ J₂ r₁ r₂ (rowFor ts₁ (r₁ .row)) (rowFor ts₂ (r₂ .row)) _ _ e raises
 
     module _ (side : ℕ) (bytes : List ℕ) (w : Alike T side bytes l₁ l₂ ts₁ ts₂) where
-      pub ready-too : Ready s l₁ (length ts₁) → Ready s l₂ (length ts₂)
+      pub ready-too : TablesReady s l₁ (length ts₁) → TablesReady s l₂ (length ts₂)
       ready-too r =
           record {
             schemaGood = r .schemaGood;

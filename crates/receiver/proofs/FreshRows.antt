@@ -40,14 +40,14 @@ use Rattle.receiver.specs.Answer.{Effect, payloadRead, numberIn, tallied
 use Rattle.receiver.specs.Planning.{planOf}
 use Rattle.receiver.specs.Receive.{frameSettled, settled, received}
 use Rattle.receiver.specs.Claims.{Front, Keeps, limit, tally, fewRows, rowFor}
-use Rattle.receiver.specs.Run.{Input, input, frameHeard, numberOf, runFrom, heardFrom, callsAfter, rowsAfter, answerAfter, freshTallies, freshState}
+use Rattle.receiver.specs.Run.{Input, input, frameHeard, eventNumber, stateFrom, heardFrom, callsAfter, rowsAfter, answerAfter, freshTallies, freshState}
 use Rattle.receiver.specs.Fresh.{FreshEffect, freshEffect, receivedFresh, inputs, freshRun}
 use Rattle.receiver.proofs.Rows.{fresh-row}
 use Rattle.receiver.proofs.Lent.{fresh-long}
 use Rattle.receiver.proofs.Kept.{holds, stays-good as rows-good}
 use Rattle.receiver.proofs.Apart.{same-room as rows-room}
 use Rattle.receiver.proofs.Answers.{used-by-number as rows-used, rest-ignored as rows-rest}
-use Rattle.receiver.proofs.Listed.{used-or-kept}
+use Rattle.receiver.proofs.Numbered.{used-or-kept}
 use Rattle.receiver.proofs.Runs.{run-rows}
 use Rattle.receiver.proofs.Tallies.{rows-follow}
 
@@ -164,7 +164,7 @@ unfolding heardFrom
 heard-most s [] = omega arith
 heard-most s (i ∷ is) =
     let st = freshState (tableOf s) in
-    heard-one (i .side) (frameOf (i .bytes)) (numberOf s (input i) (runFrom s st (inputs is))) (heardFrom s st (inputs is)) (length is) (heard-most s is)
+    heard-one (i .side) (frameOf (i .bytes)) (eventNumber s (input i) (stateFrom s st (inputs is))) (heardFrom s st (inputs is)) (length is) (heard-most s is)
 
 module _ (s : List ℕ) (g : IsGood s) where
   abbrev T : Table
@@ -198,7 +198,7 @@ module _ (s : List ℕ) (g : IsGood s) where
 
   -- So a record of fewer than 2^32 entries leaves the same calls.
   pub fresh-calls : (is : List Input) → length is < 4294967296 → callsAfter s (freshState T) (inputs is) ≡ freshRun s is (freshTable .slots)
-  unfolding runFrom freshRun
+  unfolding stateFrom freshRun
   fresh-calls [] h = refl
   fresh-calls (i ∷ is) h =
       ap (λ (x : FreshEffect). x .answer .table .slots) (fresh-answers is (omega (arith, h)) i)

@@ -18,7 +18,7 @@ use Rattle.calls.specs.declared.Rise.{Rise}
 use Rattle.calls.specs.Numbers.{endsCall}
 use Rattle.calls.specs.Slots.{goodTable}
 use Rattle.calls.specs.Judge.{judgeOf, judgeRelease}
-use Rattle.calls.specs.Step.{numberOf, stepOf, dueOf, receive, release}
+use Rattle.calls.specs.Step.{numberAfter, stepOf, dueOf, receive, release}
 use Rattle.calls.specs.Counting.{noRise, releaseRise, figureBy, raised, rowAfter}
 use Rattle.calls.proofs.Goodness.{good-test}
 use Rattle.calls.proofs.Kept.{test-stays, stays-long, release-test, release-long}
@@ -28,7 +28,7 @@ use Rattle.receiver.specs.Planning.{frameFrom}
 pub use Rattle.receiver.specs.Receive.{frameRise}
 use Rattle.receiver.specs.Receive.{frameSettled, frameEffect, received}
 use Rattle.receiver.specs.Release.{ReleaseEffect, releaseAnswer, released}
-use Rattle.receiver.specs.Claims.{Front, Ready, Unready, Stops, rowFor}
+use Rattle.receiver.specs.Claims.{Front, TablesReady, Unready, Stops, rowFor}
 use Rattle.receiver.proofs.Ways.{front-of, Way, stops, judges, ways, releasedNumber, number-spares, ReleaseWay, unready, releases, release-ways}
 use Rattle.receiver.proofs.Rows.{rowsWith, rows-with}
 
@@ -37,7 +37,7 @@ abbrev pub readingOf : (s : List ℕ) → Frame → (payload sheet : List ℕ) �
 readingOf s f payload sheet ts l d = numberIn (tallied (rowFor ts (frameRise s f l .row)) (frameRise s f l) sheet (payloadRead s d payload sheet))
 
 -- a row that is known is one of those lent
-among : (s : List ℕ) (l : List Call) (ts : List Tally) → Ready s l (length ts) → (r : Rise) → Known (tableOf s) r → (r ≡ noRise) ⊎ (r .row < length ts)
+among : (s : List ℕ) (l : List Call) (ts : List Tally) → TablesReady s l (length ts) → (r : Rise) → Known (tableOf s) r → (r ≡ noRise) ⊎ (r .row < length ts)
 among s l ts w r k = ⊎-elim inl (λ h. inr (subst (λ (n : ℕ). r .row < n) (sym (w .rowsRight)) h)) k
 
 -- the row of a method by the answer's number
@@ -55,12 +55,12 @@ module _ (s : List ℕ) (f : Frame) (payload : List ℕ) (size : ℕ) (sheet : L
   unfolding frameEffect frameSettled
   frame-rows = refl
 
-  frame-number : frameEffect s f payload size sheet ts l .answer .number ≡ numberOf (judgeOf (tableOf s) f l) (readingOf s f payload sheet ts l (dueOf (judgeOf (tableOf s) f l)))
+  frame-number : frameEffect s f payload size sheet ts l .answer .number ≡ numberAfter (judgeOf (tableOf s) f l) (readingOf s f payload sheet ts l (dueOf (judgeOf (tableOf s) f l)))
   unfolding frameEffect frameSettled stepOf
   frame-number = refl
 
   -- every row afterwards
-  pub frame-row : Ready s l (length ts) → (m : ℕ) → let a = frameEffect s f payload size sheet ts l in
+  pub frame-row : TablesReady s l (length ts) → (m : ℕ) → let a = frameEffect s f payload size sheet ts l in
       rowFor (a .tallies) m ≡ rowAfter m (frameRise s f l) (a .answer .number) (rowFor ts m)
   frame-row w m =
       let J = judgeOf (tableOf s) f l in
@@ -68,7 +68,7 @@ module _ (s : List ℕ) (f : Frame) (payload : List ℕ) (size : ℕ) (sheet : L
       let p = readingOf s f payload sheet ts l (dueOf J) in
       ap (λ (x : List Tally). rowFor x m) frame-rows
       ∙ rows-with ts r p (among s l ts w r (frame-known (tableOf s) l (w .callsGood) f)) m
-      ∙ by-number m r (numberOf J p) p (rowFor ts m) (figure-answered (f .kind) l J p)
+      ∙ by-number m r (numberAfter J p) p (rowFor ts m) (figure-answered (f .kind) l J p)
       ∙ ap (λ (n : ℕ). rowAfter m r n (rowFor ts m)) (sym frame-number)
 
 -- an answer that stops changes no call
@@ -79,7 +79,7 @@ stop-holds P l n q h = h
 module _ (s : List ℕ) (side : ℕ) (bytes sheet : List ℕ) (ts : List Tally) (l : List Call) where
   -- What holds of the number, the records and the row of method m where the answer stops, and of every step of a frame at the front.
   pub holds-row : (m : ℕ) (P : ℕ → List Call → Tally → Type 0) → ((n q : ℕ) → Stops s bytes l (length ts) n q → P n l (rowFor ts m))
-      → ((f : Frame) → Front side bytes f → Ready s l (length ts) → (reading : Payload → ℕ) →
+      → ((f : Frame) → Front side bytes f → TablesReady s l (length ts) → (reading : Payload → ℕ) →
       let r = receive (tableOf s) f reading l in P (r .number) (r .table .slots) (rowAfter m (frameRise s f l) (r .number) (rowFor ts m)))
       → let a = received s side bytes sheet ts l in P (a .answer .number) (a .answer .table .slots) (rowFor (a .tallies) m)
   holds-row m P stop step = go (ways s side bytes sheet ts l)
@@ -129,13 +129,13 @@ module _ (s : List ℕ) (l : List Call) (id : ℕ) (ts : List Tally) where
   abbrev releasing : Rise
   releasing = releaseRise l (judgeRelease id l)
 
-  release-number : (n : ℕ) → release id n l .number ≡ numberOf (judgeRelease id l) n
+  release-number : (n : ℕ) → release id n l .number ≡ numberAfter (judgeRelease id l) n
   unfolding release stepOf
   release-number n = refl
 
   -- What holds of the number, the records and the row of method m where it stops at a fault of the tables, and of every release that is judged.
   pub release-holds-row : (m : ℕ) (P : ℕ → List Call → Tally → Type 0) → ((n q : ℕ) → Unready s l (length ts) n q → P n l (rowFor ts m))
-      → (Ready s l (length ts) → (n : ℕ) → endsCall n ≡ false → let x = release id n l in P (x .number) (x .table .slots) (rowAfter m (releaseRise l (judgeRelease id l)) (x .number) (rowFor ts m)))
+      → (TablesReady s l (length ts) → (n : ℕ) → endsCall n ≡ false → let x = release id n l in P (x .number) (x .table .slots) (rowAfter m (releaseRise l (judgeRelease id l)) (x .number) (rowFor ts m)))
       → let a = released s l id ts in P (a .answer .number) (a .answer .table .slots) (rowFor (a .tallies) m)
   release-holds-row m P stop step = go (release-ways s l id ts)
     where
@@ -146,7 +146,7 @@ module _ (s : List ℕ) (l : List Call) (id : ℕ) (ts : List Tally) where
           let x = release id n l in
           let row : rowFor (rowsWith ts releasing n) m ≡ rowAfter m releasing (x .number) (rowFor ts m) =
           rows-with ts releasing n (among s l ts w releasing (release-known (tableOf s) l (w .callsGood) id)) m
-          ∙ by-number m releasing (numberOf (judgeRelease id l) n) n (rowFor ts m) (release-figure l (judgeRelease id l) n)
+          ∙ by-number m releasing (numberAfter (judgeRelease id l) n) n (rowFor ts m) (release-figure l (judgeRelease id l) n)
           ∙ ap (λ (k : ℕ). rowAfter m releasing k (rowFor ts m)) (sym (release-number n)) in
           rw row
           (told-holds (λ k l′. P k l′ (rowAfter m releasing (x .number) (rowFor ts m))) (x .number) 0 (x .table .slots) (step w n (number-spares s l id ts)))

@@ -53,7 +53,7 @@ pub fresh-long : (T : Table) → length (freshTallies T) ≡ length (T .methods)
 unfolding freshTallies
 fresh-long T = length-replicate (length (T .methods)) noTally
 
--- A plan for as many rows as methods, settled with a row of noughts.
+-- A plan for as many rows as methods, settled with a row of zeros.
 pub fresh-settled : (s : List ℕ) (side : ℕ) (bytes sheet : List ℕ) (l : List Call) (p : Plan) → p ≡ planOf s side bytes (length (tableOf s .methods)) l
     → (r : Received) (cells : List ℕ) → let x = settled s bytes sheet l noTally (p .next) in (r ≡ x .answer) × (cells ≡ x .sheet)
     → freshEffect r cells ≡ receivedFresh s side bytes sheet l

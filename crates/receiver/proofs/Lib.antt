@@ -9,7 +9,7 @@ pub mod Apart
 pub mod Records
 pub mod Releases
 pub mod Answers
-pub mod Listed
+pub mod Numbered
 pub mod Due
 pub mod Runs
 pub mod Tallies

@@ -30,7 +30,7 @@ use Rattle.calls.proofs.Goodness.{good-clauses, good-test}
 use Rattle.calls.proofs.Apart as calls
 use Rattle.calls.proofs.Rises.{release-rise-by}
 use Rattle.receiver.specs.Release.{ReleaseEffect, releaseAnswer, released}
-use Rattle.receiver.specs.Claims.{Ready, Unready, schemaFault, callsBad, rowsWrong, rowFor, ReleaseReply, releaseReply}
+use Rattle.receiver.specs.Claims.{TablesReady, Unready, schemaFault, callsBad, rowsWrong, rowFor, ReleaseReply, releaseReply}
 use Rattle.receiver.proofs.Ways.{Early, schema, calls, rows, frame, unready-early, releasedNumber, ReleaseWay, unready, releases, release-ways, release-stops, release-judged}
 use Rattle.receiver.proofs.Rows.{unraised, rows-alike}
 use Rattle.receiver.proofs.Kept.{release-holds, release-holds-row, release-rows}
@@ -126,7 +126,7 @@ module _ (s : List ℕ) (id : ℕ) (l₁ l₂ : List Call) (ts₁ ts₂ : List T
       ∙ numbered (ownOf id l₁) row
       ∙ sym (ap (λ (r : Rise). countedNumber (rowFor ts₂ (r .row)) r 0) (sym same-rise ∙ release-rise-by id l₁))
 
-  ready-too : Ready s l₁ (length ts₁) → Ready s l₂ (length ts₂)
+  ready-too : TablesReady s l₁ (length ts₁) → TablesReady s l₂ (length ts₂)
   ready-too r =
       record {
         schemaGood = r .schemaGood;

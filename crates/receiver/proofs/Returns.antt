@@ -84,22 +84,22 @@ module _ (schema : List ℕ) (next : Plan) (v : Checked) (is : v ≡ checked sch
 -- ---- the frame at the front of the bytes
 
 module _ (good : Bool) (rows : ℕ) (T : Table) (side : ℕ) (bytes : List ℕ) where
-  pub front-fault : (k : ℕ) → k ≡ tablesFault good rows T → (k ≡ 0 → ⊥) → front.Stop k ≡ frontOf good rows T side bytes
+  pub front-fault : (k : ℕ) → k ≡ tablesFault good rows T → (k ≡ 0 → ⊥) → front.Refused k ≡ frontOf good rows T side bytes
   front-fault k is n =
-      calls-fault good rows T front.Stop (onFrame (frameOf bytes) front.Stop (λ h place n. front.Whole (frameFrom side h) place (place + n))) k is n
+      calls-fault good rows T front.Refused (onFrame (frameOf bytes) front.Refused (λ h place n. front.Whole (frameFrom side h) place (place + n))) k is n
 
   -- by what the frame reader answers, where the tables are right
   module _ (k : ℕ) (is : k ≡ tablesFault good rows T) (right : k ≡ 0) (v : FrameRead) (read : v ≡ frameOf bytes) (r : Front) where
     abbrev answer : Front
-    answer = onFrame (frameOf bytes) front.Stop (λ h place n. front.Whole (frameFrom side h) place (place + n))
+    answer = onFrame (frameOf bytes) front.Refused (λ h place n. front.Whole (frameFrom side h) place (place + n))
 
     ahead : r ≡ answer → r ≡ frontOf good rows T side bytes
-    ahead x = x ∙ calls-right good rows T front.Stop answer k is right
+    ahead x = x ∙ calls-right good rows T front.Refused answer k is right
 
-    pub front-more : v ≡ More → r ≡ front.Stop 1 → r ≡ frontOf good rows T side bytes
+    pub front-more : v ≡ More → r ≡ front.Refused 1 → r ≡ frontOf good rows T side bytes
     front-more e x = ahead (rw (← read, e, x))
 
-    pub front-refused : (n : ℕ) → v ≡ Refused n → r ≡ front.Stop n → r ≡ frontOf good rows T side bytes
+    pub front-refused : (n : ℕ) → v ≡ Refused n → r ≡ front.Refused n → r ≡ frontOf good rows T side bytes
     front-refused n e x = ahead (rw (← read, e, x))
 
     pub front-whole : (h : Header) (place n : ℕ) (f : Frame) → v ≡ Whole h place n → f ≡ frameFrom side h → r ≡ front.Whole f place (place + n)
@@ -109,7 +109,7 @@ module _ (good : Bool) (rows : ℕ) (T : Table) (side : ℕ) (bytes : List ℕ) 
   module _ (l : List Call) where
     -- The plan that follows a front.
     abbrev after : Front → Plan
-    after (front.Stop n) = stopPlan n 0
+    after (front.Refused n) = stopPlan n 0
     after (front.Whole f place end) = framePlan T f l place end
 
     follows : goodPlan good rows T side bytes l ≡ after (frontOf good rows T side bytes)
@@ -118,7 +118,7 @@ module _ (good : Bool) (rows : ℕ) (T : Table) (side : ℕ) (bytes : List ℕ) 
       where
         go : (a b : Bool) (v : FrameRead)
             → cond a (cond b (onFrame v (λ number. stopPlan number 0) (λ h place n. framePlan T (frameFrom side h) l place (place + n))) (stopPlan 19 0)) (stopPlan 15 0)
-            ≡ after (cond a (cond b (onFrame v front.Stop (λ h place n. front.Whole (frameFrom side h) place (place + n))) (front.Stop 19)) (front.Stop 15))
+            ≡ after (cond a (cond b (onFrame v front.Refused (λ h place n. front.Whole (frameFrom side h) place (place + n))) (front.Refused 19)) (front.Refused 15))
         go true true More = refl
         go true true (Refused n) = refl
         go true true (Whole h place n) = refl
@@ -126,7 +126,7 @@ module _ (good : Bool) (rows : ℕ) (T : Table) (side : ℕ) (bytes : List ℕ) 
         go false b v = refl
 
     module _ (x : Front) (is : x ≡ frontOf good rows T side bytes) (r : Plan) where
-      pub good-stop : (n : ℕ) → x ≡ front.Stop n → r ≡ stopPlan n 0 → r ≡ goodPlan good rows T side bytes l
+      pub good-stop : (n : ℕ) → x ≡ front.Refused n → r ≡ stopPlan n 0 → r ≡ goodPlan good rows T side bytes l
       good-stop n e y = y ∙ ap after (sym e ∙ is) ∙ sym follows
 
       pub good-whole : (f : Frame) (place end : ℕ) → x ≡ front.Whole f place end → r ≡ seatPlan T f (seatOf (f .correlation) (eqb (f .kind) 1) l) place end

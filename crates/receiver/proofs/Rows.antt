@@ -87,7 +87,7 @@ fresh-rows zero m = refl
 fresh-rows (suc n) zero = refl
 fresh-rows (suc n) (suc m) = fresh-rows n m
 
--- A fresh row is one of noughts, whatever its method.
+-- A fresh row is one of zeros, whatever its method.
 pub fresh-row : (T : Table) (m : ℕ) → rowFor (freshTallies T) m ≡ noTally
 unfolding freshTallies
 fresh-row T m = fresh-rows (length (T .methods)) m

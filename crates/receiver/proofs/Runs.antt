@@ -37,7 +37,7 @@ use Rattle.calls.specs.declared.OwnCall.the-variants.{None as none, One as one}
 use Rattle.calls.specs.Judge.{rightSide, judgeOf, judgeRelease, Verdict, stop, goes, releaseVerdict}
 use Rattle.calls.specs.Step.{stepOf, dueOf}
 use Rattle.calls.specs.Counting.{noTally, noRise, riseOf, releaseRise, figureBy, fullAt, countedNumber}
-use Rattle.calls.specs.Good.{GoodTable}
+use Rattle.calls.specs.Good.{GoodCalls}
 use Rattle.calls.specs.Numbers as numbers
 use Rattle.calls.specs.Numbers.{endsCall, usesFrame}
 use Rattle.calls.specs.Order as rules
@@ -63,9 +63,9 @@ use Rattle.receiver.specs.Answer.{Effect, inRow, emptyRead, payloadRead,
 use Rattle.receiver.specs.Planning.{frameFrom}
 use Rattle.receiver.specs.Receive.{answered as answeredBy, frameSettled, frameEffect, received}
 use Rattle.receiver.specs.Release.{ReleaseEffect, releaseAnswer, released}
-use Rattle.receiver.specs.Claims.{Front, payloadIn, Ready, rowFor, Stops, frameFault, needsMore, Nothing}
-use Rattle.receiver.specs.Order.{Said, said, saidBy, Answered, stops, value, empty, surplus, error, Counted, fullTally, rises, ByRules, ReleasedAs, refusedRelease, fullRelease, releasedNow, Stands}
-use Rattle.receiver.specs.Run.{Input, Event, input, release, State, stateAfter, numberOf, Happens, frame, releases, frameHeard, heardIn, runFrom, heardFrom}
+use Rattle.receiver.specs.Claims.{Front, payloadIn, TablesReady, rowFor, Stops, frameFault, needsMore, Nothing}
+use Rattle.receiver.specs.Order.{Said, said, saidBy, Answered, stops, value, empty, surplus, error, Counted, fullTally, rises, ByRules, ReleasedAs, refusedRelease, fullRelease, releasedNow, Reflected}
+use Rattle.receiver.specs.Run.{Input, Event, input, release, State, stateAfter, eventNumber, Happens, frame, releases, frameHeard, heardIn, stateFrom, heardFrom}
 use Rattle.receiver.specs.Run.{callsAfter, rowsAfter, answerAfter, fullAfter, pastIn, RoomAfter, freshTallies, freshState}
 use Rattle.receiver.proofs.Kept.{frameRise, readingOf, stop-holds, frame-holds, holds as holds-after, stays-good, same-length, same-rows, release-holds, release-good, release-length, release-rows}
 use Rattle.receiver.proofs.Records.{front-once, others-kept, freed as frame-freed, refused-kept}
@@ -89,21 +89,21 @@ event-rows s (input i) st = same-rows s (i .side) (i .bytes) (i .sheet) (st .tal
 event-rows s (release id) st = release-rows s (st .calls) id (st .tallies)
 
 -- After any history from a good call table it is good: 15 never comes.
-pub run-good : (s : List ℕ) (st : State) → goodTable (tableOf s) (st .calls) ≡ true → (es : List Event) → goodTable (tableOf s) (runFrom s st es .calls) ≡ true
-unfolding runFrom
+pub run-good : (s : List ℕ) (st : State) → goodTable (tableOf s) (st .calls) ≡ true → (es : List Event) → goodTable (tableOf s) (stateFrom s st es .calls) ≡ true
+unfolding stateFrom
 run-good s st g [] = g
-run-good s st g (e ∷ es) = event-good s e (runFrom s st es) (run-good s st g es)
+run-good s st g (e ∷ es) = event-good s e (stateFrom s st es) (run-good s st g es)
 
 -- It has as many slots as before, and as many tally rows: 19 never comes.
-pub run-long : (s : List ℕ) (st : State) (es : List Event) → length (runFrom s st es .calls) ≡ length (st .calls)
-unfolding runFrom
+pub run-long : (s : List ℕ) (st : State) (es : List Event) → length (stateFrom s st es .calls) ≡ length (st .calls)
+unfolding stateFrom
 run-long s st [] = refl
-run-long s st (e ∷ es) = event-length s e (runFrom s st es) ∙ run-long s st es
+run-long s st (e ∷ es) = event-length s e (stateFrom s st es) ∙ run-long s st es
 
-pub run-rows : (s : List ℕ) (st : State) (es : List Event) → length (runFrom s st es .tallies) ≡ length (st .tallies)
-unfolding runFrom
+pub run-rows : (s : List ℕ) (st : State) (es : List Event) → length (stateFrom s st es .tallies) ≡ length (st .tallies)
+unfolding stateFrom
 run-rows s st [] = refl
-run-rows s st (e ∷ es) = event-rows s e (runFrom s st es) ∙ run-rows s st es
+run-rows s st (e ∷ es) = event-rows s e (stateFrom s st es) ∙ run-rows s st es
 
 -- No record counts more than 65,535 elements either way after a history where none does at its start, as from a fresh one.
 event-few : (s : List ℕ) (e : Event) (st : State) → FewIn 65535 (st .calls) → FewIn 65535 (stateAfter s e st .calls)
@@ -112,16 +112,16 @@ event-few s (input i) st h =
 event-few s (release id) st h = release-holds s (st .calls) id (st .tallies) (λ _ l. FewIn 65535 l) (λ n q e. h) (λ g t n k. few-released id n (st .calls) h)
 
 pub run-few : (s : List ℕ) (st : State) → FewIn 65535 (st .calls) → (es : List Event) → FewIn 65535 (callsAfter s st es)
-unfolding runFrom
+unfolding stateFrom
 run-few s st h [] = h
-run-few s st h (e ∷ es) = event-few s e (runFrom s st es) (run-few s st h es)
+run-few s st h (e ∷ es) = event-few s e (stateFrom s st es) (run-few s st h es)
 
 pub fresh-few : (T : Table) → FewIn 65535 (freshState T .calls)
 fresh-few T = few-wide 0 65535 (freshTable .slots) (lit≤ tt) few-fresh
 
 -- A slot is freed only by a payload refusal, the completion of the call, ERROR, or the release of a cancelled call, each its own.
 pub freed : (s : List ℕ) (st : State) (e : Event) (i : ℕ) → slot (st .calls) i .«open» ≡ true → slot (stateAfter s e st .calls) i .«open» ≡ false
-    → (x : calls.Event) × Happens e x × Freed (tableOf s) x (numberOf s e st) (slot (st .calls) i)
+    → (x : calls.Event) × Happens e x × Freed (tableOf s) x (eventNumber s e st) (slot (st .calls) i)
 freed s st (input i) k o z =
     let w = frame-freed s (i .side) (i .bytes) (i .sheet) (st .tallies) (st .calls) k o z in (calls.frame (w .0), frame i (w .0) (w .1), w .2)
 freed s st (release id) k o z = (calls.release id, releases id, release-freed s (st .calls) id (st .tallies) k o z)
@@ -155,7 +155,7 @@ error-frees s side bytes sheet ts l k o late = go (ways s side bytes sheet ts l)
 -- Only its ERROR, accepted, or its release frees the slot of a cancelled call.
 pub cancelled-freed : (s : List ℕ) (st : State) (e : Event) (i : ℕ) → slot (st .calls) i .«open» ≡ true → slot (st .calls) i .cancelled ≡ true
     → slot (stateAfter s e st .calls) i .«open» ≡ false
-    → (x : calls.Event) × Happens e x × (isCall (calls.identifier x) (slot (st .calls) i) ≡ true) × EndsCancelled x (numberOf s e st)
+    → (x : calls.Event) × Happens e x × (isCall (calls.identifier x) (slot (st .calls) i) ≡ true) × EndsCancelled x (eventNumber s e st)
 cancelled-freed s st (input i) k o late z =
     let w = error-frees s (i .side) (i .bytes) (i .sheet) (st .tallies) (st .calls) k o late z in
     (calls.frame (w .0), frame i (w .0) (w .1), w .2, rw (w .4) (itsError (w .0) (w .3)))
@@ -168,7 +168,7 @@ cancelled-freed s st (release id) k o late z =
 -- ---- where a history starts
 
 -- A fresh start stands with no call open.
-pub fresh-stands : (T : Table) → Stands T (freshTable .slots) (freshTallies T) (λ _. closed)
+pub fresh-stands : (T : Table) → Reflected T (freshTable .slots) (freshTallies T) (λ _. closed)
 unfolding ownOf freshTallies
 fresh-stands T =
     record {
@@ -179,8 +179,8 @@ fresh-stands T =
     }
 
 -- So does every good table of 128 slots with as many tally rows as methods, with pasts that the rules allow.
-pub good-stands : (s : List ℕ) → IsGood s → (l : List Call) (ts : List Tally) → length l ≡ 128 → GoodTable (tableOf s) l → length ts ≡ length (tableOf s .methods) →
-    (past : ℕ → Past) × ((id : ℕ) → Lawful (tableOf s) (past id)) × Stands (tableOf s) l ts past
+pub good-stands : (s : List ℕ) → IsGood s → (l : List Call) (ts : List Tally) → length l ≡ 128 → GoodCalls (tableOf s) l → length ts ≡ length (tableOf s .methods) →
+    (past : ℕ → Past) × ((id : ℕ) → Lawful (tableOf s) (past id)) × Reflected (tableOf s) l ts past
 good-stands s g l ts n w k =
     let one : (id : ℕ) → PastIn (tableOf s) l id = some-past (tableOf s) (good-table s g) l w in
     (λ id. one id .past, λ id. one id .lawful, record { slots = n; good = w; reflects = λ id. one id .reflects; rows = k })
@@ -303,8 +303,8 @@ module _ (T : Table) (f : Frame) (past : Past) (ts : List Tally) (sheet : List �
 
 -- ---- one frame
 
-module _ (s : List ℕ) (g : IsGood s) (l : List Call) (ts : List Tally) (k : GoodTable (tableOf s) l) (rowed : length ts ≡ length (tableOf s .methods)) where
-  abbrev ready : Ready s l (length ts)
+module _ (s : List ℕ) (g : IsGood s) (l : List Call) (ts : List Tally) (k : GoodCalls (tableOf s) l) (rowed : length ts ≡ length (tableOf s .methods)) where
+  abbrev ready : TablesReady s l (length ts)
   ready = record { schemaGood = g; callsGood = k; rowsRight = rowed }
 
   module _ (side : ℕ) (bytes sheet : List ℕ) (f : Frame) (w : Front side bytes f) where
@@ -438,7 +438,7 @@ released-is ts (since m b h) (one c) (call _ _ _ _ w) =
     go true = ap (λ (k : ℕ). cond (eqb (rowFor ts k .cancelled) 4294967295) 18 0) (w .method)
     go false = refl
 
-module _ (s : List ℕ) (g : IsGood s) (l : List Call) (ts : List Tally) (k : GoodTable (tableOf s) l) (rowed : length ts ≡ length (tableOf s .methods)) (id : ℕ) where
+module _ (s : List ℕ) (g : IsGood s) (l : List Call) (ts : List Tally) (k : GoodCalls (tableOf s) l) (rowed : length ts ≡ length (tableOf s .methods)) (id : ℕ) where
   told-number-of : (n q : ℕ) (l′ : List Call) → releaseAnswer n q l′ .number ≡ n
   unfolding releaseAnswer
   told-number-of n q l′ = refl
@@ -501,17 +501,17 @@ one-of-three P a b c k t =
     (or-cases (eqb 3 k) (eqb 8 k || false) r))
     (or-cases (eqb 2 k) (eqb 3 k || (eqb 8 k || false)) t)
 
-module _ (s : List ℕ) (g : IsGood s) (start : State) (past : ℕ → Past) (st : Stands (tableOf s) (start .calls) (start .tallies) past) where
+module _ (s : List ℕ) (g : IsGood s) (start : State) (past : ℕ → Past) (st : Reflected (tableOf s) (start .calls) (start .tallies) past) where
   abbrev T : Table
   T = tableOf s
 
-  pub calls-good : (es : List Event) → GoodTable T (callsAfter s start es)
+  pub calls-good : (es : List Event) → GoodCalls T (callsAfter s start es)
   calls-good es = good-clauses T (callsAfter s start es) (run-good s start (good-test T (start .calls) (st .good)) es)
 
   pub rows-right : (es : List Event) → length (rowsAfter s start es) ≡ length (T .methods)
   rows-right es = run-rows s start es ∙ st .rows
 
-  pub ready-after : (es : List Event) → Ready s (callsAfter s start es) (length (rowsAfter s start es))
+  pub ready-after : (es : List Event) → TablesReady s (callsAfter s start es) (length (rowsAfter s start es))
   ready-after es = record { schemaGood = g; callsGood = calls-good es; rowsRight = rows-right es }
 
   -- one event more: the past of its identifier changes, the others stay
@@ -551,7 +551,7 @@ module _ (s : List ℕ) (g : IsGood s) (start : State) (past : ℕ → Past) (st
             (front-reflects s g (callsAfter s start es) (rowsAfter s start es) (calls-good es) (rows-right es) (i .side) (i .bytes) (i .sheet) f w (pastIn s start past es (f .correlation)) (ih (f .correlation)))
             (λ z. others-kept s (i .side) (i .bytes) (i .sheet) (rowsAfter s start es) (callsAfter s start es) id (λ x v q. z (q ∙ ap (λ (y : Frame). y .correlation) (front-once v w))))
 
-    one-more : (e : Event) → Reflects (pastOf T id (past id) (heardIn e (numberOf s e (runFrom s start es)) (heardFrom s start es))) (ownOf id (stateAfter s e (runFrom s start es) .calls))
+    one-more : (e : Event) → Reflects (pastOf T id (past id) (heardIn e (eventNumber s e (stateFrom s start es)) (heardFrom s start es))) (ownOf id (stateAfter s e (stateFrom s start es) .calls))
     one-more (input i) = input-more i
     one-more (release k) =
         let a = released s (callsAfter s start es) k (rowsAfter s start es) .answer in
@@ -560,7 +560,7 @@ module _ (s : List ℕ) (g : IsGood s) (start : State) (past : ℕ → Past) (st
 
   -- The record of each identifier reflects the kinds that were accepted for its call.
   pub reflected : (es : List Event) (id : ℕ) → Reflects (pastIn s start past es id) (ownOf id (callsAfter s start es))
-  unfolding runFrom heardFrom pastOf
+  unfolding stateFrom heardFrom pastOf
   reflected [] id = st .reflects id
   reflected (e ∷ es) id = one-more es id (reflected es) e
 
@@ -704,7 +704,7 @@ module _ (s : List ℕ) (g : IsGood s) (start : State) (past : ℕ → Past) (st
       a : Effect
       a = answerAfter s start es i
 
-      few : {k : ℕ} → rules.TooMany b h k → k ≡ 7 → ⊥
+      few : {k : ℕ} → rules.TooManyElements b h k → k ≡ 7 → ⊥
       few (rules.inputs q) z = omega arith
       few (rules.outputs q) z = omega arith
 

@@ -48,8 +48,8 @@ use Rattle.receiver.specs.Answer.{Effect}
 use Rattle.receiver.specs.Planning.{frameFrom}
 use Rattle.receiver.specs.Receive.{received}
 use Rattle.receiver.specs.Release.{released}
-use Rattle.receiver.specs.Claims.{Front, payloadIn, Ready, Unready, schemaFault, callsBad, rowsWrong, frameFault, needsMore, rowFor, About, Reply, Alike, CountedSince, counts}
-use Rattle.receiver.specs.Run.{Input, Event, input, release, State, stateAfter, frameHeard, runFrom, heardFrom, callsAfter, rowsAfter, freshState}
+use Rattle.receiver.specs.Claims.{Front, payloadIn, TablesReady, Unready, schemaFault, callsBad, rowsWrong, frameFault, needsMore, rowFor, About, Reply, Alike, CountedSince, counts}
+use Rattle.receiver.specs.Run.{Input, Event, input, release, State, stateAfter, frameHeard, stateFrom, heardFrom, callsAfter, rowsAfter, freshState}
 use Rattle.receiver.proofs.Ways.{front-of, Way, stops, judges, ways, stops-early, judged}
 use Rattle.receiver.proofs.Rows.{none-raised, fresh-row}
 use Rattle.receiver.proofs.Kept.{frameRise, frame-row, holds-row, release-holds-row}
@@ -69,13 +69,13 @@ event-balanced s (release id) st m b =
 
 -- Whatever the history, a row that is in balance at the start stays so.
 pub stays-balanced : (s : List ℕ) (st : State) (m : ℕ) → Balanced m (rowFor (st .tallies) m) (st .calls) → (es : List Event)
-    → let x = runFrom s st es in Balanced m (rowFor (x .tallies) m) (x .calls)
-unfolding runFrom
+    → let x = stateFrom s st es in Balanced m (rowFor (x .tallies) m) (x .calls)
+unfolding stateFrom
 stays-balanced s st m b [] = b
-stays-balanced s st m b (e ∷ es) = event-balanced s e (runFrom s st es) m (stays-balanced s st m b es)
+stays-balanced s st m b (e ∷ es) = event-balanced s e (stateFrom s st es) m (stays-balanced s st m b es)
 
 -- From a fresh start, under any schema file, opened equals the other four plus the calls of that method now open.
-pub opened-balance : (s : List ℕ) (es : List Event) (m : ℕ) → let x = runFrom s (freshState (tableOf s)) es in
+pub opened-balance : (s : List ℕ) (es : List Event) (m : ℕ) → let x = stateFrom s (freshState (tableOf s)) es in
     let t = rowFor (x .tallies) m in t .opened ≡ t .completed + t .errored + t .cancelled + t .failed + openOf m (x .calls)
 opened-balance s es m =
     let T = tableOf s in
@@ -83,7 +83,7 @@ opened-balance s es m =
 
 -- ---- the figures
 
-unready-never : (s : List ℕ) (l : List Call) (k : ℕ) {n q : ℕ} → Ready s l k → Unready s l k n q → ⊥
+unready-never : (s : List ℕ) (l : List Call) (k : ℕ) {n q : ℕ} → TablesReady s l k → Unready s l k n q → ⊥
 unready-never s l k r (schemaFault {n} {row} e) = let bad = sym (r .schemaGood) ∙ schema-refused s n row .1 e in differ cc
 unready-never s l k r (callsBad g b) = b (r .callsGood)
 unready-never s l k r (rowsWrong g w n) = n (r .rowsRight)
@@ -120,7 +120,7 @@ module _ (s : List ℕ) (g : IsGood s) where
         a : Effect
         a = received s (i .side) (i .bytes) (i .sheet) ts l
 
-        ready : Ready s l (length ts)
+        ready : TablesReady s l (length ts)
         ready = ready-after s g start (λ _. closed) (fresh-stands T) es
 
         go : (v : FrameRead) → frameOf (i .bytes) ≡ v → rowFor (a .tallies) m ≡ figures T m (frameHeard (i .side) v (a .answer .number) heard)
@@ -147,7 +147,7 @@ module _ (s : List ℕ) (g : IsGood s) where
 
   -- After any history from a fresh start under one schema table, each tally row is the figures of that history.
   pub rows-follow : (es : List Event) (m : ℕ) → rowFor (rowsAfter s (freshState T) es) m ≡ figures T m (heardFrom s (freshState T) es)
-  unfolding runFrom heardFrom
+  unfolding stateFrom heardFrom
   rows-follow [] m = fresh-row T m ∙ sym (no-figures T m)
   rows-follow (input i ∷ es) m = input-follows es m (rows-follow es m) i
   rows-follow (release id ∷ es) m = release-follows es m (rows-follow es m) id
@@ -214,11 +214,11 @@ counts-since (since m b h) own w r c e = with-call r e
 
 -- After any history from a fresh start, the counts of an open call are the elements accepted each way since its INVOKE.
 pub elements-counted : (s : List ℕ) → IsGood s → (es : List Event) (id : ℕ) (c : Call) → let start = freshState (tableOf s) in
-    ownOf id (runFrom s start es .calls) ≡ one c → CountedSince c (pastOf (tableOf s) id closed (heardFrom s start es))
+    ownOf id (stateFrom s start es .calls) ≡ one c → CountedSince c (pastOf (tableOf s) id closed (heardFrom s start es))
 elements-counted s g es id c e =
     let T = tableOf s in
     let start = freshState T in
-    counts-since (pastOf T id closed (heardFrom s start es)) (ownOf id (runFrom s start es .calls)) (begun-past T id (heardFrom s start es))
+    counts-since (pastOf T id closed (heardFrom s start es)) (ownOf id (stateFrom s start es .calls)) (begun-past T id (heardFrom s start es))
     (reflected s g start (λ _. closed) (fresh-stands T) es id) c e
 
 -- ---- the other rows
@@ -283,7 +283,7 @@ module _ (s : List ℕ) (side : ℕ) (bytes sheet₁ sheet₂ : List ℕ) (ts₁
   same-number : a₁ .answer .number ≡ a₂ .answer .number
   same-number = ap (λ (r : Reply). r .numbers .number) (same-answer sheet₁ sheet₂ ts₁ ts₂ l₁ l₂ s space side bytes w .reply)
 
-  judged-row : (sheet : List ℕ) (ts : List Tally) (l : List Call) (h : Header) (place n : ℕ) → Ready s l (length ts) → frameOf bytes ≡ Whole h place n →
+  judged-row : (sheet : List ℕ) (ts : List Tally) (l : List Call) (h : Header) (place n : ℕ) → TablesReady s l (length ts) → frameOf bytes ≡ Whole h place n →
       let a = received s side bytes sheet ts l in rowFor (a .tallies) m ≡ rowAfter m (frameRise s (frameFrom side h) l) (a .answer .number) (rowFor ts m)
   judged-row sheet ts l h place n r e =
       rw (judged s side bytes sheet ts l h place n r e) (frame-row s (frameFrom side h) (take n (drop place bytes)) (place + n) sheet ts l r m)

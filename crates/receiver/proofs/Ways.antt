@@ -16,7 +16,7 @@ use Rattle.schema.specs.File.{tableOf}
 use Rattle.schema.specs.Check.{checked}
 use Rattle.schema.proofs.Bools.{clash, is-false}
 use Rattle.schema.proofs.Faults.{refused-iff as schema-refused}
-use Rattle.schema.proofs.Listed.{listed, listed-bounds}
+use Rattle.schema.proofs.Numbered.{listed, listed-bounds}
 use Rattle.frame.specs.declared.Header.{Header}
 use Rattle.frame.specs.declared.FrameRead.{FrameRead}
 use Rattle.frame.specs.declared.FrameRead.the-variants.{More, Frame as Whole, Refused}
@@ -32,12 +32,12 @@ use Rattle.calls.specs.Slots.{goodTable}
 use Rattle.calls.specs.Judge.{judgeRelease}
 use Rattle.calls.specs.Step.{release}
 use Rattle.calls.specs.Counting.{noTally, releaseRise, figureBy, fullAt, raised, countedNumber}
-use Rattle.calls.specs.Good.{GoodTable}
+use Rattle.calls.specs.Good.{GoodCalls}
 use Rattle.calls.proofs.Goodness.{good-clauses, good-test}
 use Rattle.receiver.specs.declared.Plan.{Plan}
 use Rattle.receiver.specs.Answer.{Effect, effect, inRow, stopped}
 use Rattle.receiver.specs.Planning.{onGood, onFrame, frameFrom, stopPlan, judgedPlan, framePlan, onTables, bytesPlan, planOf, releasePlan}
-use Rattle.receiver.specs.Claims.{SeenAs, Front, Ready, Unready, schemaFault, callsBad, rowsWrong, Stops, tables, frameFault, needsMore}
+use Rattle.receiver.specs.Claims.{SeenAs, Front, TablesReady, Unready, schemaFault, callsBad, rowsWrong, Stops, tables, frameFault, needsMore}
 use Rattle.receiver.specs.Receive.{settled, frameEffect, received}
 use Rattle.receiver.specs.Release.{ReleaseEffect, releaseEffect, releaseAnswer, steppedAnswer, releaseSettled, released}
 
@@ -72,7 +72,7 @@ same-row (t ∷ ts) (suc i) = ap (_∷_ t) (same-row ts i)
 
 -- ---- the ways
 
-not-good : (s : List ℕ) (l : List Call) → goodTable (tableOf s) l ≡ false → GoodTable (tableOf s) l → ⊥
+not-good : (s : List ℕ) (l : List Call) → goodTable (tableOf s) l ≡ false → GoodCalls (tableOf s) l → ⊥
 not-good s l e w = clash (goodTable (tableOf s) l) (good-test (tableOf s) l w) e
 
 -- The numbers and places of an answer that stops.
@@ -94,7 +94,7 @@ module _ (s : List ℕ) (l : List Call) (k : ℕ) where
   early bytes (needsMore w e) = frame (lit≤ tt) (lit≤ tt)
 
   -- a plan over the tables
-  on-tables : {A : Type 0} (P : A → Type 0) (stop : ℕ → ℕ → A) (next : A) → ((n q : ℕ) → Unready s l k n q → P (stop n q)) → (Ready s l k → P next)
+  on-tables : {A : Type 0} (P : A → Type 0) (stop : ℕ → ℕ → A) (next : A) → ((n q : ℕ) → Unready s l k n q → P (stop n q)) → (TablesReady s l k → P next)
       → P (onTables s l k stop next)
   on-tables P stop next f h = go (checked s) refl
     where
@@ -115,7 +115,7 @@ module _ (s : List ℕ) (l : List Call) (k : ℕ) where
   tables-stop stop next (callsBad g b) = rw (g, is-false (goodTable (tableOf s) l) (λ t. b (good-clauses (tableOf s) l t)))
   tables-stop stop next (rowsWrong g w n) = rw (g, good-test (tableOf s) l w, ne-eqb k (length (tableOf s .methods)) n)
 
-  tables-go : {A : Type 0} (stop : ℕ → ℕ → A) (next : A) → Ready s l k → onTables s l k stop next ≡ next
+  tables-go : {A : Type 0} (stop : ℕ → ℕ → A) (next : A) → TablesReady s l k → onTables s l k stop next ≡ next
   tables-go stop next r = rw (r .schemaGood, good-test (tableOf s) l (r .callsGood), eq-eqb k (length (tableOf s .methods)) (r .rowsRight))
 
 module _ (s : List ℕ) (side : ℕ) (bytes sheet : List ℕ) (ts : List Tally) (l : List Call) where
@@ -139,10 +139,10 @@ module _ (s : List ℕ) (side : ℕ) (bytes sheet : List ℕ) (ts : List Tally) 
 
   pub data Way : Effect → Type 0 where
     stops : {n q : ℕ} → Stops s bytes l k n q → Way (effect (stopped l n q) sheet ts)
-    judges : (h : Header) (place n : ℕ) → Ready s l k → frameOf bytes ≡ Whole h place n
+    judges : (h : Header) (place n : ℕ) → TablesReady s l k → frameOf bytes ≡ Whole h place n
         → Way (frameEffect s (frameFrom side h) (take n (drop place bytes)) (place + n) sheet ts l)
 
-  front-way : Ready s l k → Way (effectOf (bytesPlan T side bytes l))
+  front-way : TablesReady s l k → Way (effectOf (bytesPlan T side bytes l))
   unfolding bytesPlan
   front-way w = go (frameOf bytes) refl
     where
@@ -169,12 +169,12 @@ module _ (s : List ℕ) (side : ℕ) (bytes sheet : List ℕ) (ts : List Tally) 
   unfolding received
   stops-early {n} {q} e = ap effectOf (plan-stops e) ∙ stop-effect n q
 
-  plan-judges : (h : Header) (place n : ℕ) → Ready s l k → frameOf bytes ≡ Whole h place n → planOf s side bytes k l ≡ framePlan T (frameFrom side h) l place (place + n)
+  plan-judges : (h : Header) (place n : ℕ) → TablesReady s l k → frameOf bytes ≡ Whole h place n → planOf s side bytes k l ≡ framePlan T (frameFrom side h) l place (place + n)
   unfolding planOf bytesPlan
   plan-judges h place n w e = tables-go s l k stopPlan (bytesPlan T side bytes l) w ∙ rw e
 
   -- Under good tables a whole frame is judged.
-  pub judged : (h : Header) (place n : ℕ) → Ready s l k → frameOf bytes ≡ Whole h place n
+  pub judged : (h : Header) (place n : ℕ) → TablesReady s l k → frameOf bytes ≡ Whole h place n
       → received s side bytes sheet ts l ≡ frameEffect s (frameFrom side h) (take n (drop place bytes)) (place + n) sheet ts l
   unfolding received
   judged h place n w e = ap effectOf (plan-judges h place n w e) ∙ frame-effect (frameFrom side h) place n
@@ -217,7 +217,7 @@ module _ (s : List ℕ) (l : List Call) (id : ℕ) (ts : List Tally) where
   -- It stops at a fault of the tables, or the call is judged.
   pub data ReleaseWay : ReleaseEffect → Type 0 where
     unready : {n q : ℕ} → Unready s l (length ts) n q → ReleaseWay (releaseEffect (releaseAnswer n q l) ts)
-    releases : Ready s l (length ts) → ReleaseWay releaseJudged
+    releases : TablesReady s l (length ts) → ReleaseWay releaseJudged
 
   pub release-ways : ReleaseWay (released s l id ts)
   unfolding released releasePlan
@@ -231,6 +231,6 @@ module _ (s : List ℕ) (l : List Call) (id : ℕ) (ts : List Tally) where
   release-stops {n} {q} e = ap told (tables-stop s l (length ts) stopPlan (judgedPlan (judgeRelease id l) released-rise 0 0) e) ∙ stop-told n q
 
   -- Under good tables the call is judged.
-  pub release-judged : Ready s l (length ts) → released s l id ts ≡ releaseJudged
+  pub release-judged : TablesReady s l (length ts) → released s l id ts ≡ releaseJudged
   unfolding released releasePlan
   release-judged w = ap told (tables-go s l (length ts) stopPlan (judgedPlan (judgeRelease id l) released-rise 0 0) w) ∙ judged-told

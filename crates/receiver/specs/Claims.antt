@@ -25,7 +25,7 @@ use Rattle.calls.specs.Apart.{callMethod}
 use Rattle.calls.specs.Slots.{goodTable, ownOf, full}
 use Rattle.calls.specs.declared.OwnCall.{OwnCall}
 use Rattle.calls.specs.declared.OwnCall.the-variants.{One as one}
-use Rattle.calls.specs.Good.{GoodTable}
+use Rattle.calls.specs.Good.{GoodCalls}
 use Rattle.calls.specs.Order.{times, noElements, Past, since}
 use Rattle.value.specs.declared.Row.{Row}
 use Rattle.reader.specs.Sheet.{shownIn}
@@ -55,22 +55,22 @@ abbrev pub payloadIn : {side : ℕ} {bytes : List ℕ} {f : Frame} → Front sid
 payloadIn {bytes = bytes} w = take (w .size) (drop (w .place) bytes)
 
 -- Good tables, with as many tally rows as methods.
-pub record Ready (schema : List ℕ) (l : List Call) (rows : ℕ) : Type 0 where
+pub record TablesReady (schema : List ℕ) (l : List Call) (rows : ℕ) : Type 0 where
   pub schemaGood : IsGood schema
-  pub callsGood : GoodTable (tableOf schema) l
+  pub callsGood : GoodCalls (tableOf schema) l
   pub rowsRight : rows ≡ length (tableOf schema .methods)
 
 -- A fault of the tables, with its number and place, in the papers' order: of the schema table; a call table that is not good; a wrong number of tally rows.
 pub data Unready (schema : List ℕ) (l : List Call) (rows : ℕ) : (number place : ℕ) → Type 0 where
   schemaFault : {n row : ℕ} → TableFault schema n row → Unready schema l rows n row
-  callsBad : IsGood schema → (GoodTable (tableOf schema) l → ⊥) → Unready schema l rows 15 0
-  rowsWrong : IsGood schema → GoodTable (tableOf schema) l → (rows ≡ length (tableOf schema .methods) → ⊥) → Unready schema l rows 19 0
+  callsBad : IsGood schema → (GoodCalls (tableOf schema) l → ⊥) → Unready schema l rows 15 0
+  rowsWrong : IsGood schema → GoodCalls (tableOf schema) l → (rows ≡ length (tableOf schema .methods) → ⊥) → Unready schema l rows 19 0
 
 -- Why an answer comes before a frame is judged, in the papers' order: a fault of the tables; a field of the frame itself at fault; a frame that is cut.
 pub data Stops (schema bytes : List ℕ) (l : List Call) (rows : ℕ) : (number place : ℕ) → Type 0 where
   tables : {n row : ℕ} → Unready schema l rows n row → Stops schema bytes l rows n row
-  frameFault : {n : ℕ} → Ready schema l rows → FrameFault bytes n → Stops schema bytes l rows n 0
-  needsMore : Ready schema l rows → CutFrame bytes → Stops schema bytes l rows 1 0
+  frameFault : {n : ℕ} → TablesReady schema l rows → FrameFault bytes n → Stops schema bytes l rows n 0
+  needsMore : TablesReady schema l rows → CutFrame bytes → Stops schema bytes l rows 1 0
 
 -- The numbers of such an answer: 1 to 7 for the frame itself, 15 and 19, and from 40 on those of the schema file.
 pub data Stopping : (number : ℕ) → Type 0 where
@@ -152,8 +152,8 @@ pub record SameAnswer (sheet₁ sheet₂ : List ℕ) (a₁ a₂ : Effect) : Type
   pub first : ShowsRows rows sheet₁ a₁
   pub second : ShowsRows rows sheet₂ a₂
 
--- Two call tables and lists of tally rows alike for the frame at the front of the bytes: both tables good or both not, with the same record of its own call;
--- for INVOKE both with 128 calls open, or both with fewer; as many rows, and the same row of the call's method.
+-- Two call tables and lists of tally rows alike for the frame at the front of the bytes: both good or both not, with the same record of its own call
+-- and as many rows, that of the call's method the same; for INVOKE both with 128 calls open, or both with fewer.
 pub record Alike (T : Table) (side : ℕ) (bytes : List ℕ) (l₁ l₂ : List Call) (ts₁ ts₂ : List Tally) : Type 0 where
   pub good : goodTable T l₁ ≡ goodTable T l₂
   pub own : (f : Frame) → Front side bytes f → ownOf (f .correlation) l₁ ≡ ownOf (f .correlation) l₂
@@ -164,12 +164,12 @@ pub record Alike (T : Table) (side : ℕ) (bytes : List ℕ) (l₁ l₂ : List C
 -- ---- a release
 
 -- The numbers of a release, with their places.
-pub data ReleaseListed : (number place : ℕ) → Type 0 where
-  released : ReleaseListed 0 0
-  notOpen : ReleaseListed 11 0
-  notCancelled : ReleaseListed 14 0
-  fullTally : ReleaseListed 18 0
-  unready : {n place : ℕ} → (n ≡ 15) ⊎ ((n ≡ 19) ⊎ (40 ≤ n)) → AnswerNumber n place → ReleaseListed n place
+pub data ReleaseNumber : (number place : ℕ) → Type 0 where
+  released : ReleaseNumber 0 0
+  notOpen : ReleaseNumber 11 0
+  notCancelled : ReleaseNumber 14 0
+  fullTally : ReleaseNumber 18 0
+  unready : {n place : ℕ} → (n ≡ 15) ⊎ ((n ≡ 19) ⊎ (40 ≤ n)) → AnswerNumber n place → ReleaseNumber n place
 
 -- What the answer to a release says beside the calls.
 pub record ReleaseReply : Type 0 where

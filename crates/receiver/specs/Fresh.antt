@@ -15,7 +15,7 @@ pub record FreshEffect : Type 0 where
 abbrev pub freshEffect : Received → List ℕ → FreshEffect
 freshEffect r sheet = record { answer = r; sheet = sheet }
 
--- The answer with a row of noughts for each method.
+-- The answer with a row of zeros for each method.
 unfoldable pub receivedFresh : (schema : List ℕ) (side : ℕ) (bytes sheet : List ℕ) → List Call → FreshEffect
 receivedFresh schema side bytes sheet l =
     let a = received schema side bytes sheet (freshTallies (tableOf schema)) l in freshEffect (a .answer) (a .sheet)

@@ -12,7 +12,7 @@ use Rattle.calls.specs.declared.Frame.{Frame}
 use Rattle.calls.specs.declared.Tally.{Tally}
 use Rattle.calls.specs.declared.Payload.the-variants.{Struct, Empty, Unread}
 use Rattle.calls.specs.Slots.{ownOf}
-use Rattle.calls.specs.Good.{GoodTable}
+use Rattle.calls.specs.Good.{GoodCalls}
 use Rattle.calls.specs.Event.{frame}
 use Rattle.calls.specs.Order.{Elements, Past, since, Ruling, comes, Ruled, Releases, Reflects}
 use Rattle.calls.specs.Order as rules
@@ -70,8 +70,8 @@ pub data ReleasedAs (ts : List Tally) (past : Past) : (number : ℕ) → Type 0 
   releasedNow : (m : ℕ) (b : Elements) (h : List ℕ) → past ≡ since m b h → Releases past 0 → (rowFor ts m .cancelled ≡ 4294967295 → ⊥) → ReleasedAs ts past 0
 
 -- A good call table of 128 slots, and for each identifier a past that it reflects; as many tally rows as methods.
-pub record Stands (T : Table) (l : List Call) (ts : List Tally) (past : ℕ → Past) : Type 0 where
+pub record Reflected (T : Table) (l : List Call) (ts : List Tally) (past : ℕ → Past) : Type 0 where
   pub slots : length l ≡ 128
-  pub good : GoodTable T l
+  pub good : GoodCalls T l
   pub reflects : (id : ℕ) → Reflects (past id) (ownOf id l)
   pub rows : length ts ≡ length (T .methods)

@@ -87,7 +87,7 @@ planOf schema side bytes rows l = onTables schema l rows stopPlan (bytesPlan (ta
 unfoldable pub releasePlan : (schema : List ℕ) → List Call → (correlation rows : ℕ) → Plan
 releasePlan schema l id rows = onTables schema l rows stopPlan (judgedPlan (judgeRelease id l) (releaseRise l (judgeRelease id l)) 0 0)
 
--- ---- the same by what knows no form of the call table
+-- ---- the same, for a call table by value or in cells
 
 -- 15, 19 or 0.
 abbrev pub tablesFault : (good : Bool) (rows : ℕ) → Table → ℕ
@@ -96,7 +96,7 @@ tablesFault good rows T = onCalls good rows T (λ number. number) 0
 -- The frame at the front of the bytes, after the call table and the tally rows.
 abbrev pub frontOf : (good : Bool) (rows : ℕ) → Table → (side : ℕ) (bytes : List ℕ) → Front
 frontOf good rows T side bytes =
-    onCalls good rows T front.Stop (onFrame (frameOf bytes) front.Stop (λ h place n. front.Whole (frameFrom side h) place (place + n)))
+    onCalls good rows T front.Refused (onFrame (frameOf bytes) front.Refused (λ h place n. front.Whole (frameFrom side h) place (place + n)))
 
 -- A whole frame and a release at their seat.
 abbrev pub seatPlan : Table → Frame → Seat → (place end : ℕ) → Plan

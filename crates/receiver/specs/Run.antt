@@ -49,9 +49,9 @@ stateAfter schema (release id) st =
     let a = released schema (st .calls) id (st .tallies) in
     record { calls = a .answer .table .slots; tallies = a .tallies }
 
-abbrev pub numberOf : (schema : List ℕ) → Event → State → ℕ
-numberOf schema (input i) st = received schema (i .side) (i .bytes) (i .sheet) (st .tallies) (st .calls) .answer .number
-numberOf schema (release id) st = released schema (st .calls) id (st .tallies) .answer .number
+abbrev pub eventNumber : (schema : List ℕ) → Event → State → ℕ
+eventNumber schema (input i) st = received schema (i .side) (i .bytes) (i .sheet) (st .tallies) (st .calls) .answer .number
+eventNumber schema (release id) st = released schema (st .calls) id (st .tallies) .answer .number
 
 -- What happens to the calls: the whole frame at the front of an input, or the release.
 pub data Happens : Event → calls.Event → Type 0 where
@@ -71,21 +71,21 @@ heardIn (release id) number es = record { event = calls.release id; number = num
 -- ---- a history, its last event first
 
 -- The state after it.
-unfoldable pub runFrom : (schema : List ℕ) → State → List Event → State
-runFrom schema st [] = st
-runFrom schema st (e ∷ es) = stateAfter schema e (runFrom schema st es)
+unfoldable pub stateFrom : (schema : List ℕ) → State → List Event → State
+stateFrom schema st [] = st
+stateFrom schema st (e ∷ es) = stateAfter schema e (stateFrom schema st es)
 
 -- Its frames and releases, each with the number that was answered.
 unfoldable pub heardFrom : (schema : List ℕ) → State → List Event → List Heard
 heardFrom schema st [] = []
-heardFrom schema st (e ∷ es) = heardIn e (numberOf schema e (runFrom schema st es)) (heardFrom schema st es)
+heardFrom schema st (e ∷ es) = heardIn e (eventNumber schema e (stateFrom schema st es)) (heardFrom schema st es)
 
 -- The calls and the tally rows after it, and the answer to the frame that comes next.
 abbrev pub callsAfter : (schema : List ℕ) → State → List Event → List Call
-callsAfter schema st es = runFrom schema st es .calls
+callsAfter schema st es = stateFrom schema st es .calls
 
 abbrev pub rowsAfter : (schema : List ℕ) → State → List Event → List Tally
-rowsAfter schema st es = runFrom schema st es .tallies
+rowsAfter schema st es = stateFrom schema st es .tallies
 
 abbrev pub answerAfter : (schema : List ℕ) → State → List Event → Input → Effect
 answerAfter schema st es i = received schema (i .side) (i .bytes) (i .sheet) (rowsAfter schema st es) (callsAfter schema st es)
@@ -102,7 +102,7 @@ pastIn schema st past es id = pastOf (tableOf schema) id (past id) (heardFrom sc
 abbrev pub RoomAfter : (schema : List ℕ) → State → (past : ℕ → Past) → List Event → Frame → (number : ℕ) → Type 0
 RoomAfter schema st past es f n = HasRoom (tableOf schema) f (pastIn schema st past es (f .correlation)) (rowsAfter schema st es) n
 
--- A fresh start under a schema table: no calls, and a row of noughts for each method.
+-- A fresh start under a schema table: no calls, and a row of zeros for each method.
 unfoldable pub freshTallies : Table → List Tally
 freshTallies T = replicate (length (T .methods)) noTally
 

@@ -1,21 +1,30 @@
-// One frame with fresh tally rows: whoever keeps no rows lends noughts, which are never full.
-use crate::Received;
-use crate::planning::plan_fresh;
+// One frame with fresh tally rows: whoever keeps no rows lends zeros, which are never full.
+use crate::FrameAnswer;
+use crate::planning::plan_good;
 use crate::settling::missed;
 use calls::CallTable;
+use frame::read_frame;
+use schema::access::method_count;
 ghost use mathlib.Core.Path.{_≡_};
+ghost use Rattle.schema.specs.Check.{IsGood};
+ghost use Rattle.frame.specs.Frame.{frameOf};
 ghost use Rattle.receiver.specs.Fresh.{freshEffect, receivedFresh};
 
-// The answer to the frame at the front of the bytes, as `receive` gives it with a row of noughts for each method.
+// The frame at the front of the bytes, and the answer to it by a good schema table, as `receive` gives it with a row of zeros for each method. Whoever
+// answers frame after frame checks the schema table once.
 pub fn receive_fresh(
     table: CallTable,
     schema: &[u8],
     side: u8,
     bytes: &[u8],
     sheet: &mut [u32],
-) -> Received
-    ensures { λ r. ⌜ freshEffect r (now (sheet .exit)) ≡ receivedFresh (now (schema .entry)) side (now (bytes .entry)) (now (sheet .entry)) (table .slots) ⌝ }
+) -> FrameAnswer
+    requires { ⌜ IsGood (now schema) ⌝ }
+    ensures { λ r. ⌜ freshEffect (r .answer) (now (sheet .exit)) ≡ receivedFresh (now (schema .entry)) side (now (bytes .entry)) (now (sheet .entry)) (table .slots) ⌝ }
+    ensures { λ r. ⌜ r .read ≡ frameOf (now (bytes .entry)) ⌝ }
 {
-    let plan = plan_fresh(table, schema, side, bytes);
-    missed(table, plan, schema, bytes, sheet)
+    let read = read_frame(bytes);
+    let plan = plan_good(table, schema, side, bytes, read, method_count(schema));
+    let answer = missed(table, plan, schema, bytes, sheet);
+    FrameAnswer { read, answer }
 }

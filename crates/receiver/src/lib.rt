@@ -13,6 +13,7 @@ use calls::Frame;
 use calls::Judged;
 use calls::Rise;
 use calls::Tally;
+use frame::FrameRead;
 use reader::Reading;
 
 // The answer to a frame, with the next call table.
@@ -35,6 +36,12 @@ pub struct Received {
     pub table: CallTable,
 }
 
+// The frame at the front of the bytes as it was read, and the answer to it.
+pub struct FrameAnswer {
+    pub read: FrameRead,
+    pub answer: Received,
+}
+
 // The answer to a release, with the next call table.
 pub struct Released {
     // 0 for a call that was released, or a refusal's number.
@@ -48,7 +55,7 @@ pub struct Released {
 
 // The frame at the front of the bytes, judged before its call: it stops with this number, or is whole, and its payload stands between two places.
 pub enum Front {
-    Stop(u32),
+    Refused(u32),
     Whole {
         frame: Frame,
         place: usize,

@@ -65,7 +65,7 @@ fn number(schema: &[u8], due: Payload, payload: &[u8], sheet: &[u32]) -> u32
     }
 }
 
-// Reads a payload, unless the figure that would rise is full. Only where one of the two figures in question is full it is judged first.
+// Reads a payload, unless the figure that would rise is full. Where a figure that it may raise is full, the payload is judged before anything is written.
 pub fn read_counted(
     schema: &[u8],
     due: Payload,

@@ -15,9 +15,9 @@ use schema::access::method_count;
 use schema::check::check;
 ghost use mathlib.Core.Path.{_≡_};
 ghost use Prim.Native.Nat.{_≤_};
-ghost use lib.ListN.{length};
 ghost use Rattle.schema.specs.File.{tableOf};
 ghost use Rattle.schema.specs.Check.{IsGood};
+ghost use Rattle.frame.specs.Frame.{frameOf};
 ghost use Rattle.calls.specs.Slots.{goodTable};
 ghost use Rattle.receiver.specs.Planning.{frameFrom, Fitted, stopPlan, tablesFault, frontOf, seatPlan, callPlan, goodPlan, planOf, releasePlan};
 
@@ -46,7 +46,7 @@ pub fn stop(number: u32, place: usize) -> Plan
     }
 }
 
-// ---- what knows no form of the call table
+// ---- for a call table by value or in cells
 
 // 15 for a call table that is not good, 19 for another number of tally rows than of methods, or 0.
 pub fn tables_fault(good: bool, schema: &[u8], rows: usize) -> u32
@@ -63,18 +63,25 @@ pub fn tables_fault(good: bool, schema: &[u8], rows: usize) -> u32
     }
 }
 
-// The frame at the front of the bytes, after the call table and the tally rows.
-pub fn front(good: bool, schema: &[u8], side: u8, bytes: &[u8], rows: usize) -> Front
-    requires { ⌜ IsGood (now schema) ⌝ }
+// The frame that was read at the front of the bytes, after the call table and the tally rows.
+pub fn front(
+    good: bool,
+    schema: &[u8],
+    side: u8,
+    bytes: &[u8],
+    read: FrameRead,
+    rows: usize,
+) -> Front
+    requires { ⌜ IsGood (now schema) × (read ≡ frameOf (now bytes)) ⌝ }
     ensures { λ r. ⌜ r ≡ frontOf good rows (tableOf (now (schema .entry))) side (now (bytes .entry)) ⌝ }
 {
     let fault = tables_fault(good, schema, rows);
     if fault != refusal::ACCEPTED {
-        return Front::Stop(fault);
+        return Front::Refused(fault);
     }
-    match read_frame(bytes) {
-        FrameRead::More => Front::Stop(refusal::MORE),
-        FrameRead::Refused(number) => Front::Stop(number),
+    match read {
+        FrameRead::More => Front::Refused(refusal::MORE),
+        FrameRead::Refused(number) => Front::Refused(number),
         FrameRead::Frame {
             header,
             place,
@@ -126,13 +133,20 @@ pub fn plan_call(seat: Seat) -> Plan
 
 // ---- over a call table by value
 
-// The same under a good schema table.
-fn plan_good(table: CallTable, schema: &[u8], side: u8, bytes: &[u8], rows: usize) -> Plan
-    requires { ⌜ IsGood (now schema) ⌝ }
+// What a frame does under a good schema table, by what was read at the front of the bytes.
+pub fn plan_good(
+    table: CallTable,
+    schema: &[u8],
+    side: u8,
+    bytes: &[u8],
+    read: FrameRead,
+    rows: usize,
+) -> Plan
+    requires { ⌜ IsGood (now schema) × (read ≡ frameOf (now bytes)) ⌝ }
     ensures { λ r. ⌜ r ≡ goodPlan (goodTable (tableOf (now (schema .entry))) (table .slots)) rows (tableOf (now (schema .entry))) side (now (bytes .entry)) (table .slots) ⌝ }
 {
-    match front(table.is_good(schema), schema, side, bytes, rows) {
-        Front::Stop(number) => stop(number, 0),
+    match front(table.is_good(schema), schema, side, bytes, read, rows) {
+        Front::Refused(number) => stop(number, 0),
         Front::Whole { frame, place, end } => {
             plan_frame(
                 table.seat(frame.correlation, frame.kind == frame_kind::INVOKE),
@@ -151,17 +165,7 @@ pub fn plan(table: CallTable, schema: &[u8], side: u8, bytes: &[u8], rows: usize
 {
     match check(schema) {
         Checked::Refused { number, place } => stop(number, place),
-        Checked::Good => plan_good(table, schema, side, bytes, rows),
-    }
-}
-
-// The same with as many tally rows as methods.
-pub fn plan_fresh(table: CallTable, schema: &[u8], side: u8, bytes: &[u8]) -> Plan
-    ensures { λ r. ⌜ (r ≡ planOf (now (schema .entry)) side (now (bytes .entry)) (length (tableOf (now (schema .entry)) .methods)) (table .slots)) × Fitted (now (schema .entry)) (now (bytes .entry)) (r .next) ⌝ }
-{
-    match check(schema) {
-        Checked::Refused { number, place } => stop(number, place),
-        Checked::Good => plan_good(table, schema, side, bytes, method_count(schema)),
+        Checked::Good => plan_good(table, schema, side, bytes, read_frame(bytes), rows),
     }
 }
 

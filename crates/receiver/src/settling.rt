@@ -30,7 +30,7 @@ ghost use Rattle.receiver.specs.Planning.{Fitted};
 ghost use Rattle.receiver.specs.Receive.{frameSettled, settled, Unkept};
 ghost use Rattle.receiver.specs.Release.{releaseIn, releaseSettled};
 
-// ---- what knows no form of the call table
+// ---- for a call table by value or in cells
 
 // A refusal before the frame or the call is known: it uses no bytes, and raises nothing.
 fn refuse(number: u32, place: usize, tally: Tally) -> Done
@@ -145,7 +145,7 @@ pub fn settle(
     Settled { row, answer }
 }
 
-// The answer where the row that a plan asks for is not lent: a row of noughts is looked at, and none is kept.
+// The answer where the row that a plan asks for is not lent: a row of zeros is looked at, and none is kept.
 pub fn missed(
     table: CallTable,
     plan: Plan,

@@ -4,7 +4,7 @@ use frame::FrameRead;
 ghost use mathlib.Core.Path.{_≡_};
 ghost use Rattle.record.specs.Entry.{isSide, entryLength};
 
-// C or S.
+// Whether the byte is C or S.
 fn is_side(byte: u8) -> bool
     ensures { λ r. ⌜ r ≡ isSide byte ⌝ }
 {

@@ -18,7 +18,7 @@ use Rattle.replay.specs.Lent.{lentFrom, lentRun}
 module _ (s : List ℕ) (good : IsGood s) where
   -- the state after some entries, the last first
   abbrev after : List receiver.Input → receiver.State
-  after is = receiver.runFrom s (receiver.freshState (tableOf s)) (inputs is)
+  after is = receiver.stateFrom s (receiver.freshState (tableOf s)) (inputs is)
 
   abbrev here : (side : ℕ) (bytes : List ℕ) → receiver.Input
   here side bytes = record { side = side; bytes = bytes; sheet = sheet }
@@ -32,7 +32,7 @@ module _ (s : List ℕ) (good : IsGood s) where
   -- and so have all that follow
   lent-from : (k place : ℕ) (left : List ℕ) (is : List receiver.Input) → k + length is < 4294967296
       → lentFrom s k place left (after is) ≡ runFrom s k place left (after is .calls)
-  unfolding lentFrom runFrom receiver.runFrom
+  unfolding lentFrom runFrom receiver.stateFrom
   lent-from zero place left is h = refl
   lent-from (suc k) place [] is h = refl
   lent-from (suc k) place (side ∷ bytes) is h =
@@ -45,5 +45,5 @@ module _ (s : List ℕ) (good : IsGood s) where
 
   -- A record of fewer than 2^32 bytes has one run, whether its tally rows are carried along or fresh for each entry.
   pub lent-run : (entries : List ℕ) → length entries < 4294967296 → lentRun s entries ≡ runOf s entries
-  unfolding lentRun runOf freshCalls receiver.runFrom
+  unfolding lentRun runOf freshCalls receiver.stateFrom
   lent-run entries h = lent-from (length entries) 0 entries [] (omega (arith, h))

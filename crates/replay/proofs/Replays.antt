@@ -12,7 +12,7 @@ use Rattle.frame.specs.Frame.{frameOf}
 use Rattle.calls.specs.declared.Call.{Call}
 use Rattle.receiver.specs.declared.Received.{Received}
 use Rattle.replay.specs.Run.{freshCalls, answerTo, stops, Entry, entryOf, Run, halted, onward, runFrom, runOf}
-use Rattle.replay.specs.Runs.{IsEntry, Runs, at-end, halting, answering, Stands}
+use Rattle.replay.specs.Runs.{GoesOn, Runs, at-end, halting, answering, StandsIn}
 use Rattle.replay.proofs.Turns.{used-bounds, listed-frame, goes-on-iff, stops-there}
 
 -- ---- one turn
@@ -76,8 +76,8 @@ run-iff s entries r = (λ e. subst (Runs s 0 entries freshCalls) e (run-is s (le
 after-first : (entries : List ℕ) (p b : ℕ) (bytes : List ℕ) → b ∷ bytes ≡ drop p entries → bytes ≡ drop (p + 1) entries
 after-first entries p b bytes e = ap (drop 1) e ∙ drop-drop 1 p entries
 
-stands-here : (s entries : List ℕ) (p side : ℕ) (bytes : List ℕ) (l : List Call) → side ∷ bytes ≡ drop p entries → IsEntry side (answerTo s side bytes l)
-    → Stands entries (entryOf p side bytes (answerTo s side bytes l))
+stands-here : (s entries : List ℕ) (p side : ℕ) (bytes : List ℕ) (l : List Call) → side ∷ bytes ≡ drop p entries → GoesOn side (answerTo s side bytes l)
+    → StandsIn entries (entryOf p side bytes (answerTo s side bytes l))
 stands-here s entries p side bytes l e w =
     let none : p + 0 ≡ p = omega arith in
     let f = listed-frame s side bytes l (w .uses) in
@@ -91,19 +91,19 @@ stands-here s entries p side bytes l e w =
     }
 
 run-stands : (entries : List ℕ) {s : List ℕ} {p : ℕ} {left : List ℕ} {l : List Call} {r : Run} → Runs s p left l r → left ≡ drop p entries
-    → (e : Entry) → List·Memᴰ e (r .entries) → Stands entries e
+    → (e : Entry) → List·Memᴰ e (r .entries) → StandsIn entries e
 run-stands entries at-end is e m = elim m [ ]
 run-stands entries (halting h) is e m = elim m [ ]
 run-stands entries {s} {p} (answering {side = side} {bytes = bytes} {l = l} h w) is e m =
     let a = answerTo s side bytes l in
     let rest : drop (a .used) bytes ≡ drop (p + 1 + a .used) entries = ap (drop (a .used)) (after-first entries p side bytes is) ∙ drop-drop (a .used) (p + 1) entries in
     ⊎-elim
-    (λ k. subst (Stands entries) (sym k) (stands-here s entries p side bytes l is h))
+    (λ k. subst (StandsIn entries) (sym k) (stands-here s entries p side bytes l is h))
     (λ k. run-stands entries w rest e k)
     (List·Memᴰ·cases-cons m)
 
 -- Each entry of a record's run stands at its place in the record.
-pub entries-stand : (s entries : List ℕ) (e : Entry) → List·Memᴰ e (runOf s entries .entries) → Stands entries e
+pub entries-stand : (s entries : List ℕ) (e : Entry) → List·Memᴰ e (runOf s entries .entries) → StandsIn entries e
 unfolding runOf
 entries-stand s entries e m = run-stands entries (run-is s (length entries) 0 entries freshCalls (omega arith)) refl e m
 

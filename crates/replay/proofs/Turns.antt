@@ -1,4 +1,4 @@
--- Laws of a run: the header of an entry, what its answer depends on, and the bytes that it uses.
+-- Laws of a run: what an answer depends on, and the bytes that it uses.
 use mathlib.Core.Path.{_≡_, refl, sym, ap, _∙_}
 use mathlib.Core.Bool.{Bool, true, false, cond, not, _&&_, _||_}
 use mathlib.Core.List.{List}
@@ -33,23 +33,8 @@ use Rattle.receiver.specs.Run.{freshTallies}
 use Rattle.receiver.specs.Fresh.{FreshEffect, freshEffect, receivedFresh}
 use Rattle.receiver.proofs.Ways.{Way, stops, judges, ways}
 use Rattle.receiver.proofs.FreshRows.{used-by-number, same-room}
-use Rattle.replay.specs.Run.{sheet, answerTo, noHeader, headerIn, stops as stopsAt}
-use Rattle.replay.specs.Runs.{IsEntry}
-
--- ---- the header
-
-module _ (bytes : List ℕ) (v : FrameRead) (is : v ≡ frameOf bytes) where
-  pub header-read : (h : Header) {place n : ℕ} → v ≡ Frame h place n → h ≡ headerIn (frameOf bytes)
-  unfolding headerIn
-  header-read h e = rw (← is, e)
-
-  pub header-more : (h : Header) → v ≡ More → h ≡ noHeader → h ≡ headerIn (frameOf bytes)
-  unfolding headerIn
-  header-more h e z = rw (← is, e, z)
-
-  pub header-refused : (h : Header) {number : ℕ} → v ≡ Refused number → h ≡ noHeader → h ≡ headerIn (frameOf bytes)
-  unfolding headerIn
-  header-refused h e z = rw (← is, e, z)
+use Rattle.replay.specs.Run.{sheet, answerTo, headerIn, stops as stopsAt}
+use Rattle.replay.specs.Runs.{GoesOn}
 
 -- ---- the sheet
 
@@ -118,7 +103,7 @@ module _ (s : List ℕ) (side : ℕ) (bytes : List ℕ) (l : List Call) (client 
 
 -- The run goes on exactly where there is an entry.
 pub goes-on-iff : (s : List ℕ) (side : ℕ) (bytes : List ℕ) (l : List Call) →
-    let a = answerTo s side bytes l in (stopsAt side (a .number) (a .used) ≡ false) ↔ IsEntry side a
+    let a = answerTo s side bytes l in (stopsAt side (a .number) (a .used) ≡ false) ↔ GoesOn side a
 goes-on-iff s side bytes l = (going, entering)
   where
     a : Received
@@ -137,7 +122,7 @@ goes-on-iff s side bytes l = (going, entering)
         (cases (eqb side 83)))
         (cases (eqb side 67))
 
-    going : stopsAt side (a .number) (a .used) ≡ false → IsEntry side a
+    going : stopsAt side (a .number) (a .used) ≡ false → GoesOn side a
     going e =
         let w = or-false (eqb (a .used) 0) (eqb (a .number) 8 && other) e in
         let some = eqb-false (a .used) 0 (w .0) in
@@ -151,7 +136,7 @@ goes-on-iff s side bytes l = (going, entering)
     and-none true false e = sym e
     and-none false c e = refl
 
-    entering : IsEntry side a → stopsAt side (a .number) (a .used) ≡ false
+    entering : GoesOn side a → stopsAt side (a .number) (a .used) ≡ false
     entering w =
         or-neither (eqb (a .used) 0) (eqb (a .number) 8 && other) (ne-eqb (a .used) 0 (w .uses))
         (and-none (eqb (a .number) 8) (eqb side 67 || eqb side 83)
@@ -159,7 +144,7 @@ goes-on-iff s side bytes l = (going, entering)
 
 -- Where there is none, it stops.
 pub stops-there : (s : List ℕ) (side : ℕ) (bytes : List ℕ) (l : List Call) →
-    let a = answerTo s side bytes l in (IsEntry side a → ⊥) → stopsAt side (a .number) (a .used) ≡ true
+    let a = answerTo s side bytes l in (GoesOn side a → ⊥) → stopsAt side (a .number) (a .used) ≡ true
 stops-there s side bytes l none =
     let a = answerTo s side bytes l in
     ⊎-elim (λ e. e) (λ e. absurd (none (goes-on-iff s side bytes l .0 e))) (cases (stopsAt side (a .number) (a .used)))

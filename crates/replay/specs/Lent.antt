@@ -18,6 +18,6 @@ lentFrom schema (suc n) place (side ∷ bytes) st =
     cond (stops side (a .number) (a .used)) (halted (a .number) (length (side ∷ bytes)))
     (onward (entryOf place side bytes a) (lentFrom schema n (place + 1 + a .used) (drop (a .used) bytes) (record { calls = a .table .slots; tallies = x .tallies })))
 
--- The run of a whole record from no calls and a row of noughts for each method.
+-- The run of a whole record from no calls and a row of zeros for each method.
 unfoldable pub lentRun : (schema entries : List ℕ) → Run
 lentRun schema entries = lentFrom schema (length entries) 0 entries (freshState (tableOf schema))

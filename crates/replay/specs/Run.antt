@@ -7,8 +7,8 @@ use lib.Dec.{eqb}
 use lib.ListN.{length, drop, replicate}
 use Rattle.frame.specs.declared.Header.{Header}
 use Rattle.frame.specs.declared.FrameRead.{FrameRead}
-use Rattle.frame.specs.declared.FrameRead.the-variants.{More, Frame, Refused}
 use Rattle.frame.specs.Frame.{frameOf}
+use Rattle.frame.specs.Numbers.{numbers}
 use Rattle.calls.specs.declared.Call.{Call}
 use Rattle.calls.specs.Slots.{freshTable}
 use Rattle.receiver.specs.declared.Received.{Received}
@@ -26,14 +26,9 @@ freshCalls = freshTable .slots
 unfoldable pub answerTo : (schema : List ℕ) (side : ℕ) (bytes : List ℕ) → List Call → Received
 answerTo schema side bytes l = receivedFresh schema side bytes sheet l .answer
 
-abbrev pub noHeader : Header
-noHeader = record { kind = 0; «package» = 0; service = 0; method = 0; correlation = 0 }
-
 -- The header of a frame that was read; an answer that uses bytes has one.
 unfoldable pub headerIn : FrameRead → Header
-headerIn (Frame h place n) = h
-headerIn More = noHeader
-headerIn (Refused number) = noHeader
+headerIn v = numbers v .header
 
 -- Answers using no bytes, or 8 for a side byte not C (67) or S (83), stop the run; such an entry is not part of it.
 abbrev pub stops : (side number used : ℕ) → Bool

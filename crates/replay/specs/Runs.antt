@@ -11,7 +11,7 @@ use Rattle.receiver.specs.declared.Received.{Received}
 use Rattle.replay.specs.Run.{answerTo, Entry, entryOf, Run, halted, onward}
 
 -- A side byte with this answer to its frame is an entry: the side is C (67) or S (83), and the answer uses bytes.
-pub record IsEntry (side : ℕ) (a : Received) : Type 0 where
+pub record GoesOn (side : ℕ) (a : Received) : Type 0 where
   pub known : (side ≡ 67) ⊎ (side ≡ 83)
   pub uses : a .used ≡ 0 → ⊥
 
@@ -20,18 +20,18 @@ pub record IsEntry (side : ℕ) (a : Received) : Type 0 where
 pub data Runs (schema : List ℕ) : (place : ℕ) (left : List ℕ) → List Call → Run → Type 0 where
   at-end : {place : ℕ} {l : List Call} → Runs schema place [] l (halted 0 0)
   halting : {place side : ℕ} {bytes : List ℕ} {l : List Call}
-      → (IsEntry side (answerTo schema side bytes l) → ⊥)
+      → (GoesOn side (answerTo schema side bytes l) → ⊥)
       → Runs schema place (side ∷ bytes) l (halted (answerTo schema side bytes l .number) (length (side ∷ bytes)))
   answering : {place side : ℕ} {bytes : List ℕ} {l : List Call} {r : Run}
-      → IsEntry side (answerTo schema side bytes l)
+      → GoesOn side (answerTo schema side bytes l)
       → Runs schema (place + 1 + answerTo schema side bytes l .used) (drop (answerTo schema side bytes l .used) bytes) (answerTo schema side bytes l .table .slots) r
       → Runs schema place (side ∷ bytes) l (onward (entryOf place side bytes (answerTo schema side bytes l)) r)
 
 -- An entry of a run stands in the record: its side byte, C or S, at its place, and after that its whole frame, which has its header.
-pub record Stands (entries : List ℕ) (e : Entry) : Type 0 where
+pub record StandsIn (entries : List ℕ) (e : Entry) : Type 0 where
   pub inside : e .place < length entries
   pub side : getD entries (e .place) 0 ≡ e .side
-  pub is : IsEntry (e .side) (e .answer)
+  pub is : GoesOn (e .side) (e .answer)
   pub start : ℕ
   pub size : ℕ
   pub frame : frameOf (drop (e .place + 1) entries) ≡ Frame (e .header) start size

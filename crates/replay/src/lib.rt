@@ -4,16 +4,31 @@ use constants::refusal;
 use constants::side;
 use frame::FrameRead;
 use frame::Header;
-use receiver::Received;
+use receiver::FrameAnswer;
 ghost use mathlib.Core.Path.{_≡_};
 ghost use lib.ListN.{length};
+ghost use Rattle.schema.specs.Check.{IsGood};
 ghost use Rattle.frame.specs.Frame.{frameOf};
-ghost use Rattle.replay.specs.Run.{answerTo, stops as stopsAt, noHeader, headerIn};
+ghost use Rattle.replay.specs.Run.{answerTo, stops as stopsAt, headerIn};
 
-// The answer to an entry's frame, on a sheet of 4,096 rows, with fresh tallies.
-pub fn step(table: CallTable, schema: &[u8], side: u8, bytes: &[u8], sheet: &mut [u32]) -> Received
-    requires { ⌜ length (now sheet) ≡ 16384 ⌝ }
-    ensures { λ r. ⌜ r ≡ answerTo (now (schema .entry)) side (now (bytes .entry)) (table .slots) ⌝ }
+const NO_HEADER: Header = Header {
+    kind: 0,
+    package: 0,
+    service: 0,
+    method: 0,
+    correlation: 0,
+};
+
+// An entry's frame and the answer to it, by a good schema file, on a sheet of 4,096 rows, with fresh tallies.
+pub fn step(
+    table: CallTable,
+    schema: &[u8],
+    side: u8,
+    bytes: &[u8],
+    sheet: &mut [u32],
+) -> FrameAnswer
+    requires { ⌜ IsGood (now schema) × (length (now sheet) ≡ 16384) ⌝ }
+    ensures { λ r. ⌜ (r .answer ≡ answerTo (now (schema .entry)) side (now (bytes .entry)) (table .slots)) × (r .read ≡ frameOf (now (bytes .entry))) ⌝ }
 {
     receiver::fresh::receive_fresh(table, schema, side, bytes, sheet)
 }
@@ -26,29 +41,17 @@ pub fn stops(side: u8, number: u32, used: usize) -> bool
         | ((number == refusal::WRONG_SIDE) & !((side == side::CLIENT) | (side == side::SERVER)))
 }
 
-fn none() -> Header
-    ensures { λ r. ⌜ r ≡ noHeader ⌝ }
+// The header of a frame that was read.
+pub fn header(read: FrameRead) -> Header
+    ensures { λ r. ⌜ r ≡ headerIn read ⌝ }
 {
-    Header {
-        kind: 0,
-        package: 0,
-        service: 0,
-        method: 0,
-        correlation: 0,
-    }
-}
-
-// The header of the frame at the front of the bytes.
-pub fn header(bytes: &[u8]) -> Header
-    ensures { λ r. ⌜ r ≡ headerIn (frameOf (now (bytes .entry))) ⌝ }
-{
-    match frame::read_frame(bytes) {
+    match read {
         FrameRead::Frame {
             header,
             place: _,
             length: _,
         } => header,
-        FrameRead::More => none(),
-        FrameRead::Refused(_) => none(),
+        FrameRead::More => NO_HEADER,
+        FrameRead::Refused(_) => NO_HEADER,
     }
 }

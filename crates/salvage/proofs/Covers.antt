@@ -9,13 +9,13 @@ use lib.Seq.{take-at, drop-at, length-take-le}
 use Rattle.record.specs.Entry.{entryLength}
 use Rattle.record.specs.IsEntry.{NoEntry}
 use Rattle.record.proofs.Entries.{entry-found, entry-least, entry-there, none-iff}
-use Rattle.salvage.specs.Pieces.{Piece, keep, skip, forward, piecesOf}
+use Rattle.salvage.specs.Pieces.{Piece, keep, skip, spanLength, piecesOf}
 use Rattle.salvage.specs.Cover.{NoSpan, NoneIn, Cover, end, entry, span}
 use Rattle.salvage.proofs.Splits.{by-entry, forward-step, forward-stop, forward-end, forward-inside, forward-none, forward-there, pieces-end, turn-skip, turn-keep}
 
 -- ---- the pieces are a cover
 
-no-span : (s : List ℕ) → forward s ≡ 0 → NoSpan (piecesOf s)
+no-span : (s : List ℕ) → spanLength s ≡ 0 → NoSpan (piecesOf s)
 no-span [] h = subst NoSpan (sym pieces-end) tt
 no-span (b ∷ s) h =
     by-entry (b ∷ s)
@@ -26,15 +26,15 @@ no-span (b ∷ s) h =
 joined : (n : ℕ) (s : List ℕ) (ps : List Piece) → Cover (take n s ++ drop n s) ps → Cover s ps
 joined n s ps = subst (λ (l : List ℕ). Cover l ps) (take-append-drop n s)
 
-skipped : (s : List ℕ) → 0 < length s → entryLength s ≡ 0 → Cover (drop (forward s) s) (piecesOf (drop (forward s) s)) → Cover s (piecesOf s)
+skipped : (s : List ℕ) → 0 < length s → entryLength s ≡ 0 → Cover (drop (spanLength s) s) (piecesOf (drop (spanLength s) s)) → Cover s (piecesOf s)
 skipped s h e w =
-    let m = length-take-le (forward s) s (forward-inside s) in
-    let some : 0 < length (take (forward s) s) = omega (arith, m, ahead s h e) in
-    let none : NoneIn (take (forward s) s) (drop (forward s) s) = λ i l.
-    subst (λ (t : List ℕ). NoEntry (drop i t)) (sym (take-append-drop (forward s) s)) (none-iff (drop i s) .0 (forward-none s i (omega (arith, m, l)))) in
-    subst (Cover s) (sym (turn-skip s h e)) (joined (forward s) s _ (span some none (no-span (drop (forward s) s) (forward-there s)) w))
+    let m = length-take-le (spanLength s) s (forward-inside s) in
+    let some : 0 < length (take (spanLength s) s) = omega (arith, m, ahead s h e) in
+    let none : NoneIn (take (spanLength s) s) (drop (spanLength s) s) = λ i l.
+    subst (λ (t : List ℕ). NoEntry (drop i t)) (sym (take-append-drop (spanLength s) s)) (none-iff (drop i s) .0 (forward-none s i (omega (arith, m, l)))) in
+    subst (Cover s) (sym (turn-skip s h e)) (joined (spanLength s) s _ (span some none (no-span (drop (spanLength s) s) (forward-there s)) w))
   where
-    ahead : (s : List ℕ) → 0 < length s → entryLength s ≡ 0 → 0 < forward s
+    ahead : (s : List ℕ) → 0 < length s → entryLength s ≡ 0 → 0 < spanLength s
     ahead [] h e = absurd (omega arith)
     ahead (b ∷ s) h e = omega (arith, forward-step b s e)
 
@@ -47,7 +47,7 @@ cover-within zero (b ∷ s) h = absurd (omega arith)
 cover-within (suc k) [] h = subst (Cover []) (sym pieces-end) end
 cover-within (suc k) (b ∷ s) h =
     by-entry (b ∷ s)
-    (λ e. skipped (b ∷ s) (omega arith) e (cover-within k (drop (forward (b ∷ s)) (b ∷ s)) (rw length-drop (omega (arith, forward-step b s e)))))
+    (λ e. skipped (b ∷ s) (omega arith) e (cover-within k (drop (spanLength (b ∷ s)) (b ∷ s)) (rw length-drop (omega (arith, forward-step b s e)))))
     (λ n. kept (b ∷ s) n (cover-within k (drop (entryLength (b ∷ s)) (b ∷ s)) (rw length-drop (omega (arith, n)))))
 
 pub covered : (s : List ℕ) → Cover s (piecesOf s)
@@ -56,12 +56,12 @@ covered s = cover-within (length s) s (omega arith)
 -- ---- and the only one
 
 -- a cover that starts with no span starts with an entry, or the record is at its end
-stops-here : {s : List ℕ} {ps : List Piece} → Cover s ps → NoSpan ps → forward s ≡ 0
+stops-here : {s : List ℕ} {ps : List Piece} → Cover s ps → NoSpan ps → spanLength s ≡ 0
 stops-here end t = forward-end
 stops-here (entry {e = e} {s = s} is w) t = forward-stop (e ++ s) (λ z. absurd (omega (arith, entry-found is s, entry-least is, z)))
 stops-here (span some none apart w) t = absurd t
 
-forward-gap : (g s : List ℕ) → ((i : ℕ) → i < length g → entryLength (drop i (g ++ s)) ≡ 0) → forward s ≡ 0 → forward (g ++ s) ≡ length g
+forward-gap : (g s : List ℕ) → ((i : ℕ) → i < length g → entryLength (drop i (g ++ s)) ≡ 0) → spanLength s ≡ 0 → spanLength (g ++ s) ≡ length g
 forward-gap [] s h z = z
 forward-gap (b ∷ g) s h z = forward-step b (g ++ s) (h 0 (omega arith)) ∙ ap suc (forward-gap g s (λ i l. h (suc i) (omega arith)) z)
 

@@ -8,7 +8,7 @@ use Rattle.wire.specs.Varuint as varuint
 use Rattle.frame.specs.Frame as frame
 use Rattle.record.specs.Entry.{entryLength}
 use Rattle.salvage.specs.declared.Salvaging.the-variants.{Salvaged, Refused}
-use Rattle.salvage.specs.Pieces.{keep, skip, forward, firstPiece, pieces, piecesOf, entriesIn, copyOf, spanCount, spansOf}
+use Rattle.salvage.specs.Pieces.{keep, skip, spanLength, firstPiece, pieces, piecesOf, entriesIn, copyOf, spanCount, spansOf}
 use Rattle.salvage.specs.Salvage.{outcome, done, salvageOf}
 
 -- the 25 bytes of INVOKE 9, method 1, 2, 3, before the payload's length
@@ -65,7 +65,7 @@ pub torn-records : map piecesOf
     ∷ (skip large ∷ keep client ∷ skip large ∷ [])
     ∷ (keep (take 28 (take 20 client ++ client)) ∷ skip (drop 8 client) ∷ [])
     ∷ []
-unfolding little.little varuint.front varuint.groups frame.onceWhole frame.payloadOf frame.frameOf entryLength forward firstPiece pieces piecesOf
+unfolding little.little varuint.frontVarUInt varuint.groups frame.onceWhole frame.framePayload frame.frameOf entryLength spanLength firstPiece pieces piecesOf
 torn-records = refl
 
 -- a hole of 3 bytes, an entry of 29, and two bytes
@@ -82,5 +82,5 @@ pub salvages : map (λ (room : ℕ × ℕ). salvageOf holed (fill (room .0)) (fi
     ∷ outcome (Refused 52) (fill 28) (fill 0)
     ∷ outcome (Refused 53) (fill 29) (fill 3)
     ∷ []
-unfolding little.little varuint.front varuint.groups frame.onceWhole frame.payloadOf frame.frameOf entryLength forward firstPiece pieces piecesOf entriesIn copyOf spanCount spansOf done salvageOf
+unfolding little.little varuint.frontVarUInt varuint.groups frame.onceWhole frame.framePayload frame.frameOf entryLength spanLength firstPiece pieces piecesOf entriesIn copyOf spanCount spansOf done salvageOf
 salvages = refl

@@ -14,7 +14,7 @@ use Rattle.frame.specs.IsFrame as frame
 use Rattle.record.specs.Entry.{entryLength}
 use Rattle.record.specs.IsEntry.{IsEntry, entry}
 use Rattle.record.proofs.Entries.{entry-there}
-use Rattle.salvage.specs.Pieces.{forward, magicAfter, magicAmong}
+use Rattle.salvage.specs.Pieces.{spanLength, magicAfter, magicAmong}
 use Rattle.salvage.proofs.Splits.{by-entry}
 use Rattle.salvage.proofs.Turns.{rest-of, place-passed, place-found}
 
@@ -46,11 +46,11 @@ module _ (s : List ℕ) (at : ℕ) where
   by-length n is = ap (λ (k : ℕ). not (eqb k 0)) (is ∙ ap entryLength (rest-of s at))
 
   -- what the answer tells
-  module _ (far : ℕ) (sofar : at + forward (drop at s) ≡ far) (b : Bool) (is : b ≡ not (eqb (entryLength (drop at s)) 0)) where
+  module _ (far : ℕ) (sofar : at + spanLength (drop at s) ≡ far) (b : Bool) (is : b ≡ not (eqb (entryLength (drop at s)) 0)) where
     pub start-found : b ≡ true → at ≡ far
     start-found h = place-found s at far sofar (eqb-false (entryLength (drop at s)) 0 (not-true _ (sym is ∙ h)))
 
-    pub start-passed : at < length s → b ≡ false → (at + 1) + forward (drop (at + 1) s) ≡ far
+    pub start-passed : at < length s → b ≡ false → (at + 1) + spanLength (drop (at + 1) s) ≡ far
     start-passed l h = place-passed s at far sofar l (eqb-true (entryLength (drop at s)) 0 (not-false _ (sym is ∙ h)))
 
 -- ---- of several places
@@ -67,7 +67,7 @@ pub among-end : (s : List ℕ) (at i n : ℕ) → i ≤ n → n ≤ i → magicA
 among-end s at i n l h = let e : i ≡ n = omega arith in rw e
 
 -- none starts at any of them
-none-among : (s : List ℕ) (at n far : ℕ) → magicAmong s at n ≡ false → at + n ≤ length s → at + forward (drop at s) ≡ far → (at + n) + forward (drop (at + n) s) ≡ far
+none-among : (s : List ℕ) (at n far : ℕ) → magicAmong s at n ≡ false → at + n ≤ length s → at + spanLength (drop at s) ≡ far → (at + n) + spanLength (drop (at + n) s) ≡ far
 unfolding magicAmong
 none-among s at zero far h l sofar = let e : at + 0 ≡ at = omega arith in rw e sofar
 none-among s at (suc n) far h l sofar =
@@ -75,5 +75,5 @@ none-among s at (suc n) far h l sofar =
     let next : at + suc n ≡ at + n + 1 = omega arith in
     rw next (place-passed s (at + n) far (none-among s at n far (w .0) (omega arith) sofar) (omega arith) (none-starts s (at + n) (w .1)))
 
-pub block-passed : (s : List ℕ) (at n : ℕ) → magicAmong s at n ≡ false → at + n ≤ length s → at + n ≡ at + min n (forward (drop at s))
-block-passed s at n h l = omega (arith, none-among s at n (at + forward (drop at s)) h l (omega arith))
+pub block-passed : (s : List ℕ) (at n : ℕ) → magicAmong s at n ≡ false → at + n ≤ length s → at + n ≡ at + min n (spanLength (drop at s))
+block-passed s at n h l = omega (arith, none-among s at n (at + spanLength (drop at s)) h l (omega arith))

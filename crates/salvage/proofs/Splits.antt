@@ -11,46 +11,46 @@ use lib.Seq.{length-take-le}
 use Rattle.schema.proofs.Bools.{cases}
 use Rattle.record.specs.Entry.{entryLength}
 use Rattle.record.proofs.Entries.{entry-inside}
-use Rattle.salvage.specs.Pieces.{Piece, keep, skip, bytesIn, forward, firstPiece, pieces, piecesOf}
+use Rattle.salvage.specs.Pieces.{Piece, keep, skip, bytesIn, spanLength, firstPiece, pieces, piecesOf}
 
 -- ---- how far it goes forward
 
-pub forward-step : (b : ℕ) (s : List ℕ) → entryLength (b ∷ s) ≡ 0 → forward (b ∷ s) ≡ suc (forward s)
-unfolding forward
+pub forward-step : (b : ℕ) (s : List ℕ) → entryLength (b ∷ s) ≡ 0 → spanLength (b ∷ s) ≡ suc (spanLength s)
+unfolding spanLength
 forward-step b s e = rw (eq-eqb (entryLength (b ∷ s)) 0 e)
 
-pub forward-stop : (s : List ℕ) → (entryLength s ≡ 0 → ⊥) → forward s ≡ 0
-unfolding forward
+pub forward-stop : (s : List ℕ) → (entryLength s ≡ 0 → ⊥) → spanLength s ≡ 0
+unfolding spanLength
 forward-stop [] h = refl
 forward-stop (b ∷ s) h = rw (ne-eqb (entryLength (b ∷ s)) 0 h)
 
-pub forward-end : forward [] ≡ 0
-unfolding forward
+pub forward-end : spanLength [] ≡ 0
+unfolding spanLength
 forward-end = refl
 
 -- a case of each test
 pub by-entry : {A : Type 0} (s : List ℕ) → (entryLength s ≡ 0 → A) → ((entryLength s ≡ 0 → ⊥) → A) → A
 by-entry s f g = ⊎-elim (λ e. f (eqb-true (entryLength s) 0 e)) (λ e. g (eqb-false (entryLength s) 0 e)) (cases (eqb (entryLength s) 0))
 
-pub forward-inside : (s : List ℕ) → forward s ≤ length s
+pub forward-inside : (s : List ℕ) → spanLength s ≤ length s
 forward-inside [] = omega (arith, forward-end)
 forward-inside (b ∷ s) = by-entry (b ∷ s) (λ e. omega (arith, forward-step b s e, forward-inside s)) (λ h. omega (arith, forward-stop (b ∷ s) h))
 
 -- no entry starts on the way
-pub forward-none : (s : List ℕ) (i : ℕ) → i < forward s → entryLength (drop i s) ≡ 0
+pub forward-none : (s : List ℕ) (i : ℕ) → i < spanLength s → entryLength (drop i s) ≡ 0
 forward-none [] i h = absurd (omega (arith, forward-end))
 forward-none (b ∷ s) zero h = by-entry (b ∷ s) (λ e. e) (λ n. absurd (omega (arith, forward-stop (b ∷ s) n)))
 forward-none (b ∷ s) (suc i) h =
     by-entry (b ∷ s) (λ e. forward-none s i (omega (arith, forward-step b s e))) (λ n. absurd (omega (arith, forward-stop (b ∷ s) n)))
 
 -- it goes no further from where it came to
-pub forward-there : (s : List ℕ) → forward (drop (forward s) s) ≡ 0
+pub forward-there : (s : List ℕ) → spanLength (drop (spanLength s) s) ≡ 0
 forward-there [] = rw forward-end forward-end
 forward-there (b ∷ s) =
     by-entry (b ∷ s) (λ e. rw (forward-step b s e) (forward-there s)) (λ n. rw (forward-stop (b ∷ s) n) (forward-stop (b ∷ s) n))
 
 -- what is left of the way
-pub forward-split : (n : ℕ) (s : List ℕ) → n ≤ forward s → forward s ≡ n + forward (drop n s)
+pub forward-split : (n : ℕ) (s : List ℕ) → n ≤ spanLength s → spanLength s ≡ n + spanLength (drop n s)
 forward-split zero s h = omega arith
 forward-split (suc n) [] h = absurd (omega (arith, forward-end))
 forward-split (suc n) (b ∷ s) h =
@@ -60,7 +60,7 @@ forward-split (suc n) (b ∷ s) h =
 
 -- ---- the first piece
 
-pub first-skip : (s : List ℕ) → entryLength s ≡ 0 → firstPiece s ≡ skip (take (forward s) s)
+pub first-skip : (s : List ℕ) → entryLength s ≡ 0 → firstPiece s ≡ skip (take (spanLength s) s)
 unfolding firstPiece
 first-skip s e = rw (eq-eqb (entryLength s) 0 e)
 
@@ -80,13 +80,13 @@ front-of s n h = let e = length-take-le n s h in (e, ap (λ (k : ℕ). take k s)
 pub first-front : (s : List ℕ) → Front s (firstPiece s)
 first-front s = by-entry s skipped kept
   where
-    ahead : (s : List ℕ) → entryLength s ≡ 0 → 0 < length s → 0 < forward s
+    ahead : (s : List ℕ) → entryLength s ≡ 0 → 0 < length s → 0 < spanLength s
     ahead [] e h = absurd (omega arith)
     ahead (b ∷ s) e h = omega (arith, forward-step b s e)
 
     skipped : entryLength s ≡ 0 → Front s (firstPiece s)
     skipped e =
-        let f = front-of s (forward s) (forward-inside s) in
+        let f = front-of s (spanLength s) (forward-inside s) in
         subst (Front s) (sym (first-skip s e)) (record { some = λ h. omega (arith, f .0, ahead s e h); inside = omega (arith, f .0, forward-inside s); is = f .1 })
 
     kept : (entryLength s ≡ 0 → ⊥) → Front s (firstPiece s)
@@ -140,8 +140,8 @@ with-first : (s : List ℕ) → 0 < length s → (p : Piece) → firstPiece s �
 with-first s h p e n l =
     pieces-turn s h ∙ ap (λ (q : Piece). q ∷ piecesOf (drop (length (bytesIn q)) s)) e ∙ ap (λ (k : ℕ). p ∷ piecesOf (drop k s)) l
 
-pub turn-skip : (s : List ℕ) → 0 < length s → entryLength s ≡ 0 → piecesOf s ≡ skip (take (forward s) s) ∷ piecesOf (drop (forward s) s)
-turn-skip s h e = with-first s h (skip (take (forward s) s)) (first-skip s e) (forward s) (length-take-le (forward s) s (forward-inside s))
+pub turn-skip : (s : List ℕ) → 0 < length s → entryLength s ≡ 0 → piecesOf s ≡ skip (take (spanLength s) s) ∷ piecesOf (drop (spanLength s) s)
+turn-skip s h e = with-first s h (skip (take (spanLength s) s)) (first-skip s e) (spanLength s) (length-take-le (spanLength s) s (forward-inside s))
 
 pub turn-keep : (s : List ℕ) → (entryLength s ≡ 0 → ⊥) → piecesOf s ≡ keep (take (entryLength s) s) ∷ piecesOf (drop (entryLength s) s)
 turn-keep s n =

@@ -11,7 +11,7 @@ use Rattle.buffer.proofs.Stores.{sets-written, sets-append}
 use Rattle.wire.proofs.Cases.{differ}
 use Rattle.record.specs.Entry.{entryLength}
 use Rattle.record.proofs.Entries.{entry-inside}
-use Rattle.salvage.specs.Pieces.{Piece, keep, skip, bytesIn, isKept, forward, firstPiece, piecesOf, entriesIn, copyOf, spanCount, spansOf}
+use Rattle.salvage.specs.Pieces.{Piece, keep, skip, bytesIn, isKept, spanLength, firstPiece, piecesOf, entriesIn, copyOf, spanCount, spansOf}
 use Rattle.salvage.specs.Salvage.{filled, measureOf}
 use Rattle.salvage.proofs.Splits.{forward-step, forward-stop, forward-end, forward-inside, forward-split, first-skip, first-keep, first-front, pieces-end, pieces-turn}
 
@@ -22,46 +22,46 @@ rest-of s i = take-all (length s - i) (drop i s) (omega (arith, length-drop i s)
 -- ---- forward
 
 -- it is so far from a place, and what is left gives the same end
-module _ (s : List ℕ) (i far : ℕ) (sofar : i + forward (drop i s) ≡ far) where
-  pub place-passed : i < length s → entryLength (drop i s) ≡ 0 → (i + 1) + forward (drop (i + 1) s) ≡ far
+module _ (s : List ℕ) (i far : ℕ) (sofar : i + spanLength (drop i s) ≡ far) where
+  pub place-passed : i < length s → entryLength (drop i s) ≡ 0 → (i + 1) + spanLength (drop (i + 1) s) ≡ far
   place-passed h z =
       let split : drop i s ≡ getD s i 0 ∷ drop (suc i) s = drop-cons s i 0 h in
       let next : i + 1 ≡ suc i = omega arith in
-      let step : forward (drop i s) ≡ suc (forward (drop (suc i) s)) =
-      ap forward split ∙ forward-step (getD s i 0) (drop (suc i) s) (ap entryLength (sym split) ∙ z) in
+      let step : spanLength (drop i s) ≡ suc (spanLength (drop (suc i) s)) =
+      ap spanLength split ∙ forward-step (getD s i 0) (drop (suc i) s) (ap entryLength (sym split) ∙ z) in
       rw next (omega (arith, step, sofar))
 
   pub place-found : (entryLength (drop i s) ≡ 0 → ⊥) → i ≡ far
   place-found z = omega (arith, forward-stop (drop i s) z, sofar)
 
   pub forward-over : length s ≤ i → i ≡ far
-  forward-over h = omega (arith, ap forward (drop-of-length-le s h) ∙ forward-end, sofar)
+  forward-over h = omega (arith, ap spanLength (drop-of-length-le s h) ∙ forward-end, sofar)
 
   -- by the length of the entry there
   module _ (n : ℕ) (is : n ≡ entryLength (take (length s - i) (drop i s))) where
     here : n ≡ entryLength (drop i s)
     here = is ∙ ap entryLength (rest-of s i)
 
-    pub forward-on : i < length s → n ≡ 0 → (i + 1) + forward (drop (i + 1) s) ≡ far
+    pub forward-on : i < length s → n ≡ 0 → (i + 1) + spanLength (drop (i + 1) s) ≡ far
     forward-on h z = place-passed h (sym here ∙ z)
 
     pub forward-found : (n ≡ 0 → ⊥) → i ≡ far
     forward-found z = place-found (λ e. z (here ∙ e))
 
   -- past so many places at once
-  pub forward-past : (n : ℕ) → n ≤ forward (drop i s) → (i + n) + forward (drop (i + n) s) ≡ far
+  pub forward-past : (n : ℕ) → n ≤ spanLength (drop i s) → (i + n) + spanLength (drop (i + n) s) ≡ far
   forward-past n h =
-      let e : forward (drop i s) ≡ n + forward (drop (i + n) s) =
-      forward-split n (drop i s) h ∙ ap (λ (l : List ℕ). n + forward l) (drop-drop n i s) in
+      let e : spanLength (drop i s) ≡ n + spanLength (drop (i + n) s) =
+      forward-split n (drop i s) h ∙ ap (λ (l : List ℕ). n + spanLength l) (drop-drop n i s) in
       omega (arith, e, sofar)
 
 -- ---- the first piece
 
 module _ (s : List ℕ) where
-  pub piece-skipped : (n : ℕ) → n ≡ entryLength s → n ≡ 0 → (m : ℕ) → m ≡ forward s
+  pub piece-skipped : (n : ℕ) → n ≡ entryLength s → n ≡ 0 → (m : ℕ) → m ≡ spanLength s
       → (false ≡ isKept (firstPiece s)) × (m ≡ length (bytesIn (firstPiece s)))
   piece-skipped n is z m far =
-      rw (first-skip s (sym is ∙ z)) (refl, far ∙ sym (length-take-le (forward s) s (forward-inside s)))
+      rw (first-skip s (sym is ∙ z)) (refl, far ∙ sym (length-take-le (spanLength s) s (forward-inside s)))
 
   pub piece-kept : (n : ℕ) → n ≡ entryLength s → (n ≡ 0 → ⊥) → (true ≡ isKept (firstPiece s)) × (n ≡ length (bytesIn (firstPiece s)))
   piece-kept n is z =

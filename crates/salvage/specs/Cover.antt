@@ -16,8 +16,8 @@ NoSpan (skip g ∷ ps) = ⊥
 abbrev pub NoneIn : (g s : List ℕ) → Type 0
 NoneIn g s = (i : ℕ) → i < length g → NoEntry (drop i (g ++ s))
 
--- The pieces are the record s, once and in order. What is kept is an entry. A span has a byte at least, no entry starts in it, and no other span touches
--- it.
+-- The pieces are the record s, once and in order. What is kept is an entry; a span has a byte at least, no entry starts in it, and no other span
+-- touches it.
 pub data Cover : (s : List ℕ) → List Piece → Type 0 where
   end : Cover [] []
   entry : {e s : List ℕ} {ps : List Piece} → IsEntry e → Cover s ps → Cover (e ++ s) (keep e ∷ ps)

@@ -21,13 +21,13 @@ isKept (keep e) = true
 isKept (skip g) = false
 
 -- How far it is forward to the next place where an entry starts, or to the end.
-unfoldable pub forward : List ℕ → ℕ
-forward [] = 0
-forward (b ∷ s) = cond (eqb (entryLength (b ∷ s)) 0) (suc (forward s)) 0
+unfoldable pub spanLength : List ℕ → ℕ
+spanLength [] = 0
+spanLength (b ∷ s) = cond (eqb (entryLength (b ∷ s)) 0) (suc (spanLength s)) 0
 
 -- The entry that starts here, or the span up to the next one.
 unfoldable pub firstPiece : List ℕ → Piece
-firstPiece s = cond (eqb (entryLength s) 0) (skip (take (forward s) s)) (keep (take (entryLength s) s))
+firstPiece s = cond (eqb (entryLength s) 0) (skip (take (spanLength s) s)) (keep (take (entryLength s) s))
 
 -- One piece after the other. A piece takes a byte at least, so that a record has at most as many pieces as bytes.
 unfoldable pub pieces : (most : ℕ) → List ℕ → List Piece

@@ -124,8 +124,8 @@ fn room_fault(torn: &[u8], copy: usize, spans: usize) -> u32
     refusal::ACCEPTED
 }
 
-// Copies every entry of a record that can be kept, and lists the spans left out, place and length of each. A refusal (45, 52 for the copy, 53 for the
-// list, in this order) leaves both as they were. Past what is written they are as they were, too.
+// Copies every entry of a record that can be kept, and lists the spans left out, place and length of each.
+// A refusal (45, 52 for the copy, 53 for the list, in this order) leaves both as they were; what stands past the copy and the list stays in any case.
 pub fn salvage(torn: &[u8], copy: &mut [u8], spans: &mut [u32]) -> Salvaging
     ensures { λ r. ⌜ outcome r (now (copy .exit)) (now (spans .exit)) ≡ salvageOf (now (torn .entry)) (now (copy .entry)) (now (spans .entry)) ⌝ }
 {

@@ -1,4 +1,5 @@
 // The first piece of what is left of a record.
+use constants::format;
 use record::entry_length;
 ghost use mathlib.Core.Path.{_≡_};
 ghost use mathlib.Core.Bool.{not};
@@ -6,7 +7,7 @@ ghost use Prim.Native.Nat.{_+_, _≤_, min};
 ghost use lib.Dec.{eqb};
 ghost use lib.ListN.{length, drop};
 ghost use Rattle.record.specs.Entry.{entryLength};
-ghost use Rattle.salvage.specs.Pieces.{forward as forwardOf, firstPiece, isKept, bytesIn, magicAfter, magicAmong};
+ghost use Rattle.salvage.specs.Pieces.{spanLength, firstPiece, isKept, bytesIn, magicAfter, magicAmong};
 
 // An entry that is kept, or a span that is left out.
 pub struct Piece {
@@ -19,7 +20,7 @@ fn has_magic(bytes: &[u8], at: usize) -> bool
     requires { ⌜ at + 3 ≤ length (now bytes) ⌝ }
     ensures { λ r. ⌜ r ≡ magicAfter (now (bytes .entry)) at ⌝ }
 {
-    (bytes[at + 1] == 0xAF) & (bytes[at + 2] == 0x01)
+    (bytes[at + 1] == format::MAGIC) & (bytes[at + 2] == format::MAGIC_2)
 }
 
 // Whether it does after one of 32 places. All are looked at: a loop without a way out compares several at a time.
@@ -50,7 +51,7 @@ fn starts(bytes: &[u8], at: usize) -> bool
 // The first of 32 places where an entry starts, or the place after them.
 fn within_block(bytes: &[u8], from: usize) -> usize
     requires { ⌜ from + 34 ≤ length (now bytes) ⌝ }
-    ensures { λ r. ⌜ r ≡ from + min 32 (forwardOf (drop from (now (bytes .entry)))) ⌝ }
+    ensures { λ r. ⌜ r ≡ from + min 32 (spanLength (drop from (now (bytes .entry)))) ⌝ }
 {
     if !has_magics(bytes, from) {
         return from + 32;
@@ -68,7 +69,7 @@ fn within_block(bytes: &[u8], from: usize) -> usize
 // From a place on, the next place where an entry starts, or the end; place after place.
 fn in_rest(bytes: &[u8], from: usize) -> usize
     requires { ⌜ from ≤ length (now bytes) ⌝ }
-    ensures { λ r. ⌜ r ≡ from + forwardOf (drop from (now (bytes .entry))) ⌝ }
+    ensures { λ r. ⌜ r ≡ from + spanLength (drop from (now (bytes .entry))) ⌝ }
 {
     let mut i = from;
     while i < bytes.len() {
@@ -82,7 +83,7 @@ fn in_rest(bytes: &[u8], from: usize) -> usize
 
 // How far it is forward to the next place where an entry starts, or to the end.
 fn forward(bytes: &[u8]) -> usize
-    ensures { λ r. ⌜ r ≡ forwardOf (now (bytes .entry)) ⌝ }
+    ensures { λ r. ⌜ r ≡ spanLength (now (bytes .entry)) ⌝ }
 {
     let mut i = 0;
     while 34 <= bytes.len() - i {

@@ -15,7 +15,7 @@ use Rattle.schema.specs.Table.{Table, Shape, unknown, scalar, text, array, map,
 use Rattle.schema.specs.declared.Checked.the-variants as check
 use Rattle.schema.specs.File.{tableOf}
 use Rattle.schema.specs.Check.{checked, IsGood}
-use Rattle.schema.specs.Good.{GoodTable}
+use Rattle.schema.specs.Good.{GoodSchema}
 use Rattle.schema.proofs.Bools.{or-cases, or-false}
 use Rattle.schema.proofs.Shapes.{shape-scalar, shape-text, kindOf, Within, within, kind-of}
 use Rattle.value.specs.declared.Row.{Row}
@@ -67,7 +67,7 @@ module _ (kind place n : ℕ) (bytes : List ℕ) where
 
 -- ---- a row
 
-module _ (T : Table) (g : GoodTable T) (r : Row) (bytes : List ℕ) where
+module _ (T : Table) (g : GoodSchema T) (r : Row) (bytes : List ℕ) where
   -- A count is refused whatever the type.
   counted : (s : Shape) → eqb (r .count) 0 ≡ false → byShape s r bytes ≡ Refused 50 0
   counted (scalar kind) e = rw e

@@ -128,6 +128,6 @@ numbers = 50 ∷ 50 ∷ 50 ∷ 50 ∷ 50 ∷ 50 ∷ 50 ∷ 50 ∷ 51 ∷ 51 ∷ 
 abbrev places : List ℕ
 places = 0 ∷ 0 ∷ 0 ∷ 0 ∷ 0 ∷ 0 ∷ 0 ∷ 0 ∷ 0 ∷ 0 ∷ 0 ∷ 0 ∷ 1 ∷ 1 ∷ 0 ∷ []
 
-pub refusals-hold : (map (λ (c : ScalarCase). scalar.numberOf (answer c)) refused ≡ numbers) × (map (λ (c : ScalarCase). scalar.placeOf (answer c)) refused ≡ places)
-unfolding kinds scalar.numberOf scalar.placeOf scalar.scalarOf scalar.scalarAt scalar.textAt scalar.valueOf table.shape little.little little.twos utf8.run utf8.next utf8.leadOf utf8.rows
+pub refusals-hold : (map (λ (c : ScalarCase). scalar.scalarNumber (answer c)) refused ≡ numbers) × (map (λ (c : ScalarCase). scalar.placeOf (answer c)) refused ≡ places)
+unfolding kinds scalar.scalarNumber scalar.placeOf scalar.scalarOf scalar.scalarAt scalar.textAt scalar.valueOf table.shape little.little little.twos utf8.run utf8.next utf8.leadOf utf8.rows
 refusals-hold = (refl, refl)

@@ -15,13 +15,13 @@ use Rattle.schema.specs.declared.Checked.the-variants as check
 use Rattle.schema.specs.Table.{Shape, unknown, scalar, text, array, map, struct, shape, width}
 use Rattle.schema.specs.File.{tableOf}
 use Rattle.schema.specs.Check.{checked, IsGood}
-use Rattle.schema.proofs.Listed.{listed, listed-bounds}
+use Rattle.schema.proofs.Numbered.{listed, listed-bounds}
 use Rattle.value.specs.declared.Row.{Row}
 use Rattle.scalar.specs.declared.Scalar.{Scalar}
 use Rattle.scalar.specs.declared.Scalar.the-variants.{Span}
 use Rattle.scalar.specs.declared.Answer.{Answer}
 use Rattle.scalar.specs.declared.Answer.the-variants.{Is, Refused}
-use Rattle.scalar.specs.Scalar.{valueOf, textAt, byShape, scalarOf, afterTable, scalarBy, numberOf, placeOf, scalarAt}
+use Rattle.scalar.specs.Scalar.{valueOf, textAt, byShape, scalarOf, afterTable, scalarBy, scalarNumber, placeOf, scalarAt}
 use Rattle.scalar.specs.Leaves.{ShowsLeaf}
 use Rattle.scalar.specs.Reasons.{Reason}
 use Rattle.scalar.proofs.Reasons.{refused-iff}
@@ -33,14 +33,14 @@ above schema n q e = omega (arith, listed-bounds (tableOf schema) (listed schema
 
 module _ (schema : List ℕ) (r : Row) (bytes : List ℕ) where
   -- A number above 0 comes back with a place exactly for its reason.
-  pub number-iff-reason : (n q : ℕ) → 0 < n → ((numberOf (scalarBy schema r bytes) ≡ n) × (placeOf (scalarBy schema r bytes) ≡ q)) ↔ Reason schema bytes r n q
-  unfolding numberOf placeOf
+  pub number-iff-reason : (n q : ℕ) → 0 < n → ((scalarNumber (scalarBy schema r bytes) ≡ n) × (placeOf (scalarBy schema r bytes) ≡ q)) ↔ Reason schema bytes r n q
+  unfolding scalarNumber placeOf
   number-iff-reason n q h = (
     λ (e, f). refused-iff schema r bytes n q .0 (go (scalarBy schema r bytes) refl e f),
-    λ w. let e = refused-iff schema r bytes n q .1 w in (ap numberOf e, ap placeOf e),
+    λ w. let e = refused-iff schema r bytes n q .1 w in (ap scalarNumber e, ap placeOf e),
   )
     where
-      go : (a : Answer) → scalarBy schema r bytes ≡ a → numberOf a ≡ n → placeOf a ≡ q → scalarBy schema r bytes ≡ Refused n q
+      go : (a : Answer) → scalarBy schema r bytes ≡ a → scalarNumber a ≡ n → placeOf a ≡ q → scalarBy schema r bytes ≡ Refused n q
       go (Is x) e f g = absurd (omega (arith, h, f))
       go (Refused m p) e f g = e ∙ ap₂ Refused f g
 
@@ -72,13 +72,13 @@ module _ (bytes : List ℕ) (r : Row) where
       (test-zero (inside bytes (r .place) (r .length)) 51 0 _ (lit≤ tt)
       (test-zero (not (eqb kind 12) || utf8 (span bytes (r .place) (r .length))) 23 (r .place) _ (lit≤ tt) is))
 
-  zero-is : {x : Scalar} (a : Answer) → Zero x a → numberOf a ≡ 0 → a ≡ Is x
-  unfolding numberOf
+  zero-is : {x : Scalar} (a : Answer) → Zero x a → scalarNumber a ≡ 0 → a ≡ Is x
+  unfolding scalarNumber
   zero-is a is e = refl
   zero-is a (other h) e = absurd (omega arith)
 
-  shape-shown : (s : Shape) → numberOf (byShape s r bytes) ≡ 0 → ShowsLeaf bytes s r (span bytes (r .place) (r .length)) (byShape s r bytes)
-  unfolding numberOf
+  shape-shown : (s : Shape) → scalarNumber (byShape s r bytes) ≡ 0 → ShowsLeaf bytes s r (span bytes (r .place) (r .length)) (byShape s r bytes)
+  unfolding scalarNumber
   shape-shown (scalar kind) e = zero-is (byShape (scalar kind) r bytes) (scalar-zero kind) e
   shape-shown (text kind) e = (zero-is (byShape (text kind) r bytes) (text-zero kind) e, refl)
   shape-shown unknown e = absurd (omega arith)
@@ -86,10 +86,10 @@ module _ (bytes : List ℕ) (r : Row) where
   shape-shown (map _ _) e = absurd (omega arith)
   shape-shown (struct _) e = absurd (omega arith)
 
-  shown-zero : (s : Shape) (a : Answer) (x : List ℕ) → ShowsLeaf bytes s r x a → numberOf a ≡ 0
-  unfolding numberOf
-  shown-zero (scalar kind) a x e = ap numberOf e
-  shown-zero (text kind) a x (e, _) = ap numberOf e
+  shown-zero : (s : Shape) (a : Answer) (x : List ℕ) → ShowsLeaf bytes s r x a → scalarNumber a ≡ 0
+  unfolding scalarNumber
+  shown-zero (scalar kind) a x e = ap scalarNumber e
+  shown-zero (text kind) a x (e, _) = ap scalarNumber e
   shown-zero unknown a x w = absurd w
   shown-zero (array _) a x w = absurd w
   shown-zero (map _ _) a x w = absurd w
@@ -97,15 +97,15 @@ module _ (bytes : List ℕ) (r : Row) where
 
 -- Number 0 comes back exactly for a good file and a leaf's row whose answer shows the bytes of its span: its value, or the span itself.
 pub zero-iff-shown : (schema : List ℕ) (r : Row) (bytes : List ℕ)
-    → (numberOf (scalarBy schema r bytes) ≡ 0)
+    → (scalarNumber (scalarBy schema r bytes) ≡ 0)
     ↔ (IsGood schema × ShowsLeaf bytes (shape (tableOf schema) (r .ty)) r (span bytes (r .place) (r .length)) (scalarBy schema r bytes))
-unfolding scalarBy scalarOf numberOf
+unfolding scalarBy scalarOf scalarNumber
 zero-iff-shown schema r bytes = (
   λ z. go (checked schema) refl z,
   λ (good, w). shown-zero bytes r (shape (tableOf schema) (r .ty)) (scalarBy schema r bytes) (span bytes (r .place) (r .length)) w,
 )
   where
-    go : (c : Checked) → checked schema ≡ c → numberOf (afterTable c (byShape (shape (tableOf schema) (r .ty)) r bytes)) ≡ 0
+    go : (c : Checked) → checked schema ≡ c → scalarNumber (afterTable c (byShape (shape (tableOf schema) (r .ty)) r bytes)) ≡ 0
         → IsGood schema × ShowsLeaf bytes (shape (tableOf schema) (r .ty)) r (span bytes (r .place) (r .length)) (afterTable c (byShape (shape (tableOf schema) (r .ty)) r bytes))
     go check.Good e z = (e, shape-shown bytes r (shape (tableOf schema) (r .ty)) z)
     go (check.Refused n q) e z = absurd (omega (arith, above schema n q e, z))

@@ -23,7 +23,7 @@ use Rattle.value.proofs.Sound.{asked}
 use Rattle.value.proofs.Placed.{root-placed}
 use Rattle.scalar.specs.declared.Answer.{Answer as Told}
 use Rattle.scalar.specs.declared.Answer.the-variants.{Refused}
-use Rattle.scalar.specs.Scalar.{textAt, byShape, scalarOf, numberOf, scalarAt}
+use Rattle.scalar.specs.Scalar.{textAt, byShape, scalarOf, scalarNumber, scalarAt}
 use Rattle.scalar.specs.Leaves.{ShowsLeaf, EachLeaf, EachOf}
 use Rattle.scalar.proofs.Answers.{number-told, text-is}
 
@@ -44,14 +44,14 @@ module _ (bytes : List ℕ) (r : Row) where
   fits-shown (struct _) x f = f
 
   -- A test that was passed.
-  passed : (b : Bool) (n p : ℕ) (next : Told) → numberOf (cond b next (Refused (suc n) p)) ≡ 0 → (b ≡ true) × (numberOf next ≡ 0)
-  unfolding numberOf
+  passed : (b : Bool) (n p : ℕ) (next : Told) → scalarNumber (cond b next (Refused (suc n) p)) ≡ 0 → (b ≡ true) × (scalarNumber next ≡ 0)
+  unfolding scalarNumber
   passed true n p next e = (refl, e)
   passed false n p next e = absurd (omega arith)
 
   -- A row that is not refused fits.
-  pub shown-fits : (s : Shape) → numberOf (byShape s r bytes) ≡ 0 → LeafFits bytes s (r .place) (r .length) (r .count) (span bytes (r .place) (r .length))
-  unfolding scalarAt textAt numberOf
+  pub shown-fits : (s : Shape) → scalarNumber (byShape s r bytes) ≡ 0 → LeafFits bytes s (r .place) (r .length) (r .count) (span bytes (r .place) (r .length))
+  unfolding scalarAt textAt scalarNumber
   shown-fits (scalar kind) e =
       let a = passed _ _ _ _ e in
       let b = passed _ _ _ _ (a .1) in

@@ -73,9 +73,9 @@ unfoldable pub scalarBy : (schema : List ℕ) → Row → List ℕ → Answer
 scalarBy schema r bytes = afterTable (checked schema) (scalarOf (tableOf schema) r bytes)
 
 -- 01's number and place of an answer: 0 for a value.
-unfoldable pub numberOf : Answer → ℕ
-numberOf (Is x) = 0
-numberOf (Refused number place) = number
+unfoldable pub scalarNumber : Answer → ℕ
+scalarNumber (Is x) = 0
+scalarNumber (Refused number place) = number
 
 unfoldable pub placeOf : Answer → ℕ
 placeOf (Is x) = 0

@@ -31,7 +31,7 @@ fn refuse(number: u32, place: usize) -> Answer
     Answer::Refused { number, place }
 }
 
-// The span lies in the bytes.
+// Whether the span lies in the bytes.
 fn is_inside(bytes: &[u8], place: usize, length: usize) -> bool
     requires { ⌜ (place < 4294967296) × (length < 4294967296) ⌝ }
     ensures { λ r. ⌜ r ≡ inside (now (bytes .entry)) place length ⌝ }

@@ -16,7 +16,7 @@ use Rattle.schema.specs.declared.Checked.{Checked}
 use Rattle.schema.specs.declared.Checked.the-variants.{Good, Refused}
 use Rattle.schema.specs.Table.{Table, rowAt}
 use Rattle.schema.specs.File.{shaped, layoutOf, tableOf, Laid}
-use Rattle.schema.specs.Check.{lowest, plainRow, arrayRow, mapRow, structRow, goodRow, field, goodField, methodRow, letter, formed, findAmong, isMissing}
+use Rattle.schema.specs.Check.{lowest, plainRow, arrayRow, mapRow, structRow, goodRow, fieldRow, goodField, methodRow, letterFits, formed, findAmong, isMissing}
 use Rattle.schema.specs.Check.{goodMethod, goodEntry, badEntry, small, fault, badRow, badField, badMethod, checked, checkedTable, IsGood}
 use Rattle.schema.proofs.Files.{laid-types, laid-fields, laid-methods}
 
@@ -71,15 +71,15 @@ module _ (s : List ℕ) (l : Layout) (h : Laid s l) where
       (arrayRow (laid-types s l h i) (p i) ||
       (mapRow (laid-types s l h i) (key i .kind) (p i) || structRow (laid-fields s l h i) (p i)))
 
-  pub field-judged : (i : ℕ) (f : Field) → f ≡ field (tableOf s) i → (ltb (f .ty) (l .types) && leb (f .optional) 1) ≡ goodField (tableOf s) i
+  pub field-judged : (i : ℕ) (f : Field) → f ≡ fieldRow (tableOf s) i → (ltb (f .ty) (l .types) && leb (f .optional) 1) ≡ goodField (tableOf s) i
   unfolding goodField
   field-judged i f p = λ j. ltb (p j .ty) (laid-types s l h j) && leb (p j .optional) 1
 
 module _ (T : Table) where
-  pub letter-yes : (bit t : ℕ) (r : TypeRow) → r ≡ rowAt T t → bit ≡ 1 → eqb (r .kind) 16 ≡ letter T bit t
+  pub letter-yes : (bit t : ℕ) (r : TypeRow) → r ≡ rowAt T t → bit ≡ 1 → eqb (r .kind) 16 ≡ letterFits T bit t
   letter-yes bit t r p e = ap (λ (x : TypeRow). eqb (x .kind) 16) p ∙ sym (rw (eq-eqb bit 1 e))
 
-  pub letter-no : (bit t : ℕ) → (bit ≡ 1 → ⊥) → eqb t 4294967295 ≡ letter T bit t
+  pub letter-no : (bit t : ℕ) → (bit ≡ 1 → ⊥) → eqb t 4294967295 ≡ letterFits T bit t
   letter-no bit t e = sym (rw (ne-eqb bit 1 e))
 
   pub method-judged : (i : ℕ) (m : Method) (f : Found) → m ≡ methodRow T i → f ≡ findAmong T i (m .«package») (m .service) (m .method)

@@ -19,7 +19,7 @@ use Rattle.schema.specs.declared.Extended.the-variants.{Yes, No}
 use Rattle.schema.specs.Table.{Table, scalar, text, array, map, struct, rowAt, fieldsOf, shape, bitmapBytes}
 use Rattle.schema.specs.File.{tableOf}
 use Rattle.schema.specs.Check.{noField, methodRow, findMethod, IsGood}
-use Rattle.schema.specs.Good.{GoodRow, GoodTable}
+use Rattle.schema.specs.Good.{GoodRow, GoodSchema}
 use Rattle.schema.specs.Extend.{KeepsFields, KeepsRow, Widens, Extends, Grows, SameBytes, same, gains, every}
 use Rattle.schema.specs.Extend.{sameField, fieldKept, structKept, rowKept, rowsKept, sameMethod, sameAt, methodKept, methodsKept, widened, bitmapKept, bitmapsKept, extended, extension}
 use Rattle.schema.proofs.Bools.{cases, clash, and-left, and-right, and-i}
@@ -135,7 +135,7 @@ module _ (old new : Table) (r q : TypeRow) (room : r .a + r .b ≤ length (old .
 
 -- ---- a row, a method, a table
 
-module _ (old new : Table) (g : GoodTable old) (g′ : GoodTable new) where
+module _ (old new : Table) (g : GoodSchema old) (g′ : GoodSchema new) where
   kept-row : (t : ℕ) → t < length (old .types) → t < length (new .types) → rowKept old new (rowAt old t) (rowAt new t) ≡ true → KeepsRow old new t
   unfolding rowKept
   kept-row t h h′ e = go (eqb (r .kind) 16) refl (and-right (eqb (q .kind) (r .kind)) _ e)
@@ -296,7 +296,7 @@ module _ (old new : List ℕ) (g : IsGood old) (g′ : IsGood new) where
 
 -- ---- what an extended table keeps
 
-module _ (old new : Table) (g : GoodTable old) (g′ : GoodTable new) (x : Widens old new) where
+module _ (old new : Table) (g : GoodSchema old) (g′ : GoodSchema new) (x : Widens old new) where
   -- each type number keeps its shape, or its struct gains optional fields
   pub grows : (t : ℕ) → t < length (old .types) → Grows (shape old t) (shape new t)
   grows t h = go (kinds (rowAt old t .kind) (g .rows t h .kind .0) (g .rows t h .kind .1))
@@ -333,14 +333,14 @@ module _ (old new : Table) (g : GoodTable old) (g′ : GoodTable new) (x : Widen
       (w .0, sym ids ∙ own, w .2)
 
 -- a struct has as many fields as its row says
-fields-counted : (T : Table) → GoodTable T → (t : ℕ) → t < length (T .types) → (fs : List Field) → shape T t ≡ struct fs → (rowAt T t .kind ≡ 16) × (length fs ≡ rowAt T t .b)
+fields-counted : (T : Table) → GoodSchema T → (t : ℕ) → t < length (T .types) → (fs : List Field) → shape T t ≡ struct fs → (rowAt T t .kind ≡ 16) × (length fs ≡ rowAt T t .b)
 fields-counted T g t h fs e =
     let k : rowAt T t .kind ≡ 16 = sym (kind-of T g t) ∙ ap kindOf e in
     let f : fs ≡ fieldsOf T (rowAt T t) = cc (shape-struct T t k) in
     (k, ap length f ∙ fields-length T (rowAt T t) (g .rows t h .struct k .2))
 
 -- and its bitmap keeps its bytes, where the table extends the other
-pub same-bytes : (old new : Table) → GoodTable old → GoodTable new → Extends old new → (t : ℕ) → t < length (old .types) → SameBytes (shape old t) (shape new t)
+pub same-bytes : (old new : Table) → GoodSchema old → GoodSchema new → Extends old new → (t : ℕ) → t < length (old .types) → SameBytes (shape old t) (shape new t)
 same-bytes old new g g′ x t h fs fs′ e e′ =
     let a = fields-counted old g t h fs e in
     let b = fields-counted new g′ t (omega (arith, x .widens .types)) fs′ e′ in

@@ -14,12 +14,12 @@ use Rattle.schema.specs.declared.Checked.the-variants.{Good, Refused as 
 use Rattle.schema.specs.declared.Extended.the-variants.{Yes, No, Refused}
 use Rattle.schema.specs.Table.{Table}
 use Rattle.schema.specs.File.{tableOf}
-use Rattle.schema.specs.Check.{field, methodRow, findMethod, checked}
+use Rattle.schema.specs.Check.{fieldRow, methodRow, findMethod, checked}
 use Rattle.schema.specs.Extend.{sameField, fieldKept, structKept, rowKept, sameMethod, methodKept, extended, extension}
 
 module _ (old new : Table) (r q : TypeRow) where
-  module _ (i : ℕ) (g : Field) (is : g ≡ field new (q .a + i)) where
-    pub kept-old : (f : Field) → f ≡ field old (r .a + i) → i < r .b → sameField g f ≡ fieldKept old new r q i
+  module _ (i : ℕ) (g : Field) (is : g ≡ fieldRow new (q .a + i)) where
+    pub kept-old : (f : Field) → f ≡ fieldRow old (r .a + i) → i < r .b → sameField g f ≡ fieldKept old new r q i
     unfolding fieldKept
     kept-old f of h = (λ k. sameField (is k) (of k)) ∙ sym (rw (lt-ltb i (r .b) h))
 

@@ -17,7 +17,7 @@ use Rattle.schema.specs.Table.{Table}
 use Rattle.schema.specs.File.{cell, trailerAt, fieldsAt, methodsAt, shaped, tableOf}
 use Rattle.schema.specs.Check.{goodRow, goodField, goodMethod, small, fault, badRow, badField, badMethod, checkedTable, checked}
 use Rattle.schema.specs.Good.{HasShape}
-use Rattle.schema.specs.Faults.{Misshapen, short, layout, trailer, crossed, beyond, TooMany, First, Few, RowOk, FieldOk, MethodOk, TableFault}
+use Rattle.schema.specs.Faults.{Misshapen, short, layout, trailer, crossed, beyond, TooManyRows, First, FewRows, RowOk, FieldOk, MethodOk, TableFault}
 use Rattle.schema.specs.Faults as why
 use Rattle.schema.proofs.Bools.{and-false, is-false}
 use Rattle.schema.proofs.Lowest.{first-fault}
@@ -73,7 +73,7 @@ module _ (s : List ℕ) where
 -- ---- the counts
 
 module _ (T : Table) where
-  many-of : small T ≡ false → TooMany T
+  many-of : small T ≡ false → TooManyRows T
   unfolding small
   many-of e =
       ⊎-elim (λ h. why.types (leb-false (length (T .types)) 256 h))
@@ -82,12 +82,12 @@ module _ (T : Table) where
       (and-false (leb (length (T .fields)) 2048) _ f))
       (and-false (leb (length (T .types)) 256) _ e)
 
-  not-few : Few T → TooMany T → ⊥
+  not-few : FewRows T → TooManyRows T → ⊥
   not-few (a, b, c) (why.types l) = omega arith
   not-few (a, b, c) (why.fields l) = omega arith
   not-few (a, b, c) (why.methods l) = omega arith
 
-  of-many : TooMany T → small T ≡ false
+  of-many : TooManyRows T → small T ≡ false
   of-many m = is-false (small T) (λ e. not-few (few-iff T .0 e) m)
 
   -- ---- the first row at fault

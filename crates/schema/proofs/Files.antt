@@ -11,7 +11,7 @@ use borrow.Author.Tests.{leb-true, eqb-true, le-leb, lt-leb}
 use Rattle.schema.specs.declared.Layout.{Layout}
 use Rattle.schema.specs.Table.{Table, rowAt}
 use Rattle.schema.specs.File.{cell, typeAt, fieldAt, methodAt, trailerAt, fieldsAt, methodsAt, shaped, layoutOf, tabulate, sections, tableOf, Laid}
-use Rattle.schema.specs.Check.{field, methodRow, noRow, noField, noMethod}
+use Rattle.schema.specs.Check.{fieldRow, methodRow, noRow, noField, noMethod}
 use Rattle.schema.proofs.Bools.{and-left, and-right}
 
 module _ (s : List ℕ) where
@@ -118,11 +118,11 @@ module _ (s : List ℕ) (h : shaped s ≡ true) where
     pub row-out : layoutOf s .types ≤ i → rowAt (tableOf s) i ≡ noRow
     row-out k = ap (λ (T : Table). rowAt T i) table-is ∙ past _ (layoutOf s .types) i _ k
 
-    pub field-in : i < layoutOf s .fields → field (tableOf s) i ≡ fieldAt s (layoutOf s .«fields_at» + 8 * i)
-    field-in k = ap (λ (T : Table). field T i) table-is ∙ getD-tabulate _ (layoutOf s .fields) i _ k
+    pub field-in : i < layoutOf s .fields → fieldRow (tableOf s) i ≡ fieldAt s (layoutOf s .«fields_at» + 8 * i)
+    field-in k = ap (λ (T : Table). fieldRow T i) table-is ∙ getD-tabulate _ (layoutOf s .fields) i _ k
 
-    pub field-out : layoutOf s .fields ≤ i → field (tableOf s) i ≡ noField
-    field-out k = ap (λ (T : Table). field T i) table-is ∙ past _ (layoutOf s .fields) i _ k
+    pub field-out : layoutOf s .fields ≤ i → fieldRow (tableOf s) i ≡ noField
+    field-out k = ap (λ (T : Table). fieldRow T i) table-is ∙ past _ (layoutOf s .fields) i _ k
 
     pub method-in : i < layoutOf s .methods → methodRow (tableOf s) i ≡ methodAt s (layoutOf s .«methods_at» + 32 * i)
     method-in k = ap (λ (T : Table). methodRow T i) table-is ∙ getD-tabulate _ (layoutOf s .methods) i _ k
@@ -160,10 +160,10 @@ module _ (s : List ℕ) (l : Layout) (h : Laid s l) where
     pub laid-no-row : l .types ≤ i → noRow ≡ rowAt (tableOf s) i
     laid-no-row k = sym (row-out s (h .shape) i (rw (h .is) at k))
 
-    pub laid-field : i < l .fields → fieldAt s (l .«fields_at» + 8 * i) ≡ field (tableOf s) i
+    pub laid-field : i < l .fields → fieldAt s (l .«fields_at» + 8 * i) ≡ fieldRow (tableOf s) i
     laid-field k = rw (h .is) (sym (field-in s (h .shape) i (rw (h .is) at k)))
 
-    pub laid-no-field : l .fields ≤ i → noField ≡ field (tableOf s) i
+    pub laid-no-field : l .fields ≤ i → noField ≡ fieldRow (tableOf s) i
     laid-no-field k = sym (field-out s (h .shape) i (rw (h .is) at k))
 
     pub laid-method : i < l .methods → methodAt s (l .«methods_at» + 32 * i) ≡ methodRow (tableOf s) i

@@ -1,9 +1,9 @@
 -- Flags of methods that were seen: a method whose flag is not set shares its identifiers with none of them.
-use mathlib.Core.Path.{_≡_, refl, sym, ap, subst, _∙_}
+use mathlib.Core.Path.{_≡_, refl, sym, ap, subst, subst⁻¹, _∙_}
 use mathlib.Core.Logic.{⊎-elim}
 use mathlib.Core.Bool.{Bool, true, false, not, _&&_, _||_}
 use mathlib.Core.List.{List, [], _∷_}
-use Prim.Native.Nat.{ℕ, zero, suc, _+_, _<_}
+use Prim.Native.Nat.{ℕ, zero, suc, _+_, _/_, _%_, _^_, _<_}
 use native.Mathlib.Nat.{not-suc-le-zero}
 use native.Mathlib.Omega.{arith}
 use lib.ListN.{length, getD, set, length-set}
@@ -20,9 +20,12 @@ use Rattle.schema.proofs.Lowest.{below-none}
 use Rattle.schema.proofs.Checks.{method-judged}
 use Rattle.schema.proofs.Goods.{names-of}
 
+top-below : (x : ℕ) → x % 2 ^ 64 / 2 ^ 52 < 4096
+top-below x = omega arith
+
 pub flag-below : (k p s m : ℕ) → k ≡ flagOf p s m → k < 4096
 unfolding flagOf
-flag-below k p s m e = omega arith
+flag-below k p s m e = subst⁻¹ (λ (n : ℕ). n < 4096) e (top-below _)
 
 -- a flag that is set stays set
 pub set-kept : (seen : List Bool) (i j : ℕ) → getD seen j false ≡ true → getD (set seen i true) j false ≡ true

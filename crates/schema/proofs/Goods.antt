@@ -15,9 +15,10 @@ use Rattle.schema.specs.declared.Found.the-variants.{Missing}
 use Rattle.schema.specs.declared.Checked.the-variants.{Good}
 use Rattle.schema.specs.Table.{Table, rowAt}
 use Rattle.schema.specs.File.{cell, trailerAt, fieldsAt, methodsAt, shaped, tableOf}
-use Rattle.schema.specs.Check.{noRow, keyKind, plainRow, arrayRow, mapRow, structRow, goodRow, field, goodField, methodRow, letter, formed, named, findAmong, isMissing, goodMethod, small, badRow, badField, badMethod, checkedTable, IsGood}
-use Rattle.schema.specs.Good.{HasShape, KeyKind, GoodRow, GoodField, Letter, GoodMethod, SameNames, GoodTable, GoodFile}
-use Rattle.schema.specs.Faults.{Few, RowOk, FieldOk, MethodOk, RowsOk, FieldsOk}
+use Rattle.schema.specs.Check.{noRow, keyKind, plainRow, arrayRow, mapRow, structRow, goodRow, fieldRow, goodField, methodRow, letterFits}
+use Rattle.schema.specs.Check.{formed, named, findAmong, isMissing, goodMethod, small, badRow, badField, badMethod, checkedTable, IsGood}
+use Rattle.schema.specs.Good.{HasShape, KeyKind, GoodRow, GoodField, Letter, GoodMethod, SameNames, GoodSchema, GoodFile}
+use Rattle.schema.specs.Faults.{FewRows, RowOk, FieldOk, MethodOk, RowsOk, FieldsOk}
 use Rattle.schema.proofs.Bools.{cases, clash, and-left, and-right, and-i, or-left, or-right, or-cases}
 use Rattle.schema.proofs.Files.{tests-of}
 use Rattle.schema.proofs.Checks.{faultless, no-faults, in-shape, good-shaped, good-checked}
@@ -207,7 +208,7 @@ module _ (T : Table) where
 
   -- ---- a method
 
-  letter-of : (n t : ℕ) → letter T (n % 2) t ≡ true → Letter T (n % 2) t
+  letter-of : (n t : ℕ) → letterFits T (n % 2) t ≡ true → Letter T (n % 2) t
   letter-of n t = go (eqb (n % 2) 1) refl
     where
       go : (b : Bool) → eqb (n % 2) 1 ≡ b → cond b (eqb (rowAt T t .kind) 16) (eqb t 4294967295) ≡ true → Letter T (n % 2) t
@@ -218,7 +219,7 @@ module _ (T : Table) where
           let other = eqb-false (n % 2) 1 y in
           record { yes = λ z. absurd (other z); no = λ _. eqb-true t 4294967295 e }
 
-  of-letter : (n t : ℕ) → Letter T (n % 2) t → letter T (n % 2) t ≡ true
+  of-letter : (n t : ℕ) → Letter T (n % 2) t → letterFits T (n % 2) t ≡ true
   of-letter n t l = go (eqb (n % 2) 1) refl
     where
       go : (b : Bool) → eqb (n % 2) 1 ≡ b → cond b (eqb (rowAt T t .kind) 16) (eqb t 4294967295) ≡ true
@@ -231,14 +232,14 @@ module _ (T : Table) where
   method-of : (m : Method) → formed T m ≡ true → GoodMethod T m
   method-of m e =
       let e1 = and-right (leb (m .form) 15) _ e in
-      let e2 = and-right (letter T (m .form / 8 % 2) (m .input)) _ e1 in
-      let e3 = and-right (letter T (m .form / 4 % 2) (m .output)) _ e2 in
+      let e2 = and-right (letterFits T (m .form / 8 % 2) (m .input)) _ e1 in
+      let e3 = and-right (letterFits T (m .form / 4 % 2) (m .output)) _ e2 in
       record {
         form = leb-true (m .form) 15 (and-left _ _ e);
         input = letter-of (m .form / 8) (m .input) (and-left _ _ e1);
         output = letter-of (m .form / 4) (m .output) (and-left _ _ e2);
         inputStream = letter-of (m .form / 2) (m .«input_stream») (and-left _ _ e3);
-        outputStream = letter-of (m .form) (m .«output_stream») (and-right (letter T (m .form / 2 % 2) (m .«input_stream»)) _ e3);
+        outputStream = letter-of (m .form) (m .«output_stream») (and-right (letterFits T (m .form / 2 % 2) (m .«input_stream»)) _ e3);
       }
 
   of-method : (m : Method) → GoodMethod T m → formed T m ≡ true
@@ -270,7 +271,7 @@ module _ (T : Table) where
 
   pub field-iff : (i : ℕ) → (goodField T i ≡ true) ↔ FieldOk T i
   unfolding goodField
-  field-iff i = (field-of (field T i), of-field (field T i))
+  field-iff i = (field-of (fieldRow T i), of-field (fieldRow T i))
 
   pub method-iff : (i : ℕ) → (goodMethod T i ≡ true) ↔ MethodOk T i
   unfolding goodMethod fresh
@@ -279,7 +280,7 @@ module _ (T : Table) where
     λ (g, f). and-i _ _ (of-method (methodRow T i) g) (of-fresh i f),
   )
 
-  pub few-iff : (small T ≡ true) ↔ Few T
+  pub few-iff : (small T ≡ true) ↔ FewRows T
   unfolding small
   few-iff = (
     λ e. let a : length (T .types) ≤ 256 = search tests in let b : length (T .fields) ≤ 2048 = search tests in let c : length (T .methods) ≤ 256 = search tests in (a, b, c),
@@ -302,7 +303,7 @@ module _ (T : Table) where
 
   -- ---- the whole table
 
-  pub table-of : checkedTable T ≡ Good → GoodTable T
+  pub table-of : checkedTable T ≡ Good → GoodSchema T
   table-of e =
       let f = faultless T e in
       let (types, fields, methods) = few-iff .0 (f .few) in
@@ -317,7 +318,7 @@ module _ (T : Table) where
         distinct = λ i j h k. each j k .1 i h;
       }
 
-  pub of-table : GoodTable T → checkedTable T ≡ Good
+  pub of-table : GoodSchema T → checkedTable T ≡ Good
   of-table g =
       sym (no-faults T (few-iff .1 (g .fewTypes, g .fewFields, g .fewMethods)) (rows-iff .1 (g .rows)) (fields-iff .1 (g .fields))
       (methods-iff .1 (λ i h. (g .methods i h, λ j k. g .distinct j i k h))))
@@ -329,5 +330,5 @@ good-iff s = (
   λ g. sym (in-shape s (of-shape s (g .shape))) ∙ of-table (tableOf s) (g .table),
 )
 
-pub good-table : (s : List ℕ) → IsGood s → GoodTable (tableOf s)
+pub good-table : (s : List ℕ) → IsGood s → GoodSchema (tableOf s)
 good-table s g = table-of (tableOf s) (good-checked s g)

@@ -2,7 +2,7 @@ pub mod Bools
 pub mod Files
 pub mod Lowest
 pub mod Checks
-pub mod Listed
+pub mod Numbered
 pub mod Examples
 pub mod Goods
 pub mod Faults
@@ -12,5 +12,6 @@ pub mod Numbers
 pub mod Shapes
 pub mod Methods
 pub mod Flags
+pub mod Products
 pub mod Extensions
 pub mod Extending

@@ -11,7 +11,7 @@ use Rattle.schema.specs.declared.Found.{Found}
 use Rattle.schema.specs.declared.Found.the-variants.{At, Missing}
 use Rattle.schema.specs.Table.{Table, rowAt}
 use Rattle.schema.specs.Check.{methodRow, named, findAmong, findMethod}
-use Rattle.schema.specs.Good.{Letter, SameNames, GoodTable}
+use Rattle.schema.specs.Good.{Letter, SameNames, GoodSchema}
 use Rattle.schema.proofs.Bools.{cases, clash}
 use Rattle.schema.proofs.Lowest.{none-below, found-passes}
 use Rattle.schema.proofs.Goods.{names-of, of-names, kind-within}
@@ -27,7 +27,7 @@ module _ (T : Table) (p q r : ℕ) where
   unfolding findAmong
   missing-named e i h = none-below _ (length (T .methods)) e i h
 
-module _ (T : Table) (g : GoodTable T) where
+module _ (T : Table) (g : GoodSchema T) where
   -- two entries of a good table that share their identifiers are one
   pub names-differ : (i j : ℕ) → i < length (T .methods) → j < length (T .methods) → SameNames (methodRow T i) (methodRow T j) → i ≡ j
   names-differ i j h k s =

@@ -17,7 +17,7 @@ use Rattle.schema.specs.Extend.{Extends, extended, extension}
 use Rattle.schema.specs.Numbers.{checkNumber, checkPlace, extendNumber, extendPlace, extendAnswer}
 use Rattle.schema.proofs.Goods.{good-iff}
 use Rattle.schema.proofs.Faults.{refused-iff}
-use Rattle.schema.proofs.Listed.{listed, listed-bounds}
+use Rattle.schema.proofs.Numbered.{listed, listed-bounds}
 use Rattle.schema.proofs.Extensions.{old-refused, new-refused, answer-yes, answer-no}
 use Rattle.schema.proofs.Extending.{yes-iff, no-iff}
 

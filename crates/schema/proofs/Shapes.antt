@@ -8,16 +8,16 @@ use lib.Seq.{getD-take, getD-drop}
 use lib.Dec.{ltb}
 use borrow.Author.Tests.{ltb-true, ltb-false}
 use Rattle.schema.specs.declared.TypeRow.{TypeRow}
-use Rattle.schema.specs.Table.{Table, Shape, unknown, scalar, text, array, map, struct, rowAt, fieldsOf, shapes, shape}
-use Rattle.schema.specs.Check.{noRow, noField, field}
-use Rattle.schema.specs.Good.{KeyKind, GoodTable}
+use Rattle.schema.specs.Table.{Table, Shape, unknown, scalar, text, array, map, struct, rowAt, fieldsOf, kindShapes, shape}
+use Rattle.schema.specs.Check.{noRow, noField, fieldRow}
+use Rattle.schema.specs.Good.{KeyKind, GoodSchema}
 use Rattle.schema.proofs.Bools.{cases}
 use Rattle.schema.proofs.Goods.{Kinds, scalars, texts, arrays, maps, structs, kinds}
 
 -- ---- by the kind of the row
 
 module _ (T : Table) (r : TypeRow) where
-  scalar-at : (k : ℕ) → 1 ≤ k → k ≤ 11 → getD (shapes T r) k unknown ≡ scalar k
+  scalar-at : (k : ℕ) → 1 ≤ k → k ≤ 11 → getD (kindShapes T r) k unknown ≡ scalar k
   scalar-at zero p q = absurd (omega arith)
   scalar-at (suc zero) p q = refl
   scalar-at (suc (suc zero)) p q = refl
@@ -37,7 +37,7 @@ module _ (T : Table) (t : ℕ) where
   unfolding shape
   shape-unknown h =
       let d : rowAt T t ≡ noRow = List·getD-eq-default (T .types) noRow h in
-      ap (λ (r : TypeRow). getD (shapes T r) (r .kind) unknown) d
+      ap (λ (r : TypeRow). getD (kindShapes T r) (r .kind) unknown) d
 
   pub shape-scalar : 1 ≤ rowAt T t .kind → rowAt T t .kind ≤ 11 → shape T t ≡ scalar (rowAt T t .kind)
   unfolding shape
@@ -78,7 +78,7 @@ module _ (T : Table) (r : TypeRow) (room : r .a + r .b ≤ length (T .fields)) w
   pub fields-length : length (fieldsOf T r) ≡ r .b
   fields-length = simp (length-take, length-drop) (omega arith)
 
-  pub fields-at : (i : ℕ) → i < r .b → getD (fieldsOf T r) i noField ≡ field T (r .a + i)
+  pub fields-at : (i : ℕ) → i < r .b → getD (fieldsOf T r) i noField ≡ fieldRow T (r .a + i)
   fields-at i h = rw (getD-take, getD-drop)
 
 -- ---- what a shape of a good table names is in the table
@@ -101,7 +101,7 @@ Within n key (array e) = e < n
 Within n key (map k v) = (k < n) × (v < n) × KeyShape (key k)
 Within n key (struct fs) = (1 ≤ length fs) × (length fs ≤ 64) × ((i : ℕ) → i < length fs → (getD fs i noField .ty < n) × (getD fs i noField .optional ≤ 1))
 
-module _ (T : Table) (g : GoodTable T) where
+module _ (T : Table) (g : GoodSchema T) where
   key-shape : (t : ℕ) → KeyKind (rowAt T t .kind) → KeyShape (shape T t)
   key-shape t =
       ⊎-elim

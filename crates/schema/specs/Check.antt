@@ -57,11 +57,11 @@ goodRow T t =
 abbrev pub noField : Field
 noField = record { ty = 0; optional = 0 }
 
-abbrev pub field : Table → ℕ → Field
-field T i = getD (T .fields) i noField
+abbrev pub fieldRow : Table → ℕ → Field
+fieldRow T i = getD (T .fields) i noField
 
 unfoldable pub goodField : Table → ℕ → Bool
-goodField T i = ltb (field T i .ty) (length (T .types)) && leb (field T i .optional) 1
+goodField T i = ltb (fieldRow T i .ty) (length (T .types)) && leb (fieldRow T i .optional) 1
 
 -- ---- a method
 
@@ -85,16 +85,16 @@ abbrev pub isStruct : Table → ℕ → Bool
 isStruct T t = eqb (rowAt T t .kind) 16
 
 -- A letter of the form and its type: a Y (1) has a struct type, an N (0) has 4294967295.
-abbrev pub letter : Table → ℕ → ℕ → Bool
-letter T bit t = cond (eqb bit 1) (isStruct T t) (eqb t 4294967295)
+abbrev pub letterFits : Table → ℕ → ℕ → Bool
+letterFits T bit t = cond (eqb bit 1) (isStruct T t) (eqb t 4294967295)
 
 -- The letters count 8, 4, 2, 1.
 abbrev pub formed : Table → Method → Bool
 formed T m =
     leb (m .form) 15 &&
-    (letter T (m .form / 8 % 2) (m .input) &&
-    (letter T (m .form / 4 % 2) (m .output) &&
-    (letter T (m .form / 2 % 2) (m .«input_stream») && letter T (m .form % 2) (m .«output_stream»))))
+    (letterFits T (m .form / 8 % 2) (m .input) &&
+    (letterFits T (m .form / 4 % 2) (m .output) &&
+    (letterFits T (m .form / 2 % 2) (m .«input_stream») && letterFits T (m .form % 2) (m .«output_stream»))))
 
 -- The method has these three identifiers.
 abbrev pub named : («package» service method : ℕ) → Method → Bool

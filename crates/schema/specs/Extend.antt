@@ -16,7 +16,7 @@ use Rattle.schema.specs.declared.Extended.{Extended}
 use Rattle.schema.specs.declared.Extended.the-variants.{Yes, No, Refused}
 use Rattle.schema.specs.Table.{Table, Shape, struct, rowAt, fieldsOf, bitmapBytes}
 use Rattle.schema.specs.File.{tableOf}
-use Rattle.schema.specs.Check.{noField, field, methodRow, lowest, isMissing, findMethod, checked}
+use Rattle.schema.specs.Check.{noField, fieldRow, methodRow, lowest, isMissing, findMethod, checked}
 
 -- ---- the relation
 
@@ -66,7 +66,7 @@ sameField f g = eqb (f .ty) (g .ty) && eqb (f .optional) (g .optional)
 -- Field i of a struct that had row r and has row q: an old one is the same, another is optional.
 unfoldable pub fieldKept : Table → Table → TypeRow → TypeRow → ℕ → Bool
 fieldKept old new r q i =
-    cond (ltb i (r .b)) (sameField (field new (q .a + i)) (field old (r .a + i))) (eqb (field new (q .a + i) .optional) 1)
+    cond (ltb i (r .b)) (sameField (fieldRow new (q .a + i)) (fieldRow old (r .a + i))) (eqb (fieldRow new (q .a + i) .optional) 1)
 
 abbrev pub structKept : Table → Table → TypeRow → TypeRow → Bool
 structKept old new r q = leb (r .b) (q .b) && every (fieldKept old new r q) (q .b)

@@ -5,7 +5,7 @@ use Prim.Native.Nat.{ℕ, _+_, _*_, _≤_, _<_}
 use lib.ListN.{length}
 use Rattle.schema.specs.Table.{Table, rowAt}
 use Rattle.schema.specs.File.{cell, trailerAt, tableOf}
-use Rattle.schema.specs.Check.{field as fieldRow, methodRow}
+use Rattle.schema.specs.Check.{fieldRow, methodRow}
 use Rattle.schema.specs.Good.{HasShape, GoodRow, GoodField, GoodMethod, SameNames}
 
 -- The bytes from one place to another are no whole number of entries.
@@ -25,10 +25,10 @@ pub data Misshapen (s : List ℕ) : Type 0 where
   methods : 16 ≤ length s → Uneven 32 (cell s (trailerAt s + 4)) (trailerAt s) → Misshapen s
 
 -- Which count is above its limit.
-pub data TooMany (T : Table) : Type 0 where
-  types : 256 < length (T .types) → TooMany T
-  fields : 2048 < length (T .fields) → TooMany T
-  methods : 256 < length (T .methods) → TooMany T
+pub data TooManyRows (T : Table) : Type 0 where
+  types : 256 < length (T .types) → TooManyRows T
+  fields : 2048 < length (T .fields) → TooManyRows T
+  methods : 256 < length (T .methods) → TooManyRows T
 
 -- Entry q is the first of n that is not good.
 pub record First (Good : ℕ → Type 0) (n q : ℕ) : Type 0 where
@@ -38,8 +38,8 @@ pub record First (Good : ℕ → Type 0) (n q : ℕ) : Type 0 where
 
 module _ (T : Table) where
   -- No count is above its limit.
-  abbrev pub Few : Type 0
-  Few = (length (T .types) ≤ 256) × (length (T .fields) ≤ 2048) × (length (T .methods) ≤ 256)
+  abbrev pub FewRows : Type 0
+  FewRows = (length (T .types) ≤ 256) × (length (T .fields) ≤ 2048) × (length (T .methods) ≤ 256)
 
   abbrev pub RowOk : ℕ → Type 0
   RowOk t = GoodRow T (rowAt T t)
@@ -61,8 +61,8 @@ module _ (T : Table) where
 -- at fault, with the sections before it good.
 pub data TableFault (s : List ℕ) : (number row : ℕ) → Type 0 where
   misshapen : Misshapen s → TableFault s 40 0
-  too-many : HasShape s → TooMany (tableOf s) → TableFault s 41 0
-  type-row : {q : ℕ} → HasShape s → Few (tableOf s) → First (RowOk (tableOf s)) (length (tableOf s .types)) q → TableFault s 42 q
-  field : {q : ℕ} → HasShape s → Few (tableOf s) → RowsOk (tableOf s) → First (FieldOk (tableOf s)) (length (tableOf s .fields)) q → TableFault s 43 q
-  method : {q : ℕ} → HasShape s → Few (tableOf s) → RowsOk (tableOf s) → FieldsOk (tableOf s) → First (MethodOk (tableOf s)) (length (tableOf s .methods)) q
+  too-many : HasShape s → TooManyRows (tableOf s) → TableFault s 41 0
+  type-row : {q : ℕ} → HasShape s → FewRows (tableOf s) → First (RowOk (tableOf s)) (length (tableOf s .types)) q → TableFault s 42 q
+  field : {q : ℕ} → HasShape s → FewRows (tableOf s) → RowsOk (tableOf s) → First (FieldOk (tableOf s)) (length (tableOf s .fields)) q → TableFault s 43 q
+  method : {q : ℕ} → HasShape s → FewRows (tableOf s) → RowsOk (tableOf s) → FieldsOk (tableOf s) → First (MethodOk (tableOf s)) (length (tableOf s .methods)) q
       → TableFault s 44 q

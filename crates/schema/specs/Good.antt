@@ -9,7 +9,7 @@ use Rattle.schema.specs.declared.Field.{Field}
 use Rattle.schema.specs.declared.Method.{Method}
 use Rattle.schema.specs.Table.{Table, rowAt}
 use Rattle.schema.specs.File.{cell, trailerAt, tableOf}
-use Rattle.schema.specs.Check.{field, methodRow}
+use Rattle.schema.specs.Check.{fieldRow, methodRow}
 
 -- The sections touch: so many types from 0 on, fields and methods; then the trailer, which has the places of fields, methods and itself, and layout number 1.
 pub record HasShape (s : List ℕ) : Type 0 where
@@ -58,15 +58,15 @@ pub record SameNames (m n : Method) : Type 0 where
   pub service : m .service ≡ n .service
   pub method : m .method ≡ n .method
 
-pub record GoodTable (T : Table) : Type 0 where
+pub record GoodSchema (T : Table) : Type 0 where
   pub fewTypes : length (T .types) ≤ 256
   pub fewFields : length (T .fields) ≤ 2048
   pub fewMethods : length (T .methods) ≤ 256
   pub rows : (t : ℕ) → t < length (T .types) → GoodRow T (rowAt T t)
-  pub fields : (i : ℕ) → i < length (T .fields) → GoodField T (field T i)
+  pub fields : (i : ℕ) → i < length (T .fields) → GoodField T (fieldRow T i)
   pub methods : (i : ℕ) → i < length (T .methods) → GoodMethod T (methodRow T i)
   pub distinct : (i j : ℕ) → i < j → j < length (T .methods) → SameNames (methodRow T i) (methodRow T j) → ⊥
 
 pub record GoodFile (s : List ℕ) : Type 0 where
   pub shape : HasShape s
-  pub table : GoodTable (tableOf s)
+  pub table : GoodSchema (tableOf s)

@@ -3,7 +3,7 @@ pub mod Table
 pub mod File
 pub mod Check
 pub mod Flags
-pub mod Listed
+pub mod Numbered
 pub mod Good
 pub mod Faults
 pub mod Encoded

@@ -29,8 +29,8 @@ abbrev pub fieldsOf : Table → TypeRow → List Field
 fieldsOf T r = take (r .b) (drop (r .a) (T .fields))
 
 -- The shape of each kind, from 0 on.
-abbrev pub shapes : Table → TypeRow → List Shape
-shapes T r =
+abbrev pub kindShapes : Table → TypeRow → List Shape
+kindShapes T r =
     unknown
     ∷ scalar 1
     ∷ scalar 2
@@ -51,7 +51,7 @@ shapes T r =
     ∷ []
 
 unfoldable pub shape : Table → ℕ → Shape
-shape T t = getD (shapes T (rowAt T t)) (rowAt T t .kind) unknown
+shape T t = getD (kindShapes T (rowAt T t)) (rowAt T t .kind) unknown
 
 -- The width in bytes of each scalar kind, from 0 on.
 abbrev pub widths : List ℕ

@@ -3,6 +3,7 @@ use crate::Field;
 use crate::Found;
 use crate::Method;
 use crate::TypeRow;
+use crate::file::TYPE;
 use crate::file::layout_of;
 use crate::file::type_at;
 use crate::rows::field_row;
@@ -14,7 +15,7 @@ ghost use Prim.Native.Nat.{_<_};
 ghost use lib.ListN.{length};
 ghost use Rattle.schema.specs.Table.{rowAt};
 ghost use Rattle.schema.specs.File.{tableOf};
-ghost use Rattle.schema.specs.Check.{IsGood, field, methodRow, findMethod};
+ghost use Rattle.schema.specs.Check.{IsGood, fieldRow, methodRow, findMethod};
 
 pub fn type_row(s: &[u8], t: usize) -> TypeRow
     requires { ⌜ IsGood (now s) ⌝ }
@@ -28,12 +29,12 @@ pub fn known_row(s: &[u8], t: usize) -> TypeRow
     requires { ⌜ IsGood (now s) × (0 < rowAt (tableOf (now s)) t .kind) ⌝ }
     ensures { λ r. ⌜ r ≡ rowAt (tableOf (now (s .entry))) t ⌝ }
 {
-    type_at(s, 12 * t)
+    type_at(s, TYPE * t)
 }
 
 pub fn field(s: &[u8], i: usize) -> Field
     requires { ⌜ IsGood (now s) ⌝ }
-    ensures { λ r. ⌜ r ≡ field (tableOf (now (s .entry))) i ⌝ }
+    ensures { λ r. ⌜ r ≡ fieldRow (tableOf (now (s .entry))) i ⌝ }
 {
     field_row(s, layout_of(s), i)
 }

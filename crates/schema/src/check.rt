@@ -6,6 +6,7 @@ use crate::Method;
 use crate::TypeRow;
 use crate::file::is_shaped;
 use crate::file::layout_of;
+use crate::product::wrapping_mul;
 use crate::rows::field_row;
 use crate::rows::find_among;
 use crate::rows::method_row;
@@ -14,10 +15,11 @@ use constants::format;
 use constants::kind;
 use constants::limit;
 use constants::refusal;
+use std::num::wrapping_add_u64;
 ghost use mathlib.Core.Path.{_≡_};
 ghost use mathlib.Core.Bool.{not, _||_};
 ghost use Rattle.schema.specs.File.{Laid, tableOf};
-ghost use Rattle.schema.specs.Check.{plainRow, arrayRow, mapRow, structRow, goodRow, goodField, letter, formed, findAmong, isMissing, goodMethod, goodEntry, badEntry, badMethod, checkedTable, checked};
+ghost use Rattle.schema.specs.Check.{plainRow, arrayRow, mapRow, structRow, goodRow, goodField, letterFits, formed, findAmong, isMissing, goodMethod, goodEntry, badEntry, badMethod, checkedTable, checked};
 ghost use Rattle.schema.specs.Flags.{flagOf};
 
 fn is_plain(r: TypeRow) -> bool
@@ -67,10 +69,10 @@ fn field_is_good(s: &[u8], l: Layout, i: usize) -> bool
     ((f.ty as usize) < l.types) & (f.optional <= 1)
 }
 
-// A letter of a form and its type: Y (1) has a struct type, N (0) has none.
+// Whether a letter of a form fits its type: Y (1) has a struct type, N (0) has none.
 fn letter_fits(s: &[u8], l: Layout, bit: u32, t: u32) -> bool
     requires { ⌜ Laid (now s) l ⌝ }
-    ensures { λ x. ⌜ x ≡ letter (tableOf (now (s .entry))) bit t ⌝ }
+    ensures { λ x. ⌜ x ≡ letterFits (tableOf (now (s .entry))) bit t ⌝ }
 {
     if bit == 1 {
         let r = row(s, l, t as usize);
@@ -108,7 +110,7 @@ fn method_is_good(s: &[u8], l: Layout, i: usize) -> bool
     is_formed(s, l, m) & is_missing(find_among(s, l, i, m.package, m.service, m.method))
 }
 
-// Entry i of a section (0 the types, 1 the fields, 2 the methods) is good.
+// Whether entry i of a section (0 the types, 1 the fields, 2 the methods) is good.
 fn is_good(s: &[u8], l: Layout, section: u32, i: usize) -> bool
     requires { ⌜ Laid (now s) l ⌝ }
     ensures { λ x. ⌜ x ≡ goodEntry (tableOf (now (s .entry))) section i ⌝ }
@@ -137,17 +139,19 @@ fn bad_entry(s: &[u8], l: Layout, section: u32, n: usize) -> Found
     Found::Missing
 }
 
-// The flag of three identifiers, one of 4,096: those of ordinary tables have different ones.
+// The flag of three identifiers, one of 4,096: the top bits of a sum of products. Those of ordinary tables have different ones.
 fn flag_of(package: u32, service: u32, method: u32) -> usize
     ensures { λ r. ⌜ r ≡ flagOf «package» service method ⌝ }
 {
-    let p = (package as u64) * 4233791273 % 4294967296;
-    let q = (service as u64) * 3546581957 % 4294967296;
-    let r = (method as u64) * 2745211177 % 4294967296;
-    ((p + q + r) / 1048576 % 4096) as usize
+    let names = (package as u64) + (service as u64) * 4294967296;
+    let mixed = wrapping_add_u64(
+        wrapping_mul(names, 0x369D_EA0F_31A5_3F85),
+        wrapping_mul(method as u64, 0xD6E8_FEB8_6659_FD93),
+    );
+    (mixed >> 52) as usize
 }
 
-// None of the first i methods has the identifiers of m. They are looked through only if one of them may have.
+// Whether none of the first i methods has the identifiers of m. They are looked through only if one of them may have.
 fn is_new(s: &[u8], l: Layout, i: usize, m: Method, possible: bool) -> bool
     requires { ⌜ Laid (now s) l ⌝ }
     ensures { λ x. ⌜ x ≡ (not possible || isMissing (findAmong (tableOf (now (s .entry))) i (m .«package») (m .service) (m .method))) ⌝ }

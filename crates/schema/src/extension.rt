@@ -26,7 +26,7 @@ fn same_field(f: Field, g: Field) -> bool
     (f.ty == g.ty) & (f.optional == g.optional)
 }
 
-// Field i of a struct that had row r and has row q.
+// Whether field i of a struct that had row r and has row q is kept.
 fn keeps_field(
     old: &[u8],
     l: Layout,

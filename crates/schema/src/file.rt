@@ -10,6 +10,15 @@ ghost use Prim.Native.Nat.{_+_, _≤_};
 ghost use lib.ListN.{length};
 ghost use Rattle.schema.specs.File.{cell, typeAt, fieldAt, methodAt, shaped, layoutOf};
 
+// Bytes of a type row, of a field, of a method and of the trailer.
+pub const TYPE: usize = 12;
+
+pub const FIELD: usize = 8;
+
+pub const METHOD: usize = 32;
+
+const TRAILER: usize = 16;
+
 // The 32-bit number at a place.
 pub fn cell(s: &[u8], at: usize) -> u32
     requires { ⌜ at + 4 ≤ length (now s) ⌝ }
@@ -55,14 +64,14 @@ pub fn method_at(s: &[u8], at: usize) -> Method
     }
 }
 
-// The file has the shape of a schema file.
+// Whether the file has the shape of a schema file.
 pub fn is_shaped(s: &[u8]) -> bool
     ensures { λ r. ⌜ r ≡ shaped (now (s .entry)) ⌝ }
 {
-    if s.len() < 16 {
+    if s.len() < TRAILER {
         return false;
     }
-    let trailer = s.len() - 16;
+    let trailer = s.len() - TRAILER;
     let fields = cell(s, trailer) as usize;
     let methods = cell(s, trailer + 4) as usize;
     let own = cell(s, trailer + 8) as usize;
@@ -75,8 +84,8 @@ pub fn is_shaped(s: &[u8]) -> bool
     }
     (number == format::LAYOUT)
         & ((own == trailer)
-            & ((fields % 12 == 0)
-                & (((methods - fields) % 8 == 0) & ((trailer - methods) % 32 == 0))))
+            & ((fields % TYPE == 0)
+                & (((methods - fields) % FIELD == 0) & ((trailer - methods) % METHOD == 0))))
 }
 
 // The layout of a file that has the shape.
@@ -84,13 +93,13 @@ pub fn layout_of(s: &[u8]) -> Layout
     requires { ⌜ shaped (now s) ≡ true ⌝ }
     ensures { λ r. ⌜ r ≡ layoutOf (now (s .entry)) ⌝ }
 {
-    let trailer = s.len() - 16;
+    let trailer = s.len() - TRAILER;
     let fields_at = cell(s, trailer) as usize;
     let methods_at = cell(s, trailer + 4) as usize;
     Layout {
-        types: fields_at / 12,
-        fields: (methods_at - fields_at) / 8,
-        methods: (trailer - methods_at) / 32,
+        types: fields_at / TYPE,
+        fields: (methods_at - fields_at) / FIELD,
+        methods: (trailer - methods_at) / METHOD,
         fields_at: fields_at,
         methods_at: methods_at,
     }

@@ -4,6 +4,7 @@ pub mod check;
 pub mod extension;
 pub mod file;
 pub mod kind;
+pub mod product;
 pub mod rows;
 
 // A type row: the kind, and the two numbers that its kind uses.

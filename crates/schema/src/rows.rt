@@ -4,20 +4,23 @@ use crate::Found;
 use crate::Layout;
 use crate::Method;
 use crate::TypeRow;
+use crate::file::FIELD;
+use crate::file::METHOD;
+use crate::file::TYPE;
 use crate::file::field_at;
 use crate::file::method_at;
 use crate::file::type_at;
 ghost use mathlib.Core.Path.{_≡_};
 ghost use Rattle.schema.specs.Table.{rowAt};
 ghost use Rattle.schema.specs.File.{Laid, tableOf};
-ghost use Rattle.schema.specs.Check.{field, methodRow, named, findAmong};
+ghost use Rattle.schema.specs.Check.{fieldRow, methodRow, named, findAmong};
 
 pub fn row(s: &[u8], l: Layout, t: usize) -> TypeRow
     requires { ⌜ Laid (now s) l ⌝ }
     ensures { λ r. ⌜ r ≡ rowAt (tableOf (now (s .entry))) t ⌝ }
 {
     if t < l.types {
-        type_at(s, 12 * t)
+        type_at(s, TYPE * t)
     } else {
         TypeRow {
             kind: 0,
@@ -29,10 +32,10 @@ pub fn row(s: &[u8], l: Layout, t: usize) -> TypeRow
 
 pub fn field_row(s: &[u8], l: Layout, i: usize) -> Field
     requires { ⌜ Laid (now s) l ⌝ }
-    ensures { λ r. ⌜ r ≡ field (tableOf (now (s .entry))) i ⌝ }
+    ensures { λ r. ⌜ r ≡ fieldRow (tableOf (now (s .entry))) i ⌝ }
 {
     if i < l.fields {
-        field_at(s, l.fields_at + 8 * i)
+        field_at(s, l.fields_at + FIELD * i)
     } else {
         Field { ty: 0, optional: 0 }
     }
@@ -43,7 +46,7 @@ pub fn method_row(s: &[u8], l: Layout, i: usize) -> Method
     ensures { λ r. ⌜ r ≡ methodRow (tableOf (now (s .entry))) i ⌝ }
 {
     if i < l.methods {
-        method_at(s, l.methods_at + 32 * i)
+        method_at(s, l.methods_at + METHOD * i)
     } else {
         Method {
             package: 0,
@@ -58,7 +61,7 @@ pub fn method_row(s: &[u8], l: Layout, i: usize) -> Method
     }
 }
 
-// The method has these three identifiers.
+// Whether the method has these three identifiers.
 pub fn is_named(m: Method, package: u32, service: u32, method: u32) -> bool
     ensures { λ r. ⌜ r ≡ named «package» service method m ⌝ }
 {

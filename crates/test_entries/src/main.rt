@@ -1,8 +1,8 @@
 // Runs the case file on standard input through the public entries, and prints a line of numbers for each case.
 mod blank;
+mod events;
 mod frames;
 mod input;
-mod lines;
 mod output;
 mod records;
 mod sums;
@@ -24,10 +24,10 @@ fn run_case() -> bool {
         5 => values::write(),
         6 => frames::read(),
         7 => frames::write(),
-        8 => lines::run(),
-        9 => lines::receive(),
-        10 => lines::release(),
-        11 => lines::history(),
+        8 => events::run(),
+        9 => events::receive(),
+        10 => events::release(),
+        11 => events::history(),
         15 => values::write_frame(),
         16 => values::read_beside(),
         17 => records::salvage(),

@@ -8,7 +8,7 @@ use native.Mathlib.Omega.{arith}
 use native.Mathlib.Decide.{decLe}
 use borrow.Author.Tests.{lt-ltb, le-ltb}
 use lib.ListN.{length, getD, length-append}
-use Rattle.text.specs.Decimal.{digits, decimal, valueOf, Digits, IsDecimal}
+use Rattle.text.specs.Decimal.{digits, decimal, decimalValue, Digits, IsDecimal}
 use Rattle.text.specs.Text.{Added}
 use Rattle.text.proofs.Texts.{added-then}
 
@@ -61,8 +61,8 @@ twenty n h = decimal-length 19 n (omega arith)
 
 -- ---- the text is n in decimal
 
-value-append : (x : ℕ) (ds : List ℕ) (d : ℕ) → valueOf x (ds ++ (d ∷ [])) ≡ 10 * valueOf x ds + (d - 48)
-unfolding valueOf
+value-append : (x : ℕ) (ds : List ℕ) (d : ℕ) → decimalValue x (ds ++ (d ∷ [])) ≡ 10 * decimalValue x ds + (d - 48)
+unfolding decimalValue
 value-append x [] d = refl
 value-append x (e ∷ ds) d = value-append (10 * x + (e - 48)) ds d
 
@@ -71,11 +71,11 @@ digits-append [] d w low high = (low, high, tt)
 digits-append (e ∷ ds) d w low high = (w .0, w .1, digits-append ds d (w .2) low high)
 
 is-small : (n : ℕ) → n < 10 → IsDecimal n ((48 + n) ∷ [])
-unfolding valueOf
+unfolding decimalValue
 is-small n h = record { value = omega arith; some = omega arith; all = (omega arith, omega arith, tt); first = λ _. refl }
 
 first-more : (n : ℕ) → 10 ≤ n → (ds : List ℕ) (d : ℕ) → IsDecimal (n / 10) ds → getD (ds ++ (d ∷ [])) 0 0 ≡ 48 → length (ds ++ (d ∷ [])) ≡ 1
-unfolding valueOf
+unfolding decimalValue
 first-more n h [] d w z = absurd (omega (arith, w .some))
 first-more n h (x ∷ []) d w z = absurd (omega (arith, w .value, z))
 first-more n h (x ∷ y ∷ ds) d w z = absurd (omega (arith, w .first z))

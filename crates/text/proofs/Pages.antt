@@ -9,7 +9,7 @@ use lib.Dec.{eqb}
 use lib.ListN.{length, getD, drop, drop-of-length-le}
 use lib.Seq.{drop-cons}
 use Rattle.text.specs.Text.{Added}
-use Rattle.text.specs.Page.{lineOf, pageOf, oneLine, oneLines, entryOf}
+use Rattle.text.specs.Page.{lineOf, pageOf, oneLine, oneLines, pageEntry}
 use Rattle.text.proofs.Texts.{added-none, added-then}
 
 -- ---- no byte is left
@@ -82,8 +82,8 @@ later-line (b ∷ l) s n e =
     rw k (later-line l s n (and-right (not (eqb b 10)) (oneLine l) e))
 
 -- Line n of a page is entry n of its lines.
-pub line-of-page : (ls : List (List ℕ)) (n : ℕ) → oneLines ls ≡ true → lineOf n (pageOf ls) ≡ entryOf n ls
-unfolding oneLines pageOf entryOf
+pub line-of-page : (ls : List (List ℕ)) (n : ℕ) → oneLines ls ≡ true → lineOf n (pageOf ls) ≡ pageEntry n ls
+unfolding oneLines pageOf pageEntry
 line-of-page [] n e = line-none n
 line-of-page (l ∷ ls) zero e = first-line l (pageOf ls) (and-left (oneLine l) (oneLines ls) e)
 line-of-page (l ∷ ls) (suc n) e = later-line l (pageOf ls) n (and-left (oneLine l) (oneLines ls) e) ∙ line-of-page ls n (and-right (oneLine l) (oneLines ls) e)

@@ -18,9 +18,9 @@ decimal n = digits (suc n) n
 -- ---- read back
 
 -- The number that digits stand for, after those that gave x.
-unfoldable pub valueOf : (x : ℕ) → List ℕ → ℕ
-valueOf x [] = x
-valueOf x (d ∷ ds) = valueOf (10 * x + (d - 48)) ds
+unfoldable pub decimalValue : (x : ℕ) → List ℕ → ℕ
+decimalValue x [] = x
+decimalValue x (d ∷ ds) = decimalValue (10 * x + (d - 48)) ds
 
 abbrev pub Digits : List ℕ → Type 0
 Digits [] = Unit {0}
@@ -28,7 +28,7 @@ Digits (d ∷ ds) = (48 ≤ d) × (d ≤ 57) × Digits ds
 
 -- The text is n in decimal: it has digits only, they give n, and a first digit 0 stands alone.
 pub record IsDecimal (n : ℕ) (text : List ℕ) : Type 0 where
-  pub value : valueOf 0 text ≡ n
+  pub value : decimalValue 0 text ≡ n
   pub some : 0 < length text
   pub all : Digits text
   pub first : getD text 0 0 ≡ 48 → length text ≡ 1

@@ -15,7 +15,7 @@ unfoldable pub pageOf : List (List ℕ) → List ℕ
 pageOf [] = []
 pageOf (l ∷ ls) = l ++ (10 ∷ pageOf ls)
 
--- No line has an LF in it.
+-- The text has no LF in it.
 unfoldable pub oneLine : List ℕ → Bool
 oneLine [] = true
 oneLine (b ∷ s) = not (eqb b 10) && oneLine s
@@ -25,7 +25,7 @@ oneLines [] = true
 oneLines (l ∷ ls) = oneLine l && oneLines ls
 
 -- The entry with a number, counted from 0; empty where the list has none.
-unfoldable pub entryOf : ℕ → List (List ℕ) → List ℕ
-entryOf n [] = []
-entryOf zero (l ∷ ls) = l
-entryOf (suc n) (l ∷ ls) = entryOf n ls
+unfoldable pub pageEntry : ℕ → List (List ℕ) → List ℕ
+pageEntry n [] = []
+pageEntry zero (l ∷ ls) = l
+pageEntry (suc n) (l ∷ ls) = pageEntry n ls

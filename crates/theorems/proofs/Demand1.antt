@@ -8,10 +8,10 @@ use mathlib.Core.Bool.{false, true}
 use Rattle.schema.specs.Check.{IsGood, checked}
 use Rattle.schema.specs.declared.Checked.the-variants.{Refused as schema-Refused}
 use Rattle.schema.specs.Faults.{TableFault}
-use Rattle.schema.specs.Listed.{TableNumber}
+use Rattle.schema.specs.Numbered.{TableNumber}
 use Rattle.schema.specs.File.{tableOf}
 use Rattle.schema.specs.Table.{Table, shape, struct}
-use Rattle.schema.specs.Good.{GoodTable as schema-GoodTable}
+use Rattle.schema.specs.Good.{GoodSchema}
 use Rattle.schema.specs.declared.Field.{Field}
 use Rattle.frame.specs.Frame.{frameOf, readNumber}
 use Rattle.frame.specs.declared.FrameRead.the-variants.{Refused as frame-Refused, More}
@@ -30,7 +30,7 @@ use Rattle.value.specs.Reasons.{Reason as value-Reason, RootFault, Settles}
 use Rattle.value.specs.Write.{write, refusal as write-refusal}
 use Rattle.value.specs.SheetReasons.{SheetReason}
 use Rattle.value.specs.Sheet.{rowsOf}
-use Rattle.value.specs.Listed.{ReadNumber, WriteNumber}
+use Rattle.value.specs.Numbered.{ReadNumber, WriteNumber}
 use Rattle.reader.specs.Entry.{readOutcome, outcome as reader-outcome, room}
 use Rattle.reader.specs.declared.Reading.the-variants.{Refused as reader-Refused}
 use Rattle.scalar.specs.Scalar.{scalarBy}
@@ -39,18 +39,18 @@ use Rattle.scalar.specs.Reasons.{Reason as scalar-Reason}
 use Rattle.writer.specs.Entry.{fileOutcome, outcome as writer-outcome}
 use Rattle.writer.specs.declared.Writing.the-variants.{Refused as writer-Refused}
 use Rattle.receiver.specs.Receive.{received}
-use Rattle.receiver.specs.Claims.{AnswerNumber, ReleaseListed, Stopping, Stops, Unready, Nothing, Front}
+use Rattle.receiver.specs.Claims.{AnswerNumber, ReleaseNumber, Stopping, Stops, Unready, Nothing, Front}
 use Rattle.receiver.specs.Release.{released}
-use Rattle.receiver.specs.Run.{State, Event as receiver-Event, stateAfter, Happens, numberOf}
+use Rattle.receiver.specs.Run.{State, Event as receiver-Event, stateAfter, Happens, eventNumber}
 use Rattle.promises.specs.Claims.{ReadReason, WriteReason, shapes}
 use Rattle.schema.proofs.Faults as schema-Faults
-use Rattle.schema.proofs.Listed as schema-Listed
+use Rattle.schema.proofs.Numbered as schema-Numbered
 use Rattle.frame.proofs.Faults as frame-Faults
 use Rattle.frame.proofs.Answers as frame-Answers
 use Rattle.calls.proofs.Used as calls-Used
 use Rattle.value.proofs.Statements as value-Statements
 use Rattle.scalar.proofs.Reasons as scalar-Reasons
-use Rattle.receiver.proofs.Listed as receiver-Listed
+use Rattle.receiver.proofs.Numbered as receiver-Numbered
 use Rattle.receiver.proofs.Answers as receiver-Answers
 use Rattle.receiver.proofs.Records as receiver-Records
 use Rattle.receiver.proofs.Runs as receiver-Runs
@@ -69,21 +69,21 @@ use Rattle.promises.proofs.ReadBack as promises-ReadBack
 -- Every answer to a frame has one of 01's numbers for it, or 16 to 19, with its place.
 pub receiver-listed : (s : List ℕ) (side : ℕ) (bytes sheet : List ℕ) (ts : List Tally) (l : List Call)
     → let a = received s side bytes sheet ts l in AnswerNumber (a .answer .number) (a .answer .place)
-receiver-listed = receiver-Listed.listed
+receiver-listed = receiver-Numbered.listed
 
 -- Every answer to a release has one of the request's numbers for it, with its place.
-pub release-listed : (s : List ℕ) (l : List Call) (id : ℕ) (ts : List Tally) → let a = released s l id ts .answer in ReleaseListed (a .number) (a .place)
-release-listed = receiver-Listed.release-listed
+pub release-listed : (s : List ℕ) (l : List Call) (id : ℕ) (ts : List Tally) → let a = released s l id ts .answer in ReleaseNumber (a .number) (a .place)
+release-listed = receiver-Numbered.release-listed
 
 -- The answer has one of the numbers that come before a frame is judged, at a place, exactly for that reason.
 pub stopped-iff : (s : List ℕ) (side : ℕ) (bytes sheet : List ℕ) (ts : List Tally) (l : List Call) (n q : ℕ) → Stopping n
     → let a = received s side bytes sheet ts l .answer in ((a .number ≡ n) × (a .place ≡ q)) ↔ Stops s bytes l (length ts) n q
-stopped-iff = receiver-Listed.stopped-iff
+stopped-iff = receiver-Numbered.stopped-iff
 
 -- The answer to a release has one of the numbers that come before the call is judged, at a place, exactly for that fault of the tables.
 pub release-stopped-iff : (s : List ℕ) (l : List Call) (id : ℕ) (ts : List Tally) (n q : ℕ) → Stopping n
     → let a = released s l id ts .answer in ((a .number ≡ n) × (a .place ≡ q)) ↔ Unready s l (length ts) n q
-release-stopped-iff = receiver-Listed.release-stopped-iff
+release-stopped-iff = receiver-Numbered.release-stopped-iff
 
 -- Bytes are refused with a number exactly where they start with the field at fault that has it, all before it right,
 pub frame-refused-iff : (s : List ℕ) (n : ℕ) → (frameOf s ≡ frame-Refused n) ↔ FrameFault s n
@@ -121,19 +121,19 @@ schema-refused-iff = schema-Faults.refused-iff
 
 -- A refusal is 40 or 41 at 0, or 42, 43 or 44 at a row that its section has.
 pub schema-listed : (s : List ℕ) (n q : ℕ) → checked s ≡ schema-Refused n q → TableNumber (tableOf s) n q
-schema-listed = schema-Listed.listed
+schema-listed = schema-Numbered.listed
 
 -- A row is refused with a number at a place exactly for its reason.
 pub scalar-refused-iff : (schema : List ℕ) (r : value-Row) (bytes : List ℕ) (n q : ℕ) → (scalarBy schema r bytes ≡ scalar-Refused n q) ↔ scalar-Reason schema bytes r n q
 scalar-refused-iff = scalar-Reasons.refused-iff
 
 -- The reader refuses with a number at a place exactly for its reason, which says what stands there and what before it.
-pub value-refused-iff : (T : Table) (good : schema-GoodTable T) (t : ℕ)
+pub value-refused-iff : (T : Table) (good : GoodSchema T) (t : ℕ)
     (payload : List ℕ) (room n p : ℕ) → (read T t payload room ≡ read-refusal n p) ↔ value-Reason (shape T) t payload room n p
 value-refused-iff = value-Statements.refused-iff
 
 -- The writer refuses with a number at a row exactly for its reason, which says what that row shows and what the rows before it show.
-pub value-write-refused-iff : (T : Table) (good : schema-GoodTable T) (t : ℕ)
+pub value-write-refused-iff : (T : Table) (good : GoodSchema T) (t : ℕ)
     (rs : List value-Row) (B : List ℕ) (room n k : ℕ) → (write T t rs B room ≡ write-refusal n k) ↔ SheetReason (shape T) t rs B room n k
 value-write-refused-iff = value-Statements.write-refused-iff
 
@@ -151,7 +151,7 @@ write-refused-iff = promises-Refusals.write-refused-iff
 
 -- Where the number is 21 to 26, 28 or 31, what follows the faulty bytes does not matter: with any other bytes there, as many or more, the payload is
 -- refused alike.
-pub value-after-free : (T : Table) (good : schema-GoodTable T) (t : ℕ)
+pub value-after-free : (T : Table) (good : GoodSchema T) (t : ℕ)
     (fs : List Field) (u x rest : List ℕ) (n : ℕ) → shape T t ≡ struct fs → RootFault (shape T) fs u x rest n → Settles n
     → (more : List ℕ) (room : ℕ) → length rest ≤ length more → length (u ++ (x ++ more)) ≤ 16384 → read T t (u ++ (x ++ more)) room ≡ read-refusal n (length u)
 value-after-free = value-Statements.after-free
@@ -164,16 +164,16 @@ pub after-free : (s : List ℕ) → IsGood s → (ty : ℕ) (fs : List Field) (u
 after-free = promises-Refusals.after-free
 
 -- A refusal has one of 01's numbers: 46, 7, 30, or 20 to 28 and 31 for a value's fault.
-pub refused-number : (T : Table) (good : schema-GoodTable T) (t : ℕ) (payload : List ℕ) (room n p : ℕ) → read T t payload room ≡ read-refusal n p → ReadNumber n
+pub refused-number : (T : Table) (good : GoodSchema T) (t : ℕ) (payload : List ℕ) (room n p : ℕ) → read T t payload room ≡ read-refusal n p → ReadNumber n
 refused-number = value-Statements.refused-number
 
 -- A refusal has one of 01's numbers: 46, 7, 52, or a row's fault.
-pub write-refused-number : (T : Table) (good : schema-GoodTable T) (t : ℕ)
+pub write-refused-number : (T : Table) (good : GoodSchema T) (t : ℕ)
     (rs : List value-Row) (B : List ℕ) (room n k : ℕ) → write T t rs B room ≡ write-refusal n k → WriteNumber n
 write-refused-number = value-Statements.write-refused-number
 
 -- A refusal names a row that is there, or the number of rows.
-pub write-refused-within : (T : Table) (good : schema-GoodTable T) (t : ℕ)
+pub write-refused-within : (T : Table) (good : GoodSchema T) (t : ℕ)
     (rs : List value-Row) (B : List ℕ) (room n k : ℕ) → write T t rs B room ≡ write-refusal n k → k ≤ length rs
 write-refused-within = value-Statements.write-refused-within
 
@@ -232,7 +232,7 @@ open-kept = receiver-Records.open-kept
 
 -- A slot is freed only by a payload refusal, the completion of the call, ERROR, or the release of a cancelled call, each its own.
 pub freed : (s : List ℕ) (st : State) (e : receiver-Event) (i : ℕ) → slot (st .calls) i .«open» ≡ true → slot (stateAfter s e st .calls) i .«open» ≡ false
-    → (x : calls-Event) × Happens e x × Freed (tableOf s) x (numberOf s e st) (slot (st .calls) i)
+    → (x : calls-Event) × Happens e x × Freed (tableOf s) x (eventNumber s e st) (slot (st .calls) i)
 freed = receiver-Runs.freed
 
 -- A release that is refused changes no call,

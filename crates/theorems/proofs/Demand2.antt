@@ -10,19 +10,19 @@ use Rattle.schema.specs.Check.{IsGood}
 use Rattle.schema.specs.declared.Field.{Field}
 use Rattle.schema.specs.Table.{struct, Table, shape}
 use Rattle.schema.specs.File.{tableOf}
-use Rattle.schema.specs.Good.{GoodTable as schema-GoodTable}
+use Rattle.schema.specs.Good.{GoodSchema}
 use Rattle.frame.specs.declared.Header.{Header}
 use Rattle.frame.specs.Frame.{frameOf}
 use Rattle.frame.specs.declared.FrameRead.the-variants.{Frame as frame-Frame}
 use Rattle.frame.specs.IsFrame.{Starts as frame-Starts, HeaderFits, IsFrame}
 use Rattle.frame.specs.Written.{writtenOf, Accepted as frame-Accepted, ReadBack, outputOf, frameBytes}
 use Rattle.frame.specs.declared.FrameWritten.the-variants.{Written as frame-Written}
-use Rattle.calls.specs.Order.{Past, Ruling, Ruled, Releases, closed, Lawful, Reached}
+use Rattle.calls.specs.Order.{Past, Ruling, Ruled, Releases, closed, Lawful, LawfulRecord}
 use Rattle.calls.specs.declared.Frame.{Frame as calls-Frame}
 use Rattle.calls.specs.Slots.{freshTable}
 use Rattle.calls.specs.declared.Call.{Call}
 use Rattle.calls.specs.declared.Tally.{Tally}
-use Rattle.calls.specs.Good.{GoodTable as calls-GoodTable, GoodCall}
+use Rattle.calls.specs.Good.{GoodCalls, GoodCall}
 use Rattle.value.specs.Value.{Value}
 use Rattle.value.specs.Claims.{Rightful, Writes}
 use Rattle.value.specs.Sheet.{rowsOf}
@@ -34,7 +34,7 @@ use Rattle.reader.specs.declared.Reading.the-variants.{Shown}
 use Rattle.writer.specs.Entry.{fileOutcome, outcome as writer-outcome}
 use Rattle.writer.specs.declared.Writing.the-variants.{Written as writer-Written}
 use Rattle.receiver.specs.Run.{State, Event as receiver-Event, Input, answerAfter, fullAfter, pastIn, rowsAfter, callsAfter, freshTallies}
-use Rattle.receiver.specs.Order.{Stands as receiver-Stands, Said, said, ByRules, ReleasedAs}
+use Rattle.receiver.specs.Order.{Reflected, Said, said, ByRules, ReleasedAs}
 use Rattle.receiver.specs.Claims.{Front, payloadIn}
 use Rattle.receiver.specs.Release.{released}
 use Rattle.valueframe.specs.Entry.{frameOutcome}
@@ -84,14 +84,14 @@ written-iff = frame-ReadBack.written-iff
 -- Call order, with the step of 02, 2026-01 ("Demand 2 reads this step in place of 01's"):
 
 -- The answer to the next frame is the one by the rules, and no other: number, place, rows, tail, comparisons and sheet.
-pub by-order : (s : List ℕ) (g : IsGood s) (start : State) (past : ℕ → Past) (st : receiver-Stands (tableOf s) (start .calls) (start .tallies) past)
+pub by-order : (s : List ℕ) (g : IsGood s) (start : State) (past : ℕ → Past) (st : Reflected (tableOf s) (start .calls) (start .tallies) past)
     (es : List receiver-Event) (i : Input) (f : calls-Frame) (w : Front (i .side) (i .bytes) f) (x : Said) →
     (said (answerAfter s start es i) ≡ x)
     ↔ ByRules s (payloadIn w) (i .sheet) f (fullAfter s start es) (pastIn s start past es (f .correlation)) (rowsAfter s start es) x
 by-order = receiver-Runs.by-order
 
 -- The answer to a release is the one by the rules, and no other.
-pub release-by-order : (s : List ℕ) (g : IsGood s) (start : State) (past : ℕ → Past) (st : receiver-Stands (tableOf s) (start .calls) (start .tallies) past)
+pub release-by-order : (s : List ℕ) (g : IsGood s) (start : State) (past : ℕ → Past) (st : Reflected (tableOf s) (start .calls) (start .tallies) past)
     (es : List receiver-Event) (id n : ℕ) → (released s (callsAfter s start es) id (rowsAfter s start es) .answer .number ≡ n)
     ↔ ReleasedAs (rowsAfter s start es) (pastIn s start past es id) n
 release-by-order = receiver-Runs.release-by-order
@@ -105,16 +105,16 @@ pub release-once : (past : Past) (m n : ℕ) → Releases past m → Releases pa
 release-once = calls-Once.release-once
 
 -- A fresh start stands with no call open.
-pub fresh-stands : (T : Table) → receiver-Stands T (freshTable .slots) (freshTallies T) (λ _. closed)
+pub fresh-stands : (T : Table) → Reflected T (freshTable .slots) (freshTallies T) (λ _. closed)
 fresh-stands = receiver-Runs.fresh-stands
 
 -- So does every good table of 128 slots with as many tally rows as methods, with pasts that the rules allow.
-pub good-stands : (s : List ℕ) → IsGood s → (l : List Call) (ts : List Tally) → length l ≡ 128 → calls-GoodTable (tableOf s) l → length ts ≡ length (tableOf s .methods) →
-    (past : ℕ → Past) × ((id : ℕ) → Lawful (tableOf s) (past id)) × receiver-Stands (tableOf s) l ts past
+pub good-stands : (s : List ℕ) → IsGood s → (l : List Call) (ts : List Tally) → length l ≡ 128 → GoodCalls (tableOf s) l → length ts ≡ length (tableOf s .methods) →
+    (past : ℕ → Past) × ((id : ℕ) → Lawful (tableOf s) (past id)) × Reflected (tableOf s) l ts past
 good-stands = receiver-Runs.good-stands
 
 -- The record of an open call is good exactly where the rules allow kinds that leave its marks.
-pub good-iff-reached : (T : Table) (g : schema-GoodTable T) (c : Call) → GoodCall T c ↔ Reached T c
+pub good-iff-reached : (T : Table) (g : GoodSchema T) (c : Call) → GoodCall T c ↔ LawfulRecord T c
 good-iff-reached = calls-Pasts.good-iff-reached
 
 -- "With room enough, what our writer accepts reads back as the same value,"
@@ -144,7 +144,7 @@ frame-read-back = promises-ValueFrames.frame-read-back
 -- The same by `receive`, in any history from a good call table of 128 slots with as many tally rows as methods, for a frame that may come next.
 pub received-back : (h : Header) (fits : HeaderFits h) (s : List ℕ) (ty : ℕ) (sheet B out : List ℕ) (m : ℕ) (out′ : List ℕ)
     (e : frameOutcome h s ty sheet B out ≡ writer-outcome (writer-Written m) out′)
-    (st : State) (past : ℕ → Past) → receiver-Stands (tableOf s) (st .calls) (st .tallies) past → (is : List receiver-Event) (side : ℕ)
+    (st : State) (past : ℕ → Past) → Reflected (tableOf s) (st .calls) (st .tallies) past → (is : List receiver-Event) (side : ℕ)
     → (after : List ℕ) → length sheet / 4 ≤ room after → (rest : List ℕ)
     → (p : List ℕ) × Carries s ty sheet B after p × ReceivedBack s ty p after st past is side h m (take m out′ ++ rest)
 received-back = promises-ValueFrames.received-back
@@ -182,12 +182,12 @@ pub tail-iff-unknown : (s : List ℕ) (ty : ℕ) (fs : List Field) → shapes s 
 tail-iff-unknown = promises-Reading.tail-iff-unknown
 
 -- What spells a value is its encoding: a value has one spelling.
-pub spelled-is-encoding : (T : Table) (good : schema-GoodTable T) (t : ℕ)
+pub spelled-is-encoding : (T : Table) (good : GoodSchema T) (t : ℕ)
     (d : ℕ) (v : Value) (u : List ℕ) → Bytes u → Spells (shape T) d t v u → u ≡ encode (shape T) v t
 spelled-is-encoding = value-Statements.spelled-is-encoding
 
 -- A payload without a tail is the encoding of its value.
-pub payload-is-encoding : (T : Table) (good : schema-GoodTable T) (t : ℕ) (fs : List Field) (st : shape T t ≡ struct fs)
+pub payload-is-encoding : (T : Table) (good : GoodSchema T) (t : ℕ) (fs : List Field) (st : shape T t ≡ struct fs)
     (payload : List ℕ) (v : Value) → Bytes payload → RootSpells (shape T) fs v payload [] → payload ≡ encode (shape T) v t
 payload-is-encoding = value-Statements.payload-is-encoding
 

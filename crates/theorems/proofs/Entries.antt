@@ -12,7 +12,7 @@ use Rattle.schema.specs.Extend.{extension}
 use Rattle.frame.specs.Frame.{readNumber as frame-readNumber, frameOf}
 use Rattle.frame.specs.declared.Header.{Header}
 use Rattle.frame.specs.Written.{writtenOf, writeNumber as frame-writeNumber}
-use Rattle.text.specs.Decimal.{decimal, Digits, valueOf}
+use Rattle.text.specs.Decimal.{decimal, Digits, decimalValue}
 use Rattle.salvage.specs.Salvage.{salvageOf, salvageNumber}
 use Rattle.calls.specs.Numbers.{endsCall}
 use Rattle.calls.specs.declared.Tally.{Tally}
@@ -23,7 +23,7 @@ use Rattle.reader.specs.declared.Reading.{Reading}
 use Rattle.reader.specs.declared.Reading.the-variants.{Refused as reader-Refused}
 use Rattle.reader.specs.Entry.{readOutcome, outcome as reader-outcome}
 use Rattle.reader.specs.Beside.{besideOutcome}
-use Rattle.scalar.specs.Scalar.{scalarBy, numberOf as scalar-numberOf}
+use Rattle.scalar.specs.Scalar.{scalarBy, scalarNumber}
 use Rattle.writer.specs.declared.Writing.{Writing}
 use Rattle.writer.specs.declared.Writing.the-variants.{Refused as writer-Refused}
 use Rattle.writer.specs.Numbers.{writeNumber as writer-writeNumber}
@@ -31,7 +31,7 @@ use Rattle.writer.specs.Entry.{fileOutcome, outcome as writer-outcome}
 use Rattle.forward.specs.Entry.{forwardOutcome}
 use Rattle.receiver.specs.Answer.{effect}
 use Rattle.receiver.specs.Release.{releaseEffect, released}
-use Rattle.receiver.specs.Run.{Event as receiver-Event, runFrom}
+use Rattle.receiver.specs.Run.{Event as receiver-Event, stateFrom}
 use Rattle.receiver.specs.Receive.{received}
 use Rattle.index.specs.Index.{makeIndex, indexNumber}
 use Rattle.index.specs.LookUp.{lookUp, findNumber}
@@ -41,7 +41,7 @@ use Rattle.exports.specs.Answers.{receivedCells, callCells, releasing, released
 use Rattle.exports.specs.Records.{areCalls, AreCalls, callsOf, rowsOf, rowCells, cellsOf}
 use Rattle.exports.specs.Run.{CallsFit, Cells, stateOf, runCells}
 use Rattle.exports.specs.Cells.{stored}
-use Rattle.words.specs.Number.{numberOf as words-numberOf}
+use Rattle.words.specs.Number.{parsedOf}
 use Rattle.words.specs.declared.number.Parsed.the-variants.{Number}
 use Rattle.promises.proofs.Refusals as promises-Refusals
 use Rattle.promises.proofs.Beside as promises-Beside
@@ -52,14 +52,14 @@ use Rattle.exports.proofs.Held as exports-Held
 use Rattle.exports.proofs.Tallies as exports-Tallies
 use Rattle.words.proofs.Numbers as words-Numbers
 
--- `words::number::number_of`: the answer is `words/specs/Number.numberOf` of the word.
+-- `words::number::number_of`: the answer is `words/specs/Number.parsedOf` of the word.
 
 -- What is written in decimal is read as the same number, below 2^64.
-pub decimal-read : (n : ℕ) → n < 2 ^ 64 → words-numberOf (decimal n) ≡ Number n
+pub decimal-read : (n : ℕ) → n < 2 ^ 64 → parsedOf (decimal n) ≡ Number n
 decimal-read = words-Numbers.decimal-read
 
 -- What is read has digits alone, at least one, and they give the number.
-pub read-decimal : (n : ℕ) (word : List ℕ) → words-numberOf word ≡ Number n → (0 < length word) × Digits word × (valueOf 0 word ≡ n)
+pub read-decimal : (n : ℕ) (word : List ℕ) → parsedOf word ≡ Number n → (0 < length word) × Digits word × (decimalValue 0 word ≡ n)
 read-decimal = words-Numbers.read-decimal
 
 -- For programs in other languages, of each entry: number and cells determine the answer.
@@ -140,7 +140,7 @@ release-entry = exports-Told.release-entry
 
 -- Those of a scalar, for bytes below 256.
 pub scalar-entry : (schema : List ℕ) (r : value-Row) (bytes : List ℕ) (h : (i : ℕ) → getD bytes i 0 < 256)
-    → let a = scalarBy schema r bytes in scalarTold (scalar-numberOf a) (scalarCells a) ≡ a
+    → let a = scalarBy schema r bytes in scalarTold (scalarNumber a) (scalarCells a) ≡ a
 scalar-entry = exports-ScalarTold.scalar-entry
 
 -- Cells are a call table exactly where there are 384 of them or more, each method number has 32 bits, and the marks with the elements have 37.
@@ -223,17 +223,17 @@ zeros-fresh = exports-Held.zeros-fresh
 
 -- A history over lent cells is the history over the table and the rows that they hold.
 pub run-held : (s : List ℕ) (start : Cells) (w : AreCalls (start .table))
-    (es : List receiver-Event) → stateOf (runCells s start es) ≡ runFrom s (stateOf start) es
+    (es : List receiver-Event) → stateOf (runCells s start es) ≡ stateFrom s (stateOf start) es
 run-held = exports-Held.run-held
 
 -- Each answer to a frame in it is the one that `arf::receive` gives over them.
 pub answer-held : (s : List ℕ) (start : Cells) (w : AreCalls (start .table))
-    (es : List receiver-Event) (side : ℕ) (bytes sheet : List ℕ) → let c = runCells s start es in let st = runFrom s (stateOf start) es in
+    (es : List receiver-Event) (side : ℕ) (bytes sheet : List ℕ) → let c = runCells s start es in let st = stateFrom s (stateOf start) es in
     receiving (c .table) s side bytes sheet (c .tallies) ≡ received s side bytes sheet (st .tallies) (st .calls)
 answer-held = exports-Held.answer-held
 
 -- Each answer to a release in it is the one that `arf::release` gives over them.
 pub reply-held : (s : List ℕ) (start : Cells) (w : AreCalls (start .table))
-    (es : List receiver-Event) (id : ℕ) → let c = runCells s start es in let st = runFrom s (stateOf start) es in
+    (es : List receiver-Event) (id : ℕ) → let c = runCells s start es in let st = stateFrom s (stateOf start) es in
     releasing (c .table) s id (c .tallies) ≡ released s (st .calls) id (st .tallies)
 reply-held = exports-Held.reply-held

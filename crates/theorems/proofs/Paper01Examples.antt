@@ -12,7 +12,7 @@ use Rattle.calls.specs.declared.Call.{Call}
 use Rattle.reader.specs.Entry.{room}
 use Rattle.receiver.specs.Fresh.{receivedFresh}
 use Rattle.replay.specs.Run.{answerTo, stops, headerIn}
-use Rattle.replay.specs.Runs.{IsEntry}
+use Rattle.replay.specs.Runs.{GoesOn}
 use Rattle.text.proofs.Decimals as text-Decimals
 use Rattle.receiver.proofs.FreshRows as receiver-FreshRows
 use Rattle.replay.proofs.Turns as replay-Turns
@@ -47,7 +47,7 @@ decimal-right = text-Decimals.decimal-right
 
 -- The run goes on exactly where the side byte is C or S and the answer uses bytes.
 pub goes-on-iff : (s : List ℕ) (side : ℕ) (bytes : List ℕ) (l : List Call) →
-    let a = answerTo s side bytes l in (stops side (a .number) (a .used) ≡ false) ↔ IsEntry side a
+    let a = answerTo s side bytes l in (stops side (a .number) (a .used) ≡ false) ↔ GoesOn side a
 goes-on-iff = replay-Turns.goes-on-iff
 
 -- For a side byte that is not C or S the answer uses no bytes, or is 8.

@@ -24,7 +24,7 @@ use Rattle.calls.specs.declared.Payload.the-variants.{Empty, Unread}
 use Rattle.reader.specs.Entry.{room}
 use Rattle.receiver.specs.Claims.{Front, Nothing, Alike}
 use Rattle.receiver.specs.Receive.{received}
-use Rattle.receiver.specs.Run.{State, Event as receiver-Event, runFrom}
+use Rattle.receiver.specs.Run.{State, Event as receiver-Event, stateFrom}
 use Rattle.receiver.specs.Release.{released}
 use Rattle.frame.proofs.Theorems as frame-Theorems
 use Rattle.frame.proofs.Settled as frame-Settled
@@ -120,7 +120,7 @@ pub fresh-good : (T : Table) → goodTable T (freshTable .slots) ≡ true
 fresh-good = calls-Goodness.fresh-good
 
 -- A history keeps the number of slots.
-pub run-long : (s : List ℕ) (st : State) (es : List receiver-Event) → length (runFrom s st es .calls) ≡ length (st .calls)
+pub run-long : (s : List ℕ) (st : State) (es : List receiver-Event) → length (stateFrom s st es .calls) ≡ length (st .calls)
 run-long = receiver-Runs.run-long
 
 -- "a new call takes the lowest free slot, an ended one is zeroed."
@@ -146,7 +146,7 @@ release-good = receiver-Kept.release-good
 
 -- A good call table stays good over any history: 15 never comes.
 pub run-good : (s : List ℕ) (st : State) → goodTable (tableOf s) (st .calls) ≡ true → (es : List receiver-Event)
-    → goodTable (tableOf s) (runFrom s st es .calls) ≡ true
+    → goodTable (tableOf s) (stateFrom s st es .calls) ≡ true
 run-good = receiver-Runs.run-good
 
 -- Stated above: `stays-good`, `release-good`. Stated in other files: `Request05.good-test`, `Request05.good-clauses`, `Demand2.good-iff-reached`.

@@ -8,7 +8,7 @@ use lib.ListN.{length}
 use mathlib.Core.Bool.{true}
 use Rattle.wire.specs.Little.{Bytes}
 use Rattle.schema.specs.Check.{IsGood, methodRow, findMethod}
-use Rattle.schema.specs.Good.{GoodFile, HasShape, GoodTable as schema-GoodTable, SameNames}
+use Rattle.schema.specs.Good.{GoodFile, HasShape, GoodSchema, SameNames}
 use Rattle.schema.specs.Encoded.{fileOf}
 use Rattle.schema.specs.File.{tableOf}
 use Rattle.schema.specs.Table.{Table, rowAt, shape, scalar, text, array, map, struct, fieldsOf, width}
@@ -92,12 +92,12 @@ width-iff = schema-Widths.width-iff
 -- "No two entries share all three identifiers; the later is at fault."
 
 -- Two entries of a good table that share their identifiers are one.
-pub names-differ : (T : Table) (g : schema-GoodTable T)
+pub names-differ : (T : Table) (g : GoodSchema T)
     (i j : ℕ) → i < length (T .methods) → j < length (T .methods) → SameNames (methodRow T i) (methodRow T j) → i ≡ j
 names-differ = schema-Methods.names-differ
 
 -- Each entry is found by its own identifiers.
-pub finds-own : (T : Table) (g : schema-GoodTable T)
+pub finds-own : (T : Table) (g : GoodSchema T)
     (i : ℕ) → i < length (T .methods) → findMethod T (methodRow T i .«package») (methodRow T i .service) (methodRow T i .method) ≡ At i
 finds-own = schema-Methods.finds-own
 

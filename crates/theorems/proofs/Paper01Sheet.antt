@@ -9,7 +9,7 @@ use Rattle.buffer.specs.Span.{span}
 use Rattle.wire.specs.Little.{little}
 use Rattle.parse.specs.Reader.{Cursor, seen, cursorAt, andThen, Answer, Reader}
 use Rattle.schema.specs.Table.{Table, shape, struct, text, width, scalar}
-use Rattle.schema.specs.Good.{GoodTable as schema-GoodTable}
+use Rattle.schema.specs.Good.{GoodSchema}
 use Rattle.schema.specs.Check.{IsGood}
 use Rattle.schema.specs.declared.Field.{Field}
 use Rattle.schema.specs.File.{tableOf}
@@ -19,14 +19,14 @@ use Rattle.value.specs.Claims.{Delimited, Rightful}
 use Rattle.value.specs.Value.{Value, size, Tree}
 use Rattle.value.specs.Fits.{Shows, told, used}
 use Rattle.value.specs.Write.{write}
-use Rattle.cursor.specs.Item.{span as cursor-span, judged, numberOf as cursor-numberOf, contentOf, Fair, numberStep, Content as cursor-Content, spanStep, varuintAt, spanAt}
+use Rattle.cursor.specs.Item.{spanItem, contentJudged, fixedNumber, contentOf, Fair, numberStep, ContentSpan as cursor-Content, spanStep, varuintAt, spanAt}
 use Rattle.cursor.specs.declared.item.Number.the-variants.{Refused as number-Refused, Is}
 use Rattle.cursor.specs.declared.item.Span.the-variants.{Refused as span-Refused, At as span-At}
 use Rattle.reader.specs.Entry.{readOutcome, outcome as reader-outcome, room}
 use Rattle.reader.specs.declared.Reading.the-variants.{Shown, Refused as reader-Refused}
 use Rattle.reader.specs.Sheet.{shownIn}
 use Rattle.scalar.specs.Leaves.{EachLeaf, ShowsLeaf}
-use Rattle.scalar.specs.Scalar.{scalarOf, Content, identity, valueOf, numberOf as scalar-numberOf, scalarBy, placeOf as scalar-placeOf}
+use Rattle.scalar.specs.Scalar.{scalarOf, Content, identity, valueOf, scalarNumber, scalarBy, placeOf as scalar-placeOf}
 use Rattle.scalar.specs.Reasons.{Reason as scalar-Reason}
 use Rattle.promises.specs.Claims.{shapes}
 use Rattle.value.proofs.Statements as value-Statements
@@ -45,7 +45,7 @@ use Rattle.promises.proofs.Reading as promises-Reading
 
 -- The reader accepts with exactly the rows that delimit the payload: there is one row a value, and no cell of any row is free. The comparisons due are
 -- those of the payload's value.
-pub value-rows-delimit : (T : Table) (good : schema-GoodTable T) (t : ℕ) (payload : List ℕ) (room : ℕ) (rs : List value-Row) (place n c : ℕ)
+pub value-rows-delimit : (T : Table) (good : GoodSchema T) (t : ℕ) (payload : List ℕ) (room : ℕ) (rs : List value-Row) (place n c : ℕ)
     → (read T t payload room ≡ accepted rs place n c) ↔ Delimited (shape T) t payload room rs place n c
 value-rows-delimit = value-Statements.rows-delimit
 
@@ -67,7 +67,7 @@ rows-delimit = promises-Reading.rows-delimit
 -- ones too, is enough."
 
 -- Rows that tell the same types, counts, contents and known bits, over whatever bytes, show the same value.
-pub told-once : (T : Table) (good : schema-GoodTable T) (t : ℕ) (fs : List Field) (st : shape T t ≡ struct fs)
+pub told-once : (T : Table) (good : GoodSchema T) (t : ℕ) (fs : List Field) (st : shape T t ≡ struct fs)
     (B B′ : List ℕ) (v v′ : Value) (rs rs′ : List value-Row) → Shows (shape T) B t fs rs v → Shows (shape T) B′ t fs rs′ v′
     → map (told (shape T) B) rs ≡ map (told (shape T) B′) rs′ → v ≡ v′
 told-once = value-Statements.told-once
@@ -108,11 +108,11 @@ content-once = scalar-Identity.content-once
 
 -- A number above 0 comes back with a place exactly for its reason.
 pub number-iff-reason : (schema : List ℕ) (r : value-Row) (bytes : List ℕ)
-    (n q : ℕ) → 0 < n → ((scalar-numberOf (scalarBy schema r bytes) ≡ n) × (scalar-placeOf (scalarBy schema r bytes) ≡ q)) ↔ scalar-Reason schema bytes r n q
+    (n q : ℕ) → 0 < n → ((scalarNumber (scalarBy schema r bytes) ≡ n) × (scalar-placeOf (scalarBy schema r bytes) ≡ q)) ↔ scalar-Reason schema bytes r n q
 number-iff-reason = scalar-Numbers.number-iff-reason
 
 -- Number 0 comes back exactly for a good file and a leaf's row whose answer shows the bytes of its span: its value, or the span itself.
-pub zero-iff-shown : (schema : List ℕ) (r : value-Row) (bytes : List ℕ) → (scalar-numberOf (scalarBy schema r bytes) ≡ 0)
+pub zero-iff-shown : (schema : List ℕ) (r : value-Row) (bytes : List ℕ) → (scalarNumber (scalarBy schema r bytes) ≡ 0)
     ↔ (IsGood schema × ShowsLeaf bytes (shape (tableOf schema) (r .ty)) r (span bytes (r .place) (r .length)) (scalarBy schema r bytes))
 zero-iff-shown = scalar-Numbers.zero-iff-shown
 
@@ -124,7 +124,7 @@ zero-iff-shown = scalar-Numbers.zero-iff-shown
 -- lengths."
 
 -- Array and map places and composite lengths do not matter.
-pub only-used : (T : Table) (good : schema-GoodTable T) (t : ℕ)
+pub only-used : (T : Table) (good : GoodSchema T) (t : ℕ)
     (rs rs′ : List value-Row) (B : List ℕ) (room : ℕ) → map (used (shape T)) rs ≡ map (used (shape T)) rs′ → write T t rs B room ≡ write T t rs′ B room
 only-used = value-Statements.only-used
 
@@ -143,12 +143,12 @@ only-used = value-Statements.only-used
 
 -- A string or bytes, as the payload reader reads them: the span, and for a string its UTF-8, refused at the content's start.
 pub text-by-span : (p : List ℕ) (from : ℕ)
-    (kind : ℕ) → own (text kind) (cursorAt p from) ≡ andThen (cursor-span (cursorAt p from)) (judged p kind)
+    (kind : ℕ) → own (text kind) (cursorAt p from) ≡ andThen (spanItem (cursorAt p from)) (contentJudged p kind)
 text-by-span = cursor-Texts.text-by-span
 
 -- The number of a scalar's width is that of the scalar's content.
 pub scalar-number : (kind : ℕ) (c : Cursor) → (kind ≡ 1 → ⊥)
-    → cursor-numberOf (width kind) c ≡ andThen (own (scalar kind) c) (λ o c. seen (little (contentOf o)) c)
+    → fixedNumber (width kind) c ≡ andThen (own (scalar kind) c) (λ o c. seen (little (contentOf o)) c)
 scalar-number = cursor-Laws.scalar-number
 
 -- A number that is read moves the position neither back nor past the end.

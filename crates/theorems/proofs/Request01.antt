@@ -25,8 +25,8 @@ use Rattle.calls.specs.Good.{GoodCall}
 use Rattle.calls.specs.declared.Payload.the-variants.{Empty}
 use Rattle.receiver.specs.Claims.{Front, Nothing, rowFor, releaseReply, payloadIn}
 use Rattle.receiver.specs.Receive.{received}
-use Rattle.receiver.specs.Run.{State, Event as receiver-Event, stateAfter, Happens, numberOf, pastIn, callsAfter, Input, answerAfter, rowsAfter, RoomAfter, fullAfter}
-use Rattle.receiver.specs.Order.{Stands as receiver-Stands}
+use Rattle.receiver.specs.Run.{State, Event as receiver-Event, stateAfter, Happens, eventNumber, pastIn, callsAfter, Input, answerAfter, rowsAfter, RoomAfter, fullAfter}
+use Rattle.receiver.specs.Order.{Reflected}
 use Rattle.receiver.specs.Release.{released}
 use Rattle.listing.specs.Listing.{listing}
 use Rattle.listing.proofs.Examples.{crossed, crossedOutput}
@@ -54,18 +54,18 @@ cancel-frees-none = receiver-Records.cancel-frees-none
 -- Only its ERROR, accepted, or its release frees the slot of a cancelled call.
 pub cancelled-freed : (s : List ℕ) (st : State) (e : receiver-Event) (i : ℕ) → slot (st .calls) i .«open» ≡ true → slot (st .calls) i .cancelled ≡ true
     → slot (stateAfter s e st .calls) i .«open» ≡ false
-    → (x : calls-Event) × Happens e x × (isCall (identifier x) (slot (st .calls) i) ≡ true) × EndsCancelled x (numberOf s e st)
+    → (x : calls-Event) × Happens e x × (isCall (identifier x) (slot (st .calls) i) ≡ true) × EndsCancelled x (eventNumber s e st)
 cancelled-freed = receiver-Runs.cancelled-freed
 
 -- The record of each identifier reflects the kinds that were accepted for its call.
-pub reflected : (s : List ℕ) (g : IsGood s) (start : State) (past : ℕ → Past) (st : receiver-Stands (tableOf s) (start .calls) (start .tallies) past)
+pub reflected : (s : List ℕ) (g : IsGood s) (start : State) (past : ℕ → Past) (st : Reflected (tableOf s) (start .calls) (start .tallies) past)
     (es : List receiver-Event) (id : ℕ) → Reflects (pastIn s start past es id) (ownOf id (callsAfter s start es))
 reflected = receiver-Runs.reflected
 
 -- "Its server frames are then dropped, payload unread, with answer 16 and all bytes used;"
 
 -- The server's frames of a cancelled call, ERROR aside, are dropped, payload unread, with answer 16 and all bytes used; nothing is changed.
-pub crossing-dropped : (s : List ℕ) (g : IsGood s) (start : State) (past : ℕ → Past) (st : receiver-Stands (tableOf s) (start .calls) (start .tallies) past) →
+pub crossing-dropped : (s : List ℕ) (g : IsGood s) (start : State) (past : ℕ → Past) (st : Reflected (tableOf s) (start .calls) (start .tallies) past) →
     let T = tableOf s in
     (es : List receiver-Event) (i : Input) (f : calls-Frame) (w : Front (i .side) (i .bytes) f) (m : ℕ) (b : Elements) (h : List ℕ)
     → pastIn s start past es (f .correlation) ≡ since m b h → rightSide (f .side) (f .kind) ≡ true → same T f m ≡ true → Crosses h (f .kind)
@@ -90,7 +90,7 @@ late-kinds = calls-Cancelled.late-kinds
 -- "ERROR is accepted and ends it;"
 
 -- ERROR of a cancelled call is accepted and ends it, unless its tally is full.
-pub error-ends-cancelled : (s : List ℕ) (g : IsGood s) (start : State) (past : ℕ → Past) (st : receiver-Stands (tableOf s) (start .calls) (start .tallies) past) →
+pub error-ends-cancelled : (s : List ℕ) (g : IsGood s) (start : State) (past : ℕ → Past) (st : Reflected (tableOf s) (start .calls) (start .tallies) past) →
     let T = tableOf s in
     (es : List receiver-Event) (i : Input) (f : calls-Frame) (w : Front (i .side) (i .bytes) f) (m : ℕ) (b : Elements) (h : List ℕ)
     → pastIn s start past es (f .correlation) ≡ since m b h → RoomAfter s start past es f 0 → f .side ≡ 83 → f .kind ≡ 7 → same T f m ≡ true
@@ -122,7 +122,7 @@ any-open = calls-Cancelled.any-open
 -- "Refusals: INVOKE on a cancelled call stays 10, its other client frames 14, after 12;"
 
 -- INVOKE of a known method on an open call's identifier, cancelled or not, is 10.
-pub invoke-open : (s : List ℕ) (g : IsGood s) (start : State) (past : ℕ → Past) (st : receiver-Stands (tableOf s) (start .calls) (start .tallies) past) →
+pub invoke-open : (s : List ℕ) (g : IsGood s) (start : State) (past : ℕ → Past) (st : Reflected (tableOf s) (start .calls) (start .tallies) past) →
     let T = tableOf s in
     (es : List receiver-Event) (i : Input) (f : calls-Frame) (w : Front (i .side) (i .bytes) f) (m n : ℕ) (b : Elements) (h : List ℕ)
     → pastIn s start past es (f .correlation) ≡ since m b h → f .side ≡ 67 → f .kind ≡ 1 → methodNamed T f ≡ At n
@@ -130,7 +130,7 @@ pub invoke-open : (s : List ℕ) (g : IsGood s) (start : State) (past : ℕ → 
 invoke-open = receiver-Runs.invoke-open
 
 -- A client frame of a cancelled call (IN_STREAM, IN_CLOSE, CANCEL) is 12 where its identifiers are not the call's, and else 14.
-pub client-late : (s : List ℕ) (g : IsGood s) (start : State) (past : ℕ → Past) (st : receiver-Stands (tableOf s) (start .calls) (start .tallies) past) →
+pub client-late : (s : List ℕ) (g : IsGood s) (start : State) (past : ℕ → Past) (st : Reflected (tableOf s) (start .calls) (start .tallies) past) →
     let T = tableOf s in
     (es : List receiver-Event) (i : Input) (f : calls-Frame) (w : Front (i .side) (i .bytes) f) (m : ℕ) (b : Elements) (h : List ℕ)
     → pastIn s start past es (f .correlation) ≡ since m b h → cancelled h ≡ true → f .side ≡ 67 → holds (f .kind) (2 ∷ 3 ∷ 8 ∷ []) ≡ true
@@ -181,7 +181,7 @@ slots-kept = receiver-Releases.slots-kept
 -- 01's "Closes and CANCEL are empty", for a CANCEL that may come:
 
 -- Where nothing belongs, a frame that may come is accepted exactly without a payload, and else refused with 29 at place 0, unless the tally that this raises is full.
-pub nothing-belongs : (s : List ℕ) (g : IsGood s) (start : State) (past : ℕ → Past) (st : receiver-Stands (tableOf s) (start .calls) (start .tallies) past) →
+pub nothing-belongs : (s : List ℕ) (g : IsGood s) (start : State) (past : ℕ → Past) (st : Reflected (tableOf s) (start .calls) (start .tallies) past) →
     let T = tableOf s in
     (es : List receiver-Event) (i : Input) (f : calls-Frame) (w : Front (i .side) (i .bytes) f)
     → (payloadIn w ≡ [] → RoomAfter s start past es f 0) → ((payloadIn w ≡ [] → ⊥) → RoomAfter s start past es f 29) →

@@ -4,7 +4,7 @@ use Prim.Native.Nat.{ℕ, _<_, _^_}
 use mathlib.Core.Path.{_≡_}
 use mathlib.Core.Logic.{_↔_, _⊎_}
 use lib.ListN.{take, replicate}
-use Rattle.wire.specs.Varuint.{front, Spare, TenthAbove, Spelled, varuintBytes}
+use Rattle.wire.specs.Varuint.{frontVarUInt, Spare, TenthAbove, Spelled, varuintBytes}
 use Rattle.wire.specs.declared.varuint.VarUInt.the-variants.{Malformed}
 use Rattle.wire.specs.Little.{Bytes}
 use Rattle.schema.proofs.Examples.{file}
@@ -19,7 +19,7 @@ use Rattle.promises.proofs.Examples as promises-Examples
 -- "A VarUInt of two or more bytes whose last byte is 0 becomes malformed everywhere."
 
 -- A VarUInt is malformed exactly where it has two or more bytes and the last is 0, or its tenth byte is above 1.
-pub malformed-iff : (s : List ℕ) (at : ℕ) → (front s at ≡ Malformed) ↔ (Spare s ⊎ TenthAbove s)
+pub malformed-iff : (s : List ℕ) (at : ℕ) → (frontVarUInt s at ≡ Malformed) ↔ (Spare s ⊎ TenthAbove s)
 malformed-iff = wire-Varuints.malformed-iff
 
 -- Bytes spell a number exactly where they are those that our writer writes for it, and it is below 2^64.

@@ -26,11 +26,11 @@ use Rattle.calls.specs.Counting.{rowAfter, releaseRise, fullAt}
 use Rattle.calls.specs.Numbers.{endsCall}
 use Rattle.calls.specs.Judge.{judgeRelease}
 use Rattle.calls.specs.Figures.{openOf, Balanced, figures, counted, Full}
-use Rattle.calls.specs.Good.{GoodTable as calls-GoodTable}
+use Rattle.calls.specs.Good.{GoodCalls}
 use Rattle.calls.specs.declared.Figure.{Figure}
 use Rattle.reader.specs.Entry.{room}
-use Rattle.receiver.specs.Run.{Event as receiver-Event, freshState, runFrom, heardFrom, State, callsAfter, rowsAfter, Input, answerAfter}
-use Rattle.receiver.specs.Claims.{CountedSince, Stops, rowFor, Front, Ready, Unready, Alike, SameAnswer, About, Keeping, KeptWhole, Keeps}
+use Rattle.receiver.specs.Run.{Event as receiver-Event, freshState, stateFrom, heardFrom, State, callsAfter, rowsAfter, Input, answerAfter}
+use Rattle.receiver.specs.Claims.{CountedSince, Stops, rowFor, Front, TablesReady, Unready, Alike, SameAnswer, About, Keeping, KeptWhole, Keeps}
 use Rattle.receiver.specs.Receive.{frameRise, received}
 use Rattle.receiver.specs.Release.{released}
 use Rattle.receiver.specs.Fresh.{inputs, freshEffect, receivedFresh, freshRun}
@@ -42,14 +42,14 @@ use Rattle.receiver.proofs.Runs as receiver-Runs
 use Rattle.receiver.proofs.Kept as receiver-Kept
 use Rattle.receiver.proofs.Answers as receiver-Answers
 use Rattle.receiver.proofs.Apart as receiver-Apart
-use Rattle.receiver.proofs.Listed as receiver-Listed
+use Rattle.receiver.proofs.Numbered as receiver-Numbered
 use Rattle.receiver.proofs.FreshRows as receiver-FreshRows
 
 -- "Each call's record shall carry the stream elements accepted each way, to 65,535."
 
 -- After any history from a fresh start, the counts of an open call are the elements accepted each way since its INVOKE.
 pub elements-counted : (s : List ℕ) → IsGood s → (es : List receiver-Event) (id : ℕ) (c : Call) → let start = freshState (tableOf s) in
-    ownOf id (runFrom s start es .calls) ≡ one c → CountedSince c (pastOf (tableOf s) id closed (heardFrom s start es))
+    ownOf id (stateFrom s start es .calls) ≡ one c → CountedSince c (pastOf (tableOf s) id closed (heardFrom s start es))
 elements-counted = receiver-Tallies.elements-counted
 
 -- IN_STREAM is an element of the input stream, and OUT_STREAM of the output stream; closes and all others are none.
@@ -74,7 +74,7 @@ fresh-few = receiver-Runs.fresh-few
 -- What holds of the number, the records and the row of method m where the answer stops, and of every step of a frame at the front.
 pub holds-row : (s : List ℕ) (side : ℕ) (bytes sheet : List ℕ) (ts : List Tally) (l : List Call)
     (m : ℕ) (P : ℕ → List Call → Tally → Type 0) → ((n q : ℕ) → Stops s bytes l (length ts) n q → P n l (rowFor ts m))
-    → ((f : calls-Frame) → Front side bytes f → Ready s l (length ts) → (reading : Payload → ℕ) →
+    → ((f : calls-Frame) → Front side bytes f → TablesReady s l (length ts) → (reading : Payload → ℕ) →
     let r = receive (tableOf s) f reading l in P (r .number) (r .table .slots) (rowAfter m (frameRise s f l) (r .number) (rowFor ts m)))
     → let a = received s side bytes sheet ts l in P (a .answer .number) (a .answer .table .slots) (rowFor (a .tallies) m)
 holds-row = receiver-Kept.holds-row
@@ -82,20 +82,20 @@ holds-row = receiver-Kept.holds-row
 -- What holds of the number, the records and the row of method m where it stops at a fault of the tables, and of every release that is judged.
 pub release-holds-row : (s : List ℕ) (l : List Call) (id : ℕ) (ts : List Tally)
     (m : ℕ) (P : ℕ → List Call → Tally → Type 0) → ((n q : ℕ) → Unready s l (length ts) n q → P n l (rowFor ts m))
-    → (Ready s l (length ts) → (n : ℕ) → endsCall n ≡ false → let x = release id n l in P (x .number) (x .table .slots) (rowAfter m (releaseRise l (judgeRelease id l)) (x .number) (rowFor ts m)))
+    → (TablesReady s l (length ts) → (n : ℕ) → endsCall n ≡ false → let x = release id n l in P (x .number) (x .table .slots) (rowAfter m (releaseRise l (judgeRelease id l)) (x .number) (rowFor ts m)))
     → let a = released s l id ts in P (a .answer .number) (a .answer .table .slots) (rowFor (a .tallies) m)
 release-holds-row = receiver-Kept.release-holds-row
 
 -- "Over any run from a fresh start under one schema table, opened equals the other four plus the calls of that method now open,"
 
 -- From a fresh start, under any schema file, opened equals the other four plus the calls of that method now open.
-pub opened-balance : (s : List ℕ) (es : List receiver-Event) (m : ℕ) → let x = runFrom s (freshState (tableOf s)) es in
+pub opened-balance : (s : List ℕ) (es : List receiver-Event) (m : ℕ) → let x = stateFrom s (freshState (tableOf s)) es in
     let t = rowFor (x .tallies) m in t .opened ≡ t .completed + t .errored + t .cancelled + t .failed + openOf m (x .calls)
 opened-balance = receiver-Tallies.opened-balance
 
 -- Whatever the history, a row that is in balance at the start stays so.
 pub stays-balanced : (s : List ℕ) (st : State) (m : ℕ) → Balanced m (rowFor (st .tallies) m) (st .calls) → (es : List receiver-Event)
-    → let x = runFrom s st es in Balanced m (rowFor (x .tallies) m) (x .calls)
+    → let x = stateFrom s st es in Balanced m (rowFor (x .tallies) m) (x .calls)
 stays-balanced = receiver-Tallies.stays-balanced
 
 -- "every figure defined from the history of accepted frames, releases and payload refusals."
@@ -129,11 +129,11 @@ invoke-uncounted = receiver-Answers.invoke-uncounted
 -- "A good call table now also has both counts at 0 where the form lacks the stream."
 
 -- A good call table passes the test,
-pub good-test : (T : Table) (l : List Call) → calls-GoodTable T l → goodTable T l ≡ true
+pub good-test : (T : Table) (l : List Call) → GoodCalls T l → goodTable T l ≡ true
 good-test = calls-Goodness.good-test
 
 -- and what passes the test is good.
-pub good-clauses : (T : Table) (l : List Call) → goodTable T l ≡ true → calls-GoodTable T l
+pub good-clauses : (T : Table) (l : List Call) → goodTable T l ≡ true → GoodCalls T l
 good-clauses = calls-Goodness.good-clauses
 
 -- "The apart rule names the number of tally rows and the row of the call's method as well."
@@ -173,7 +173,7 @@ pub kept-whole : (s : List ℕ) (side : ℕ) (bytes sheet : List ℕ) (ts : List
 kept-whole = receiver-Answers.kept-whole
 
 -- A history keeps the number of tally rows.
-pub run-rows : (s : List ℕ) (st : State) (es : List receiver-Event) → length (runFrom s st es .tallies) ≡ length (st .tallies)
+pub run-rows : (s : List ℕ) (st : State) (es : List receiver-Event) → length (stateFrom s st es .tallies) ≡ length (st .tallies)
 run-rows = receiver-Runs.run-rows
 
 -- Stated in other files: `Demand1.stopped-iff`, `Demand1.release-stopped-iff`.
@@ -194,9 +194,9 @@ full-iff = calls-Counted.full-iff
 
 -- A whole frame under good tables: its answer uses the frame, or has 17 at its own call's limit, 18 for a tally that is full, or 30.
 pub used-or-kept : (s : List ℕ) (side : ℕ) (bytes sheet : List ℕ) (ts : List Tally) (l : List Call) {h : Header} {place n : ℕ}
-    → Ready s l (length ts) → frameOf bytes ≡ frame-Frame h place n
+    → TablesReady s l (length ts) → frameOf bytes ≡ frame-Frame h place n
     → let a = received s side bytes sheet ts l in (a .answer .used ≡ place + n) ⊎ Keeps (h .kind) (ownOf (h .correlation) l) ts (a .answer .number)
-used-or-kept = receiver-Listed.used-or-kept
+used-or-kept = receiver-Numbered.used-or-kept
 
 -- A run that keeps no rows:
 

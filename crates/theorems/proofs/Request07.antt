@@ -8,7 +8,7 @@ use mathlib.Core.Logic.{_↔_}
 use lib.Dec.{T, eqb}
 use lib.ListN.{length, take, drop}
 use lib.Bits.{bitAnd}
-use Rattle.wire.specs.Utf8.{utf8, Split, rows, isChar, ascii, pairs}
+use Rattle.wire.specs.Utf8.{utf8, Split, rows, isChar, ascii, twoByteChars}
 use Rattle.wire.specs.declared.utf8.Row.{Row as wire-Row}
 use Rattle.wire.specs.Unicode.{Encoded}
 use Rattle.wire.specs.Little.{Bytes, little}
@@ -40,5 +40,5 @@ pub tops-at : (n : ℕ) (s : List ℕ) (at x : ℕ) → Bytes s → at + n ≤ l
 tops-at = wire-Asciis.tops-at
 
 -- Pairs of bytes, n of them, judged as one number: they pass exactly where each is a character of the row UTF8-2.
-pub word-pairs : (n : ℕ) (s : List ℕ) → Bytes s → length s ≡ 2 * n → (pair-shapes n (little s) && carries n (little s)) ≡ pairs s
+pub word-pairs : (n : ℕ) (s : List ℕ) → Bytes s → length s ≡ 2 * n → (pair-shapes n (little s) && carries n (little s)) ≡ twoByteChars s
 word-pairs = wire-Pairs.word-pairs

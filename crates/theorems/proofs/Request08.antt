@@ -12,7 +12,7 @@ use Rattle.schema.specs.Extend.{Widens, widened, extension}
 use Rattle.schema.specs.File.{tableOf}
 use Rattle.schema.specs.declared.Field.{Field}
 use Rattle.schema.specs.Table.{struct, Table, shape}
-use Rattle.schema.specs.Good.{GoodTable as schema-GoodTable}
+use Rattle.schema.specs.Good.{GoodSchema}
 use Rattle.schema.specs.declared.Found.the-variants.{At}
 use Rattle.schema.proofs.Examples.{longer, file}
 use Rattle.schema.specs.declared.Extended.the-variants.{No, Yes}
@@ -64,11 +64,11 @@ same-file = promises-Beside.same-file
 -- "Ours must be extended by theirs, except that added fields may here widen a bitmap."
 
 -- The test says yes exactly where the new table extends the old one, but for the bitmaps.
-pub widens-iff : (old new : Table) (g : schema-GoodTable old) (g′ : schema-GoodTable new) → widened old new ≡ true ↔ Widens old new
+pub widens-iff : (old new : Table) (g : GoodSchema old) (g′ : GoodSchema new) → widened old new ≡ true ↔ Widens old new
 widens-iff = schema-Extending.widens-iff
 
 -- A method found in the old table is found in the new one, the same.
-pub still-found : (old new : Table) (g : schema-GoodTable old) (g′ : schema-GoodTable new) (x : Widens old new)
+pub still-found : (old new : Table) (g : GoodSchema old) (g′ : GoodSchema new) (x : Widens old new)
     (p q r i : ℕ) → findMethod old p q r ≡ At i → (j : ℕ) × (findMethod new p q r ≡ At j) × (methodRow new j ≡ methodRow old i)
 still-found = schema-Extending.still-found
 

@@ -8,7 +8,7 @@ use mathlib.Core.Logic.{_↔_}
 use Rattle.wire.specs.Varuint.{Spelled}
 use Rattle.parse.specs.Reader.{Cursor, CursorOf, refused}
 use Rattle.schema.specs.Table.{Table, shape, map, struct}
-use Rattle.schema.specs.Good.{GoodTable as schema-GoodTable}
+use Rattle.schema.specs.Good.{GoodSchema}
 use Rattle.schema.specs.declared.Field.{Field}
 use Rattle.calls.specs.declared.Tally.{Tally}
 use Rattle.calls.specs.declared.Call.{Call}
@@ -32,12 +32,12 @@ use Rattle.promises.proofs.Reading as promises-Reading
 -- "Maps get at most 64 pairs, a premise demands 2 and 3 carry from here."
 
 -- Every map of a value that a payload spells has 64 pairs at most.
-pub maps-small : (T : Table) (good : schema-GoodTable T) (t : ℕ) (fs : List Field) (st : shape T t ≡ struct fs)
+pub maps-small : (T : Table) (good : GoodSchema T) (t : ℕ) (fs : List Field) (st : shape T t ≡ struct fs)
     (payload : List ℕ) (v : Value) (z : List ℕ) → RootSpells (shape T) fs v payload z → MapsSmall (shape T) v t
 maps-small = value-Statements.maps-small
 
 -- The same of a value that a sheet shows.
-pub shown-small : (T : Table) (good : schema-GoodTable T) (t : ℕ) (fs : List Field) (st : shape T t ≡ struct fs)
+pub shown-small : (T : Table) (good : GoodSchema T) (t : ℕ) (fs : List Field) (st : shape T t ≡ struct fs)
     (B : List ℕ) (rs : List value-Row) (v : Value) → Shows (shape T) B t fs rs v → MapsSmall (shape T) v t
 shown-small = value-Statements.shown-small
 
@@ -53,7 +53,7 @@ pub due-half : (n : ℕ) → 2 * due n ≡ n * (n - 1)
 due-half = value-Statements.due-half
 
 -- A composite's own comparisons are those of each later one of its keys with each earlier one.
-pub own-due : (T : Table) (good : schema-GoodTable T) (t : ℕ) (d h : ℕ) (vs : Values) (u : List ℕ) → Spells (shape T) d t (node h vs) u
+pub own-due : (T : Table) (good : GoodSchema T) (t : ℕ) (d h : ℕ) (vs : Values) (u : List ℕ) → Spells (shape T) d t (node h vs) u
     → mapDue (shape T t) h ≡ pairsAmong (length (keysOf (plan (shape T t) h) vs))
 own-due = value-Statements.own-due
 
@@ -82,7 +82,7 @@ pub receiver-comparisons-within : (s : List ℕ) (side : ℕ) (bytes sheet : Lis
 receiver-comparisons-within = receiver-Due.comparisons-within
 
 -- Of a good table alone.
-pub value-comparisons-within : (T : Table) (good : schema-GoodTable T) (t : ℕ)
+pub value-comparisons-within : (T : Table) (good : GoodSchema T) (t : ℕ)
     (payload : List ℕ) (room : ℕ) (rs : List value-Row) (place n c : ℕ) → read T t payload room ≡ accepted rs place n c → c ≤ 258048
 value-comparisons-within = value-Statements.comparisons-within
 
@@ -92,17 +92,17 @@ value-comparisons-within = value-Statements.comparisons-within
 -- row after 50,"
 
 -- A map whose count is above 64 is refused with 31 at its count, where bytes enough for its pairs follow.
-pub pairs-refused : (T : Table) (good : schema-GoodTable T) (t : ℕ) (d k v n : ℕ) (u rest : List ℕ) (c : Cursor) → shape T t ≡ map k v → Spelled n u
+pub pairs-refused : (T : Table) (good : GoodSchema T) (t : ℕ) (d k v n : ℕ) (u rest : List ℕ) (c : Cursor) → shape T t ≡ map k v → Spelled n u
     → c .left ≡ u ++ rest → 2 * n ≤ length rest → 64 < n → parse (shape T) (suc d) t c ≡ refused 31 (c .at)
 pairs-refused = value-Statements.pairs-refused
 
 -- With too few bytes after it, it is refused with 20 there.
-pub count-refused : (T : Table) (good : schema-GoodTable T) (t : ℕ) (d k v n : ℕ) (u rest : List ℕ) (c : Cursor) → shape T t ≡ map k v → Spelled n u
+pub count-refused : (T : Table) (good : GoodSchema T) (t : ℕ) (d k v n : ℕ) (u rest : List ℕ) (c : Cursor) → shape T t ≡ map k v → Spelled n u
     → c .left ≡ u ++ rest → length rest < 2 * n → parse (shape T) (suc d) t c ≡ refused 20 (c .at)
 count-refused = value-Statements.count-refused
 
 -- A map's row whose count is above 64 is refused with 31 at that row, whatever rows follow.
-pub row-refused : (T : Table) (good : schema-GoodTable T) (t : ℕ) (d k v : ℕ) (B : List ℕ) (r : value-Row) (rs : List value-Row) (c : CursorOf value-Row)
+pub row-refused : (T : Table) (good : GoodSchema T) (t : ℕ) (d k v : ℕ) (B : List ℕ) (r : value-Row) (rs : List value-Row) (c : CursorOf value-Row)
     → shape T t ≡ map k v → c .left ≡ r ∷ rs → r .ty ≡ t → 64 < r .count → show (shape T) B (suc d) t c ≡ refused 31 (c .at)
 row-refused = value-Statements.row-refused
 

@@ -12,7 +12,7 @@ use Rattle.schema.specs.Extend.{extension}
 use Rattle.schema.specs.declared.Extended.the-variants.{Yes}
 use Rattle.schema.specs.declared.Field.{Field}
 use Rattle.schema.specs.Table.{struct, Table, Shape, bitmapBytes, shape}
-use Rattle.schema.specs.Good.{GoodTable as schema-GoodTable}
+use Rattle.schema.specs.Good.{GoodSchema}
 use Rattle.schema.specs.declared.Checked.the-variants.{Refused as schema-Refused}
 use Rattle.value.specs.Sheet.{rowsOf}
 use Rattle.value.specs.Value.{Value, size}
@@ -26,7 +26,7 @@ use Rattle.reader.specs.declared.Reading.the-variants.{Shown}
 use Rattle.writer.specs.Entry.{outcome as writer-outcome, fileOutcome}
 use Rattle.writer.specs.declared.Writing.the-variants.{Written as writer-Written, Refused as writer-Refused}
 use Rattle.forward.specs.Entry.{forwardOutcome}
-use Rattle.forward.specs.Claims.{Forwards, Passes, ForwardListed}
+use Rattle.forward.specs.Claims.{Forwards, Passes, TailReason}
 use Rattle.forward.specs.Cases.{ForwardHold as forward-Hold, worked as forward-worked, nine, by-nine, large, lent as forward-lent}
 use Rattle.forward.specs.Forward.{forward, rootUnknown}
 use Rattle.promises.specs.Claims.{shapes, ReadsAs, ForwardReason}
@@ -96,7 +96,7 @@ pub same-bytes : (s : List ℕ) (ty : ℕ) (payload sheet : List ℕ) (k place n
 same-bytes = promises-Forwarding.same-bytes
 
 -- What is read by a table, with a tail or without one, is forwarded by the same table to the very same bytes.
-pub forward-same-bytes : (T : Table) → schema-GoodTable T → (t : ℕ) (payload : List ℕ) (room : ℕ) (rs : List value-Row) (place n c : ℕ) → Bytes payload
+pub forward-same-bytes : (T : Table) → GoodSchema T → (t : ℕ) (payload : List ℕ) (room : ℕ) (rs : List value-Row) (place n c : ℕ) → Bytes payload
     → read T t payload room ≡ accepted rs place n c → (room′ : ℕ) → length payload ≤ room′ → forward T t rs payload place n room′ ≡ written payload
 forward-same-bytes = forward-Statements.same-bytes
 
@@ -164,8 +164,8 @@ pub refused-iff : (s : List ℕ) (ty : ℕ) (sheet B : List ℕ) (place n : ℕ)
 refused-iff = promises-Forwarding.refused-iff
 
 -- A sheet with a tail is refused with a number at a row exactly for its reason.
-pub forward-refused-iff : (T : Table) (t : ℕ) (rs : List value-Row) (B : List ℕ) (place n room : ℕ) (good : schema-GoodTable T)
-    (k q : ℕ) → (forward T t rs B place n room ≡ write-refusal k q) ↔ ForwardListed (shape T) t rs B place n room k q
+pub forward-refused-iff : (T : Table) (t : ℕ) (rs : List value-Row) (B : List ℕ) (place n room : ℕ) (good : GoodSchema T)
+    (k q : ℕ) → (forward T t rs B place n room ≡ write-refusal k q) ↔ TailReason (shape T) t rs B place n room k q
 forward-refused-iff = forward-Statements.refused-iff
 
 -- Computed, where the whole is above 16,384 bytes: 7 before 52, and one byte less is 52.

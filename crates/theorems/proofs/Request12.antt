@@ -10,13 +10,13 @@ use Rattle.schema.proofs.Examples.{file}
 use Rattle.schema.specs.Check.{IsGood}
 use Rattle.reader.specs.Entry.{room}
 use Rattle.replay.specs.Run.{Entry, runOf, sheet, Run, freshCalls}
-use Rattle.replay.specs.Runs.{Stands as replay-Stands, Runs}
+use Rattle.replay.specs.Runs.{StandsIn, Runs}
 use Rattle.replay.specs.Lent.{lentRun}
 use Rattle.index.specs.Row.{Rising, Row as index-Row, isRising, ofCall}
 use Rattle.index.specs.Index.{rowsFor, makeIndex, outcome as index-outcome, indexBytes}
 use Rattle.index.specs.IsIndex.{IsIndex, rowsIn, isIndex, Reads}
 use Rattle.index.specs.Claims.{Has, Finds, Judges, Accepted as index-Accepted, Refuses as index-Refuses}
-use Rattle.index.specs.LookUp.{lookUp, Outcome as look-up-Outcome, verdict, lookText, looked, outcome as look-up-outcome}
+use Rattle.index.specs.LookUp.{lookUp, Outcome as look-up-Outcome, stoppedNumber, lookText, looked, outcome as look-up-outcome}
 use Rattle.index.specs.Text.{textOf, callText}
 use Rattle.index.specs.declared.Indexing.the-variants.{Made, Refused as index-Refused}
 use Rattle.index.specs.declared.Finding.the-variants.{Printed, Refused as look-up-Refused}
@@ -52,7 +52,7 @@ pub call-rises : (c : ℕ) (schema entries : List ℕ) → Rising (ofCall c (row
 call-rises = index-Statements.call-rises
 
 -- Each entry of a record's run stands at its place in the record.
-pub entries-stand : (s entries : List ℕ) (e : Entry) → List·Memᴰ e (runOf s entries .entries) → replay-Stands entries e
+pub entries-stand : (s entries : List ℕ) (e : Entry) → List·Memᴰ e (runOf s entries .entries) → StandsIn entries e
 entries-stand = replay-Replays.entries-stand
 
 -- The rows of 01's worked record: two calls, three entries and two.
@@ -111,7 +111,7 @@ rows-many = index-Statements.rows-many
 -- row with a correlation, place and answer exactly where one of these entries has them, and as many rows as there are entries.
 pub index-listed : (schema entries : List ℕ) → IsGood schema → length entries ≤ 65536 → let es = runOf schema entries .entries in
     (listing schema entries ≡ heading ++ runText 1 (runOf schema entries))
-    × ((e : Entry) → List·Memᴰ e es → replay-Stands entries e)
+    × ((e : Entry) → List·Memᴰ e es → StandsIn entries e)
     × ((c p n : ℕ) → List·Memᴰ (record { correlation = c; place = p; answer = n }) (rowsFor schema entries) ↔ Has es c p n)
     × (length (rowsFor schema entries) ≡ length es)
 index-listed = listing-Indexed.index-listed
@@ -135,17 +135,17 @@ looked-up-iff = index-Statements.looked-up-iff
 
 -- Of an index for a record of that length: the rows of the correlation in order, and last 0.
 pub rows-printed : (index : List ℕ) (size c : ℕ)
-    {rows : List index-Row} → IsIndex index rows size → (verdict index size ≡ 0) × (lookText index size c ≡ textOf (ofCall c rows) 0)
+    {rows : List index-Row} → IsIndex index rows size → (stoppedNumber index size ≡ 0) × (lookText index size c ≡ textOf (ofCall c rows) 0)
 rows-printed = index-Statements.rows-printed
 
 -- Of one for a record of another length: no rows, and 66.
 pub other-printed : (index : List ℕ) (size c : ℕ)
-    {rows : List index-Row} {n : ℕ} → IsIndex index rows n → (n ≡ size → ⊥) → (verdict index size ≡ 66) × (lookText index size c ≡ textOf [] 66)
+    {rows : List index-Row} {n : ℕ} → IsIndex index rows n → (n ≡ size → ⊥) → (stoppedNumber index size ≡ 66) × (lookText index size c ≡ textOf [] 66)
 other-printed = index-Statements.other-printed
 
 -- What is no index at all is 65, without rows.
 pub none-printed : (index : List ℕ) (size c : ℕ)
-    → Bytes index → ((rows : List index-Row) (n : ℕ) → IsIndex index rows n → ⊥) → (verdict index size ≡ 65) × (lookText index size c ≡ textOf [] 65)
+    → Bytes index → ((rows : List index-Row) (n : ℕ) → IsIndex index rows n → ⊥) → (stoppedNumber index size ≡ 65) × (lookText index size c ≡ textOf [] 65)
 none-printed = index-Statements.none-printed
 
 -- A row is among those of a call exactly where it has that correlation.
@@ -157,7 +157,7 @@ call-has = index-Statements.call-has
 -- "Refusals: 65 index shape or order, 66 record of another length, 65 first"
 
 -- Of any bytes a look-up either accepts an index whose rows rise strictly, for a record of that length, or gives 66 or 65 and looks at no row.
-pub judged : (index : List ℕ) (size : ℕ) → Bytes index → Judges index size (verdict index size) (rowsIn (looked index size) index)
+pub judged : (index : List ℕ) (size : ℕ) → Bytes index → Judges index size (stoppedNumber index size) (rowsIn (looked index size) index)
 judged = index-Statements.judged
 
 -- Bytes pass the test exactly where they are the index of some rows for some record.
@@ -189,7 +189,7 @@ made-index = index-Statements.made-index
 -- An index made from a record is accepted for it, and the text of a call is the place and the answer of exactly the entries of that correlation in the
 -- record's run, in order.
 pub call-text : (schema entries out : List ℕ) {n : ℕ} {after : List ℕ} → makeIndex schema entries out ≡ index-outcome (Made n) after → Bytes entries → (c : ℕ)
-    → (verdict (take n after) (length entries) ≡ 0) × (lookText (take n after) (length entries) c ≡ callText c (runOf schema entries .entries))
+    → (stoppedNumber (take n after) (length entries) ≡ 0) × (lookText (take n after) (length entries) c ≡ callText c (runOf schema entries .entries))
 call-text = index-Statements.call-text
 
 -- Both entries in turn: what is made from a record, looked up with the record, prints this text where it fits.
@@ -209,7 +209,7 @@ call-listed = listing-Indexed.call-listed
 
 -- What a look-up answers and leaves: the text at the start of the output where it fits, or 52.
 pub look-up-fits : (index entries : List ℕ) (c : ℕ) (out : List ℕ) → let text = lookText index (length entries) c in length text ≤ length out
-    → lookUp index entries c out ≡ look-up-outcome (Printed (verdict index (length entries)) (length text)) (text ++ drop (length text) out)
+    → lookUp index entries c out ≡ look-up-outcome (Printed (stoppedNumber index (length entries)) (length text)) (text ++ drop (length text) out)
 look-up-fits = index-Statements.look-up-fits
 
 -- Where it does not, the answer is 52, and the output is as it was.

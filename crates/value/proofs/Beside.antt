@@ -15,7 +15,7 @@ use Rattle.parse.proofs.Answers.{seen-end, yields-end}
 use Rattle.parse.proofs.Blames.{blames-end}
 use Rattle.schema.specs.declared.Field.{Field}
 use Rattle.schema.specs.Table.{Table, Shape, unknown, scalar, text, array, map, struct, shape}
-use Rattle.schema.specs.Good.{GoodTable}
+use Rattle.schema.specs.Good.{GoodSchema}
 use Rattle.value.specs.declared.Row.{Row}
 use Rattle.value.specs.Value.{Tree, rows, Value, value, size}
 use Rattle.value.specs.Comparisons.{comparisons}
@@ -24,7 +24,7 @@ use Rattle.value.specs.Spell.{RootSpells}
 use Rattle.value.specs.Fits.{Shows, ShowsKnown}
 use Rattle.value.specs.Added.{reached, firstAdded, without, NoneAdded}
 use Rattle.value.specs.Claims.{DelimitedTree}
-use Rattle.value.specs.Beside.{pruned, shownRows, besideOf, RightfulBeside, TooFewRows, ShownAs, DelimitedBeside, ListedBeside, no-struct, too-long, faulty, too-few-rows, rootLength}
+use Rattle.value.specs.Beside.{pruned, shownRows, besideOf, RightfulBeside, TooFewRows, ShownAs, DelimitedBeside, BesideReason, no-struct, too-long, faulty, too-few-rows, rootLength}
 use Rattle.value.proofs.Shapes.{Widening, Extension}
 use Rattle.value.proofs.Root.{root-sound, root-complete}
 use Rattle.value.proofs.Refusals.{good-blames}
@@ -170,10 +170,10 @@ module _ (S S′ : ℕ → Shape) (n : ℕ) (x : Widening S S′ n) (t : ℕ) (l
 
 -- ---- refusals of tables
 
-module _ (ours theirs : Table) (good′ : GoodTable theirs) (n : ℕ) (x : Widening (shape ours) (shape theirs) n) (below : (t : ℕ) (fs : List Field) → shape ours t ≡ struct fs → t < n)
+module _ (ours theirs : Table) (good′ : GoodSchema theirs) (n : ℕ) (x : Widening (shape ours) (shape theirs) n) (below : (t : ℕ) (fs : List Field) → shape ours t ≡ struct fs → t < n)
     (t : ℕ) (payload : List ℕ) (room : ℕ) where
   abbrev Told : (number place : ℕ) → Type 0
-  Told = ListedBeside (shape ours) (shape theirs) t payload room
+  Told = BesideReason (shape ours) (shape theirs) t payload room
 
   root-refused : (k p : ℕ) → ((room′ : ℕ) → reading (shape theirs) t room′ (rootOf (shape theirs) t payload) ≡ refusal k p) → rootOf (shape theirs) t payload ≡ refused k p
   root-refused k p h = go (rootOf (shape theirs) t payload) h

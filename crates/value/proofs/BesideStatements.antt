@@ -9,7 +9,7 @@ use lib.ListN.{length}
 use Rattle.wire.proofs.Cases.{differ}
 use Rattle.schema.specs.declared.Field.{Field}
 use Rattle.schema.specs.Table.{Table, struct, shape}
-use Rattle.schema.specs.Good.{GoodTable}
+use Rattle.schema.specs.Good.{GoodSchema}
 use Rattle.schema.specs.Extend.{Widens, Extends}
 use Rattle.schema.proofs.Shapes.{shape-known}
 use Rattle.value.specs.declared.Row.{Row}
@@ -21,7 +21,7 @@ use Rattle.value.specs.Write.{written, write}
 use Rattle.value.specs.Fits.{Shows, ShowsKnown, told}
 use Rattle.value.specs.Added.{reached, firstAdded, without, NoneAdded}
 use Rattle.value.specs.Claims.{ReadAs, DelimitedTree}
-use Rattle.value.specs.Beside.{pruned, readBeside, RightfulBeside, TooFewRows, ListedBeside, ShownAs, DelimitedBeside, SomeOf, rootLength}
+use Rattle.value.specs.Beside.{pruned, readBeside, RightfulBeside, TooFewRows, BesideReason, ShownAs, DelimitedBeside, SomeOf, rootLength}
 use Rattle.value.proofs.Shapes.{Widening, good-widening, good-extension}
 use Rattle.value.proofs.Telling as telling
 use Rattle.value.proofs.Pruned as laws
@@ -46,7 +46,7 @@ known-once T t = telling.known-once (shape T) t
 
 -- ---- our table, and theirs that extends it; bitmaps may grow
 
-module _ (ours theirs : Table) (good : GoodTable ours) (good′ : GoodTable theirs) (widens : Widens ours theirs) (t : ℕ) (fs : List Field) (st : shape ours t ≡ struct fs) where
+module _ (ours theirs : Table) (good : GoodSchema ours) (good′ : GoodSchema theirs) (widens : Widens ours theirs) (t : ℕ) (fs : List Field) (st : shape ours t ≡ struct fs) where
   x : Widening (shape ours) (shape theirs) (length (ours .types))
   x = good-widening ours theirs good good′ widens
 
@@ -132,15 +132,15 @@ module _ (ours theirs : Table) (good : GoodTable ours) (good′ : GoodTable thei
         (v, q, rw (g, ← u) at a)
 
 -- Every refusal is one of the list.
-pub refused-listed : (ours theirs : Table) → GoodTable ours → GoodTable theirs → Widens ours theirs → (t : ℕ) (payload : List ℕ) (room n p : ℕ)
-    → readBeside ours theirs t payload room ≡ refusal n p → ListedBeside (shape ours) (shape theirs) t payload room n p
+pub refused-listed : (ours theirs : Table) → GoodSchema ours → GoodSchema theirs → Widens ours theirs → (t : ℕ) (payload : List ℕ) (room n p : ℕ)
+    → readBeside ours theirs t payload room ≡ refusal n p → BesideReason (shape ours) (shape theirs) t payload room n p
 unfolding readBeside
 refused-listed ours theirs good good′ widens t payload room n p =
     beside.listed ours theirs good′ (length (ours .types)) (good-widening ours theirs good good′ widens) (λ t fs st. shape-known ours good t (λ e. differ cc)) t payload room n p
 
 -- ---- the same where the bitmaps keep their bytes: the base reader by ours beside
 
-module _ (ours theirs : Table) (good : GoodTable ours) (good′ : GoodTable theirs) (extends : Extends ours theirs) (t : ℕ) (fs gs : List Field)
+module _ (ours theirs : Table) (good : GoodSchema ours) (good′ : GoodSchema theirs) (extends : Extends ours theirs) (t : ℕ) (fs gs : List Field)
     (st : shape ours t ≡ struct fs) (st′ : shape theirs t ≡ struct (fs ++ gs)) (payload : List ℕ) (room : ℕ) where
   l′ : t < length (ours .types)
   l′ = shape-known ours good t (λ e. differ cc)

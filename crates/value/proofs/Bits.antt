@@ -16,7 +16,7 @@ use lib.Pow.{pow-pos, pow-mono, field, mod-mod-pow, mod-pow-add, shr-shr, shr-lt
 use Rattle.wire.proofs.Bitmaps.{ones-in}
 use Rattle.schema.specs.declared.Field.{Field}
 use Rattle.schema.specs.Table.{struct, bitmapBytes}
-use Rattle.value.specs.Read.{Item, plainItem, present, counted, complete, knownBits, unknownBits}
+use Rattle.value.specs.Read.{Item, plainItem, present, rowCount, requiredSet, knownBits, unknownBits}
 use Rattle.value.proofs.Shapes.{Optional}
 
 pub half-pow : (m k : ℕ) → m / 2 ^ suc k ≡ m / 2 / 2 ^ k
@@ -63,21 +63,21 @@ present-gain (f ∷ fs) gs m h = rw (present-gain fs gs (m / 2) (omega (arith, p
 
 -- ---- what is required
 
-complete-optional : (fs : List Field) (m : ℕ) → Optional fs → complete fs m ≡ true
-unfolding complete
+complete-optional : (fs : List Field) (m : ℕ) → Optional fs → requiredSet fs m ≡ true
+unfolding requiredSet
 complete-optional [] m o = refl
 complete-optional (f ∷ fs) m o =
     let h : f .optional ≡ 1 = o 0 (omega arith) in
     rw (h, complete-optional fs (m / 2) (λ i l. o (suc i) (omega arith)))
 
-pub complete-gain : (fs gs : List Field) (m : ℕ) → Optional gs → complete (fs ++ gs) m ≡ complete fs m
-unfolding complete
+pub complete-gain : (fs gs : List Field) (m : ℕ) → Optional gs → requiredSet (fs ++ gs) m ≡ requiredSet fs m
+unfolding requiredSet
 complete-gain [] gs m o = complete-optional gs m o
 complete-gain (f ∷ fs) gs m o = rw (complete-gain fs gs (m / 2) o)
 
 -- Only the known bits matter.
-pub complete-mod : (fs : List Field) (m : ℕ) → complete fs (knownBits fs m) ≡ complete fs m
-unfolding complete
+pub complete-mod : (fs : List Field) (m : ℕ) → requiredSet fs (knownBits fs m) ≡ requiredSet fs m
+unfolding requiredSet
 complete-mod [] m = refl
 complete-mod (f ∷ fs) m = rw (← add-one (length fs), mod-mod-pow m (length fs) 1, field m (length fs) 1, complete-mod fs (m / 2))
 
@@ -136,7 +136,7 @@ no-added fs gs m e =
 -- ---- counted as a machine counts: all ones of a word
 
 -- The count of a struct's row, from the word of its bitmap.
-pub known-ones : (fs : List Field) (m : ℕ) → counted (struct fs) m ≡ ones (knownBits fs m)
+pub known-ones : (fs : List Field) (m : ℕ) → rowCount (struct fs) m ≡ ones (knownBits fs m)
 known-ones fs m = ap length (sym (present-mod fs m)) ∙ length-present fs (knownBits fs m) ∙ sym (ones-in (length fs) (knownBits fs m) (mod-lt m (pow-pos (length fs))))
 
 -- Where no unknown bit is set, all bits are known.

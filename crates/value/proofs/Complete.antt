@@ -15,7 +15,7 @@ use Rattle.parse.proofs.Pieces.{block-complete, count-complete}
 use Rattle.schema.specs.declared.Field.{Field}
 use Rattle.schema.specs.Table.{Shape, unknown, scalar, text, array, map, struct, bitmapBytes}
 use Rattle.value.specs.Value.{Tree, Value, leaf, node, Values, none, some, value, values}
-use Rattle.value.specs.Read.{Item, plain, parts, plainItem, pairs, plan, bitmap, own, walk, whole, parse}
+use Rattle.value.specs.Read.{Item, plain, parts, plainItem, pairs, plan, bitmap, own, walk, wholeValue, parse}
 use Rattle.value.specs.Spell.{LeafSpells, BitmapSpells, HeadSpells, AllSpell, WholeSpells, Spells}
 use Rattle.value.specs.Reasons.{least}
 use Rattle.value.proofs.Shapes.{Solid}
@@ -115,7 +115,7 @@ module _ (P : ℕ → Value → List ℕ → Type 0) (pos : (t : ℕ) (v : Value
         (yields-then (walk-complete _ is vs (q .1) rest c′ (q .4) (rw (w .0) (f .1)) (w .1)) (λ ts c″ w′. gives (rw (w .0, w′ .0), w′ .1))))
 
     whole-complete : (t : ℕ) (s : Shape) (v : Value) (u rest : List ℕ) (c : Cursor) → WholeSpells P s v u → c .left ≡ u ++ rest
-        → Yields (λ tree c′. (value tree ≡ v) × (c′ .left ≡ rest)) (andThen (own s c) (whole p t s))
+        → Yields (λ tree c′. (value tree ≡ v) × (c′ .left ≡ rest)) (andThen (own s c) (wholeValue p t s))
     unfolding value
     whole-complete t s (leaf x) u rest c q l = yields-then (leaf-complete s x u rest c q l) (λ o c′ w. rw (w .0) (gives (refl, w .1)))
     whole-complete t s (node h vs) u rest c q l =

@@ -14,7 +14,7 @@ use Rattle.parse.proofs.Places.{On, stays-on}
 use Rattle.schema.specs.declared.Field.{Field}
 use Rattle.schema.specs.Table.{Shape, unknown, scalar, text, array, map, struct, bitmapBytes}
 use Rattle.value.specs.Value.{Tree, tip, branch, Forest, value, values}
-use Rattle.value.specs.Read.{Item, Own, plain, parts, plan, counted, leafRow, nodeRow, own, walk, whole, parse, rootStruct}
+use Rattle.value.specs.Read.{Item, Own, plain, parts, plan, rowCount, leafRow, nodeRow, own, walk, wholeValue, parse, rootStruct}
 use Rattle.value.specs.Spell.{LeafSpells, HeadSpells, AllSpell, Spells, RootSpells}
 use Rattle.value.specs.Fits.{LeafFits}
 use Rattle.value.specs.Delimits.{AllStand, NodeSpan, firstAt, Delimits, RootDelimits}
@@ -128,12 +128,12 @@ module _ (B : List ℕ) where
 
     whole-stands : (d t : ℕ) → ((t : ℕ) (c : Cursor) → On B c → Seen (λ tree c′. On B c′ × Delimits S B d t tree (c .at) (c′ .at)) (parse S d t c))
         → (start : ℕ) (o : Own) (c : Cursor) → On B c → OwnStands (S t) o start (c .at)
-        → Seen (λ tree c′. On B c′ × Delimits S B (suc d) t tree start (c′ .at)) (whole (parse S d) t (S t) o c)
+        → Seen (λ tree c′. On B c′ × Delimits S B (suc d) t tree start (c′ .at)) (wholeValue (parse S d) t (S t) o c)
     whole-stands d t child start (plain x) c on q = holds {a = tip (leafRow t (c .at) (length x)) x} (on, q)
     whole-stands d t child start (parts p h) c on q =
         seen-after (all-stand d child (plan (S t) h) c on) (λ ts c′ w.
         let n = node-stands d (S t) p h start (c .at) (c′ .at) ts q (w .2) (w .3) (w .4) (w .1) (on .1) in
-        holds {a = branch (nodeRow t p (c′ .at) (counted (S t) h)) h ts} (w .0, (n .0, n .1, w .0 .1, n .2)))
+        holds {a = branch (nodeRow t p (c′ .at) (rowCount (S t) h)) h ts} (w .0, (n .0, n .1, w .0 .1, n .2)))
 
     parse-stands : (d t : ℕ) (c : Cursor) → On B c → Seen (λ tree c′. On B c′ × Delimits S B d t tree (c .at) (c′ .at)) (parse S d t c)
     unfolding parse

@@ -7,7 +7,7 @@ use lib.ListN.{length, drop, take-append-drop, length-take, length-drop}
 use lib.Seq.{drop-drop}
 use Rattle.buffer.specs.Span.{span}
 use Rattle.buffer.proofs.Spans.{length-span}
-use Rattle.wire.specs.Varuint.{front, Spelled}
+use Rattle.wire.specs.Varuint.{frontVarUInt, Spelled}
 use Rattle.wire.specs.declared.varuint.VarUInt.the-variants.{Number}
 use Rattle.wire.proofs.Varuints.{spelled-reads}
 use Rattle.wire.proofs.Cases.{differ}
@@ -70,7 +70,7 @@ module _ (S : ℕ → Shape) (solid : (t : ℕ) → Solid (S t)) (B : List ℕ) 
       drop-once b c h l (cc (y .2, y′ .2, y .3 .1, y′ .3 .1))
 
   -- And so does a VarUInt.
-  number-end : (k a b : ℕ) → a ≤ b → b ≤ length B → Spelled k (span B a (b - a)) → front (drop a B) 0 ≡ Number k (b - a)
+  number-end : (k a b : ℕ) → a ≤ b → b ≤ length B → Spelled k (span B a (b - a)) → frontVarUInt (drop a B) 0 ≡ Number k (b - a)
   number-end k a b h l q =
       let n : 0 + length (span B a (b - a)) ≡ b - a = omega (arith, length-span B a (b - a) (omega arith)) in
       rw n at (rw (← parted a b h) at (spelled-reads k (span B a (b - a)) (drop b B) 0 q))

@@ -43,11 +43,11 @@ case t p n a = record { type = t; payload = p; room = n; answer = a }
 
 -- The answer to a case, and those to several.
 unfoldable pub answered : Table → ReadCase → Reading
-unfolding read.read read.rootStruct read.ending onesIn read.parse read.walk read.bitmap answer.count read.present read.complete table.shape value.rows value.value comparisons.comparisons comparisons.due
+unfolding read.read read.rootStruct read.rootEnding onesIn read.parse read.walk read.bitmap answer.count read.present read.requiredSet table.shape value.rows value.value comparisons.comparisons comparisons.due
 answered T c = read.read T (c .type) (c .payload) (c .room)
 
 unfoldable pub answers : Table → List ReadCase → List Reading
-unfolding answered answer.andThen answer.check answer.block answer.varUInt little.little varuint.front varuint.groups utf8.run utf8.next utf8.leadOf utf8.rows
+unfolding answered answer.andThen answer.check answer.block answer.varUInt little.little varuint.frontVarUInt varuint.groups utf8.run utf8.next utf8.leadOf utf8.rows
 answers T cases = map (answered T) cases
 
 abbrev ReadHold : Table → List ReadCase → Type 0
@@ -433,5 +433,5 @@ shownSheets =
 
 pub beside-written : map (λ (c : Sheet). write.write T (c .type) (c .rows) (c .over) (c .room)) shownSheets ≡ map (λ (c : Sheet). c .answer) shownSheets
 unfolding T write.write write.showRoot write.show write.rowDue write.nextRow write.bitsAt spell.encode little.little little.bytes varuint.shortest varuint.varuintBytes
-    read.walk read.present read.complete table.shape answer.andThen answer.check utf8.run utf8.next utf8.leadOf utf8.rows value.value
+    read.walk read.present read.requiredSet table.shape answer.andThen answer.check utf8.run utf8.next utf8.leadOf utf8.rows value.value
 beside-written = refl

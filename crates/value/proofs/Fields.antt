@@ -16,7 +16,7 @@ use Rattle.schema.specs.declared.Field.{Field}
 use Rattle.schema.specs.Table.{bitmapBytes}
 use Rattle.schema.specs.Check.{noField}
 use Rattle.schema.proofs.Bools.{and-left, and-right, and-i, or-left, or-right, or-cases, or-false, clash, is-false}
-use Rattle.value.specs.Read.{Item, plainItem, present, complete, unknownBits}
+use Rattle.value.specs.Read.{Item, plainItem, present, requiredSet, unknownBits}
 use Rattle.value.specs.Claims.{setBits}
 use Rattle.value.specs.Reasons.{Absent}
 use Rattle.value.proofs.Bits.{half-pow, present-append, length-present, ones-add}
@@ -30,19 +30,19 @@ Met fs m i = (getD fs i noField .optional ≡ 1) ⊎ (m / 2 ^ i % 2 ≡ 1)
 met-later : (f : Field) (fs : List Field) (m i : ℕ) → Met fs (m / 2) i → Met (f ∷ fs) m (suc i)
 met-later f fs m i w = rw (half-pow m i) w
 
-pub complete-met : (fs : List Field) (m : ℕ) → complete fs m ≡ true → (i : ℕ) → i < length fs → Met fs m i
-unfolding complete
+pub complete-met : (fs : List Field) (m : ℕ) → requiredSet fs m ≡ true → (i : ℕ) → i < length fs → Met fs m i
+unfolding requiredSet
 complete-met [] m e i h = absurd (omega arith)
 complete-met (f ∷ fs) m e zero h =
     ⊎-elim
     (λ o. inl (eqb-true (f .optional) 1 o))
     (λ b. inr (rw (div-one m) (eqb-true (m % 2) 1 b)))
-    (or-cases (eqb (f .optional) 1) (eqb (m % 2) 1) (and-left _ (complete fs (m / 2)) e))
+    (or-cases (eqb (f .optional) 1) (eqb (m % 2) 1) (and-left _ (requiredSet fs (m / 2)) e))
 complete-met (f ∷ fs) m e (suc i) h =
     met-later f fs m i (complete-met fs (m / 2) (and-right (eqb (f .optional) 1 || eqb (m % 2) 1) _ e) i (omega arith))
 
-pub met-complete : (fs : List Field) (m : ℕ) → ((i : ℕ) → i < length fs → Met fs m i) → complete fs m ≡ true
-unfolding complete
+pub met-complete : (fs : List Field) (m : ℕ) → ((i : ℕ) → i < length fs → Met fs m i) → requiredSet fs m ≡ true
+unfolding requiredSet
 met-complete [] m w = refl
 met-complete (f ∷ fs) m w =
     and-i _ _
@@ -58,21 +58,21 @@ zero-bit (suc zero) n h = absurd (n refl)
 zero-bit (suc (suc b)) n h = absurd (omega arith)
 
 -- Where the test fails, a required field is absent, and the other way round.
-pub lacking : (fs : List Field) (m : ℕ) → complete fs m ≡ false → (i : ℕ) × Absent fs m i
-unfolding complete
+pub lacking : (fs : List Field) (m : ℕ) → requiredSet fs m ≡ false → (i : ℕ) × Absent fs m i
+unfolding requiredSet
 lacking [] m e = clash true refl e
 lacking (f ∷ fs) m e = go (eqb (f .optional) 1 || eqb (m % 2) 1) refl e (lacking fs (m / 2))
   where
-    go : (b : Bool) → (eqb (f .optional) 1 || eqb (m % 2) 1) ≡ b → b && complete fs (m / 2) ≡ false
-        → (complete fs (m / 2) ≡ false → (i : ℕ) × Absent fs (m / 2) i) → (i : ℕ) × Absent (f ∷ fs) m i
+    go : (b : Bool) → (eqb (f .optional) 1 || eqb (m % 2) 1) ≡ b → b && requiredSet fs (m / 2) ≡ false
+        → (requiredSet fs (m / 2) ≡ false → (i : ℕ) × Absent fs (m / 2) i) → (i : ℕ) × Absent (f ∷ fs) m i
     go true t e on = let (i, (l, o, bit)) = on e in (suc i, (omega arith, o, rw (half-pow m i) bit))
     go false t e on =
         let w = or-false (eqb (f .optional) 1) (eqb (m % 2) 1) t in
         let bit = eqb-false (m % 2) 1 (w .1) in
         (0, (omega arith, eqb-false (f .optional) 1 (w .0), rw (div-one m) (zero-bit (m % 2) bit (omega arith))))
 
-pub lacks : (fs : List Field) (m i : ℕ) → Absent fs m i → complete fs m ≡ false
-lacks fs m i (l, o, bit) = is-false (complete fs m) (λ e. ⊎-elim o (λ set. omega arith) (complete-met fs m e i l))
+pub lacks : (fs : List Field) (m i : ℕ) → Absent fs m i → requiredSet fs m ≡ false
+lacks fs m i (l, o, bit) = is-false (requiredSet fs m) (λ e. ⊎-elim o (λ set. omega arith) (complete-met fs m e i l))
 
 -- ---- what is present
 

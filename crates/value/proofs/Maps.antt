@@ -8,7 +8,7 @@ use Rattle.schema.specs.Table.{Shape, map, struct}
 use Rattle.value.specs.declared.Row.{Row}
 use Rattle.value.specs.Value.{Tree, tip, branch, Forest, stop, plus, Value, leaf, node, Values, none, some, value, values}
 use Rattle.value.specs.Read.{Item, plan}
-use Rattle.value.specs.Spell.{AllSpell, WholeSpells, Spells, RootSpells, EachMap, EachIn, Differ, KeysDiffer, Few, MapsSmall}
+use Rattle.value.specs.Spell.{AllSpell, WholeSpells, Spells, RootSpells, EachMap, EachIn, Differ, KeysDiffer, FewPairs, MapsSmall}
 use Rattle.value.specs.Fits.{AllFit, WholeFits, Fits, RootFits, Shows}
 use Rattle.value.proofs.Pairs.{apart-differ}
 
@@ -71,7 +71,7 @@ module _ (S : ℕ → Shape) (t : ℕ) (fs : List Field) (st : S t ≡ struct fs
 
   -- Each map in a payload's value, and in a value that a sheet shows, has 64 pairs at most.
   pub root-small : (v : Value) (p z : List ℕ) → RootSpells S fs v p z → MapsSmall S v t
-  root-small = root-each Few S (λ d k v n vs u q. q .3 .1) t fs st
+  root-small = root-each FewPairs S (λ d k v n vs u q. q .3 .1) t fs st
 
   pub shown-small : (B : List ℕ) (rs : List Row) (v : Value) → Shows S B t fs rs v → MapsSmall S v t
-  shown-small B rs v (tree, _, f, e) = rw e at (shown-each Few S B (λ d t k v r n ts q. q .1 .1) t fs st tree f)
+  shown-small B rs v (tree, _, f, e) = rw e at (shown-each FewPairs S B (λ d t k v r n ts q. q .1 .1) t fs st tree f)

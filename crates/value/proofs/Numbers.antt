@@ -8,15 +8,15 @@ use Rattle.parse.specs.Reader.{Cursor, Answer, refused, seen}
 use Rattle.parse.proofs.Blames.{Blames, fine, blames}
 use Rattle.schema.specs.declared.Field.{Field}
 use Rattle.schema.specs.Table.{Table, Shape, struct, shape}
-use Rattle.schema.specs.Good.{GoodTable}
+use Rattle.schema.specs.Good.{GoodSchema}
 use Rattle.value.specs.declared.Row.{Row}
 use Rattle.value.specs.Read.{rootStruct}
 use Rattle.value.specs.Reasons.{BitmapFault, cut, absent, OwnFault, cut-number, bad-number, exceeds, cut-scalar, no-bool, no-string, many-pairs, bits, unknown-bit}
 use Rattle.value.specs.Reasons.{Faulty, too-deep, own, inner, repeated, RootFault, bits as root-bits, field, surplus, short-tail}
 use Rattle.value.specs.Reasons.{Reason, no-struct, too-long, faulty, too-few-rows}
 use Rattle.value.specs.SheetReasons as sheet
-use Rattle.value.specs.Listed as listed
-use Rattle.value.specs.Listed.{ValueFault, within-list, many-pairs as pairs, ReadNumber, WriteNumber}
+use Rattle.value.specs.Numbered as listed
+use Rattle.value.specs.Numbered.{ValueFault, within-list, many-pairs as pairs, ReadNumber, WriteNumber}
 use Rattle.value.proofs.Refusals.{good-blames}
 
 -- an answer that is no refusal, or one with a number of a value's fault
@@ -52,7 +52,7 @@ module _ {S : ℕ → Shape} where
   fault-number (surplus due none some) = within-list (lit≤ tt) (lit≤ tt)
   fault-number (short-tail due few) = within-list (lit≤ tt) (lit≤ tt)
 
-pub root-numbered : (T : Table) → GoodTable T → (t : ℕ) (fs : List Field) → shape T t ≡ struct fs → (c : Cursor) → Numbered (rootStruct (shape T) t fs c)
+pub root-numbered : (T : Table) → GoodSchema T → (t : ℕ) (fs : List Field) → shape T t ≡ struct fs → (c : Cursor) → Numbered (rootStruct (shape T) t fs c)
 root-numbered T good t fs st c = go (good-blames T good t fs st c)
   where
     go : {A : Type 0} {m : Answer A} → Blames c (RootFault (shape T) fs) m → Numbered m

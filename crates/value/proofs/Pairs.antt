@@ -15,7 +15,7 @@ use Rattle.value.specs.Value.{Tree, tip, branch, Forest, stop, plus, Val
 use Rattle.value.specs.Read.{Item, pairs, plan}
 use Rattle.value.specs.Spell.{HeadSpells, AllSpell, Spells, keysOf, Apart, nth, Differ}
 use Rattle.value.specs.Fits.{HeadFits, AllFit, Fits}
-use Rattle.value.specs.Reasons.{Due, Holds, KeyAmong}
+use Rattle.value.specs.Reasons.{Due, AmongKeys, KeyAmong}
 use Rattle.value.specs.SheetReasons.{RowDue}
 use Rattle.value.proofs.Complete.{length-pairs}
 
@@ -70,7 +70,7 @@ module _ (P : ℕ → Value → List ℕ → Type 0) (k : ℕ) (leaves : (v : Va
 
   -- A content is that of one of the keys of m pairs exactly where that key is the same value.
   holds-iff : (m w : ℕ) (vs : Values) (u : List ℕ) → AllSpell P (pairs m k w) vs u → (v : Value) (x : List ℕ) → P k v x
-      → Holds (keysOf (pairs m k w) vs) (content v) ↔ KeyAmong m vs v
+      → AmongKeys (keysOf (pairs m k w) vs) (content v) ↔ KeyAmong m vs v
   holds-iff m w vs u q v x p =
       let r = pair-keys P m k w vs u q in
       let (z, is-z) = leaves v x p in (
@@ -155,18 +155,18 @@ module _ (S : ℕ → Shape) (k : ℕ) (key : KeyShape (S k)) where
     -- The reason of 24, in bytes and in rows: of the m pairs before the later key one has the same value as its key.
     pub repeated-iff : {d : ℕ} {u y left : List ℕ} {i : Item} {earlier : List (List ℕ)} (q : Due S d (S t) u y left i earlier) → i .key ≡ true
         → (v : Value) (x : List ℕ) → Spells S d (i .type) v x
-        → (m : ℕ) × (length (q .before) ≡ 2 * m) × (Holds earlier (content v) ↔ KeyAmong m (q .shown) v)
+        → (m : ℕ) × (length (q .before) ≡ 2 * m) × (AmongKeys earlier (content v) ↔ KeyAmong m (q .shown) v)
     repeated-iff {d} {u} {y} {left} {i} {earlier} q b v x z =
         let (m, p, ty) = before-key (q .head) k w (q .before) i (q .after) (rw is-map at (q .planned)) b in
         let a : AllSpell (Spells S d) (pairs m k w) (q .shown) y = subst (λ (is : List Item). AllSpell (Spells S d) is (q .shown) y) p (q .spelled) in
         let e : keysOf (pairs m k w) (q .shown) ≡ earlier = sym (ap (λ (is : List Item). keysOf is (q .shown)) p) ∙ q .keys in
         let s : Spells S d k v x = subst (λ (t : ℕ). Spells S d t v x) ty z in
         let h = holds-iff (Spells S d) k (spelled-leaf d) m w (q .shown) y a v x s in
-        (m, ap length p ∙ length-pairs m k w, subst (λ (ks : List (List ℕ)). Holds ks (content v) ↔ KeyAmong m (q .shown) v) e h)
+        (m, ap length p ∙ length-pairs m k w, subst (λ (ks : List (List ℕ)). AmongKeys ks (content v) ↔ KeyAmong m (q .shown) v) e h)
 
     pub row-repeated-iff : (B : List ℕ) {d : ℕ} {r : Row} {ts : Forest} {i : Item} {earlier : List (List ℕ)} (q : RowDue B S d t r ts i earlier)
         → i .key ≡ true → (tree : Tree) → Fits S B d (i .type) tree
-        → (m : ℕ) × (length (q .before) ≡ 2 * m) × (Holds earlier (content (value tree)) ↔ KeyAmong m (values ts) (value tree))
+        → (m : ℕ) × (length (q .before) ≡ 2 * m) × (AmongKeys earlier (content (value tree)) ↔ KeyAmong m (values ts) (value tree))
     row-repeated-iff B {d} {r} {ts} {i} {earlier} q b tree z =
         let (m, p, ty) = before-key (q .head) k w (q .before) i (q .after) (rw is-map at (q .planned)) b in
         let a : AllFit (Fits S B d) (pairs m k w) ts = subst (λ (is : List Item). AllFit (Fits S B d) is ts) p (q .fit) in
@@ -174,4 +174,4 @@ module _ (S : ℕ → Shape) (k : ℕ) (key : KeyShape (S k)) where
         let s : Fits S B d k tree = subst (λ (t : ℕ). Fits S B d t tree) ty z in
         let f = all-fitted (Fits S B d) (pairs m k w) ts a in
         let h = holds-iff (Fitted (Fits S B d)) k (fitted-leaf B d) m w (values ts) [] f (value tree) [] (tree, s, refl) in
-        (m, ap length p ∙ length-pairs m k w, subst (λ (ks : List (List ℕ)). Holds ks (content (value tree)) ↔ KeyAmong m (values ts) (value tree)) e h)
+        (m, ap length p ∙ length-pairs m k w, subst (λ (ks : List (List ℕ)). AmongKeys ks (content (value tree)) ↔ KeyAmong m (values ts) (value tree)) e h)

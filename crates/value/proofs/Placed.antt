@@ -12,7 +12,7 @@ use Rattle.parse.proofs.Places.{On, block-placed, count-placed}
 use Rattle.schema.specs.declared.Field.{Field}
 use Rattle.schema.specs.Table.{Shape, unknown, scalar, text, array, map, struct}
 use Rattle.value.specs.Value.{Tree, tip, branch, values}
-use Rattle.value.specs.Read.{Item, Own, plain, parts, plan, counted, leafRow, nodeRow, bitmap, own, walk, whole, parse, rootStruct}
+use Rattle.value.specs.Read.{Item, Own, plain, parts, plan, rowCount, leafRow, nodeRow, bitmap, own, walk, wholeValue, parse, rootStruct}
 use Rattle.value.specs.Fits.{LeafFits, BitsFit, HeadFits, AllFit, WholeFits, Fits, RootFits}
 use Rattle.value.proofs.Keys.{Fresh, fresh-apart}
 use Rattle.value.proofs.Sound.{asked}
@@ -28,7 +28,7 @@ module _ (B : List ℕ) where
   -- What the own bytes of a value say, up to the cursor.
   abbrev pub OwnFits : Shape → Own → Cursor → Type 0
   OwnFits s (plain x) c = LeafFits B s (c .at - length x) (length x) 0 x
-  OwnFits s (parts start h) c = HeadFits B s start (counted s h) h
+  OwnFits s (parts start h) c = HeadFits B s start (rowCount s h) h
 
   pub own-placed : (s : Shape) (c : Cursor) → On B c → Seen (λ o c′. On B c′ × OwnFits s o c′) (own s c)
   own-placed unknown c o = nothing
@@ -54,11 +54,11 @@ module _ (B : List ℕ) where
         seen-after (pP (i .type) c o) (λ t c₁ w. seen-check _ _ _ _ _ (λ e.
         seen-after (walk-placed _ is c₁ (w .0)) (λ ts c₂ w′. holds (w′ .0, (w .1, w′ .1), (not-true _ e, w′ .2)))))
 
-    whole-placed : (t : ℕ) (s : Shape) (own : Own) (c : Cursor) → On B c → OwnFits s own c → Seen (λ tree c′. On B c′ × WholeFits P B s t tree) (whole p t s own c)
+    whole-placed : (t : ℕ) (s : Shape) (own : Own) (c : Cursor) → On B c → OwnFits s own c → Seen (λ tree c′. On B c′ × WholeFits P B s t tree) (wholeValue p t s own c)
     whole-placed t s (plain x) c o q = holds {a = tip (leafRow t (c .at) (length x)) x} (o, (refl, q))
     whole-placed t s (parts start h) c o q =
         seen-after (walk-placed [] (plan s h) c o) (λ ts c′ w.
-        holds {a = branch (nodeRow t start (c′ .at) (counted s h)) h ts} (w .0, (refl, q, w .1, fresh-apart (plan s h) (values ts) (w .2))))
+        holds {a = branch (nodeRow t start (c′ .at) (rowCount s h)) h ts} (w .0, (refl, q, w .1, fresh-apart (plan s h) (values ts) (w .2))))
 
   module _ (S : ℕ → Shape) where
     -- What the reader reads at a place of a payload fits the payload.

@@ -14,7 +14,7 @@ use Rattle.schema.specs.Table.{Shape, unknown, scalar, text, array, map, struct
 use Rattle.schema.specs.Extend.{Grows, same, gains}
 use Rattle.value.specs.declared.Row.{Row}
 use Rattle.value.specs.Value.{Tree, tip, branch, Forest, stop, plus, rows, rowsAll, value, values}
-use Rattle.value.specs.Read.{Item, plan, counted, knownBits}
+use Rattle.value.specs.Read.{Item, plan, rowCount, knownBits}
 use Rattle.value.specs.Fits.{LeafFits, BitsFit, HeadKnown, FitsKnown, AllKnown}
 use Rattle.value.specs.Added.{keptHead, without, withoutAll}
 use Rattle.value.specs.Beside.{pruned, prunedAll, SomeOf, done, passed, kept}
@@ -41,7 +41,7 @@ module _ (S : ℕ → Shape) where
 
 -- ---- a tree of the same table
 
-head-same : (B : List ℕ) (s : Shape) (p c h : ℕ) → HeadKnown B s p c h → (keptHead s h ≡ h) × (counted s h ≡ c)
+head-same : (B : List ℕ) (s : Shape) (p c h : ℕ) → HeadKnown B s p c h → (keptHead s h ≡ h) × (rowCount s h ≡ c)
 head-same B (array _) p c h q = (refl, sym q)
 head-same B (map _ _) p c h q = (refl, sym q)
 head-same B (struct fs) p c h q = (rw (q .2) (mod-mod (q .0) (2 ^ length fs)), sym (q .3))
@@ -123,7 +123,7 @@ module _ (S S′ : ℕ → Shape) (n : ℕ) (w : Widening S S′ n) (B : List �
 
   -- A head by the wider shape: what the narrower one shows of it; and its plan goes on after the narrower one's.
   head-shown : {s s′ : Shape} → Grows s s′ → (p c h : ℕ) → HeadKnown B s′ p c h
-      → HeadKnown B s p (counted s h) (keptHead s h) × (plan s (keptHead s h) ≡ plan s h) × ((js : List Item) × (plan s′ h ≡ plan s h ++ js))
+      → HeadKnown B s p (rowCount s h) (keptHead s h) × (plan s (keptHead s h) ≡ plan s h) × ((js : List Item) × (plan s′ h ≡ plan s h ++ js))
   head-shown (same s) p c h q = let e = head-same B s p c h q in rw (e .0, e .1) (q, refl, ([], sym (append-nil (plan s h))))
   head-shown (gains fs gs o) p c h (m, f, e, k) =
       let b = bits-shown B fs gs o p m f in

@@ -20,7 +20,7 @@ use Rattle.schema.specs.declared.Field.{Field}
 use Rattle.schema.specs.Table.{Shape, unknown, scalar, text, array, map, struct, width}
 use Rattle.schema.proofs.Bools.{or-false, clash}
 use Rattle.value.specs.Value.{values, content}
-use Rattle.value.specs.Read.{Item, plan, Own, plain, parts, bitmap, own, walk, whole, parse, knownBits, unknownBits, ending, rootStruct}
+use Rattle.value.specs.Read.{Item, plan, Own, plain, parts, bitmap, own, walk, wholeValue, parse, knownBits, unknownBits, rootEnding, rootStruct}
 use Rattle.value.specs.Spell.{BitmapSpells, keysOf, Spells}
 use Rattle.value.specs.Reasons.{least, BitmapFault, cut, absent, OwnFault, cut-number, bad-number, exceeds, cut-scalar, no-bool, no-string, many-pairs, bits, unknown-bit}
 use Rattle.value.specs.Reasons.{Due, Faulty, too-deep, own as own-fault, inner, repeated, RootDue, RootFault, bits as root-bits, field, surplus, short-tail}
@@ -155,7 +155,7 @@ module _ (S : ℕ → Shape) (types : ℕ) (there : (t : ℕ) → t < types → 
     where
       go : (o : Own) (c₁ : Cursor) (u : List ℕ) → c .left ≡ u ++ c₁ .left → c₁ .at ≡ c .at + length u → OwnSpells (S t) o u → Enough (S t) o c₁
           → ((head : ℕ) → Blames c₁ (Stops (Spells S d) (Faulty S d) [] (plan (S t) head)) (walk (parse S d) [] (plan (S t) head) c₁))
-          → Blames c (Faulty S (suc d) t) (whole (parse S d) t (S t) o c₁)
+          → Blames c (Faulty S (suc d) t) (wholeValue (parse S d) t (S t) o c₁)
       go (plain x) c₁ u l k q room on = fine
       go (parts start head) c₁ u l k q room on =
           blames-map (blames-on u l k (on head) (λ w x rest n e f. held-fault d t head u (c₁ .left) w x rest n q room e f)) (λ _ _. fine)
@@ -163,11 +163,11 @@ module _ (S : ℕ → Shape) (types : ℕ) (there : (t : ℕ) → t < types → 
   -- ---- the root
 
   ending-blames : (fs : List Field) (m : ℕ) (u y : List ℕ) (c : Cursor) → RootDue S fs m u y []
-      → Blames c (λ w x rest n. (w ≡ []) × RootFault S fs (u ++ y) x rest n) (ending (unknownBits fs m) c)
-  unfolding ending
+      → Blames c (λ w x rest n. (w ≡ []) × RootFault S fs (u ++ y) x rest n) (rootEnding (unknownBits fs m) c)
+  unfolding rootEnding
   ending-blames fs m u y c r = go (unknownBits fs m) refl
     where
-      go : (k : ℕ) → unknownBits fs m ≡ k → Blames c (λ w x rest n. (w ≡ []) × RootFault S fs (u ++ y) x rest n) (ending k c)
+      go : (k : ℕ) → unknownBits fs m ≡ k → Blames c (λ w x rest n. (w ≡ []) × RootFault S fs (u ++ y) x rest n) (rootEnding k c)
       go zero e = test-blames _ _ c (λ z. (refl, surplus r e (some-left (c .left) (eqb-false _ 0 z))))
       go (suc k) e = test-blames _ _ c (λ z. (refl, short-tail r (omega (arith, leb-false (suc k) (length (c .left)) z))))
 

@@ -12,7 +12,7 @@ use Rattle.parse.proofs.Answers.{Seen, value as holds, yields-end}
 use Rattle.parse.proofs.Blames.{Blames, fine, blames}
 use Rattle.schema.specs.declared.Field.{Field}
 use Rattle.schema.specs.Table.{Table, Shape, unknown, scalar, text, array, map, struct, shape}
-use Rattle.schema.specs.Good.{GoodTable}
+use Rattle.schema.specs.Good.{GoodSchema}
 use Rattle.schema.proofs.Shapes.{known}
 use Rattle.value.specs.declared.Row.{Row}
 use Rattle.value.specs.Value.{Tree, rows, value}
@@ -26,7 +26,7 @@ use Rattle.value.proofs.Refused.{root-refused}
 use Rattle.value.proofs.Shapes.{good-solid, good-closed}
 use Rattle.value.proofs.TwoTables.{plan-below}
 
-module _ (T : Table) (good : GoodTable T) (t : ℕ) where
+module _ (T : Table) (good : GoodSchema T) (t : ℕ) where
   pub good-blames : (fs : List Field) → shape T t ≡ struct fs → (c : Cursor) → Blames c (RootFault (shape T) fs) (rootStruct (shape T) t fs c)
   good-blames fs st c =
       root-blames (shape T) (length (T .types)) (known T good) (λ t head. plan-below (length (T .types)) (shape T t) head (good-closed T good t)) t fs st c

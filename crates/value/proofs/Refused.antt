@@ -18,7 +18,7 @@ use Rattle.schema.specs.declared.Field.{Field}
 use Rattle.schema.specs.Table.{Shape, unknown, scalar, text, array, map, struct, bitmapBytes}
 use Rattle.schema.proofs.Bools.{is-false}
 use Rattle.value.specs.Value.{Values, content}
-use Rattle.value.specs.Read.{Item, plan, among, bitmap, own, parse, knownBits, unknownBits, ending, rootStruct}
+use Rattle.value.specs.Read.{Item, plan, among, bitmap, own, parse, knownBits, unknownBits, rootEnding, rootStruct}
 use Rattle.value.specs.Spell.{Spells}
 use Rattle.value.specs.Reasons.{least, BitmapFault, cut, absent, OwnFault, cut-number, bad-number, exceeds, cut-scalar, no-bool, no-string, many-pairs, bits, unknown-bit}
 use Rattle.value.specs.Reasons.{Due, Faulty, too-deep, own as own-fault, inner, repeated, RootDue, RootFault, bits as root-bits, field, surplus, short-tail}
@@ -91,13 +91,13 @@ unkeyed-front (i ∷ is) js u = (u .0, unkeyed-front is js (u .1))
 pub fields-fresh : (fs : List Field) (m : ℕ) (before after : List Item) (vs : Values) → plan (struct fs) (knownBits fs m) ≡ before ++ after → Fresh [] before vs
 fields-fresh fs m before after vs e = unkeyed-fresh [] before vs (unkeyed-front before after (subst Unkeyed e (present-unkeyed fs (knownBits fs m))))
 
-surplus-refused : (k : ℕ) (c : Cursor) → k ≡ 0 → 0 < length (c .left) → ending k c ≡ refused 27 (c .at)
-unfolding ending check
+surplus-refused : (k : ℕ) (c : Cursor) → k ≡ 0 → 0 < length (c .left) → rootEnding k c ≡ refused 27 (c .at)
+unfolding rootEnding check
 surplus-refused zero c none some = rw (ne-eqb (length (c .left)) 0 (λ e. omega arith))
 surplus-refused (suc k) c none some = absurd (omega arith)
 
-short-refused : (k : ℕ) (c : Cursor) → length (c .left) < k → ending k c ≡ refused 20 (c .at)
-unfolding ending check
+short-refused : (k : ℕ) (c : Cursor) → length (c .left) < k → rootEnding k c ≡ refused 20 (c .at)
+unfolding rootEnding check
 short-refused zero c few = absurd (omega arith)
 short-refused (suc k) c few = rw (lt-leb (suc k) (length (c .left)) few)
 
@@ -141,7 +141,7 @@ module _ (S : ℕ → Shape) (solid : (t : ℕ) → Solid (S t)) where
         (rw (due .planned) (stops _ (stopped ∙ ap (refused n) (simp length-append (omega (arith, due .starts .0))))))
 
     -- All known fields are spelled, and what follows them is refused.
-    ending-refused : (x : List ℕ) (n : ℕ) → RootDue S fs m u y [] → ((c : Cursor) → c .left ≡ x → ending (unknownBits fs m) c ≡ refused n (c .at))
+    ending-refused : (x : List ℕ) (n : ℕ) → RootDue S fs m u y [] → ((c : Cursor) → c .left ≡ x → rootEnding (unknownBits fs m) c ≡ refused n (c .at))
         → c .left ≡ u ++ (y ++ x) → rootStruct S t fs c ≡ refused n (c .at + length (u ++ y))
     unfolding rootStruct
     ending-refused x n due f l =

@@ -14,7 +14,7 @@ use Rattle.parse.proofs.Answers.{Seen, value as holds, seen-then, check-true, c
 use Rattle.schema.specs.declared.Field.{Field}
 use Rattle.schema.specs.Table.{Shape, struct, bitmapBytes}
 use Rattle.value.specs.Value.{Value, leaf, node, Values, none, some, value}
-use Rattle.value.specs.Read.{Item, present, plan, parse, rootBits, unknownBits, ending, rootStruct}
+use Rattle.value.specs.Read.{Item, present, plan, parse, rootBits, unknownBits, rootEnding, rootStruct}
 use Rattle.value.specs.Spell.{BitmapSpells, Spells, TailFits, RootSpells}
 use Rattle.value.proofs.Shapes.{Solid}
 use Rattle.value.proofs.Keys.{Fresh}
@@ -54,13 +54,13 @@ root-tail S fs (node h vs) payload z q =
     let (m, x, y, e, bitmap, _, _, fits) = q in
     subst (λ (n : ℕ). TailFits (unknownBits fs n) z) (sym (bits-in-front fs m x (y ++ z) payload e bitmap)) fits
 
-pub ending-sound : (k : ℕ) (c c′ : Cursor) (u : Unit {0}) → ending k c ≡ seen u c′ → (c ≡ c′) × TailFits k (c .left)
-unfolding ending
+pub ending-sound : (k : ℕ) (c c′ : Cursor) (u : Unit {0}) → rootEnding k c ≡ seen u c′ → (c ≡ c′) × TailFits k (c .left)
+unfolding rootEnding
 ending-sound zero c c′ u e = (check-stays _ _ _ _ e, (omega arith, λ _. eqb-true _ 0 (check-true _ _ _ _ e)))
 ending-sound (suc k) c c′ u e = (check-stays _ _ _ _ e, (leb-true (suc k) _ (check-true _ _ _ _ e), λ z. absurd (omega arith)))
 
-pub ending-complete : (k : ℕ) (c : Cursor) → TailFits k (c .left) → ending k c ≡ seen tt c
-unfolding ending
+pub ending-complete : (k : ℕ) (c : Cursor) → TailFits k (c .left) → rootEnding k c ≡ seen tt c
+unfolding rootEnding
 ending-complete zero c h = passes _ _ _ _ (eq-eqb _ 0 (h .1 refl))
 ending-complete (suc k) c h = passes _ _ _ _ (le-leb _ _ (h .0))
 

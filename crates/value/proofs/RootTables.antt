@@ -13,7 +13,7 @@ use Rattle.schema.specs.declared.Field.{Field}
 use Rattle.schema.specs.Table.{Shape, struct, bitmapBytes}
 use Rattle.value.specs.declared.Row.{Row}
 use Rattle.value.specs.Value.{Value, Values, none as empty, some as and, Tree, tip, branch, Forest, stop, plus, value, values, content}
-use Rattle.value.specs.Read.{Item, counted, nodeRow, present, bitmap, walk, parse, rootBits, knownBits, unknownBits, rootStruct, among, withKey}
+use Rattle.value.specs.Read.{Item, rowCount, nodeRow, present, bitmap, walk, parse, rootBits, knownBits, unknownBits, rootStruct, among, withKey}
 use Rattle.value.specs.Spell.{AllSpell, Spells, TailFits}
 use Rattle.value.proofs.Shapes.{FieldsBelow, Optional, Extension}
 use Rattle.value.specs.Added.{firstAdded, reachedAll, NoneAdded}
@@ -94,7 +94,7 @@ all-empty P (i ∷ is) vs u q e = absurd (omega arith)
 
 -- What the old root shows of a struct with the bits m: the trees us of its known fields, up to the cursor after them.
 abbrev pub rootTree : ℕ → List Field → (start m : ℕ) → Forest → Cursor → Tree
-rootTree t fs start m us end = branch (nodeRow t start (end .at) (counted (struct fs) m)) (knownBits fs m) us
+rootTree t fs start m us end = branch (nodeRow t start (end .at) (rowCount (struct fs) m)) (knownBits fs m) us
 
 module _ (S S′ : ℕ → Shape) (n : ℕ) (x : Extension S S′ n) (t : ℕ) (fs gs : List Field) (below : FieldsBelow n fs)
     (b : bitmapBytes (length (fs ++ gs)) ≡ bitmapBytes (length fs)) (o : Optional gs) (c : Cursor)
@@ -146,7 +146,7 @@ module _ (S S′ : ℕ → Shape) (n : ℕ) (x : Extension S S′ n) (t : ℕ) (
     new-then-old-root = seen-then _ (λ m c₁ e₁. seen-then _ (λ ts c₂ e₂. seen-then _ (λ _ c₃ e₃.
         let w = walk-split (parse S′ 15) [] (present fs m) (present gs (m / 2 ^ length fs)) (present-unkeyed fs m) c₁ ts c₂ (rw (plan-split fs gs m) at e₂) in
         let z = ending-sound _ c₂ c₃ _ e₃ in
-        rw (← z .0) (holds (joined m c₁ ts c₂ (w .0) (w .1) (w .2) (nodeRow t (c .at) (c₂ .at) (counted (struct (fs ++ gs)) (knownBits (fs ++ gs) m))) (rw (bitmap-gain fs gs b o c) at e₁) (w .3) (w .4) (w .5) (z .1))))))
+        rw (← z .0) (holds (joined m c₁ ts c₂ (w .0) (w .1) (w .2) (nodeRow t (c .at) (c₂ .at) (rowCount (struct (fs ++ gs)) (knownBits (fs ++ gs) m))) (rw (bitmap-gain fs gs b o c) at e₁) (w .3) (w .4) (w .5) (z .1))))))
 
     -- ---- from the old table to the new one
 

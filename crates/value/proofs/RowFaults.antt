@@ -21,7 +21,7 @@ use Rattle.schema.specs.Table.{Shape, unknown, scalar, text, array, map, struct
 use Rattle.schema.proofs.Bools.{clash, and-left, and-right}
 use Rattle.value.specs.declared.Row.{Row}
 use Rattle.value.specs.Value.{Tree, Forest, stop, plus, rows, rowsAll, Value, value, Values, none, some, values, content}
-use Rattle.value.specs.Read.{Item, plan, counted, Own, plain, parts, walk, knownBits}
+use Rattle.value.specs.Read.{Item, plan, rowCount, Own, plain, parts, walk, knownBits}
 use Rattle.value.specs.Spell.{AllSpell, keysOf}
 use Rattle.value.specs.Write.{nextRow, rowDue, bitsAt, says, held, show, showRoot}
 use Rattle.value.specs.Fits.{BitsFit, HeadFits, AllFit, Fits}
@@ -74,7 +74,7 @@ module _ (B : List ℕ) where
   pub string-fault : (kind p n : ℕ) → kind ≡ 12 → p + n ≤ length B → utf8 (span B p n) ≡ false → RowFault B (text kind) p n 0 23
   string-fault kind p n is inside e = rw is (no-string (span B p n) (inside, refl) (λ w. clash (utf8 (span B p n)) (utf8-is (span B p n) .1 w) e))
 
-  struct-fault : (fs : List Field) (p n k m : ℕ) → BitsFit B fs p m → ltb m (2 ^ length fs) && eqb k (counted (struct fs) m) ≡ false → RowFault B (struct fs) p n k 50
+  struct-fault : (fs : List Field) (p n k m : ℕ) → BitsFit B fs p m → ltb m (2 ^ length fs) && eqb k (rowCount (struct fs) m) ≡ false → RowFault B (struct fs) p n k 50
   struct-fault fs p n k m q e =
       struct-unfit m q (⊎-elim (λ b. inl (bit-beyond (length fs) m .0 (ltb-false m _ b))) (λ z. inr (eqb-false k _ z)) (both-not _ _ e))
 
@@ -185,7 +185,7 @@ module _ (S : ℕ → Shape) (B : List ℕ) where
     -- ---- the root
 
     field-fault : (t : ℕ) (fs : List Field) (m : ℕ) (r : Row) (w x rest : List Row) (n : ℕ) → r .ty ≡ t → BitsFit B fs (r .place) m
-        → r .count ≡ counted (struct fs) (knownBits fs m) → Stops (RowsShow S B 15) (SheetFaulty B S 15) [] (plan (struct fs) (knownBits fs m)) w x rest n
+        → r .count ≡ rowCount (struct fs) (knownBits fs m) → Stops (RowsShow S B 15) (SheetFaulty B S 15) [] (plan (struct fs) (knownBits fs m)) w x rest n
         → SheetFault B S t fs (r ∷ w) x rest n
     field-fault t fs m r w x rest n of-type starts count q = go (forest-of 15 (q .before) (q .shown) (q .y) (q .spelled)) (q .fault)
       where

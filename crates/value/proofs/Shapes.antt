@@ -7,7 +7,7 @@ use lib.ListN.{length, getD}
 use Rattle.schema.specs.declared.Field.{Field}
 use Rattle.schema.specs.Table.{Table, Shape, unknown, scalar, text, array, map, struct, shape, width}
 use Rattle.schema.specs.Check.{noField}
-use Rattle.schema.specs.Good.{GoodTable}
+use Rattle.schema.specs.Good.{GoodSchema}
 use Rattle.schema.specs.Extend.{Widens, Extends, Grows, SameBytes}
 use Rattle.schema.proofs.Shapes.{Within, within}
 use Rattle.schema.proofs.Extending.{grows, same-bytes}
@@ -84,18 +84,18 @@ within-closed n key unknown w = tt
 within-closed n key (scalar _) w = tt
 within-closed n key (text _) w = tt
 
-pub good-solid : (T : Table) → GoodTable T → (t : ℕ) → Solid (shape T t)
+pub good-solid : (T : Table) → GoodSchema T → (t : ℕ) → Solid (shape T t)
 good-solid T g t = within-solid _ (shape T) (shape T t) (within T g t)
 
-pub good-closed : (T : Table) → GoodTable T → (t : ℕ) → Closed (length (T .types)) (shape T t)
+pub good-closed : (T : Table) → GoodSchema T → (t : ℕ) → Closed (length (T .types)) (shape T t)
 good-closed T g t = within-closed _ (shape T) (shape T t) (within T g t)
 
-pub good-widening : (old new : Table) → GoodTable old → GoodTable new → Widens old new → Widening (shape old) (shape new) (length (old .types))
+pub good-widening : (old new : Table) → GoodSchema old → GoodSchema new → Widens old new → Widening (shape old) (shape new) (length (old .types))
 good-widening old new g g′ x = record {
   closed = λ t l. good-closed old g t;
   grows = grows old new g g′ x;
   solid = good-solid new g′;
 }
 
-pub good-extension : (old new : Table) → GoodTable old → GoodTable new → Extends old new → Extension (shape old) (shape new) (length (old .types))
+pub good-extension : (old new : Table) → GoodSchema old → GoodSchema new → Extends old new → Extension (shape old) (shape new) (length (old .types))
 good-extension old new g g′ x = record { wide = good-widening old new g g′ (x .widens); bytes = same-bytes old new g g′ x }

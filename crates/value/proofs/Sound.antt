@@ -12,7 +12,7 @@ use Rattle.parse.proofs.Pieces.{block-reads, count-reads}
 use Rattle.schema.specs.declared.Field.{Field}
 use Rattle.schema.specs.Table.{Shape, unknown, scalar, text, array, map, struct}
 use Rattle.value.specs.Value.{Tree, Value, value, values}
-use Rattle.value.specs.Read.{Item, Own, plain, parts, plan, bitmap, own, walk, whole, parse}
+use Rattle.value.specs.Read.{Item, Own, plain, parts, plan, bitmap, own, walk, wholeValue, parse}
 use Rattle.value.specs.Spell.{LeafSpells, BitmapSpells, HeadSpells, AllSpell, WholeSpells, Spells}
 use Rattle.value.proofs.Keys.{Fresh, fresh-apart}
 
@@ -53,7 +53,7 @@ module _ (P : ℕ → Value → List ℕ → Type 0) (p : ℕ → Reader Tree) (
       reads-then (walk-reads _ is c′) (λ ts c″ u′ r′. stay ((u, u′, rw append-nil, r, r′ .0), (not-true _ e, r′ .1)))))
 
   whole-reads : (t : ℕ) (s : Shape) (o : Own) (u : List ℕ) → OwnSpells s o u → (c : Cursor)
-      → Reads c (λ tree u′. WholeSpells P s (value tree) (u ++ u′)) (whole p t s o c)
+      → Reads c (λ tree u′. WholeSpells P s (value tree) (u ++ u′)) (wholeValue p t s o c)
   unfolding value
   whole-reads t s (plain x) u q c = stay (rw append-nil q)
   whole-reads t s (parts start h) u q c =

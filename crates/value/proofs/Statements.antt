@@ -18,19 +18,19 @@ use Rattle.schema.specs.Table.{Table, array, map, struct, shape, bitmapBytes}
 use Rattle.value.specs.declared.Row.{Row}
 use Rattle.value.specs.Value.{Tree, branch, Forest, Value, node, Values, value, values, content, depth}
 use Rattle.value.specs.Comparisons.{due, mapDue, comparisons, rowsDue, pairsAmong}
-use Rattle.value.specs.Read.{Item, plainItem, present, plan, complete, rootBits, knownBits, unknownBits, parse, rootStruct, refusal, accepted, read}
+use Rattle.value.specs.Read.{Item, plainItem, present, plan, requiredSet, rootBits, knownBits, unknownBits, parse, rootStruct, refusal, accepted, read}
 use Rattle.value.specs.Spell.{BitmapSpells, AllSpell, keysOf, Spells, TailFits, RootSpells, Differ, KeysDiffer, MapsSmall, encode}
 use Rattle.schema.specs.Check.{noField}
-use Rattle.schema.specs.Good.{GoodTable}
+use Rattle.schema.specs.Good.{GoodSchema}
 use Rattle.schema.specs.Extend.{Extends}
 use Rattle.schema.proofs.Shapes.{KeyShape, within, shape-known}
 use Rattle.value.proofs.Shapes.{Solid, good-solid, Extension, good-extension}
 use Rattle.value.specs.Write.{refusal as refused-write, written, show, write}
 use Rattle.value.specs.Fits.{AllFit, Fits, Shows, told, used}
 use Rattle.value.specs.Added.{carries, inner, firstAdded, NoneAdded}
-use Rattle.value.specs.Reasons.{Due, Holds, KeyAmong, RootFault, Reason, faulty, Settles}
+use Rattle.value.specs.Reasons.{Due, AmongKeys, KeyAmong, RootFault, Reason, faulty, Settles}
 use Rattle.value.specs.SheetReasons.{RowDue, SheetReason}
-use Rattle.value.specs.Listed.{ReadNumber, WriteNumber}
+use Rattle.value.specs.Numbered.{ReadNumber, WriteNumber}
 use Rattle.value.specs.Claims.{setBits, Rightful, ReadAs, Delimited, Writes, ByOld}
 use Rattle.value.proofs.Bits.{bit-beyond}
 use Rattle.value.proofs.Fields as fields
@@ -59,7 +59,7 @@ use Rattle.value.proofs.Extended as extended
 
 -- No required field is absent exactly when each field is optional or has its bit set: bit i for field i.
 pub complete-iff : (fs : List Field) (m : ℕ)
-    → (complete fs m ≡ true) ↔ ((i : ℕ) → i < length fs → (getD fs i noField .optional ≡ 1) ⊎ (m / 2 ^ i % 2 ≡ 1))
+    → (requiredSet fs m ≡ true) ↔ ((i : ℕ) → i < length fs → (getD fs i noField .optional ≡ 1) ⊎ (m / 2 ^ i % 2 ≡ 1))
 complete-iff fs m = (fields.complete-met fs m, fields.met-complete fs m)
 
 -- The items of a struct are its fields whose bits are set, in the order of their numbers: bit i for field i.
@@ -90,7 +90,7 @@ due-pairs = compared.due-pairs
 pub due-half : (n : ℕ) → 2 * due n ≡ n * (n - 1)
 due-half = compared.due-half
 
-module _ (T : Table) (good : GoodTable T) (t : ℕ) where
+module _ (T : Table) (good : GoodSchema T) (t : ℕ) where
   solid : (t : ℕ) → Solid (shape T t)
   solid = good-solid T good
 
@@ -166,12 +166,12 @@ module _ (T : Table) (good : GoodTable T) (t : ℕ) where
     -- in rows.
     pub repeated-iff : {d : ℕ} {u y left : List ℕ} {i : Item} {earlier : List (List ℕ)} (q : Due (shape T) d (shape T t) u y left i earlier) → i .key ≡ true
         → (v : Value) (x : List ℕ) → Spells (shape T) d (i .type) v x
-        → (m : ℕ) × (length (q .before) ≡ 2 * m) × (Holds earlier (content v) ↔ KeyAmong m (q .shown) v)
+        → (m : ℕ) × (length (q .before) ≡ 2 * m) × (AmongKeys earlier (content v) ↔ KeyAmong m (q .shown) v)
     repeated-iff = pairs.repeated-iff (shape T) k key t w is-map
 
     pub row-repeated-iff : (B : List ℕ) {d : ℕ} {r : Row} {ts : Forest} {i : Item} {earlier : List (List ℕ)} (q : RowDue B (shape T) d t r ts i earlier)
         → i .key ≡ true → (tree : Tree) → Fits (shape T) B d (i .type) tree
-        → (m : ℕ) × (length (q .before) ≡ 2 * m) × (Holds earlier (content (value tree)) ↔ KeyAmong m (values ts) (value tree))
+        → (m : ℕ) × (length (q .before) ≡ 2 * m) × (AmongKeys earlier (content (value tree)) ↔ KeyAmong m (values ts) (value tree))
     row-repeated-iff = pairs.row-repeated-iff (shape T) k key t w is-map
 
   -- ---- maps of more than 64 pairs
@@ -366,7 +366,7 @@ module _ (T : Table) (good : GoodTable T) (t : ℕ) where
 pub carries-iff : (fs : List Field) (m : ℕ) → (carries (struct fs) m ≡ true) ↔ ((i : ℕ) × (length fs ≤ i) × (m / 2 ^ i % 2 ≡ 1))
 carries-iff fs m = (λ e. bit-beyond (length fs) m .0 (leb-true _ m e), λ w. le-leb _ m (bit-beyond (length fs) m .1 w))
 
-module _ (old new : Table) (good : GoodTable old) (good′ : GoodTable new) (extends : Extends old new) (t : ℕ) (fs : List Field) (st : shape old t ≡ struct fs) where
+module _ (old new : Table) (good : GoodSchema old) (good′ : GoodSchema new) (extends : Extends old new) (t : ℕ) (fs : List Field) (st : shape old t ≡ struct fs) where
   x : Extension (shape old) (shape new) (length (old .types))
   x = good-extension old new good good′ extends
 

@@ -14,7 +14,7 @@ use Rattle.schema.proofs.Bools.{and-left, and-right, or-left, or-right, or-case
 use Rattle.value.specs.Value.{Tree, value, Value, Values, none, some, content}
 use Rattle.value.specs.Read.{Item, same, among, withKey, walk}
 use Rattle.value.specs.Spell.{AllSpell, keysOf}
-use Rattle.value.specs.Reasons.{Holds}
+use Rattle.value.specs.Reasons.{AmongKeys}
 use Rattle.value.proofs.Keys.{Fresh, same-eq, same-refl}
 use Rattle.value.proofs.TwoTables.{Below}
 
@@ -25,18 +25,18 @@ met keys (i ∷ is) none = keys
 met keys (i ∷ is) (some v vs) = met (withKey (i .key) (content v) keys) is vs
 
 -- The content is one of the keys met before, or of those of the items.
-met-holds : (keys : List (List ℕ)) (is : List Item) (vs : Values) (x : List ℕ) → among x (met keys is vs) ≡ true → (among x keys ≡ true) ⊎ Holds (keysOf is vs) x
+met-holds : (keys : List (List ℕ)) (is : List Item) (vs : Values) (x : List ℕ) → among x (met keys is vs) ≡ true → (among x keys ≡ true) ⊎ AmongKeys (keysOf is vs) x
 met-holds keys [] vs x e = inl e
 met-holds keys (i ∷ is) none x e = inl e
 met-holds keys (i ∷ is) (some v vs) x e = go (i .key) (met-holds (withKey (i .key) (content v) keys) is vs x e)
   where
-    go : (b : Bool) → (among x (withKey b (content v) keys) ≡ true) ⊎ Holds (keysOf is vs) x → (among x keys ≡ true) ⊎ Holds (withKey b (content v) (keysOf is vs)) x
+    go : (b : Bool) → (among x (withKey b (content v) keys) ≡ true) ⊎ AmongKeys (keysOf is vs) x → (among x keys ≡ true) ⊎ AmongKeys (withKey b (content v) (keysOf is vs)) x
     go true (inl e) = ⊎-elim (λ s. inr (0, omega arith, sym (same-eq x (content v) s))) inl (or-cases (same x (content v)) (among x keys) e)
     go false (inl e) = inl e
     go true (inr (j, l, e)) = inr (suc j, omega arith, e)
     go false (inr h) = inr h
 
-pub met-none : (is : List Item) (vs : Values) (x : List ℕ) → among x (met [] is vs) ≡ true → Holds (keysOf is vs) x
+pub met-none : (is : List Item) (vs : Values) (x : List ℕ) → among x (met [] is vs) ≡ true → AmongKeys (keysOf is vs) x
 met-none is vs x e = ⊎-elim (λ none. absurd (false≢true none)) (λ h. h) (met-holds [] is vs x e)
 
 met-keeps : (keys : List (List ℕ)) (is : List Item) (vs : Values) (x : List ℕ) → among x keys ≡ true → among x (met keys is vs) ≡ true
@@ -48,7 +48,7 @@ met-keeps keys (i ∷ is) (some v vs) x e = met-keeps (withKey (i .key) (content
     go true = or-right (same x (content v)) (among x keys) e
     go false = e
 
-pub holds-met : (keys : List (List ℕ)) (is : List Item) (vs : Values) (x : List ℕ) → Holds (keysOf is vs) x → among x (met keys is vs) ≡ true
+pub holds-met : (keys : List (List ℕ)) (is : List Item) (vs : Values) (x : List ℕ) → AmongKeys (keysOf is vs) x → among x (met keys is vs) ≡ true
 holds-met keys [] vs x h = absurd (omega (arith, h .1))
 holds-met keys (i ∷ is) none x h = absurd (omega (arith, h .1))
 holds-met keys (i ∷ is) (some v vs) x h = go (i .key) h (λ keys′. holds-met keys′ is vs x)
@@ -56,7 +56,7 @@ holds-met keys (i ∷ is) (some v vs) x h = go (i .key) h (λ keys′. holds-met
     here : x ≡ content v → among x (met (content v ∷ keys) is vs) ≡ true
     here e = met-keeps (content v ∷ keys) is vs x (or-left (same x (content v)) (among x keys) (rw e (same-refl (content v))))
 
-    go : (b : Bool) → Holds (withKey b (content v) (keysOf is vs)) x → ((keys′ : List (List ℕ)) → Holds (keysOf is vs) x → among x (met keys′ is vs) ≡ true)
+    go : (b : Bool) → AmongKeys (withKey b (content v) (keysOf is vs)) x → ((keys′ : List (List ℕ)) → AmongKeys (keysOf is vs) x → among x (met keys′ is vs) ≡ true)
         → among x (met (withKey b (content v) keys) is vs) ≡ true
     go true (zero, l, e) on = here (sym e)
     go true (suc j, l, e) on = on (content v ∷ keys) (j, omega arith, e)

@@ -8,7 +8,7 @@ use Rattle.schema.specs.Table.{Shape, unknown, scalar, text, array, map, struct
 use Rattle.value.specs.declared.Row.{Row}
 use Rattle.value.specs.Value.{Tree, tip, branch, Forest, stop, plus, rows, rowsAll, Value, value, values}
 use Rattle.value.specs.Read.{Item, present, plan}
-use Rattle.value.specs.Fits.{LeafFits, HeadFits, AllFit, Fits, RootFits, Shows, HeadKnown, FitsKnown, AllKnown, ShowsKnown, Told, heldBy, told}
+use Rattle.value.specs.Fits.{LeafFits, HeadFits, AllFit, Fits, RootFits, Shows, HeadKnown, FitsKnown, AllKnown, ShowsKnown, RowTold, heldBy, told}
 
 leaf-told : (B : List ℕ) (s : Shape) (r : Row) (x : List ℕ) → LeafFits B s (r .place) (r .length) (r .count) x → heldBy B s (r .place) (r .length) ≡ x
 leaf-told B (scalar _) r x q = sym (q .2 .1)
@@ -67,12 +67,12 @@ module _ (B B′ : List ℕ) where
 
 module _ (S : ℕ → Shape) (B B′ : List ℕ) where
   abbrev Same : (Tree → Tree → Type 0)
-  Same tree tree′ = (rest rest′ : List Told) → each (told S B) (rows tree) ++ rest ≡ each (told S B′) (rows tree′) ++ rest′ → (value tree ≡ value tree′) × (rest ≡ rest′)
+  Same tree tree′ = (rest rest′ : List RowTold) → each (told S B) (rows tree) ++ rest ≡ each (told S B′) (rows tree′) ++ rest′ → (value tree ≡ value tree′) × (rest ≡ rest′)
 
   same-told : (r r′ : Row) (t : ℕ) → r .ty ≡ t → r′ .ty ≡ t → told S B r ≡ told S B′ r′ → (r .count ≡ r′ .count) × (heldBy B (S t) (r .place) (r .length) ≡ heldBy B′ (S t) (r′ .place) (r′ .length))
   same-told r r′ t a b e =
-      let k : heldBy B (S (r .ty)) (r .place) (r .length) ≡ heldBy B′ (S (r′ .ty)) (r′ .place) (r′ .length) = ap (λ (w : Told). w .held) e in
-      (ap (λ (w : Told). w .count) e, rw (a, b) at k)
+      let k : heldBy B (S (r .ty)) (r .place) (r .length) ≡ heldBy B′ (S (r′ .ty)) (r′ .place) (r′ .length) = ap (λ (w : RowTold). w .held) e in
+      (ap (λ (w : RowTold). w .count) e, rw (a, b) at k)
 
   mutual
     unfolding rows rowsAll value values FitsKnown AllKnown
@@ -91,7 +91,7 @@ module _ (S : ℕ → Shape) (B B′ : List ℕ) where
         let w = all-told ts ts′ (plan (S t) h) (q .2) (rw a (q′ .2)) rest rest′ (cc) in
         (cc (a, w .0), w .1)
 
-    all-told : (ts ts′ : Forest) (is : List Item) → AllKnown S B ts is → AllKnown S B′ ts′ is → (rest rest′ : List Told)
+    all-told : (ts ts′ : Forest) (is : List Item) → AllKnown S B ts is → AllKnown S B′ ts′ is → (rest rest′ : List RowTold)
         → each (told S B) (rowsAll ts) ++ rest ≡ each (told S B′) (rowsAll ts′) ++ rest′ → (values ts ≡ values ts′) × (rest ≡ rest′)
     all-told stop stop is q q′ rest rest′ e = (refl, e)
     all-told stop (plus t′ ts′) [] q q′ rest rest′ e = absurd q′

@@ -14,17 +14,17 @@ use Rattle.parse.proofs.Answers.{Seen, nothing, value, seen-then, check-true}
 use Rattle.schema.specs.declared.Field.{Field}
 use Rattle.schema.specs.Table.{Shape, unknown, scalar, text, array, map, struct, bitmapBytes}
 use Rattle.value.specs.Value.{Tree, Forest}
-use Rattle.value.specs.Read.{Item, Own, plain, parts, plainItem, pairs, present, plan, bitmap, own, walk, whole, parse}
+use Rattle.value.specs.Read.{Item, Own, plain, parts, plainItem, pairs, present, plan, bitmap, own, walk, wholeValue, parse}
 use Rattle.schema.specs.Extend.{Grows, same, gains, SameBytes}
 use Rattle.value.proofs.Shapes.{FieldsBelow, Closed, Optional, Extension}
-use Rattle.value.specs.Added.{carries, Reached, reached, reachedAll, firstAdded}
+use Rattle.value.specs.Added.{carries, ReachedNode, reached, reachedAll, firstAdded}
 use Rattle.value.proofs.Bits.{complete-gain, present-gain}
 
 orElse : Option ℕ → Option ℕ → Option ℕ
 orElse none y = y
 orElse (some x) y = some x
 
-first-append : (xs ys : List Reached) → firstAdded (xs ++ ys) ≡ orElse (firstAdded xs) (firstAdded ys)
+first-append : (xs ys : List ReachedNode) → firstAdded (xs ++ ys) ≡ orElse (firstAdded xs) (firstAdded ys)
 unfolding orElse
 first-append [] ys = refl
 first-append (x ∷ xs) ys = go (x .adds) (first-append xs ys)
@@ -180,7 +180,7 @@ module _ (S : ℕ → Shape) (n : ℕ) (p q : ℕ → Reader Tree) (pq : (t : �
       (λ x t c′ e. from-then _ (λ _ c″. from-then _ (λ ts c‴. kept (rw (first-append, e)))))
 
   module _ (t : ℕ) where
-    whole-follows : (o : Own) → Closed n (S t) → Bare (S t) o → (c : Cursor) → Follows (first S t) (whole p t (S t) o c) (whole q t (S t) o c)
+    whole-follows : (o : Own) → Closed n (S t) → Bare (S t) o → (c : Cursor) → Follows (first S t) (wholeValue p t (S t) o c) (wholeValue q t (S t) o c)
     unfolding reached
     whole-follows (plain x) w f c = both refl
     whole-follows (parts start h) w f c =
@@ -188,7 +188,7 @@ module _ (S : ℕ → Shape) (n : ℕ) (p q : ℕ → Reader Tree) (pq : (t : �
         (λ ts c′ e. both (rw (f, e)))
         (λ x ts c′ e. kept (rw (f, e)))
 
-    carried : (s : Shape) (start m : ℕ) → carries (S t) m ≡ true → (c : Cursor) → From (first S t) start (whole q t s (parts start m) c)
+    carried : (s : Shape) (start m : ℕ) → carries (S t) m ≡ true → (c : Cursor) → From (first S t) start (wholeValue q t s (parts start m) c)
     unfolding reached
     carried s start m e c = from-then _ (λ ts c′. kept (rw e))
 
@@ -197,7 +197,7 @@ module _ (S : ℕ → Shape) (n : ℕ) (p q : ℕ → Reader Tree) (pq : (t : �
 
     gained : (fs gs : List Field) → S t ≡ struct fs → FieldsBelow n fs → (start m : ℕ) (c : Cursor) (b b′ : Bool)
         → ltb m (2 ^ length fs) ≡ b → ltb m (2 ^ length (fs ++ gs)) ≡ b′
-        → Follows (first S t) (andThen (structOwn start m b c) (whole p t (struct fs))) (andThen (structOwn start m b′ c) (whole q t (struct (fs ++ gs))))
+        → Follows (first S t) (andThen (structOwn start m b c) (wholeValue p t (struct fs))) (andThen (structOwn start m b′ c) (wholeValue q t (struct (fs ++ gs))))
     unfolding structOwn andThen check
     gained fs gs e w start m c true true h h′ =
         let l : m < 2 ^ length fs = ltb-true m _ h in
@@ -210,7 +210,7 @@ module _ (S : ℕ → Shape) (n : ℕ) (p q : ℕ → Reader Tree) (pq : (t : �
     gained fs gs e w start m c false false h h′ = agree
 
     step : (s s′ : Shape) → S t ≡ s → Closed n s → Grows s s′ → SameBytes s s′ → (c : Cursor)
-        → Follows (first S t) (andThen (own s c) (whole p t s)) (andThen (own s′ c) (whole q t s′))
+        → Follows (first S t) (andThen (own s c) (wholeValue p t s)) (andThen (own s′ c) (wholeValue q t s′))
     unfolding structOwn
     step s s′ e w (same _) b c = rw (← e) (then-seen (own-bare (S t) c) (λ o c′ f. whole-follows o (rw e w) f c′))
     step s s′ e w (gains fs gs o) b c =

@@ -16,7 +16,7 @@ use Rattle.wire.proofs.Varuints.{shortest-spelled}
 use Rattle.schema.specs.declared.Field.{Field}
 use Rattle.schema.specs.Table.{Shape, unknown, scalar, text, array, map, struct, bitmapBytes}
 use Rattle.value.specs.Value.{Tree, tip, branch, Forest, stop, plus, Value, value, values}
-use Rattle.value.specs.Read.{Item, plainItem, plan, complete, knownBits, unknownBits}
+use Rattle.value.specs.Read.{Item, plainItem, plan, requiredSet, knownBits, unknownBits}
 use Rattle.value.specs.Spell.{LeafSpells, HeadSpells, BitmapSpells, AllSpell, Spells, RootSpells, leafBytes, headBytes, encode, encodeAll}
 use Rattle.value.proofs.Shapes.{Solid}
 use Rattle.value.specs.Fits.{LeafFits, HeadFits, AllFit, Fits, RootFits}
@@ -34,7 +34,7 @@ module _ (B : List ℕ) where
   leaf-written (map _ _) p n c x q l = absurd q
   leaf-written (struct _) p n c x q l = absurd q
 
-  bits-written : (fs : List Field) (m : ℕ) → m < 2 ^ length fs → complete fs m ≡ true → BitmapSpells fs m (bytes (bitmapBytes (length fs)) m)
+  bits-written : (fs : List Field) (m : ℕ) → m < 2 ^ length fs → requiredSet fs m ≡ true → BitmapSpells fs m (bytes (bitmapBytes (length fs)) m)
   bits-written fs m l e = (length-bytes _ m, little-bytes _ m (bits-fit (length fs) _ m (omega arith) l), e)
 
   head-written : (s : Shape) (p c h : ℕ) → HeadFits B s p c h → length (plan s h) ≤ 16384 → HeadSpells s h (headBytes s h)
@@ -59,8 +59,8 @@ module _ (S : ℕ → Shape) (P : ℕ → Value → List ℕ → Type 0) (Q : �
         (encode S (value t) (i .type), encodeAll S (values ts) is, refl, QP _ t (q .0) (omega arith), all-written is ts (q .1) (omega arith))
 
 -- Only the known bits matter for what is required.
-complete-known : (fs : List Field) (m : ℕ) → complete fs (knownBits fs m) ≡ complete fs m
-unfolding complete
+complete-known : (fs : List Field) (m : ℕ) → requiredSet fs (knownBits fs m) ≡ requiredSet fs m
+unfolding requiredSet
 complete-known [] m = refl
 complete-known (f ∷ fs) m = rw (← add-one (length fs), mod-mod-pow m (length fs) 1, field m (length fs) 1, complete-known fs (m / 2))
 

@@ -1,5 +1,5 @@
 -- What an old table knows of a value that the rules of an extending table allow: which structs carry added fields, and what is left without them.
--- No reader is mentioned. S are the shapes of the old table, so a field is added where its number is beyond the fields of S.
+-- S are the shapes of the old table, so a field is added where its number is beyond the fields of S.
 use mathlib.Core.Path.{_≡_}
 use mathlib.Core.List.{List, [], _∷_, _++_}
 use mathlib.Core.Option.{Option, none, some}
@@ -24,7 +24,7 @@ carries (map _ _) h = false
 -- ---- the structs reached through known fields
 
 -- A composite: its place (a struct's is its bitmap's), and whether it carries an added field.
-pub record Reached : Type 0 where
+pub record ReachedNode : Type 0 where
   pub place : ℕ
   pub adds : Bool
 
@@ -32,22 +32,22 @@ module _ (S : ℕ → Shape) where
   -- The composites in a value of type t, itself first, that are reached through fields the old table knows, in wire order.
   -- The plan by the old shape and a struct's bits has the known fields that are present; what stands after them is not entered.
   unfoldable mutual
-    pub reached : Tree → (t : ℕ) → List Reached
+    pub reached : Tree → (t : ℕ) → List ReachedNode
     reached (tip r x) t = []
     reached (branch r h ts) t = record { place = r .place; adds = carries (S t) h } ∷ reachedAll ts (plan (S t) h)
 
-    pub reachedAll : Forest → List Item → List Reached
+    pub reachedAll : Forest → List Item → List ReachedNode
     reachedAll stop is = []
     reachedAll (plus x ts) [] = []
     reachedAll (plus x ts) (i ∷ is) = reached x (i .type) ++ reachedAll ts is
 
   -- The same without the root itself.
-  abbrev pub inner : Tree → (t : ℕ) → List Reached
+  abbrev pub inner : Tree → (t : ℕ) → List ReachedNode
   inner (tip r x) t = []
   inner (branch r h ts) t = reachedAll ts (plan (S t) h)
 
 -- The place of the first that carries an added field.
-abbrev pub firstAdded : List Reached → Option ℕ
+abbrev pub firstAdded : List ReachedNode → Option ℕ
 firstAdded [] = none
 firstAdded (x ∷ xs) = cond (x .adds) (some (x .place)) (firstAdded xs)
 

@@ -8,7 +8,7 @@ use Rattle.schema.specs.Table.{Table, Shape, struct, shape}
 use Rattle.value.specs.declared.Row.{Row}
 use Rattle.value.specs.Value.{Tree, tip, branch, Forest, stop, plus, rows, Value, value, size}
 use Rattle.value.specs.Comparisons.{comparisons}
-use Rattle.value.specs.Read.{Item, plan, counted, onStruct, rootOf, Reading, refusal, accepted, readingAs}
+use Rattle.value.specs.Read.{Item, plan, rowCount, onStruct, rootOf, Reading, refusal, accepted, readingAs}
 use Rattle.value.specs.Spell.{RootSpells}
 use Rattle.value.specs.Fits.{ShowsKnown}
 use Rattle.value.specs.Added.{keptHead, without}
@@ -21,7 +21,7 @@ module _ (S : ℕ → Shape) where
     pub pruned : Tree → (t : ℕ) → Tree
     pruned (tip r x) t = tip r x
     pruned (branch r h ts) t =
-        branch (record { ty = r .ty; place = r .place; length = r .length; count = counted (S t) h }) (keptHead (S t) h) (prunedAll ts (plan (S t) h))
+        branch (record { ty = r .ty; place = r .place; length = r .length; count = rowCount (S t) h }) (keptHead (S t) h) (prunedAll ts (plan (S t) h))
 
     pub prunedAll : Forest → List Item → Forest
     prunedAll stop is = stop
@@ -58,14 +58,14 @@ abbrev pub TooFewRows : (S S′ : ℕ → Shape) (t : ℕ) (fs′ : List Field) 
 TooFewRows S S′ t fs′ payload room =
     (v : Value) × (tail : List ℕ) × RootSpells S′ fs′ v payload tail × (length payload ≤ 16384) × (room < size (without S v t))
 
--- The list of the refusals, for a type t and with room for so many rows: 46 for a type that is no struct of ours; 7 above 16,384 bytes; bytes that are
--- faulty by theirs, at their place; 30 where the payload is right by theirs and ours knows more of it than there is room for.
-pub data ListedBeside (S S′ : ℕ → Shape) (t : ℕ) (payload : List ℕ) (room : ℕ) : (number place : ℕ) → Type 0 where
-  no-struct : ((fs : List Field) → S t ≡ struct fs → ⊥) → ListedBeside S S′ t payload room 46 0
-  too-long : 16384 < length payload → ListedBeside S S′ t payload room 7 0
+-- The refusals, with room for so many rows: 46 for a type that is no struct of ours; 7 above 16,384 bytes; those of bytes that are faulty by theirs, at
+-- their place; 30 where ours knows more of a right payload than there is room for.
+pub data BesideReason (S S′ : ℕ → Shape) (t : ℕ) (payload : List ℕ) (room : ℕ) : (number place : ℕ) → Type 0 where
+  no-struct : ((fs : List Field) → S t ≡ struct fs → ⊥) → BesideReason S S′ t payload room 46 0
+  too-long : 16384 < length payload → BesideReason S S′ t payload room 7 0
   faulty : {n : ℕ} (fs′ : List Field) (u x rest : List ℕ) → S′ t ≡ struct fs′ → length payload ≤ 16384 → payload ≡ u ++ (x ++ rest)
-      → RootFault S′ fs′ u x rest n → ListedBeside S S′ t payload room n (length u)
-  too-few-rows : (fs′ : List Field) → S′ t ≡ struct fs′ → TooFewRows S S′ t fs′ payload room → ListedBeside S S′ t payload room 30 0
+      → RootFault S′ fs′ u x rest n → BesideReason S S′ t payload room n (length u)
+  too-few-rows : (fs′ : List Field) → S′ t ≡ struct fs′ → TooFewRows S S′ t fs′ payload room → BesideReason S S′ t payload room 30 0
 
 -- The answer accepts the payload with rows that show w by ours.
 abbrev pub ShownAs : (S : ℕ → Shape) (t : ℕ) (payload : List ℕ) → Reading → Value → (place n due : ℕ) → Type 0

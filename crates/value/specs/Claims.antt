@@ -37,8 +37,8 @@ module _ (S : ℕ → Shape) (t : ℕ) (fs : List Field) where
   abbrev pub ReadAs : (payload : List ℕ) → Reading → Value → (place n : ℕ) → Type 0
   ReadAs payload answer v place n = (rs : List Row) × (answer ≡ accepted rs place n (comparisons S v t)) × Shows S payload t fs rs v
 
--- The tree, of type t, fits the payload, so that each row shows its type, its count and its content or bits; and the place and length of each row
--- delimit the bytes of its value, the root's up to a tail of n bytes at a place. The payload is within the limit.
+-- The tree, of type t, fits the payload, which is within the limit. The place and length of each row delimit the bytes of its value, the root's up to
+-- a tail of n bytes at a place.
 abbrev pub DelimitedTree : (ℕ → Shape) → (t : ℕ) → (payload : List ℕ) → Tree → (place n : ℕ) → Type 0
 DelimitedTree S t payload tree place n =
     (fs : List Field)
@@ -66,8 +66,8 @@ Writes S t rs B room out =
     × (length out ≤ 16384)
     × (length out ≤ room)
 
--- What a reader by the old shapes S answers where the new ones S′ allow the payload as v, a root of type t with the fields fs ++ gs: 26 at the first inner
--- struct that carries an added field; without one the value without the added fields, and as the tail the bytes of those that the root carries.
+-- What a reader by the old shapes S answers where the new ones S′ allow the payload as v: 26 at the first inner struct that carries an added field.
+-- Without one v without the added fields, and as the tail the bytes of those that the root carries.
 abbrev pub ByOld : (S S′ : ℕ → Shape) (t : ℕ) (fs gs : List Field) (payload : List ℕ) (room : ℕ) → Value → Reading → (first : Option ℕ) → Type 0
 ByOld S S′ t fs gs payload room v answer (some p) = answer ≡ refusal 26 p
 ByOld S S′ t fs gs payload room v answer none =

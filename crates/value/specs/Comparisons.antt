@@ -1,4 +1,4 @@
--- How many key comparisons are due in a value: each later key against each earlier key of its map, over all maps in it. No reader is mentioned.
+-- How many key comparisons (02's term) are due in a value: each later key against each earlier key of its map, over all maps in it.
 use mathlib.Core.List.{List, [], _∷_}
 use mathlib.Core.Bool.{cond}
 use Prim.Native.Nat.{ℕ, zero, suc, _+_}

@@ -11,7 +11,7 @@ use Rattle.schema.specs.declared.Field.{Field}
 use Rattle.schema.specs.Table.{Shape, unknown, scalar, text, array, map, struct, width, bitmapBytes}
 use Rattle.value.specs.declared.Row.{Row}
 use Rattle.value.specs.Value.{Tree, tip, branch, Forest, stop, plus, rows, Value, value, values}
-use Rattle.value.specs.Read.{Item, plan, counted, complete, knownBits}
+use Rattle.value.specs.Read.{Item, plan, rowCount, requiredSet, knownBits}
 use Rattle.value.specs.Spell.{keysOf, Apart}
 
 -- ---- a tree fits bytes: each of its rows names its own content
@@ -28,13 +28,13 @@ LeafFits B (struct _) p n c x = ⊥
 -- The presence bytes at a place are m, with no required field absent.
 abbrev pub BitsFit : List ℕ → List Field → (place m : ℕ) → Type 0
 BitsFit B fs p m =
-    (p + bitmapBytes (length fs) ≤ length B) × (m ≡ little (span B p (bitmapBytes (length fs)))) × (complete fs m ≡ true)
+    (p + bitmapBytes (length fs) ≤ length B) × (m ≡ little (span B p (bitmapBytes (length fs)))) × (requiredSet fs m ≡ true)
 
 -- A composite's row, by its place and count, shows the head h.
 abbrev pub HeadFits : List ℕ → Shape → (place count h : ℕ) → Type 0
 HeadFits B (array _) p c n = c ≡ n
 HeadFits B (map _ _) p c n = (c ≡ n) × (n ≤ 64)
-HeadFits B (struct fs) p c m = BitsFit B fs p m × (m < 2 ^ length fs) × (c ≡ counted (struct fs) m)
+HeadFits B (struct fs) p c m = BitsFit B fs p m × (m < 2 ^ length fs) × (c ≡ rowCount (struct fs) m)
 HeadFits B unknown p c h = ⊥
 HeadFits B (scalar _) p c h = ⊥
 HeadFits B (text _) p c h = ⊥
@@ -63,7 +63,7 @@ RootFits S B t fs (branch r h ts) =
     (m : ℕ) × (r .ty ≡ t)
     × BitsFit B fs (r .place) m
     × (h ≡ knownBits fs m)
-    × (r .count ≡ counted (struct fs) h)
+    × (r .count ≡ rowCount (struct fs) h)
     × AllFit (Fits S B 15) (plan (struct fs) h) ts
 
 -- The rows over the bytes show the value v, a root of type t with the fields fs.
@@ -76,7 +76,7 @@ Shows S B t fs rs v = (tree : Tree) × (rows tree ≡ rs) × RootFits S B t fs t
 abbrev pub HeadKnown : List ℕ → Shape → (place count h : ℕ) → Type 0
 HeadKnown B (array _) p c n = c ≡ n
 HeadKnown B (map _ _) p c n = c ≡ n
-HeadKnown B (struct fs) p c h = (m : ℕ) × BitsFit B fs p m × (h ≡ knownBits fs m) × (c ≡ counted (struct fs) h)
+HeadKnown B (struct fs) p c h = (m : ℕ) × BitsFit B fs p m × (h ≡ knownBits fs m) × (c ≡ rowCount (struct fs) h)
 HeadKnown B unknown p c h = ⊥
 HeadKnown B (scalar _) p c h = ⊥
 HeadKnown B (text _) p c h = ⊥
@@ -101,7 +101,7 @@ module _ (S : ℕ → Shape) (B : List ℕ) where
 -- ---- what one row tells
 
 -- By the shapes: its type, its count, and a content or the known presence bits. Places and composite lengths are not in it.
-pub record Told : Type 0 where
+pub record RowTold : Type 0 where
   pub ty : ℕ
   pub count : ℕ
   pub held : List ℕ
@@ -114,7 +114,7 @@ heldBy B unknown p n = []
 heldBy B (array _) p n = []
 heldBy B (map _ _) p n = []
 
-abbrev pub told : (ℕ → Shape) → List ℕ → Row → Told
+abbrev pub told : (ℕ → Shape) → List ℕ → Row → RowTold
 told S B r = record { ty = r .ty; count = r .count; held = heldBy B (S (r .ty)) (r .place) (r .length) }
 
 -- ---- what of a row the writer uses

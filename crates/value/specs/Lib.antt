@@ -12,6 +12,6 @@ pub mod Added
 pub mod Reasons
 pub mod SheetReasons
 pub mod Beside
-pub mod Listed
+pub mod Numbered
 pub mod Claims
 pub mod Narrow

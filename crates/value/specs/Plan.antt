@@ -2,7 +2,7 @@
 use mathlib.Core.List.{List, [], _∷_}
 use mathlib.Core.Bool.{Bool, true, false, cond}
 use Prim.Native.Nat.{ℕ, zero, suc, _/_, _%_}
-use lib.Dec.{eqb}
+use lib.Dec.{eqb, leb}
 use lib.ListN.{length, replicate}
 use Rattle.schema.specs.declared.Field.{Field}
 use Rattle.schema.specs.Table.{Shape, unknown, scalar, text, array, map, struct}
@@ -19,6 +19,10 @@ abbrev pub pairs : ℕ → ℕ → ℕ → List Item
 pairs zero k v = []
 pairs (suc n) k v = record { type = k; key = true } ∷ plainItem v ∷ pairs n k v
 
+-- A map may have n pairs: 64 at most (31).
+abbrev pub pairsAllowed : ℕ → Bool
+pairsAllowed n = leb n 64
+
 -- The fields whose bits are set in m, least bit first.
 unfoldable pub present : List Field → ℕ → List Item
 present [] m = []
@@ -34,10 +38,10 @@ plan (scalar _) h = []
 plan (text _) h = []
 
 -- The count of a composite's row: of elements, of pairs, of known fields whose bit is set.
-abbrev pub counted : Shape → ℕ → ℕ
-counted (struct fs) m = length (present fs m)
-counted (array _) n = n
-counted (map _ _) n = n
-counted unknown h = 0
-counted (scalar _) h = 0
-counted (text _) h = 0
+abbrev pub rowCount : Shape → ℕ → ℕ
+rowCount (struct fs) m = length (present fs m)
+rowCount (array _) n = n
+rowCount (map _ _) n = n
+rowCount unknown h = 0
+rowCount (scalar _) h = 0
+rowCount (text _) h = 0

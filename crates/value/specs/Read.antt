@@ -12,7 +12,7 @@ use Rattle.schema.specs.declared.Field.{Field}
 use Rattle.schema.specs.Table.{Table, Shape, unknown, scalar, text, array, map, struct, shape, width, bitmapBytes}
 use Rattle.value.specs.declared.Row.{Row}
 pub use Rattle.value.specs.Plan.{Item}
-unfoldable pub use Rattle.value.specs.Plan.{plainItem, pairs, present, plan, counted}
+unfoldable pub use Rattle.value.specs.Plan.{plainItem, pairsAllowed, pairs, present, plan, rowCount}
 use Rattle.value.specs.Comparisons.{comparisons}
 use Rattle.value.specs.Value.{Tree, tip, branch, Forest, stop, plus, rows, value, content}
 
@@ -24,15 +24,15 @@ pub data Own : Type 0 where
   parts : (start head : ℕ) → Own
 
 -- Each field that is not optional has its bit set in m.
-unfoldable pub complete : List Field → ℕ → Bool
-complete [] m = true
-complete (f ∷ fs) m = (eqb (f .optional) 1 || eqb (m % 2) 1) && complete fs (m / 2)
+unfoldable pub requiredSet : List Field → ℕ → Bool
+requiredSet [] m = true
+requiredSet (f ∷ fs) m = (eqb (f .optional) 1 || eqb (m % 2) 1) && requiredSet fs (m / 2)
 
 -- A struct's presence bits as a number, unknown ones too.
 unfoldable pub bitmap : List Field → Reader ℕ
 bitmap fs = at λ start. do
   bits ← block (bitmapBytes (length fs))
-  check (complete fs (little bits)) 25 (start .at)
+  check (requiredSet fs (little bits)) 25 (start .at)
   return (little bits)
 
 -- The own bytes of a value of each shape. (A good table has no child of an unknown type.)
@@ -53,7 +53,7 @@ own (array e) = do
   at λ start. return (parts (start .at) n)
 own (map k v) = at λ here. do
   n ← count 2
-  check (leb n 64) 31 (here .at)
+  check (pairsAllowed n) 31 (here .at)
   at λ start. return (parts (start .at) n)
 own (struct fs) = at λ start. do
   m ← bitmap fs
@@ -94,18 +94,18 @@ abbrev pub nodeRow : (t start end n : ℕ) → Row
 nodeRow t start end n = record { ty = t; place = start; length = end - start; count = n }
 
 -- A value of type t and shape s from what its own bytes say, with the reader p for what it holds.
-abbrev pub whole : (ℕ → Reader Tree) → ℕ → Shape → Own → Reader Tree
-whole p t s (plain x) = at λ end. return (tip (leafRow t (end .at) (length x)) x)
-whole p t s (parts start head) = do
+abbrev pub wholeValue : (ℕ → Reader Tree) → ℕ → Shape → Own → Reader Tree
+wholeValue p t s (plain x) = at λ end. return (tip (leafRow t (end .at) (length x)) x)
+wholeValue p t s (parts start head) = do
   ts ← walk p [] (plan s head)
-  at λ end. return (branch (nodeRow t start (end .at) (counted s head)) head ts)
+  at λ end. return (branch (nodeRow t start (end .at) (rowCount s head)) head ts)
 
 -- A value of type t, with d levels of depth still allowed.
 unfoldable pub parse : (ℕ → Shape) → (d t : ℕ) → Reader Tree
 parse S zero t = at λ here. refuse 28 (here .at)
 parse S (suc d) t = do
   o ← own (S t)
-  whole (parse S d) t (S t) o
+  wholeValue (parse S d) t (S t) o
 
 -- ---- the root
 
@@ -121,9 +121,9 @@ abbrev pub unknownBits : List Field → ℕ → ℕ
 unknownBits fs m = onesIn (8 * bitmapBytes (length fs) - length fs) (m / 2 ^ length fs)
 
 -- What follows the root's known fields. Each unknown bit that is set asks for a byte or more of a tail (01's term), which is not read.
-unfoldable pub ending : (unknown : ℕ) → Reader (Unit {0})
-ending zero = at λ end. check (eqb (length (end .left)) 0) 27 (end .at)
-ending (suc k) = at λ end. check (leb (suc k) (length (end .left))) 20 (end .at)
+unfoldable pub rootEnding : (unknown : ℕ) → Reader (Unit {0})
+rootEnding zero = at λ end. check (eqb (length (end .left)) 0) 27 (end .at)
+rootEnding (suc k) = at λ end. check (leb (suc k) (length (end .left))) 20 (end .at)
 
 -- The root, a struct of the fields fs, at depth 1; 16 is the greatest depth. The cursor in the answer is at the tail.
 unfoldable pub rootStruct : (ℕ → Shape) → ℕ → List Field → Reader Tree
@@ -131,8 +131,8 @@ rootStruct S t fs = at λ start. do
   m ← bitmap fs
   ts ← walk (parse S 15) [] (plan (struct fs) (knownBits fs m))
   at λ end. do
-    ending (unknownBits fs m)
-    return (branch (nodeRow t (start .at) (end .at) (counted (struct fs) (knownBits fs m))) (knownBits fs m) ts)
+    rootEnding (unknownBits fs m)
+    return (branch (nodeRow t (start .at) (end .at) (rowCount (struct fs) (knownBits fs m))) (knownBits fs m) ts)
 
 -- ---- the whole reader
 

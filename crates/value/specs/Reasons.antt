@@ -55,8 +55,8 @@ pub data OwnFault : Shape → (u x rest : List ℕ) (number : ℕ) → Type 0 wh
 
 -- ---- whole values
 
--- A composite of shape s starts with the head u, whose count is not above what follows, and the bytes y spell its first items, whose keys are `earlier`,
--- no two equal. Then the item i is due, at the bytes `left`. The items have d levels of depth allowed.
+-- A composite of shape s starts with the head u, and the bytes y spell its first items, with d levels of depth allowed and the keys `earlier`, no two
+-- equal. Then the item i is due, at the bytes `left`.
 pub record Due (S : ℕ → Shape) (d : ℕ) (s : Shape) (u y left : List ℕ) (i : Item) (earlier : List (List ℕ)) : Type 0 where
   pub head : ℕ
   pub before : List Item
@@ -70,8 +70,8 @@ pub record Due (S : ℕ → Shape) (d : ℕ) (s : Shape) (u y left : List ℕ) (
   pub keys : keysOf before shown ≡ earlier
 
 -- The content is one of the keys.
-abbrev pub Holds : List (List ℕ) → List ℕ → Type 0
-Holds keys x = (j : ℕ) × (j < length keys) × (getD keys j [] ≡ x)
+abbrev pub AmongKeys : List (List ℕ) → List ℕ → Type 0
+AmongKeys keys x = (j : ℕ) × (j < length keys) × (getD keys j [] ≡ x)
 
 -- The value is the key of one of the first m pairs.
 abbrev pub KeyAmong : (m : ℕ) → Values → Value → Type 0
@@ -85,7 +85,7 @@ pub data Faulty (S : ℕ → Shape) : (d t : ℕ) (u x rest : List ℕ) (number 
   inner : {d t n : ℕ} {u y w x rest : List ℕ} {i : Item} {earlier : List (List ℕ)} → Due S d (S t) u y (w ++ (x ++ rest)) i earlier
       → Faulty S d (i .type) w x rest n → Faulty S (suc d) t (u ++ (y ++ w)) x rest n
   repeated : {d t : ℕ} {u y x rest : List ℕ} {i : Item} {earlier : List (List ℕ)} → Due S d (S t) u y (x ++ rest) i earlier
-      → i .key ≡ true → (v : Value) → Spells S d (i .type) v x → Holds earlier (content v) → Faulty S (suc d) t (u ++ y) x rest 24
+      → i .key ≡ true → (v : Value) → Spells S d (i .type) v x → AmongKeys earlier (content v) → Faulty S (suc d) t (u ++ y) x rest 24
 
 -- ---- the root
 

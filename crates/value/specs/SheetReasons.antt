@@ -12,11 +12,11 @@ use Rattle.schema.specs.declared.Field.{Field}
 use Rattle.schema.specs.Table.{Shape, scalar, text, map, struct, width, bitmapBytes}
 use Rattle.value.specs.declared.Row.{Row}
 use Rattle.value.specs.Value.{Tree, Forest, rows, rowsAll, Value, value, values, content}
-use Rattle.value.specs.Plan.{Item, plan, counted}
+use Rattle.value.specs.Plan.{Item, plan, rowCount}
 use Rattle.value.specs.Read.{knownBits}
 use Rattle.value.specs.Spell.{keysOf, Apart, encode}
 use Rattle.value.specs.Fits.{BitsFit, HeadFits, AllFit, Fits, Shows}
-use Rattle.value.specs.Reasons.{Absent, Beyond, Holds}
+use Rattle.value.specs.Reasons.{Absent, Beyond, AmongKeys}
 
 -- ---- one row
 
@@ -41,13 +41,13 @@ module _ (B : List ℕ) where
     no-string : {p n : ℕ} (x : List ℕ) → SpanIs B p n x → (Utf8 x → ⊥) → RowFault (text 12) p n 0 23
     many-pairs : {k v p n c : ℕ} → 64 < c → RowFault (map k v) p n c 31
     bits : {fs : List Field} {p n c number : ℕ} → BitsFault fs p number → RowFault (struct fs) p n c number
-    struct-unfit : {fs : List Field} {p n c : ℕ} (m : ℕ) → BitsFit B fs p m → Beyond fs m ⊎ (c ≡ counted (struct fs) m → ⊥) → RowFault (struct fs) p n c 50
+    struct-unfit : {fs : List Field} {p n c : ℕ} (m : ℕ) → BitsFit B fs p m → Beyond fs m ⊎ (c ≡ rowCount (struct fs) m → ⊥) → RowFault (struct fs) p n c 50
 
   -- ---- whole values
 
   module _ (S : ℕ → Shape) where
-    -- The row r shows the head of a composite of type t, and the trees ts fit its first items, whose keys are `earlier`, no two equal. Then the item i is
-    -- due. The items have d levels of depth allowed.
+    -- The row r shows the head of a composite of type t, and the trees ts fit its first items, with d levels of depth allowed and the keys `earlier`, no two
+    -- equal. Then the item i is due.
     pub record RowDue (d t : ℕ) (r : Row) (ts : Forest) (i : Item) (earlier : List (List ℕ)) : Type 0 where
       pub head : ℕ
       pub before : List Item
@@ -68,7 +68,7 @@ module _ (B : List ℕ) where
       inner : {d t n : ℕ} {r : Row} {ts : Forest} {w x rest : List Row} {i : Item} {earlier : List (List ℕ)} → RowDue d t r ts i earlier
           → SheetFaulty d (i .type) w x rest n → SheetFaulty (suc d) t (r ∷ (rowsAll ts ++ w)) x rest n
       repeated : {d t : ℕ} {r : Row} {ts : Forest} {rest : List Row} {i : Item} {earlier : List (List ℕ)} (tree : Tree) → RowDue d t r ts i earlier
-          → i .key ≡ true → Fits S B d (i .type) tree → Holds earlier (content (value tree)) → SheetFaulty (suc d) t (r ∷ rowsAll ts) (rows tree) rest 24
+          → i .key ≡ true → Fits S B d (i .type) tree → AmongKeys earlier (content (value tree)) → SheetFaulty (suc d) t (r ∷ rowsAll ts) (rows tree) rest 24
 
     -- ---- the root
 
@@ -79,7 +79,7 @@ module _ (B : List ℕ) where
       pub before : List Item
       pub of-type : r .ty ≡ t
       pub starts : BitsFit B fs (r .place) m
-      pub count : r .count ≡ counted (struct fs) (knownBits fs m)
+      pub count : r .count ≡ rowCount (struct fs) (knownBits fs m)
       pub planned : plan (struct fs) (knownBits fs m) ≡ before ++ after
       pub fit : AllFit (Fits S B 15) before ts
 
@@ -87,7 +87,7 @@ module _ (B : List ℕ) where
     pub data SheetFault (t : ℕ) (fs : List Field) : (u x rest : List Row) (number : ℕ) → Type 0 where
       no-row : {x rest : List Row} → NoRow t x rest → SheetFault t fs [] x rest 50
       bits : {n : ℕ} {r : Row} {rest : List Row} → r .ty ≡ t → BitsFault fs (r .place) n → SheetFault t fs [] (r ∷ []) rest n
-      miscounted : {r : Row} {rest : List Row} (m : ℕ) → r .ty ≡ t → BitsFit B fs (r .place) m → (r .count ≡ counted (struct fs) (knownBits fs m) → ⊥)
+      miscounted : {r : Row} {rest : List Row} (m : ℕ) → r .ty ≡ t → BitsFit B fs (r .place) m → (r .count ≡ rowCount (struct fs) (knownBits fs m) → ⊥)
           → SheetFault t fs [] (r ∷ []) rest 50
       field : {n : ℕ} {r : Row} {ts : Forest} {w x rest : List Row} {i : Item} {after : List Item} → RootRowDue t fs r ts (i ∷ after)
           → SheetFaulty 15 (i .type) w x rest n → SheetFault t fs (r ∷ (rowsAll ts ++ w)) x rest n

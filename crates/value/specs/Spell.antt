@@ -10,7 +10,7 @@ use Rattle.wire.specs.Utf8.{Utf8}
 use Rattle.schema.specs.declared.Field.{Field}
 use Rattle.schema.specs.Table.{Shape, unknown, scalar, text, array, map, struct, width, bitmapBytes}
 use Rattle.value.specs.Value.{Value, leaf, node, Values, none, some, content}
-use Rattle.value.specs.Read.{Item, plan, complete, withKey, knownBits, unknownBits}
+use Rattle.value.specs.Read.{Item, plan, requiredSet, withKey, knownBits, unknownBits}
 
 -- ---- the relation
 
@@ -25,7 +25,7 @@ LeafSpells (struct _) x bs = ⊥
 
 -- The bytes of a bitmap whose presence bits, unknown ones too, are m, with no required field absent.
 abbrev pub BitmapSpells : List Field → ℕ → List ℕ → Type 0
-BitmapSpells fs m bs = (length bs ≡ bitmapBytes (length fs)) × (little bs ≡ m) × (complete fs m ≡ true)
+BitmapSpells fs m bs = (length bs ≡ bitmapBytes (length fs)) × (little bs ≡ m) × (requiredSet fs m ≡ true)
 
 -- The bytes of a composite's head, which stand before what it holds. A map has 64 pairs at most; an inner struct has no unknown bit.
 abbrev pub HeadSpells : Shape → (head : ℕ) → List ℕ → Type 0
@@ -107,11 +107,11 @@ abbrev pub KeysDiffer : (ℕ → Shape) → Value → (t : ℕ) → Type 0
 KeysDiffer S v t = EachMap Differ S v t
 
 -- There are 64 pairs at most.
-abbrev pub Few : (n : ℕ) → Values → Type 0
-Few n vs = n ≤ 64
+abbrev pub FewPairs : (n : ℕ) → Values → Type 0
+FewPairs n vs = n ≤ 64
 
 abbrev pub MapsSmall : (ℕ → Shape) → Value → (t : ℕ) → Type 0
-MapsSmall S v t = EachMap Few S v t
+MapsSmall S v t = EachMap FewPairs S v t
 
 -- ---- the encoding
 

@@ -3,7 +3,7 @@ use mathlib.Core.List.{List, [], _∷_, _++_}
 use Prim.Native.Nat.{ℕ, _+_, max}
 use Rattle.value.specs.declared.Row.{Row}
 
--- A scalar, a string or bytes is its content. An array or a map is its count with its elements, or its keys and values by turns.
+-- A scalar, a string or bytes is its content; an array or a map is its count with its elements, or its keys and values by turns.
 -- A struct is its known presence bits as a number, with the known fields that are present.
 mutual
   pub data Value : Type 0 where

@@ -13,7 +13,7 @@ use Rattle.schema.specs.declared.Field.{Field}
 use Rattle.schema.specs.Table.{Table, Shape, unknown, scalar, text, array, map, struct, shape, width, bitmapBytes}
 use Rattle.value.specs.declared.Row.{Row}
 use Rattle.value.specs.Value.{Tree, tip, branch, value}
-use Rattle.value.specs.Read.{Own, plain, parts, plan, counted, complete, knownBits, walk, onStruct}
+use Rattle.value.specs.Read.{Own, plain, parts, pairsAllowed, plan, rowCount, requiredSet, knownBits, walk, onStruct}
 use Rattle.value.specs.Spell.{encode}
 
 -- Readers of rows: a place is a row's number.
@@ -41,7 +41,7 @@ module _ (B : List ℕ) (k : ℕ) where
   unfoldable pub bitsAt : List Field → (place : ℕ) → RowReader ℕ
   bitsAt fs p = do
     check (inside B p (bitmapBytes (length fs))) 51 k
-    check (complete fs (little (span B p (bitmapBytes (length fs))))) 25 k
+    check (requiredSet fs (little (span B p (bitmapBytes (length fs))))) 25 k
     return (little (span B p (bitmapBytes (length fs))))
 
   -- What a row of each shape says, by its place, length and count. An array's or map's place and a composite's length are not looked at.
@@ -59,11 +59,11 @@ module _ (B : List ℕ) (k : ℕ) where
     return (plain (span B p n))
   says (array _) p n c = return (parts 0 c)
   says (map _ _) p n c = do
-    check (leb c 64) 31 k
+    check (pairsAllowed c) 31 k
     return (parts 0 c)
   says (struct fs) p n c = do
     m ← bitsAt fs p
-    check (ltb m (2 ^ length fs) && eqb c (counted (struct fs) m)) 50 k
+    check (ltb m (2 ^ length fs) && eqb c (rowCount (struct fs) m)) 50 k
     return (parts 0 m)
 
 -- A value of shape s with the row r from what the row says, with the reader p for what it holds.
@@ -86,7 +86,7 @@ unfoldable pub showRoot : (ℕ → Shape) → List ℕ → ℕ → List Field �
 showRoot S B t fs = at λ here. do
   r ← rowDue t
   m ← bitsAt B (here .at) fs (r .place)
-  check (eqb (r .count) (counted (struct fs) (knownBits fs m))) 50 (here .at)
+  check (eqb (r .count) (rowCount (struct fs) (knownBits fs m))) 50 (here .at)
   ts ← walk (show S B 15) [] (plan (struct fs) (knownBits fs m))
   at λ end. check (eqb (length (end .left)) 0) 50 (end .at)
   return (branch r (knownBits fs m) ts)

@@ -46,7 +46,7 @@ each-by-T (c ∷ cases) = ap₂ _∷_ (by-T (header (c .kind)) (c .type) (c .cel
 computed : map (λ (c : ValueFrameCase). outcomeOf (c .out) (byTable (header (c .kind)) (c .type) (c .cells) (c .source) (length (c .out)))) worked
     ≡ map (λ (c : ValueFrameCase). outcome (c .answer) (c .after)) worked
 unfolding byTable frameBytes frontBytes rowsOf write.write write.showRoot write.show write.rowDue write.nextRow write.bitsAt spell.encode little.little little.bytes
-    varuint.shortest varuint.varuintBytes read.walk read.present read.complete table.shape answer.andThen answer.check utf8.run utf8.next utf8.leadOf utf8.rows value.value
+    varuint.shortest varuint.varuintBytes read.walk read.present read.requiredSet table.shape answer.andThen answer.check utf8.run utf8.next utf8.leadOf utf8.rows value.value
 computed = refl
 
 -- Each case is answered so: the number, the place or the length, and every byte of the output.

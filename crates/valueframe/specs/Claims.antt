@@ -23,8 +23,8 @@ pub record InTurn (h : Header) (schema : List ℕ) (ty : ℕ) (cells B mid out :
   pub then : writtenOf h payload (length out) ≡ Framed m
   pub after : out′ ≡ outputOf (Framed m) h payload out
 
--- Why a value is not written as a frame, with number and place, without an order of tests: the file's fault; a kind that there is not; what the entry
--- `write` refuses; a row that is left over without a value; an output that is too small for the whole frame.
+-- Why a value is not written as a frame, with number and place: the file's fault; a kind that there is not; what the entry `write` refuses; a row left
+-- over without a value; an output that is too small for the whole frame.
 pub data Unwritten (h : Header) (schema : List ℕ) (ty : ℕ) (cells B mid : List ℕ) (room : ℕ) : (number place : ℕ) → Type 0 where
   table : (n q : ℕ) → TableFault schema n q → Unwritten h schema ty cells B mid room n q
   kind : IsGood schema → ((1 ≤ h .kind) × (h .kind ≤ 8) → ⊥) → Unwritten h schema ty cells B mid room 4 0

@@ -8,6 +8,8 @@ use frame::payload_place;
 use frame::write_front;
 use schema::Checked;
 use schema::check::check;
+use writer::FEW_CELLS;
+use writer::SHORT;
 use writer::Writing;
 use writer::leaf::wide;
 use writer::make;
@@ -38,7 +40,11 @@ struct Guess {
 fn most_for(cells: usize) -> usize
     ensures { λ r. ⌜ r ≤ 16384 ⌝ }
 {
-    if cells <= 256 { 512 } else { limit::PAYLOAD }
+    if cells <= FEW_CELLS {
+        SHORT
+    } else {
+        limit::PAYLOAD
+    }
 }
 
 // The length in the root's row, where it can be the payload's, since each row takes a byte; otherwise two bytes a row. Only speed depends on it.
@@ -198,8 +204,8 @@ fn write_frame(
         return write_empty(header, sheet, out);
     }
     let g = guess_of(sheet);
-    if g.kept <= 512 {
-        let mut kept = [0u8; 512];
+    if g.kept <= SHORT {
+        let mut kept = [0u8; SHORT];
         return write_keeping(header, s, ty, sheet, source, g, &mut kept, out);
     }
     let mut kept = [0u8; limit::PAYLOAD];

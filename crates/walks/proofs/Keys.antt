@@ -1,22 +1,24 @@
 -- Laws of map keys: contents byte by byte, their digests, and the keys kept.
-use mathlib.Core.Path.{_≡_, refl, sym, ap, _∙_}
+use mathlib.Core.Path.{_≡_, refl, sym, ap, subst, _∙_}
 use mathlib.Core.Logic.{⊎-elim}
 use mathlib.Core.List.{List, [], _∷_}
 use mathlib.Core.Bool.{Bool, true, false, _||_}
-use Prim.Native.Nat.{ℕ, zero, suc, _+_, _-_, _*_, _/_, _%_, _≤_, _<_}
+use Prim.Native.Nat.{ℕ, zero, suc, _+_, _-_, _*_, _/_, _%_, _^_, _≤_, _<_, max}
 use native.Mathlib.Omega.{arith}
-use native.Mathlib.Nat.{eq-or-lt-of-le}
-use borrow.Author.Tests.{eq-eqb, ne-eqb, eqb-false}
+use native.Mathlib.Nat.{eq-or-lt-of-le, div-self, zero-div}
+use borrow.Author.Tests.{eq-eqb, ne-eqb, eqb-true, eqb-false}
+use lib.Bits.{bitOr, or-step, or-shr}
 use lib.Dec.{eqb}
-use lib.ListN.{length, getD, set, take, drop, length-set}
-use lib.Seq.{drop-cons, take-take, drop-drop, take-add, drop-at, getD-set-same, getD-set-other}
+use lib.ListN.{length, getD, set, length-set}
+use lib.Pow.{pow-pos}
+use lib.Seq.{drop-cons, getD-set-same, getD-set-other}
 use Rattle.buffer.specs.Span.{span}
 use Rattle.buffer.proofs.Spans.{length-span}
-use Rattle.wire.specs.Little.{little}
+use Rattle.wire.proofs.Numbers.{one-at}
 use Rattle.schema.proofs.Bools.{or-false}
 use Rattle.value.specs.Read.{same, among}
 use Rattle.value.proofs.Keys.{same-not, lengths-differ}
-use Rattle.walks.specs.Keys.{mixed, words, digest, holds, whereIs, keyAt, keysIn, largest, Kept}
+use Rattle.walks.specs.Keys.{digest, holds, whereIs, keyAt, keysIn, flagCell, Flagged, KeptAt, Kept}
 
 -- ---- contents
 
@@ -61,43 +63,8 @@ module _ (B : List ℕ) (a n b m : ℕ) (ends : a + n ≤ length B) (ends′ : b
 
 -- ---- digests
 
-module _ (B : List ℕ) (p n : ℕ) (ends : p + n ≤ length B) where
-  rest-in : (a : ℕ) → a ≤ n → drop a (span B p n) ≡ span B (p + a) (n - a)
-  rest-in a h =
-      let e : n ≡ a + (n - a) = omega arith in
-      let l : length (take a (drop p B)) ≡ a = length-span B p a (omega arith) in
-      ap (λ (k : ℕ). drop a (take k (drop p B))) e
-      ∙ ap (drop a) (take-add a (n - a) (drop p B))
-      ∙ drop-at (take a (drop p B)) (take (n - a) (drop a (drop p B))) a l
-      ∙ ap (take (n - a)) (drop-drop a p B)
-
-  word-in : (i : ℕ) → i < n / 8 → little (span B (p + 8 * i) 8) ≡ little (take 8 (drop (8 * i) (span B p n)))
-  word-in i h =
-      let l : 8 ≤ n - 8 * i = omega arith in
-      ap little (sym (ap (take 8) (rest-in (8 * i) (omega arith)) ∙ take-take 8 (n - 8 * i) (drop (p + 8 * i) B) l))
-
-  module _ (i d w r : ℕ) (so-far : d ≡ words (span B p n) i) (is : r ≡ mixed d w) where
-    pub digest-step : i < n / 8 → w ≡ little (span B (p + 8 * i) 8) → r ≡ words (span B p n) (i + 1)
-    unfolding words
-    digest-step h e =
-        let q : i + 1 ≡ suc i = omega arith in
-        rw q (is ∙ (λ j. mixed (so-far j) ((e ∙ word-in i h) j)))
-
-    pub digest-end : i ≤ n / 8 → n / 8 ≤ i → w ≡ little (span B (p + 8 * (n / 8)) (n % 8)) → r ≡ digest (span B p n)
-    unfolding digest
-    digest-end l h e =
-        let q : i ≡ n / 8 = omega arith in
-        let left : n - 8 * (n / 8) ≡ n % 8 = omega arith in
-        let rest = rest-in (8 * (n / 8)) (omega arith) ∙ ap (span B (p + 8 * (n / 8))) left in
-        rw (length-span B p n ends, rest)
-        (is ∙ (λ j. mixed ((so-far ∙ ap (words (span B p n)) q) j) (e j)))
-
-pub words-none : (x : List ℕ) → 0 ≡ words x 0
-unfolding words
-words-none x = refl
-
 -- contents with other digests are not the same
-digests-differ : (x y : List ℕ) → (digest y ≡ digest x → ⊥) → false ≡ same x y
+pub digests-differ : (x y : List ℕ) → (digest y ≡ digest x → ⊥) → false ≡ same x y
 digests-differ x y h = sym (same-not x y (λ e. h (ap digest (sym e))))
 
 pub holds-first : (keys : List ℕ) (d : ℕ) → false ≡ holds keys 0 d
@@ -123,20 +90,20 @@ module _ (B keys x : List ℕ) where
       let d : false ≡ same x (keyAt B keys n) = digests-differ x (keyAt B keys n) (λ q. eqb-false (getD keys n 0) (digest x) (w .1) (all n (omega arith) .1 refl ∙ q)) in
       rw (sym d) (unheld n (λ j l. all j (omega arith)) (w .0))
 
-  -- nor is one whose digest is above theirs
-  holds-none : (d m : ℕ) → ((j : ℕ) → j < m → getD keys j 0 < d) → holds keys m d ≡ false
+  -- nor is one whose flag is not set
+  holds-none : (d m : ℕ) → ((j : ℕ) → j < m → getD keys j 0 ≡ d → ⊥) → holds keys m d ≡ false
   unfolding holds
-  holds-none d zero low = refl
-  holds-none d (suc m) low = let l = low m (omega arith) in rw (holds-none d m (λ j k. low j (omega arith)), ne-eqb (getD keys m 0) d (λ e. absurd (omega arith)))
+  holds-none d zero other = refl
+  holds-none d (suc m) other = rw (holds-none d m (λ j k. other j (omega arith)), ne-eqb (getD keys m 0) d (other m (omega arith)))
 
-  pub unheld-above : (n d : ℕ) → Kept B keys true n → d ≡ digest x → largest keys < d → false ≡ among x (keysIn B keys n)
-  unheld-above n d all is h = unheld n all (rw (← is) (holds-none d n (λ j l. let low = all j l .2 refl in omega arith)))
+  unheld-unflagged : (n d : ℕ) → Kept B keys true n → d ≡ digest x → (Flagged keys d → ⊥) → false ≡ among x (keysIn B keys n)
+  unheld-unflagged n d all is clear = unheld n all (rw (← is) (holds-none d n (λ j l e. clear (subst (Flagged keys) e (all j l .2 refl)))))
 
   -- where nothing is judged, it is known not to be among them
   pub unheld-either : (judging : Bool) (n d : ℕ) → Kept B keys judging n → (judging ≡ true → d ≡ digest x) → (judging ≡ false → among x (keysIn B keys n) ≡ false)
-      → largest keys < d → false ≡ among x (keysIn B keys n)
-  unheld-either true n d all is new h = unheld-above n d all (is refl) h
-  unheld-either false n d all is new h = sym (new refl)
+      → (Flagged keys d → ⊥) → false ≡ among x (keysIn B keys n)
+  unheld-either true n d all is new clear = unheld-unflagged n d all (is refl) clear
+  unheld-either false n d all is new clear = sym (new refl)
 
   kept-step : (j : ℕ) → 0 < j → (same x (keyAt B keys (j - 1)) || among x (keysIn B keys (j - 1))) ≡ among x (keysIn B keys j)
   unfolding keysIn
@@ -159,14 +126,32 @@ pub keys-none : (B keys : List ℕ) → keysIn B keys 0 ≡ []
 unfolding keysIn
 keys-none B keys = refl
 
--- a key more is kept at i, with its digest: those before stay
-module _ (B keys : List ℕ) (i p n d : ℕ) (room : i + 1 < length keys / 2) (short : n < 4294967296) where
+-- ---- a key more
+
+-- a bit that is set in one of two words is set in both joined
+bit-joined : (w m k : ℕ) → bitOr w m / 2 ^ k % 2 ≡ max (w / 2 ^ k % 2) (m / 2 ^ k % 2)
+bit-joined w m k =
+    let e = or-step (w / 2 ^ k) (m / 2 ^ k) in
+    let l : max (w / 2 ^ k % 2) (m / 2 ^ k % 2) < 2 = omega arith in
+    rw (or-shr w m k, e) (omega arith)
+
+bit-stays : (w m k : ℕ) → w / 2 ^ k % 2 ≡ 1 → bitOr w m / 2 ^ k % 2 ≡ 1
+bit-stays w m k e = bit-joined w m k ∙ omega arith
+
+-- the bit k itself
+bit-set : (w k : ℕ) → k < 64 → bitOr w (1 * 2 ^ k % 2 ^ 64) / 2 ^ k % 2 ≡ 1
+bit-set w k h =
+    let e : (1 * 2 ^ k % 2 ^ 64) / 2 ^ k % 2 ≡ 1 = ap (λ (x : ℕ). x / 2 ^ k % 2) (one-at k h) ∙ ap (λ (x : ℕ). x % 2) (div-self (pow-pos k)) in
+    bit-joined w (1 * 2 ^ k % 2 ^ 64) k ∙ omega arith
+
+-- it is kept at i, with its digest: those before stay
+module _ (B keys : List ℕ) (i p n d : ℕ) (room : i + 4 < length keys / 2) (short : n < 4294967296) where
   abbrev after : List ℕ
   after = set (set keys (length keys / 2 + i) (p * 4294967296 + n)) i d
 
-  -- with the digest as the largest
-  abbrev raised : List ℕ
-  raised = set after (length keys / 2 - 1) d
+  -- with the flag of the digest set
+  abbrev marked : List ℕ
+  marked = set after (flagCell keys d) (bitOr (getD after (flagCell keys d) 0) (1 * 2 ^ (d % 64) % 2 ^ 64))
 
   length-after : length after ≡ length keys
   length-after = length-set (set keys (length keys / 2 + i) (p * 4294967296 + n)) i d ∙ length-set keys (length keys / 2 + i) (p * 4294967296 + n)
@@ -174,8 +159,8 @@ module _ (B keys : List ℕ) (i p n d : ℕ) (room : i + 1 < length keys / 2) (s
   half-after : length after / 2 ≡ length keys / 2
   half-after = ap (λ (k : ℕ). k / 2) length-after
 
-  half-raised : length raised / 2 ≡ length keys / 2
-  half-raised = ap (λ (k : ℕ). k / 2) (length-set after (length keys / 2 - 1) d) ∙ half-after
+  half-marked : length marked / 2 ≡ length keys / 2
+  half-marked = ap (λ (k : ℕ). k / 2) (length-set after (flagCell keys d) (bitOr (getD after (flagCell keys d) 0) (1 * 2 ^ (d % 64) % 2 ^ 64))) ∙ half-after
 
   pub room-after : i ≤ length after / 2
   room-after = rw half-after (omega arith)
@@ -192,10 +177,13 @@ module _ (B keys : List ℕ) (i p n d : ℕ) (room : i + 1 < length keys / 2) (s
       ∙ getD-set-other (set keys (length keys / 2 + i) (p * 4294967296 + n)) i (length keys / 2 + i) d 0 (omega arith)
       ∙ getD-set-same keys (length keys / 2 + i) (p * 4294967296 + n) 0 (omega arith)
 
-  where-raised : (j : ℕ) → whereIs raised j ≡ whereIs after j
-  where-raised j =
-      ap (λ (k : ℕ). getD raised (k + j) 0) half-raised
-      ∙ getD-set-other after (length keys / 2 - 1) (length keys / 2 + j) d 0 (omega arith)
+  marked-other : (j : ℕ) → (j ≡ flagCell keys d → ⊥) → getD marked j 0 ≡ getD after j 0
+  marked-other j other = getD-set-other after (flagCell keys d) j (bitOr (getD after (flagCell keys d) 0) (1 * 2 ^ (d % 64) % 2 ^ 64)) 0 other
+
+  where-marked : (j : ℕ) → whereIs marked j ≡ whereIs after j
+  where-marked j =
+      ap (λ (k : ℕ). getD marked (k + j) 0) half-marked
+      ∙ marked-other (length keys / 2 + j) (omega arith)
       ∙ sym (ap (λ (k : ℕ). getD after (k + j) 0) half-after)
 
   digest-before : (j : ℕ) → j < i → getD after j 0 ≡ getD keys j 0
@@ -203,8 +191,8 @@ module _ (B keys : List ℕ) (i p n d : ℕ) (room : i + 1 < length keys / 2) (s
       getD-set-other (set keys (length keys / 2 + i) (p * 4294967296 + n)) i j d 0 (omega arith)
       ∙ getD-set-other keys (length keys / 2 + i) j (p * 4294967296 + n) 0 (omega arith)
 
-  digest-raised : (j : ℕ) → j < i + 1 → getD raised j 0 ≡ getD after j 0
-  digest-raised j l = getD-set-other after (length keys / 2 - 1) j d 0 (omega arith)
+  digest-marked : (j : ℕ) → j < i + 1 → getD marked j 0 ≡ getD after j 0
+  digest-marked j l = marked-other j (omega arith)
 
   pub room-there : i < length (set keys (length keys / 2 + i) (p * 4294967296 + n))
   room-there = rw (length-set keys (length keys / 2 + i) (p * 4294967296 + n)) (omega arith)
@@ -212,19 +200,49 @@ module _ (B keys : List ℕ) (i p n d : ℕ) (room : i + 1 < length keys / 2) (s
   digest-last : getD after i 0 ≡ d
   digest-last = getD-set-same (set keys (length keys / 2 + i) (p * 4294967296 + n)) i d 0 room-there
 
-  pub largest-cell : length keys / 2 - 1 < length after
-  largest-cell = rw length-after (omega arith)
+  pub flag-cell : flagCell keys d < length after
+  flag-cell = rw length-after (omega arith)
 
-  pub largest-at : getD after (length keys / 2 - 1) 0 ≡ largest keys
-  largest-at =
-      getD-set-other (set keys (length keys / 2 + i) (p * 4294967296 + n)) i (length keys / 2 - 1) d 0 (omega arith)
-      ∙ getD-set-other keys (length keys / 2 + i) (length keys / 2 - 1) (p * 4294967296 + n) 0 (omega arith)
+  flags-at : (e : ℕ) → getD after (flagCell keys e) 0 ≡ getD keys (flagCell keys e) 0
+  flags-at e =
+      getD-set-other (set keys (length keys / 2 + i) (p * 4294967296 + n)) i (flagCell keys e) d 0 (omega arith)
+      ∙ getD-set-other keys (length keys / 2 + i) (flagCell keys e) (p * 4294967296 + n) 0 (omega arith)
 
-  largest-after : largest after ≡ largest keys
-  largest-after = ap (λ (k : ℕ). getD after (k - 1) 0) half-after ∙ largest-at
+  -- the flag of the digest, as it is tested
+  pub flag-clear : getD after (flagCell keys d) 0 / 2 ^ (d % 64) % 2 ≡ 0 → Flagged keys d → ⊥
+  flag-clear e was = let q = ap (λ (w : ℕ). w / 2 ^ (d % 64) % 2) (flags-at d) in absurd (omega arith)
 
-  largest-raised : largest raised ≡ d
-  largest-raised = ap (λ (k : ℕ). getD raised (k - 1) 0) half-raised ∙ getD-set-same after (length keys / 2 - 1) d 0 largest-cell
+  pub flag-there : (getD after (flagCell keys d) 0 / 2 ^ (d % 64) % 2 ≡ 0 → ⊥) → Flagged keys d
+  flag-there e =
+      let q = ap (λ (w : ℕ). w / 2 ^ (d % 64) % 2) (flags-at d) in
+      let b : getD keys (flagCell keys d) 0 / 2 ^ (d % 64) % 2 < 2 = omega arith in
+      omega arith
+
+  flags-after : (e : ℕ) → getD after (flagCell after e) 0 ≡ getD keys (flagCell keys e) 0
+  flags-after e = ap (λ (k : ℕ). getD after (k - 4 + e / 64 % 4) 0) half-after ∙ flags-at e
+
+  flags-marked : (e : ℕ) → getD marked (flagCell marked e) 0 ≡ getD marked (flagCell keys e) 0
+  flags-marked e = ap (λ (k : ℕ). getD marked (k - 4 + e / 64 % 4) 0) half-marked
+
+  marked-at : getD marked (flagCell keys d) 0 ≡ bitOr (getD after (flagCell keys d) 0) (1 * 2 ^ (d % 64) % 2 ^ 64)
+  marked-at = getD-set-same after (flagCell keys d) (bitOr (getD after (flagCell keys d) 0) (1 * 2 ^ (d % 64) % 2 ^ 64)) 0 flag-cell
+
+  flag-stays : (e : ℕ) → Flagged keys e → Flagged marked e
+  flag-stays e was = go (eqb (flagCell keys e) (flagCell keys d)) refl
+    where
+      go : (t : Bool) → eqb (flagCell keys e) (flagCell keys d) ≡ t → Flagged marked e
+      go true q =
+          let same-cell : flagCell keys e ≡ flagCell keys d = eqb-true (flagCell keys e) (flagCell keys d) q in
+          ap (λ (w : ℕ). w / 2 ^ (e % 64) % 2) (flags-marked e ∙ ap (λ (k : ℕ). getD marked k 0) same-cell ∙ marked-at)
+          ∙ bit-stays (getD after (flagCell keys d) 0) (1 * 2 ^ (d % 64) % 2 ^ 64) (e % 64)
+          (ap (λ (w : ℕ). w / 2 ^ (e % 64) % 2) (ap (λ (k : ℕ). getD after k 0) (sym same-cell) ∙ flags-at e) ∙ was)
+      go false q =
+          ap (λ (w : ℕ). w / 2 ^ (e % 64) % 2) (flags-marked e ∙ marked-other (flagCell keys e) (eqb-false (flagCell keys e) (flagCell keys d) q) ∙ flags-at e) ∙ was
+
+  flag-set : Flagged marked d
+  flag-set =
+      ap (λ (w : ℕ). w / 2 ^ (d % 64) % 2) (flags-marked d ∙ marked-at)
+      ∙ bit-set (getD after (flagCell keys d) 0) (d % 64) (omega arith)
 
   place-is : (p * 4294967296 + n) / 4294967296 ≡ p
   place-is = omega arith
@@ -241,50 +259,85 @@ module _ (B keys : List ℕ) (i p n d : ℕ) (room : i + 1 < length keys / 2) (s
   unfolding keysIn
   keys-more = let e : i + 1 ≡ suc i = omega arith in rw (e, where-last, place-is, length-is, keys-same i (omega arith))
 
-  keys-raised : (m : ℕ) → keysIn B raised m ≡ keysIn B after m
+  keys-marked : (m : ℕ) → keysIn B marked m ≡ keysIn B after m
   unfolding keysIn
-  keys-raised zero = refl
-  keys-raised (suc m) = rw (where-raised m, keys-raised m)
+  keys-marked zero = refl
+  keys-marked (suc m) = rw (where-marked m, keys-marked m)
 
-  pub raised-more : keysIn B raised (i + 1) ≡ span B p n ∷ keysIn B keys i
-  raised-more = keys-raised (i + 1) ∙ keys-more
+  pub marked-more : keysIn B marked (i + 1) ≡ span B p n ∷ keysIn B keys i
+  marked-more = keys-marked (i + 1) ∙ keys-more
 
   module _ (judging : Bool) (before : Kept B keys judging i) where
     pub kept-same : Kept B after judging i
-    kept-same j l = rw (where-before j l, digest-before j l, largest-after) (before j l)
+    kept-same j l = rw (where-before j l, digest-before j l, flags-after (getD keys j 0)) (before j l)
 
-    kept-last : p + n ≤ length B → (judging ≡ true → d ≡ digest (span B p n)) → (judging ≡ true → d ≤ largest keys)
-        → (whereIs after i / 4294967296 + whereIs after i % 4294967296 ≤ length B) × (judging ≡ true → getD after i 0 ≡ digest (keyAt B after i))
-        × (judging ≡ true → getD after i 0 ≤ largest after)
-    kept-last h is low = rw (where-last, digest-last, largest-after, place-is, length-is) (h, is, low)
-
-    -- where the largest digest is not below it
-    pub kept-more : p + n ≤ length B → (judging ≡ true → d ≡ digest (span B p n)) → (judging ≡ true → d ≤ largest keys) → Kept B after judging (i + 1)
-    kept-more h is low j l =
+    last-either : (l : List ℕ) → KeptAt B l judging i → ((j : ℕ) → j < i → KeptAt B l judging j) → Kept B l judging (i + 1)
+    last-either l last others j h =
         let m : j ≤ i = omega arith in
-        ⊎-elim
-        (λ q. rw q (kept-last h is low))
-        (λ q. kept-same j q)
-        (eq-or-lt-of-le m)
+        ⊎-elim (λ q. rw q last) (others j) (eq-or-lt-of-le m)
 
-    -- where it is the largest
-    module _ (above : largest keys < d) where
-      raised-last : p + n ≤ length B → (judging ≡ true → d ≡ digest (span B p n))
-          → (whereIs raised i / 4294967296 + whereIs raised i % 4294967296 ≤ length B) × (judging ≡ true → getD raised i 0 ≡ digest (keyAt B raised i))
-          × (judging ≡ true → getD raised i 0 ≤ largest raised)
-      raised-last h is = rw (where-raised i, digest-raised i (omega arith), largest-raised, where-last, digest-last, place-is, length-is) (h, is, λ _. omega arith)
+    module _ (ends : p + n ≤ length B) (is : judging ≡ true → d ≡ digest (span B p n)) where
+      -- where its flag is set already
+      pub kept-more : Flagged keys d → Kept B after judging (i + 1)
+      kept-more was = last-either after (rw (where-last, digest-last, flags-after d, place-is, length-is) (ends, is, λ _. was)) kept-same
 
-      raised-before : (j : ℕ) → j < i
-          → (whereIs raised j / 4294967296 + whereIs raised j % 4294967296 ≤ length B) × (judging ≡ true → getD raised j 0 ≡ digest (keyAt B raised j))
-          × (judging ≡ true → getD raised j 0 ≤ largest raised)
-      raised-before j q =
-          let b = before j q in
-          rw (where-raised j, digest-raised j (omega arith), largest-raised, where-before j q, digest-before j q) (b .0, b .1, λ t. let low = b .2 t in omega arith)
+      marked-last : KeptAt B marked judging i
+      marked-last = rw (where-marked i, digest-marked i (omega arith), where-last, digest-last, place-is, length-is) (ends, is, λ _. flag-set)
 
-      pub kept-raised : p + n ≤ length B → (judging ≡ true → d ≡ digest (span B p n)) → Kept B raised judging (i + 1)
-      kept-raised h is j l =
-          let m : j ≤ i = omega arith in
-          ⊎-elim
-          (λ q. rw q (raised-last h is))
-          (λ q. raised-before j q)
-          (eq-or-lt-of-le m)
+      marked-before : (j : ℕ) → j < i → KeptAt B marked judging j
+      marked-before j l =
+          let b = before j l in
+          rw (where-marked j, digest-marked j (omega arith), where-before j l, digest-before j l) (b .0, b .1, λ t. flag-stays (getD keys j 0) (b .2 t))
+
+      -- where it is set
+      pub kept-marked : Kept B marked judging (i + 1)
+      kept-marked = last-either marked marked-last marked-before
+
+-- ---- no flags
+
+zero-set : (l : List ℕ) (i : ℕ) → getD (set l i 0) i 0 ≡ 0
+zero-set [] i = refl
+zero-set (x ∷ l) zero = refl
+zero-set (x ∷ l) (suc i) = zero-set l i
+
+zero-stays : (l : List ℕ) (i j : ℕ) → getD l j 0 ≡ 0 → getD (set l i 0) j 0 ≡ 0
+zero-stays [] i j e = e
+zero-stays (x ∷ l) zero zero e = refl
+zero-stays (x ∷ l) zero (suc j) e = e
+zero-stays (x ∷ l) (suc i) zero e = e
+zero-stays (x ∷ l) (suc i) (suc j) e = zero-stays l i j e
+
+module _ (keys : List ℕ) where
+  abbrev first : ℕ
+  first = length keys / 2 - 4
+
+  abbrev one : List ℕ
+  one = set keys first 0
+
+  abbrev two : List ℕ
+  two = set one (first + 1) 0
+
+  abbrev three : List ℕ
+  three = set two (first + 2) 0
+
+  abbrev cleared : List ℕ
+  cleared = set three (first + 3) 0
+
+  length-cleared : length cleared ≡ length keys
+  length-cleared = length-set three (first + 3) 0 ∙ length-set two (first + 2) 0 ∙ length-set one (first + 1) 0 ∙ length-set keys first 0
+
+  none-at : (q : ℕ) → q < 4 → getD cleared (first + q) 0 ≡ 0
+  none-at zero h =
+      let e : first + 0 ≡ first = omega arith in
+      rw e (zero-stays three (first + 3) first (zero-stays two (first + 2) first (zero-stays one (first + 1) first (zero-set keys first))))
+  none-at (suc zero) h = zero-stays three (first + 3) (first + 1) (zero-stays two (first + 2) (first + 1) (zero-set one (first + 1)))
+  none-at (suc (suc zero)) h = zero-stays three (first + 3) (first + 2) (zero-set two (first + 2))
+  none-at (suc (suc (suc zero))) h = zero-set three (first + 3)
+  none-at (suc (suc (suc (suc q)))) h = absurd (omega arith)
+
+  pub none-flagged : (d : ℕ) → Flagged cleared d → ⊥
+  none-flagged d was =
+      let e : getD cleared (flagCell cleared d) 0 ≡ 0 = ap (λ (k : ℕ). getD cleared (k / 2 - 4 + d / 64 % 4) 0) length-cleared ∙ none-at (d / 64 % 4) (omega arith) in
+      let z : 0 / 2 ^ (d % 64) ≡ 0 = zero-div (2 ^ (d % 64)) in
+      let never : 0 % 2 ≡ 1 = rw (e, z) at was in
+      absurd (omega arith)

@@ -17,8 +17,8 @@ use Rattle.schema.specs.declared.Field.{Field}
 use Rattle.schema.specs.declared.TypeRow.{TypeRow}
 use Rattle.schema.specs.Table.{Table, rowAt}
 use Rattle.schema.specs.File.{tableOf}
-use Rattle.schema.specs.Check.{IsGood, field}
-use Rattle.value.specs.Read.{Item, plainItem, present, complete}
+use Rattle.schema.specs.Check.{IsGood, fieldRow}
+use Rattle.value.specs.Read.{Item, plainItem, present, requiredSet}
 use Rattle.value.proofs.Bits.{half-pow, present-none}
 use Rattle.walks.specs.Shape.{fieldsFrom}
 use Rattle.walks.specs.Required.{requiredBit, Requires}
@@ -45,10 +45,10 @@ pub required-none : (T : Table) (i left : ℕ) → left ≤ 0 → Requires 0 (fi
 required-none T i left none word = ap (λ (x : ℕ). eqb x 0) (and-zero-l word) ∙ sym (complete-end T i left none word)
 
 -- a field more, with its own bit below the others
-pub required-more : (T : Table) (i left r : ℕ) → 0 < left → i + left ≤ length (T .fields) → (f : Field) → f ≡ field T i
+pub required-more : (T : Table) (i left r : ℕ) → 0 < left → i + left ≤ length (T .fields) → (f : Field) → f ≡ fieldRow T i
     → Requires r (fieldsFrom T (i + 1) (left - 1)) → Requires (2 * r + requiredBit (f .optional)) (fieldsFrom T i left)
 required-more T i left r some room f is h word =
-    go (eqb (f .optional) 1) (eqb (word % 2) 1) refl (complete (fieldsFrom T (i + 1) (left - 1)) (word / 2)) (h (word / 2)) ∙ sym (complete-more T i left some room word f is)
+    go (eqb (f .optional) 1) (eqb (word % 2) 1) refl (requiredSet (fieldsFrom T (i + 1) (left - 1)) (word / 2)) (h (word / 2)) ∙ sym (complete-more T i left some room word f is)
   where
     go : (o b : Bool) → eqb (word % 2) 1 ≡ b → (rest : Bool) → eqb (bitAnd r (word / 2)) r ≡ rest
         → eqb (bitAnd (2 * r + cond o 0 1) word) (2 * r + cond o 0 1) ≡ ((o || b) && rest)
@@ -188,14 +188,14 @@ module _ {a b i bits : ℕ} (g : Standing a b i bits) (some : 0 < bits) where
       record { few = g .few; first = omega (arith, g .first); last = omega (arith, h .0); fits = rw e (h .1) }
 
   -- the field of a bit that is set comes before the others
-  pub standing-field : (T : Table) → a + b ≤ length (T .fields) → (f : Field) → f ≡ field T i → bits % 2 ≡ 1
+  pub standing-field : (T : Table) → a + b ≤ length (T .fields) → (f : Field) → f ≡ fieldRow T i → bits % 2 ≡ 1
       → bitsLeft T a b i bits ≡ plainItem (f .ty) ∷ bitsLeft T a b (i + 1) (bits / 2)
   standing-field T room f is odd =
       let e : a + b - (i + 1) ≡ a + b - i - 1 = omega arith in
       rw e (present-set T i (a + b - i) standing-some (omega (arith, g .last)) bits f is odd)
 
   -- its type is one of the table's
-  pub standing-kind : (s : List ℕ) → IsGood s → a + b ≤ length (tableOf s .fields) → (f : Field) → f ≡ field (tableOf s) i → (r : TypeRow) → r ≡ rowAt (tableOf s) (f .ty) → 0 < r .kind
+  pub standing-kind : (s : List ℕ) → IsGood s → a + b ≤ length (tableOf s .fields) → (f : Field) → f ≡ fieldRow (tableOf s) i → (r : TypeRow) → r ≡ rowAt (tableOf s) (f .ty) → 0 < r .kind
   standing-kind s good room = field-row s good i (a + b - i) standing-some (omega (arith, g .last))
 
   -- past the zeros, whose fields are absent

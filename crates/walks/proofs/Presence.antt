@@ -19,8 +19,8 @@ use Rattle.wire.proofs.Numbers.{little-below, pow-bytes}
 use Rattle.wire.proofs.Bitmaps.{known-count, unknown-count}
 use Rattle.schema.specs.declared.Field.{Field}
 use Rattle.schema.specs.Table.{Table, bitmapBytes}
-use Rattle.schema.specs.Check.{noField, field}
-use Rattle.value.specs.Read.{plainItem, present, complete, knownBits, unknownBits}
+use Rattle.schema.specs.Check.{noField, fieldRow}
+use Rattle.value.specs.Read.{plainItem, present, requiredSet, knownBits, unknownBits}
 use Rattle.value.proofs.Bits.{length-present, present-mod, ones-none, none-set}
 use Rattle.walks.specs.Shape.{fieldsFrom}
 
@@ -31,21 +31,21 @@ unfolding fieldsFrom
 length-fields T first n h = length-take-le n (drop first (T .fields)) (rw length-drop (omega arith))
 
 module _ (T : Table) (i left : ℕ) (some : 0 < left) (room : i + left ≤ length (T .fields)) where
-  fields-cons : fieldsFrom T i left ≡ field T i ∷ fieldsFrom T (i + 1) (left - 1)
+  fields-cons : fieldsFrom T i left ≡ fieldRow T i ∷ fieldsFrom T (i + 1) (left - 1)
   unfolding fieldsFrom
   fields-cons =
       let e : left ≡ suc (left - 1) = omega arith in
       let h : i < length (T .fields) = omega arith in
       ap (λ (l : List Field). take left l) (drop-cons (T .fields) i noField h)
-      ∙ ap (λ (k : ℕ). take k (field T i ∷ drop (suc i) (T .fields))) e
-      ∙ ap (λ (k : ℕ). field T i ∷ take (left - 1) (drop k (T .fields))) (sym (add-one i))
+      ∙ ap (λ (k : ℕ). take k (fieldRow T i ∷ drop (suc i) (T .fields))) e
+      ∙ ap (λ (k : ℕ). fieldRow T i ∷ take (left - 1) (drop k (T .fields))) (sym (add-one i))
 
-  pub complete-more : (bits : ℕ) (f : Field) → f ≡ field T i →
-      complete (fieldsFrom T i left) bits ≡ ((eqb (f .optional) 1 || eqb (bits % 2) 1) && complete (fieldsFrom T (i + 1) (left - 1)) (bits / 2))
-  unfolding complete
+  pub complete-more : (bits : ℕ) (f : Field) → f ≡ fieldRow T i →
+      requiredSet (fieldsFrom T i left) bits ≡ ((eqb (f .optional) 1 || eqb (bits % 2) 1) && requiredSet (fieldsFrom T (i + 1) (left - 1)) (bits / 2))
+  unfolding requiredSet
   complete-more bits f e = rw (fields-cons, e)
 
-  pub present-set : (bits : ℕ) (f : Field) → f ≡ field T i → bits % 2 ≡ 1 →
+  pub present-set : (bits : ℕ) (f : Field) → f ≡ fieldRow T i → bits % 2 ≡ 1 →
       present (fieldsFrom T i left) bits ≡ plainItem (f .ty) ∷ present (fieldsFrom T (i + 1) (left - 1)) (bits / 2)
   unfolding present
   present-set bits f e b = rw (fields-cons, e, eq-eqb (bits % 2) 1 b)
@@ -59,8 +59,8 @@ module _ (T : Table) (i left : ℕ) (none : left ≤ 0) where
   unfolding fieldsFrom
   no-fields = let e : left ≡ 0 = omega arith in rw e
 
-  pub complete-end : (bits : ℕ) → complete (fieldsFrom T i left) bits ≡ true
-  unfolding complete
+  pub complete-end : (bits : ℕ) → requiredSet (fieldsFrom T i left) bits ≡ true
+  unfolding requiredSet
   complete-end bits = rw no-fields
 
   pub present-end : (bits : ℕ) → present (fieldsFrom T i left) bits ≡ []
@@ -68,13 +68,13 @@ module _ (T : Table) (i left : ℕ) (none : left ≤ 0) where
   present-end bits = rw no-fields
 
 -- a turn of the test, where the rest decides
-module _ (T : Table) (i left : ℕ) (some : 0 < left) (room : i + left ≤ length (T .fields)) (bits : ℕ) (f : Field) (is : f ≡ field T i) (o : Bool)
-    (inv : complete (fieldsFrom T i left) bits ≡ o) where
+module _ (T : Table) (i left : ℕ) (some : 0 < left) (room : i + left ≤ length (T .fields)) (bits : ℕ) (f : Field) (is : f ≡ fieldRow T i) (o : Bool)
+    (inv : requiredSet (fieldsFrom T i left) bits ≡ o) where
   pub complete-stop : not (eqb (f .optional) 1 || eqb (bits % 2) 1) ≡ true → false ≡ o
   complete-stop t =
       rw (complete-more T i left some room bits f is, not-true (eqb (f .optional) 1 || eqb (bits % 2) 1) t) at inv
 
-  pub complete-on : not (eqb (f .optional) 1 || eqb (bits % 2) 1) ≡ false → complete (fieldsFrom T (i + 1) (left - 1)) (bits / 2) ≡ o
+  pub complete-on : not (eqb (f .optional) 1 || eqb (bits % 2) 1) ≡ false → requiredSet (fieldsFrom T (i + 1) (left - 1)) (bits / 2) ≡ o
   complete-on t =
       rw (complete-more T i left some room bits f is, not-false (eqb (f .optional) 1 || eqb (bits % 2) 1) t) at inv
 

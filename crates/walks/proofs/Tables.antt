@@ -9,9 +9,9 @@ use borrow.Author.Tests.{lt-ltb, le-ltb}
 use lib.ListN.{length, List·getD-eq-default}
 use Rattle.schema.specs.declared.TypeRow.{TypeRow}
 use Rattle.schema.specs.declared.Field.{Field}
-use Rattle.schema.specs.Table.{Table, Shape, unknown, scalar, text, array, map, struct, rowAt, shapes as allShapes, shape}
+use Rattle.schema.specs.Table.{Table, Shape, unknown, scalar, text, array, map, struct, rowAt, kindShapes as allShapes, shape}
 use Rattle.schema.specs.File.{tableOf}
-use Rattle.schema.specs.Check.{IsGood, noRow, field}
+use Rattle.schema.specs.Check.{IsGood, noRow, fieldRow}
 use Rattle.schema.specs.Good.{KeyKind}
 use Rattle.schema.proofs.Goods.{good-table}
 use Rattle.schema.proofs.Shapes as shapes
@@ -35,7 +35,7 @@ module _ (s : List ℕ) (good : IsGood s) where
   ]
 
   -- the type of a field is one of the table's: here of the first of those left
-  pub field-row : (i left : ℕ) → 0 < left → i + left ≤ length (tableOf s .fields) → (f : Field) → f ≡ field (tableOf s) i
+  pub field-row : (i left : ℕ) → 0 < left → i + left ≤ length (tableOf s .fields) → (f : Field) → f ≡ fieldRow (tableOf s) i
       → (r : TypeRow) → r ≡ rowAt (tableOf s) (f .ty) → 0 < r .kind
   field-row i left some room f is r row =
       let g = good-table s good in

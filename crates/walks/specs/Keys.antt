@@ -1,26 +1,18 @@
--- The keys of a map while its pairs are walked, in one list of numbers: the first half has their digests, and last their largest; the second half where
--- they stand.
+-- The keys of a map while its pairs are walked, in one list of numbers: the first half has their digests, and in its last four cells 256 flags; the second
+-- half where they stand.
 use mathlib.Core.Path.{_≡_}
-use mathlib.Core.Bool.{Bool, true, false, _||_}
+use mathlib.Core.Bool.{Bool, true, false, _||_, cond}
 use mathlib.Core.List.{List, [], _∷_}
 use Prim.Native.Nat.{ℕ, zero, suc, _+_, _-_, _*_, _/_, _%_, _^_, _≤_, _<_}
-use lib.Dec.{eqb}
-use lib.ListN.{length, getD, take, drop}
+use lib.Dec.{eqb, ltb}
+use lib.ListN.{length, getD}
 use Rattle.buffer.specs.Span.{span}
 use Rattle.wire.specs.Little.{little}
-
--- A digest with one word more.
-abbrev pub mixed : (d w : ℕ) → ℕ
-mixed d w = ((d * 2 ^ 3 % 2 ^ 64 + d) % 2 ^ 64 + w) % 2 ^ 64
-
--- The digest of the first n words of a content, of eight bytes each.
-unfoldable pub words : List ℕ → ℕ → ℕ
-words x zero = 0
-words x (suc n) = mixed (words x n) (little (take 8 (drop (8 * n) x)))
+use Rattle.walks.specs.Siphash.{lastWord, siphash}
 
 -- The digest of a content, a number that is compared first: contents with different digests differ.
 unfoldable pub digest : List ℕ → ℕ
-digest x = mixed (words x (length x / 8)) (little (drop (8 * (length x / 8)) x))
+digest x = cond (ltb (length x) 8) (lastWord x (length x)) (cond (eqb (length x) 8) (little x) (siphash x))
 
 -- Whether d is one of the first n digests.
 unfoldable pub holds : (keys : List ℕ) (n d : ℕ) → Bool
@@ -40,15 +32,21 @@ unfoldable pub keysIn : (B keys : List ℕ) → ℕ → List (List ℕ)
 keysIn B keys zero = []
 keysIn B keys (suc n) = keyAt B keys n ∷ keysIn B keys n
 
--- The largest digest kept: the last cell of the first half.
-abbrev pub largest : List ℕ → ℕ
-largest keys = getD keys (length keys / 2 - 1) 0
+-- The cell of a digest's flag.
+abbrev pub flagCell : List ℕ → (d : ℕ) → ℕ
+flagCell keys d = length keys / 2 - 4 + d / 64 % 4
 
--- Each of the first n keys lies in B; where keys are judged, its digest is kept, and is not above the largest.
-abbrev pub Kept : (B keys : List ℕ) (judging : Bool) → ℕ → Type 0
-Kept B keys judging n =
-    (j : ℕ) →
-    j < n →
+-- The flag of a digest is set.
+abbrev pub Flagged : List ℕ → (d : ℕ) → Type 0
+Flagged keys d = getD keys (flagCell keys d) 0 / 2 ^ (d % 64) % 2 ≡ 1
+
+-- Key j lies in B; where keys are judged, its digest is kept, and its flag set.
+abbrev pub KeptAt : (B keys : List ℕ) (judging : Bool) → ℕ → Type 0
+KeptAt B keys judging j =
     (whereIs keys j / 4294967296 + whereIs keys j % 4294967296 ≤ length B)
     × (judging ≡ true → getD keys j 0 ≡ digest (keyAt B keys j))
-    × (judging ≡ true → getD keys j 0 ≤ largest keys)
+    × (judging ≡ true → Flagged keys (getD keys j 0))
+
+-- So does each of the first n keys.
+abbrev pub Kept : (B keys : List ℕ) (judging : Bool) → ℕ → Type 0
+Kept B keys judging n = (j : ℕ) → j < n → KeptAt B keys judging j

@@ -1,4 +1,5 @@
 -- The definitions that the reader's and the writer's walks share.
 pub mod Shape
+pub mod Siphash
 pub mod Keys
 pub mod Required

@@ -1,24 +1,19 @@
 // The keys of a map, kept while its pairs are walked: their digests in the first half of a slice of numbers, where they stand in the second. The last
-// cell of the first half has the largest digest, so that keys whose digests rise need no search.
-use std::num::wrapping_add_usize;
+// four cells of the first half have 256 flags, each for the digests of one remainder: a key whose flag is not set is new, and needs no search.
+use crate::siphash::hash;
+use crate::siphash::last_word;
 use wire::little::number;
 ghost use mathlib.Core.Path.{_≡_};
 ghost use mathlib.Core.Bool.{true, false};
 ghost use mathlib.Core.List.{_∷_};
-ghost use Prim.Native.Nat.{_+_, _/_, _%_, _≤_, _<_};
+ghost use Prim.Native.Nat.{ℕ, _+_, _/_, _≤_, _<_};
 ghost use lib.ListN.{length};
 ghost use Rattle.buffer.specs.Span.{span};
 ghost use Rattle.value.specs.Read.{same, among};
-ghost use Rattle.walks.specs.Keys.{mixed, digest, holds, whereIs, keyAt, keysIn, Kept};
+ghost use Rattle.walks.specs.Keys.{digest, holds, keyAt, keysIn, Flagged, KeptAt, Kept};
 
-// A digest with one word more: nine times the digest, and the word.
-fn mix(d: usize, w: usize) -> usize
-    ensures { λ r. ⌜ r ≡ mixed d w ⌝ }
-{
-    wrapping_add_usize(wrapping_add_usize(d << 3, d), w)
-}
-
-// The digest of the n bytes at a place, by words of eight bytes. A walk that does not judge needs none, and gets 0.
+// The digest of the n bytes at a place: of up to eight bytes their number, of fewer with n in the top byte, and of more their hash. A walk that does not
+// judge needs none, and gets 0.
 fn digest_of(s: &[u8], place: usize, n: usize, judging: bool) -> usize
     requires { ⌜ place + n ≤ length (now s) ⌝ }
     ensures { λ r. ⌜ (judging ≡ true → r ≡ digest (span (now (s .entry)) place n)) ⌝ }
@@ -26,14 +21,13 @@ fn digest_of(s: &[u8], place: usize, n: usize, judging: bool) -> usize
     if !judging {
         return 0;
     }
-    let words = n / 8;
-    let mut d: usize = 0;
-    let mut i = 0;
-    while i < words {
-        d = mix(d, number(s, place + 8 * i, 8) as usize);
-        i = i + 1;
+    if n < 8 {
+        return last_word(s, place, n);
     }
-    mix(d, number(s, place + 8 * words, n % 8) as usize)
+    if n == 8 {
+        return number(s, place, 8) as usize;
+    }
+    hash(s, place, n)
 }
 
 // Whether d is one of the first n digests. All are looked at: a loop without a way out compares several at a time.
@@ -50,7 +44,7 @@ fn has_digest(keys: &[usize], n: usize, d: usize) -> bool
     found
 }
 
-// Two spans have the same bytes.
+// Whether two spans have the same bytes.
 fn is_same(s: &[u8], a: usize, n: usize, b: usize, m: usize) -> bool
     requires { ⌜ (a + n ≤ length (now s)) × (b + m ≤ length (now s)) ⌝ }
     ensures { λ r. ⌜ r ≡ same (span (now (s .entry)) a n) (span (now (s .entry)) b m) ⌝ }
@@ -68,11 +62,14 @@ fn is_same(s: &[u8], a: usize, n: usize, b: usize, m: usize) -> bool
     true
 }
 
-// The n bytes at a place are the content of key j.
-fn is_key(s: &[u8], keys: &[usize], j: usize, place: usize, n: usize) -> bool
-    requires { ⌜ (j < length (now keys) / 2) × (whereIs (now keys) j / 4294967296 + whereIs (now keys) j % 4294967296 ≤ length (now s)) × (place + n ≤ length (now s)) ⌝ }
+// Whether the n bytes at a place, whose digest is d, are the content of key j.
+fn is_key(s: &[u8], keys: &[usize], j: usize, place: usize, n: usize, d: usize) -> bool
+    requires { ⌜ (j < length (now keys) / 2) × (place + n ≤ length (now s)) × KeptAt (now s) (now keys) true j × (d ≡ digest (span (now s) place n)) ⌝ }
     ensures { λ r. ⌜ r ≡ same (span (now (s .entry)) place n) (keyAt (now (s .entry)) (now (keys .entry)) j) ⌝ }
 {
+    if keys[j] != d {
+        return false;
+    }
     let x = keys[keys.len() / 2 + j];
     is_same(s, place, n, x / 4294967296, x % 4294967296)
 }
@@ -100,11 +97,23 @@ fn is_among(
     let mut j = held;
     while 0 < j {
         j = j - 1;
-        if is_key(s, keys, j, place, n) {
+        if is_key(s, keys, j, place, n, d) {
             return true;
         }
     }
     false
+}
+
+// No flag is set, so that the keys of another map need no search. One that is left set only costs time.
+pub fn clear_flags(keys: &mut [usize])
+    requires { ⌜ 4 ≤ length (now keys) / 2 ⌝ }
+    ensures { λ _. ⌜ ((d : ℕ) → Flagged (now (keys .exit)) d → ⊥) ⌝ }
+{
+    let first = keys.len() / 2 - 4;
+    keys[first] = 0;
+    keys[first + 1] = 0;
+    keys[first + 2] = 0;
+    keys[first + 3] = 0;
 }
 
 // Whether the n bytes at a place are the content of one of the first i keys; they are kept as the next. A walk that does not judge knows that they are not.
@@ -116,7 +125,7 @@ pub fn is_repeated(
     n: usize,
     judging: bool,
 ) -> bool
-    requires { ⌜ (i + 1 < length (now keys) / 2) × (place < 4294967296) × (n < 4294967296) × (place + n ≤ length (now s)) × Kept (now s) (now keys) judging i ⌝ }
+    requires { ⌜ (i + 4 < length (now keys) / 2) × (place < 4294967296) × (n < 4294967296) × (place + n ≤ length (now s)) × Kept (now s) (now keys) judging i ⌝ }
     requires { ⌜ (judging ≡ false → among (span (now s) place n) (keysIn (now s) (now keys) i) ≡ false) ⌝ }
     ensures { λ r. ⌜
         (r ≡ among (span (now (s .entry)) place n) (keysIn (now (s .entry)) (now (keys .entry)) i))
@@ -127,8 +136,10 @@ pub fn is_repeated(
     let d = digest_of(s, place, n, judging);
     keys[half + i] = place * 4294967296 + n;
     keys[i] = d;
-    if keys[half - 1] < d {
-        keys[half - 1] = d;
+    let cell = half - 4 + d / 64 % 4;
+    let flags = keys[cell];
+    if (flags >> (d % 64)) % 2 == 0 {
+        keys[cell] = flags | (1usize << (d % 64));
         return false;
     }
     is_among(s, keys, i, place, n, d, judging)

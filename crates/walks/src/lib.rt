@@ -1,5 +1,6 @@
 // What the reader's and the writer's walks share: a struct's fields by its type row, the test of its presence bits, and the bits that are required.
 pub mod key;
+pub mod siphash;
 
 use schema::Layout;
 use schema::rows::field_row;
@@ -10,14 +11,14 @@ ghost use lib.Count.{trailingZeros};
 ghost use lib.ListN.{length};
 ghost use Rattle.schema.specs.File.{Laid, tableOf};
 ghost use Rattle.schema.specs.Check.{IsGood};
-ghost use Rattle.value.specs.Read.{complete};
+ghost use Rattle.value.specs.Read.{requiredSet};
 ghost use Rattle.walks.specs.Shape.{fieldsFrom};
 ghost use Rattle.walks.specs.Required.{requiredBit, Requires};
 
 // Whether each of n fields from the first on has its bit or is optional. A walk that does not judge knows that it is so.
 pub fn is_complete(s: &[u8], first: usize, n: usize, word: u64, judging: bool) -> bool
-    requires { ⌜ IsGood (now s) × (first + n ≤ length (tableOf (now s) .fields)) × (judging ≡ false → complete (fieldsFrom (tableOf (now s)) first n) word ≡ true) ⌝ }
-    ensures { λ r. ⌜ r ≡ complete (fieldsFrom (tableOf (now (s .entry))) first n) word ⌝ }
+    requires { ⌜ IsGood (now s) × (first + n ≤ length (tableOf (now s) .fields)) × (judging ≡ false → requiredSet (fieldsFrom (tableOf (now s)) first n) word ≡ true) ⌝ }
+    ensures { λ r. ⌜ r ≡ requiredSet (fieldsFrom (tableOf (now (s .entry))) first n) word ⌝ }
 {
     if !judging {
         return true;

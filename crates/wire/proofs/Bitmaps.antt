@@ -10,7 +10,7 @@ use lib.ListN.{length, getD, take, drop}
 use lib.Seq.{take-all}
 use lib.Pow.{pow-pos, split, field, mod-mod-pow, shr-shr}
 use Rattle.wire.specs.Little.{little, Bytes}
-use Rattle.wire.specs.Bitmap.{bits, bitmap, total}
+use Rattle.wire.specs.Bitmap.{bits, bitList, total}
 
 -- a word's set bits, counted apart: those from n on, and the n lowest
 pub ones-split : (x n : ℕ) → ones x ≡ ones (x / 2 ^ n) + ones (x % 2 ^ n)
@@ -73,8 +73,8 @@ bits-cat (suc j) k a r h =
     ap (λ (n : ℕ). bits n x) (suc-add j k)
     ∙ ap₂ {C = List ℕ} _∷_ odd (ap (bits (j + k)) half ∙ bits-cat j k a (r / 2) (omega arith))
 
-pub bitmap-little : (s : List ℕ) → Bytes s → bitmap s ≡ bits (8 * length s) (little s)
-unfolding bitmap bits little
+pub bitmap-little : (s : List ℕ) → Bytes s → bitList s ≡ bits (8 * length s) (little s)
+unfolding bitList bits little
 bitmap-little [] h = refl
 bitmap-little (b ∷ s) h =
     let e : 8 * suc (length s) ≡ 8 + 8 * length s = omega arith in
@@ -84,13 +84,13 @@ bitmap-little (b ∷ s) h =
 -- ---- the bitmap, by the number of its bytes
 module _ (s : List ℕ) (n : ℕ) (bytes : Bytes s) where
   -- the known bits that are set
-  pub known-count : n ≤ 8 * length s → total (take n (bitmap s)) ≡ onesIn n (little s)
+  pub known-count : n ≤ 8 * length s → total (take n (bitList s)) ≡ onesIn n (little s)
   known-count h = ap (λ (l : List ℕ). total (take n l)) (bitmap-little s bytes) ∙ low-total (8 * length s) n (little s) h
 
   -- and those above them
-  pub unknown-count : n ≤ 8 * length s → total (drop n (bitmap s)) ≡ onesIn (8 * length s - n) (little s / 2 ^ n)
+  pub unknown-count : n ≤ 8 * length s → total (drop n (bitList s)) ≡ onesIn (8 * length s - n) (little s / 2 ^ n)
   unknown-count h = ap (λ (l : List ℕ). total (drop n l)) (bitmap-little s bytes) ∙ high-total (8 * length s) n (little s) h
 
   -- the bit n
-  pub bitmap-bit : n < 8 * length s → getD (bitmap s) n 0 ≡ little s / 2 ^ n % 2
+  pub bitmap-bit : n < 8 * length s → getD (bitList s) n 0 ≡ little s / 2 ^ n % 2
   bitmap-bit h = ap (λ (l : List ℕ). getD l n 0) (bitmap-little s bytes) ∙ bit-at (8 * length s) n (little s) h

@@ -1,4 +1,4 @@
--- Characters of the row UTF8-2: laws of `pairs` of `specs/Utf8.antt`, over any number of pairs of bytes.
+-- Characters of the row UTF8-2: laws of `twoByteChars` of `specs/Utf8.antt`, over any number of pairs of bytes.
 use mathlib.Core.Path.{_≡_, refl, sym, ap, ap₂, subst, _∙_}
 use mathlib.Core.Bool.{Bool, true, false, _&&_, not}
 use mathlib.Core.List.{List, [], _∷_, _++_}
@@ -11,7 +11,7 @@ use lib.Dec.{T, eqb, leb, lit<, eqb→eq, le→leb}
 use lib.ListN.{length, take, drop}
 use lib.Seq.{slice}
 use Rattle.wire.specs.Little.{little, Bytes}
-use Rattle.wire.specs.Utf8.{rows, rowAt, In, matches, isChar, utf8, pairs}
+use Rattle.wire.specs.Utf8.{rows, rowAt, In, matches, isChar, utf8, twoByteChars}
 use Rattle.wire.proofs.Utf8s.{and-both, both-and, in-range, row-mem, run-char, part-pass}
 
 -- two tests that pass at the same time are one
@@ -112,8 +112,8 @@ and-and true false true d = refl
 and-and true false false d = refl
 and-and false b c d = refl
 
-pub word-pairs : (n : ℕ) (s : List ℕ) → Bytes s → length s ≡ 2 * n → (shapes n (little s) && carries n (little s)) ≡ pairs s
-unfolding little pairs
+pub word-pairs : (n : ℕ) (s : List ℕ) → Bytes s → length s ≡ 2 * n → (shapes n (little s) && carries n (little s)) ≡ twoByteChars s
+unfolding little twoByteChars
 word-pairs zero [] h e = refl
 word-pairs (suc n) [] h e = absurd (omega arith)
 word-pairs n (b ∷ []) h e = absurd (omega arith)
@@ -129,14 +129,14 @@ word-pairs (suc n) (b ∷ c ∷ s) h e =
 
 -- ---- pairs in front are passed
 
-pairs-skip : (c s : List ℕ) → T (pairs c) → utf8 (c ++ s) ≡ utf8 s
-unfolding pairs
+pairs-skip : (c s : List ℕ) → T (twoByteChars c) → utf8 (c ++ s) ≡ utf8 s
+unfolding twoByteChars
 pairs-skip [] s t = refl
 pairs-skip (b ∷ []) s t = absurd t
 pairs-skip (b ∷ d ∷ c) s t =
-    let both = and-both (isChar (rowAt 1) (b ∷ d ∷ [])) (pairs c) t in
+    let both = and-both (isChar (rowAt 1) (b ∷ d ∷ [])) (twoByteChars c) t in
     run-char (rowAt 1) (b ∷ d ∷ []) (c ++ s) (row-mem 1 (rowAt 1) (lit< tt) refl) (both .0) ∙ pairs-skip c s (both .1)
 
 -- a word that the test r found to be pairs
-pub pairs-pass : (s : List ℕ) (i to : ℕ) (r : Bool) → i + 8 ≤ to → r ≡ pairs (take 8 (drop i s)) → not r ≡ false → utf8 (slice (i + 8) to s) ≡ utf8 (slice i to s)
+pub pairs-pass : (s : List ℕ) (i to : ℕ) (r : Bool) → i + 8 ≤ to → r ≡ twoByteChars (take 8 (drop i s)) → not r ≡ false → utf8 (slice (i + 8) to s) ≡ utf8 (slice i to s)
 pairs-pass s i to r l is t = part-pass s i 8 to l (λ u. pairs-skip (take 8 (drop i s)) u (subst T (sym (not-false r t) ∙ is) tt))

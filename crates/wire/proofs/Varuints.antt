@@ -14,7 +14,7 @@ use lib.ListN.{length, getD, take, drop, length-append, length-drop, drop-of-len
 use lib.Seq.{drop-cons, drop-append-seam}
 use Rattle.wire.specs.declared.varuint.VarUInt.{VarUInt}
 use Rattle.wire.specs.declared.varuint.VarUInt.the-variants.{Number, Cut, Malformed}
-use Rattle.wire.specs.Varuint.{before, isSpare, lastGroup, groups, front, varuint, Groups, tenth, final, group, lastOr, Ended, Spelled, Starts, Completed, Spare, TenthAbove, shortest, varuintBytes}
+use Rattle.wire.specs.Varuint.{before, isSpare, lastGroup, groups, frontVarUInt, varuint, Groups, tenth, final, group, lastOr, Ended, Spelled, Starts, Completed, Spare, TenthAbove, shortest, varuintBytes}
 use Rattle.wire.proofs.Cases.{cond-case}
 use Rattle.wire.specs.Little.{Bytes}
 
@@ -36,12 +36,12 @@ unfolding groups
 groups-more k s at h = rw (drop-cons s at 0, add-one)
 
 pub front-cut : (s : List ℕ) (at : ℕ) → length s ≤ at → varuint s at ≡ Cut
-unfolding front
+unfolding frontVarUInt
 front-cut s at h = rw (drop-of-length-le s {i = at} h)
 
 pub front-more : (s : List ℕ) (at : ℕ) → at < length s
     → varuint s at ≡ cond (ltb (getD s at 0) 128) (Number (getD s at 0) (at + 1)) (before (getD s at 0 - 128) (groups 9 (drop (at + 1) s) (at + 1)))
-unfolding front
+unfolding frontVarUInt
 front-more s at h = rw (drop-cons s at 0, add-one)
 
 -- ---- groups behind those that make up v, of which the first weighs w
@@ -206,14 +206,14 @@ groups-reads k n bs (final {b = b} h) l t at = rw (lt-ltb b 128 h, last-number b
 groups-reads k n bs (group {k = j} {n = m} {b = b} {bs = cs} h g) l t at =
     rw (le-ltb b 128 h, groups-reads j m cs g (omega (arith, last-any j m cs g b 0)) t (at + 1)) (ap (Number (b - 128 + 128 * m)) (omega arith))
 
-view-reads : (n : ℕ) (bs t : List ℕ) (at : ℕ) → View n bs → front (bs ++ t) at ≡ Number n (at + length bs)
-unfolding front
+view-reads : (n : ℕ) (bs t : List ℕ) (at : ℕ) → View n bs → frontVarUInt (bs ++ t) at ≡ Number n (at + length bs)
+unfolding frontVarUInt
 view-reads n bs t at (alone {b = b} h) = rw (lt-ltb b 128 h)
 view-reads n bs t at (led {n = m} {b = b} {bs = cs} h g l) =
     rw (le-ltb b 128 h, groups-reads 8 m cs g l t (at + 1)) (ap (Number (b - 128 + 128 * m)) (omega arith))
 
 -- a spelled number is read whatever follows it, and the place after it is found
-pub spelled-reads : (n : ℕ) (bs t : List ℕ) (at : ℕ) → Spelled n bs → front (bs ++ t) at ≡ Number n (at + length bs)
+pub spelled-reads : (n : ℕ) (bs t : List ℕ) (at : ℕ) → Spelled n bs → frontVarUInt (bs ++ t) at ≡ Number n (at + length bs)
 spelled-reads n bs t at h = view-reads n bs t at (view n bs h)
 
 -- what an answer tells of the bytes, by the relation P for a number and B for what is malformed
@@ -282,8 +282,8 @@ bad-more b s h (inl (n, bs, rest, e, g, z)) =
     inl (b - 128 + 128 * n, b ∷ bs, rest, ap (λ (l : List ℕ). b ∷ l) e, group h g, omega (arith, groups-pos 8 n bs g), omega (arith, last-any 8 n bs g b 0))
 bad-more b s h (inr w) = inr (above-more 8 b s h w)
 
-front-tell : (s : List ℕ) (at : ℕ) → Tells Spelled Bad s at (front s at)
-unfolding front Tells
+front-tell : (s : List ℕ) (at : ℕ) → Tells Spelled Bad s at (frontVarUInt s at)
+unfolding frontVarUInt Tells
 front-tell [] at = (1, 1 ∷ [], omega arith, spelled-one 1 (omega arith))
 front-tell (b ∷ s) at =
     cond-case (Tells Spelled Bad (b ∷ s) at) (ltb b 128) (Number b (at + 1)) (before (b - 128) (groups 9 s (at + 1)))
@@ -293,7 +293,7 @@ front-tell (b ∷ s) at =
     before-tells (Ends 8) Spelled (BadEnd 8) Bad s at b (groups 9 s (at + 1)) (λ n bs. spelled-more n b bs h) (bad-more b s h) (groups-tell 8 s (at + 1)))
 
 -- what is read is spelled by the bytes passed over
-pub read-spelled : (s : List ℕ) (at n next : ℕ) → front s at ≡ Number n next → Starts Spelled s at n next
+pub read-spelled : (s : List ℕ) (at n next : ℕ) → frontVarUInt s at ≡ Number n next → Starts Spelled s at n next
 unfolding Tells
 read-spelled s at n next e = subst (Tells Spelled Bad s at) e (front-tell s at)
 
@@ -308,16 +308,16 @@ groups-cuts k n bs (final h) (suc j) at l = absurd (omega arith)
 groups-cuts k n bs (group h g) zero at l = refl
 groups-cuts k n bs (group {k = i} {n = m} {b = b} {bs = cs} h g) (suc j) at l = rw (le-ltb b 128 h, groups-cuts i m cs g j (at + 1) (omega arith))
 
-view-cut : (n : ℕ) (bs : List ℕ) (j at : ℕ) → View n bs → j < length bs → front (take j bs) at ≡ Cut
-unfolding front
+view-cut : (n : ℕ) (bs : List ℕ) (j at : ℕ) → View n bs → j < length bs → frontVarUInt (take j bs) at ≡ Cut
+unfolding frontVarUInt
 view-cut n bs zero at v l = refl
 view-cut n bs (suc j) at (alone h) l = absurd (omega arith)
 view-cut n bs (suc j) at (led {n = m} {b = b} {bs = cs} h g p) l = rw (le-ltb b 128 h, groups-cuts 8 m cs g j (at + 1) (omega arith))
 
-pub spelled-cut : (n : ℕ) (bs : List ℕ) (j at : ℕ) → Spelled n bs → j < length bs → front (take j bs) at ≡ Cut
+pub spelled-cut : (n : ℕ) (bs : List ℕ) (j at : ℕ) → Spelled n bs → j < length bs → frontVarUInt (take j bs) at ≡ Cut
 spelled-cut n bs j at s l = view-cut n bs j at (view n bs s) l
 
-pub cut-completed : (s : List ℕ) (at : ℕ) → front s at ≡ Cut → Completed Spelled s
+pub cut-completed : (s : List ℕ) (at : ℕ) → frontVarUInt s at ≡ Cut → Completed Spelled s
 unfolding Tells
 cut-completed s at e = subst (Tells Spelled Bad s at) e (front-tell s at)
 
@@ -337,22 +337,22 @@ groups-above zero (b ∷ s) at w = rw (le-ltb b 2 (w .2))
 groups-above (suc k) (b ∷ s) at w =
     rw (le-ltb b 128 (w .1 0 (omega arith)), groups-above k s (at + 1) (omega (arith, w .0), λ i l. w .1 (suc i) (omega arith), w .2))
 
-spare-bad : (k n : ℕ) (bs t : List ℕ) (at : ℕ) → Groups k n bs → k ≡ 9 → 1 < length bs → lastOr 0 bs ≡ 0 → front (bs ++ t) at ≡ Malformed
-unfolding front
+spare-bad : (k n : ℕ) (bs t : List ℕ) (at : ℕ) → Groups k n bs → k ≡ 9 → 1 < length bs → lastOr 0 bs ≡ 0 → frontVarUInt (bs ++ t) at ≡ Malformed
+unfolding frontVarUInt
 spare-bad k n bs t at (tenth h) e l z = absurd (omega arith)
 spare-bad k n bs t at (final h) e l z = absurd (omega arith)
 spare-bad k n bs t at (group {k = j} {n = m} {b = b} {bs = cs} h g) e l z =
     let eight : suc j ≡ 9 = omega arith in
     rw (le-ltb b 128 h, ← eight, groups-spare j m cs g (omega (arith, last-any j m cs g b 0)) t (at + 1))
 
-bad-front : (s : List ℕ) (at : ℕ) → Bad s → front s at ≡ Malformed
-unfolding front Above
+bad-front : (s : List ℕ) (at : ℕ) → Bad s → frontVarUInt s at ≡ Malformed
+unfolding frontVarUInt Above
 bad-front s at (inl (n, bs, rest, e, g, l, z)) = rw e (spare-bad 9 n bs rest at g refl l z)
 bad-front [] at (inr w) = absurd (omega (arith, w .0))
 bad-front (b ∷ s) at (inr w) =
     rw (le-ltb b 128 (w .1 0 (omega arith)), groups-above 8 s (at + 1) (omega (arith, w .0), λ i l. w .1 (suc i) (omega arith), w .2))
 
-pub malformed-iff : (s : List ℕ) (at : ℕ) → (front s at ≡ Malformed) ↔ (Spare s ⊎ TenthAbove s)
+pub malformed-iff : (s : List ℕ) (at : ℕ) → (frontVarUInt s at ≡ Malformed) ↔ (Spare s ⊎ TenthAbove s)
 unfolding Tells
 malformed-iff s at = (λ e. subst (Tells Spelled Bad s at) e (front-tell s at), bad-front s at)
 
@@ -371,8 +371,8 @@ groups-settled (suc (suc k)) (b ∷ s) t at h = elim (decLt b 128) [
 ]
 
 -- bytes after a VarUInt that is not cut change nothing
-pub front-settled : (s t : List ℕ) (at : ℕ) → (front s at ≡ Cut → ⊥) → front (s ++ t) at ≡ front s at
-unfolding front
+pub front-settled : (s t : List ℕ) (at : ℕ) → (frontVarUInt s at ≡ Cut → ⊥) → frontVarUInt (s ++ t) at ≡ frontVarUInt s at
+unfolding frontVarUInt
 front-settled [] t at h = absurd (h refl)
 front-settled (b ∷ s) t at h = elim (decLt b 128) [
   | yes l ↦ rw (lt-ltb b 128 l)

@@ -11,10 +11,10 @@ bits zero x = []
 bits (suc k) x = x % 2 ∷ bits k (x / 2)
 
 -- The bits of each byte in turn.
-unfoldable pub bitmap : List ℕ → List ℕ
+unfoldable pub bitList : List ℕ → List ℕ
 unfolding bits
-bitmap [] = []
-bitmap (b ∷ s) = bits 8 b ++ bitmap s
+bitList [] = []
+bitList (b ∷ s) = bits 8 b ++ bitList s
 
 -- How many bits of a list are set.
 unfoldable pub total : List ℕ → ℕ
@@ -25,6 +25,6 @@ total (b ∷ l) = b + total l
 pub record Present (s : List ℕ) (n word known count unknown : ℕ) : Type 0 where
   pub word-is : word ≡ little s
   pub known-is : known ≡ word % 2 ^ n
-  pub count-is : count ≡ total (take n (bitmap s))
+  pub count-is : count ≡ total (take n (bitList s))
   pub count-le : count ≤ n
-  pub unknown-is : unknown ≡ total (drop n (bitmap s))
+  pub unknown-is : unknown ≡ total (drop n (bitList s))

@@ -104,7 +104,7 @@ ascii [] = true
 ascii (b ∷ s) = isChar (rowAt 0) (b ∷ []) && ascii s
 
 -- Whether s has only characters of the row UTF8-2.
-unfoldable pub pairs : List ℕ → Bool
-pairs [] = true
-pairs (b ∷ []) = false
-pairs (b ∷ c ∷ s) = isChar (rowAt 1) (b ∷ c ∷ []) && pairs s
+unfoldable pub twoByteChars : List ℕ → Bool
+twoByteChars [] = true
+twoByteChars (b ∷ []) = false
+twoByteChars (b ∷ c ∷ s) = isChar (rowAt 1) (b ∷ c ∷ []) && twoByteChars s

@@ -33,13 +33,13 @@ groups (suc zero) (b ∷ s) at = cond (ltb b 2) (lastGroup b at) Malformed
 groups (suc (suc k)) (b ∷ s) at = cond (ltb b 128) (lastGroup b at) (before (b - 128) (groups (suc k) s (at + 1)))
 
 -- The VarUInt at the front of s, whose first byte stands at `at`: ten groups, so 64 bits.
-unfoldable pub front : List ℕ → ℕ → VarUInt
-front [] at = Cut
-front (b ∷ s) at = cond (ltb b 128) (Number b (at + 1)) (before (b - 128) (groups 9 s (at + 1)))
+unfoldable pub frontVarUInt : List ℕ → ℕ → VarUInt
+frontVarUInt [] at = Cut
+frontVarUInt (b ∷ s) at = cond (ltb b 128) (Number b (at + 1)) (before (b - 128) (groups 9 s (at + 1)))
 
 -- The VarUInt at a place of s.
 abbrev pub varuint : List ℕ → ℕ → VarUInt
-varuint s at = front (drop at s) at
+varuint s at = frontVarUInt (drop at s) at
 
 -- ---- the same rules as a relation
 

@@ -6,7 +6,7 @@ ghost use mathlib.Core.List.{[], _∷_, List·Memᴰ};
 ghost use Prim.Native.Nat.{_+_, _<_, _≤_};
 ghost use lib.ListN.{length, take, drop};
 ghost use lib.Seq.{slice};
-ghost use Rattle.wire.specs.Utf8.{rows, rowAt, In, isChar, leadOf, next, utf8, ascii, pairs};
+ghost use Rattle.wire.specs.Utf8.{rows, rowAt, In, isChar, leadOf, next, utf8, ascii, twoByteChars};
 
 // A range of bytes: the lowest and the highest.
 pub struct Range(pub u8, pub u8);
@@ -196,7 +196,7 @@ fn skip_blocks(s: &[u8], from: usize, to: usize) -> usize
 // Whether the eight bytes from at are four characters of the row UTF8-2. The first mask tells leads and tails apart; the sum carries where a lead is not too low.
 fn pair_word(s: &[u8], at: usize) -> bool
     requires { ⌜ at + 8 ≤ length (now s) ⌝ }
-    ensures { λ r. ⌜ r ≡ pairs (take 8 (drop at (now (s .entry)))) ⌝ }
+    ensures { λ r. ⌜ r ≡ twoByteChars (take 8 (drop at (now (s .entry)))) ⌝ }
 {
     let w = number(s, at, 8);
     let low = (w & 0x001E_001E_001E_001E) + 0x007E_007E_007E_007E;

@@ -33,26 +33,26 @@ numbers =
     20 ∷ 21 ∷ 22 ∷ 23 ∷ 24 ∷ 25 ∷ 26 ∷ 27 ∷ 28 ∷ 29 ∷ 30 ∷ 31 ∷
     40 ∷ 41 ∷ 42 ∷ 43 ∷ 44 ∷ 45 ∷ 46 ∷ 47 ∷ 50 ∷ 51 ∷ 52 ∷ 53 ∷ 65 ∷ 66 ∷ []
 
-pub meanings-present : numbered.present 0 (words.allCodes meanings) ≡ numbers
-unfolding codes words.allCodes numbered.present
+pub meanings-present : numbered.numbersWithText 0 (words.allCodes meanings) ≡ numbers
+unfolding codes words.allCodes numbered.numbersWithText
 meanings-present = refl
 
-pub advices-present : numbered.present 0 (words.allCodes advices) ≡ numbers
-unfolding codes words.allCodes numbered.present
+pub advices-present : numbered.numbersWithText 0 (words.allCodes advices) ≡ numbers
+unfolding codes words.allCodes numbered.numbersWithText
 advices-present = refl
 
 -- ---- numbers read
 
-pub numbers-read : (number.numberOf (codes "26") ≡ Number 26) × (number.numberOf (codes "026") ≡ Number 26)
-    × (number.numberOf (codes "18446744073709551615") ≡ Number 18446744073709551615) × (number.numberOf (codes "18446744073709551616") ≡ Nothing)
-    × (number.numberOf (codes "") ≡ Nothing) × (number.numberOf (codes "2x") ≡ Nothing) × (number.numberOf (codes "-2") ≡ Nothing)
-unfolding codes number.numberFrom number.numberOf
+pub numbers-read : (number.parsedOf (codes "26") ≡ Number 26) × (number.parsedOf (codes "026") ≡ Number 26)
+    × (number.parsedOf (codes "18446744073709551615") ≡ Number 18446744073709551615) × (number.parsedOf (codes "18446744073709551616") ≡ Nothing)
+    × (number.parsedOf (codes "") ≡ Nothing) × (number.parsedOf (codes "2x") ≡ Nothing) × (number.parsedOf (codes "-2") ≡ Nothing)
+unfolding codes number.numberFrom number.parsedOf
 numbers-read = (refl, refl, refl, refl, refl, refl, refl)
 
 -- ---- whole texts
 
 explains : List ℕ → List ℕ
-unfolding codes number.numberFrom number.numberOf page.entryOf decimal.digits decimal.decimal text.field words.allCodes words.meaningOf words.adviceOf words.unknown
+unfolding codes number.numberFrom number.parsedOf page.pageEntry decimal.digits decimal.decimal text.field words.allCodes words.meaningOf words.adviceOf words.unknown
     words.explained words.explainText
 explains w = words.explainText w
 

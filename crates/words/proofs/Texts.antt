@@ -25,7 +25,7 @@ use Rattle.text.proofs.Pages.{line-of-page}
 use Rattle.words.specs.declared.number.Parsed.{Parsed}
 use Rattle.words.specs.declared.number.Parsed.the-variants.{Number, Nothing}
 use Rattle.words.specs.Reasons.{meanings, advices}
-use Rattle.words.specs.Number.{numberOf}
+use Rattle.words.specs.Number.{parsedOf}
 use Rattle.words.specs.Words.{
   allCodes,
   meaningOf,
@@ -149,7 +149,7 @@ module _ (old new : List ℕ) {out after : List ℕ} {next : ℕ} where
 
 -- ---- explain
 
-module _ (word : List ℕ) (v : Parsed) (is : v ≡ numberOf word) {out after : List ℕ} {next : ℕ} where
+module _ (word : List ℕ) (v : Parsed) (is : v ≡ parsedOf word) {out after : List ℕ} {next : ℕ} where
   pub explain-number : {n : ℕ} → v ≡ Number n → Added out 0 (explained n) next after → Added out 0 (explainText word) next after
   unfolding explainText
   explain-number h f = rw (← is, h) f

@@ -16,6 +16,6 @@ numberFrom x (d ∷ ds) =
     cond (isDigit d) (cond (leb (10 * x + (d - 48)) 18446744073709551615) (numberFrom (10 * x + (d - 48)) ds) Nothing) Nothing
 
 -- The number that a word stands for; an empty word stands for none.
-unfoldable pub numberOf : List ℕ → Parsed
-numberOf [] = Nothing
-numberOf (d ∷ ds) = numberFrom 0 (d ∷ ds)
+unfoldable pub parsedOf : List ℕ → Parsed
+parsedOf [] = Nothing
+parsedOf (d ∷ ds) = numberFrom 0 (d ∷ ds)

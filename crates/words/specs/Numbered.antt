@@ -18,6 +18,6 @@ numbered n [] = true
 numbered n (t ∷ ts) = (eqb (length t) 0 || startsWith (decimal n ++ codes ": ") t) && numbered (suc n) ts
 
 -- The numbers, counted from n on, whose text is not empty.
-unfoldable pub present : (n : ℕ) → List (List ℕ) → List ℕ
-present n [] = []
-present n (t ∷ ts) = cond (eqb (length t) 0) [] (n ∷ []) ++ present (suc n) ts
+unfoldable pub numbersWithText : (n : ℕ) → List (List ℕ) → List ℕ
+numbersWithText n [] = []
+numbersWithText n (t ∷ ts) = cond (eqb (length t) 0) [] (n ∷ []) ++ numbersWithText (suc n) ts

@@ -14,11 +14,11 @@ use Rattle.schema.specs.Extend.{extension}
 use Rattle.text.specs.Codes.{codes}
 use Rattle.text.specs.Decimal.{decimal}
 use Rattle.text.specs.Text.{field}
-use Rattle.text.specs.Page.{entryOf, pageOf}
+use Rattle.text.specs.Page.{pageEntry, pageOf}
 use Rattle.words.specs.declared.number.Parsed.{Parsed}
 use Rattle.words.specs.declared.number.Parsed.the-variants.{Number, Nothing}
 use Rattle.words.specs.Reasons.{meanings, advices}
-use Rattle.words.specs.Number.{numberOf}
+use Rattle.words.specs.Number.{parsedOf}
 
 -- ---- a number in words
 
@@ -28,10 +28,10 @@ allCodes (s ∷ ss) = codes s ∷ allCodes ss
 
 -- What a number means, after the number itself, and what to do about it; nothing for a number that means nothing.
 unfoldable pub meaningOf : ℕ → List ℕ
-meaningOf n = entryOf n (allCodes meanings)
+meaningOf n = pageEntry n (allCodes meanings)
 
 unfoldable pub adviceOf : ℕ → List ℕ
-adviceOf n = entryOf n (allCodes advices)
+adviceOf n = pageEntry n (allCodes advices)
 
 -- The same, a line for each number from 0 on.
 unfoldable pub meaningsPage : List ℕ
@@ -87,4 +87,4 @@ byNumber (Number n) = explained n
 byNumber Nothing = codes "no number\n"
 
 unfoldable pub explainText : (word : List ℕ) → List ℕ
-explainText word = byNumber (numberOf word)
+explainText word = byNumber (parsedOf word)

@@ -4,12 +4,12 @@ use text::put_word;
 ghost use Prim.Native.Nat.{_+_, _≤_};
 ghost use lib.ListN.{length};
 ghost use Rattle.text.specs.Text.{Added};
-ghost use Rattle.words.specs.Made.{counted, keptText, leftText, indexedText};
+ghost use Rattle.words.specs.Made.{countText, keptText, leftText, indexedText};
 
 // A number of things, with the word for one or that for any other number.
 fn put_counted(out: &mut [u8], pos: usize, n: u64, one: &[u8], many: &[u8]) -> usize
     requires { ⌜ (pos ≤ 1000) × (length (now one) ≤ 64) × (length (now many) ≤ 64) ⌝ }
-    ensures { λ r. ⌜ Added (now (out .entry)) pos (counted n (now (one .entry)) (now (many .entry))) r (now (out .exit)) ⌝ }
+    ensures { λ r. ⌜ Added (now (out .entry)) pos (countText n (now (one .entry)) (now (many .entry))) r (now (out .exit)) ⌝ }
     ensures { λ r. ⌜ r ≤ pos + 84 ⌝ }
 {
     let at = put_decimal(out, pos, n);

@@ -1,6 +1,6 @@
 // A number in decimal, read.
 ghost use mathlib.Core.Path.{_≡_};
-ghost use Rattle.words.specs.Number.{isDigit as digitTest, numberOf};
+ghost use Rattle.words.specs.Number.{isDigit as digitTest, parsedOf};
 
 pub enum Parsed {
     Number(u64),
@@ -15,7 +15,7 @@ fn is_digit(b: u8) -> bool
 
 // The number that a word stands for, of at most 64 bits; none where it is empty or another byte than a digit is in it.
 pub fn number_of(word: &[u8]) -> Parsed
-    ensures { λ r. ⌜ r ≡ numberOf (now (word .entry)) ⌝ }
+    ensures { λ r. ⌜ r ≡ parsedOf (now (word .entry)) ⌝ }
 {
     if word.len() == 0 {
         return Parsed::Nothing;

@@ -18,7 +18,7 @@ use Rattle.parse.specs.Reader.{CursorOf, AnswerOf, refused, seen, andThen, chec
 use Rattle.parse.proofs.Answers.{accepted-first, accepted-check}
 use Rattle.schema.specs.declared.Field.{Field}
 use Rattle.schema.specs.Table.{Table, Shape, array, map, struct, bitmapBytes}
-use Rattle.schema.specs.Check.{field}
+use Rattle.schema.specs.Check.{fieldRow}
 use Rattle.schema.proofs.Bools.{and-left, and-right}
 use Rattle.value.specs.declared.Row.{Row}
 use Rattle.value.specs.Value.{Tree, tip, branch, Forest, stop, plus, value, values}
@@ -37,7 +37,7 @@ use Rattle.writer.specs.declared.leaf.Head.{Head}
 use Rattle.writer.specs.declared.leaf.Head.the-variants.{Bits, Refused as HeadRefused}
 use Rattle.writer.specs.declared.walk.Walk.the-variants.{Past}
 use Rattle.writer.specs.Emit.{cap, PutAt, Final, done, stopped, emit, emitAll}
-use Rattle.writer.specs.Leaf.{rowsAt, dueOf, DueIn, RowDue, leafOf, LeafIn, LeafRow, headOf, HeadIn, Headed}
+use Rattle.writer.specs.Leaf.{rowsAt, dueAnswer, DueIn, DueRow, leafOf, LeafIn, LeafRow, headOf, HeadIn, Headed}
 use Rattle.writer.specs.Walk.{Walked}
 use Rattle.writer.proofs.Steps.{done-put, branch-bytes, tip-bytes, item-past, item-stop, key-stop, key-again, key-new, show-refused, show-bad, show-parts, leaf-shown, leaf-refused}
 
@@ -84,9 +84,9 @@ module _ (S : ℕ → Shape) (t : ℕ) (sh : Shape) (is : S t ≡ sh) (r : Row) 
   node-accepted : (m : AnswerOf Row Forest) (o : AnswerOf Row Tree) → o ≡ andThen m (λ ts c. seen (branch r h ts) c) → Accepted o → Accepted m
   node-accepted m o e a = accepted-first m _ (rw e at a)
 
-module _ {t : ℕ} {cells : List ℕ} {row : ℕ} {due : Due} (found : RowDue cells row t due) where
+module _ {t : ℕ} {cells : List ℕ} {row : ℕ} {due : Due} (found : DueRow cells row t due) where
   pub row-absent : (S : ℕ → Shape) (B : List ℕ) (d : ℕ) → due ≡ Missing → show S B (suc d) t (rowsAt cells row) ≡ refused 50 row
-  row-absent S B d e = show-refused S B d t (rowsAt cells row) 50 row (sym (found .same) ∙ ap (dueOf cells row t) e)
+  row-absent S B d e = show-refused S B d t (rowsAt cells row) 50 row (sym (found .same) ∙ ap (dueAnswer cells row t) e)
 
   module _ {p n c : ℕ} (e : due ≡ Found p n c) where
     abbrev own : Row
@@ -96,7 +96,7 @@ module _ {t : ℕ} {cells : List ℕ} {row : ℕ} {due : Due} (found : RowDue ce
     due-in = rw e at (found .within)
 
     pub row-read : rowDue t (rowsAt cells row) ≡ seen own (rowsAt cells (row + 1))
-    row-read = sym (found .same) ∙ ap (dueOf cells row t) e
+    row-read = sym (found .same) ∙ ap (dueAnswer cells row t) e
 
     module _ (S : ℕ → Shape) (B : List ℕ) (d : ℕ) where
       module _ {a : ℕ} (is : S t ≡ array a) where
@@ -245,7 +245,7 @@ pub record Turned (S : ℕ → Shape) (P : ℕ → RowReader Tree) (cells : List
   pub long : length out′ ≡ length out
 
 module _ (P : ℕ → RowReader Tree) (cells : List ℕ) (T : Table) {a b i bits : ℕ} (here : ℕ) (g : Standing a b i bits) (some : 0 < bits) (room : a + b ≤ length (T .fields))
-    {f : Field} (is : f ≡ field T i) (odd : bits % 2 ≡ 1) where
+    {f : Field} (is : f ≡ fieldRow T i) (odd : bits % 2 ≡ 1) where
   pub field-accepted : Accepted (walk P [] (bitsLeft T a b i bits) (rowsAt cells here)) → Accepted (P (f .ty) (rowsAt cells here))
   field-accepted h =
       item-accepted P [] (bitsLeft T a b (i + 1) (bits / 2)) (f .ty) (rowsAt cells here) (rw (standing-field g some T room f is odd) at h)

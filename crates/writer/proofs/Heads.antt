@@ -15,7 +15,7 @@ use Rattle.wire.specs.Little.{Bytes}
 use Rattle.wire.proofs.Numbers.{bytes-drop, bytes-take}
 use Rattle.parse.specs.Reader.{andThen, check}
 use Rattle.schema.specs.declared.Field.{Field}
-use Rattle.value.specs.Read.{complete}
+use Rattle.value.specs.Read.{requiredSet}
 use Rattle.value.specs.Write.{bitsAt}
 use Rattle.walks.proofs.Presence.{bits-read}
 use Rattle.writer.specs.declared.leaf.Head.{Head}
@@ -29,12 +29,12 @@ module _ (B : List ℕ) (fs : List Field) {n : ℕ} (p : ℕ) (many : length fs 
 
   module _ (word known count unknown : ℕ) (inside : p + (n + 7) / 8 ≤ length B)
       (is : Present (span B p ((n + 7) / 8)) n word known count unknown) where
-    pub head-incomplete : complete fs word ≡ false → Headed B fs p (Refused 25)
+    pub head-incomplete : requiredSet fs word ≡ false → Headed B fs p (Refused 25)
     unfolding bitsAt andThen check
     head-incomplete h =
         record { same = λ k cur. rw (many, le-leb (p + (n + 7) / 8) (length B) inside, ← is .word-is, h); within = tt }
 
-    pub head-bits : complete fs word ≡ true → 0 < n → n ≤ 64 → Bytes B → Headed B fs p (Bits word known count unknown)
+    pub head-bits : requiredSet fs word ≡ true → 0 < n → n ≤ 64 → Bytes B → Headed B fs p (Bits word known count unknown)
     unfolding bitsAt andThen check
     head-bits h z few bytes =
         let l = span B p ((n + 7) / 8) in

@@ -27,22 +27,22 @@ use Rattle.writer.specs.declared.leaf.Due.the-variants.{Found, Missing}
 use Rattle.writer.specs.declared.leaf.Verdict.{Verdict}
 use Rattle.writer.specs.declared.leaf.Verdict.the-variants.{Fine, Refused as VerdictRefused}
 use Rattle.writer.specs.declared.leaf.Leaf.the-variants.{At, Refused as LeafRefused}
-use Rattle.writer.specs.Leaf.{rowsAt, placeAt, lengthAt, dueOf, DueIn, RowDue, saidOf, VerdictIn, Judged, rowSays, LeafRow}
+use Rattle.writer.specs.Leaf.{rowsAt, placeAt, lengthAt, dueAnswer, DueIn, DueRow, saidOf, VerdictIn, Judged, rowSays, LeafRow}
 
 -- ---- rows
 
 module _ (cells : List ℕ) (k t : ℕ) where
-  pub row-missing : length cells / 4 ≤ k → RowDue cells k t Missing
+  pub row-missing : length cells / 4 ≤ k → DueRow cells k t Missing
   unfolding rowDue nextRow andThen
   row-missing h = record { same = rw (no-rows cells k h); within = tt }
 
   module _ (h : k < length cells / 4) where
-    pub row-other : (getD cells (4 * k) 0 ≡ t → ⊥) → RowDue cells k t Missing
+    pub row-other : (getD cells (4 * k) 0 ≡ t → ⊥) → DueRow cells k t Missing
     unfolding rowDue nextRow andThen check
     row-other e = record { same = rw (rows-from cells k h, ne-eqb (getD cells (4 * k) 0) t e); within = tt }
 
     pub row-found : getD cells (4 * k) 0 ≡ t → (p n c : ℕ) → (p ≡ placeAt cells k) × (p < 4294967296) → (n ≡ lengthAt cells k) × (n < 4294967296) → c ≡ getD cells (4 * k + 3) 0
-        → RowDue cells k t (Found p n c)
+        → DueRow cells k t (Found p n c)
     unfolding rowDue nextRow andThen check
     row-found e p n c ep en ec =
         record {
@@ -160,17 +160,17 @@ module _ (B : List ℕ) (kind p n c : ℕ) where
 
 -- ---- a whole row of such a value
 
-module _ (cells B : List ℕ) (kind t k : ℕ) (d : Due) (due : RowDue cells k t d) where
+module _ (cells B : List ℕ) (kind t k : ℕ) (d : Due) (due : DueRow cells k t d) where
   pub leaf-missing : d ≡ Missing → LeafRow cells B kind t k (LeafRefused 50)
   unfolding rowSays andThen
-  leaf-missing e = record { same = rw (sym (due .same) ∙ ap (dueOf cells k t) e); within = tt }
+  leaf-missing e = record { same = rw (sym (due .same) ∙ ap (dueAnswer cells k t) e); within = tt }
 
   module _ (p n c : ℕ) (e : d ≡ Found p n c) where
     due-in : DueIn cells k (Found p n c)
     due-in = rw e at (due .within)
 
     row-read : rowDue t (rowsAt cells k) ≡ seen (record { ty = t; place = p; length = n; count = c }) (rowsAt cells (k + 1))
-    row-read = sym (due .same) ∙ ap (dueOf cells k t) e
+    row-read = sym (due .same) ∙ ap (dueAnswer cells k t) e
 
     pub row-small : (p < 4294967296) × (n < 4294967296)
     row-small = (due-in .3, due-in .4)

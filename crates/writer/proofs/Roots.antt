@@ -25,11 +25,11 @@ use Rattle.writer.specs.declared.leaf.Due.the-variants.{Found, Missing}
 use Rattle.writer.specs.declared.leaf.Head.{Head}
 use Rattle.writer.specs.declared.leaf.Head.the-variants.{Bits, Refused}
 use Rattle.writer.specs.Emit.{PutAt, done, stopped, emit, emitAll}
-use Rattle.writer.specs.Leaf.{rowsAt, dueOf, RowDue, headOf, HeadIn, Headed}
+use Rattle.writer.specs.Leaf.{rowsAt, dueAnswer, DueRow, headOf, HeadIn, Headed}
 use Rattle.writer.proofs.Steps.{done-put, branch-bytes}
 use Rattle.writer.proofs.Composites.{row-read}
 
-module _ (S : ℕ → Shape) (B : List ℕ) (fs : List Field) {t : ℕ} {cells : List ℕ} {due : Due} (found : RowDue cells 0 t due) where
+module _ (S : ℕ → Shape) (B : List ℕ) (fs : List Field) {t : ℕ} {cells : List ℕ} {due : Due} (found : DueRow cells 0 t due) where
   -- what follows the row, the presence bits and the fields
   afterFields : Row → ℕ → Forest → RowReader Tree
   afterFields r h ts c = andThen (check (eqb (length (c .left)) 0) 50 (c .at) c) (λ _ c₁. seen (branch r h ts) c₁)
@@ -45,7 +45,7 @@ module _ (S : ℕ → Shape) (B : List ℕ) (fs : List Field) {t : ℕ} {cells :
 
   pub root-absent : due ≡ Missing → showRoot S B t fs (rowsAt cells 0) ≡ refused 50 0
   unfolding andThen
-  root-absent e = rw (root-step, sym (found .same) ∙ ap (dueOf cells 0 t) e)
+  root-absent e = rw (root-step, sym (found .same) ∙ ap (dueAnswer cells 0 t) e)
 
   module _ {p n c : ℕ} (e : due ≡ Found p n c) where
     abbrev own : Row

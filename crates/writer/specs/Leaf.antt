@@ -37,16 +37,16 @@ abbrev pub lengthAt : List ℕ → ℕ → ℕ
 lengthAt cells k = getD cells (4 * k + 2) 0
 
 -- The answer for row k, of type t, as the answer of a reader there.
-abbrev pub dueOf : List ℕ → (k t : ℕ) → Due → AnswerOf Row Row
-dueOf cells k t (Found p n c) = seen (record { ty = t; place = p; length = n; count = c }) (rowsAt cells (k + 1))
-dueOf cells k t Missing = refused 50 k
+abbrev pub dueAnswer : List ℕ → (k t : ℕ) → Due → AnswerOf Row Row
+dueAnswer cells k t (Found p n c) = seen (record { ty = t; place = p; length = n; count = c }) (rowsAt cells (k + 1))
+dueAnswer cells k t Missing = refused 50 k
 
 abbrev pub DueIn : List ℕ → ℕ → Due → Type 0
 DueIn cells k (Found p n c) = (k < length cells / 4) × (p ≡ placeAt cells k) × (n ≡ lengthAt cells k) × (p < 4294967296) × (n < 4294967296)
 DueIn cells k Missing = Unit {0}
 
-pub record RowDue (cells : List ℕ) (k t : ℕ) (r : Due) : Type 0 where
-  pub same : dueOf cells k t r ≡ rowDue t (rowsAt cells k)
+pub record DueRow (cells : List ℕ) (k t : ℕ) (r : Due) : Type 0 where
+  pub same : dueAnswer cells k t r ≡ rowDue t (rowsAt cells k)
   pub within : DueIn cells k r
 
 -- ---- contents

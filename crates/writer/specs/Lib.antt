@@ -1,4 +1,4 @@
--- The writer in code: how bytes are put into the output, what its leaves and walkers answer, the keys of a map, and what its entries answer.
+-- The writer in code: how bytes are put into the output, what its leaves and walkers answer, and what its entries answer.
 pub mod Emit
 pub mod Leaf
 pub mod Walk

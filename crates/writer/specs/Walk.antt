@@ -41,7 +41,8 @@ rootEnd s B cells ty fs out = emit (shapeIn s) ty (rootIn s B cells ty fs) 0 out
 
 -- ---- what a walker answers
 
--- Its answer over the sheet's cells, with the output that it leaves. Of a refusal's output nothing is said: the judging walk is lent no byte of it.
+-- Its answer over the sheet's cells, with the output that it leaves. Of what a refusal leaves there nothing is said: the entry lends memory of its own,
+-- or puts back what stood there.
 abbrev pub endOf : List ℕ → Walk → List ℕ → Final
 endOf cells (Past row pos) out = done (rowsAt cells row) pos out
 endOf cells (Refused n q) out = stopped n q

@@ -10,7 +10,7 @@ ghost use lib.ListN.{length};
 ghost use Rattle.parse.specs.Reader.{Accepted};
 ghost use Rattle.schema.specs.Table.{width};
 ghost use Rattle.walks.specs.Shape.{leafShape};
-ghost use Rattle.writer.specs.Leaf.{rowsAt, RowDue, Judged, rowSays, LeafRow, HeadedBy};
+ghost use Rattle.writer.specs.Leaf.{rowsAt, DueRow, Judged, rowSays, LeafRow, HeadedBy};
 
 // Kinds, in the type in which the functions here are handed one.
 const BOOL: usize = kind::BOOL as usize;
@@ -54,7 +54,7 @@ pub fn wide(x: u32) -> usize
 
 // The row of a number, which is to be of type ty.
 pub fn row_due(sheet: &[u32], row: usize, ty: u32) -> Due
-    ensures { λ r. ⌜ RowDue (now (sheet .entry)) row ty r ⌝ }
+    ensures { λ r. ⌜ DueRow (now (sheet .entry)) row ty r ⌝ }
 {
     if sheet.len() / 4 <= row {
         return Due::Missing;

@@ -25,8 +25,13 @@ pub enum Writing {
     Refused { number: u32, place: usize },
 }
 
-// The length of the payload that the sheet's rows over the source make as a struct of type ty by a good table; or the refusal, which leaves out the
-// output's room. One walk judges, measures and writes: where the payload fits into the scratch memory, it stands at its front.
+// A sheet of so many cells at most is likely written to a payload of so many bytes at most.
+pub const FEW_CELLS: usize = 256;
+
+pub const SHORT: usize = 512;
+
+// The length of the payload that the sheet's rows over the source make as a struct of type ty by a good table; or the refusal: 52 is not among them.
+// One walk judges, measures and writes: where the payload fits into the scratch memory, it stands at its front.
 pub fn make(s: &[u8], ty: u32, sheet: &[u32], source: &[u8], scratch: &mut [u8]) -> Writing
     requires { ⌜ IsGood (now s) × (length (now scratch) ≤ 16384) ⌝ }
     ensures { λ r. ⌜ r ≡ lengthOf (payloadBy (now (s .entry)) ty (now (sheet .entry)) (now (source .entry))) ⌝ }
@@ -109,8 +114,8 @@ pub fn write_sheet(s: &[u8], ty: u32, sheet: &[u32], source: &[u8], out: &mut [u
     requires { ⌜ IsGood (now s) ⌝ }
     ensures { λ r. ⌜ outcome r (now (out .exit)) ≡ sheetOutcome (now (s .entry)) ty (now (sheet .entry)) (now (source .entry)) (now (out .entry)) ⌝ }
 {
-    if sheet.len() <= 256 {
-        let mut scratch = [0u8; 512];
+    if sheet.len() <= FEW_CELLS {
+        let mut scratch = [0u8; SHORT];
         return write_through(s, ty, sheet, source, &mut scratch, out);
     }
     let mut scratch = [0u8; limit::PAYLOAD];

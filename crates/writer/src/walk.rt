@@ -1,7 +1,5 @@
-// The walkers: arrays, maps and structs, and what they hold, call each other in a cycle; the depth still allowed falls. They go over the rows of the sheet by
-// the schema table s and put each value's encoding into the output, from `pos` on, where it has a place.
-//
-// A walk that does not judge comes after one that did, and leaves out the tests that would read contents or keys again.
+// The walkers go over the rows of the sheet by the schema table s and put each value's encoding into the output, from `pos` on, where it has a place.
+// They call each other in a cycle, in which the depth still allowed falls; a walk that does not judge skips tests that would read contents or keys again.
 use crate::leaf::Due;
 use crate::leaf::Head;
 use crate::leaf::Leaf;
@@ -19,6 +17,7 @@ use schema::access::type_row;
 use schema::file::layout_of;
 use schema::rows::field_row;
 use schema::rows::row;
+use value::MOST_PAIRS;
 use walks::key::is_repeated;
 use walks::required_of;
 use walks::zeros_in;
@@ -38,6 +37,9 @@ ghost use Rattle.writer.specs.Walk.{valueIn, itemsIn, rootIn, valueEnd, 
 const ARRAY: usize = kind::ARRAY as usize;
 
 const STRUCT: usize = kind::STRUCT as usize;
+
+// Pairs of a map whose keys are kept in a short array.
+const SHORT_MAP: usize = 8;
 
 // The row and the place in the output after what was written, or a refusal with its row.
 pub enum Walk {
@@ -264,7 +266,7 @@ fn write_array(
     }
 }
 
-// A map of type ty. One of more than 64 pairs is refused at its row. Its keys are kept in an array, a short one where there are few.
+// A map of type ty; one of more than 64 pairs is refused at its row. Its keys are kept in an array, a short one where there are few.
 fn write_map(
     s: &[u8],
     sheet: &[u32],
@@ -289,7 +291,7 @@ fn write_map(
             length: _,
             count,
         } => {
-            if limit::PAIRS < count {
+            if MOST_PAIRS < count {
                 return refused(refusal::MAP_TOO_LONG, row);
             }
             let next = put_number(out, pos, count as u64);
@@ -299,8 +301,8 @@ fn write_map(
                     pos: next,
                 };
             }
-            if count <= 8 {
-                let mut keys = [0usize; 18];
+            if count <= SHORT_MAP {
+                let mut keys = [0usize; 2 * SHORT_MAP + 8];
                 return write_pairs(
                     s,
                     sheet,
@@ -351,7 +353,7 @@ fn write_many_pairs(
     requires { ⌜ (0 < rowAt (tableOf (now s)) key .kind) × (rowAt (tableOf (now s)) key .kind < 14) × (0 < rowAt (tableOf (now s)) val .kind) × (n ≤ 64) ⌝ }
     ensures { λ r. ⌜ Walked (now (sheet .entry)) (itemsEnd (now (s .entry)) (now (source .entry)) (now (sheet .entry)) depth [] (pairs n key val) start pos (now (out .entry))) r (now (out .exit)) ⌝ }
 {
-    let mut keys = [0usize; 2 * limit::PAIRS + 2];
+    let mut keys = [0usize; 2 * MOST_PAIRS + 8];
     write_pairs(
         s,
         sheet,
@@ -384,7 +386,7 @@ fn write_pairs(
     judging: bool,
 ) -> Walk
     requires { ⌜ Ready (now s) (now sheet) (now out) start pos judging (itemsIn (now s) (now source) (now sheet) depth [] (pairs n key val) start) ⌝ }
-    requires { ⌜ (0 < rowAt (tableOf (now s)) key .kind) × (rowAt (tableOf (now s)) key .kind < 14) × (0 < rowAt (tableOf (now s)) val .kind) × (n < length (now keys) / 2) × (n ≤ 64) ⌝ }
+    requires { ⌜ (0 < rowAt (tableOf (now s)) key .kind) × (rowAt (tableOf (now s)) key .kind < 14) × (0 < rowAt (tableOf (now s)) val .kind) × (n + 4 ≤ length (now keys) / 2) × (n ≤ 64) ⌝ }
     ensures { λ r. ⌜ Walked (now (sheet .entry)) (itemsEnd (now (s .entry)) (now (source .entry)) (now (sheet .entry)) depth [] (pairs n key val) start pos (now (out .entry))) r (now (out .exit)) ⌝ }
 {
     let k = type_row(s, key as usize);

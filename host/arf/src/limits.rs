@@ -103,7 +103,7 @@ pub const MAX_ELEMENTS: u16 = 65_535;
 pub const INDEX_STACK: usize = 256 * 1024;
 
 /// The stack in bytes that a thread needs for any call but [`make_index`]: 64
-/// KiB, which leaves the caller some of it, since `tools/stack` measures 53 KiB
+/// KiB, which leaves the caller some of it, since `tools/stack` measures 54 KiB
 /// at most. With less stack than a call needs, the system ends the process.
 ///
 /// [`make_index`]: crate::make_index

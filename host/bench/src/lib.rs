@@ -2,6 +2,7 @@
 
 #![forbid(unsafe_code)]
 
+pub mod answers;
 pub mod lines;
 pub mod measure;
 pub mod nests;

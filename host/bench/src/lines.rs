@@ -1,14 +1,22 @@
 //! The entries that are measured, each beside `fast` and the reference on the
-//! same input. Before a line is timed the answers are looked at: all sides
-//! accept, and what they leave in sheet and output is equal.
+//! same input. Before a line is timed every number that the sides answer, every
+//! cell and byte that was lent to them, their call tables and their tally rows
+//! are held against each other.
 
 use std::hint::black_box;
 
+use reference::tallies::Tally;
 use reference::MAX_PAYLOAD;
 
-use crate::measure::{medians, side};
+use crate::answers::{agree, Answer, Told};
+use crate::measure::{medians, side, Room};
 use crate::samples::{self, Record, Sample};
 use crate::CELLS;
+
+/// The names of the sides, as a difference is told.
+pub const LIBRARY: &str = "the library";
+pub const FAST: &str = "host/fast";
+pub const REFERENCE: &str = "host/reference";
 
 /// The median time of one call in nanoseconds: of the library, of `fast` where
 /// it has the entry, and of the reference.
@@ -18,34 +26,246 @@ pub struct Times {
     pub reference: f64,
 }
 
-impl Times {
-    fn of_three([library, fast, reference]: [f64; 3]) -> Self {
-        Times {
-            library,
-            fast: Some(fast),
-            reference,
-        }
+/// What is done with a line: its answers are compared, and then it is timed
+/// too.
+#[derive(Clone, Copy, PartialEq)]
+pub enum Run {
+    Compare,
+    Time,
+}
+
+/// The times, none where the answers are compared alone, or where two sides
+/// differ.
+pub type Compared<T = Times> = Result<Option<T>, String>;
+
+impl Run {
+    /// Times what has been compared.
+    pub fn times<T>(self, times: impl FnOnce() -> T) -> Compared<T> {
+        Ok((self == Run::Time).then(times))
     }
 
-    fn of_two([library, reference]: [f64; 2]) -> Self {
-        Times {
-            library,
-            fast: None,
-            reference,
+    /// One call by all three, with so much room.
+    fn three<A: Told, B: Told, C: Told>(
+        self,
+        room: Room,
+        library: impl Fn(&mut [u32], &mut [u8]) -> A,
+        fast: impl Fn(&mut [u32], &mut [u8]) -> B,
+        reference: impl Fn(&mut [u32], &mut [u8]) -> C,
+    ) -> Compared {
+        agree(&[
+            Answer::of(LIBRARY, room, &library),
+            Answer::of(FAST, room, &fast),
+            Answer::of(REFERENCE, room, &reference),
+        ])?;
+        self.times(|| {
+            let [library, fast, reference] =
+                medians([side(room, library), side(room, fast), side(room, reference)]);
+            Times {
+                library,
+                fast: Some(fast),
+                reference,
+            }
+        })
+    }
+
+    /// One call by the two that have the entry.
+    fn two<A: Told, B: Told>(
+        self,
+        room: Room,
+        library: impl Fn(&mut [u32], &mut [u8]) -> A,
+        reference: impl Fn(&mut [u32], &mut [u8]) -> B,
+    ) -> Compared {
+        agree(&[
+            Answer::of(LIBRARY, room, &library),
+            Answer::of(REFERENCE, room, &reference),
+        ])?;
+        self.times(|| {
+            let [library, reference] = medians([side(room, library), side(room, reference)]);
+            Times {
+                library,
+                fast: None,
+                reference,
+            }
+        })
+    }
+
+    pub fn check_table(self, schema: &[u8]) -> Compared {
+        self.three(
+            Room::NONE,
+            |_, _| arf::check_table(black_box(schema)),
+            |_, _| fast::check_table(black_box(schema)),
+            |_, _| reference::check_table(black_box(schema)),
+        )
+    }
+
+    pub fn read(self, sample: &Sample) -> Compared {
+        let ty = sample.type_number;
+        let input = || black_box((&sample.schema[..], &sample.payload[..]));
+        self.three(
+            Room::rows(sheet_of(sample).len() / 4),
+            |sheet, _| {
+                let (schema, payload) = input();
+                arf::read(schema, ty, payload, sheet)
+            },
+            |sheet, _| {
+                let (schema, payload) = input();
+                fast::read(schema, ty, payload, sheet)
+            },
+            |sheet, _| {
+                let (schema, payload) = input();
+                reference::read(schema, ty, payload, sheet)
+            },
+        )
+    }
+
+    /// A payload by the writer's table, shown by ours.
+    pub fn read_beside(self, (ours, sample): &(Vec<u8>, Sample)) -> Compared {
+        let ty = sample.type_number;
+        let input = || black_box((&sample.schema[..], &sample.payload[..]));
+        // Ours shows no more rows than theirs.
+        self.two(
+            Room::rows(sheet_of(sample).len() / 4),
+            |sheet, _| {
+                let (theirs, payload) = input();
+                arf::read_beside(ours, theirs, ty, payload, sheet)
+            },
+            |sheet, _| {
+                let (theirs, payload) = input();
+                reference::read_beside(ours, theirs, ty, payload, sheet)
+            },
+        )
+    }
+
+    pub fn write(self, sample: &Sample) -> Compared {
+        let (ty, sheet) = (sample.type_number, &sheet_of(sample)[..]);
+        let input = || black_box((&sample.schema[..], sheet, &sample.payload[..]));
+        self.three(
+            Room::output(sample.payload.len()),
+            |_, output| {
+                let (schema, sheet, payload) = input();
+                arf::write(schema, ty, sheet, payload, output)
+            },
+            |_, output| {
+                let (schema, sheet, payload) = input();
+                fast::write(schema, ty, sheet, payload, output)
+            },
+            |_, output| {
+                let (schema, sheet, payload) = input();
+                reference::write(schema, ty, sheet, payload, output)
+            },
+        )
+    }
+
+    pub fn frame_read(self, sample: &Sample) -> Compared {
+        let bytes = &samples::frame(1, 9, &sample.payload)[..];
+        self.three(
+            Room::NONE,
+            |_, _| arf::read_frame(black_box(bytes)),
+            |_, _| fast::read_frame(black_box(bytes)),
+            |_, _| reference::read_frame(black_box(bytes)),
+        )
+    }
+
+    pub fn frame_write(self, sample: &Sample) -> Compared {
+        let payload = &sample.payload[..];
+        let (quick, theirs) = (quick_header(), their_header());
+        self.three(
+            Room::output(samples::frame(1, 9, payload).len()),
+            |_, output| arf::write_frame(black_box(&INVOKE), black_box(payload), output),
+            |_, output| fast::write_frame(black_box(&quick), black_box(payload), output),
+            |_, output| reference::write_frame(black_box(&theirs), black_box(payload), output),
+        )
+    }
+
+    /// One frame. Each call starts from a copy of the same call table.
+    pub fn receive(self, arrival: &Arrival) -> Compared {
+        let (schema, bytes) = (&arrival.schema[..], &arrival.bytes[..]);
+        let start = Connections::new(schema, &arrival.open);
+        let room = Room::rows(start.clone().receive(b'C', bytes, Room::rows(MOST_ROWS))?);
+        start.clone().receive(b'C', bytes, room)?;
+        let Connections {
+            library: (ours, mut rows),
+            fast: (quick, mut quick_rows),
+            reference: (theirs, mut their_rows),
+            ..
+        } = start;
+        self.times(|| {
+            let [library, fast, reference] = medians([
+                side(room, |sheet, _| {
+                    let mut table = black_box(ours);
+                    table.receive(schema, b'C', black_box(bytes), sheet, &mut rows)
+                }),
+                side(room, |sheet, _| {
+                    let mut table = black_box(quick);
+                    table.receive(schema, b'C', black_box(bytes), sheet, &mut quick_rows)
+                }),
+                side(room, |sheet, _| {
+                    let mut table = black_box(theirs);
+                    table.receive(schema, &mut their_rows, b'C', black_box(bytes), sheet)
+                }),
+            ]);
+            Times {
+                library,
+                fast: Some(fast),
+                reference,
+            }
+        })
+    }
+
+    pub fn salvage(self, record: &Record) -> Compared {
+        let bytes = &record.bytes[..];
+        let room = Room {
+            cells: arf::SPAN_CELLS,
+            bytes: bytes.len(),
+        };
+        self.two(
+            room,
+            |spans, copy| arf::salvage(black_box(bytes), copy, spans),
+            |spans, copy| reference::salvage(black_box(bytes), copy, spans),
+        )
+    }
+
+    /// One write for a whole frame, beside the library's value writer and frame
+    /// writer in turn. `said`: the root's row has the payload's length, as a
+    /// sheet that was read has; otherwise 0, since no writer goes by it.
+    pub fn value_frame(self, sample: &Sample, said: bool) -> Compared<[f64; 2]> {
+        let (ty, mut sheet) = (sample.type_number, sheet_of(sample));
+        if !said {
+            sheet[2] = 0;
         }
+        let input = || black_box((&sample.schema[..], &sheet[..], &sample.payload[..]));
+        let room = Room::output(samples::frame(1, 9, &sample.payload).len());
+        let between = &mut vec![0; MAX_PAYLOAD];
+        let at_once = |_: &mut [u32], output: &mut [u8]| {
+            let (schema, sheet, payload) = input();
+            arf::write_value_frame(black_box(&INVOKE), schema, ty, sheet, payload, output)
+        };
+        let mut in_turn = |_: &mut [u32], output: &mut [u8]| {
+            let (schema, sheet, payload) = input();
+            let length = arf::write(schema, ty, sheet, payload, between)?;
+            arf::write_frame(black_box(&INVOKE), &between[..length], output)
+        };
+        agree(&[
+            Answer::of(LIBRARY, room, at_once),
+            Answer::of("the library's two in turn", room, &mut in_turn),
+            Answer::of("the two of host/fast in turn", room, |_, output| {
+                let (schema, sheet, payload) = input();
+                let mut between = vec![0; MAX_PAYLOAD];
+                let length = fast::write(schema, ty, sheet, payload, &mut between);
+                let length = length.map_err(|refusal| refusal.number)?;
+                fast::write_frame(&quick_header(), &between[..length], output)
+            }),
+            Answer::of(REFERENCE, room, |_, output| {
+                let (schema, sheet, payload) = input();
+                reference::write_value_frame(&their_header(), schema, ty, sheet, payload, output)
+            }),
+        ])?;
+        self.times(|| medians([side(room, at_once), side(room, in_turn)]))
     }
 }
 
-pub fn check_table(schema: &[u8]) -> Times {
-    assert_eq!(arf::check_table(schema), Ok(()));
-    assert_eq!(fast::check_table(schema), Ok(()));
-    assert_eq!(reference::check_table(schema), Ok(()));
-    Times::of_three(medians([
-        side(|_| arf::check_table(black_box(schema))),
-        side(|_| fast::check_table(black_box(schema))),
-        side(|_| reference::check_table(black_box(schema))),
-    ]))
-}
+/// The most rows that a payload shows.
+const MOST_ROWS: usize = CELLS / 4;
 
 /// The rows that the reader shows.
 pub fn sheet_of(sample: &Sample) -> Vec<u32> {
@@ -54,120 +274,6 @@ pub fn sheet_of(sample: &Sample) -> Vec<u32> {
     let reading = reference::read(schema, sample.type_number, payload, &mut sheet);
     sheet.truncate(4 * reading.expect("the payload is right").rows);
     sheet
-}
-
-pub fn read(sample: &Sample) -> Times {
-    let (schema, payload) = (&sample.schema[..], &sample.payload[..]);
-    let ty = sample.type_number;
-    let mut sheets = [const { Vec::new() }; 3].map(|_: Vec<u32>| vec![0; CELLS]);
-    let [ours, quick, theirs] = &mut sheets;
-    let reading = arf::read(schema, ty, payload, ours);
-    let reading = reading.expect("the payload is right");
-    let other = fast::read(schema, ty, payload, quick);
-    let other = other.expect("the payload is right");
-    let expected = reference::read(schema, ty, payload, theirs);
-    let expected = expected.expect("the payload is right");
-    let numbers = (expected.rows, expected.comparisons);
-    assert_eq!((reading.rows, reading.comparisons), numbers);
-    assert_eq!((other.rows, other.comparisons), numbers);
-    assert!(ours == theirs && quick == theirs);
-    Times::of_three(medians([
-        side(|clear| {
-            if clear {
-                ours.fill(0);
-            }
-            let (schema, payload) = black_box((schema, payload));
-            arf::read(schema, ty, payload, ours)
-        }),
-        side(|clear| {
-            if clear {
-                quick.fill(0);
-            }
-            let (schema, payload) = black_box((schema, payload));
-            fast::read(schema, ty, payload, quick)
-        }),
-        side(|clear| {
-            if clear {
-                theirs.fill(0);
-            }
-            let (schema, payload) = black_box((schema, payload));
-            reference::read(schema, ty, payload, theirs)
-        }),
-    ]))
-}
-
-/// A payload by the writer's table, shown by ours.
-pub fn read_beside((ours, sample): &(Vec<u8>, Sample)) -> Times {
-    let (theirs, payload) = (&sample.schema[..], &sample.payload[..]);
-    let (mut sheet, mut other) = (vec![0; CELLS], vec![0; CELLS]);
-    let ty = sample.type_number;
-    let reading = arf::read_beside(ours, theirs, ty, payload, &mut sheet);
-    let reading = reading.expect("the payload is right");
-    let expected = reference::read_beside(ours, theirs, ty, payload, &mut other);
-    let expected = expected.expect("the payload is right");
-    assert_eq!(reading.rows, expected.rows);
-    assert_eq!(reading.comparisons, expected.comparisons);
-    assert_eq!(sheet, other);
-    Times::of_two(medians([
-        side(|clear| {
-            if clear {
-                sheet.fill(0);
-            }
-            let (theirs, payload) = black_box((theirs, payload));
-            arf::read_beside(ours, theirs, ty, payload, &mut sheet)
-        }),
-        side(|clear| {
-            if clear {
-                other.fill(0);
-            }
-            let (theirs, payload) = black_box((theirs, payload));
-            reference::read_beside(ours, theirs, ty, payload, &mut other)
-        }),
-    ]))
-}
-
-pub fn write(sample: &Sample) -> Times {
-    let (schema, payload) = (&sample.schema[..], &sample.payload[..]);
-    let (ty, sheet) = (sample.type_number, &sheet_of(sample)[..]);
-    let mut outputs = [const { Vec::new() }; 3].map(|_: Vec<u8>| vec![0; MAX_PAYLOAD]);
-    let [ours, quick, theirs] = &mut outputs;
-    assert_eq!(
-        arf::write(schema, ty, sheet, payload, ours),
-        Ok(payload.len())
-    );
-    assert_eq!(
-        fast::write(schema, ty, sheet, payload, quick),
-        Ok(payload.len())
-    );
-    assert_eq!(
-        reference::write(schema, ty, sheet, payload, theirs),
-        Ok(payload.len())
-    );
-    assert_eq!(ours[..payload.len()], *payload);
-    assert!(ours == theirs && quick == theirs);
-    Times::of_three(medians([
-        side(|clear| {
-            if clear {
-                ours.fill(0);
-            }
-            let (schema, sheet, payload) = black_box((schema, sheet, payload));
-            arf::write(schema, ty, sheet, payload, ours)
-        }),
-        side(|clear| {
-            if clear {
-                quick.fill(0);
-            }
-            let (schema, sheet, payload) = black_box((schema, sheet, payload));
-            fast::write(schema, ty, sheet, payload, quick)
-        }),
-        side(|clear| {
-            if clear {
-                theirs.fill(0);
-            }
-            let (schema, sheet, payload) = black_box((schema, sheet, payload));
-            reference::write(schema, ty, sheet, payload, theirs)
-        }),
-    ]))
 }
 
 /// The header of INVOKE for the method 1, 2, 3.
@@ -179,69 +285,20 @@ pub const INVOKE: arf::Header = arf::Header {
     correlation: 9,
 };
 
-pub fn frame_read(sample: &Sample) -> Times {
-    let bytes = samples::frame(1, 9, &sample.payload);
-    let (ours, quick) = (arf::read_frame(&bytes), fast::read_frame(&bytes));
-    assert!(matches!(
-        ours,
-        Ok(arf::FrameRead::Whole { length: 100, .. })
-    ));
-    let fast::FrameAnswer::Whole(fast::Frame { length: 100, .. }) = quick else {
-        panic!("the frame is right");
-    };
-    Times::of_three(medians([
-        side(|_| arf::read_frame(black_box(&bytes))),
-        side(|_| fast::read_frame(black_box(&bytes))),
-        side(|_| reference::read_frame(black_box(&bytes))),
-    ]))
+fn quick_header() -> fast::Header {
+    fast::Header {
+        kind: INVOKE.kind,
+        identifiers: [INVOKE.package, INVOKE.service, INVOKE.method],
+        correlation: INVOKE.correlation,
+    }
 }
 
-pub fn frame_write(sample: &Sample) -> Times {
-    let payload = &sample.payload[..];
-    let expected = samples::frame(1, 9, payload);
-    let identifiers = [INVOKE.package, INVOKE.service, INVOKE.method];
-    let quick = fast::Header {
-        kind: 1,
-        identifiers,
-        correlation: 9,
-    };
-    let theirs = reference::Header {
-        kind: 1,
-        identifiers,
-        correlation: 9,
-    };
-    let mut outputs = [const { Vec::new() }; 3].map(|_: Vec<u8>| vec![0; 200]);
-    let [first, second, third] = &mut outputs;
-    assert_eq!(
-        arf::write_frame(&INVOKE, payload, first),
-        Ok(expected.len())
-    );
-    assert_eq!(
-        fast::write_frame(&quick, payload, second),
-        Ok(expected.len())
-    );
-    assert_eq!(first[..expected.len()], expected);
-    assert_eq!(first, second);
-    Times::of_three(medians([
-        side(|clear| {
-            if clear {
-                first.fill(0);
-            }
-            arf::write_frame(black_box(&INVOKE), black_box(payload), first)
-        }),
-        side(|clear| {
-            if clear {
-                second.fill(0);
-            }
-            fast::write_frame(black_box(&quick), black_box(payload), second)
-        }),
-        side(|clear| {
-            if clear {
-                third.fill(0);
-            }
-            reference::write_frame(black_box(&theirs), black_box(payload), third)
-        }),
-    ]))
+fn their_header() -> reference::Header {
+    reference::Header {
+        kind: INVOKE.kind,
+        identifiers: [INVOKE.package, INVOKE.service, INVOKE.method],
+        correlation: INVOKE.correlation,
+    }
 }
 
 /// A frame of the client, and the call table that it meets.
@@ -252,127 +309,78 @@ pub struct Arrival {
     pub open: Vec<u64>,
 }
 
-/// One frame. Each call starts from a copy of the same call table.
-pub fn receive(arrival: &Arrival) -> Times {
-    let (schema, bytes) = (&arrival.schema[..], &arrival.bytes[..]);
-    let mut calls = [arf::Call::default(); arf::SLOTS];
-    let mut other = reference::CallTable::fresh();
-    let slots = calls.iter_mut().zip(&mut other.slots);
-    for (&correlation, (call, record)) in arrival.open.iter().zip(slots) {
-        (call.open, call.correlation) = (true, correlation);
-        (record.open, record.correlation) = (true, correlation);
-    }
-    let table = arf::CallTable::from_calls(&calls);
-    let quick = fast::CallTable::from_calls(&calls.map(|call| fast::Call {
-        open: call.open,
-        correlation: call.correlation,
-        ..fast::Call::default()
-    }));
-    let mut sheets = [const { Vec::new() }; 3].map(|_: Vec<u32>| vec![0; CELLS]);
-    let [ours, middle, theirs] = &mut sheets;
-    let (mut first, mut second, mut third) = (table, quick, other);
-    let methods = arf::Schema::new(schema)
-        .expect("the schema is good")
-        .methods();
-    let mut rows = vec![arf::Tally::ZERO; methods.len()];
-    let mut quick_rows = vec![fast::Tally::default(); rows.len()];
-    let mut their_rows = reference::tallies::fresh(schema);
-    let received = first.receive(schema, b'C', bytes, ours, &mut rows);
-    let answered = second.receive(schema, b'C', bytes, middle, &mut quick_rows);
-    let expected = third.receive(schema, &mut their_rows, b'C', bytes, theirs);
-    assert!(matches!(received.outcome, arf::Outcome::Accepted(_)));
-    assert!(matches!(answered.outcome, fast::Outcome::Accepted(_)));
-    assert_eq!((expected.number(), expected.open), (0, received.open));
-    assert_eq!(answered.open, received.open);
-    assert!(ours == theirs && middle == theirs);
-    Times::of_three(medians([
-        side(|clear| {
-            if clear {
-                ours.fill(0);
-            }
-            let mut table = black_box(table);
-            table.receive(schema, b'C', black_box(bytes), ours, &mut rows)
-        }),
-        side(|clear| {
-            if clear {
-                middle.fill(0);
-            }
-            let mut table = black_box(quick);
-            table.receive(schema, b'C', black_box(bytes), middle, &mut quick_rows)
-        }),
-        side(|clear| {
-            if clear {
-                theirs.fill(0);
-            }
-            let mut table = black_box(other);
-            table.receive(schema, &mut their_rows, b'C', black_box(bytes), theirs)
-        }),
-    ]))
+/// One connection as each side has it: call table and tally rows.
+#[derive(Clone)]
+pub struct Connections<'a> {
+    pub schema: &'a [u8],
+    pub library: (arf::CallTable, Vec<arf::Tally>),
+    pub fast: (fast::CallTable, Vec<fast::Tally>),
+    pub reference: (reference::CallTable, Vec<Tally>),
 }
 
-/// The times, and how many entries and spans there are.
-pub fn salvage(record: &Record) -> (Times, usize, usize) {
-    let bytes = &record.bytes[..];
-    let (mut ours, mut theirs) = (vec![0; bytes.len()], vec![0; bytes.len()]);
-    let (mut list, mut other) = (vec![0; arf::SPAN_CELLS], vec![0; arf::SPAN_CELLS]);
-    let salvaged = arf::salvage(bytes, &mut ours, &mut list);
-    let salvaged = salvaged.expect("both buffers have room");
-    let expected = reference::salvage(bytes, &mut theirs, &mut other);
-    let expected = expected.expect("both buffers have room");
-    assert_eq!(
-        (salvaged.entries, salvaged.spans),
-        (expected.kept, expected.spans)
-    );
-    assert_eq!((&ours, &list), (&theirs, &other));
-    let times = Times::of_two(medians([
-        side(|clear| {
-            if clear {
-                ours.fill(0);
+impl<'a> Connections<'a> {
+    /// Calls of the first method are open, and each figure of the tally rows is
+    /// another number.
+    pub fn new(schema: &'a [u8], open: &[u64]) -> Self {
+        let mut ours = [arf::Call::default(); arf::SLOTS];
+        let mut quick = [fast::Call::default(); fast::SLOTS];
+        let mut theirs = reference::CallTable::fresh();
+        for (slot, &correlation) in open.iter().enumerate() {
+            (ours[slot].open, ours[slot].correlation) = (true, correlation);
+            (quick[slot].open, quick[slot].correlation) = (true, correlation);
+            (theirs.slots[slot].open, theirs.slots[slot].correlation) = (true, correlation);
+        }
+        let methods = reference::tallies::fresh(schema).len() as u32;
+        let figures = (0..methods).map(|method| [1, 2, 3, 4, 5].map(|figure| 5 * method + figure));
+        let rows = figures.clone().map(|figures| {
+            let [opened, completed, errored, cancelled, failed] = figures;
+            arf::Tally {
+                opened,
+                completed,
+                errored,
+                cancelled,
+                failed,
             }
-            arf::salvage(black_box(bytes), &mut ours, &mut list)
-        }),
-        side(|clear| {
-            if clear {
-                theirs.fill(0);
-            }
-            reference::salvage(black_box(bytes), &mut theirs, &mut other)
-        }),
-    ]));
-    (times, salvaged.entries, salvaged.spans)
-}
-
-/// One write for a whole frame, beside the library's value writer and frame
-/// writer in turn. `said`: the root's row has the payload's length, as a sheet
-/// that was read has; otherwise 0, since no writer goes by it.
-pub fn value_frame(sample: &Sample, said: bool) -> [f64; 2] {
-    let (schema, payload) = (&sample.schema[..], &sample.payload[..]);
-    let (ty, mut sheet) = (sample.type_number, sheet_of(sample));
-    if !said {
-        sheet[2] = 0;
+        });
+        Connections {
+            schema,
+            library: (arf::CallTable::from_calls(&ours), rows.collect()),
+            fast: (
+                fast::CallTable::from_calls(&quick),
+                figures.clone().map(fast::Tally).collect(),
+            ),
+            reference: (theirs, figures.map(Tally::from_figures).collect()),
+        }
     }
-    let expected = samples::frame(1, 9, payload);
-    let (mut one, mut two) = (vec![0; expected.len()], vec![0; expected.len()]);
-    let mut between = vec![0; MAX_PAYLOAD];
-    let in_turn = |clear, between: &mut [u8], out: &mut [u8]| {
-        if clear {
-            out.fill(0);
+
+    /// Judges a frame on every side, and gives how many rows are shown.
+    pub fn receive(&mut self, from: u8, bytes: &[u8], room: Room) -> Result<usize, String> {
+        let (schema, mut shown) = (self.schema, 0);
+        let (table, rows) = &mut self.library;
+        let ours = Answer::of(LIBRARY, room, |sheet, _| {
+            table.receive(schema, from, bytes, sheet, rows)
+        });
+        let calls = table.calls();
+        if arf::CallTable::from_calls(&calls) != *table {
+            return Err(format!("{LIBRARY} has a call table of no records"));
         }
-        let (schema, sheet, payload) = black_box((schema, &sheet[..], payload));
-        let length = arf::write(schema, ty, sheet, payload, between)?;
-        arf::write_frame(black_box(&INVOKE), &between[..length], out)
-    };
-    let at_once = |clear, out: &mut [u8]| {
-        if clear {
-            out.fill(0);
-        }
-        let (schema, sheet, payload) = black_box((schema, &sheet[..], payload));
-        arf::write_value_frame(black_box(&INVOKE), schema, ty, sheet, payload, out)
-    };
-    assert_eq!(at_once(true, &mut one), Ok(expected.len()));
-    assert_eq!(in_turn(true, &mut between, &mut two), Ok(expected.len()));
-    assert_eq!((&one, &two), (&expected, &expected));
-    medians([
-        side(|clear| at_once(clear, &mut one)),
-        side(|clear| in_turn(clear, &mut between, &mut two)),
-    ])
+        let ours = ours.with("call table", &calls);
+        let ours = ours.with("tally rows", rows);
+        let (table, rows) = &mut self.fast;
+        let quick = Answer::of(FAST, room, |sheet, _| {
+            table.receive(schema, from, bytes, sheet, rows)
+        });
+        let quick = quick.with("call table", &table.calls());
+        let quick = quick.with("tally rows", rows);
+        let (table, rows) = &mut self.reference;
+        let theirs = Answer::of(REFERENCE, room, |sheet, _| {
+            let received = table.receive(schema, rows, from, bytes, sheet);
+            shown = received.reading().rows;
+            received
+        });
+        let theirs = theirs.with("call table", &table.slots);
+        let theirs = theirs.with("tally rows", rows);
+        agree(&[ours, quick, theirs])?;
+        Ok(shown)
+    }
 }

@@ -13,6 +13,7 @@ pub struct Sample {
 }
 
 const UINT8: u32 = 6;
+const UINT16: u32 = 7;
 const UINT32: u32 = 8;
 const UINT64: u32 = 9;
 const BOOL: u32 = 1;
@@ -70,15 +71,24 @@ pub fn table_of_scattered_methods(methods: usize) -> Vec<u8> {
 }
 
 /// A good table whose methods' identifiers are chosen to share the flag by
-/// which the library looks for a method with the same identifiers.
+/// which the library looks for a method with the same identifiers. `fast` takes
+/// its first slot from the same number.
 pub fn table_of_one_flag(methods: usize) -> Vec<u8> {
-    let part = |identifier: u64, factor: u64| identifier * factor % (1 << 32);
     let flag = |method: u32| {
-        let sum = part(1, 4233791273) + part(2, 3546581957) + part(method.into(), 2745211177);
-        sum / 1048576 % 4096
+        let names = (1u64 + (2 << 32)).wrapping_mul(0x369D_EA0F_31A5_3F85);
+        names.wrapping_add(u64::from(method).wrapping_mul(0xD6E8_FEB8_6659_FD93)) >> 52
     };
     let chosen = (0..u32::MAX).filter(|&method| flag(method) == 5);
     table_of_names(chosen.take(methods).map(|method| [1, 2, method]))
+}
+
+/// Correlations that are chosen to share the flag by which the library looks
+/// for two calls with one correlation. `fast` takes its first slot from the
+/// same number.
+pub fn correlations_of_one_flag(calls: usize) -> Vec<u64> {
+    let flag = |correlation: u64| correlation.wrapping_mul(0x9E37_79B9_7F4A_7C15) >> 54;
+    let chosen = (0..u64::MAX).filter(|&correlation| flag(correlation) == 5);
+    chosen.take(calls).collect()
 }
 
 /// A good table of one struct and methods with these identifiers.
@@ -278,10 +288,20 @@ fn scattered(index: usize) -> u32 {
     (index as u32).wrapping_mul(0x9E37_79B9)
 }
 
-/// Keys of 16 bytes chosen so that the digest by which the library looks for
-/// repeated keys is the same for all of them: nine times the first word and
-/// the second make one sum.
-fn of_one_digest(index: usize) -> [u8; 16] {
+/// Maps of so many pairs each, whose keys are words in no order.
+fn scattered_maps(name: &'static str, pairs: usize) -> Sample {
+    maps(name, pairs, WORD, UINT32, |index| {
+        scattered(index).to_le_bytes().to_vec()
+    })
+}
+
+/// The same for any number of pairs, in a payload of the same length.
+pub fn maps_of_pairs(pairs: usize) -> Sample {
+    scattered_maps("maps, uint32 keys in no order", pairs)
+}
+
+/// Keys of 16 bytes that are alike but for the last two of each eight.
+fn alike_but_for_four(index: usize) -> [u8; 16] {
     let (a, b) = ((index / 8) as u8, (index % 8) as u8);
     let mut key = *b"receipt0-account";
     key[6] = 0x30 + a;
@@ -291,14 +311,25 @@ fn of_one_digest(index: usize) -> [u8; 16] {
     key
 }
 
-/// 64-pair maps of such keys.
-pub fn maps_of_one_digest() -> Sample {
-    let name = "64-pair maps, 16-byte keys of one digest";
-    maps(name, 64, WORD, STRING, |index| text(&of_one_digest(index)))
+/// Maps whose keys are chosen so that the library's flag of each is the same:
+/// their first bytes are alike.
+pub fn maps_of_one_flag() -> Sample {
+    let name = "64-pair maps, uint16 keys of one flag";
+    maps(name, 64, BYTE, UINT16, |index| vec![7, index as u8])
 }
 
-/// Maps at their worst: the widest keys of a number, keys that differ in the
-/// middle alone, nearly the most keys to compare that a payload can have, many
+/// Maps whose keys are chosen so that two and two have one digest of the
+/// library's: 32 strings of seven bytes, and the same with a byte 7 after them.
+pub fn maps_of_shared_digests() -> Sample {
+    let name = "64-pair maps, string keys of one digest by twos";
+    maps(name, 64, WORD, STRING, |index| {
+        let key = format!("receip{}", char::from(0x40 + (index % 32) as u8));
+        text(&[key.as_bytes(), &[7][..index / 32]].concat())
+    })
+}
+
+/// Maps at their worst: the widest keys of a number, long keys that differ in
+/// few bytes, nearly the most keys to compare that a payload can have, many
 /// small maps, beside each other and in each other, and keys that do not rise.
 fn worst_maps() -> Vec<Sample> {
     vec![
@@ -312,18 +343,27 @@ fn worst_maps() -> Vec<Sample> {
             STRING,
             |index| text(format!("receipt-{index:02}-account").as_bytes()),
         ),
+        maps(
+            "64-pair maps, 16-byte keys alike but for four bytes",
+            64,
+            WORD,
+            STRING,
+            |index| text(&alike_but_for_four(index)),
+        ),
         maps("64-pair maps, uint8 keys", 64, BYTE, UINT8, |index| {
             vec![index as u8]
         }),
         maps("2-pair maps, uint8 keys", 2, BYTE, UINT8, |index| {
             vec![index as u8]
         }),
+        scattered_maps("64-pair maps, uint32 keys in no order", 64),
         maps(
-            "64-pair maps, uint32 keys in no order",
+            "64-pair maps, uint8 keys in no order",
             64,
-            WORD,
-            UINT32,
-            |index| scattered(index).to_le_bytes().to_vec(),
+            BYTE,
+            UINT8,
+            // All 64 differ, as 157 is odd.
+            |index| vec![(157 * index) as u8],
         ),
         maps(
             "64-pair maps, uint8 keys that fall",

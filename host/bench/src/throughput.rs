@@ -4,27 +4,42 @@ use std::fmt::Write;
 use std::hint::black_box;
 use std::time::Instant;
 
-use crate::measure::{medians, side};
+use crate::lines::{Compared, Connections, Run, FAST, LIBRARY, REFERENCE};
+use crate::measure::{by_turns, medians, side, Room};
 use crate::samples;
 
-/// The cells of a listing's sheet: 4,096 rows.
-const SHEET: usize = 4 * 4_096;
+/// A sheet of 4,096 rows, as a listing has it.
+const SHEET: Room = Room {
+    cells: 4 * 4_096,
+    bytes: 0,
+};
 
-/// A side byte and a frame, one after the other: calls that open and complete,
-/// with a receipt each way.
-pub fn record() -> Vec<u8> {
+/// Frames with the side byte of each, which fill a record: calls that open and
+/// complete, with a receipt each way.
+fn frames_of_receipts() -> Vec<(u8, Vec<u8>)> {
     let receipt = samples::receipt().payload;
-    let mut record = Vec::new();
+    let (mut frames, mut length) = (Vec::new(), 0);
     for call in 0.. {
-        let sent = [b"C", &samples::frame(1, call, &receipt)[..]].concat();
-        let answered = [b"S", &samples::frame(6, call, &receipt)[..]].concat();
-        if record.len() + sent.len() + answered.len() > arf::MAX_RECORD {
+        let (sent, answered) = (
+            samples::frame(1, call, &receipt),
+            samples::frame(6, call, &receipt),
+        );
+        length += 2 + sent.len() + answered.len();
+        if length > arf::MAX_RECORD {
             break;
         }
-        record.extend(sent);
-        record.extend(answered);
+        frames.extend([(b'C', sent), (b'S', answered)]);
     }
-    record
+    frames
+}
+
+/// Judges frames on every side, from a fresh call table on.
+fn compare<'a>(schema: &'a [u8], frames: &[(u8, Vec<u8>)]) -> Result<Connections<'a>, String> {
+    let mut sides = Connections::new(schema, &[]);
+    for (from, bytes) in frames {
+        sides.receive(*from, bytes, Room::rows(20))?;
+    }
+    Ok(sides)
 }
 
 /// The numbers of an entry's line, and how many bytes its frame used.
@@ -125,57 +140,81 @@ pub struct Listed {
     pub times: [f64; 2],
 }
 
-/// A record of the most bytes, listed through the host crate.
-pub fn listed() -> Listed {
-    let (schema, record) = (samples::receipt().schema, record());
-    let (mut ours, mut quick) = (vec![0; SHEET], vec![0; SHEET]);
-    let text = list_by_library(&schema, &record, &mut ours);
-    assert_eq!(text, reference::list(&schema, &record));
-    let methods = reference::tallies::fresh(&schema).len();
-    assert_eq!(text, list_by_fast(&schema, &record, &mut quick, methods));
-    let times = medians([
-        side(|_| list_by_library(black_box(&schema), black_box(&record), &mut ours)),
-        side(|_| list_by_fast(black_box(&schema), black_box(&record), &mut quick, methods)),
-    ]);
-    Listed {
-        bytes: record.len(),
-        frames: text.lines().count() - 2,
-        times,
+/// A record of the most bytes, listed through the host crate. The sheet is
+/// cleared before each listing.
+pub fn listed(run: Run) -> Compared<Listed> {
+    let (schema, frames) = (&samples::receipt().schema[..], frames_of_receipts());
+    compare(schema, &frames)?;
+    let record = frames
+        .iter()
+        .flat_map(|(from, bytes)| [&[*from], &bytes[..]].concat());
+    let record = &record.collect::<Vec<u8>>()[..];
+    let methods = reference::tallies::fresh(schema).len();
+    let library = |sheet: &mut [u32], _: &mut [u8]| {
+        list_by_library(black_box(schema), black_box(record), sheet)
+    };
+    let quick = |sheet: &mut [u32], _: &mut [u8]| {
+        list_by_fast(black_box(schema), black_box(record), sheet, methods)
+    };
+    let expected = reference::list(schema, record);
+    let sheet = &mut vec![0; SHEET.cells];
+    for (side, text) in [
+        (LIBRARY, library(sheet, &mut [])),
+        (FAST, quick(sheet, &mut [])),
+    ] {
+        if text != expected {
+            return Err(format!("{side} and {REFERENCE} differ in the listing"));
+        }
     }
+    run.times(|| Listed {
+        bytes: record.len(),
+        frames: frames.len(),
+        times: medians([side(SHEET, library), side(SHEET, quick)]),
+    })
 }
 
-/// How many small frames are received, in batches that the two sides take by
-/// turns.
-pub const FRAMES: usize = 1_000_000;
-const BATCH: usize = 10_000;
+/// How many small frames are received in a round, and in how many rounds.
+const FRAMES: usize = 50_000;
+const ROUNDS: usize = 21;
 
-/// Seconds for a million small frames, by the library and by `fast`: calls that
-/// open and complete, with a payload of two bytes each way.
-pub fn million() -> [f64; 2] {
-    let schema = samples::table_of_methods(1);
-    let sheet = &mut vec![0; SHEET];
-    let frames: Vec<(u8, Vec<u8>)> = (0..BATCH as u64)
+/// Nanoseconds for a small frame, by the library and by `fast`: calls that open
+/// and complete, with a payload of two bytes each way. The two take rounds by
+/// turns, and the sheet is cleared before each.
+pub fn received(run: Run) -> Compared<[f64; 2]> {
+    let schema = &samples::table_of_methods(1)[..];
+    let frames: Vec<(u8, Vec<u8>)> = (0..FRAMES as u64)
         .map(|number| match number % 2 {
             0 => (b'C', samples::frame_of([1, 2, 0], 1, number / 2, &[1, 7])),
             _ => (b'S', samples::frame_of([1, 2, 0], 6, number / 2, &[1, 7])),
         })
         .collect();
-    let (mut table, mut other) = (arf::CallTable::fresh(), fast::CallTable::fresh());
-    let (mut tallies, mut rows) = ([arf::Tally::default()], [fast::Tally::default()]);
-    let mut seconds = [0.0; 2];
-    for _ in 0..FRAMES / BATCH {
-        let start = Instant::now();
+    let Connections {
+        library: (mut ours, mut rows),
+        fast: (mut quick, mut quick_rows),
+        ..
+    } = compare(schema, &frames)?;
+    let sheet = &mut vec![0; SHEET.cells];
+    let mut library = |sheet: &mut [u32]| {
         for (side, bytes) in &frames {
-            let received = table.receive(&schema, *side, bytes, sheet, &mut tallies);
+            let received = ours.receive(schema, *side, bytes, sheet, &mut rows);
             assert_eq!(received.used, bytes.len());
         }
-        seconds[0] += start.elapsed().as_secs_f64();
-        let start = Instant::now();
+    };
+    let mut fast = |sheet: &mut [u32]| {
         for (side, bytes) in &frames {
-            let received = other.receive(&schema, *side, bytes, sheet, &mut rows);
+            let received = quick.receive(schema, *side, bytes, sheet, &mut quick_rows);
             assert_eq!(received.used, bytes.len());
         }
-        seconds[1] += start.elapsed().as_secs_f64();
-    }
-    seconds
+    };
+    run.times(|| {
+        by_turns(ROUNDS, |side| {
+            sheet.fill(0);
+            let start = Instant::now();
+            match side {
+                0 => library(sheet),
+                _ => fast(sheet),
+            }
+            start.elapsed().as_nanos() as f64 / FRAMES as f64
+        })
+    })
 }

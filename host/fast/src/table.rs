@@ -158,9 +158,11 @@ fn check_many(methods: &[[u8; 32]], types: &[[u8; 12]]) -> Result<(), Refusal> {
             return refuse(44, i);
         }
         let own = ids(row);
-        let mixed = (own.0 ^ (own.1 as u64).rotate_left(40)).wrapping_mul(0x9E37_79B9_7F4A_7C15)
-            ^ (own.1 as u64).wrapping_mul(0xD6E8_FEB8_6659_FD93);
-        let mut at = (mixed.wrapping_mul(0x9E37_79B9_7F4A_7C15) >> 54) as usize;
+        let mixed = own
+            .0
+            .wrapping_mul(0x369D_EA0F_31A5_3F85)
+            .wrapping_add((own.1 as u64).wrapping_mul(0xD6E8_FEB8_6659_FD93));
+        let mut at = (mixed >> 54) as usize;
         loop {
             let there = slots[at & 1023];
             if there == 0 {

@@ -95,17 +95,17 @@ module _ {M : Type 1} (𝓤 : URA M) (H : Heap 𝓤) (A : Atoms 𝓤) (W : Given
   abbrev Post : Val → SProp 𝓤
   Post = walkOf 𝓤 H A above.ended stayed (above.clauses 𝓤 H A at-mem run) .post (((κ, tt), (q, tt), tt, (s, (n, tt)), at), tt)
 
-  abbrev Own : Fml
-  Own = ShrSlice (named 0) κ u8 .own s (v ∷ [])
+  abbrev OwnFml : Fml
+  OwnFml = ShrSlice (named 0) κ u8 .own s (v ∷ [])
 
   -- the call of `new`: what it is passed, what it asks, and what is known of its result
   abbrev to-new : New 𝓤 H A at-mem run .Ghost
   to-new = (((κ, tt), (q, tt), tt, (s, (n, tt)), at), tt)
 
-  goes-new : ent 𝓤 (onEntry 𝓤 H A above.signature (κ, tt) (q, tt) (s, (n, tt)) at) (sep 𝓤 (New 𝓤 H A at-mem run .pre to-new) (sem 𝓤 H A Own))
+  goes-new : ent 𝓤 (onEntry 𝓤 H A above.signature (κ, tt) (q, tt) (s, (n, tt)) at) (sep 𝓤 (New 𝓤 H A at-mem run .pre to-new) (sem 𝓤 H A OwnFml))
   goes-new =
       qed W ((‵ (flft κ q) ⊛ ‵ ftrue) ∷ ‵ (owns (ShrSlice (named 0) κ u8 ∷ usize ∷ []) (s, (n, tt)) at) ∷ []) ∵
-      move ! (1 ∷ []) $ fsplit ! $ use1 W (‵ Own ⊛ ‵ Own) (shr-slice-copy 𝓤 H A W (named 0) κ u8 .twice s (v ∷ [])) $ split ! $ move ! (0 ∷ 2 ∷ []) $ fjoin ! $
+      move ! (1 ∷ []) $ fsplit ! $ use1 W (‵ OwnFml ⊛ ‵ OwnFml) (shr-slice-copy 𝓤 H A W (named 0) κ u8 .twice s (v ∷ [])) $ split ! $ move ! (0 ∷ 2 ∷ []) $ fjoin ! $
       move ! (2 ∷ 0 ∷ []) $ join ! $ nothing ! $ move ! (1 ∷ 0 ∷ []) $ join ! $ done !
 
   new-said : (r : Reader) → ent 𝓤 (ensured 𝓤 H A new.ended (new.clauses 𝓤 H A at-mem run) (κ, tt) (s, (n, tt)) tt r) (fact 𝓤 ((r .payload ≡ s) × (r .at ≡ n)))
@@ -133,9 +133,9 @@ module _ {M : Type 1} (𝓤 : URA M) (H : Heap 𝓤) (A : Atoms 𝓤) (W : Given
     abbrev Said : Span → Reader × Unit {0} → Type 0
     Said t ws = (t ≡ next .item) × (ws .0 ≡ movedTo r (next .next))
 
-  exits : (t : Span) (u : Val) → t ≡ found → ent 𝓤 (⋆ 𝓤 H A (‵ (flft κ q) ∷ ‵ (I.the-row .own t (u ∷ [])) ∷ ‵ Own ∷ [])) (Post u)
+  exits : (t : Span) (u : Val) → t ≡ found → ent 𝓤 (⋆ 𝓤 H A (‵ (flft κ q) ∷ ‵ (I.the-row .own t (u ∷ [])) ∷ ‵ OwnFml ∷ [])) (Post u)
   exits t u e =
-      qed W (‵ (flft κ q) ∷ ‵ (I.the-row .own t (u ∷ [])) ∷ ‵ Own ∷ []) ∵
+      qed W (‵ (flft κ q) ∷ ‵ (I.the-row .own t (u ∷ [])) ∷ ‵ OwnFml ∷ []) ∵
       suffices ! _ (ends-at 𝓤 H A above.ended stayed (above.clauses 𝓤 H A at-mem run) W (((κ, tt), (q, tt), tt, (s, (n, tt)), at), tt) u t (tt, (tt, tt)) (tt, (tt, tt))) $ says ! e $
       nothing ! $ move ! (1 ∷ 0 ∷ []) $ join ! $ frame ! $ nothing ! $ owned ! usize (Is usize) (uint-makes 𝓤 H A W w64) n _ (refl, ok) $ fjoin ! $ move ! (2 ∷ 0 ∷ []) $ fjoin ! $ frame ! $ done !
 
@@ -146,7 +146,7 @@ module _ {M : Type 1} (𝓤 : URA M) (H : Heap 𝓤) (A : Atoms 𝓤) (W : Given
         alloc1 ! (λ l₀. alloc1 ! (λ l₁. alloc1 ! (λ l₂. alloc1 ! (λ l₃. alloc1 ! (λ l₄. alloc1 ! (λ l₅. alloc0 ! $
         params1 ! $ pass1 ! (init ! 8 refl (shr-slice-lawful 𝓤 H A W (named 0) κ u8 .typed s (v ∷ []) p .0)) $ pass1 ! (init ! 6 refl (tt, record { fits = ok })) $ pass0 ! $
         -- the call of `new`
-        move ! (12 ∷ []) $ use1 W (raw (New 𝓤 H A at-mem run .pre to-new) ⊛ ‵ Own) goes-new $ split ! $
+        move ! (12 ∷ []) $ use1 W (raw (New 𝓤 H A at-mem run .pre to-new) ⊛ ‵ OwnFml) goes-new $ split ! $
         calls-at ! fm (New 𝓤 H A at-mem run) known-new to-new (and-then ! (load ! (from ! (stop !)) (look ! 10 refl)) (and-then ! (load ! (from ! (stop !)) (look ! 8 refl)) (no-more !))) (λ u.
         use1 W (later (some (λ (r : Reader). ((‵ (flft κ q) ⊛ ‵ ftrue) ⊛ ‵ (row κ .own r (u ∷ []))) ⊛ raw (ensured 𝓤 H A new.ended (new.clauses 𝓤 H A at-mem run) (κ, tt) (s, (n, tt)) tt r)))) (id⊢ 𝓤 _) $ await ! tt $ pick ! (λ r.
         split ! $ move ! (1 ∷ []) $ use1 W (raw (fact 𝓤 ((r .payload ≡ s) × (r .at ≡ n)))) (new-said r) $ heard ! ((r .payload ≡ s) × (r .at ≡ n)) (λ e. split ! $ move ! (1 ∷ []) $

@@ -1,5 +1,5 @@
 -- `index::make_index` meets its contract: the table's verdict and the record's length pick the answer.
-use mathlib.Core.Path.{_∙_}
+use mathlib.Core.Path.{sym, _∙_}
 use borrow.Author.Needs.{needs}
 use denote.Ref.{now}
 use Rattle.index.proofs.Turns.{table-refused, record-refused, record-indexed}
@@ -33,7 +33,7 @@ make-index-spec =
     (λ c. search needs)
     (λ c. search needs)
     returns
-    (λ c κs. search needs)
+    (λ c κs. (c .before .if1 .left, sym (c .before .before .before .before .check .ensures) ∙ c .before .before .enum-told .given .1))
     returns-2
     (λ c. search needs)
     returns-3)

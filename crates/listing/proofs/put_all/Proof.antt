@@ -1,4 +1,5 @@
 -- `listing::put_all` meets its contract: the heading, and then the case of the two lengths and of the schema file's verdict.
+use mathlib.Core.Path.{sym, _∙_}
 use native.Mathlib.Omega.{arith}
 use denote.Ref.{now}
 use borrow.Author.Needs.{needs}
@@ -14,7 +15,8 @@ returns c =
 put-entries-requires : tie.Need-put-entries-requires
 put-entries-requires c κs =
     let a = c .before .before .before .before .before .before .before .before .before .before .before .before .args in
-    (omega (arith, c .before .before .before .before .before .before .before .put-heading .ensures .1), short (now (a .schema)) (now (a .entries)) (c .before .before .before .before .if1 .left))
+    let good = sym (c .before .before .before .check-table .ensures) ∙ c .before .enum-told .given .1 in
+    (omega (arith, c .before .before .before .before .before .before .before .put-heading .ensures .1), short (now (a .schema)) (now (a .entries)) (c .before .before .before .before .if1 .left), good)
 
 returns-2 : tie.Need-returns-2
 returns-2 c =

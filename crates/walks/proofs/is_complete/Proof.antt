@@ -6,7 +6,7 @@ use native.Mathlib.Omega.{arith}
 use borrow.Author.Tests.{not-true}
 use lib.ListN.{length}
 use Rattle.schema.specs.File.{tableOf}
-use Rattle.value.specs.Read.{complete}
+use Rattle.value.specs.Read.{requiredSet}
 use Rattle.walks.specs.Shape.{fieldsFrom}
 use Rattle.walks.proofs.Tables.{few-fields}
 use Rattle.walks.proofs.Presence.{complete-stop, complete-on, complete-end}
@@ -15,7 +15,7 @@ use Rattle.walks.proofs.is_complete.Tie as tie
 
 abbrev Inv-loop : tie.InvT-loop
 Inv-loop s first n word judging i₀ left₀ bits₀ i left bits =
-    (complete (fieldsFrom (tableOf s) i left) bits ≡ complete (fieldsFrom (tableOf s) first n) word) × (i + left ≤ length (tableOf s .fields))
+    (requiredSet (fieldsFrom (tableOf s) i left) bits ≡ requiredSet (fieldsFrom (tableOf s) first n) word) × (i + left ≤ length (tableOf s .fields))
 
 abbrev μ-loop : tie.MeasureT-loop
 μ-loop s first n word judging i₀ left₀ bits₀ i left bits = left

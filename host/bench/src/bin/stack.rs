@@ -84,7 +84,7 @@ fn promised(entry: &str) -> usize {
 fn row<T: ToString>(name: &str, columns: &[T]) {
     let column = |column: &T| format!("{:>9}", column.to_string());
     let columns: String = columns.iter().map(column).collect();
-    println!("{name:<28}{columns}");
+    println!("{name:<36}{columns}");
 }
 
 /// The least stack in KiB that an entry survives a nest with.
@@ -148,7 +148,7 @@ fn run(entry: &str, nest: &Nest, kib: usize) -> u32 {
     match entry {
         "read" => on_thread(kib, || number(arf::read(schema, ty, payload, &mut sheet))),
         "beside" => on_thread(kib, || {
-            let (ours, theirs) = (schema, &nest.wider);
+            let (ours, theirs) = (&nest.ours, &nest.theirs);
             number(arf::read_beside(ours, theirs, ty, payload, &mut sheet))
         }),
         "write" => on_thread(kib, || {

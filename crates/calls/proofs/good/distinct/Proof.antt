@@ -1,4 +1,4 @@
--- `good::distinct` meets its contract. The loop's invariant: the numbers from place i on differ, and their remainders are seen.
+-- `good::distinct` meets its contract. The loop's invariant: the numbers from place i on differ, and their flags are seen.
 use mathlib.Core.Path.{refl, sym, _∙_}
 use mathlib.Core.Bool.{false}
 use native.Mathlib.Omega.{arith}
@@ -19,13 +19,17 @@ loop-holds c = apart-none (c .before .args .ids .now) (replicate 1024 false) ref
 
 returns : tie.Need-returns Inv-loop μ-loop
 returns c =
-    let l = c .before .before .before .before .before .loop in
-    apart-here (c .before .before .before .before .before .before .before .args .ids .now) (l .seen) (l .i) (l .inv) (omega arith) (sym (c .before .holds-where .ensures) ∙ c .if1 .taken)
+    let flag = c .before .before .before in
+    let turn = flag .before .before .before in
+    let l = turn .loop in
+    apart-here (turn .before .before .args .ids .now) (l .seen) (l .i) (l .inv) (omega arith) (flag .flag-of .result) (flag .flag-of .ensures .0) (sym (c .before .holds-where .ensures) ∙ c .if1 .taken)
 
 loop-again : tie.Need-loop-again Inv-loop μ-loop
 loop-again c =
-    let l = c .before .before .before .before .before .loop in
-    apart-next (c .before .before .before .before .before .before .before .args .ids .now) (l .seen) (l .i) (l .inv) (omega arith) (sym (c .before .holds-where .ensures) ∙ c .if1 .left)
+    let flag = c .before .before .before in
+    let turn = flag .before .before .before in
+    let l = turn .loop in
+    apart-next (turn .before .before .args .ids .now) (l .seen) (l .i) (l .inv) (omega arith) (flag .flag-of .result) (flag .flag-of .ensures .0) (sym (c .before .holds-where .ensures) ∙ c .if1 .left)
 
 returns-2 : tie.Need-returns-2 Inv-loop μ-loop
 returns-2 c =
@@ -42,6 +46,7 @@ distinct-spec =
     (λ c. search needs)
     (λ c. search needs)
     (λ c. search needs)
+    (λ c κs. search needs)
     (λ c. search needs)
     (λ c. search needs)
     (λ c. search needs)

@@ -37,7 +37,7 @@ use denote.Triple.Walked.{says, Stays, stay-none, walkOf, goes-none, Walks, ends
 use denote.Exit.{yes}
 use denote.Triple.Clauses.{ensured, lasts}
 use Rattle.cursor.specs.declared.Reader.{Reader}
-use Rattle.cursor.proofs.Held.{passed, Own, lends}
+use Rattle.cursor.proofs.Held.{passed, OwnFml, lends}
 use Rattle.cursor.proofs.Reader as T
 use Rattle.cursor.proofs.Reader.Laws as T′
 use Rattle.cursor.proofs.item.left_from as step
@@ -93,7 +93,7 @@ module _ {M : Type 1} (𝓤 : URA M) (H : Heap 𝓤) (A : Atoms 𝓤) (W : Given
         assigns ! (of-opd ! (load ! (from ! (fld ! refl (stop !))) (look-in ! 4 (sub ! 0 refl (whole !))))) (from ! (stop !)) (init ! 2 refl (tt, wt .1 .0)) $
         assigns ! (of-opd ! (load ! (from ! (fld ! refl (stop !))) (look-in ! 4 (sub ! 1 refl (whole !))))) (from ! (stop !)) (init ! 0 refl (tt, wt .1 .1 .0)) $
         move ! (9 ∷ []) $ fsplit ! $ move ! (1 ∷ []) $ drop ! $ move ! (0 ∷ 9 ∷ []) $
-        use2 W (raw (StepAt 𝓤 H A mem run .pre to) ⊛ ‵ (Own 𝓤 H A W (namedLft 1 0 tt (κ, tt)) h)) (lends 𝓤 H A W (namedLft 1 0 tt (κ, tt)) h [] tt tt (id⊢ 𝓤 _) q (wt .1 .1 .0 .fits)) $ split ! $
+        use2 W (raw (StepAt 𝓤 H A mem run .pre to) ⊛ ‵ (OwnFml 𝓤 H A W (namedLft 1 0 tt (κ, tt)) h)) (lends 𝓤 H A W (namedLft 1 0 tt (κ, tt)) h [] tt tt (id⊢ 𝓤 _) q (wt .1 .1 .0 .fits)) $ split ! $
         calls-at ! fm (StepAt 𝓤 H A mem run) known to (and-then ! (load ! (from ! (stop !)) (look ! 4 refl)) (and-then ! (load ! (from ! (stop !)) (look ! 2 refl)) (no-more !))) (λ u.
         use1 W (later (some (λ (r : ℕ). ((‵ (flft κ q) ⊛ ‵ ftrue) ⊛ ‵ (usize .own r (u ∷ []))) ⊛ raw (ensured 𝓤 H A step.ended (step.clauses 𝓤 H A mem run) (κ, tt) (h .payload, (h .at, tt)) tt r)))) (id⊢ 𝓤 _) $ await ! tt $ pick ! (λ r.
         split ! $ move ! (1 ∷ []) $ use1 W (raw (fact 𝓤 (r ≡ found))) (said r) $ heard ! (r ≡ found) (λ e. split ! $ move ! (1 ∷ []) $

@@ -40,7 +40,7 @@ use Rattle.cursor.specs.Item.{spanAt}
 use Rattle.cursor.specs.Lent.{on, movedTo}
 use Rattle.cursor.specs.declared.Reader.{Reader}
 use Rattle.cursor.specs.declared.item.SpanStep.{SpanStep}
-use Rattle.cursor.proofs.Held.{α, row, behind, passed, Own, first-own, lends, opened, shut}
+use Rattle.cursor.proofs.Held.{α, row, behind, passed, OwnFml, first-own, lends, opened, shut}
 use Rattle.cursor.proofs.item.Span as I
 use Rattle.cursor.proofs.item.Span.Laws as I′
 use Rattle.cursor.proofs.item.SpanStep as S
@@ -119,7 +119,7 @@ module _ {M : Type 1} (𝓤 : URA M) (H : Heap 𝓤) (A : Atoms 𝓤) (W : Given
         assigns ! (of-opd ! (load ! (from ! (hop ! (look ! 13 refl) (fld ! refl (stop !)))) (look-in ! 0 (sub ! 0 refl (whole !))))) (from ! (stop !)) (init ! 9 refl (tt, wt .1 .0)) $
         assigns ! (of-opd ! (load ! (from ! (hop ! (look ! 13 refl) (fld ! refl (stop !)))) (look-in ! 0 (sub ! 1 refl (whole !))))) (from ! (stop !)) (init ! 7 refl (tt, wt .1 .1 .0)) $
         -- the call
-        move ! (1 ∷ 5 ∷ []) $ use2 W (raw (StepAt 𝓤 H A at-mem run .pre to) ⊛ ‵ (Own 𝓤 H A W (α κ′) h)) (lends 𝓤 H A W (α κ′) h [] tt tt (id⊢ 𝓤 _) q′ (wt .1 .1 .0 .fits)) $ split ! $
+        move ! (1 ∷ 5 ∷ []) $ use2 W (raw (StepAt 𝓤 H A at-mem run .pre to) ⊛ ‵ (OwnFml 𝓤 H A W (α κ′) h)) (lends 𝓤 H A W (α κ′) h [] tt tt (id⊢ 𝓤 _) q′ (wt .1 .1 .0 .fits)) $ split ! $
         calls-at ! fm (StepAt 𝓤 H A at-mem run) known to (and-then ! (load ! (from ! (stop !)) (look ! 9 refl)) (and-then ! (load ! (from ! (stop !)) (look ! 7 refl)) (no-more !))) (λ u.
         use1 W (later (some (λ (r : SpanStep). ((‵ (flft κ′ q′) ⊛ ‵ ftrue) ⊛ ‵ (S.the-row .own r (u ∷ []))) ⊛ raw (Told r)))) (id⊢ 𝓤 _) $ await ! tt $ pick ! (λ r.
         split ! $ move ! (1 ∷ []) $ use1 W (raw (fact 𝓤 (r ≡ found))) (said r) $ heard ! (r ≡ found) (λ e. split ! $ move ! (1 ∷ []) $

@@ -15,34 +15,40 @@ returns : tie.Need-returns
 returns c =
     let fault = c .before .before in
     let good = fault .before in
-    let told = good .before in
+    let told = good .before .before in
     let table = told .before .before in
     let a = table .before .before .before .args in
     let s = now (a .schema) in
-    let is = fault .tables-fault .ensures ∙ ap (λ (b : Bool). tablesFault b (a .rows) (tableOf s)) (good .are-good .ensures) in
+    let is = fault .tables-fault .ensures ∙ ap (λ (b : Bool). tablesFault b (a .rows) (tableOf s)) (good .are-good .ensures .0) in
+    let e =
     cells-stop (now (a .cells)) s (a .rows) (a .correlation) (table .check .result) (table .check .ensures) (c .stop2 .result) (told .enum-told .given .1)
-    (fault .tables-fault .result) is (c .before .if1 .taken) (c .stop2 .ensures)
+    (fault .tables-fault .result) is (c .before .if1 .taken) (c .stop2 .ensures) in
+    (e, good .are-good .ensures .1)
 
 returns-2 : tie.Need-returns-2
 returns-2 c =
-    let table = c .before .before .before .before in
+    let table = c .before .before .before .before .before in
     let a = table .before .before .before .args in
-    let n = c .before .before .number .given in
+    let n = c .before .before .before .number .given in
+    let e =
     cells-faulty (now (a .cells)) (now (a .schema)) (a .rows) (a .correlation) (table .check .result) (table .check .ensures) (c .stop .result)
-    (n .0 .0) (n .0 .1 .0) (n .1) (c .stop .ensures)
+    (n .0 .0) (n .0 .1 .0) (n .1) (c .stop .ensures) in
+    (e, c .before .open-count .ensures)
 
 returns-3 : tie.Need-returns-3
 returns-3 c =
     let seat = c .before in
     let fault = seat .before .before in
     let good = fault .before in
-    let told = good .before in
+    let told = good .before .before in
     let table = told .before .before in
     let a = table .before .before .before .args in
     let s = now (a .schema) in
-    let is = fault .tables-fault .ensures ∙ ap (λ (b : Bool). tablesFault b (a .rows) (tableOf s)) (good .are-good .ensures) in
+    let is = fault .tables-fault .ensures ∙ ap (λ (b : Bool). tablesFault b (a .rows) (tableOf s)) (good .are-good .ensures .0) in
+    let e =
     cells-call (now (a .cells)) s (a .rows) (a .correlation) (table .check .result) (table .check .ensures) (c .plan-call .result) (told .enum-told .given .1)
-    (fault .tables-fault .result) is (seat .before .if1 .left) (c .plan-call .ensures ∙ ap callPlan (seat .seat .ensures))
+    (fault .tables-fault .result) is (seat .before .if1 .left) (c .plan-call .ensures ∙ ap callPlan (seat .seat .ensures)) in
+    (e, good .are-good .ensures .1)
 
 pub plan-release-spec : {M : Type 1} → statement M
 plan-release-spec =
@@ -51,9 +57,10 @@ plan-release-spec =
     (λ c κs. search needs)
     (λ c. search needs)
     (λ c κs. search needs)
+    (λ c κs. search needs)
     (λ c. search needs)
-    (λ c κs. sym (c .before .before .check .ensures) ∙ c .enum-told .given .1)
     (λ c κs. sym (c .before .before .before .check .ensures) ∙ c .before .enum-told .given .1)
+    (λ c κs. sym (c .before .before .before .before .check .ensures) ∙ c .before .before .enum-told .given .1)
     (λ c κs. search needs)
     returns
     (λ c κs. search needs)

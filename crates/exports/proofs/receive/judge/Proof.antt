@@ -15,7 +15,7 @@ use Rattle.exports.proofs.receive.judge.Statement.{statement}
 use Rattle.exports.proofs.receive.judge.Tie as tie
 
 settle-requires : tie.Need-settle-plan-requires
-settle-requires c κs = c .before .before .before .plan .ensures .1
+settle-requires c κs = c .before .before .before .plan .ensures .1 .0
 
 returns : tie.Need-returns
 returns c =
@@ -23,7 +23,7 @@ returns c =
     let at-settle = c .before .before .before .before .before .before .before in
     let row = c .before .before .before .before .before .before .before .before .before in
     let plan = c .before .before .before .before .before .before .before .before .before .before .before in
-    let a = c .before .before .before .before .before .before .before .before .before .before .before .before .before .before .before .before .before .args in
+    let a = c .before .before .before .before .before .before .before .before .before .before .before .before .before .before .before .before .before .before .args in
     let s = now (a .schema) in
     let cells = now (a .table) in
     let bytes = now (a .bytes) in
@@ -40,7 +40,7 @@ returns c =
         ap (λ (y : Effect). y .sheet) e,
         (
           put .put-row .ensures ∙ ap (λ (y : Effect). rowCells tallies (y .tallies)) e,
-          refused-stops (areCalls cells) _ p (checked s) (d .judged) (plan .plan .ensures .0) (at-settle .settle-plan .ensures .1),
+          (plan .plan .ensures .1 .1, refused-stops (areCalls cells) _ p (checked s) (d .judged) (plan .plan .ensures .0) (at-settle .settle-plan .ensures .1)),
         ),
       ),
     )

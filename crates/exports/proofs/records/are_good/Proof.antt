@@ -10,18 +10,20 @@ use borrow.Author.Needs.{needs}
 use borrow.Author.Tests.{not-true, not-false}
 use Rattle.schema.specs.File.{tableOf}
 use Rattle.exports.proofs.Tables.{calls-long}
-use Rattle.exports.proofs.Slots.{Passed, passed-few, passed-none, passed-bad, passed-open, passed-free, passed-end}
+use Rattle.exports.proofs.Slots.{Passed, passed-few, passed-none, passed-bad, passed-open, passed-free, passed-end, passed-count}
 use Rattle.exports.proofs.records.are_good.Statement.{statement}
 use Rattle.exports.proofs.records.are_good.Tie as tie
 
 abbrev Inv-loop : tie.InvT-loop
-Inv-loop cells s ids₀ n₀ i₀ ids n i = (i ≤ 128) × Passed (tableOf s) cells ids n i
+Inv-loop cells s calls₀ ids₀ n₀ i₀ calls ids n i = (i ≤ 128) × Passed (tableOf s) cells ids n i
 
 abbrev μ-loop : tie.MeasureT-loop
-μ-loop cells s ids₀ n₀ i₀ ids n i = 128 - i
+μ-loop cells s calls₀ ids₀ n₀ i₀ calls ids n i = 128 - i
 
 returns : tie.Need-returns Inv-loop μ-loop
-returns c = let a = c .before .before .before .args in passed-few (tableOf (now (a .s))) (now (a .cells)) (c .if1 .taken)
+returns c =
+    let a = c .before .before .before .before .args in
+    (passed-few (tableOf (now (a .s))) (now (a .cells)) (c .before .if1 .taken), c .open-count .ensures)
 
 loop-holds : tie.Need-loop-holds Inv-loop μ-loop
 loop-holds c =
@@ -30,9 +32,12 @@ loop-holds c =
 
 returns-2 : tie.Need-returns-2 Inv-loop μ-loop
 returns-2 c =
-    let a = c .before .before .before .before .before .before .before .before .before .before .args in
-    let l = c .before .before .before .before .before .before .loop in
-    passed-bad (tableOf (now (a .s))) (now (a .cells)) (l .ids) (l .n) (l .i) (l .inv .1) (omega arith) (sym (c .before .is-good .ensures) ∙ not-true _ (c .if2 .taken))
+    let bad = c .before in
+    let a = bad .before .before .before .before .before .before .before .before .before .before .args in
+    let l = bad .before .before .before .before .before .before .loop in (
+      passed-bad (tableOf (now (a .s))) (now (a .cells)) (l .ids) (l .n) (l .i) (l .inv .1) (omega arith) (sym (bad .before .is-good .ensures) ∙ not-true _ (bad .if2 .taken)),
+      c .open-count2 .ensures,
+    )
 
 loop-again : tie.Need-loop-again Inv-loop μ-loop
 loop-again c =
@@ -58,7 +63,10 @@ returns-3 : tie.Need-returns-3 Inv-loop μ-loop
 returns-3 c =
     let a = c .before .before .before .before .before .before .before .args in
     let l = c .before .before .before .loop in
-    c .distinct .ensures ∙ passed-end (tableOf (now (a .s))) (now (a .cells)) (l .ids) (l .n) (l .i) (l .inv .1) (omega arith)
+    let T = tableOf (now (a .s)) in (
+      c .distinct .ensures ∙ passed-end T (now (a .cells)) (l .ids) (l .n) (l .i) (l .inv .1) (omega arith),
+      passed-count T (now (a .cells)) (l .ids) (l .n) (l .i) (l .inv .1) (omega arith),
+    )
 
 -- there is room for one more correlation
 in-ids : tie.Need-array-write-ids Inv-loop μ-loop
@@ -73,6 +81,7 @@ are-good-spec =
     (tie.spec
     Inv-loop
     μ-loop
+    (λ c κs. search needs)
     returns
     loop-holds
     (λ c. omega arith)
@@ -87,6 +96,7 @@ are-good-spec =
     (λ c. omega arith)
     (λ c. omega (arith, c .before .before .before .before .loop .inv .1 .enough))
     (λ c κs. c .before .before .before .before .before .before .before .before .pre)
+    (λ c κs. search needs)
     returns-2
     (λ c. omega (arith, c .before .before .before .before .before .before .before .loop .inv .1 .gathered .few))
     in-ids

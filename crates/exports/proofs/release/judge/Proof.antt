@@ -18,7 +18,7 @@ returns c =
     let at-settle = put .before .before .before in
     let row = at-settle .before in
     let plan = row .before .before in
-    let a = plan .before .before .before .before .args in
+    let a = plan .before .before .before .before .before .args in
     let s = now (a .schema) in
     let cells = now (a .table) in
     let tallies = now (a .tallies) in
@@ -26,11 +26,11 @@ returns c =
     let p = plan .plan-release .result in
     let d = at-settle .settle-call .result in
     let is = at-settle .settle-call .ensures .0 l ∙ ap (λ (t : Tally). releaseSettled l t (p .next)) (row .row-in .ensures) in
-    let e = judged-release s l (a .correlation) (rowsOf tallies) (areCalls cells) _ p (sym (rows-long tallies)) (plan .plan-release .ensures) (releaseIn d l) is in (
+    let e = judged-release s l (a .correlation) (rowsOf tallies) (areCalls cells) _ p (sym (rows-long tallies)) (plan .plan-release .ensures .0) (releaseIn d l) is in (
       ap (λ (x : ReleaseEffect). x .answer) e,
       (
         put .put-row .ensures ∙ ap (λ (x : ReleaseEffect). rowCells tallies (x .tallies)) e,
-        refused-stops (areCalls cells) _ p (checked s) (d .judged) (plan .plan-release .ensures) (at-settle .settle-call .ensures .1),
+        (plan .plan-release .ensures .1, refused-stops (areCalls cells) _ p (checked s) (d .judged) (plan .plan-release .ensures .0) (at-settle .settle-call .ensures .1)),
       ),
     )
 

@@ -1,4 +1,4 @@
--- `exports::rows::row_in` meets its contract: five cells are a row, and past the last whole one it is noughts.
+-- `exports::rows::row_in` meets its contract: five cells are a row, and past the last whole one it is zeros.
 use borrow.Author.Needs.{needs}
 use Rattle.exports.proofs.Tallies.{row-there, row-past}
 use Rattle.exports.proofs.rows.row_in.Statement.{statement}

@@ -1,6 +1,6 @@
 -- `exports::scalars::arf_scalar` meets its contract.
 use borrow.Author.Needs.{needs}
-use Rattle.scalar.specs.Scalar.{numberOf}
+use Rattle.scalar.specs.Scalar.{scalarNumber}
 use Rattle.exports.specs.Answers.{scalarCells}
 use Rattle.exports.proofs.Stores.{told}
 use Rattle.exports.proofs.scalars.arf_scalar.Statement.{statement}
@@ -10,7 +10,7 @@ returns : tie.Need-returns
 returns c =
     let at-store = c .before .before .before in
     let at-cells = at-store .before .before .before in
-    told numberOf scalarCells _ (at-cells .before .scalar .ensures) (c .scalar-number .ensures) (at-cells .scalar-cells .ensures) (at-store .store .ensures)
+    told scalarNumber scalarCells _ (at-cells .before .scalar .ensures) (c .scalar-number .ensures) (at-cells .scalar-cells .ensures) (at-store .store .ensures)
 
 pub arf-scalar-spec : {M : Type 1} → statement M
 arf-scalar-spec =

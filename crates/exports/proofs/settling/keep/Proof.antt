@@ -21,7 +21,7 @@ returns c =
           (payload .number-of .ensures) (number .number-after .ensures) (change .change-of .ensures) (used .used-of .result) (open-is .open-after .result)
           (used .used-of .ensures) (open-is .open-after .ensures),
       put .put-slot .ensures ∙ answer-table cells (a .done) (payload .number-of .result) (number .number-after .result) (change .change-of .result)
-          (payload .number-of .ensures) (number .number-after .ensures) (change .change-of .ensures) (start .pre),
+          (payload .number-of .ensures) (number .number-after .ensures) (change .change-of .ensures) (start .pre .1),
     )
 
 pub keep-spec : {M : Type 1} → statement M
@@ -32,7 +32,7 @@ keep-spec =
     (λ c κs. search needs)
     (λ c κs. search needs)
     (λ c κs. search needs)
-    (λ c κs. search needs)
+    (λ c κs. c .before .before .before .before .before .before .pre .0)
     (λ c κs. search needs)
     (λ c. search needs)
     returns)

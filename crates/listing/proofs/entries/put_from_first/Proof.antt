@@ -1,13 +1,13 @@
 -- `listing::entries::put_from_first` meets its contract: what is left of the entries gives the same end as all of them. A line takes at most 149 bytes
 -- and its entry at least 27, so the place stays small.
-use mathlib.Core.Path.{_≡_, refl, sym, _∙_}
+use mathlib.Core.Path.{_≡_, refl, sym, ap, _∙_}
 use Prim.Native.Nat.{_+_, _*_, _-_, _≤_}
 use native.Mathlib.Omega.{arith}
 use borrow.Author.Needs.{needs}
 use denote.Ref.{now}
 use lib.ListN.{length}
 use Rattle.text.specs.Text.{Added}
-use Rattle.replay.specs.Run.{runOf}
+use Rattle.replay.specs.Run.{headerIn, runOf}
 use Rattle.replay.proofs.Replays.{tail-of, entry-bounds}
 use Rattle.listing.specs.Listing.{runText}
 use Rattle.listing.proofs.Turns.{Rest, rest-first, rest-end, rest-stop, rest-line}
@@ -38,7 +38,7 @@ loop-holds c =
     )
 
 step-requires : tie.Need-step-requires Inv-loop μ-loop
-step-requires c κs = c .before .before .before .before .loop .inv .0
+step-requires c κs = (c .before .before .before .before .before .before .before .before .before .before .pre .3, c .before .before .before .before .loop .inv .0)
 
 same-length : tie.Need-same-length Inv-loop μ-loop
 same-length c =
@@ -54,7 +54,7 @@ returns c =
     let here = c .before .before .before .before .before .before .before .before .before .before .before .before .before .loop in
     let step = c .before .before .before .before .before .before .before .before .step in (
       rest-stop (now (a .schema)) (now (a .entries)) _ (here .out) (here .pos) (here .entry) (here .at) (here .table .slots) (here .inv .5)
-          (c .before .before .before .before .before .before .before .before .before .before .before .before .loop-test .taken) _ (tail-of (now (a .entries)) (here .at)) _ refl (step .result) (step .ensures)
+          (c .before .before .before .before .before .before .before .before .before .before .before .before .loop-test .taken) _ (tail-of (now (a .entries)) (here .at)) _ refl (step .result .answer) (step .ensures .0)
           (sym (c .before .before .before .before .before .stops .ensures) ∙ c .before .before .before .before .if1 .taken)
           (c .before .before .put-stopped .result) _ (c .before .before .put-stopped .ensures .0),
       omega (arith, here .inv .3, c .before .before .put-stopped .ensures .1),
@@ -62,20 +62,27 @@ returns c =
 
 -- the entry that was listed lies in the record
 bounds : (c : tie.After-struct-known Inv-loop μ-loop) → let l = c .before .before .before .before .before .before .before .before .before .before .before .before .before .before .before .before in
-    let r = c .before .before .before .before .before .before .before .before .before .before .before .step .result in
+    let r = c .before .before .before .before .before .before .before .before .before .before .before .step .result .answer in
     (26 ≤ r .used) × (l .loop .at + 1 + r .used ≤ length (now (l .before .before .before .before .before .before .args .entries)))
 bounds c =
     let a = c .before .before .before .before .before .before .before .before .before .before .before .before .before .before .before .before .before .before .before .before .before .before .args in
     let here = c .before .before .before .before .before .before .before .before .before .before .before .before .before .before .before .before .loop in
     let step = c .before .before .before .before .before .before .before .before .before .before .before .step in
     entry-bounds (now (a .schema)) (now (a .entries)) (here .at) (here .table .slots) (c .before .before .before .before .before .before .before .before .before .before .before .before .before .before .before .loop-test .taken)
-    _ (tail-of (now (a .entries)) (here .at)) _ refl (step .result) (step .ensures) (sym (c .before .before .before .before .before .before .before .before .stops .ensures) ∙ c .before .before .before .before .before .before .before .if1 .left)
+    _ (tail-of (now (a .entries)) (here .at)) _ refl (step .result .answer) (step .ensures .0)
+    (sym (c .before .before .before .before .before .before .before .before .stops .ensures) ∙ c .before .before .before .before .before .before .before .if1 .left)
+
+add-entry : tie.Need-add-entry Inv-loop μ-loop
+add-entry c =
+    let test = c .before .before .before .before .before .before .before .before .before .before .before .before .before .before in
+    omega (arith, test .before .loop .inv .4, test .loop-test .taken, test .before .before .before .before .before .before .before .pre .1)
 
 loop-again : tie.Need-loop-again Inv-loop μ-loop
 loop-again c =
     let a = c .before .before .before .before .before .before .before .before .before .before .before .before .before .before .before .before .before .before .before .before .before .before .args in
     let here = c .before .before .before .before .before .before .before .before .before .before .before .before .before .before .before .before .loop in
     let step = c .before .before .before .before .before .before .before .before .before .before .before .step in
+    let header = c .before .before .before .before .before .header in
     let b = bounds c in (
       step .kept .1 .1 .1 .1 .0 ∙ here .inv .0,
       c .before .before .before .before .put-line .kept .0 ∙ here .inv .1,
@@ -83,9 +90,9 @@ loop-again c =
       omega (arith, here .inv .3, b .0, b .1, c .before .before .before .before .put-line .ensures .1),
       omega (arith, here .inv .4, b .0),
       rest-line (now (a .schema)) (now (a .entries)) _ (here .out) (here .pos) (here .entry) (here .at) (here .table .slots) (here .inv .5)
-          (c .before .before .before .before .before .before .before .before .before .before .before .before .before .before .before .loop-test .taken) _ (tail-of (now (a .entries)) (here .at)) _ refl (step .result) (step .ensures)
+          (c .before .before .before .before .before .before .before .before .before .before .before .before .before .before .before .loop-test .taken) _ (tail-of (now (a .entries)) (here .at)) _ refl (step .result .answer) (step .ensures .0)
           (sym (c .before .before .before .before .before .before .before .before .stops .ensures) ∙ c .before .before .before .before .before .before .before .if1 .left) (b .0)
-          _ (c .before .before .before .before .put-line .result) (c .before .before .before .before .put-line .ensures .0),
+          (header .result) (header .ensures ∙ ap headerIn (step .ensures .1)) _ (c .before .before .before .before .put-line .result) (c .before .before .before .before .put-line .ensures .0),
     )
 
 same-length-3 : tie.Need-same-length-3 Inv-loop μ-loop
@@ -123,11 +130,9 @@ put-from-first-spec =
     same-length
     same-length-2
     returns
-    (λ c. omega arith)
-    (λ c. search needs)
-    (λ c. search needs)
+    (λ c κs. tt)
     (λ c κs. omega arith)
-    (λ c. omega arith)
+    add-entry
     (λ c. omega (arith, bounds c .1, c .before .before .before .before .before .before .before .before .before .before .before .before .before .before .before .before .before .before .before .before .before .before .pre .1))
     (λ c. omega (arith, bounds c .1))
     loop-again

@@ -9,14 +9,13 @@ returns : tie.Need-returns
 returns c =
     let third = c .before .before .before .before .before .before .before .before .before .before in
     let first = third .before .before .before .before .before .before .before .before in
-    let header = first .before .before .before .before .before .before in
-    let a = header .before .before .before .before .args in
-    let start = rw (header .header .ensures) at (first .before .before .before .before .before .put-start .ensures .0) in (
-      added-line (a .entry) (a .side) _ (a .a) start (first .put-field .ensures .0) (third .before .before .before .before .put-field2 .ensures .0) (third .put-field3 .ensures .0)
+    let start = first .before .before .before .before .before in
+    let a = start .before .before .before .args in (
+      added-line (a .entry) (a .side) (a .h) (a .a) (start .put-start .ensures .0) (first .put-field .ensures .0) (third .before .before .before .before .put-field2 .ensures .0) (third .put-field3 .ensures .0)
           (c .before .before .before .before .before .before .put-field4 .ensures .0) (c .before .before .put-byte .ensures .0),
       omega (
         arith,
-        first .before .before .before .before .before .put-start .ensures .1,
+        start .put-start .ensures .1,
         first .put-field .ensures .1,
         third .before .before .before .before .put-field2 .ensures .1,
         third .put-field3 .ensures .1,
@@ -29,7 +28,6 @@ pub put-line-spec : {M : Type 1} → statement M
 put-line-spec =
     tie.close
     (tie.spec
-    (λ c κs. search needs)
     (λ c κs. search needs)
     (λ c. search needs)
     (λ c κs. search needs)

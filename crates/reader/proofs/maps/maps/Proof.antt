@@ -5,7 +5,7 @@ use mathlib.Core.Bool.{false}
 use mathlib.Core.List.{[]}
 use Prim.Native.Nat.{ℕ, suc, _+_, _-_, _*_, _≤_}
 use native.Mathlib.Omega.{arith}
-use lib.ListN.{length, length-set, replicate}
+use lib.ListN.{length, replicate}
 use Rattle.parse.specs.Reader.{cursorAt, Accepted}
 use Rattle.schema.specs.Table.{Shape, array, shape}
 use Rattle.schema.specs.File.{tableOf}
@@ -25,7 +25,7 @@ Inv-loop s p sheet₀ ty elem key val n start depth row judging keys₀ left₀ 
     ((R : ℕ → Shape)
     → R elem ≡ shapeIn s elem
     → aheadBy R s p depth (replicate left (plainItem elem)) here sum below sheet ≡ aheadBy R s p depth (replicate n (plainItem elem)) start 0 (row + 1) sheet₀)
-    × (here ≤ length p) × (below ≤ here) × (sum + 16 * start ≤ 16 * here) × (length sheet ≡ length sheet₀) × (length keys ≡ 130)
+    × (here ≤ length p) × (below ≤ here) × (sum + 16 * start ≤ 16 * here) × (length sheet ≡ length sheet₀) × (length keys ≡ 136)
 
 abbrev μ-loop : tie.MeasureT-loop
 μ-loop s p sheet₀ ty elem key val n start depth row judging keys₀ left₀ here₀ below₀ sum₀ sheet keys left here below sum = left
@@ -54,48 +54,50 @@ maps-spec =
     composite-stop R S P (array (args .elem)) (args .ty) (args .start) (args .n) _ (args .row) (args .sheet .now) _ _ _ _ _
     (element-stop R S P (args .elem) (loop .left) (c .before .loop-test .taken) here (loop .sum) (loop .below) (loop .sheet) _ _
     (stop-at (told R S (args .elem)) _ (loop .below) (loop .sheet) _ _ (parse-deep S (args .depth) (args .elem) here (c .if1 .taken))) ∙ loop .inv .0 R shown))
-    -- array-write-keys
-    (λ c. omega (arith, c .before .before .loop .inv .5))
+    -- slice-aggregate-clear-flags
+    (λ c. sym (c .before .before .before .loop .inv .5))
+    -- clear-flags-requires
+    (λ c κs. omega (arith, c .before .before .before .loop .inv .5))
     -- slice-aggregate-leaf-map
-    (λ c. sym (length-set (c .before .before .before .before .loop .keys) 64 0 ∙ c .before .before .before .before .loop .inv .5))
+    (λ c. sym (c .before .before .before .clear-flags .kept .0 ∙ c .before .before .before .before .before .before .before .loop .inv .5))
     -- sub-leaf-map
     (λ c. search needs)
     -- leaf-map-requires
     (λ c κs.
-    let args = c .before .before .before .before .before .before .before .before .args in
-    let loop = c .before .before .before .before .loop in
+    let args = c .before .before .before .before .before .before .before .before .before .before .before .args in
+    let loop = c .before .before .before .before .before .before .before .loop in
     let S = shape (tableOf (args .s .now)) in
     let P = parse S (args .depth) in
     let p = args .p .now in
     let here = cursorAt p (loop .here) in
-    let pre = c .before .before .before .before .before .before .before .before .pre in
+    let pre = c .before .before .before .before .before .before .before .before .before .before .before .pre in
     let ready = pre .0 .0 in
     let items = replicate (loop .left) (plainItem (args .elem)) in
     let judged : args .judging ≡ false → Accepted (parse S (suc (args .depth - 1)) (args .elem) here) =
     λ j.
-    deeper (λ k. Accepted (parse S k (args .elem) here)) (args .depth) (c .before .before .if1 .left)
-    (element-accepted S S P (args .elem) (loop .left) (c .before .before .before .loop-test .taken) here (loop .sum) (loop .below) (loop .sheet)
+    deeper (λ k. Accepted (parse S k (args .elem) here)) (args .depth) (c .before .before .before .before .before .if1 .left)
+    (element-accepted S S P (args .elem) (loop .left) (c .before .before .before .before .before .before .loop-test .taken) here (loop .sum) (loop .below) (loop .sheet)
     (rest-accepted S S P (array (args .elem)) (args .ty) (args .start) (args .n) (cursorAt p (args .start)) (args .row) (args .sheet .now)
     (walk P [] items here) items (loop .sum) (loop .below) (loop .sheet) (loop .inv .0 S refl) (ready .judged j))) in (
       (record { good = ready .good; small = ready .small; inside = loop .inv .1; behind = loop .inv .2; judged = judged }, pre .0 .1),
-      (pre .1, omega (arith, length-set (loop .keys) 64 0, loop .inv .5)),
+      (pre .1, omega (arith, c .before .before .before .clear-flags .kept .0, loop .inv .5)),
     ))
     -- enum-known-number
     (λ c. search needs)
     -- same-length-2
     (λ c.
-    let back = c .before .before .before .before .before .before .before .before .before in
+    let back = c .before .before .before .before .before .before .before .before .before .before .before .before in
     c .before .before .before .before .before .before .leaf-map .kept .1 .1 .0 ∙ back .before .before .loop .inv .4)
     -- returns-2
     (λ c.
-    let back = c .before .before .before .before .before .before .before .before .before in
+    let back = c .before .before .before .before .before .before .before .before .before .before .before .before in
     let args = back .before .before .before .before .before .before .args in
     let loop = back .before .before .loop in
     let S = shape (tableOf (args .s .now)) in
     let P = parse S (args .depth) in
     let p = args .p .now in
     let here = cursorAt p (loop .here) in
-    let d0 = c .before .before .before .before .before .before .before .before .before .if1 .left in
+    let d0 = back .if1 .left in
     λ R shown.
     let w = renamed (ap (λ (k : ℕ). parse S k (args .elem) here) (deep (args .depth) d0)) (was (c .before .before .before .before .before .before .leaf-map .ensures R shown) (c .before .number .given .1)) in
     composite-stop R S P (array (args .elem)) (args .ty) (args .start) (args .n) _ (args .row) (args .sheet .now) _ _ _ _ _
@@ -104,7 +106,7 @@ maps-spec =
     (λ c. search needs)
     -- add-sum
     (λ c.
-    let back = c .before .before .before .before .before .before .before .before .before in
+    let back = c .before .before .before .before .before .before .before .before .before .before .before .before in
     let S = shape (tableOf (back .before .before .before .before .before .before .args .s .now)) in
     let inv = back .before .before .loop .inv in
     let w = rw (c .before .due .given .1) at (c .before .before .before .before .before .before .leaf-map .ensures S refl .within) in
@@ -115,14 +117,14 @@ maps-spec =
     (λ c. omega arith)
     -- loop-again
     (λ c.
-    let back = c .before .before .before .before .before .before .before .before .before in
+    let back = c .before .before .before .before .before .before .before .before .before .before .before .before in
     let args = back .before .before .before .before .before .before .args in
     let loop = back .before .before .loop in
     let S = shape (tableOf (args .s .now)) in
     let P = parse S (args .depth) in
     let p = args .p .now in
     let here = cursorAt p (loop .here) in
-    let d0 = c .before .before .before .before .before .before .before .before .before .if1 .left in
+    let d0 = back .if1 .left in
     let inv = loop .inv in
     let within = rw (c .before .due .given .1) at (c .before .before .before .before .before .before .leaf-map .ensures S refl .within) in (
       λ R shown.
@@ -132,7 +134,7 @@ maps-spec =
       within .1,
       omega (arith, inv .3, within .2),
       c .before .before .before .before .before .before .leaf-map .kept .1 .1 .0 ∙ inv .4,
-      c .before .before .before .before .before .before .leaf-map .kept .1 .1 .1 .0 ∙ length-set (loop .keys) 64 0 ∙ inv .5,
+      c .before .before .before .before .before .before .leaf-map .kept .1 .1 .1 .0 ∙ c .before .before .before .before .before .before .before .before .before .before .clear-flags .kept .0 ∙ inv .5,
     ))
     -- sub-put-row
     (λ c. omega (arith, c .before .before .loop .inv .3))

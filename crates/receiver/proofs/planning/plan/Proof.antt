@@ -22,7 +22,7 @@ returns c =
 
 returns-2 : tie.Need-returns-2
 returns-2 c =
-    let told = c .before in
+    let told = c .before .before in
     let table = told .before .before in
     let a = table .before .before .before .args in
     let s = now (a .schema) in
@@ -39,6 +39,7 @@ plan-spec =
     (λ c. search needs)
     (λ c κs. search needs)
     (λ c. search needs)
-    (λ c κs. sym (c .before .before .check .ensures) ∙ c .enum-told .given .1)
+    (λ c κs. search needs)
+    (λ c κs. (sym (c .before .before .before .check .ensures) ∙ c .before .enum-told .given .1, c .read-frame .ensures))
     returns
     returns-2)

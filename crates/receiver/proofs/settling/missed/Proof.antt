@@ -1,4 +1,4 @@
--- `receiver::settling::missed` meets its contract: the plan is settled with a row of noughts.
+-- `receiver::settling::missed` meets its contract: the plan is settled with a row of zeros.
 use mathlib.Core.Path.{ap}
 use Rattle.receiver.specs.Answer.{RowEffect}
 use borrow.Author.Needs.{needs}

@@ -4,13 +4,13 @@ use Prim.Native.Nat.{_+_, _-_, _≤_}
 use native.Mathlib.Omega.{arith}
 use borrow.Author.Needs.{needs}
 use lib.ListN.{length, drop}
-use Rattle.salvage.specs.Pieces.{forward}
+use Rattle.salvage.specs.Pieces.{spanLength}
 use Rattle.salvage.proofs.Turns.{forward-past}
 use Rattle.salvage.proofs.pieces.forward.Statement.{statement}
 use Rattle.salvage.proofs.pieces.forward.Tie as tie
 
 abbrev Inv-loop : tie.InvT-loop
-Inv-loop bytes i₀ i = (i ≤ length bytes) × (i + forward (drop i bytes) ≡ forward bytes)
+Inv-loop bytes i₀ i = (i ≤ length bytes) × (i + spanLength (drop i bytes) ≡ spanLength bytes)
 
 abbrev μ-loop : tie.MeasureT-loop
 μ-loop bytes i₀ i = length bytes - i

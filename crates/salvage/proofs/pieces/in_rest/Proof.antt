@@ -4,13 +4,13 @@ use Prim.Native.Nat.{_+_, _-_, _≤_}
 use native.Mathlib.Omega.{arith}
 use borrow.Author.Needs.{needs}
 use lib.ListN.{length, drop}
-use Rattle.salvage.specs.Pieces.{forward}
+use Rattle.salvage.specs.Pieces.{spanLength}
 use Rattle.salvage.proofs.Turns.{forward-on, forward-found, forward-over}
 use Rattle.salvage.proofs.pieces.in_rest.Statement.{statement}
 use Rattle.salvage.proofs.pieces.in_rest.Tie as tie
 
 abbrev Inv-loop : tie.InvT-loop
-Inv-loop bytes from i₀ i = (i ≤ length bytes) × (i + forward (drop i bytes) ≡ from + forward (drop from bytes))
+Inv-loop bytes from i₀ i = (i ≤ length bytes) × (i + spanLength (drop i bytes) ≡ from + spanLength (drop from bytes))
 
 abbrev μ-loop : tie.MeasureT-loop
 μ-loop bytes from i₀ i = length bytes - i

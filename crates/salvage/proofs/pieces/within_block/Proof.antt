@@ -5,13 +5,13 @@ use native.Mathlib.Omega.{arith}
 use borrow.Author.Needs.{needs}
 use borrow.Author.Tests.{not-true}
 use lib.ListN.{drop}
-use Rattle.salvage.specs.Pieces.{forward}
+use Rattle.salvage.specs.Pieces.{spanLength}
 use Rattle.salvage.proofs.Magics.{block-passed, start-found, start-passed}
 use Rattle.salvage.proofs.pieces.within_block.Statement.{statement}
 use Rattle.salvage.proofs.pieces.within_block.Tie as tie
 
 abbrev Inv-loop : tie.InvT-loop
-Inv-loop bytes from i₀ i = ((from ≤ i) × (i ≤ from + 32)) × (i + forward (drop i bytes) ≡ from + forward (drop from bytes))
+Inv-loop bytes from i₀ i = ((from ≤ i) × (i ≤ from + 32)) × (i + spanLength (drop i bytes) ≡ from + spanLength (drop from bytes))
 
 abbrev μ-loop : tie.MeasureT-loop
 μ-loop bytes from i₀ i = from + 32 - i

@@ -4,7 +4,7 @@ use Prim.Native.Nat.{_<_}
 use Rattle.schema.specs.declared.TypeRow.{TypeRow}
 use Rattle.schema.specs.Table.{rowAt}
 use Rattle.schema.specs.File.{tableOf}
-use Rattle.schema.specs.Good.{GoodTable}
+use Rattle.schema.specs.Good.{GoodSchema}
 use Rattle.schema.proofs.Goods.{good-table}
 use Rattle.scalar.proofs.Answers.{row-refused, row-passed, number-row, text-row}
 use borrow.Author.Needs.{needs}
@@ -15,7 +15,7 @@ use Rattle.scalar.proofs.entry.scalar_of.Tie as tie
 kind-is : (c : tie.After-type-row) → let a = c .before .before .before .before .args in rowAt (tableOf (a .schema .now)) (a .row .ty) .kind ≡ c .type-row .result .kind
 kind-is c = ap (λ (r : TypeRow). r .kind) (sym (c .type-row .ensures))
 
-good : (c : tie.After-type-row) → GoodTable (tableOf (c .before .before .before .before .args .schema .now))
+good : (c : tie.After-type-row) → GoodSchema (tableOf (c .before .before .before .before .args .schema .now))
 good c = good-table _ (c .before .before .before .before .pre)
 
 -- What the test of kind and count leaves.

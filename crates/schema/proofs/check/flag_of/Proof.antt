@@ -1,5 +1,6 @@
 -- `schema::check::flag_of` meets its contract.
-use mathlib.Core.Path.{refl}
+use mathlib.Core.Path.{ap, _∙_}
+use Prim.Native.Nat.{ℕ, _+_, _/_, _%_, _^_}
 use borrow.Author.Needs.{needs}
 use Rattle.schema.specs.Flags.{flagOf}
 use Rattle.schema.proofs.check.flag_of.Statement.{statement}
@@ -7,7 +8,10 @@ use Rattle.schema.proofs.check.flag_of.Tie as tie
 
 returns : tie.Need-returns
 unfolding flagOf
-returns c = refl
+returns c =
+    let second = c .before in
+    let sum = c .wrapping-add-u64 .ensures ∙ (λ i. (second .before .wrapping-mul .ensures i + second .wrapping-mul2 .ensures i) % 2 ^ 64) in
+    ap (λ (n : ℕ). n / 2 ^ 52) sum
 
 pub flag-of-spec : {M : Type 1} → statement M
 flag-of-spec =
@@ -15,7 +19,7 @@ flag-of-spec =
     (tie.spec
     (λ c. search needs)
     (λ c. search needs)
-    (λ c. search needs)
-    (λ c. search needs)
-    (λ c. search needs)
+    (λ c κs. search needs)
+    (λ c κs. search needs)
+    (λ c κs. search needs)
     returns)

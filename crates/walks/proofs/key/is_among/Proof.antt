@@ -42,9 +42,12 @@ is-among-spec =
     (λ c. omega arith)
     -- is-key-requires
     (λ c κs.
+    let args = c .before .before .before .before .before .before .before .args in
     let asked = c .before .before .before .before .before .before .before .pre in
     let loop = c .before .loop in
-    (omega arith, asked .0 .2 (loop .j - 1) (omega arith) .0, asked .0 .1))
+    let judged = not-false _ (c .before .before .before .before .if1 .left) in
+    let all = subst (λ (b : Bool). Kept (args .s .now) (args .keys .now) b (args .held)) judged (asked .0 .2) in
+    (omega arith, asked .0 .1, all (loop .j - 1) (omega arith), asked .1 .0 judged))
     -- returns-3
     (λ c.
     let args = c .before .before .before .before .before .before .before .before .before .args in

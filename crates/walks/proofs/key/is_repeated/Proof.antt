@@ -1,11 +1,9 @@
--- `walks::key::is_repeated` meets its contract: a digest above the largest is new, and any other is looked for.
+-- `walks::key::is_repeated` meets its contract: a key whose flag is not set is new, and any other is looked for.
 use borrow.Author.Needs.{needs}
-use mathlib.Core.Path.{ap, subst, _∙_}
-use Prim.Native.Nat.{ℕ, _≤_, _<_}
+use mathlib.Core.Path.{ap, _∙_}
 use native.Mathlib.Omega.{arith}
 use Rattle.buffer.specs.Span.{span}
 use Rattle.value.specs.Read.{among}
-use Rattle.walks.specs.Keys.{largest}
 use Rattle.walks.proofs.Keys as keys-of
 use Rattle.walks.proofs.key.is_repeated.Statement.{statement}
 use Rattle.walks.proofs.key.is_repeated.Tie as tie
@@ -30,49 +28,59 @@ is-repeated-spec =
     (λ c. search needs)
     -- slice-write-keys-2
     (λ c.
-    let a = c .before .before .before .args in
-    let asked = c .before .before .before .pre in
+    let first = c .before .before .before in
+    let a = first .args in
+    let asked = first .pre in
     keys-of.room-there (a .s .now) (a .keys .now) (a .i) (a .place) (a .n) 0 (asked .0 .0) (asked .0 .2))
-    -- sub-if1
+    -- sub-cell
     (λ c. search needs)
-    -- mul-if1
+    -- add-cell
     (λ c. search needs)
-    -- slice-read-if1
+    -- mul-flags
+    (λ c. search needs)
+    -- slice-read-flags
     (λ c.
-    let a = c .before .before .before .before .args in
-    let asked = c .before .before .before .before .pre in
-    keys-of.largest-cell (a .s .now) (a .keys .now) (a .i) (a .place) (a .n) _ (asked .0 .0) (asked .0 .2))
-    -- sub-keys
+    let first = c .before .before .before .before in
+    let a = first .args in
+    let asked = first .pre in
+    keys-of.flag-cell (a .s .now) (a .keys .now) (a .i) (a .place) (a .n) _ (asked .0 .0) (asked .0 .2))
+    -- shr-if1
+    (λ c. search needs)
+    -- shl-keys
     (λ c. search needs)
     -- mul-keys-4
     (λ c. search needs)
     -- slice-write-keys-3
     (λ c.
-    let a = c .before .before .before .before .before .args in
-    let asked = c .before .before .before .before .before .pre in
-    keys-of.largest-cell (a .s .now) (a .keys .now) (a .i) (a .place) (a .n) _ (asked .0 .0) (asked .0 .2))
+    let first = c .before .before .before .before .before in
+    let a = first .args in
+    let asked = first .pre in
+    keys-of.flag-cell (a .s .now) (a .keys .now) (a .i) (a .place) (a .n) _ (asked .0 .0) (asked .0 .2))
     -- same-length
     (λ c. search needs)
     -- returns
     (λ c.
-    let a = c .before .before .before .before .before .args in
-    let asked = c .before .before .before .before .before .pre in
+    let first = c .before .before .before .before .before in
+    let a = first .args in
+    let asked = first .pre in
     let B = a .s .now in
     let digest-of = c .before .before .digest-of in
     let d = digest-of .result in
     let room = asked .0 .0 in
     let short = asked .0 .2 in
-    let above : largest (a .keys .now) < d = subst (λ (k : ℕ). k < d) (keys-of.largest-at B (a .keys .now) (a .i) (a .place) (a .n) d room short) (c .if1 .taken) in (
-      keys-of.unheld-either B (a .keys .now) (span B (a .place) (a .n)) (a .judging) (a .i) d (asked .0 .4) (digest-of .ensures) (asked .1) above,
-      keys-of.raised-more B (a .keys .now) (a .i) (a .place) (a .n) d room short,
-      keys-of.kept-raised B (a .keys .now) (a .i) (a .place) (a .n) d room short (a .judging) (asked .0 .4) above (asked .0 .3) (digest-of .ensures),
+    let clear = keys-of.flag-clear B (a .keys .now) (a .i) (a .place) (a .n) d room short (c .if1 .taken) in (
+      keys-of.unheld-either B (a .keys .now) (span B (a .place) (a .n)) (a .judging) (a .i) d (asked .0 .4) (digest-of .ensures) (asked .1) clear,
+      keys-of.marked-more B (a .keys .now) (a .i) (a .place) (a .n) d room short,
+      keys-of.kept-marked B (a .keys .now) (a .i) (a .place) (a .n) d room short (a .judging) (asked .0 .4) (asked .0 .3) (digest-of .ensures),
     ))
     -- is-among-requires
     (λ c κs.
-    let a = c .before .before .before .before .before .before .args in
-    let asked = c .before .before .before .before .before .before .pre in
+    let first = c .before .before .before .before .before .before in
+    let a = first .args in
+    let asked = first .pre in
     let B = a .s .now in
-    let d = c .before .before .before .digest-of .result in
+    let digest-of = c .before .before .before .digest-of in
+    let d = digest-of .result in
     let room = asked .0 .0 in
     let short = asked .0 .2 in
     let stay = keys-of.keys-same B (a .keys .now) (a .i) (a .place) (a .n) d room short (a .i) (omega arith) in (
@@ -81,22 +89,23 @@ is-repeated-spec =
         asked .0 .3,
         keys-of.kept-same B (a .keys .now) (a .i) (a .place) (a .n) d room short (a .judging) (asked .0 .4),
       ),
-      (c .before .before .before .digest-of .ensures, λ j. ap (among (span B (a .place) (a .n))) stay ∙ asked .1 j),
+      (digest-of .ensures, λ j. ap (among (span B (a .place) (a .n))) stay ∙ asked .1 j),
     ))
     -- same-length-2
     (λ c. search needs)
     -- returns-2
     (λ c.
-    let a = c .before .before .before .before .before .before .before .args in
-    let asked = c .before .before .before .before .before .before .before .pre in
+    let first = c .before .before .before .before .before .before .before in
+    let a = first .args in
+    let asked = first .pre in
     let B = a .s .now in
     let digest-of = c .before .before .before .before .digest-of in
     let d = digest-of .result in
     let room = asked .0 .0 in
     let short = asked .0 .2 in
     let stay = keys-of.keys-same B (a .keys .now) (a .i) (a .place) (a .n) d room short (a .i) (omega arith) in
-    let low : d ≤ largest (a .keys .now) = subst (λ (k : ℕ). d ≤ k) (keys-of.largest-at B (a .keys .now) (a .i) (a .place) (a .n) d room short) (c .before .before .if1 .left) in (
+    let was = keys-of.flag-there B (a .keys .now) (a .i) (a .place) (a .n) d room short (c .before .before .if1 .left) in (
       c .is-among .ensures ∙ ap (among (span B (a .place) (a .n))) stay,
       keys-of.keys-more B (a .keys .now) (a .i) (a .place) (a .n) d room short,
-      keys-of.kept-more B (a .keys .now) (a .i) (a .place) (a .n) d room short (a .judging) (asked .0 .4) (asked .0 .3) (digest-of .ensures) (λ _. low),
+      keys-of.kept-more B (a .keys .now) (a .i) (a .place) (a .n) d room short (a .judging) (asked .0 .4) (asked .0 .3) (digest-of .ensures) was,
     )))

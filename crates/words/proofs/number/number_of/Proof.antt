@@ -6,13 +6,13 @@ use native.Mathlib.Omega.{arith}
 use denote.Ref.{now}
 use borrow.Author.Tests.{not-true, not-false}
 use lib.ListN.{length, getD, drop}
-use Rattle.words.specs.Number.{isDigit, numberFrom, numberOf}
+use Rattle.words.specs.Number.{isDigit, numberFrom, parsedOf}
 use Rattle.words.proofs.Numbers.{number-first, number-none, number-end, number-stray, number-long, number-turn, digit-least, digit-most}
 use Rattle.words.proofs.number.number_of.Statement.{statement}
 use Rattle.words.proofs.number.number_of.Tie as tie
 
 abbrev Inv-loop : tie.InvT-loop
-Inv-loop word n₀ i₀ n i = (i ≤ length word) × (numberFrom n (drop i word) ≡ numberOf word)
+Inv-loop word n₀ i₀ n i = (i ≤ length word) × (numberFrom n (drop i word) ≡ parsedOf word)
 
 abbrev μ-loop : tie.MeasureT-loop
 μ-loop word n₀ i₀ n i = length word - i

@@ -1,11 +1,11 @@
--- `test_entries::lines::fresh_rows` answers at most 256: a good table has no more methods.
+-- `test_entries::events::fresh_rows` answers at most 256: a good table has no more methods.
 use mathlib.Core.Path.{sym, _∙_}
 use native.Mathlib.Omega.{arith}
 use denote.Ref.{now}
 use borrow.Author.Needs.{needs}
 use Rattle.schema.proofs.Goods.{good-table}
-use Rattle.test_entries.proofs.lines.fresh_rows.Statement.{statement}
-use Rattle.test_entries.proofs.lines.fresh_rows.Tie as tie
+use Rattle.test_entries.proofs.events.fresh_rows.Statement.{statement}
+use Rattle.test_entries.proofs.events.fresh_rows.Tie as tie
 
 method-count-requires : tie.Need-method-count-requires
 method-count-requires c κs = sym (c .before .before .check-table .ensures) ∙ c .enum-told .given .1

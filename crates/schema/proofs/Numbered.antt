@@ -8,7 +8,7 @@ use Rattle.schema.specs.Table.{Table}
 use Rattle.schema.specs.File.{tableOf}
 use Rattle.schema.specs.Check.{checked}
 use Rattle.schema.specs.Faults as why
-use Rattle.schema.specs.Listed.{TableNumber, misshapen, too-many, type-row, field, method}
+use Rattle.schema.specs.Numbered.{TableNumber, misshapen, too-many, type-row, field, method}
 use Rattle.schema.proofs.Faults.{refused-iff}
 
 number-row : (s : List ℕ) (n q : ℕ) → why.TableFault s n q → TableNumber (tableOf s) n q

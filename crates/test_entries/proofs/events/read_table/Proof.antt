@@ -1,8 +1,8 @@
--- `test_entries::lines::read_table` is safe and ends: the measure is the number of records that are left.
+-- `test_entries::events::read_table` is safe and ends: the measure is the number of records that are left.
 use Prim.Native.Nat.{_-_}
 use native.Mathlib.Omega.{arith}
-use Rattle.test_entries.proofs.lines.read_table.Statement.{statement}
-use Rattle.test_entries.proofs.lines.read_table.Tie as tie
+use Rattle.test_entries.proofs.events.read_table.Statement.{statement}
+use Rattle.test_entries.proofs.events.read_table.Tie as tie
 
 abbrev Inv-loop : tie.InvT-loop
 Inv-loop whole₀ table₀ i₀ whole table i = Unit {0}

@@ -19,7 +19,7 @@ use Rattle.schema.specs.Check.{methodRow, named, findMethod, IsGood}
 use Rattle.schema.proofs.Bools.{cases}
 use Rattle.schema.proofs.Goods.{good-table}
 use Rattle.schema.proofs.Faults.{refused-iff as schema-refused}
-use Rattle.schema.proofs.Listed.{listed as schema-listed, listed-bounds}
+use Rattle.schema.proofs.Numbered.{listed as schema-listed, listed-bounds}
 use Rattle.schema.proofs.Shapes.{shape-struct}
 use Rattle.frame.specs.declared.Header.{Header}
 use Rattle.frame.specs.declared.FrameRead.the-variants.{Frame as Whole}
@@ -49,7 +49,7 @@ use Rattle.calls.proofs.Payloads.{Sound, struct, empty, unread, due-sound}
 use Rattle.value.specs.Value.{Tree}
 use Rattle.value.specs.Value as value-tree
 use Rattle.value.specs.Read as value
-use Rattle.value.specs.Listed.{ValueFault, within-list, many-pairs}
+use Rattle.value.specs.Numbered.{ValueFault, within-list, many-pairs}
 use Rattle.value.proofs.Numbers.{Numbered, refuses, goes-on, root-numbered}
 use Rattle.reader.specs.declared.Reading.{Reading}
 use Rattle.reader.specs.declared.Reading.the-variants.{Shown, Refused}
@@ -61,8 +61,8 @@ use Rattle.receiver.specs.Receive.{answered, frameSettled, frameEffect, 
 use Rattle.receiver.specs.Release.{ReleaseEffect, releaseAnswer, released}
 use Rattle.receiver.specs.Claims as claims
 use Rattle.receiver.specs.Claims.{AnswerNumber, accepted, frame, call, value as fault, pairs, payload, shape as formed, row}
-use Rattle.receiver.specs.Claims.{Stopping, ofFrame, ofCalls, ofRows, ofSchema, Keeps, limit, tally, fewRows, rowFor, Ready, Unready, schemaFault, callsBad, rowsWrong}
-use Rattle.receiver.specs.Claims.{ReleaseListed, released as released-call, notOpen, notCancelled, fullTally, unready}
+use Rattle.receiver.specs.Claims.{Stopping, ofFrame, ofCalls, ofRows, ofSchema, Keeps, limit, tally, fewRows, rowFor, TablesReady, Unready, schemaFault, callsBad, rowsWrong}
+use Rattle.receiver.specs.Claims.{ReleaseNumber, released as released-call, notOpen, notCancelled, fullTally, unready}
 use Rattle.receiver.proofs.Ways.{Early, schema, calls, rows, frame as framed, unready-early, early, Way, stops, judges, ways, stops-early, judged}
 use Rattle.receiver.proofs.Ways.{releasedRow, releasedNumber, ReleaseWay, unready as faulty, releases, release-ways, release-stops}
 
@@ -181,7 +181,7 @@ answered-listed kind own s p sheet size ts l r (JudgedRefused n) w told = stop-p
 answered-listed kind own s p sheet size ts l r (Opens j c d) w told = told
 answered-listed kind own s p sheet size ts l r (Goes i c d) w told = told
 
-frame-listed : (s : List ℕ) (f : Frame) (p : List ℕ) (size : ℕ) (sheet : List ℕ) (ts : List Tally) (l : List Call) → Ready s l (length ts) → length p ≤ 16384
+frame-listed : (s : List ℕ) (f : Frame) (p : List ℕ) (size : ℕ) (sheet : List ℕ) (ts : List Tally) (l : List Call) → TablesReady s l (length ts) → length p ≤ 16384
     → let a = frameEffect s f p size sheet ts l in Judging (f .kind) (ownOf (f .correlation) l) ts (a .answer .number) (a .answer .place)
 unfolding frameEffect frameSettled
 frame-listed s f p size sheet ts l w small =
@@ -222,7 +222,7 @@ by-number s f p size sheet ts l (inr z) = inr z
 
 -- A whole frame under good tables: its answer uses the frame, or has 17 at its own call's limit, 18 for a tally that is full, or 30.
 pub used-or-kept : (s : List ℕ) (side : ℕ) (bytes sheet : List ℕ) (ts : List Tally) (l : List Call) {h : Header} {place n : ℕ}
-    → Ready s l (length ts) → frameOf bytes ≡ Whole h place n
+    → TablesReady s l (length ts) → frameOf bytes ≡ Whole h place n
     → let a = received s side bytes sheet ts l in (a .answer .used ≡ place + n) ⊎ Keeps (h .kind) (ownOf (h .correlation) l) ts (a .answer .number)
 used-or-kept s side bytes sheet ts l {h} {place} {n} w e =
     let small : length (take n (drop place bytes)) ≤ 16384 = simp length-take (omega (arith, read-bounds bytes e .small)) in
@@ -276,7 +276,7 @@ stopped-iff s side bytes sheet ts l n q w = (λ (e, e′). go (ways s side bytes
 
 -- ---- a release
 
-answer-listed : (l : List Call) {n q : ℕ} → Early n q → (n ≡ 15) ⊎ ((n ≡ 19) ⊎ (40 ≤ n)) → ReleaseListed (releaseAnswer n q l .number) (releaseAnswer n q l .place)
+answer-listed : (l : List Call) {n q : ℕ} → Early n q → (n ≡ 15) ⊎ ((n ≡ 19) ⊎ (40 ≤ n)) → ReleaseNumber (releaseAnswer n q l .number) (releaseAnswer n q l .place)
 unfolding releaseAnswer stopped
 answer-listed l w side = unready side (stop-listed l w)
 
@@ -286,26 +286,26 @@ unready-number s l k (rowsWrong g w n) = inr (inl refl)
 unready-number s l k (schemaFault {n} {row} e) = inr (inr (listed-bounds (tableOf s) (schema-listed s n row (schema-refused s n row .1 e)) .0))
 
 -- the number of a release that may be made is 0 or 18
-judged-listed : (n : ℕ) → ReleaseListed n 0 → (own : OwnCall) → ReleaseListed (verdictNumber (releaseVerdict own) n) 0
+judged-listed : (n : ℕ) → ReleaseNumber n 0 → (own : OwnCall) → ReleaseNumber (verdictNumber (releaseVerdict own) n) 0
 judged-listed n w none = notOpen
-judged-listed n w (one c) = cond-case (λ (v : Verdict). ReleaseListed (verdictNumber v n) 0) (c .cancelled) (goes emptyCall Unread) (stop 14) (λ _. w) (λ _. notCancelled)
+judged-listed n w (one c) = cond-case (λ (v : Verdict). ReleaseNumber (verdictNumber v n) 0) (c .cancelled) (goes emptyCall Unread) (stop 14) (λ _. w) (λ _. notCancelled)
 
-released-told : (l′ : List Call) (n : ℕ) → ReleaseListed n 0 → ReleaseListed (releaseAnswer n 0 l′ .number) (releaseAnswer n 0 l′ .place)
+released-told : (l′ : List Call) (n : ℕ) → ReleaseNumber n 0 → ReleaseNumber (releaseAnswer n 0 l′ .number) (releaseAnswer n 0 l′ .place)
 unfolding releaseAnswer
 released-told l′ n w = w
 
 -- Every answer to a release has one of the request's numbers for it, with its place.
-pub release-listed : (s : List ℕ) (l : List Call) (id : ℕ) (ts : List Tally) → let a = released s l id ts .answer in ReleaseListed (a .number) (a .place)
+pub release-listed : (s : List ℕ) (l : List Call) (id : ℕ) (ts : List Tally) → let a = released s l id ts .answer in ReleaseNumber (a .number) (a .place)
 release-listed s l id ts = go (release-ways s l id ts)
   where
     n : ℕ
     n = releasedNumber s l id ts
 
-    listed-number : ReleaseListed n 0
+    listed-number : ReleaseNumber n 0
     listed-number =
-        cond-case (λ (k : ℕ). ReleaseListed k 0) (fullAt (releasedRow s l id ts) (figureBy (releaseRise l (judgeRelease id l)) 0)) 18 0 (λ _. fullTally) (λ _. released-call)
+        cond-case (λ (k : ℕ). ReleaseNumber k 0) (fullAt (releasedRow s l id ts) (figureBy (releaseRise l (judgeRelease id l)) 0)) 18 0 (λ _. fullTally) (λ _. released-call)
 
-    go : {x : ReleaseEffect} → ReleaseWay s l id ts x → ReleaseListed (x .answer .number) (x .answer .place)
+    go : {x : ReleaseEffect} → ReleaseWay s l id ts x → ReleaseNumber (x .answer .number) (x .answer .place)
     go (faulty w) = answer-listed l (unready-early s l (length ts) w) (unready-number s l (length ts) w)
     go (releases w) = released-told (release id n l .table .slots) (release id n l .number) (rw (release-answered id n l) (judged-listed n listed-number (ownOf id l)))
 

@@ -1,10 +1,10 @@
--- `test_entries::lines::run_events` is safe and ends: the rows keep their number, and the measure is the number of events that are left.
+-- `test_entries::events::run_events` is safe and ends: the rows keep their number, and the measure is the number of events that are left.
 use mathlib.Core.Path.{_≡_, refl}
 use native.Mathlib.Omega.{arith}
 use borrow.Author.Needs.{needs}
 use lib.ListN.{length}
-use Rattle.test_entries.proofs.lines.run_events.Statement.{statement}
-use Rattle.test_entries.proofs.lines.run_events.Tie as tie
+use Rattle.test_entries.proofs.events.run_events.Statement.{statement}
+use Rattle.test_entries.proofs.events.run_events.Tie as tie
 
 abbrev Inv-loop : tie.InvT-loop
 Inv-loop schema cells events marked tallies₀ whole₀ table₀ left₀ tallies whole table left = length tallies ≡ length tallies₀
