@@ -12,13 +12,11 @@ use borrow.Author.Tests.{eqb-true}
 use Rattle.calls.specs.Slots.{holds, flagOfNumber, distinct}
 use Rattle.schema.proofs.Bools.{clash}
 use Rattle.schema.proofs.Flags.{set-kept}
-
-below : (x : ℕ) → x % 2 ^ 64 / 2 ^ 54 < 1024
-below x = omega arith
+use Rattle.schema.proofs.Products.{top-below}
 
 pub flag-below : (x : ℕ) → flagOfNumber x < 1024
 unfolding flagOfNumber
-flag-below x = below (x * 0x9E37_79B9_7F4A_7C15)
+flag-below x = top-below 10 54 (x * 0x9E37_79B9_7F4A_7C15)
 
 abbrev bits : List Bool → ℕ → Bool
 bits seen x = getD seen (flagOfNumber x) false

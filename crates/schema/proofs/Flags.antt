@@ -19,13 +19,11 @@ use Rattle.schema.proofs.Bools.{cases, clash, is-false}
 use Rattle.schema.proofs.Lowest.{below-none}
 use Rattle.schema.proofs.Checks.{method-judged}
 use Rattle.schema.proofs.Goods.{names-of}
-
-top-below : (x : ℕ) → x % 2 ^ 64 / 2 ^ 52 < 4096
-top-below x = omega arith
+use Rattle.schema.proofs.Products.{top-below}
 
 pub flag-below : (k p s m : ℕ) → k ≡ flagOf p s m → k < 4096
 unfolding flagOf
-flag-below k p s m e = subst⁻¹ (λ (n : ℕ). n < 4096) e (top-below _)
+flag-below k p s m e = subst⁻¹ (λ (n : ℕ). n < 4096) e (top-below 12 52 _)
 
 -- a flag that is set stays set
 pub set-kept : (seen : List Bool) (i j : ℕ) → getD seen j false ≡ true → getD (set seen i true) j false ≡ true

@@ -96,7 +96,7 @@ own-blames (text kind) h c =
 own-blames (array e) h c = blames-then (count-reads 1 c) (count-blames (array e) c (omega arith)) (λ n c₁ u _ l k q. fine)
 own-blames (map a b) h c =
     blames-then (count-reads 2 c) (count-blames (map a b) c (omega arith)) (λ n c₁ u e l k q. blames-check _ _ _ _ _
-    (λ e′. blames [] u (c₁ .left) l (omega arith) (many-pairs n q (seen-end (count-enough 2 c) e) (leb-false n 64 e′)))
+    (λ e′. blames [] u (c₁ .left) l (omega arith) (many-pairs n q (seen-end (count-enough 2 c) e) (leb-false n _ e′)))
     (λ _. fine))
 own-blames (struct fs) h c =
     blames-then (bitmap-reads fs c) (bitmap-blames c fs (λ x rest n f. bits f)) (λ m c₁ u _ l k q. blames-check _ _ _ _ _

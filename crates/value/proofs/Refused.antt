@@ -67,7 +67,7 @@ module _ (c : Cursor) where
   own-refused s u x rest n (no-string w h) l =
       steps _ (count-complete 1 (length x) u (x ++ rest) c w l (simp length-append (omega arith)))
       (steps _ (block-complete (length x) x rest _ refl refl) (fails _ _ (is-false (utf8 x) (λ e. h (utf8-is x .0 e))) refl))
-  own-refused s u x rest n (many-pairs m w room h) l = steps _ (count-complete 2 m x rest c w l room) (fails _ _ (lt-leb m 64 h) (omega arith))
+  own-refused s u x rest n (many-pairs m w room h) l = steps _ (count-complete 2 m x rest c w l room) (fails _ _ (lt-leb m _ h) (omega arith))
   own-refused s u x rest n (bits {fs} f) l = stops _ (bitmap-refused fs x rest n l f) ∙ ap (refused n) (omega arith)
   own-refused s u x rest n (unknown-bit {fs} m w b) l =
       steps _ (bitmap-complete fs m x rest c w l) (fails _ _ (le-ltb m _ (bit-beyond (length fs) m .1 b)) (omega arith))

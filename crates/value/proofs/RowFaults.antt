@@ -104,7 +104,7 @@ module _ (B : List ℕ) where
         blames-check _ _ _ _ _ (λ e′. blamed (f _ (rw z (text-outside (leb-false _ _ e′))))) (λ e′.
         blames-check _ _ _ _ _ (λ e″. let d = denied 12 kind _ e″ in blamed (f _ (rw z (string-fault kind p n (d .0) (leb-true _ _ e′) (d .1))))) (λ _. fine)))
     says-blames (array e) h p n k c₁ f = fine
-    says-blames (map a b) h p n k c₁ f = blames-check _ _ _ _ _ (λ e. blamed (f _ (many-pairs (leb-false k 64 e)))) (λ _. fine)
+    says-blames (map a b) h p n k c₁ f = blames-check _ _ _ _ _ (λ e. blamed (f _ (many-pairs (leb-false k _ e)))) (λ _. fine)
     says-blames (struct fs) h p n k c₁ f =
         blames-then (bits-reads B (c .at) fs p c₁) (bits-blames fs p c₁ (λ m g. f m (bits g))) (λ m c₂ u _ _ _ q.
         blames-check _ _ _ _ _ (λ e. blamed (f _ (struct-fault fs p n k m (q .1) e))) (λ _. fine))

@@ -69,7 +69,7 @@ module _ (B : List ℕ) (k : ℕ) (c : CursorOf Row) where
   says-refused s p n i number (text-outside h) = steps _ (passes _ _ _ _ refl) (fails _ _ (lt-leb _ _ h) refl)
   says-refused s p n i number (no-string x (inside, x-is) h) =
       steps _ (passes _ _ _ _ refl) (steps _ (passes _ _ _ _ (le-leb _ _ inside)) (fails _ _ (rw (← x-is) (is-false (utf8 x) (λ e. h (utf8-is x .0 e)))) refl))
-  says-refused s p n i number (many-pairs h) = fails _ _ (lt-leb i 64 h) refl
+  says-refused s p n i number (many-pairs h) = fails _ _ (lt-leb i _ h) refl
   says-refused s p n i number (bits {fs} f) = stops _ (bits-refused fs p number f)
   says-refused s p n i number (struct-unfit {fs} m q h) =
       steps _ (bits-complete B k fs m p c q) (fails _ _ (unfit-is _ _ (⊎-elim (λ a. inl (le-ltb m _ (bit-beyond (length fs) m .1 a))) (λ b. inr (ne-eqb i _ b)) h)) refl)
