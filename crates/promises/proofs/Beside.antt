@@ -36,7 +36,7 @@ use Rattle.value.proofs.Reading.{sized}
 use Rattle.value.proofs.Sheets.{length-rows}
 use Rattle.value.proofs.BesideStatements as value
 use Rattle.reader.specs.declared.Reading.the-variants.{Shown, Refused}
-use Rattle.reader.specs.Sheet.{shownIn}
+use Rattle.flat.specs.Sheet.{shownIn}
 use Rattle.reader.specs.Entry.{Outcome, outcome, outcomeOf, room, readOutcome}
 use Rattle.reader.specs.Beside.{besidePayload, besideOutcome}
 use Rattle.writer.specs.declared.Writing.the-variants.{Written}

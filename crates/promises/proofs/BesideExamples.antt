@@ -26,7 +26,7 @@ use Rattle.value.specs.Beside.{pruned, readBeside}
 use Rattle.value.specs.Sheet.{cellsOf}
 use Rattle.value.proofs.Examples.{innerAdded, answers}
 use Rattle.reader.specs.declared.Reading.the-variants.{Shown, Refused}
-use Rattle.reader.specs.Sheet.{shownIn}
+use Rattle.flat.specs.Sheet.{shownIn}
 use Rattle.reader.specs.Entry.{outcome, outcomeOf, room, readOutcome}
 use Rattle.reader.specs.Beside.{besideOutcome}
 use Rattle.promises.specs.Cases.{Case, caseOf, Hold, HoldBeside, P5, lent, receipts, carrier, besideCarrier, ofTheirs, patched, otherForm, structOf, grownAlone, grownBeside}

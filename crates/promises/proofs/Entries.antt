@@ -23,7 +23,7 @@ use Rattle.value.specs.Claims.{ReadAs}
 use Rattle.value.proofs.Sheets.{length-cells, rows-cells}
 use Rattle.value.proofs.Reading.{sized, accepts, root-in}
 use Rattle.reader.specs.declared.Reading.the-variants.{Shown, Refused}
-use Rattle.reader.specs.Sheet.{shownIn}
+use Rattle.flat.specs.Sheet.{shownIn}
 use Rattle.reader.specs.Entry.{outcome, outcomeOf, room, payloadOutcome, byTable, readOutcome}
 use Rattle.promises.specs.Claims.{shapes, firstRows, ReadsAs}
 

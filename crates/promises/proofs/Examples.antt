@@ -29,7 +29,7 @@ use Rattle.value.specs.Write as write
 use Rattle.value.proofs.Reading.{accepts, accepted-of}
 use Rattle.value.proofs.Examples.{innerAdded, rootAdded}
 use Rattle.reader.specs.declared.Reading.the-variants.{Shown, Refused}
-use Rattle.reader.specs.Sheet.{shownIn}
+use Rattle.flat.specs.Sheet.{shownIn}
 use Rattle.reader.specs.Entry.{outcome, outcomeOf, room, readOutcome}
 use Rattle.writer.specs.Entry as writer
 use Rattle.writer.proofs.Outcomes.{write-by}

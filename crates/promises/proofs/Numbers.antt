@@ -17,7 +17,7 @@ use Rattle.value.specs.Sheet.{rowsOf}
 use Rattle.value.specs.Claims.{Writes}
 use Rattle.frame.specs.declared.Header.{Header}
 use Rattle.reader.specs.declared.Reading.the-variants.{Shown, Refused}
-use Rattle.reader.specs.Sheet.{shownIn}
+use Rattle.flat.specs.Sheet.{shownIn}
 use Rattle.reader.specs.Entry as reading
 use Rattle.reader.specs.Beside.{besideOutcome}
 use Rattle.writer.specs.Entry.{fileOutcome}

@@ -26,7 +26,7 @@ use Rattle.value.proofs.Determined.{determined}
 use Rattle.value.proofs.Statements as value
 use Rattle.reader.specs.declared.Reading.{Reading}
 use Rattle.reader.specs.declared.Reading.the-variants.{Shown, Refused}
-use Rattle.reader.specs.Sheet.{shownIn}
+use Rattle.flat.specs.Sheet.{shownIn}
 use Rattle.reader.specs.Entry.{Outcome, outcome, readingIn, sheetIn, outcomeOf, room, readOutcome, Numbers, numbers}
 use Rattle.reader.proofs.Entries.{read-within}
 use Rattle.promises.specs.Claims.{shapes, firstRows, ReadsAs, AnswersAs}

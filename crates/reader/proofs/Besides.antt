@@ -32,7 +32,7 @@ use Rattle.walks.proofs.Presence.{length-fields}
 use Rattle.reader.specs.declared.Reading.the-variants.{Refused}
 use Rattle.reader.specs.Entry.{outcome, outcomeOf, room, payloadOutcome}
 use Rattle.reader.specs.Beside.{Knows, shownOutcome, besidePayload}
-use Rattle.reader.specs.Walk.{firstFields}
+use Rattle.flat.specs.Walk.{firstFields}
 
 -- ---- the numbers of fields
 

@@ -24,13 +24,13 @@ use Rattle.value.proofs.Statements.{comparisons-within}
 use Rattle.walks.specs.Shape.{shapeIn, fieldsFrom}
 use Rattle.walks.proofs.Tables.{shape-struct, no-struct}
 use Rattle.reader.specs.declared.Reading.the-variants.{Shown, Refused}
-use Rattle.reader.specs.declared.walk.Walk.{Walk}
-use Rattle.reader.specs.declared.walk.Walk.the-variants.{Past, Refused as Stop}
-use Rattle.reader.specs.Sheet.{putRows, shownIn}
-use Rattle.reader.specs.Walk.{Told, told, firstFields, done, stopped, walkOf, endOf, rootIn, Walked}
+use Rattle.flat.specs.declared.Walk.{Walk}
+use Rattle.flat.specs.declared.Walk.the-variants.{Past, Refused as Stop}
+use Rattle.flat.specs.Sheet.{putRows, shownIn}
+use Rattle.flat.specs.Walk.{Told, told, firstFields, done, stopped, walkOf, endOf, rootIn, Walked}
 use Rattle.reader.specs.Entry.{Outcome, outcome, readingIn, outcomeOf, room, payloadOutcome, byTable, readOutcome, numbers, numberIn}
 use Rattle.reader.specs.Beside.{shownOutcome, besidePayload, besideOutcome}
-use Rattle.reader.proofs.Sheets.{rows-shown, rows-copied}
+use Rattle.flat.proofs.Sheets.{rows-shown, rows-copied}
 
 -- ---- a payload, of which each struct is shown as far as its fields are known
 

@@ -12,11 +12,11 @@ use Rattle.schema.specs.declared.Field.{Field}
 use Rattle.schema.specs.Table.{Shape, struct}
 use Rattle.value.specs.Value.{Tree, branch, Forest}
 use Rattle.value.specs.Read.{rowCount, plan, bitmap, parts, walk, nodeRow, wholeValue, parse, rootEnding, rootStruct}
-use Rattle.reader.specs.declared.leaf.Head.{Head}
-use Rattle.reader.specs.declared.leaf.Head.the-variants.{Bits, Refused as HeadRefused}
-use Rattle.reader.specs.declared.walk.Walk.the-variants.{Past, Refused}
-use Rattle.reader.specs.Leaf.{headOf, HeadIn, Headed}
-use Rattle.reader.specs.Walk.{Told, done, stopped, walkOf, Walked}
+use Rattle.flat.specs.declared.leaf.Head.{Head}
+use Rattle.flat.specs.declared.leaf.Head.the-variants.{Bits, Refused as HeadRefused}
+use Rattle.flat.specs.declared.Walk.the-variants.{Past, Refused}
+use Rattle.flat.specs.Leaf.{headOf, HeadIn, Headed}
+use Rattle.flat.specs.Walk.{Told, done, stopped, walkOf, Walked}
 
 -- ---- what follows the known fields
 

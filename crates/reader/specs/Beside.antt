@@ -13,7 +13,7 @@ use Rattle.value.specs.Narrow.{fieldsIn}
 use Rattle.walks.specs.Shape.{shapeIn}
 use Rattle.reader.specs.declared.Reading.the-variants.{Refused}
 use Rattle.reader.specs.Entry.{Outcome, outcome, outcomeOf, afterTable, room}
-use Rattle.reader.specs.Walk.{firstFields}
+use Rattle.flat.specs.Walk.{firstFields}
 
 -- The numbers of fields that ours has of each struct; 0 for any other type.
 abbrev pub Knows : (known ours : List ℕ) → Type 0

@@ -9,7 +9,7 @@ use Rattle.schema.specs.Check.{checked}
 use Rattle.value.specs.Read as value
 use Rattle.reader.specs.declared.Reading.{Reading}
 use Rattle.reader.specs.declared.Reading.the-variants.{Shown, Refused}
-use Rattle.reader.specs.Sheet.{shownIn}
+use Rattle.flat.specs.Sheet.{shownIn}
 
 -- An answer with the sheet as it is left.
 pub data Outcome : Type 0 where

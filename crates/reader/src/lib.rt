@@ -1,19 +1,13 @@
 // The payload reader: values of a schema table's types, shown as rows of a sheet.
-pub mod added;
 pub mod beside;
-pub mod flat;
-pub mod keys;
-pub mod leaf;
-pub mod maps;
-pub mod sheet;
 pub mod walk;
 
-use crate::sheet::copy_cells;
-use crate::walk::Walk;
 use crate::walk::root;
 use constants::kind;
 use constants::limit;
 use constants::refusal;
+use flat::Walk;
+use flat::sheet::copy_cells;
 use schema::Checked;
 use schema::access::type_row;
 use schema::check::check;

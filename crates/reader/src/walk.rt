@@ -1,26 +1,27 @@
 // The walkers read the payload p by the schema table s and write rows from `row` on where the sheet has them, of a struct of type ty for the first shown[ty]
 // fields. They call each other in a cycle, in which the depth still allowed falls; a walk that does not judge skips tests that would read contents again.
-use crate::added::is_partly_shown;
-use crate::added::structs;
-use crate::flat::elements;
-use crate::flat::is_flat;
-use crate::keys::is_again;
-use crate::leaf::Count;
-use crate::leaf::Head;
-use crate::leaf::Span;
-use crate::leaf::content;
-use crate::leaf::is_empty_map;
-use crate::leaf::map_count;
-use crate::leaf::ones_in;
-use crate::leaf::presence;
-use crate::leaf::read_count;
-use crate::leaf::shown_of;
-use crate::maps::holds_leaves;
-use crate::maps::maps;
-use crate::sheet::put_row;
 use constants::kind;
 use constants::limit;
 use constants::refusal;
+use flat::Walk;
+use flat::added::is_partly_shown;
+use flat::added::read_structs;
+use flat::elements::is_flat;
+use flat::elements::read_elements;
+use flat::keys::is_repeated;
+use flat::leaf::Count;
+use flat::leaf::Head;
+use flat::leaf::Span;
+use flat::leaf::content;
+use flat::leaf::is_empty_map;
+use flat::leaf::map_count;
+use flat::leaf::ones_in;
+use flat::leaf::presence;
+use flat::leaf::read_count;
+use flat::leaf::shown_of;
+use flat::maps::holds_leaves;
+use flat::maps::read_maps;
+use flat::sheet::put_row;
 use schema::TypeRow;
 use schema::access::field;
 use schema::access::known_row;
@@ -35,20 +36,13 @@ ghost use Rattle.schema.specs.Table.{rowAt, array, map, struct};
 ghost use Rattle.schema.specs.File.{tableOf};
 ghost use Rattle.value.specs.Read.{present};
 ghost use Rattle.walks.specs.Shape.{fieldsFrom, shapeIn};
-ghost use Rattle.reader.specs.Walk.{valueIn, wholeIn, rootIn, Valued, Held, Shown, Rooted, Ready};
+ghost use Rattle.flat.specs.Walk.{valueIn, wholeIn, rootIn, Valued, Held, Shown, Rooted, Ready};
 
 // Pairs of a map whose keys are kept in the shortest array.
 const SHORT_MAP: usize = 2;
 
 // Pairs of one whose keys are kept in the next.
 const MIDDLE_MAP: usize = 8;
-
-// The place and the row after what was read, and the key comparisons due in it; or a refusal.
-// The narrow number comes first: two wide ones side by side would be moved as one, and wait for both.
-pub enum Walk {
-    Past { due: u32, next: usize, row: usize },
-    Refused { number: u32, place: usize },
-}
 
 // An array, a map or a struct of type ty, whose row is t; what it holds has so many levels of depth.
 fn read_composite(
@@ -117,10 +111,10 @@ fn read_array(
             let t = type_row(s, elem as usize);
             let kind = t.kind;
             if kind < kind::ARRAY {
-                return elements(s, p, sheet, ty, elem, n, start, depth, row, judging);
+                return read_elements(s, p, sheet, ty, elem, n, start, depth, row, judging);
             }
             if holds_leaves(s, t) {
-                return maps(
+                return read_maps(
                     s,
                     p,
                     sheet,
@@ -136,11 +130,11 @@ fn read_array(
                 );
             }
             if is_flat(shown, s, elem, depth) {
-                return elements(s, p, sheet, ty, elem, n, start, depth, row, judging);
+                return read_elements(s, p, sheet, ty, elem, n, start, depth, row, judging);
             }
             if is_partly_shown(shown, s, elem, depth) {
                 let m = shown_of(shown, elem);
-                return structs(s, p, sheet, ty, elem, m, n, start, depth, row, judging);
+                return read_structs(s, p, sheet, ty, elem, m, n, start, depth, row, judging);
             }
             let mut left = n;
             let mut here = start;
@@ -340,7 +334,7 @@ fn read_pairs(
                 return Walk::Refused { number, place };
             }
             Span::At { from, to } => {
-                if is_again(p, keys, i, from, to - from, judging) {
+                if is_repeated(p, keys, i, from, to - from, judging) {
                     return Walk::Refused {
                         number: refusal::REPEATED_KEY,
                         place: here,

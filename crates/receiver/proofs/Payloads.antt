@@ -20,7 +20,7 @@ use Rattle.value.specs.Read as value
 use Rattle.reader.specs.declared.Reading.{Reading}
 use Rattle.reader.specs.declared.Reading.the-variants.{Shown, Refused}
 use Rattle.value.specs.Sheet.{cellsOf}
-use Rattle.reader.specs.Sheet.{shownIn}
+use Rattle.flat.specs.Sheet.{shownIn}
 use Rattle.reader.specs.Entry.{Outcome, outcome, readingIn, sheetIn, outcomeOf, room, payloadOutcome, numbers}
 use Rattle.receiver.specs.Answer.{emptyRead, payloadRead, numberIn, tallied}
 

@@ -28,7 +28,7 @@ use Rattle.calls.specs.declared.OwnCall.the-variants.{One as one}
 use Rattle.calls.specs.Good.{GoodCalls}
 use Rattle.calls.specs.Order.{times, noElements, Past, since}
 use Rattle.value.specs.declared.Row.{Row}
-use Rattle.reader.specs.Sheet.{shownIn}
+use Rattle.flat.specs.Sheet.{shownIn}
 use Rattle.reader.specs.Entry.{Numbers}
 use Rattle.receiver.specs.declared.Received.{Received}
 use Rattle.receiver.specs.declared.Released.{Released}

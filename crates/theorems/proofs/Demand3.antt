@@ -18,7 +18,7 @@ use Rattle.value.specs.Read.{unknownBits, rootBits}
 use Rattle.value.specs.Added.{without, NoneAdded}
 use Rattle.reader.specs.Entry.{readOutcome, outcome as reader-outcome, room}
 use Rattle.reader.specs.declared.Reading.the-variants.{Shown, Refused as reader-Refused}
-use Rattle.reader.specs.Sheet.{shownIn}
+use Rattle.flat.specs.Sheet.{shownIn}
 use Rattle.writer.specs.Entry.{fileOutcome, outcome as writer-outcome}
 use Rattle.writer.specs.declared.Writing.the-variants.{Written as writer-Written}
 use Rattle.promises.specs.Claims.{shapes, NewByOld, firstRows, ReadsAs}

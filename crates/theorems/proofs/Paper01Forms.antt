@@ -29,7 +29,7 @@ use Rattle.value.specs.Sheet.{rowsOf}
 use Rattle.reader.specs.Entry.{room, numbers as reader-numbers, readingIn, readOutcome, outcome as reader-outcome, sheetIn}
 use Rattle.reader.specs.declared.Reading.the-variants.{Refused as reader-Refused, Shown}
 use Rattle.reader.specs.Beside.{besideOutcome}
-use Rattle.reader.specs.Sheet.{shownIn}
+use Rattle.flat.specs.Sheet.{shownIn}
 use Rattle.reader.specs.declared.Reading.{Reading}
 use Rattle.writer.specs.Numbers.{numbers as writer-numbers}
 use Rattle.writer.specs.Entry.{fileOutcome, Outcome as writer-Outcome, outcome as writer-outcome}

@@ -24,7 +24,7 @@ use Rattle.cursor.specs.declared.item.Number.the-variants.{Refused as number-Re
 use Rattle.cursor.specs.declared.item.Span.the-variants.{Refused as span-Refused, At as span-At}
 use Rattle.reader.specs.Entry.{readOutcome, outcome as reader-outcome, room}
 use Rattle.reader.specs.declared.Reading.the-variants.{Shown, Refused as reader-Refused}
-use Rattle.reader.specs.Sheet.{shownIn}
+use Rattle.flat.specs.Sheet.{shownIn}
 use Rattle.scalar.specs.Leaves.{EachLeaf, ShowsLeaf}
 use Rattle.scalar.specs.Scalar.{scalarOf, Content, identity, valueOf, scalarNumber, scalarBy, placeOf as scalar-placeOf}
 use Rattle.scalar.specs.Reasons.{Reason as scalar-Reason}

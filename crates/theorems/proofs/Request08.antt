@@ -29,7 +29,7 @@ use Rattle.value.specs.Read.{unknownBits, rootBits}
 use Rattle.reader.specs.Entry.{room, readOutcome, outcome as reader-outcome}
 use Rattle.reader.specs.Beside.{besideOutcome}
 use Rattle.reader.specs.declared.Reading.the-variants.{Refused as reader-Refused, Shown}
-use Rattle.reader.specs.Sheet.{shownIn}
+use Rattle.flat.specs.Sheet.{shownIn}
 use Rattle.writer.specs.Entry.{fileOutcome, outcome as writer-outcome}
 use Rattle.writer.specs.declared.Writing.the-variants.{Written as writer-Written}
 use Rattle.promises.specs.Claims.{shapes, firstRows, ReadsAs}

@@ -5,7 +5,7 @@ use native.Mathlib.Omega.{arith}
 use Rattle.schema.specs.File.{tableOf}
 use Rattle.walks.proofs.Tables.{struct-row, shape-struct}
 use Rattle.reader.specs.Entry.{numberIn}
-use Rattle.reader.proofs.Steps.{was}
+use Rattle.flat.proofs.Steps.{was}
 use Rattle.reader.proofs.Entries.{entry-type, entry-long, entry-refused, entry-short, entry-fits}
 use borrow.Author.Needs.{needs}
 use Rattle.reader.proofs.judge_shown.Statement.{statement}

@@ -7,7 +7,7 @@ use native.Mathlib.Omega.{arith}
 use lib.ListN.{length}
 use Rattle.schema.specs.File.{tableOf}
 use Rattle.walks.proofs.Tables.{struct-row, shape-struct}
-use Rattle.reader.proofs.Steps.{was}
+use Rattle.flat.proofs.Steps.{was}
 use Rattle.reader.proofs.Entries.{entry-type, entry-long, entry-refused, entry-judged, entry-full, entry-copied, entry-shown}
 use borrow.Author.Needs.{needs}
 use Rattle.reader.proofs.read_shown.Statement.{statement}

@@ -11,17 +11,17 @@ use lib.ListN.{length, replicate}
 use Rattle.schema.specs.Table.{unknown, array, map, struct, shape, rowAt}
 use Rattle.schema.specs.File.{tableOf}
 use Rattle.value.specs.Read.{plainItem, pairs, among, walk, parse}
-use Rattle.reader.specs.Leaf.{part}
-use Rattle.reader.specs.Walk.{firstFields, told}
-use Rattle.reader.proofs.Steps.{aheadIn, renamed, was, as-refused, stop-at, composite-past, composite-stop, rest-accepted, as-told}
-use Rattle.reader.proofs.Steps.{parse-refused, own-accepted, parse-deep, leaf-failed, leaf-in, leaf-parsed, leaf-past}
-use Rattle.reader.proofs.Composites.{count-in, array-refused, array-whole, array-valued, map-refused, map-many, map-whole, map-valued}
-use Rattle.reader.proofs.Composites.{bitmap-accepted, struct-refused, head-in, struct-unknown, struct-whole, struct-valued, first-of, first-whole, first-part}
-use Rattle.reader.proofs.Composites.{element-past, element-stop, element-accepted, leftOver, Turned, field-stop, field-deep, field-accepted, field-read, field-absent}
-use Rattle.reader.proofs.Composites.{pair-key-accepted, pair-key-stop, pair-new, pair-old, pair-again, pair-value-accepted, pair-value-stop, Paired, pair-turn}
-use Rattle.reader.proofs.Composites.{own-due, map-none, few-pairs, pairs-first}
-use Rattle.reader.proofs.Partials.{mine-count, fields-accepted, fields-stop, others-accepted, others-stop, others-past}
-use Rattle.reader.proofs.Turns.{flat-leaf, leaf-shown}
+use Rattle.flat.specs.Leaf.{part}
+use Rattle.flat.specs.Walk.{firstFields, told}
+use Rattle.flat.proofs.Steps.{aheadIn, renamed, was, as-refused, stop-at, composite-past, composite-stop, rest-accepted, as-told}
+use Rattle.flat.proofs.Steps.{parse-refused, own-accepted, parse-deep, leaf-failed, leaf-in, leaf-parsed, leaf-past}
+use Rattle.flat.proofs.Composites.{count-in, array-refused, array-whole, array-valued, map-refused, map-many, map-whole, map-valued}
+use Rattle.flat.proofs.Composites.{bitmap-accepted, struct-refused, head-in, struct-unknown, struct-whole, struct-valued, first-of, first-whole, first-part}
+use Rattle.flat.proofs.Composites.{element-past, element-stop, element-accepted, leftOver, Turned, field-stop, field-deep, field-accepted, field-read, field-absent}
+use Rattle.flat.proofs.Composites.{pair-key-accepted, pair-key-stop, pair-new, pair-old, pair-again, pair-value-accepted, pair-value-stop, Paired, pair-turn}
+use Rattle.flat.proofs.Composites.{own-due, map-none, few-pairs, pairs-first}
+use Rattle.flat.proofs.Partials.{mine-count, fields-accepted, fields-stop, others-accepted, others-stop, others-past}
+use Rattle.flat.proofs.Turns.{flat-leaf, leaf-shown}
 use Rattle.walks.specs.Shape.{leafShape, fieldsFrom}
 use Rattle.walks.specs.Keys.{keysIn, Kept}
 use Rattle.walks.proofs.Keys.{keys-none}
@@ -56,21 +56,21 @@ use Rattle.reader.proofs.walk.+read_array+read_composite+read_fields+re
 use Rattle.reader.proofs.walk.read_struct.Reads as read-struct
 use Rattle.reader.proofs.walk.read_struct.Kinds as read-struct-kinds
 use Rattle.reader.proofs.walk.+read_array+read_composite+read_fields+read_many_pairs+read_map+read_pairs+read_shown_fields+read_struct.Lts-read_struct as read-struct-lts
-use Rattle.reader.proofs.keys.is_again.Reads as is-again-reads
-use Rattle.reader.proofs.leaf.content.Reads as content-reads
-use Rattle.reader.proofs.leaf.is_empty_map.Reads as is-empty-map-reads
-use Rattle.reader.proofs.leaf.ones_in.Reads as ones-in-reads
-use Rattle.reader.proofs.leaf.presence.Reads as presence-reads
-use Rattle.reader.proofs.leaf.map_count.Reads as map-count-reads
-use Rattle.reader.proofs.leaf.read_count.Reads as read-count-reads
-use Rattle.reader.proofs.leaf.shown_of.Reads as shown-of-reads
-use Rattle.reader.proofs.sheet.put_row.Reads as put-row-reads
-use Rattle.reader.proofs.added.is_partly_shown.Reads as is-partly-shown-reads
-use Rattle.reader.proofs.added.structs.Reads as structs-reads
-use Rattle.reader.proofs.flat.elements.Reads as elements-reads
-use Rattle.reader.proofs.flat.is_flat.Reads as is-flat-reads
-use Rattle.reader.proofs.maps.holds_leaves.Reads as holds-leaves-reads
-use Rattle.reader.proofs.maps.maps.Reads as maps-reads
+use Rattle.flat.proofs.keys.is_repeated.Reads as is-repeated-reads
+use Rattle.flat.proofs.leaf.content.Reads as content-reads
+use Rattle.flat.proofs.leaf.is_empty_map.Reads as is-empty-map-reads
+use Rattle.flat.proofs.leaf.ones_in.Reads as ones-in-reads
+use Rattle.flat.proofs.leaf.presence.Reads as presence-reads
+use Rattle.flat.proofs.leaf.map_count.Reads as map-count-reads
+use Rattle.flat.proofs.leaf.read_count.Reads as read-count-reads
+use Rattle.flat.proofs.leaf.shown_of.Reads as shown-of-reads
+use Rattle.flat.proofs.sheet.put_row.Reads as put-row-reads
+use Rattle.flat.proofs.added.is_partly_shown.Reads as is-partly-shown-reads
+use Rattle.flat.proofs.added.read_structs.Reads as read-structs-reads
+use Rattle.flat.proofs.elements.read_elements.Reads as read-elements-reads
+use Rattle.flat.proofs.elements.is_flat.Reads as is-flat-reads
+use Rattle.flat.proofs.maps.holds_leaves.Reads as holds-leaves-reads
+use Rattle.flat.proofs.maps.read_maps.Reads as read-maps-reads
 use Rattle.schema.proofs.access.field.Reads as field-reads
 use Rattle.schema.proofs.access.known_row.Reads as known-row-reads
 use Rattle.schema.proofs.access.type_row.Reads as type-row-reads
@@ -185,20 +185,20 @@ read-array-calls t = (
   read-count-reads.Learnt,
   type-row-reads.Asked,
   type-row-reads.Learnt,
-  elements-reads.Asked,
-  elements-reads.Learnt,
+  read-elements-reads.Asked,
+  read-elements-reads.Learnt,
   holds-leaves-reads.Asked,
   holds-leaves-reads.Learnt,
-  maps-reads.Asked,
-  maps-reads.Learnt,
+  read-maps-reads.Asked,
+  read-maps-reads.Learnt,
   is-flat-reads.Asked,
   is-flat-reads.Learnt,
   is-partly-shown-reads.Asked,
   is-partly-shown-reads.Learnt,
   shown-of-reads.Asked,
   shown-of-reads.Learnt,
-  structs-reads.Asked,
-  structs-reads.Learnt,
+  read-structs-reads.Asked,
+  read-structs-reads.Learnt,
   read-composite-below t,
   read-composite.Post,
   put-row-reads.Asked,
@@ -218,7 +218,7 @@ read-array-spec t =
     (λ c. search needs)
     -- type-row-requires
     (λ c κs. c .before .before .before .before .before .before .before .pre .1 .0 .good)
-    -- elements-requires
+    -- read-elements-requires
     (λ c κs.
     let back = c .before .before .before .before .before .before .before .before .before in
     let args = back .before .args in
@@ -239,7 +239,7 @@ read-array-spec t =
       omega arith,
     ))
     -- same-length
-    (λ c. c .before .before .elements .kept .1 .1 .0)
+    (λ c. c .before .before .read-elements .kept .1 .1 .0)
     -- returns
     (λ c.
     let back = c .before .before .before .before .before .before .before .before .before in
@@ -256,10 +256,10 @@ read-array-spec t =
     let n = counted .given .0 .0 in
     let start = counted .given .0 .1 .0 in
     array-valued S (args .depth) (args .ty) p (args .at) (args .elem) (asked .1 .1) _ read R (first-of (args .shown .now) S (args .ty) (asked .1 .1)) n start (counted .given .1) _
-    (c .before .before .elements .ensures R (leaf-shown (args .s .now) (args .depth) (args .elem) (t .result) (t .ensures) (rw (t .ensures) (asked .1 .2)) (c .before .before .before .before .if1 .taken) (args .shown .now))))
+    (c .before .before .read-elements .ensures R (leaf-shown (args .s .now) (args .depth) (args .elem) (t .result) (t .ensures) (rw (t .ensures) (asked .1 .2)) (c .before .before .before .before .if1 .taken) (args .shown .now))))
     -- holds-leaves-requires
     (λ c κs. c .before .before .before .before .before .before .before .before .before .pre .1 .0 .good)
-    -- maps-requires
+    -- read-maps-requires
     (λ c κs.
     let back = c .before .before .before .before .before .before .before .before .before in
     let args = back .before .before .before .args in
@@ -286,7 +286,7 @@ read-array-spec t =
       (row .0, row .1, map-value (args .s .now) good (args .elem) _ (t .ensures) (leaves .0), leaves .1),
     ))
     -- same-length-2
-    (λ c. c .before .before .maps .kept .1 .1 .0)
+    (λ c. c .before .before .read-maps .kept .1 .1 .0)
     -- returns-2
     (λ c.
     let back = c .before .before .before .before .before .before .before .before .before in
@@ -305,12 +305,12 @@ read-array-spec t =
     let R = firstFields (args .shown .now) S in
     let is = shape-map T (args .elem) _ (t .ensures) (leaves .0) in
     array-valued S (args .depth) (args .ty) p (args .at) (args .elem) (asked .1 .1) _ read R (first-of (args .shown .now) S (args .ty) (asked .1 .1)) n start (counted .given .1) _
-    (c .before .before .maps .ensures R (first-of (args .shown .now) S (args .elem) is ∙ sym is)))
+    (c .before .before .read-maps .ensures R (first-of (args .shown .now) S (args .elem) is ∙ sym is)))
     -- is-flat-requires
     (λ c κs.
     let back = c .before .before .before .before .before .before .before .before .before in
     back .before .before .pre .1 .0 .good)
-    -- elements-requires-2
+    -- read-elements-requires-2
     (λ c κs.
     let back = c .before .before .before .before .before .before .before .before .before in
     let args = back .before .before .before .before .before .args in
@@ -330,7 +330,7 @@ read-array-spec t =
       omega arith,
     ))
     -- same-length-3
-    (λ c. c .before .before .elements2 .kept .1 .1 .0)
+    (λ c. c .before .before .read-elements2 .kept .1 .1 .0)
     -- returns-3
     (λ c.
     let back = c .before .before .before .before .before .before .before .before .before in
@@ -346,7 +346,7 @@ read-array-spec t =
     let n = counted .given .0 .0 in
     let start = counted .given .0 .1 .0 in
     array-valued S (args .depth) (args .ty) p (args .at) (args .elem) (asked .1 .1) _ read R (first-of (args .shown .now) S (args .ty) (asked .1 .1)) n start (counted .given .1) _
-    (c .before .before .elements2 .ensures R (c .before .before .before .before .before .is-flat .ensures (c .before .before .before .before .if3 .taken) .1)))
+    (c .before .before .read-elements2 .ensures R (c .before .before .before .before .before .is-flat .ensures (c .before .before .before .before .if3 .taken) .1)))
     -- is-partly-shown-requires
     (λ c κs.
     let back = c .before .before .before .before .before .before .before .before .before in
@@ -358,7 +358,7 @@ read-array-spec t =
     let part = c .before .is-partly-shown .ensures (c .if4 .taken) in
     let T = tableOf (args .s .now) in
     struct-type (args .s .now) (back .before .before .before .before .before .before .pre .1 .0 .good) (args .elem) _ (shape-struct T (args .elem) (rowAt T (args .elem)) refl (part .1)) .1)
-    -- structs-requires
+    -- read-structs-requires
     (λ c κs.
     let back = c .before .before .before .before .before .before .before .before .before in
     let args = back .before .before .before .before .before .before .before .before .args in
@@ -381,7 +381,7 @@ read-array-spec t =
       (part .1, rw (c .before .shown-of .ensures) (part .2)),
     ))
     -- same-length-4
-    (λ c. c .before .before .structs .kept .1 .1 .0)
+    (λ c. c .before .before .read-structs .kept .1 .1 .0)
     -- returns-4
     (λ c.
     let back = c .before .before .before .before .before .before .before .before .before in
@@ -404,7 +404,7 @@ read-array-spec t =
     let m = c .before .before .before .before .shown-of in
     let le : m .result ≤ row .b = omega (arith, m .ensures, part .2) in
     array-valued S (args .depth) (args .ty) p (args .at) (args .elem) (asked .1 .1) _ read R (first-of (args .shown .now) S (args .ty) (asked .1 .1)) n start (counted .given .1) _
-    (c .before .before .structs .ensures R (first-part (args .shown .now) S T (args .elem) (row .a) (row .b) is room (m .result) (m .ensures) le)))
+    (c .before .before .read-structs .ensures R (first-part (args .shown .now) S T (args .elem) (row .a) (row .b) is room (m .result) (m .ensures) le)))
     -- add-below
     (λ c.
     let back = c .before .before .before .before .before .before .before .before .before in
@@ -1193,8 +1193,8 @@ read-pairs-calls t = (
   known-row-reads.Learnt,
   content-reads.Asked,
   content-reads.Learnt,
-  is-again-reads.Asked,
-  is-again-reads.Learnt,
+  is-repeated-reads.Asked,
+  is-repeated-reads.Learnt,
   put-row-reads.Asked,
   put-row-reads.Learnt,
   is-empty-map-reads.Asked,
@@ -1314,7 +1314,7 @@ read-pairs-spec t =
     (pair-key-stop R S P p (args .key) (args .val) (args .n) (loop .i) (inv .0) (loop .here) some (loop .sum) (loop .below) (loop .sheet) _ _ failed ∙ inv .1))
     -- enum-known-from
     (λ c. search needs)
-    -- sub-is-again
+    -- sub-is-repeated
     (λ c.
     let back = c .before .before .before .before .before .before .before .before .before in
     let args = back .before .before .before .before .before .before .args in
@@ -1332,7 +1332,7 @@ read-pairs-spec t =
     let from = span .given .0 .0 in
     let to = span .given .0 .1 .0 in
     let i = leaf-in S (args .depth) (args .key) kind is d0 p (loop .here) _ (c .before .before .before .before .content .ensures) from to (span .given .1) in omega (arith, i .0))
-    -- is-again-requires
+    -- is-repeated-requires
     (λ c κs.
     let back = c .before .before .before .before .before .before .before .before .before in
     let args = back .before .before .before .before .before .before .args in
@@ -1360,7 +1360,7 @@ read-pairs-spec t =
     -- same-length-5
     (λ c. c .before .before .before .before .before .before .before .before .before .before .before .before .loop .inv .5)
     -- same-length-6
-    (λ c. c .before .before .before .is-again .kept .1 .0 ∙ c .before .before .before .before .before .before .before .before .before .before .before .before .loop .inv .7)
+    (λ c. c .before .before .before .is-repeated .kept .1 .0 ∙ c .before .before .before .before .before .before .before .before .before .before .before .before .loop .inv .7)
     -- returns-3
     (λ c.
     let back = c .before .before .before .before .before .before .before .before .before in
@@ -1385,7 +1385,7 @@ read-pairs-spec t =
     let to = span .given .0 .1 .0 in
     let i = leaf-in S (args .depth) (args .key) kind is d0 p (loop .here) _ (c .before .before .before .before .before .before .before .before .content .ensures) from to (span .given .1) in
     let read = leaf-parsed S (args .depth) (args .key) kind is d0 p (loop .here) _ (c .before .before .before .before .before .before .before .before .content .ensures) from to (span .given .1) in
-    let again = c .before .before .before .is-again .ensures in
+    let again = c .before .before .before .is-repeated .ensures in
     let old =
     pair-old R S P p (args .key) (args .val) (args .n) (loop .i) (inv .0) (loop .here) some from to read (args .judging) _ (again .0)
     (λ j. again .1 .0 j ∙ ap (among (part p from to)) (sym (inv .8 j .0))) (c .if2 .taken) in
@@ -1532,7 +1532,7 @@ read-pairs-spec t =
     let to = span .given .0 .1 .0 in
     let i = leaf-in S (args .depth) (args .key) kind is d0 p (loop .here) _ (back .before .before .before .before .before .before .content .ensures) from to (span .given .1) in
     let read = leaf-parsed S (args .depth) (args .key) kind is d0 p (loop .here) _ (back .before .before .before .before .before .before .content .ensures) from to (span .given .1) in
-    let again = back .before .is-again .ensures in
+    let again = back .before .is-repeated .ensures in
     let new =
     pair-new R S P p (args .key) (args .val) (args .n) (loop .i) (inv .0) (loop .here) some from to read (args .judging) _ left
     (λ j. again .1 .0 j ∙ ap (among (part p from to)) (sym (inv .8 j .0))) (c .before .before .before .before .before .before .before .before .before .if2 .left) in
@@ -1564,7 +1564,7 @@ read-pairs-spec t =
     (λ c.
     let back = c .before .before .before .before .before .before .before .before .before .before .before in
     let farther = back .before .before .before .before .before .before .before .before .before in
-    back .before .before .before .before .before .before .before .is-again .kept .1 .0 ∙ farther .before .before .before .before .before .before .before .loop .inv .7)
+    back .before .before .before .before .before .before .before .is-repeated .kept .1 .0 ∙ farther .before .before .before .before .before .before .before .loop .inv .7)
     -- returns-4
     (λ c.
     let back = c .before .before .before .before .before .before .before .before .before .before .before in
@@ -1595,7 +1595,7 @@ read-pairs-spec t =
     let to = span .given .0 .1 .0 in
     let i = leaf-in S (args .depth) (args .key) kind is d0 p (loop .here) _ (farther .before .before .before .content .ensures) from to (span .given .1) in
     let read = leaf-parsed S (args .depth) (args .key) kind is d0 p (loop .here) _ (farther .before .before .before .content .ensures) from to (span .given .1) in
-    let again = back .before .before .before .before .before .before .before .is-again .ensures in
+    let again = back .before .before .before .before .before .before .before .is-repeated .ensures in
     let new =
     pair-new R S P p (args .key) (args .val) (args .n) (loop .i) (inv .0) (loop .here) some from to read (args .judging) _ left
     (λ j. again .1 .0 j ∙ ap (among (part p from to)) (sym (inv .8 j .0))) (back .before .before .before .before .if2 .left) in
@@ -1661,7 +1661,7 @@ read-pairs-spec t =
     let to = span .given .0 .1 .0 in
     let i = leaf-in S (args .depth) (args .key) kind is d0 p (loop .here) _ (back .before .before .before .before .before .before .content .ensures) from to (span .given .1) in
     let read = leaf-parsed S (args .depth) (args .key) kind is d0 p (loop .here) _ (back .before .before .before .before .before .before .content .ensures) from to (span .given .1) in
-    let again = back .before .is-again .ensures in
+    let again = back .before .is-repeated .ensures in
     let new =
     pair-new R S P p (args .key) (args .val) (args .n) (loop .i) (inv .0) (loop .here) some from to read (args .judging) _ left
     (λ j. again .1 .0 j ∙ ap (among (part p from to)) (sym (inv .8 j .0))) (c .before .before .before .before .before .before .before .if2 .left) in
@@ -1689,7 +1689,7 @@ read-pairs-spec t =
     (λ c.
     let back = c .before .before .before .before .before .before .before .before .before in
     let farther = back .before .before .before .before .before .before .before .before .before in
-    back .before .before .before .before .before .is-again .kept .1 .0 ∙ farther .before .before .before .before .before .loop .inv .7)
+    back .before .before .before .before .before .is-repeated .kept .1 .0 ∙ farther .before .before .before .before .before .loop .inv .7)
     -- returns-5
     (λ c.
     let back = c .before .before .before .before .before .before .before .before .before in
@@ -1720,7 +1720,7 @@ read-pairs-spec t =
     let to = span .given .0 .1 .0 in
     let i = leaf-in S (args .depth) (args .key) kind is d0 p (loop .here) _ (farther .before .content .ensures) from to (span .given .1) in
     let read = leaf-parsed S (args .depth) (args .key) kind is d0 p (loop .here) _ (farther .before .content .ensures) from to (span .given .1) in
-    let again = back .before .before .before .before .before .is-again .ensures in
+    let again = back .before .before .before .before .before .is-repeated .ensures in
     let new =
     pair-new R S P p (args .key) (args .val) (args .n) (loop .i) (inv .0) (loop .here) some from to read (args .judging) _ left
     (λ j. again .1 .0 j ∙ ap (among (part p from to)) (sym (inv .8 j .0))) (back .before .before .if2 .left) in
@@ -1836,7 +1836,7 @@ read-pairs-spec t =
     let to = span .given .0 .1 .0 in
     let i = leaf-in S (args .depth) (args .key) kind is d0 p (loop .here) _ (back .before .before .before .before .before .content .ensures) from to (span .given .1) in
     let read = leaf-parsed S (args .depth) (args .key) kind is d0 p (loop .here) _ (back .before .before .before .before .before .content .ensures) from to (span .given .1) in
-    let again = back .is-again .ensures in
+    let again = back .is-repeated .ensures in
     let new =
     pair-new R S P p (args .key) (args .val) (args .n) (loop .i) (inv .0) (loop .here) some from to read (args .judging) _ left
     (λ j. again .1 .0 j ∙ ap (among (part p from to)) (sym (inv .8 j .0))) (c .before .before .before .before .before .before .if2 .left) in
@@ -1874,7 +1874,7 @@ read-pairs-spec t =
       omega (arith, inv .4, i .2, t .forth),
       t .long ∙ put .kept .0 ∙ inv .5,
       omega (arith, some),
-      back .is-again .kept .1 .0 ∙ inv .7,
+      back .is-repeated .kept .1 .0 ∙ inv .7,
       λ j. (ap (λ (ks : List (List ℕ)). part p from to ∷ ks) (inv .8 j .0) ∙ sym (again .1 .1 .0 j), again .1 .1 .1 j),
     ))
     -- sub-put-row-3

@@ -5,9 +5,9 @@ use Rattle.schema.specs.File.{tableOf}
 use Rattle.value.specs.Read.{parse}
 use Rattle.walks.specs.Shape.{fieldsFrom}
 use Rattle.walks.proofs.Tables.{struct-type}
-use Rattle.reader.specs.Walk.{firstFields}
-use Rattle.reader.proofs.Steps.{as-told}
-use Rattle.reader.proofs.Composites.{first-whole}
+use Rattle.flat.specs.Walk.{firstFields}
+use Rattle.flat.proofs.Steps.{as-told}
+use Rattle.flat.proofs.Composites.{first-whole}
 use Rattle.reader.proofs.walk.chosen.Statement.{statement}
 use Rattle.reader.proofs.walk.chosen.Tie as tie
 

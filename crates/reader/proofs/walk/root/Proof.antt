@@ -4,8 +4,8 @@ use native.Mathlib.Omega.{arith}
 use Rattle.schema.specs.Table.{shape}
 use Rattle.schema.specs.File.{tableOf}
 use Rattle.walks.specs.Shape.{fieldsFrom}
-use Rattle.reader.specs.Walk.{toldIn}
-use Rattle.reader.proofs.Steps.{was, as-refused}
+use Rattle.flat.specs.Walk.{toldIn}
+use Rattle.flat.proofs.Steps.{was, as-refused}
 use Rattle.reader.proofs.Roots.{ending-surplus, ending-short, root-bitmap, root-refused, root-in, root-fields, root-stop, root-end, root-past}
 use borrow.Author.Needs.{needs}
 use Rattle.reader.proofs.walk.root.Statement.{statement}

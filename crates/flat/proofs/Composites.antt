@@ -1,0 +1,336 @@
+-- Laws of the walkers of arrays, maps and structs: their heads, and the turns of their loops.
+use mathlib.Core.Path.{_≡_, refl, sym, ap, _∙_}
+use mathlib.Core.Bool.{Bool, true, false, false≢true}
+use mathlib.Core.List.{List, [], _∷_}
+use Prim.Native.Nat.{ℕ, suc, _+_, _-_, _*_, _/_, _%_, _^_, _≤_, _<_}
+use native.Mathlib.Nat.{mod-eq-of-lt}
+use native.Mathlib.Omega.{arith}
+use borrow.Author.Tests.{ltb-true, eq-eqb, ne-eqb, le-leb, lt-leb}
+use lib.Dec.{ltb}
+use lib.ListN.{length, replicate, getD, drop}
+use lib.Seq.{take-take}
+use Rattle.parse.specs.Reader.{Cursor, refused, seen, Reader, andThen, check, cursorAt, Accepted, count}
+use Rattle.parse.proofs.Answers.{accepted-first}
+use Rattle.schema.specs.declared.Field.{Field}
+use Rattle.schema.specs.Table.{Table, Shape, array, map, struct}
+use Rattle.schema.specs.Check.{fieldRow}
+use Rattle.value.specs.Narrow.{firstOf}
+use Rattle.value.specs.Comparisons.{due}
+use Rattle.value.specs.Value.{Tree, tip}
+use Rattle.value.specs.Read.{Item, plainItem, pairs, present, parts, bitmap, among, walk, wholeValue, parse}
+use Rattle.value.proofs.Narrowed.{first-all}
+use Rattle.value.proofs.Comparisons.{due-half, due-few}
+use Rattle.walks.specs.Shape.{fieldsFrom}
+use Rattle.walks.proofs.Presence.{length-fields, present-set, present-clear}
+use Rattle.walks.proofs.Items.{keyItem, item-accepted, key-accepted, key-known, elements-some, pairs-some, pairs-none}
+use Rattle.flat.specs.declared.leaf.Count.{Count}
+use Rattle.flat.specs.declared.leaf.Count.the-variants.{Is, Refused as CountRefused}
+use Rattle.flat.specs.declared.leaf.Head.{Head}
+use Rattle.flat.specs.declared.leaf.Head.the-variants.{Bits, Refused as HeadRefused}
+use Rattle.flat.specs.declared.Walk.{Walk}
+use Rattle.flat.specs.declared.Walk.the-variants.{Past}
+use Rattle.flat.specs.Sheet.{putRow}
+use Rattle.flat.specs.Leaf.{part, countOf, CountIn, CountRead, headOf, HeadIn, Headed}
+use Rattle.flat.specs.Walk.{firstFields, told, toldAll, toldHeld, Final, done, stopped, walkOf, Walked}
+use Rattle.flat.proofs.Steps.{ahead, renamed, further, composite-past, as-told, spanRow, walk-length, item-past, item-stop, key-stop, key-again, key-new, accepted-along, parse-refused, parse-whole, own-accepted}
+
+-- ---- heads
+
+module _ (S : ℕ → Shape) (d t : ℕ) (p : List ℕ) (at : ℕ) where
+  module _ (least : ℕ) (r : Count) (read : CountRead p at least (count least (cursorAt p at)) r) where
+    pub count-in : (n start : ℕ) → r ≡ Is n start → CountIn (length p) at least (Is n start)
+    count-in n start e = rw e at (read .within)
+
+    read-as : (n start : ℕ) → r ≡ Is n start → count least (cursorAt p at) ≡ seen n (cursorAt p start)
+    read-as n start e = sym (read .same) ∙ ap (countOf p at) e
+
+    not-read : (number : ℕ) → r ≡ CountRefused number → count least (cursorAt p at) ≡ refused number at
+    not-read number e = sym (read .same) ∙ ap (countOf p at) e
+
+  module _ (e : ℕ) (is : S t ≡ array e) (r : Count) (read : CountRead p at 1 (count 1 (cursorAt p at)) r) where
+    pub array-refused : (number : ℕ) → r ≡ CountRefused number → parse S (suc d) t (cursorAt p at) ≡ refused number at
+    unfolding andThen
+    array-refused number q = parse-refused S d t (cursorAt p at) (array e) is number at (rw (not-read 1 r read number q))
+
+    pub array-whole : (n start : ℕ) → r ≡ Is n start
+        → parse S (suc d) t (cursorAt p at) ≡ wholeValue (parse S d) t (array e) (parts start n) (cursorAt p start)
+    unfolding andThen
+    array-whole n start q =
+        parse-whole S d t (cursorAt p at) (array e) is (parts start n) (cursorAt p start) (rw (read-as 1 r read n start q))
+
+    -- an array as it is told from its head on
+    module _ (R : ℕ → Shape) (shown : R t ≡ array e) (n start : ℕ) (q : r ≡ Is n start) where
+      pub array-valued : {row : ℕ} {l : List ℕ} (w : Walk) {m : List ℕ}
+          → Walked p start (toldHeld R S 0 (replicate n (plainItem e))) (wholeValue (parse S d) t (array e) (parts start n) (cursorAt p start)) row l w m
+          → Walked p (at + 1) (told R S t) (parse S (suc d) t (cursorAt p at)) row l w m
+      array-valued w h =
+          let i = count-in 1 r read n start q in
+          renamed (array-whole n start q) (further start (at + 1) w (omega (arith, i .0)) (as-told R S (parse S d) (array e) t start n (cursorAt p start) _ _ shown is h))
+
+  module _ (k v : ℕ) (is : S t ≡ map k v) (r : Count) (read : CountRead p at 2 (count 2 (cursorAt p at)) r) where
+    pub map-refused : (number : ℕ) → r ≡ CountRefused number → parse S (suc d) t (cursorAt p at) ≡ refused number at
+    unfolding andThen
+    map-refused number q = parse-refused S d t (cursorAt p at) (map k v) is number at (rw (not-read 2 r read number q))
+
+    module _ (n start : ℕ) (q : r ≡ Is n start) where
+      pub map-many : 64 < n → parse S (suc d) t (cursorAt p at) ≡ refused 31 at
+      unfolding andThen check
+      map-many h = parse-refused S d t (cursorAt p at) (map k v) is 31 at (rw (read-as 2 r read n start q, lt-leb n 64 h))
+
+      pub map-whole : n ≤ 64 → parse S (suc d) t (cursorAt p at) ≡ wholeValue (parse S d) t (map k v) (parts start n) (cursorAt p start)
+      unfolding andThen check
+      map-whole h =
+          parse-whole S d t (cursorAt p at) (map k v) is (parts start n) (cursorAt p start)
+          (rw (read-as 2 r read n start q, le-leb n 64 h))
+
+      -- a map as it is told from its head on
+      pub map-valued : (R : ℕ → Shape) → R t ≡ map k v → n ≤ 64 → {row : ℕ} {l : List ℕ} (w : Walk) {m : List ℕ}
+          → Walked p start (toldHeld R S (due n) (pairs n k v)) (wholeValue (parse S d) t (map k v) (parts start n) (cursorAt p start)) row l w m
+          → Walked p (at + 1) (told R S t) (parse S (suc d) t (cursorAt p at)) row l w m
+      map-valued R shown few w h =
+          let i = count-in 2 r read n start q in
+          renamed (map-whole few) (further start (at + 1) w (omega (arith, i .0)) (as-told R S (parse S d) (map k v) t start n (cursorAt p start) _ _ shown is h))
+
+  module _ (fs : List Field) (is : S t ≡ struct fs) where
+    -- where an inner struct is accepted, its bitmap is
+    pub bitmap-accepted : Accepted (parse S (suc d) t (cursorAt p at)) → Accepted (bitmap fs (cursorAt p at))
+    bitmap-accepted h = accepted-first (bitmap fs (cursorAt p at)) _ (own-accepted S d t (cursorAt p at) (struct fs) is h)
+
+    module _ (r : Head) (read : Headed p at fs (bitmap fs (cursorAt p at)) r) where
+      pub struct-refused : (number : ℕ) → r ≡ HeadRefused number → parse S (suc d) t (cursorAt p at) ≡ refused number at
+      unfolding andThen
+      struct-refused number q =
+          parse-refused S d t (cursorAt p at) (struct fs) is number at (rw (sym (read .same) ∙ ap (headOf p at) q))
+
+      module _ (word known count unknown start : ℕ) (q : r ≡ Bits word known count unknown start) where
+        pub head-in : HeadIn (length p) at fs (Bits word known count unknown start)
+        head-in = rw q at (read .within)
+
+        bits-read : bitmap fs (cursorAt p at) ≡ seen word (cursorAt p start)
+        bits-read = sym (read .same) ∙ ap (headOf p at) q
+
+        pub struct-unknown : (unknown ≡ 0 → ⊥) → parse S (suc d) t (cursorAt p at) ≡ refused 26 at
+        unfolding andThen check
+        struct-unknown h =
+            let f : ltb word (2 ^ length fs) ≡ false = head-in .3 ∙ ne-eqb unknown 0 h in
+            parse-refused S d t (cursorAt p at) (struct fs) is 26 at (rw (bits-read, f))
+
+        -- without unknown bits the known ones are the word
+        pub struct-whole : unknown ≡ 0
+            → parse S (suc d) t (cursorAt p at) ≡ wholeValue (parse S d) t (struct fs) (parts at known) (cursorAt p start)
+        unfolding andThen check
+        struct-whole h =
+            let f : ltb word (2 ^ length fs) ≡ true = head-in .3 ∙ eq-eqb unknown 0 h in
+            let k : word ≡ known = sym (head-in .0 ∙ mod-eq-of-lt (ltb-true word (2 ^ length fs) f)) in
+            rw (← k) (parse-whole S d t (cursorAt p at) (struct fs) is (parts at word) (cursorAt p start) (rw (bits-read, f)))
+
+        -- a struct as it is told from its bits on
+        pub struct-valued : (R : ℕ → Shape) → unknown ≡ 0 → {row : ℕ} {l : List ℕ} (w : Walk) {m : List ℕ}
+            → Walked p start (told R S t) (wholeValue (parse S d) t (struct fs) (parts at known) (cursorAt p start)) row l w m
+            → Walked p (at + 1) (told R S t) (parse S (suc d) t (cursorAt p at)) row l w m
+        struct-valued R h w x = renamed (struct-whole h) (further start (at + 1) w (omega (arith, head-in .4)) x)
+
+-- ---- what is known of a type
+
+pub first-of : (known : List ℕ) (S : ℕ → Shape) (t : ℕ) {sh : Shape} → S t ≡ sh → firstFields known S t ≡ firstOf (getD known t 0) sh
+unfolding firstFields
+first-of known S t e = rw e
+
+-- a struct with no more fields than are known is shown whole, one with more by its first ones
+module _ (known : List ℕ) (S : ℕ → Shape) (T : Table) (t first n : ℕ) (is : S t ≡ struct (fieldsFrom T first n)) (room : first + n ≤ length (T .fields)) where
+  pub first-whole : n ≤ getD known t 0 → firstFields known S t ≡ struct (fieldsFrom T first n)
+  first-whole le = first-of known S t is ∙ first-all (getD known t 0) _ (omega (arith, length-fields T first n room))
+
+  pub first-part : (m : ℕ) → m ≡ getD known t 0 → m ≤ n → firstFields known S t ≡ struct (fieldsFrom T first m)
+  unfolding fieldsFrom
+  first-part m e le = first-of known S t is ∙ ap struct (rw (← e) (take-take m n (drop first (T .fields)) le))
+
+-- ---- elements of an array
+
+module _ (R S : ℕ → Shape) (P : ℕ → Reader Tree) (e left : ℕ) (some : 0 < left) (c : Cursor) (sum row : ℕ) (l : List ℕ) where
+  pub element-past : (c′ : Cursor) (due row′ : ℕ) (m : List ℕ) → done c′ due row′ m ≡ walkOf (told R S e) (P e c) 0 row l
+      → ahead R S P [] (replicate left (plainItem e)) c sum row l ≡ ahead R S P [] (replicate (left - 1) (plainItem e)) c′ (sum + due) row′ m
+  element-past c′ due row′ m h =
+      rw (elements-some e left some) (item-past R S P [] (replicate (left - 1) (plainItem e)) e c sum row l c′ due row′ m h)
+
+  pub element-stop : (n q : ℕ) → stopped n q ≡ walkOf (told R S e) (P e c) 0 row l
+      → stopped n q ≡ ahead R S P [] (replicate left (plainItem e)) c sum row l
+  element-stop n q h = rw (elements-some e left some) (item-stop R S P [] (replicate (left - 1) (plainItem e)) e c sum row l n q h)
+
+  pub element-accepted : Accepted (walk P [] (replicate left (plainItem e)) c) → Accepted (P e c)
+  element-accepted h = item-accepted P [] (replicate (left - 1) (plainItem e)) e c (rw (elements-some e left some) at h)
+
+-- ---- fields of a struct
+
+-- The items of the fields left, by the bits left.
+abbrev pub leftOver : Table → (i left bits : ℕ) → List Item
+leftOver T i left bits = present (fieldsFrom T i left) bits
+
+-- A turn of the loop over fields: from one place, sum, row and sheet to the next, with the same end.
+pub record Turned (R S : ℕ → Shape) (P : ℕ → Reader Tree) (p : List ℕ) (T : Table) (i left bits here sum below : ℕ) (l : List ℕ)
+    (here′ sum′ below′ : ℕ) (m : List ℕ) : Type 0 where
+  pub same : ahead R S P [] (leftOver T i left bits) (cursorAt p here) sum below l
+      ≡ ahead R S P [] (leftOver T (i + 1) (left - 1) (bits / 2)) (cursorAt p here′) sum′ below′ m
+  pub inside : here′ ≤ length p
+  pub behind : below′ ≤ here′
+  pub forth : sum′ + 16 * here ≤ sum + 16 * here′
+  pub long : length m ≡ length l
+
+module _ (R S : ℕ → Shape) (P : ℕ → Reader Tree) (p : List ℕ) (T : Table) (i left bits here sum below : ℕ) (l : List ℕ)
+    (some : 0 < left) (room : i + left ≤ length (T .fields)) where
+  module _ (f : Field) (is : f ≡ fieldRow T i) (b : bits % 2 ≡ 1) where
+    pub field-stop : (n q : ℕ) → stopped n q ≡ walkOf (told R S (f .ty)) (P (f .ty) (cursorAt p here)) 0 below l
+        → stopped n q ≡ ahead R S P [] (leftOver T i left bits) (cursorAt p here) sum below l
+    field-stop n q h =
+        rw (present-set T i left some room bits f is b)
+        (item-stop R S P [] (leftOver T (i + 1) (left - 1) (bits / 2)) (f .ty) (cursorAt p here) sum below l n q h)
+
+    pub field-accepted : Accepted (walk P [] (leftOver T i left bits) (cursorAt p here)) → Accepted (P (f .ty) (cursorAt p here))
+    field-accepted h =
+        item-accepted P [] (leftOver T (i + 1) (left - 1) (bits / 2)) (f .ty) (cursorAt p here)
+        (rw (present-set T i left some room bits f is b) at h)
+
+    pub field-read : (due next row′ : ℕ) (k : List ℕ)
+        → Walked p (here + 1) (told R S (f .ty)) (P (f .ty) (cursorAt p here)) below l (Past due next row′) k
+        → (here′ sum′ below′ : ℕ) (m : List ℕ) → here′ ≡ next → sum′ ≡ sum + due → below′ ≡ row′ → m ≡ k
+        → Turned R S P p T i left bits here sum below l here′ sum′ below′ m
+    field-read due next row′ k h here′ sum′ below′ m e₁ e₂ e₃ e₄ =
+        let w = h .within in
+        rw (e₁, e₂, e₃, e₄)
+        (record {
+          same =
+              rw (present-set T i left some room bits f is b)
+              (item-past R S P [] (leftOver T (i + 1) (left - 1) (bits / 2)) (f .ty) (cursorAt p here) sum below l (cursorAt p next) due row′ k (h .same));
+          inside = w .0;
+          behind = w .1;
+          forth = omega arith;
+          long = walk-length (told R S (f .ty)) (P (f .ty) (cursorAt p here)) 0 below l (cursorAt p next) due row′ k (h .same);
+        })
+
+  -- a present field that stops, whatever its type is
+  pub field-deep : bits % 2 ≡ 1 → (n q : ℕ) → ((ty : ℕ) → stopped n q ≡ walkOf (told R S ty) (P ty (cursorAt p here)) 0 below l)
+      → stopped n q ≡ ahead R S P [] (leftOver T i left bits) (cursorAt p here) sum below l
+  field-deep b n q h = field-stop (fieldRow T i) refl b n q (h (fieldRow T i .ty))
+
+  pub field-absent : (bits % 2 ≡ 1 → ⊥) → here ≤ length p → below ≤ here
+      → (here′ sum′ below′ : ℕ) (m : List ℕ) → here′ ≡ here → sum′ ≡ sum → below′ ≡ below → m ≡ l
+      → Turned R S P p T i left bits here sum below l here′ sum′ below′ m
+  field-absent b inside behind here′ sum′ below′ m e₁ e₂ e₃ e₄ =
+      rw (e₁, e₂, e₃, e₄)
+      (record { same = rw (present-clear T i left some room bits b); inside = inside; behind = behind; forth = omega arith; long = refl })
+
+-- ---- pairs of a map
+
+module _ (R S : ℕ → Shape) (P : ℕ → Reader Tree) (p : List ℕ) (k v n i : ℕ) (keys : List (List ℕ)) (here : ℕ) (some : i < n) where
+  split : pairs (n - i) k v ≡ keyItem k ∷ (plainItem v ∷ pairs (n - i - 1) k v)
+  split = pairs-some k v (n - i) (omega arith)
+
+  pub pair-key-accepted : Accepted (walk P keys (pairs (n - i) k v) (cursorAt p here)) → Accepted (P k (cursorAt p here))
+  pair-key-accepted h = key-accepted P keys (plainItem v ∷ pairs (n - i - 1) k v) k (cursorAt p here) (rw split at h)
+
+  pub pair-key-stop : (sum below : ℕ) (l : List ℕ) (a q : ℕ) → P k (cursorAt p here) ≡ refused a q
+      → stopped a q ≡ ahead R S P keys (pairs (n - i) k v) (cursorAt p here) sum below l
+  pair-key-stop sum below l a q e = rw split (key-stop R S P keys (plainItem v ∷ pairs (n - i - 1) k v) k (cursorAt p here) sum below l a q e)
+
+  module _ (from to : ℕ) (read : P k (cursorAt p here) ≡ seen (tip (spanRow k from to) (part p from to)) (cursorAt p to)) where
+    pub pair-known : Accepted (walk P keys (pairs (n - i) k v) (cursorAt p here)) → among (part p from to) keys ≡ false
+    pair-known h =
+        key-known P keys (plainItem v ∷ pairs (n - i - 1) k v) k (cursorAt p here) (spanRow k from to) (part p from to) (cursorAt p to) read (rw split at h) .0
+
+    pub pair-again : (sum below : ℕ) (l : List ℕ) → among (part p from to) keys ≡ true
+        → stopped 24 here ≡ ahead R S P keys (pairs (n - i) k v) (cursorAt p here) sum below l
+    pair-again sum below l e =
+        rw split
+        (key-again R S P keys (plainItem v ∷ pairs (n - i - 1) k v) k (cursorAt p here) (spanRow k from to) (part p from to) (cursorAt p to) read sum below l e)
+
+    -- a key is new where the walk that judges says so, and where the other walk is known to accept
+    module _ (judging r : Bool) where
+      pub pair-new : (judging ≡ false → Accepted (walk P keys (pairs (n - i) k v) (cursorAt p here))) → (judging ≡ true → r ≡ among (part p from to) keys)
+          → r ≡ false → among (part p from to) keys ≡ false
+      pair-new a q e = go judging a q
+        where
+          go : (j : Bool) → (j ≡ false → Accepted (walk P keys (pairs (n - i) k v) (cursorAt p here))) → (j ≡ true → r ≡ among (part p from to) keys)
+              → among (part p from to) keys ≡ false
+          go false a q = pair-known (a refl)
+          go true a q = sym (q refl) ∙ e
+
+      pub pair-old : (judging ≡ false → r ≡ false) → (judging ≡ true → r ≡ among (part p from to) keys) → r ≡ true → among (part p from to) keys ≡ true
+      pair-old a q e = go judging a q
+        where
+          go : (j : Bool) → (j ≡ false → r ≡ false) → (j ≡ true → r ≡ among (part p from to) keys) → among (part p from to) keys ≡ true
+          go false a q = absurd (false≢true (sym (a refl) ∙ e))
+          go true a q = sym (q refl) ∙ e
+
+    module _ (new : among (part p from to) keys ≡ false) (sum below : ℕ) (l m : List ℕ) (put : m ≡ putRow l below (spanRow k from to)) where
+      value-next : ahead R S P keys (pairs (n - i) k v) (cursorAt p here) sum below l
+          ≡ ahead R S P (part p from to ∷ keys) (plainItem v ∷ pairs (n - i - 1) k v) (cursorAt p to) sum (below + 1) m
+      value-next =
+          rw (split, put)
+          (key-new R S P keys (plainItem v ∷ pairs (n - i - 1) k v) k (cursorAt p here) (spanRow k from to) (part p from to) (cursorAt p to) read sum below l new)
+
+      pub pair-value-accepted : Accepted (walk P keys (pairs (n - i) k v) (cursorAt p here)) → Accepted (P v (cursorAt p to))
+      pair-value-accepted h =
+          item-accepted P (part p from to ∷ keys) (pairs (n - i - 1) k v) v (cursorAt p to)
+          (accepted-along (toldAll R S (plainItem v ∷ pairs (n - i - 1) k v)) (toldAll R S (pairs (n - i) k v))
+          (walk P (part p from to ∷ keys) (plainItem v ∷ pairs (n - i - 1) k v) (cursorAt p to))
+          (walk P keys (pairs (n - i) k v) (cursorAt p here)) sum sum (below + 1) below m l (sym value-next) h)
+
+      pub pair-value-stop : (a q : ℕ) → stopped a q ≡ walkOf (told R S v) (P v (cursorAt p to)) 0 (below + 1) m
+          → stopped a q ≡ ahead R S P keys (pairs (n - i) k v) (cursorAt p here) sum below l
+      pair-value-stop a q e =
+          item-stop R S P (part p from to ∷ keys) (pairs (n - i - 1) k v) v (cursorAt p to) sum (below + 1) m a q e ∙ sym value-next
+
+      pub pair-value-past : (due next row′ : ℕ) (m′ : List ℕ) → done (cursorAt p next) due row′ m′ ≡ walkOf (told R S v) (P v (cursorAt p to)) 0 (below + 1) m
+          → ahead R S P keys (pairs (n - i) k v) (cursorAt p here) sum below l
+          ≡ ahead R S P (part p from to ∷ keys) (pairs (n - (i + 1)) k v) (cursorAt p next) (sum + due) row′ m′
+      pair-value-past due next row′ m′ e =
+          let q : n - (i + 1) ≡ n - i - 1 = omega arith in
+          value-next ∙ rw q (item-past R S P (part p from to ∷ keys) (pairs (n - i - 1) k v) v (cursorAt p to) sum (below + 1) m (cursorAt p next) due row′ m′ e)
+
+      -- A turn of the loop over pairs, with the key's row already written.
+      pub record Paired (here′ sum′ below′ : ℕ) (m′ : List ℕ) : Type 0 where
+        pub same : ahead R S P keys (pairs (n - i) k v) (cursorAt p here) sum below l
+            ≡ ahead R S P (part p from to ∷ keys) (pairs (n - (i + 1)) k v) (cursorAt p here′) sum′ below′ m′
+        pub inside : here′ ≤ length p
+        pub behind : below′ ≤ here′
+        pub forth : sum′ + 16 * (to + 1) ≤ sum + 16 * here′
+        pub long : length m′ ≡ length m
+
+      pub pair-turn : (due next row′ : ℕ) (k′ : List ℕ)
+          → Walked p (to + 1) (told R S v) (P v (cursorAt p to)) (below + 1) m (Past due next row′) k′
+          → (here′ sum′ below′ : ℕ) (m′ : List ℕ) → here′ ≡ next → sum′ ≡ sum + due → below′ ≡ row′ → m′ ≡ k′ → Paired here′ sum′ below′ m′
+      pair-turn due next row′ k′ h here′ sum′ below′ m′ e₁ e₂ e₃ e₄ =
+          let w = h .within in
+          rw (e₁, e₂, e₃, e₄)
+          (record {
+            same = pair-value-past due next row′ k′ (h .same);
+            inside = w .0;
+            behind = w .1;
+            forth = omega arith;
+            long = walk-length (told R S v) (P v (cursorAt p to)) 0 (below + 1) m (cursorAt p next) due row′ k′ (h .same);
+          })
+
+-- the comparisons of a map's own keys, at most 32 a pair
+pub own-due : (n : ℕ) → n * (n - 1) / 2 ≡ due n
+own-due n = rw (← due-half n) (omega arith)
+
+-- a map without pairs, which has its own row alone
+module _ (S : ℕ → Shape) (d t : ℕ) (p : List ℕ) (at k v : ℕ) (is : S t ≡ map k v) (r : Count) (read : CountRead p at 2 (count 2 (cursorAt p at)) r) where
+  pub map-none : (n start : ℕ) → r ≡ Is n start → n ≡ 0 → (R : ℕ → Shape) → R t ≡ map k v → (row : ℕ) (l m : List ℕ) → row ≤ at
+      → m ≡ putRow l row (record { ty = t; place = start; length = 0; count = 0 })
+      → Walked p (at + 1) (told R S t) (parse S (suc d) t (cursorAt p at)) row l (Past 0 start (row + 1)) m
+  map-none n start q none R shown row l m behind put =
+      let i = count-in S d t p at 2 r read n start q in
+      let zero : start - start ≡ 0 = omega arith in
+      map-valued S d t p at k v is r read n start q R shown (omega (arith, none)) _
+      (composite-past R S (parse S d) (map k v) t start n (cursorAt p start) row l p start start 0 0 (row + 1) l
+      _ [] (pairs n k v) (pairs-none k v n (omega (arith, none))) refl
+      (rw none (omega (arith, own-due 0))) (rw (zero, none) put) (omega (arith, i .1)) (omega (arith, i .0, behind)) (omega arith))
+
+pub few-pairs : (n : ℕ) → n ≤ 64 → n * (n - 1) ≤ 63 * n
+few-pairs n h = rw (← due-half n) (due-few n h)
+
+-- the loop over pairs starts with all of them
+pub pairs-first : (R S : ℕ → Shape) (P : ℕ → Reader Tree) (k v n : ℕ) (c : Cursor) (row : ℕ) (l : List ℕ)
+    → ahead R S P [] (pairs (n - 0) k v) c 0 row l ≡ ahead R S P [] (pairs n k v) c 0 row l
+pairs-first R S P k v n c row l = let e : n - 0 ≡ n = omega arith in rw e

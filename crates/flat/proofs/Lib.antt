@@ -1,0 +1,9 @@
+pub mod Sheets
+pub mod Leaves
+pub mod Heads
+pub mod Steps
+pub mod Composites
+pub mod Pairs
+pub mod Flats
+pub mod Turns
+pub mod Partials

@@ -1,0 +1,255 @@
+-- Laws of a struct of which only the first fields are shown: its first fields are walked as those of any struct, then the added ones, of which no row is written.
+use mathlib.Core.Path.{_≡_, refl, sym, ap, _∙_}
+use mathlib.Core.List.{List, [], _∷_, _++_}
+use Prim.Native.Nat.{ℕ, _+_, _-_, _/_, _%_, _^_, _≤_}
+use native.Mathlib.Omega.{arith}
+use lib.Count.{ones}
+use lib.ListN.{length, take, drop}
+use lib.Seq.{take-add, drop-drop}
+use Rattle.wire.proofs.Cases.{differ}
+use Rattle.parse.specs.Reader.{Answer, refused, seen, Reader, andThen, cursorAt, Accepted}
+use Rattle.schema.specs.declared.Field.{Field}
+use Rattle.schema.specs.Table.{Table, Shape, struct}
+use Rattle.value.specs.Value as tree
+use Rattle.value.specs.Value.{Tree, branch, Forest, stop, plus, rows, rowsAll, values}
+use Rattle.value.specs.Comparisons.{comparisons, comparisonsAll}
+use Rattle.value.specs.Read.{Item, present, parts, walk, nodeRow, wholeValue, knownBits}
+use Rattle.value.specs.Beside.{pruned, prunedAll}
+use Rattle.value.proofs.Bits.{present-append, present-mod, known-ones}
+use Rattle.value.proofs.Root.{present-unkeyed}
+use Rattle.value.proofs.Without.{_⧺_, trees}
+use Rattle.value.proofs.RootTables.{walk-size}
+use Rattle.value.proofs.Pruned.{pruned-first}
+use Rattle.value.proofs.Narrowed.{goOn, walk-append}
+use Rattle.walks.specs.Shape.{fieldsFrom}
+use Rattle.walks.proofs.Presence.{length-fields}
+use Rattle.flat.specs.declared.Walk.the-variants.{Past, Refused}
+use Rattle.flat.specs.Sheet.{putRow, putRows}
+use Rattle.flat.specs.Walk.{told, toldAll, toldHeld, done, stopped, walkOf, Walked}
+use Rattle.flat.proofs.Sheets.{put-twice}
+use Rattle.flat.proofs.Steps.{done-eq, renamed}
+
+-- the comparisons due in what was read by two plans
+due-both : (S : ℕ → Shape) (us vs : Forest) (is js : List Item) → trees us ≡ length is
+    → comparisonsAll S (values (us ⧺ vs)) (is ++ js) ≡ comparisonsAll S (values us) is + comparisonsAll S (values vs) js
+unfolding comparisonsAll values
+due-both S stop vs [] js e = omega arith
+due-both S stop vs (i ∷ is) js e = absurd (omega arith)
+due-both S (plus u us) vs [] js e = absurd (omega arith)
+due-both S (plus u us) vs (i ∷ is) js e = omega (arith, due-both S us vs is js (omega arith))
+
+module _ (R S : ℕ → Shape) (P : ℕ → Reader Tree) (t place : ℕ) (fs gs : List Field) (h : ℕ) (p : List ℕ) (start row : ℕ) (l : List ℕ) where
+  -- The items of the fields that are shown, and of the added ones.
+  abbrev is : List Item
+  is = present fs h
+
+  abbrev js : List Item
+  js = present gs (h / 2 ^ length fs)
+
+  -- The answers: the whole struct from its bits on, its first fields, and the added ones from a place on.
+  abbrev all : Answer Tree
+  all = wholeValue P t (struct (fs ++ gs)) (parts place h) (cursorAt p start)
+
+  abbrev first : (mine : ℕ) → Answer Tree
+  first mine = wholeValue P t (struct fs) (parts place mine) (cursorAt p start)
+
+  abbrev added : (here rest : ℕ) → Answer Tree
+  added here rest = wholeValue P t (struct gs) (parts here rest) (cursorAt p here)
+
+  -- A struct with these trees.
+  withRow : (place count head : ℕ) → Forest → Reader Tree
+  withRow place count head ts end = seen (branch (nodeRow t place (end .at) count) head ts) end
+
+  all-is : all ≡ andThen (andThen (walk P [] is (cursorAt p start)) (goOn P [] js)) (withRow place (length (is ++ js)) h)
+  unfolding withRow
+  all-is = rw (present-append fs gs h, walk-append P [] (present gs (h / 2 ^ length fs)) (present fs h) (present-unkeyed fs h) (cursorAt p start))
+
+  module _ (mine : ℕ) (m : mine ≡ knownBits fs h) where
+    first-is : first mine ≡ andThen (walk P [] is (cursorAt p start)) (withRow place (length is) mine)
+    unfolding withRow
+    first-is = rw (m, present-mod fs h)
+
+    pub first-accepted : Accepted all → Accepted (first mine)
+    unfolding andThen withRow
+    first-accepted a = rw first-is (go (walk P [] is (cursorAt p start)) (rw all-is at a))
+      where
+        go : (o : Answer Forest) → Accepted (andThen (andThen o (goOn P [] js)) (withRow place (length (is ++ js)) h)) → Accepted (andThen o (withRow place (length is) mine))
+        go (seen us c) a = tt
+        go (refused n q) a = a
+
+    pub first-stop : (n q : ℕ) (after : List ℕ) → Walked p start (toldHeld R S 0 (present fs mine)) (first mine) row l (Refused n q) after
+        → Walked p start (told R S t) all row l (Refused n q) after
+    unfolding andThen withRow
+    first-stop n q after w = record { same = rw all-is (go (walk P [] is (cursorAt p start)) (rw first-is at (w .same))); within = tt }
+      where
+        go : (o : Answer Forest) → stopped n q ≡ walkOf (toldHeld R S 0 (present fs mine)) (andThen o (withRow place (length is) mine)) 0 row l
+            → stopped n q ≡ walkOf (told R S t) (andThen (andThen o (goOn P [] js)) (withRow place (length (is ++ js)) h)) 0 row l
+        go (seen us c) e = differ cc
+        go (refused n′ q′) e = e
+
+    -- What the walk over the first fields has given: trees, comparisons, rows and the struct's own row, which is not yet right.
+    Gave : (sum here below : ℕ) (m₁ : List ℕ) → Forest → Type 0
+    Gave sum here below m₁ us =
+        (walk P [] is (cursorAt p start) ≡ seen us (cursorAt p here))
+        × (sum ≡ toldAll R S is us .due)
+        × (below ≡ row + 1 + length (toldAll R S is us .rows))
+        × (m₁ ≡ putRow (putRows l (row + 1) (toldAll R S is us .rows)) row (nodeRow t place here (length is)))
+
+    module _ (sum here below : ℕ) (m₁ : List ℕ) (w : Walked p start (toldHeld R S 0 (present fs mine)) (first mine) row l (Past sum here below) m₁) where
+      gave : (us : Forest) × Gave sum here below m₁ us
+      unfolding Gave andThen withRow toldHeld putRows
+      gave = go (walk P [] is (cursorAt p start)) refl (rw (first-is, m, present-mod fs h) at (w .same))
+        where
+          go : (o : Answer Forest) → walk P [] is (cursorAt p start) ≡ o
+              → done (cursorAt p here) sum below m₁ ≡ walkOf (toldHeld R S 0 is) (andThen o (withRow place (length is) (knownBits fs h))) 0 row l
+              → (us : Forest) × Gave sum here below m₁ us
+          go (seen us c) e g =
+              let k : cursorAt p here ≡ c = cc in
+              let d : sum ≡ 0 + (0 + toldAll R S is us .due) = cc in
+              let b : below ≡ row + length (nodeRow t place (c .at) (length is) ∷ toldAll R S is us .rows) = cc in
+              let u : m₁ ≡ putRow (putRows l (row + 1) (toldAll R S is us .rows)) row (nodeRow t place (c .at) (length is)) = cc in
+              (us, (rw k e, omega arith, omega arith, rw (← k) at u))
+          go (refused n q) e g = differ cc
+
+      -- the whole struct from the added fields on
+      all-next : (us : Forest) → Gave sum here below m₁ us → all ≡ andThen (goOn P [] js us (cursorAt p here)) (withRow place (length (is ++ js)) h)
+      unfolding Gave andThen
+      all-next us g = all-is ∙ rw (g .0)
+
+      module _ (rest : ℕ) (q : rest ≡ knownBits gs (h / 2 ^ length fs)) where
+        added-is : added here rest ≡ andThen (walk P [] js (cursorAt p here)) (withRow here (length js) rest)
+        unfolding withRow
+        added-is = rw (q, present-mod gs (h / 2 ^ length fs))
+
+        pub added-accepted : Accepted all → Accepted (added here rest)
+        unfolding andThen withRow goOn
+        added-accepted a = rw added-is (go (walk P [] js (cursorAt p here)) (rw (all-next (gave .0) (gave .1)) at a))
+          where
+            go : (o : Answer Forest) → Accepted (andThen (andThen o (λ vs c. seen (gave .0 ⧺ vs) c)) (withRow place (length (is ++ js)) h))
+                → Accepted (andThen o (withRow here (length js) rest))
+            go (seen vs c) a = tt
+            go (refused n r) a = a
+
+        pub added-stop : (n r : ℕ) (k m₂ after : List ℕ) → Walked p here (toldHeld R S 0 (present gs rest)) (added here rest) row k (Refused n r) m₂
+            → Walked p start (told R S t) all row l (Refused n r) after
+        unfolding andThen withRow goOn
+        added-stop n r k m₂ after v =
+            record { same = rw (all-next (gave .0) (gave .1)) (go (walk P [] js (cursorAt p here)) (rw added-is at (v .same))); within = tt }
+          where
+            go : (o : Answer Forest) → stopped n r ≡ walkOf (toldHeld R S 0 (present gs rest)) (andThen o (withRow here (length js) rest)) 0 row k
+                → stopped n r ≡ walkOf (told R S t) (andThen (andThen o (λ vs c. seen (gave .0 ⧺ vs) c)) (withRow place (length (is ++ js)) h)) 0 row l
+            go (seen vs c) e = differ cc
+            go (refused n′ r′) e = e
+
+        module _ (shown : R t ≡ struct fs) (read : S t ≡ struct (fs ++ gs)) where
+          -- What is told of a struct with both: the rows of the first fields, and the comparisons of all.
+          told-rows : (us vs : Forest) (end k : ℕ) → trees us ≡ length is
+              → told R S t (branch (nodeRow t place end k) h (us ⧺ vs)) .rows ≡ nodeRow t place end (length is) ∷ toldAll R S is us .rows
+          unfolding told toldAll rows rowsAll pruned prunedAll
+          told-rows us vs end k e = rw (shown, pruned-first R us vs (present fs h) e)
+
+          told-due : (us vs : Forest) (end k : ℕ) → trees us ≡ length is
+              → told R S t (branch (nodeRow t place end k) h (us ⧺ vs)) .due ≡ toldAll R S is us .due + toldAll R S js vs .due
+          unfolding told toldAll tree.value values comparisons comparisonsAll
+          told-due us vs end k e = rw (read, present-append fs gs h) (omega (arith, due-both S us vs (present fs h) (present gs (h / 2 ^ length fs)) e))
+
+          pub both-past : (due next below₂ : ℕ) (k m₂ after : List ℕ)
+              → Walked p here (toldHeld R S 0 (present gs rest)) (added here rest) row k (Past due next below₂) m₂
+              → after ≡ putRow m₁ row (nodeRow t place next (length is))
+              → Walked p start (told R S t) all row l (Past (sum + due) next below) after
+          unfolding Gave goOn andThen withRow toldHeld putRows
+          both-past due next below₂ k m₂ after v put =
+              let us = gave .0 in
+              let g = gave .1 in
+              let i = w .within in
+              let j = v .within in
+              record {
+                same = rw (all-next us g) (go (walk P [] js (cursorAt p here)) (rw (added-is, q, present-mod gs (h / 2 ^ length fs)) at (v .same)));
+                within = (j .0, omega arith, omega arith);
+              }
+            where
+              go : (o : Answer Forest)
+                  → done (cursorAt p next) due below₂ m₂ ≡ walkOf (toldHeld R S 0 js) (andThen o (withRow here (length js) (knownBits gs (h / 2 ^ length fs)))) 0 row k
+                  → done (cursorAt p next) (sum + due) below after
+                  ≡ walkOf (told R S t) (andThen (andThen o (λ vs c. seen (gave .0 ⧺ vs) c)) (withRow place (length (is ++ js)) h)) 0 row l
+              go (seen vs c) e =
+                  let us = gave .0 in
+                  let g = gave .1 in
+                  let f : cursorAt p next ≡ c = cc in
+                  let d : due ≡ 0 + (0 + toldAll R S js vs .due) = cc in
+                  let size = walk-size P [] is (cursorAt p start) us (cursorAt p here) (g .0) in
+                  rw (← f, told-rows us vs next (length (is ++ js)) size, told-due us vs next (length (is ++ js)) size)
+                  (done-eq refl (omega (arith, g .1)) (omega (arith, g .2)) (put ∙ ap (λ (x : List ℕ). putRow x row (nodeRow t place next (length is))) (g .3) ∙ put-twice _ row _ _))
+              go (refused n r) e = differ cc
+
+-- ---- by a table: n fields from the first on, of which m are shown
+
+module _ (T : Table) (first n m : ℕ) (le : m ≤ n) (room : first + n ≤ length (T .fields)) where
+  split : fieldsFrom T first n ≡ fieldsFrom T first m ++ fieldsFrom T (first + m) (n - m)
+  unfolding fieldsFrom
+  split =
+      let e : n ≡ m + (n - m) = omega arith in
+      ap (λ (k : ℕ). take k (drop first (T .fields))) e ∙ take-add m (n - m) (drop first (T .fields)) ∙ rw drop-drop
+
+  long : length (fieldsFrom T first m) ≡ m
+  long = length-fields T first m (omega arith)
+
+  -- the counts of the bits
+  pub mine-count : (h mine : ℕ) → mine ≡ h % 2 ^ m → ones mine ≡ length (present (fieldsFrom T first m) mine)
+  mine-count h mine e =
+      let k : mine ≡ knownBits (fieldsFrom T first m) h = rw long e in
+      rw k (sym (known-ones (fieldsFrom T first m) h) ∙ ap length (sym (present-mod (fieldsFrom T first m) h)))
+
+  pub few-ones : (h mine : ℕ) → mine ≡ h % 2 ^ m → ones mine ≤ 64 → length (present (fieldsFrom T first m) h) ≤ 64
+  few-ones h mine e le =
+      let k : mine ≡ knownBits (fieldsFrom T first m) h = rw long e in
+      rw (ap length (sym (present-mod (fieldsFrom T first m) h)), ← k, ← mine-count h mine e) le
+
+  module _ (R S : ℕ → Shape) (P : ℕ → Reader Tree) (t place h : ℕ) (p : List ℕ) (start row : ℕ) (l : List ℕ) where
+    abbrev fs : List Field
+    fs = fieldsFrom T first m
+
+    abbrev gs : List Field
+    gs = fieldsFrom T (first + m) (n - m)
+
+    abbrev Whole : Answer Tree
+    Whole = wholeValue P t (struct (fieldsFrom T first n)) (parts place h) (cursorAt p start)
+
+    all-split : Whole ≡ wholeValue P t (struct (fs ++ gs)) (parts place h) (cursorAt p start)
+    all-split = rw split
+
+    module _ (mine : ℕ) (is : mine ≡ h % 2 ^ m) where
+      mine-is : mine ≡ knownBits fs h
+      mine-is = rw long is
+
+      pub fields-accepted : Accepted Whole → Accepted (wholeValue P t (struct fs) (parts place mine) (cursorAt p start))
+      fields-accepted a = first-accepted R S P t place fs gs h p start row l mine mine-is (rw split at a)
+
+      pub fields-stop : (a q : ℕ) (after : List ℕ)
+          → Walked p start (toldHeld R S 0 (present fs mine)) (wholeValue P t (struct fs) (parts place mine) (cursorAt p start)) row l (Refused a q) after
+          → Walked p start (told R S t) Whole row l (Refused a q) after
+      fields-stop a q after w = renamed all-split (first-stop R S P t place fs gs h p start row l mine mine-is a q after w)
+
+      module _ (sum here below : ℕ) (m₁ : List ℕ)
+          (w : Walked p start (toldHeld R S 0 (present fs mine)) (wholeValue P t (struct fs) (parts place mine) (cursorAt p start)) row l (Past sum here below) m₁)
+          (rest : ℕ) (rest-is : rest ≡ h / 2 ^ m % 2 ^ (n - m)) where
+        rest-known : rest ≡ knownBits gs (h / 2 ^ length fs)
+        rest-known = let e : length gs ≡ n - m = length-fields T (first + m) (n - m) (omega arith) in rw (long, e) rest-is
+
+        pub others-accepted : Accepted Whole → Accepted (wholeValue P t (struct gs) (parts here rest) (cursorAt p here))
+        others-accepted a = added-accepted R S P t place fs gs h p start row l mine mine-is sum here below m₁ w rest rest-known (rw split at a)
+
+        pub others-stop : (a q : ℕ) (k m₂ after : List ℕ)
+            → Walked p here (toldHeld R S 0 (present gs rest)) (wholeValue P t (struct gs) (parts here rest) (cursorAt p here)) row k (Refused a q) m₂
+            → Walked p start (told R S t) Whole row l (Refused a q) after
+        others-stop a q k m₂ after v =
+            renamed all-split (added-stop R S P t place fs gs h p start row l mine mine-is sum here below m₁ w rest rest-known a q k m₂ after v)
+
+        pub others-past : R t ≡ struct fs → S t ≡ struct (fieldsFrom T first n) → (due next below₂ : ℕ) (k m₂ after : List ℕ)
+            → Walked p here (toldHeld R S 0 (present gs rest)) (wholeValue P t (struct gs) (parts here rest) (cursorAt p here)) row k (Past due next below₂) m₂
+            → after ≡ putRow m₁ row (nodeRow t place next (ones mine))
+            → Walked p start (told R S t) Whole row l (Past (sum + due) next below) after
+        others-past shown read due next below₂ k m₂ after v put =
+            let e : ones mine ≡ length (present fs h) = mine-count h mine is ∙ rw (mine-is, present-mod fs h) in
+            renamed all-split
+            (both-past R S P t place fs gs h p start row l mine mine-is sum here below m₁ w rest rest-known shown (read ∙ ap struct split) due next below₂ k m₂ after v (rw e at put))

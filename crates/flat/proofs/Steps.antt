@@ -1,0 +1,268 @@
+-- Laws of the walkers: what one step of a walk does to its end. What is read by the shapes S is shown by the shapes R.
+use mathlib.Core.Path.{_≡_, refl, sym, ap, _∙_}
+use mathlib.Core.Bool.{true, false}
+use mathlib.Core.List.{List, [], _∷_}
+use Prim.Native.Nat.{ℕ, zero, suc, _+_, _-_, _*_, _≤_, _<_}
+use native.Mathlib.Omega.{arith}
+use lib.ListN.{length, length-append}
+use Rattle.wire.proofs.Cases.{differ}
+use Rattle.parse.specs.Reader.{Cursor, Answer, refused, seen, Reader, andThen, check, cursorAt, Accepted}
+use Rattle.parse.proofs.Answers.{accepted-first}
+use Rattle.schema.specs.Table.{Shape}
+use Rattle.value.specs.declared.Row.{Row}
+use Rattle.value.specs.Value as tree
+use Rattle.value.specs.Value.{Tree, tip, branch, Forest, plus, rows, rowsAll, values}
+use Rattle.value.specs.Comparisons.{mapDue, comparisons, comparisonsAll}
+use Rattle.value.specs.Read.{Item, plainItem, plan, rowCount, Own, plain, parts, own, among, walk, leafRow, nodeRow, wholeValue, parse}
+use Rattle.value.specs.Beside.{pruned, prunedAll}
+use Rattle.walks.specs.Shape.{shapeIn}
+use Rattle.walks.proofs.Items.{keyItem, afterItem, afterKey, item-step, key-step}
+use Rattle.flat.specs.declared.leaf.Span.{Span}
+use Rattle.flat.specs.declared.leaf.Span.the-variants.{At, Refused as SpanRefused}
+use Rattle.flat.specs.declared.Walk.{Walk}
+use Rattle.flat.specs.declared.Walk.the-variants.{Past, Refused}
+use Rattle.flat.specs.Sheet.{putRow, putRows}
+use Rattle.flat.specs.Leaf.{part, spanOf, Spanned}
+use Rattle.flat.specs.Walk.{firstFields, Told, told, toldAll, toldHeld, Final, done, stopped, walkOf, Walked}
+use Rattle.flat.proofs.Sheets.{rows-append, length-rows}
+use Rattle.flat.proofs.Leaves.{length-part}
+
+-- ---- ends
+
+pub done-eq : {c c′ : Cursor} {d e r q : ℕ} {l k : List ℕ} → c ≡ c′ → d ≡ e → r ≡ q → l ≡ k → done c d r l ≡ done c′ e q k
+done-eq e f g h = cc
+
+-- a walk keeps the sheet's length
+pub walk-length : {A : Type 0} (f : A → Told) (o : Answer A) (due row : ℕ) (l : List ℕ) (c : Cursor) (due′ row′ : ℕ) (m : List ℕ)
+    → done c due′ row′ m ≡ walkOf f o due row l → length m ≡ length l
+walk-length f (seen a c₁) due row l c due′ row′ m e = let g : m ≡ putRows l row (f a .rows) = cc in rw g (length-rows l row (f a .rows))
+walk-length f (refused n q) due row l c due′ row′ m e = differ cc
+
+-- where two answers have the same end, one accepts where the other does
+pub accepted-along : {A B : Type 0} (f : A → Told) (g : B → Told) (o : Answer A) (o′ : Answer B) (due due′ row row′ : ℕ) (l m : List ℕ)
+    → walkOf f o due row l ≡ walkOf g o′ due′ row′ m → Accepted o′ → Accepted o
+accepted-along f g (seen a c) o′ due due′ row row′ l m e h = tt
+accepted-along f g (refused n q) (seen b c) due due′ row row′ l m e h = differ cc
+accepted-along f g (refused n q) (refused n′ q′) due due′ row row′ l m e h = h
+
+-- a walk that starts with more comparisons ends with as many more
+later : {A : Type 0} (f : A → Told) (o : Answer A) (sum row : ℕ) (l : List ℕ) (c : Cursor) (due row′ : ℕ) (m : List ℕ)
+    → done c due row′ m ≡ walkOf f o 0 row l → done c (sum + due) row′ m ≡ walkOf f o sum row l
+later f (seen a c₁) sum row l c due row′ m e =
+    let same : c ≡ c₁ = cc in
+    let g : due ≡ 0 + f a .due = cc in
+    let k : row′ ≡ row + length (f a .rows) = cc in
+    let put : m ≡ putRows l row (f a .rows) = cc in
+    done-eq same (omega arith) k put
+later f (refused n q) sum row l c due row′ m e = differ cc
+
+-- a refusal does not depend on them
+stopped-too : {A : Type 0} (f : A → Told) (o : Answer A) (sum row : ℕ) (l : List ℕ) (n q : ℕ)
+    → stopped n q ≡ walkOf f o 0 row l → stopped n q ≡ walkOf f o sum row l
+stopped-too f (seen a c₁) sum row l n q e = differ cc
+stopped-too f (refused n′ q′) sum row l n q e = e
+
+module _ {A : Type 0} {f : A → Told} {p : List ℕ} where
+  pub renamed : {least : ℕ} {o o′ : Answer A} {row : ℕ} {l : List ℕ} {r : Walk} {m : List ℕ}
+      → o ≡ o′ → Walked p least f o′ row l r m → Walked p least f o row l r m
+  renamed e w = rw e w
+
+  pub was : {least : ℕ} {o : Answer A} {row : ℕ} {l : List ℕ} {r r′ : Walk} {m : List ℕ}
+      → Walked p least f o row l r m → r ≡ r′ → Walked p least f o row l r′ m
+  was w e = rw e at w
+
+  pub as-refused : {least : ℕ} {row : ℕ} {l m : List ℕ} (o : Answer A) (n q : ℕ) → o ≡ refused n q → Walked p least f o row l (Refused n q) m
+  as-refused o n q e = record { same = rw e; within = tt }
+
+  -- less is asked of the place where a walk ends
+  pub further : (least least′ : ℕ) {o : Answer A} {row : ℕ} {l : List ℕ} (r : Walk) {m : List ℕ}
+      → least′ ≤ least → Walked p least f o row l r m → Walked p least′ f o row l r m
+  further least least′ (Past due next row) h w = record { same = w .same; within = let v = w .within in (v .0, v .1, omega arith) }
+  further least least′ (Refused n q) h w = record { same = w .same; within = tt }
+
+pub stop-at : {A : Type 0} (f : A → Told) (o : Answer A) (row : ℕ) (l : List ℕ) (n q : ℕ) → o ≡ refused n q → stopped n q ≡ walkOf f o 0 row l
+stop-at f o row l n q e = rw e
+
+-- ---- items one after the other
+
+-- The end of a walk over the items of a plan.
+abbrev pub ahead : (R S : ℕ → Shape) → (ℕ → Reader Tree) → (keys : List (List ℕ)) → List Item → Cursor → (due row : ℕ) → List ℕ → Final
+ahead R S P keys is c due row l = walkOf (toldAll R S is) (walk P keys is c) due row l
+
+-- By the table in the file s, of a payload, shown as far as is known.
+abbrev pub aheadIn : (known s p : List ℕ) (depth : ℕ) (keys : List (List ℕ)) → List Item → (here due row : ℕ) → List ℕ → Final
+aheadIn known s p depth keys is here due row l =
+    ahead (firstFields known (shapeIn s)) (shapeIn s) (parse (shapeIn s) depth) keys is (cursorAt p here) due row l
+
+module _ (R S : ℕ → Shape) where
+  then-plus : (i : Item) (is : List Item) (t : Tree) (o : Answer Forest) (due row : ℕ) (l : List ℕ)
+      → walkOf (toldAll R S (i ∷ is)) (andThen o (λ ts c. seen (plus t ts) c)) due row l
+      ≡ walkOf (toldAll R S is) o (due + told R S (i .type) t .due) (row + length (told R S (i .type) t .rows)) (putRows l row (told R S (i .type) t .rows))
+  unfolding andThen told toldAll rows rowsAll pruned prunedAll tree.value values comparisons comparisonsAll
+  then-plus i is t (seen ts c) due row l =
+      done-eq refl (omega arith) (rw length-append (omega arith)) (rows-append l row (rows (pruned R t (i .type))) (rowsAll (prunedAll R ts is)))
+  then-plus i is t (refused n q) due row l = refl
+
+  module _ (P : ℕ → Reader Tree) (keys : List (List ℕ)) (is : List Item) where
+    past : (t : ℕ) (o : Answer Tree) (due row : ℕ) (l : List ℕ) (c′ : Cursor) (due′ row′ : ℕ) (m : List ℕ)
+        → done c′ due′ row′ m ≡ walkOf (told R S t) o due row l
+        → walkOf (toldAll R S (plainItem t ∷ is)) (andThen o (afterItem P keys is)) due row l ≡ ahead R S P keys is c′ due′ row′ m
+    unfolding andThen afterItem
+    past t (seen x c) due row l c′ due′ row′ m e = then-plus (plainItem t) is x (walk P keys is c) due row l ∙ cc
+    past t (refused n q) due row l c′ due′ row′ m e = differ cc
+
+    halted : {A B : Type 0} (g : A → Reader B) (f : A → Told) (k : B → Told) (o : Answer A) (due row : ℕ) (l : List ℕ) (n q : ℕ)
+        → stopped n q ≡ walkOf f o due row l → stopped n q ≡ walkOf k (andThen o g) due row l
+    unfolding andThen
+    halted g f k (seen a c) due row l n q e = differ cc
+    halted g f k (refused n′ q′) due row l n q e = e
+
+    module _ (t : ℕ) (c : Cursor) (sum row : ℕ) (l : List ℕ) where
+      pub item-past : (c′ : Cursor) (due row′ : ℕ) (m : List ℕ) → done c′ due row′ m ≡ walkOf (told R S t) (P t c) 0 row l
+          → ahead R S P keys (plainItem t ∷ is) c sum row l ≡ ahead R S P keys is c′ (sum + due) row′ m
+      item-past c′ due row′ m e =
+          rw (item-step P keys is t c) (past t (P t c) sum row l c′ (sum + due) row′ m (later (told R S t) (P t c) sum row l c′ due row′ m e))
+
+      pub item-stop : (n q : ℕ) → stopped n q ≡ walkOf (told R S t) (P t c) 0 row l → stopped n q ≡ ahead R S P keys (plainItem t ∷ is) c sum row l
+      item-stop n q e =
+          rw (item-step P keys is t c)
+          (halted (afterItem P keys is) (told R S t) (toldAll R S (plainItem t ∷ is)) (P t c) sum row l n q (stopped-too (told R S t) (P t c) sum row l n q e))
+
+    pub key-stop : (k : ℕ) (c : Cursor) (sum row : ℕ) (l : List ℕ) (n q : ℕ) → P k c ≡ refused n q
+        → stopped n q ≡ ahead R S P keys (keyItem k ∷ is) c sum row l
+    unfolding andThen
+    key-stop k c sum row l n q e = rw (key-step P keys is k c, e)
+
+    module _ (k : ℕ) (c : Cursor) (r : Row) (x : List ℕ) (c′ : Cursor) (read : P k c ≡ seen (tip r x) c′) where
+      pub key-again : (sum row : ℕ) (l : List ℕ) → among x keys ≡ true → stopped 24 (c .at) ≡ ahead R S P keys (keyItem k ∷ is) c sum row l
+      unfolding andThen check afterKey tree.value
+      key-again sum row l e = rw (key-step P keys is k c, read, e)
+
+      pub key-new : (sum row : ℕ) (l : List ℕ) → among x keys ≡ false
+          → ahead R S P keys (keyItem k ∷ is) c sum row l ≡ ahead R S P (x ∷ keys) is c′ sum (row + 1) (putRow l row r)
+      unfolding andThen check afterKey tree.value told rows pruned comparisons putRows
+      key-new sum row l e =
+          let z : sum + 0 ≡ sum = omega arith in
+          rw (key-step P keys is k c, read, e) (then-plus (keyItem k) is (tip r x) (walk P (x ∷ keys) is c′) sum row l ∙ rw z)
+
+  pub walk-end : (P : ℕ → Reader Tree) (keys : List (List ℕ)) (c : Cursor) (due row : ℕ) (l : List ℕ) → done c due row l ≡ ahead R S P keys [] c due row l
+  unfolding walk toldAll rowsAll prunedAll values comparisonsAll putRows
+  walk-end P keys c due row l = done-eq refl (omega arith) (omega arith) refl
+
+-- ---- a composite
+
+module _ (R S : ℕ → Shape) (P : ℕ → Reader Tree) (sh : Shape) (t place h : ℕ) (c : Cursor) (row : ℕ) (l : List ℕ) where
+  own-row : (o : Answer Forest) (c′ : Cursor) (sum due below : ℕ) (m : List ℕ) → due ≡ mapDue sh h + sum
+      → done c′ sum below m ≡ walkOf (toldAll R S (plan sh h)) o 0 (row + 1) l
+      → done c′ due below (putRow m row (nodeRow t place (c′ .at) (rowCount sh h)))
+      ≡ walkOf (toldHeld R S (mapDue sh h) (plan sh h)) (andThen o (λ ts end. seen (branch (nodeRow t place (end .at) (rowCount sh h)) h ts) end)) 0 row l
+  unfolding andThen toldHeld putRows
+  own-row (seen ts c₁) c′ sum due below m d e =
+      let f : c′ ≡ c₁ = cc in
+      let u : sum ≡ 0 + toldAll R S (plan sh h) ts .due = cc in
+      let g : below ≡ row + 1 + length (toldAll R S (plan sh h) ts .rows) = cc in
+      let k : m ≡ putRows l (row + 1) (toldAll R S (plan sh h) ts .rows) = cc in
+      rw (← k, ← f) (done-eq refl (omega arith) (omega arith) refl)
+  own-row (refused n q) c′ sum due below m d e = differ cc
+
+  -- its own row is written after those of what it holds
+  pub composite-past : (p : List ℕ) (least here sum due below : ℕ) (m after : List ℕ) (keys : List (List ℕ)) (is : List Item)
+      → is ≡ []
+      → ahead R S P keys is (cursorAt p here) sum below m ≡ ahead R S P [] (plan sh h) c 0 (row + 1) l
+      → due ≡ mapDue sh h + sum
+      → after ≡ putRow m row (nodeRow t place here (rowCount sh h))
+      → here ≤ length p → below ≤ here → due + 16 * least ≤ 16 * here
+      → Walked p least (toldHeld R S (mapDue sh h) (plan sh h)) (wholeValue P t sh (parts place h) c) row l (Past due here below) after
+  composite-past p least here sum due below m after keys is none e d put i b f =
+      record {
+        same = rw put (own-row (walk P [] (plan sh h) c) (cursorAt p here) sum due below m d (walk-end R S P keys (cursorAt p here) sum below m ∙ rw none at e));
+        within = (i, b, f);
+      }
+
+  pub composite-stop : (p : List ℕ) (least n q : ℕ) (after : List ℕ)
+      → stopped n q ≡ ahead R S P [] (plan sh h) c 0 (row + 1) l
+      → Walked p least (toldHeld R S (mapDue sh h) (plan sh h)) (wholeValue P t sh (parts place h) c) row l (Refused n q) after
+  unfolding andThen
+  composite-stop p least n q after e = record { same = go (walk P [] (plan sh h) c) e; within = tt }
+    where
+      go : (o : Answer Forest) → stopped n q ≡ walkOf (toldAll R S (plan sh h)) o 0 (row + 1) l
+          → stopped n q ≡ walkOf (toldHeld R S (mapDue sh h) (plan sh h)) (andThen o (λ ts end. seen (branch (nodeRow t place (end .at) (rowCount sh h)) h ts) end)) 0 row l
+      go (seen ts c₁) e = differ cc
+      go (refused n′ q′) e = e
+
+  -- what is left of an accepted composite is accepted
+  pub rest-accepted : (o : Answer Forest) (is : List Item) (sum below : ℕ) (m : List ℕ)
+      → walkOf (toldAll R S is) o sum below m ≡ ahead R S P [] (plan sh h) c 0 (row + 1) l
+      → Accepted (wholeValue P t sh (parts place h) c) → Accepted o
+  rest-accepted o is sum below m e a =
+      accepted-along (toldAll R S is) (toldAll R S (plan sh h)) o (walk P [] (plan sh h) c) sum 0 below (row + 1) m l e (accepted-first (walk P [] (plan sh h) c) _ a)
+
+  -- where all that it holds is shown, it is shown as it is
+  module _ (shown : R t ≡ sh) (read : S t ≡ sh) where
+    held-same : (o : Answer Forest)
+        → walkOf (toldHeld R S (mapDue sh h) (plan sh h)) (andThen o (λ ts end. seen (branch (nodeRow t place (end .at) (rowCount sh h)) h ts) end)) 0 row l
+        ≡ walkOf (told R S t) (andThen o (λ ts end. seen (branch (nodeRow t place (end .at) (rowCount sh h)) h ts) end)) 0 row l
+    unfolding andThen toldHeld told toldAll rows rowsAll pruned prunedAll tree.value values comparisons comparisonsAll
+    held-same (seen ts c₁) = rw (shown, read)
+    held-same (refused n q) = refl
+
+    pub as-told : {p : List ℕ} {least : ℕ} {r : Walk} {m : List ℕ}
+        → Walked p least (toldHeld R S (mapDue sh h) (plan sh h)) (wholeValue P t sh (parts place h) c) row l r m
+        → Walked p least (told R S t) (wholeValue P t sh (parts place h) c) row l r m
+    as-told w = record { same = w .same ∙ held-same (walk P [] (plan sh h) c); within = w .within }
+
+-- ---- a value by its own bytes
+
+module _ (S : ℕ → Shape) (d t : ℕ) (c : Cursor) (sh : Shape) (is : S t ≡ sh) where
+  parse-step : parse S (suc d) t c ≡ andThen (own (S t) c) (λ o. wholeValue (parse S d) t (S t) o)
+  unfolding parse
+  parse-step = refl
+
+  pub parse-refused : (n q : ℕ) → own sh c ≡ refused n q → parse S (suc d) t c ≡ refused n q
+  unfolding andThen
+  parse-refused n q e = rw (parse-step, is, e)
+
+  pub parse-whole : (o : Own) (c′ : Cursor) → own sh c ≡ seen o c′ → parse S (suc d) t c ≡ wholeValue (parse S d) t sh o c′
+  unfolding andThen
+  parse-whole o c′ e = rw (parse-step, is, e)
+
+  pub own-accepted : Accepted (parse S (suc d) t c) → Accepted (own sh c)
+  own-accepted h = accepted-first (own sh c) _ (rw (parse-step, is) at h)
+
+pub parse-deep : (S : ℕ → Shape) (d t : ℕ) (c : Cursor) → d ≡ 0 → parse S d t c ≡ refused 28 (c .at)
+unfolding parse
+parse-deep S zero t c e = refl
+parse-deep S (suc d) t c e = absurd (omega arith)
+
+-- ---- a leaf
+
+abbrev pub spanRow : (t from to : ℕ) → Row
+spanRow t from to = record { ty = t; place = from; length = to - from; count = 0 }
+
+module _ (S : ℕ → Shape) (d t : ℕ) (sh : Shape) (is : S t ≡ sh) (some : (d ≡ 0) → ⊥) (p : List ℕ) (at : ℕ) (r : Span)
+    (read : Spanned p at (own sh (cursorAt p at)) r) where
+  deep : d ≡ suc (d - 1)
+  deep = omega (arith, some)
+
+  pub leaf-failed : (n q : ℕ) → r ≡ SpanRefused q n → parse S d t (cursorAt p at) ≡ refused n q
+  leaf-failed n q e = rw deep (parse-refused S (d - 1) t (cursorAt p at) sh is n q (sym (read .same) ∙ ap (spanOf p) e))
+
+  module _ (from to : ℕ) (e : r ≡ At from to) where
+    pub leaf-in : (from ≤ to) × (to ≤ length p) × (at < to)
+    leaf-in = rw e at (read .within)
+
+    leaf-row : leafRow t to (length (part p from to)) ≡ spanRow t from to
+    leaf-row =
+        let i = leaf-in in
+        let k : to - (to - from) ≡ from = omega arith in
+        rw (length-part p from to (i .1), k)
+
+    pub leaf-parsed : parse S d t (cursorAt p at) ≡ seen (tip (spanRow t from to) (part p from to)) (cursorAt p to)
+    leaf-parsed =
+        rw deep (parse-whole S (d - 1) t (cursorAt p at) sh is (plain (part p from to)) (cursorAt p to) (sym (read .same) ∙ ap (spanOf p) e))
+        ∙ ap (λ (w : Row). seen (tip w (part p from to)) (cursorAt p to)) leaf-row
+
+    pub leaf-past : (R : ℕ → Shape) (row : ℕ) (l after : List ℕ) → row ≤ at → after ≡ putRow l row (spanRow t from to)
+        → Walked p (at + 1) (told R S t) (parse S d t (cursorAt p at)) row l (Past 0 to (row + 1)) after
+    unfolding told rows pruned tree.value comparisons putRows
+    leaf-past R row l after b put = let i = leaf-in in record { same = rw (leaf-parsed, put); within = (i .1, omega arith, omega arith) }

@@ -1,0 +1,108 @@
+-- Types whose values hold nothing but scalars, strings and bytes, as the loop over an array of such values needs them.
+use mathlib.Core.Path.{_≡_}
+use mathlib.Core.Bool.{Bool}
+use mathlib.Core.List.{List}
+use Prim.Native.Nat.{ℕ, _+_, _^_, _≤_, _<_}
+use lib.ListN.{length}
+use Rattle.parse.specs.Reader.{Answer, refused, seen, cursorAt}
+use Rattle.schema.specs.Table.{Table, Shape, rowAt, array, map, struct}
+use Rattle.schema.specs.File.{tableOf, Laid}
+use Rattle.schema.specs.Check.{fieldRow}
+use Rattle.value.specs.Comparisons.{mapDue}
+use Rattle.value.specs.Read.{Own, parts, own, plan}
+use Rattle.walks.specs.Shape.{fieldsFrom, shapeIn}
+use Rattle.walks.specs.Required.{Requires}
+use Rattle.flat.specs.declared.elements.Prepared.{Prepared}
+use Rattle.flat.specs.declared.elements.Opened.{Opened}
+use Rattle.flat.specs.declared.elements.Opened.the-variants.{Bits, Refused}
+use Rattle.flat.specs.declared.Walk.{Walk}
+use Rattle.flat.specs.Walk.{valueIn, wholeIn, told, toldHeld, Walked, Ready}
+
+-- The fields from one number up to another are scalars, strings or bytes.
+abbrev pub LeavesIn : Table → (first end : ℕ) → Type 0
+LeavesIn T first end = (i : ℕ) → first ≤ i → i < end → rowAt T (fieldRow T i .ty) .kind < 14
+
+-- Such a value itself, an array of them, or a struct of them; what it holds is within the depth.
+pub record IsFlat (s : List ℕ) (depth ty : ℕ) : Type 0 where
+  pub some : 0 < rowAt (tableOf s) ty .kind
+  pub deep : 13 < rowAt (tableOf s) ty .kind → 1 < depth
+  pub elements : rowAt (tableOf s) ty .kind ≡ 14 → rowAt (tableOf s) (rowAt (tableOf s) ty .a) .kind < 14
+  pub fields : rowAt (tableOf s) ty .kind ≡ 16 → LeavesIn (tableOf s) (rowAt (tableOf s) ty .a) (rowAt (tableOf s) ty .a + rowAt (tableOf s) ty .b)
+  pub other : 13 < rowAt (tableOf s) ty .kind → (rowAt (tableOf s) ty .kind ≡ 14 → ⊥) → rowAt (tableOf s) ty .kind ≡ 16
+
+-- Keys and values of a map are scalars, strings or bytes.
+abbrev pub PairsIn : Table → (key val : ℕ) → Type 0
+PairsIn T key val = (0 < rowAt T key .kind) × (rowAt T key .kind < 14) × (0 < rowAt T val .kind) × (rowAt T val .kind < 14)
+
+-- What is read once of a type.
+pub record Described (s : List ℕ) (ty : ℕ) (e : Prepared) : Type 0 where
+  pub same : e .ty ≡ ty
+  pub laid : Laid s (e .layout)
+  pub is : e .row ≡ rowAt (tableOf s) ty
+  pub required : e .row .kind ≡ 16 → Requires (e .required) (fieldsFrom (tableOf s) (e .row .a) (e .row .b))
+
+-- ---- the bitmap of an inner struct
+
+abbrev pub openedOf : List ℕ → ℕ → Opened → Answer Own
+openedOf p at (Bits known start) = seen (parts at known) (cursorAt p start)
+openedOf p at (Refused number) = refused number at
+
+abbrev pub OpenedIn : (size n at : ℕ) → Opened → Type 0
+OpenedIn size n at (Bits known start) = (known < 2 ^ n) × (at < start) × (start ≤ size)
+OpenedIn size n at (Refused number) = Unit {0}
+
+pub record Unfolded (p : List ℕ) (required n at : ℕ) (r : Opened) : Type 0 where
+  pub same : (T : Table) (first : ℕ) → first + n ≤ length (T .fields) → Requires required (fieldsFrom T first n)
+      → openedOf p at r ≡ own (struct (fieldsFrom T first n)) (cursorAt p at)
+  pub within : OpenedIn (length p) n at r
+
+-- ---- what is answered, by whatever shapes R it is shown
+
+-- A value whose type is shown whole.
+abbrev pub ValuedFlat : (s p : List ℕ) (depth ty at row : ℕ) (sheet : List ℕ) → Walk → (after : List ℕ) → Type 0
+ValuedFlat s p depth ty at row sheet r after =
+    (R : ℕ → Shape) → R ty ≡ shapeIn s ty → Walked p (at + 1) (told R (shapeIn s) ty) (valueIn s p depth ty at) row sheet r after
+
+-- An array from its head on, whose elements' type is shown whole.
+abbrev pub HeldFlat : (s p : List ℕ) (depth ty elem place n at row : ℕ) (sheet : List ℕ) → Walk → (after : List ℕ) → Type 0
+HeldFlat s p depth ty elem place n at row sheet r after =
+    (R : ℕ → Shape) → R elem ≡ shapeIn s elem → Walked p at (toldHeld R (shapeIn s) 0 (plan (array elem) n)) (wholeIn s p depth ty (array elem) place n at) row sheet r after
+
+-- An array from its head on whose elements are scalars, strings or bytes.
+abbrev pub HeldLeaves : (s p : List ℕ) (depth ty elem place n at row : ℕ) (sheet : List ℕ) → Walk → (after : List ℕ) → Type 0
+HeldLeaves s p depth ty elem place n at row sheet r after =
+    (R : ℕ → Shape) → Walked p at (toldHeld R (shapeIn s) 0 (plan (array elem) n)) (wholeIn s p depth ty (array elem) place n at) row sheet r after
+
+-- A map from its head on whose keys and values are scalars, strings or bytes.
+abbrev pub HeldPairs : (s p : List ℕ) (depth ty key val place n at row : ℕ) (sheet : List ℕ) → Walk → (after : List ℕ) → Type 0
+HeldPairs s p depth ty key val place n at row sheet r after =
+    (R : ℕ → Shape)
+    → Walked p at (toldHeld R (shapeIn s) (mapDue (map key val) n) (plan (map key val) n)) (wholeIn s p depth ty (map key val) place n at) row sheet r after
+
+-- What the loop over the n pairs of such a map may assume.
+pub record PairsReady (s p : List ℕ) (depth ty key val n start row : ℕ) (judging : Bool) : Type 0 where
+  pub ready : Ready s p start (row + 1) judging (wholeIn s p depth ty (map key val) start n start)
+  pub leaves : PairsIn (tableOf s) key val
+  pub most : n ≤ 64
+
+-- ---- structs of which only the first fields are shown
+
+-- The fields of a struct from its bits on, with a row for each, all scalars, strings or bytes: n fields from the first on.
+abbrev pub HeldFields : (s p : List ℕ) (depth ty first n place known at row : ℕ) (sheet : List ℕ) → Walk → (after : List ℕ) → Type 0
+HeldFields s p depth ty first n place known at row sheet r after =
+    (R : ℕ → Shape)
+    → Walked p at (toldHeld R (shapeIn s) 0 (plan (struct (fieldsFrom (tableOf s) first n)) known)) (wholeIn s p depth ty (struct (fieldsFrom (tableOf s) first n)) place known at) row sheet r after
+
+-- The first m fields of a type's row.
+abbrev pub firstShape : (s : List ℕ) (ty m : ℕ) → Shape
+firstShape s ty m = struct (fieldsFrom (tableOf s) (rowAt (tableOf s) ty .a) m)
+
+-- A struct of which the first m fields are shown.
+abbrev pub ValuedPart : (s p : List ℕ) (depth ty m at row : ℕ) (sheet : List ℕ) → Walk → (after : List ℕ) → Type 0
+ValuedPart s p depth ty m at row sheet r after =
+    (R : ℕ → Shape) → R ty ≡ firstShape s ty m → Walked p (at + 1) (told R (shapeIn s) ty) (valueIn s p depth ty at) row sheet r after
+
+-- An array of such structs from its head on.
+abbrev pub HeldPart : (s p : List ℕ) (depth ty elem m place n at row : ℕ) (sheet : List ℕ) → Walk → (after : List ℕ) → Type 0
+HeldPart s p depth ty elem m place n at row sheet r after =
+    (R : ℕ → Shape) → R elem ≡ firstShape s elem m → Walked p at (toldHeld R (shapeIn s) 0 (plan (array elem) n)) (wholeIn s p depth ty (array elem) place n at) row sheet r after

@@ -1,0 +1,118 @@
+-- What a walker answers: the reading of the crate `value`, with the rows that are shown of it written into the sheet.
+use mathlib.Core.Path.{_≡_}
+use mathlib.Core.Bool.{Bool, false}
+use mathlib.Core.List.{List, [], _∷_}
+use Prim.Native.Nat.{ℕ, _+_, _*_, _≤_}
+use lib.ListN.{length, getD}
+use Rattle.parse.specs.Reader.{Cursor, Answer, refused, seen, cursorAt, Accepted}
+use Rattle.schema.specs.declared.Field.{Field}
+use Rattle.schema.specs.Table.{Shape, struct}
+use Rattle.schema.specs.Check.{IsGood}
+use Rattle.value.specs.declared.Row.{Row}
+use Rattle.value.specs.Value.{Tree, tip, branch, Forest, rowsAll, value, values}
+use Rattle.value.specs.Comparisons.{mapDue, comparisons, comparisonsAll}
+use Rattle.value.specs.Read.{Item, plan, parts, wholeValue, parse, rootStruct}
+use Rattle.value.specs.Beside.{prunedAll, shownRows}
+use Rattle.value.specs.Narrow.{firstOf}
+use Rattle.walks.specs.Shape.{shapeIn}
+use Rattle.flat.specs.declared.Walk.{Walk}
+use Rattle.flat.specs.declared.Walk.the-variants.{Past, Refused}
+use Rattle.flat.specs.Sheet.{putRows}
+
+-- ---- the readings of the crate `value`, by the table in the file s, at a place of the payload p
+
+abbrev pub valueIn : (s p : List ℕ) (depth ty at : ℕ) → Answer Tree
+valueIn s p depth ty at = parse (shapeIn s) depth ty (cursorAt p at)
+
+-- A composite of this shape from its head on; its place is `place`.
+abbrev pub wholeIn : (s p : List ℕ) (depth ty : ℕ) → Shape → (place head at : ℕ) → Answer Tree
+wholeIn s p depth ty sh place head at = wholeValue (parse (shapeIn s) depth) ty sh (parts place head) (cursorAt p at)
+
+abbrev pub rootIn : (s p : List ℕ) (ty : ℕ) → List Field → Answer Tree
+rootIn s p ty fs = rootStruct (shapeIn s) ty fs (cursorAt p 0)
+
+-- ---- what is told of it
+
+-- The rows that are shown, and the key comparisons due.
+pub record Told : Type 0 where
+  pub rows : List Row
+  pub due : ℕ
+
+-- Shown by the shapes R, and read by the shapes S.
+module _ (R S : ℕ → Shape) where
+  -- A tree of type t.
+  unfoldable pub told : (t : ℕ) → Tree → Told
+  told t tree = record { rows = shownRows R t tree; due = comparisons S (value tree) t }
+
+  -- What was read by a plan.
+  unfoldable pub toldAll : List Item → Forest → Told
+  toldAll is ts = record { rows = rowsAll (prunedAll R ts is); due = comparisonsAll S (values ts) is }
+
+  -- A composite with its own row as it is, the comparisons of its own keys, and what was read by its plan.
+  unfoldable pub toldHeld : (own : ℕ) → List Item → Tree → Told
+  toldHeld own is (tip r x) = record { rows = r ∷ []; due = own }
+  toldHeld own is (branch r h ts) = record { rows = r ∷ toldAll is ts .rows; due = own + toldAll is ts .due }
+
+-- The shapes S with the first fields of each struct alone, as many as are known of its type.
+unfoldable pub firstFields : (known : List ℕ) → (ℕ → Shape) → ℕ → Shape
+firstFields known S t = firstOf (getD known t 0) (S t)
+
+abbrev pub toldIn : (known s : List ℕ) (ty : ℕ) → Tree → Told
+toldIn known s ty = told (firstFields known (shapeIn s)) (shapeIn s) ty
+
+abbrev pub heldIn : (known s : List ℕ) → Shape → (head : ℕ) → Tree → Told
+heldIn known s sh head = toldHeld (firstFields known (shapeIn s)) (shapeIn s) (mapDue sh head) (plan sh head)
+
+-- ---- what a walker answers
+
+-- Where a walk ends: past what it read, with the comparisons due so far, the number of the next row and the sheet; or at a refusal.
+pub data Final : Type 0 where
+  done : Cursor → (due row : ℕ) → (sheet : List ℕ) → Final
+  stopped : (number place : ℕ) → Final
+
+-- The end of a walk that gives this answer, after so many comparisons, whose rows stand in the sheet from `row` on.
+abbrev pub walkOf : {A : Type 0} → (A → Told) → Answer A → (due row : ℕ) → List ℕ → Final
+walkOf tell (seen a c) due row sheet = done c (due + tell a .due) (row + length (tell a .rows)) (putRows sheet row (tell a .rows))
+walkOf tell (refused n q) due row sheet = stopped n q
+
+-- A walker's answer over the payload p, with the sheet that it leaves. Of what a refusal leaves there nothing is said: the entry lends memory of its own,
+-- or puts back what stood there.
+abbrev pub endOf : List ℕ → Walk → List ℕ → Final
+endOf p (Past due next row) sheet = done (cursorAt p next) due row sheet
+endOf p (Refused n q) sheet = stopped n q
+
+-- Each value takes a byte at least, so the number of rows never overtakes the place. A map of n pairs has at most 32 n comparisons and takes
+-- 2 n bytes more than its count, so the comparisons never overtake 16 times the bytes after the first.
+abbrev pub Within : (size least : ℕ) → Walk → Type 0
+Within size least (Past due next row) = (next ≤ size) × (row ≤ next) × (due + 16 * least ≤ 16 * next)
+Within size least (Refused n q) = Unit {0}
+
+pub record Walked {A : Type 0} (p : List ℕ) (least : ℕ) (tell : A → Told) (o : Answer A) (row : ℕ) (sheet : List ℕ) (r : Walk) (after : List ℕ) : Type 0 where
+  pub same : endOf p r after ≡ walkOf tell o 0 row sheet
+  pub within : Within (length p) least r
+
+-- A value of type ty.
+abbrev pub Valued : (known s p : List ℕ) (depth ty at row : ℕ) (sheet : List ℕ) → Walk → (after : List ℕ) → Type 0
+Valued known s p depth ty at row sheet r after = Walked p (at + 1) (toldIn known s ty) (valueIn s p depth ty at) row sheet r after
+
+-- A composite from its head on, with its own row as it is.
+abbrev pub Held : (known s p : List ℕ) (depth ty : ℕ) → Shape → (place head at row : ℕ) (sheet : List ℕ) → Walk → (after : List ℕ) → Type 0
+Held known s p depth ty sh place head at row sheet r after =
+    Walked p at (heldIn known s sh head) (wholeIn s p depth ty sh place head at) row sheet r after
+
+-- A struct of the fields fs from its bits on, with its row as it is shown.
+abbrev pub Shown : (known s p : List ℕ) (depth ty : ℕ) → List Field → (place head at row : ℕ) (sheet : List ℕ) → Walk → (after : List ℕ) → Type 0
+Shown known s p depth ty fs place head at row sheet r after =
+    Walked p at (toldIn known s ty) (wholeIn s p depth ty (struct fs) place head at) row sheet r after
+
+-- The root.
+abbrev pub Rooted : (known s p : List ℕ) (ty : ℕ) → List Field → (sheet : List ℕ) → Walk → (after : List ℕ) → Type 0
+Rooted known s p ty fs sheet r after = Walked p 1 (toldIn known s ty) (rootIn s p ty fs) 0 sheet r after
+
+-- What a walker may assume. A walk that does not judge has been judged: its answer is known to accept.
+pub record Ready {A : Type 0} (s p : List ℕ) (at row : ℕ) (judging : Bool) (o : Answer A) : Type 0 where
+  pub good : IsGood s
+  pub small : length p ≤ 16384
+  pub inside : at ≤ length p
+  pub behind : row ≤ at
+  pub judged : judging ≡ false → Accepted o
