@@ -10,39 +10,41 @@ use lib.Seq.{take-all, drop-nil, drop-cons, getD-set-same}
 use lib.Dec.{eqb}
 use borrow.Author.Tests.{eqb-true}
 use Rattle.calls.specs.Slots.{holds, flagOfNumber, distinct}
+use Rattle.schema.specs.Flags.{mixed}
 use Rattle.schema.proofs.Bools.{clash}
 use Rattle.schema.proofs.Flags.{set-kept}
 use Rattle.schema.proofs.Products.{top-below}
 
-pub flag-below : (x : ℕ) → flagOfNumber x < 1024
-unfolding flagOfNumber
-flag-below x = top-below 10 54 (x * 0x9E37_79B9_7F4A_7C15)
+pub flag-below : (b : Bool) (x : ℕ) → flagOfNumber b x < 1024
+unfolding flagOfNumber mixed
+flag-below true x = top-below 10 54 _
+flag-below false x = top-below 10 54 _
 
-abbrev bits : List Bool → ℕ → Bool
-bits seen x = getD seen (flagOfNumber x) false
+abbrev bits : (mixing : Bool) → List Bool → ℕ → Bool
+bits b seen x = getD seen (flagOfNumber b x) false
 
-abbrev Seen : List Bool → List ℕ → Type 0
-Seen seen [] = Unit {0}
-Seen seen (x ∷ xs) = (bits seen x ≡ true) × Seen seen xs
+abbrev Seen : (mixing : Bool) → List Bool → List ℕ → Type 0
+Seen b seen [] = Unit {0}
+Seen b seen (x ∷ xs) = (bits b seen x ≡ true) × Seen b seen xs
 
-seen-kept : (seen : List Bool) (i : ℕ) (xs : List ℕ) → Seen seen xs → Seen (set seen i true) xs
-seen-kept seen i [] s = tt
-seen-kept seen i (x ∷ xs) s = (set-kept seen i (flagOfNumber x) (s .0), seen-kept seen i xs (s .1))
+seen-kept : (b : Bool) (seen : List Bool) (i : ℕ) (xs : List ℕ) → Seen b seen xs → Seen b (set seen i true) xs
+seen-kept b seen i [] s = tt
+seen-kept b seen i (x ∷ xs) s = (set-kept seen i (flagOfNumber b x) (s .0), seen-kept b seen i xs (s .1))
 
 -- looking through the list only where the flag is seen makes no difference
-module _ (seen : List Bool) (x : ℕ) where
-  unseen : (xs : List ℕ) → Seen seen xs → bits seen x ≡ false → holds x xs ≡ false
+module _ (b : Bool) (seen : List Bool) (x : ℕ) where
+  unseen : (xs : List ℕ) → Seen b seen xs → bits b seen x ≡ false → holds x xs ≡ false
   unseen [] s q = refl
   unseen (y ∷ ys) s q = go (eqb y x) refl (unseen ys (s .1) q)
     where
-      go : (b : Bool) → eqb y x ≡ b → holds x ys ≡ false → (b || holds x ys) ≡ false
-      go true e ih = clash (bits seen x) (subst (λ (n : ℕ). bits seen n ≡ true) (eqb-true y x e) (s .0)) q
+      go : (c : Bool) → eqb y x ≡ c → holds x ys ≡ false → (c || holds x ys) ≡ false
+      go true e ih = clash (bits b seen x) (subst (λ (n : ℕ). bits b seen n ≡ true) (eqb-true y x e) (s .0)) q
       go false e ih = ih
 
-  looked : (xs : List ℕ) → Seen seen xs → (bits seen x && holds x xs) ≡ holds x xs
-  looked xs s = go (bits seen x) refl
+  looked : (xs : List ℕ) → Seen b seen xs → (bits b seen x && holds x xs) ≡ holds x xs
+  looked xs s = go (bits b seen x) refl
     where
-      go : (b : Bool) → bits seen x ≡ b → (b && holds x xs) ≡ holds x xs
+      go : (c : Bool) → bits b seen x ≡ c → (c && holds x xs) ≡ holds x xs
       go true e = refl
       go false e = sym (unseen xs s e)
 
@@ -56,23 +58,23 @@ drop-false (x ∷ xs) (suc i) h = go (not (holds x xs)) (drop-false xs i h)
     go false e = refl
 
 -- ---- the loop: the numbers from place i on differ, and their flags are seen
-pub record Apart (l : List ℕ) (seen : List Bool) (i : ℕ) : Type 0 where
+pub record Apart (l : List ℕ) (mixing : Bool) (seen : List Bool) (i : ℕ) : Type 0 where
   pub differ : distinct (drop i l) ≡ true
-  pub seenBits : Seen seen (drop i l)
+  pub seenBits : Seen mixing seen (drop i l)
   pub within : i ≤ length l
   pub wide : length seen ≡ 1024
 
-pub apart-none : (l : List ℕ) (seen : List Bool) → length seen ≡ 1024 → Apart l seen (length l)
-apart-none l seen h =
+pub apart-none : (l : List ℕ) (b : Bool) (seen : List Bool) → length seen ≡ 1024 → Apart l b seen (length l)
+apart-none l b seen h =
     let e = drop-of-length-le l {i = length l} (omega arith) in
     record { differ = rw e; seenBits = rw e tt; within = omega arith; wide = h }
 
-pub apart-all : (l : List ℕ) (seen : List Bool) (i : ℕ) → Apart l seen i → i ≤ 0 → true ≡ distinct l
-apart-all l seen i a h =
+pub apart-all : (l : List ℕ) (b : Bool) (seen : List Bool) (i : ℕ) → Apart l b seen i → i ≤ 0 → true ≡ distinct l
+apart-all l b seen i a h =
     let z : i ≡ 0 = omega arith in
     sym (subst (λ (n : ℕ). distinct (drop n l) ≡ true) z (a .differ))
 
-module _ (l : List ℕ) (seen : List Bool) (i : ℕ) (a : Apart l seen i) (h : 0 < i) (k : ℕ) (e : k ≡ flagOfNumber (getD l (i - 1) 0)) where
+module _ (l : List ℕ) (b : Bool) (seen : List Bool) (i : ℕ) (a : Apart l b seen i) (h : 0 < i) (k : ℕ) (e : k ≡ flagOfNumber b (getD l (i - 1) 0)) where
   abbrev x : ℕ
   x = getD l (i - 1) 0
 
@@ -83,7 +85,7 @@ module _ (l : List ℕ) (seen : List Bool) (i : ℕ) (a : Apart l seen i) (h : 0
   again-holds : again ≡ holds x (drop i l)
   again-holds =
       (λ j. getD seen (e j) false && holds x (take-all (length l - i) (drop i l) (omega (arith, length-drop i l)) j))
-      ∙ looked seen x (drop i l) (a .seenBits)
+      ∙ looked b seen x (drop i l) (a .seenBits)
 
   before : drop (i - 1) l ≡ x ∷ drop i l
   before =
@@ -94,12 +96,12 @@ module _ (l : List ℕ) (seen : List Bool) (i : ℕ) (a : Apart l seen i) (h : 0
   pub apart-here : again ≡ true → false ≡ distinct l
   apart-here t = sym (drop-false l (i - 1) (rw (before, sym again-holds ∙ t)))
 
-  pub apart-next : again ≡ false → Apart l (set seen k true) (i - 1)
+  pub apart-next : again ≡ false → Apart l b (set seen k true) (i - 1)
   apart-next t =
-      let w : flagOfNumber x < length seen = omega (arith, a .wide, flag-below x) in
+      let w : flagOfNumber b x < length seen = omega (arith, a .wide, flag-below b x) in
       record {
         differ = rw (before, sym again-holds ∙ t) (a .differ);
-        seenBits = rw (before, e) (getD-set-same seen (flagOfNumber x) true false w, seen-kept seen (flagOfNumber x) (drop i l) (a .seenBits));
+        seenBits = rw (before, e) (getD-set-same seen (flagOfNumber b x) true false w, seen-kept b seen (flagOfNumber b x) (drop i l) (a .seenBits));
         within = omega (arith, a .within);
         wide = length-set seen k true ∙ a .wide;
       }

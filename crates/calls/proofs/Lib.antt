@@ -14,7 +14,7 @@ pub mod Kept
 pub mod Limits
 pub mod Apart
 pub mod Rises
-pub mod Seats
+pub mod OwnSlots
 pub mod Belongs
 pub mod Ordered
 pub mod Counted

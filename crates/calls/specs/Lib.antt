@@ -5,7 +5,7 @@ pub mod Record
 pub mod Slots
 pub mod Limits
 pub mod Judge
-pub mod Seats
+pub mod OwnSlots
 pub mod Step
 pub mod Counting
 pub mod Good

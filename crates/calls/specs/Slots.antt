@@ -8,6 +8,7 @@ use Rattle.schema.specs.declared.Found.{Found}
 use Rattle.schema.specs.declared.Found.the-variants.{At, Missing}
 use Rattle.schema.specs.Table.{Table}
 use Rattle.schema.specs.Check.{methodRow, isMissing}
+use Rattle.schema.specs.Flags.{mixed}
 use Rattle.calls.specs.declared.Call.{Call}
 use Rattle.calls.specs.declared.CallTable.{CallTable}
 use Rattle.calls.specs.declared.FormRow.{FormRow}
@@ -75,9 +76,10 @@ abbrev pub holds : ℕ → List ℕ → Bool
 holds n [] = false
 holds n (x ∷ xs) = eqb x n || holds n xs
 
--- The flag of a number, one of 1,024. The code looks for a number among others only if one of them has its flag.
-unfoldable pub flagOfNumber : ℕ → ℕ
-flagOfNumber n = n * 0x9E37_79B9_7F4A_7C15 % 2 ^ 64 / 2 ^ 54
+-- The flag of a number, one of 1,024: the top bits of a product modulo 2^64, or of the number mixed. The code looks for a number among others only if one
+-- of them has its flag.
+unfoldable pub flagOfNumber : (mixing : Bool) → ℕ → ℕ
+flagOfNumber mixing n = cond mixing (mixed n) (n * 0x9E37_79B9_7F4A_7C15 % 2 ^ 64) / 2 ^ 54
 
 -- No two of the list are equal.
 abbrev pub distinct : List ℕ → Bool

@@ -8,9 +8,10 @@ use crate::forms::row_in;
 use constants::limit;
 use schema::access::method;
 use schema::access::method_count;
+use schema::product::mixed;
 use schema::product::wrapping_mul;
 ghost use mathlib.Core.Path.{_≡_};
-ghost use mathlib.Core.Bool.{_&&_};
+ghost use mathlib.Core.Bool.{true, false, _&&_};
 ghost use Prim.Native.Nat.{_<_};
 ghost use Rattle.schema.specs.File.{tableOf};
 ghost use Rattle.schema.specs.Check.{IsGood};
@@ -30,37 +31,82 @@ fn holds(ids: &[u64], id: u64) -> bool
     found
 }
 
-// Whether it is one of the slice, which is looked through only if it may hold the number.
+// Whether the number is one of the slice, which is looked through only where that is possible.
 fn holds_where(possible: bool, ids: &[u64], id: u64) -> bool
     ensures { λ r. ⌜ r ≡ (possible && holds id (now (ids .entry))) ⌝ }
 {
     if possible { holds(ids, id) } else { false }
 }
 
-// The flag of a number, one of 1,024: the top bits of a product.
-fn flag_of(id: u64) -> usize
-    ensures { λ r. ⌜ (r ≡ flagOfNumber id) × (r < 1024) ⌝ }
+// The flag of a number, one of 1,024: the top bits of a product, by which those of ordinary tables differ, or of the number mixed.
+fn flag_of(id: u64, mixing: bool) -> usize
+    ensures { λ r. ⌜ (r ≡ flagOfNumber mixing id) × (r < 1024) ⌝ }
 {
+    if mixing {
+        return (mixed(id) >> 54) as usize;
+    }
     (wrapping_mul(id, 0x9E37_79B9_7F4A_7C15) >> 54) as usize
 }
 
-// Whether no two of the slice are equal. A number is compared with the later ones only if one of them has its flag.
-pub fn distinct(ids: &[u64]) -> bool
-    ensures { λ r. ⌜ r ≡ distinct (now (ids .entry)) ⌝ }
+// Flags of numbers, and so many times may one be taken before the first kind is given up.
+const FLAGS: usize = 1024;
+
+const MOST_SEARCHES: usize = 16;
+
+// Whether no two of a slice are equal, or crowded: many flags were taken, and the search was given up.
+struct Sought {
+    crowded: bool,
+    distinct: bool,
+}
+
+// Looks for two of the slice that are equal, where a number is compared with the later ones only if one of them has its flag. That is given up
+// where too many are, unless the flags are of numbers mixed.
+fn distinct_by_flags(ids: &[u64], mixing: bool) -> Sought
+    ensures { λ r. ⌜ (r .crowded ≡ false → r .distinct ≡ distinct (now (ids .entry))) × (mixing ≡ true → r .crowded ≡ false) ⌝ }
 {
-    let mut seen = [false; 1024];
+    let mut seen = [false; FLAGS];
+    let mut searches: usize = 0;
     let mut i = ids.len();
     while 0 < i {
         let at = i - 1;
         let id = ids[at];
-        let flag = flag_of(id);
-        if holds_where(seen[flag], &ids[i..], id) {
-            return false;
+        let flag = flag_of(id, mixing);
+        let taken = seen[flag];
+        if taken {
+            if (searches == MOST_SEARCHES) & !mixing {
+                return Sought {
+                    crowded: true,
+                    distinct: false,
+                };
+            }
+            searches += 1;
+        }
+        if holds_where(taken, &ids[i..], id) {
+            return Sought {
+                crowded: false,
+                distinct: false,
+            };
         }
         seen[flag] = true;
         i = at;
     }
-    true
+    Sought {
+        crowded: false,
+        distinct: true,
+    }
+}
+
+// Whether no two of the slice are equal.
+pub fn distinct(ids: &[u64]) -> bool
+    ensures { λ r. ⌜ r ≡ distinct (now (ids .entry)) ⌝ }
+{
+    let first = distinct_by_flags(ids, false);
+    if first.crowded {
+        let second = distinct_by_flags(ids, true);
+        second.distinct
+    } else {
+        first.distinct
+    }
 }
 
 impl Call {

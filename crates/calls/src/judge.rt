@@ -3,8 +3,8 @@ use crate::Call;
 use crate::Frame;
 use crate::Judged;
 use crate::OwnCall;
+use crate::OwnSlot;
 use crate::Payload;
-use crate::Seat;
 use crate::forms::row_of;
 use crate::record::EMPTY;
 use constants::format;
@@ -22,7 +22,7 @@ ghost use Rattle.schema.specs.File.{tableOf};
 ghost use Rattle.schema.specs.Check.{IsGood, isMissing};
 ghost use Rattle.calls.specs.Slots.{slotOf};
 ghost use Rattle.calls.specs.Judge.{rightSide, typed, payloadOf, callVerdict, openVerdict, invokeVerdict, otherVerdict, methodOf, releaseVerdict, placed};
-ghost use Rattle.calls.specs.Seats.{judgedAt};
+ghost use Rattle.calls.specs.OwnSlots.{judgedAt};
 
 // Whether the kind comes from this side, the byte C or S.
 pub fn right_side(side: u8, kind: u8) -> bool
@@ -89,7 +89,7 @@ impl Call {
     }
 }
 
-impl Seat {
+impl OwnSlot {
     // An INVOKE that would make this record.
     fn judge_opening(self, new: Call, payload: Payload) -> Judged
         ensures { λ r. ⌜ r ≡ placed (slotOf (self .slot)) (openVerdict new payload (self .own) (isMissing (self .slot))) ⌝ }

@@ -57,7 +57,7 @@ pub enum OwnCall {
 }
 
 // What a judgement sees of the call table: the record of its own call, and the slot that it changes, if there is one.
-pub struct Seat {
+pub struct OwnSlot {
     pub own: OwnCall,
     pub slot: Found,
 }

@@ -2,7 +2,7 @@
 use crate::Call;
 use crate::CallTable;
 use crate::OwnCall;
-use crate::Seat;
+use crate::OwnSlot;
 use crate::record::EMPTY;
 use constants::limit;
 use schema::Found;
@@ -11,7 +11,7 @@ ghost use Prim.Native.Nat.{_≤_};
 ghost use lib.ListN.{set};
 ghost use Rattle.calls.specs.Record.{isCall, isFree};
 ghost use Rattle.calls.specs.Slots.{slot, recordAt, freshTable, firstSlot, countOpen};
-ghost use Rattle.calls.specs.Seats.{seatOf};
+ghost use Rattle.calls.specs.OwnSlots.{ownSlotOf};
 
 impl CallTable {
     // All 128 slots free and zero.
@@ -88,12 +88,12 @@ impl CallTable {
     }
 
     // The own call of a correlation: its record and its slot; where a call is to be opened, the lowest free slot.
-    pub fn seat(self, id: u64, opens: bool) -> Seat
-        ensures { λ r. ⌜ r ≡ seatOf id opens (self .slots) ⌝ }
+    pub fn own_slot(self, id: u64, opens: bool) -> OwnSlot
+        ensures { λ r. ⌜ r ≡ ownSlotOf id opens (self .slots) ⌝ }
     {
         let found = self.find(id);
         let slot = if opens { self.free_slot() } else { found };
-        Seat {
+        OwnSlot {
             own: self.own(found),
             slot,
         }

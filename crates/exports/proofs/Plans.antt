@@ -22,7 +22,7 @@ use Rattle.calls.specs.Step.{numberAfter, slotsAfter, Changes, stepOf}
 use Rattle.calls.specs.Slots.{goodTable, countOpen}
 use Rattle.calls.specs.Judge.{judgeRelease}
 use Rattle.calls.specs.Counting.{releaseRise}
-use Rattle.calls.specs.Seats.{seatOf}
+use Rattle.calls.specs.OwnSlots.{ownSlotOf}
 use Rattle.reader.specs.Entry.{numbers}
 use Rattle.receiver.specs.declared.Done.{Done}
 use Rattle.receiver.specs.declared.Plan.{Plan}
@@ -92,7 +92,7 @@ module _ (cells schema : List ℕ) (rows : ℕ) where
         pub cells-stop : (k ≡ 0 → ⊥) → r ≡ stopPlan k 0 → Planned
         cells-stop n x = planned (plan-good schema next v is r g (x ∙ calls-fault goodCells rows T (λ number. stopPlan number 0) release k test n))
 
-        pub cells-call : k ≡ 0 → r ≡ callPlan (seatOf id false l) → Planned
+        pub cells-call : k ≡ 0 → r ≡ callPlan (ownSlotOf id false l) → Planned
         cells-call z x =
             planned (plan-good schema next v is r g (call-planned id l r x ∙ calls-right goodCells rows T (λ number. stopPlan number 0) release k test z))
 

@@ -1,7 +1,7 @@
 // A frame and a release judged up to the payload against the call table in cells: which tally row they ask for, and what is left to do.
 use crate::records::are_good;
 use crate::records::open_count;
-use crate::records::seat;
+use crate::records::own_slot;
 use constants::frame_kind;
 use constants::refusal;
 use frame::read_frame;
@@ -51,7 +51,7 @@ pub fn plan(
             Front::Refused(number) => stop(number, 0),
             Front::Whole { frame, place, end } => {
                 plan_frame(
-                    seat(cells, frame.correlation, frame.kind == frame_kind::INVOKE),
+                    own_slot(cells, frame.correlation, frame.kind == frame_kind::INVOKE),
                     schema,
                     frame,
                     place,
@@ -83,7 +83,7 @@ pub fn plan_release(
             if fault != refusal::ACCEPTED {
                 return stop(fault, 0);
             }
-            plan_call(seat(cells, correlation, false))
+            plan_call(own_slot(cells, correlation, false))
         }
     }
 }

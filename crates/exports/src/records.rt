@@ -2,7 +2,7 @@
 use crate::cells::put;
 use calls::Call;
 use calls::OwnCall;
-use calls::Seat;
+use calls::OwnSlot;
 use calls::forms::TABLE_1;
 use calls::good::distinct;
 use calls::record::EMPTY;
@@ -19,7 +19,7 @@ ghost use Rattle.schema.specs.File.{tableOf};
 ghost use Rattle.schema.specs.Check.{IsGood};
 ghost use Rattle.calls.specs.Record.{isCall, isFree};
 ghost use Rattle.calls.specs.Slots.{slot, recordAt, goodCall, goodTable, firstSlot};
-ghost use Rattle.calls.specs.Seats.{seatOf};
+ghost use Rattle.calls.specs.OwnSlots.{ownSlotOf};
 ghost use Rattle.exports.specs.Records.{callOf, callAt, callsOf, CountsOpen, marksOf, recordCells, plain, areCalls};
 
 // The cells of a call table, three for each record.
@@ -209,12 +209,12 @@ fn own(cells: &[u64], found: Found) -> OwnCall
 }
 
 // The own call of a correlation: its record and its slot; where a call is to be opened, the lowest free slot.
-pub fn seat(cells: &[u64], id: u64, opens: bool) -> Seat
-    ensures { λ r. ⌜ r ≡ seatOf id opens (callsOf (now (cells .entry))) ⌝ }
+pub fn own_slot(cells: &[u64], id: u64, opens: bool) -> OwnSlot
+    ensures { λ r. ⌜ r ≡ ownSlotOf id opens (callsOf (now (cells .entry))) ⌝ }
 {
     let found = find(cells, id);
     let slot = if opens { free_slot(cells) } else { found };
-    Seat {
+    OwnSlot {
         own: own(cells, found),
         slot,
     }

@@ -22,7 +22,7 @@ pub fn name(program: &[u8], i: usize, path: &mut [u8], whole: &mut bool) -> usiz
 }
 
 // Reads once, and answers how many bytes it has put at the start of buf.
-fn some(program: &[u8], fd: i32, path: &[u8], buf: &mut [u8], whole: &mut bool) -> usize
+fn read_once(program: &[u8], fd: i32, path: &[u8], buf: &mut [u8], whole: &mut bool) -> usize
     ensures { λ r. ⌜ Counts r (now (buf .exit)) ⌝ }
 {
     let got = libc::read(fd, buf);
@@ -39,7 +39,7 @@ fn fill(program: &[u8], fd: i32, path: &[u8], buf: &mut [u8], whole: &mut bool) 
 {
     let mut n = 0;
     while n < buf.len() {
-        let more = some(program, fd, path, &mut buf[n..], whole);
+        let more = read_once(program, fd, path, &mut buf[n..], whole);
         if more == 0 {
             return n;
         }

@@ -1,6 +1,7 @@
 -- Laws of the walkers of arrays, maps and structs: their heads, and the turns of their loops.
 use mathlib.Core.Path.{_≡_, refl, sym, ap, _∙_}
-use mathlib.Core.Bool.{Bool, true, false, false≢true}
+use mathlib.Core.Bool.{Bool, true, false}
+use mathlib.Core.Logic.{⊎-elim}
 use mathlib.Core.List.{List, [], _∷_}
 use Prim.Native.Nat.{ℕ, suc, _+_, _-_, _*_, _/_, _%_, _^_, _≤_, _<_}
 use native.Mathlib.Nat.{mod-eq-of-lt}
@@ -14,6 +15,7 @@ use Rattle.parse.proofs.Answers.{accepted-first}
 use Rattle.schema.specs.declared.Field.{Field}
 use Rattle.schema.specs.Table.{Table, Shape, array, map, struct}
 use Rattle.schema.specs.Check.{fieldRow}
+use Rattle.schema.proofs.Bools.{cases, clash}
 use Rattle.value.specs.Narrow.{firstOf}
 use Rattle.value.specs.Comparisons.{due}
 use Rattle.value.specs.Value.{Tree, tip}
@@ -22,7 +24,7 @@ use Rattle.value.proofs.Narrowed.{first-all}
 use Rattle.value.proofs.Comparisons.{due-half, due-few}
 use Rattle.walks.specs.Shape.{fieldsFrom}
 use Rattle.walks.proofs.Presence.{length-fields, present-set, present-clear}
-use Rattle.walks.proofs.Items.{keyItem, item-accepted, key-accepted, key-known, elements-some, pairs-some, pairs-none}
+use Rattle.walks.proofs.Items.{elements-some, pairs-some, pairs-none, item-accepted, item-stop, item-past, key-known, key-again, pair-stop, pair-past}
 use Rattle.flat.specs.declared.leaf.Count.{Count}
 use Rattle.flat.specs.declared.leaf.Count.the-variants.{Is, Refused as CountRefused}
 use Rattle.flat.specs.declared.leaf.Head.{Head}
@@ -31,8 +33,8 @@ use Rattle.flat.specs.declared.Walk.{Walk}
 use Rattle.flat.specs.declared.Walk.the-variants.{Past}
 use Rattle.flat.specs.Sheet.{putRow}
 use Rattle.flat.specs.Leaf.{part, countOf, CountIn, CountRead, headOf, HeadIn, Headed}
-use Rattle.flat.specs.Walk.{firstFields, told, toldAll, toldHeld, Final, done, stopped, walkOf, Walked}
-use Rattle.flat.proofs.Steps.{ahead, renamed, further, composite-past, as-told, spanRow, walk-length, item-past, item-stop, key-stop, key-again, key-new, accepted-along, parse-refused, parse-whole, own-accepted}
+use Rattle.flat.specs.Walk.{firstFields, told, toldHeld, noted, note, done, stopped, walkOf, Walked}
+use Rattle.flat.proofs.Steps.{ahead, telling, tip-told, later, renamed, further, composite-past, as-told, spanRow, walk-length, parse-refused, parse-whole, own-accepted}
 
 -- ---- heads
 
@@ -151,14 +153,14 @@ module _ (R S : ℕ → Shape) (P : ℕ → Reader Tree) (e left : ℕ) (some : 
   pub element-past : (c′ : Cursor) (due row′ : ℕ) (m : List ℕ) → done c′ due row′ m ≡ walkOf (told R S e) (P e c) 0 row l
       → ahead R S P [] (replicate left (plainItem e)) c sum row l ≡ ahead R S P [] (replicate (left - 1) (plainItem e)) c′ (sum + due) row′ m
   element-past c′ due row′ m h =
-      rw (elements-some e left some) (item-past R S P [] (replicate (left - 1) (plainItem e)) e c sum row l c′ due row′ m h)
+      item-past (telling R S) P [] (elements-some e left some) c (noted sum row l) tt (later (told R S e) (P e c) sum row l h)
 
   pub element-stop : (n q : ℕ) → stopped n q ≡ walkOf (told R S e) (P e c) 0 row l
       → stopped n q ≡ ahead R S P [] (replicate left (plainItem e)) c sum row l
-  element-stop n q h = rw (elements-some e left some) (item-stop R S P [] (replicate (left - 1) (plainItem e)) e c sum row l n q h)
+  element-stop n q h = item-stop (telling R S) P [] (elements-some e left some) c (noted 0 row l) _ h
 
   pub element-accepted : Accepted (walk P [] (replicate left (plainItem e)) c) → Accepted (P e c)
-  element-accepted h = item-accepted P [] (replicate (left - 1) (plainItem e)) e c (rw (elements-some e left some) at h)
+  element-accepted h = item-accepted P [] (elements-some e left some) c h
 
 -- ---- fields of a struct
 
@@ -181,14 +183,10 @@ module _ (R S : ℕ → Shape) (P : ℕ → Reader Tree) (p : List ℕ) (T : Tab
   module _ (f : Field) (is : f ≡ fieldRow T i) (b : bits % 2 ≡ 1) where
     pub field-stop : (n q : ℕ) → stopped n q ≡ walkOf (told R S (f .ty)) (P (f .ty) (cursorAt p here)) 0 below l
         → stopped n q ≡ ahead R S P [] (leftOver T i left bits) (cursorAt p here) sum below l
-    field-stop n q h =
-        rw (present-set T i left some room bits f is b)
-        (item-stop R S P [] (leftOver T (i + 1) (left - 1) (bits / 2)) (f .ty) (cursorAt p here) sum below l n q h)
+    field-stop n q h = item-stop (telling R S) P [] (present-set T i left some room bits f is b) (cursorAt p here) (noted 0 below l) _ h
 
     pub field-accepted : Accepted (walk P [] (leftOver T i left bits) (cursorAt p here)) → Accepted (P (f .ty) (cursorAt p here))
-    field-accepted h =
-        item-accepted P [] (leftOver T (i + 1) (left - 1) (bits / 2)) (f .ty) (cursorAt p here)
-        (rw (present-set T i left some room bits f is b) at h)
+    field-accepted h = item-accepted P [] (present-set T i left some room bits f is b) (cursorAt p here) h
 
     pub field-read : (due next row′ : ℕ) (k : List ℕ)
         → Walked p (here + 1) (told R S (f .ty)) (P (f .ty) (cursorAt p here)) below l (Past due next row′) k
@@ -199,12 +197,12 @@ module _ (R S : ℕ → Shape) (P : ℕ → Reader Tree) (p : List ℕ) (T : Tab
         rw (e₁, e₂, e₃, e₄)
         (record {
           same =
-              rw (present-set T i left some room bits f is b)
-              (item-past R S P [] (leftOver T (i + 1) (left - 1) (bits / 2)) (f .ty) (cursorAt p here) sum below l (cursorAt p next) due row′ k (h .same));
+              item-past (telling R S) P [] (present-set T i left some room bits f is b) (cursorAt p here) (noted sum below l) tt
+              (later (told R S (f .ty)) (P (f .ty) (cursorAt p here)) sum below l (h .same));
           inside = w .0;
           behind = w .1;
           forth = omega arith;
-          long = walk-length (told R S (f .ty)) (P (f .ty) (cursorAt p here)) 0 below l (cursorAt p next) due row′ k (h .same);
+          long = walk-length (told R S (f .ty)) (P (f .ty) (cursorAt p here)) 0 below l (h .same);
         })
 
   -- a present field that stops, whatever its type is
@@ -222,70 +220,37 @@ module _ (R S : ℕ → Shape) (P : ℕ → Reader Tree) (p : List ℕ) (T : Tab
 -- ---- pairs of a map
 
 module _ (R S : ℕ → Shape) (P : ℕ → Reader Tree) (p : List ℕ) (k v n i : ℕ) (keys : List (List ℕ)) (here : ℕ) (some : i < n) where
-  split : pairs (n - i) k v ≡ keyItem k ∷ (plainItem v ∷ pairs (n - i - 1) k v)
-  split = pairs-some k v (n - i) (omega arith)
-
   pub pair-key-accepted : Accepted (walk P keys (pairs (n - i) k v) (cursorAt p here)) → Accepted (P k (cursorAt p here))
-  pair-key-accepted h = key-accepted P keys (plainItem v ∷ pairs (n - i - 1) k v) k (cursorAt p here) (rw split at h)
+  pair-key-accepted h = item-accepted P keys (pairs-some k v some) (cursorAt p here) h
 
   pub pair-key-stop : (sum below : ℕ) (l : List ℕ) (a q : ℕ) → P k (cursorAt p here) ≡ refused a q
       → stopped a q ≡ ahead R S P keys (pairs (n - i) k v) (cursorAt p here) sum below l
-  pair-key-stop sum below l a q e = rw split (key-stop R S P keys (plainItem v ∷ pairs (n - i - 1) k v) k (cursorAt p here) sum below l a q e)
+  pair-key-stop sum below l a q e = item-stop (telling R S) P keys (pairs-some k v some) (cursorAt p here) (noted sum below l) _ (rw e)
 
   module _ (from to : ℕ) (read : P k (cursorAt p here) ≡ seen (tip (spanRow k from to) (part p from to)) (cursorAt p to)) where
-    pub pair-known : Accepted (walk P keys (pairs (n - i) k v) (cursorAt p here)) → among (part p from to) keys ≡ false
-    pair-known h =
-        key-known P keys (plainItem v ∷ pairs (n - i - 1) k v) k (cursorAt p here) (spanRow k from to) (part p from to) (cursorAt p to) read (rw split at h) .0
-
     pub pair-again : (sum below : ℕ) (l : List ℕ) → among (part p from to) keys ≡ true
         → stopped 24 here ≡ ahead R S P keys (pairs (n - i) k v) (cursorAt p here) sum below l
-    pair-again sum below l e =
-        rw split
-        (key-again R S P keys (plainItem v ∷ pairs (n - i - 1) k v) k (cursorAt p here) (spanRow k from to) (part p from to) (cursorAt p to) read sum below l e)
+    pair-again sum below l e = key-again (telling R S) P keys (pairs-some k v some) (cursorAt p here) read (noted sum below l) e
 
     -- a key is new where the walk that judges says so, and where the other walk is known to accept
     module _ (judging r : Bool) where
       pub pair-new : (judging ≡ false → Accepted (walk P keys (pairs (n - i) k v) (cursorAt p here))) → (judging ≡ true → r ≡ among (part p from to) keys)
           → r ≡ false → among (part p from to) keys ≡ false
-      pair-new a q e = go judging a q
-        where
-          go : (j : Bool) → (j ≡ false → Accepted (walk P keys (pairs (n - i) k v) (cursorAt p here))) → (j ≡ true → r ≡ among (part p from to) keys)
-              → among (part p from to) keys ≡ false
-          go false a q = pair-known (a refl)
-          go true a q = sym (q refl) ∙ e
+      pair-new a q e = ⊎-elim (λ j. sym (q j) ∙ e) (λ j. key-known P keys (pairs-some k v some) (cursorAt p here) read (a j) .0) (cases judging)
 
       pub pair-old : (judging ≡ false → r ≡ false) → (judging ≡ true → r ≡ among (part p from to) keys) → r ≡ true → among (part p from to) keys ≡ true
-      pair-old a q e = go judging a q
-        where
-          go : (j : Bool) → (j ≡ false → r ≡ false) → (j ≡ true → r ≡ among (part p from to) keys) → among (part p from to) keys ≡ true
-          go false a q = absurd (false≢true (sym (a refl) ∙ e))
-          go true a q = sym (q refl) ∙ e
+      pair-old a q e = ⊎-elim (λ j. sym (q j) ∙ e) (λ j. clash r e (a j)) (cases judging)
 
     module _ (new : among (part p from to) keys ≡ false) (sum below : ℕ) (l m : List ℕ) (put : m ≡ putRow l below (spanRow k from to)) where
-      value-next : ahead R S P keys (pairs (n - i) k v) (cursorAt p here) sum below l
-          ≡ ahead R S P (part p from to ∷ keys) (plainItem v ∷ pairs (n - i - 1) k v) (cursorAt p to) sum (below + 1) m
-      value-next =
-          rw (split, put)
-          (key-new R S P keys (plainItem v ∷ pairs (n - i - 1) k v) k (cursorAt p here) (spanRow k from to) (part p from to) (cursorAt p to) read sum below l new)
+      key-told : noted sum (below + 1) m ≡ note (told R S k (tip (spanRow k from to) (part p from to))) (noted sum below l)
+      key-told = rw put (tip-told R S k (spanRow k from to) (part p from to) sum below l)
 
       pub pair-value-accepted : Accepted (walk P keys (pairs (n - i) k v) (cursorAt p here)) → Accepted (P v (cursorAt p to))
-      pair-value-accepted h =
-          item-accepted P (part p from to ∷ keys) (pairs (n - i - 1) k v) v (cursorAt p to)
-          (accepted-along (toldAll R S (plainItem v ∷ pairs (n - i - 1) k v)) (toldAll R S (pairs (n - i) k v))
-          (walk P (part p from to ∷ keys) (plainItem v ∷ pairs (n - i - 1) k v) (cursorAt p to))
-          (walk P keys (pairs (n - i) k v) (cursorAt p here)) sum sum (below + 1) below m l (sym value-next) h)
+      pair-value-accepted h = item-accepted P (part p from to ∷ keys) refl (cursorAt p to) (key-known P keys (pairs-some k v some) (cursorAt p here) read h .1)
 
       pub pair-value-stop : (a q : ℕ) → stopped a q ≡ walkOf (told R S v) (P v (cursorAt p to)) 0 (below + 1) m
           → stopped a q ≡ ahead R S P keys (pairs (n - i) k v) (cursorAt p here) sum below l
-      pair-value-stop a q e =
-          item-stop R S P (part p from to ∷ keys) (pairs (n - i - 1) k v) v (cursorAt p to) sum (below + 1) m a q e ∙ sym value-next
-
-      pub pair-value-past : (due next row′ : ℕ) (m′ : List ℕ) → done (cursorAt p next) due row′ m′ ≡ walkOf (told R S v) (P v (cursorAt p to)) 0 (below + 1) m
-          → ahead R S P keys (pairs (n - i) k v) (cursorAt p here) sum below l
-          ≡ ahead R S P (part p from to ∷ keys) (pairs (n - (i + 1)) k v) (cursorAt p next) (sum + due) row′ m′
-      pair-value-past due next row′ m′ e =
-          let q : n - (i + 1) ≡ n - i - 1 = omega arith in
-          value-next ∙ rw q (item-past R S P (part p from to ∷ keys) (pairs (n - i - 1) k v) v (cursorAt p to) sum (below + 1) m (cursorAt p next) due row′ m′ e)
+      pair-value-stop a q e = pair-stop (telling R S) P k v keys (cursorAt p here) some read (noted sum below l) new tt key-told (noted 0 (below + 1) m) e
 
       -- A turn of the loop over pairs, with the key's row already written.
       pub record Paired (here′ sum′ below′ : ℕ) (m′ : List ℕ) : Type 0 where
@@ -303,11 +268,13 @@ module _ (R S : ℕ → Shape) (P : ℕ → Reader Tree) (p : List ℕ) (k v n i
           let w = h .within in
           rw (e₁, e₂, e₃, e₄)
           (record {
-            same = pair-value-past due next row′ k′ (h .same);
+            same =
+                pair-past (telling R S) P k v keys (cursorAt p here) some read (noted sum below l) new tt key-told tt
+                (later (told R S v) (P v (cursorAt p to)) sum (below + 1) m (h .same));
             inside = w .0;
             behind = w .1;
             forth = omega arith;
-            long = walk-length (told R S v) (P v (cursorAt p to)) 0 (below + 1) m (cursorAt p next) due row′ k′ (h .same);
+            long = walk-length (told R S v) (P v (cursorAt p to)) 0 (below + 1) m (h .same);
           })
 
 -- the comparisons of a map's own keys, at most 32 a pair

@@ -3,27 +3,28 @@ use mathlib.Core.Path.{_≡_, refl, sym, _∙_}
 use mathlib.Core.Bool.{Bool, true, false}
 use mathlib.Core.List.{List}
 use Prim.Native.Nat.{ℕ, suc, _+_, _%_, _^_, _≤_, _<_}
-use native.Mathlib.Nat.{mod-eq-of-lt, mod-lt}
 use native.Mathlib.Decide.{decLt}
 use native.Mathlib.Omega.{arith}
-use borrow.Author.Tests.{lt-ltb, ltb-true}
 use lib.Dec.{ltb}
 use lib.ListN.{length}
-use lib.Pow.{pow-pos}
+use Rattle.walks.proofs.Presence.{word-below, word-above}
 use Rattle.parse.specs.Reader.{refused, seen, andThen, check, cursorAt}
 use Rattle.schema.specs.declared.Field.{Field}
 use Rattle.schema.specs.declared.TypeRow.{TypeRow}
 use Rattle.schema.specs.Table.{Table, Shape, struct, rowAt}
+use Rattle.schema.specs.File.{tableOf}
 use Rattle.schema.specs.Check.{fieldRow}
-use Rattle.value.specs.Read.{parts, present, bitmap, own, wholeValue, parse}
-use Rattle.walks.specs.Shape.{fieldsFrom}
-use Rattle.walks.specs.Required.{Requires}
+use Rattle.value.specs.Read.{parts, bitmap, own, parse}
+use Rattle.walks.specs.Shape.{fieldsFrom, shapeIn}
+use Rattle.walks.proofs.Tables.{struct-row, shape-struct}
+use Rattle.flat.specs.declared.elements.Prepared.{Prepared}
 use Rattle.flat.specs.declared.elements.Opened.{Opened}
 use Rattle.flat.specs.declared.elements.Opened.the-variants.{Bits, Refused}
 use Rattle.flat.specs.declared.Walk.{Walk}
-use Rattle.flat.specs.Walk.{told, toldHeld, Walked}
-use Rattle.flat.specs.Flat.{LeavesIn, Unfolded}
-use Rattle.flat.proofs.Steps.{renamed, further, as-told, parse-whole}
+use Rattle.flat.specs.declared.Walk.the-variants.{Refused as Stopped}
+use Rattle.flat.specs.Walk.{valueIn, wholeIn, told, Walked, Ready}
+use Rattle.flat.specs.Flat.{LeavesIn, IsFlat, Described, openedOf, Unfolded, ValuedFlat, HeldFields, FieldsReady}
+use Rattle.flat.proofs.Steps.{renamed, as-refused, further, as-told, parse-refused, parse-whole}
 
 -- ---- fields that are scalars, strings or bytes
 
@@ -48,43 +49,69 @@ module _ (fs : List Field) (p : List ℕ) (at : ℕ) where
     pub bits-unknown : (word ≡ known → ⊥) → refused 26 at ≡ own (struct fs) (cursorAt p at)
     unfolding andThen check
     bits-unknown h =
-        let f : ltb word (2 ^ length fs) ≡ false = go (ltb word (2 ^ length fs)) refl in
+        let f : ltb word (2 ^ length fs) ≡ false = word-above (length fs) (rw many low) h in
         rw (sym read, f)
-      where
-        go : (t : Bool) → ltb word (2 ^ length fs) ≡ t → t ≡ false
-        go false e = refl
-        go true e = absurd (h (sym (low ∙ mod-eq-of-lt (rw many at (ltb-true word (2 ^ length fs) e)))))
 
     pub bits-known : word ≡ known → seen (parts at known) (cursorAt p start) ≡ own (struct fs) (cursorAt p at)
     unfolding andThen check
     bits-known h =
-        let l : word < 2 ^ length fs = rw (many, h, low) (mod-lt word (pow-pos n)) in
-        rw (sym read, lt-ltb word (2 ^ length fs) l, h)
+        let f : ltb word (2 ^ length fs) ≡ true = word-below (length fs) (rw many low) h in
+        rw (sym read, f, h)
 
--- what was read of it
-module _ (p : List ℕ) (required n at : ℕ) (r : Opened) (u : Unfolded p required n at r) where
-  pub opened-in : (known start : ℕ) → r ≡ Bits known start → (known < 2 ^ n) × (at < start) × (start ≤ length p)
-  opened-in known start e = rw e at (u .within)
+-- A struct of scalars, strings and bytes, by what was read of its bitmap.
+module _ {s p : List ℕ} {f : Prepared} {at depth row : ℕ} {judging : Bool} (ready : Ready s p at row judging (valueIn s p (suc depth) (f .ty) at))
+    (d : Described s (f .ty) f) (flat : IsFlat s (suc depth) (f .ty)) (k : f .row .kind ≡ 16) where
+  abbrev whole : Shape
+  whole = struct (fieldsFrom (tableOf s) (f .row .a) (f .row .b))
 
-  module _ (T : Table) (first : ℕ) (room : first + n ≤ length (T .fields)) (req : Requires required (fieldsFrom T first n)) where
-    pub opened-bits : (known start : ℕ) → r ≡ Bits known start → seen (parts at known) (cursorAt p start) ≡ own (struct (fieldsFrom T first n)) (cursorAt p at)
-    opened-bits known start e = rw e at (u .same T first room req)
+  few : (0 < f .row .b) × (f .row .b ≤ 64) × (f .row .a + f .row .b ≤ length (tableOf s .fields))
+  few = struct-row s (ready .good) (f .ty) (f .row) (d .is) k
 
-    pub opened-fault : (number : ℕ) → r ≡ Refused number → refused number at ≡ own (struct (fieldsFrom T first n)) (cursorAt p at)
-    opened-fault number e = rw e at (u .same T first room req)
+  pub struct-is : shapeIn s (f .ty) ≡ whole
+  struct-is = shape-struct (tableOf s) (f .ty) (f .row) (d .is) k
 
--- a struct as it is told from its bits on
-module _ (S : ℕ → Shape) (d t : ℕ) (p : List ℕ) (at : ℕ) (fs : List Field) (is : S t ≡ struct fs) (known start : ℕ)
-    (read : seen (parts at known) (cursorAt p start) ≡ own (struct fs) (cursorAt p at)) (forth : at < start) where
-  pub flat-whole : parse S (suc d) t (cursorAt p at) ≡ wholeValue (parse S d) t (struct fs) (parts at known) (cursorAt p start)
-  flat-whole = parse-whole S d t (cursorAt p at) (struct fs) is (parts at known) (cursorAt p start) (sym read)
+  pub opened-asked : (0 < f .row .b) × (f .row .b ≤ 64) × (at ≤ length p)
+  opened-asked = (few .0, few .1, ready .inside)
 
-  pub part-valued : (R : ℕ → Shape) {row : ℕ} {l : List ℕ} (w : Walk) {m : List ℕ}
-      → Walked p start (told R S t) (wholeValue (parse S d) t (struct fs) (parts at known) (cursorAt p start)) row l w m
-      → Walked p (at + 1) (told R S t) (parse S (suc d) t (cursorAt p at)) row l w m
-  part-valued R w h = renamed flat-whole (further start (at + 1) w (omega (arith, forth)) h)
+  module _ {r : Opened} (u : Unfolded p (f .required) (f .row .b) at r) where
+    same : openedOf p at r ≡ own whole (cursorAt p at)
+    same = u .same (tableOf s) (f .row .a) (few .2) (d .required k)
 
-  pub flat-valued : (R : ℕ → Shape) → R t ≡ S t → {row : ℕ} {l : List ℕ} (w : Walk) {m : List ℕ}
-      → Walked p start (toldHeld R S 0 (present fs known)) (wholeValue (parse S d) t (struct fs) (parts at known) (cursorAt p start)) row l w m
-      → Walked p (at + 1) (told R S t) (parse S (suc d) t (cursorAt p at)) row l w m
-  flat-valued R shown w h = part-valued R w (as-told R S (parse S d) (struct fs) t at known (cursorAt p start) _ _ (shown ∙ is) is h)
+    pub opened-refused : {number : ℕ} → r ≡ Refused number → (R : ℕ → Shape) {l m : List ℕ}
+        → Walked p (at + 1) (told R (shapeIn s) (f .ty)) (valueIn s p (suc depth) (f .ty) at) row l (Stopped number at) m
+    opened-refused {number} e R = as-refused _ _ _ (parse-refused (shapeIn s) depth (f .ty) (cursorAt p at) whole struct-is number at (sym (rw e at same)))
+
+    module _ {known start : ℕ} (e : r ≡ Bits known start) where
+      within : (known < 2 ^ f .row .b) × (at < start) × (start ≤ length p)
+      within = rw e at (u .within)
+
+      value-is : valueIn s p (suc depth) (f .ty) at ≡ wholeIn s p depth (f .ty) whole at known start
+      value-is = parse-whole (shapeIn s) depth (f .ty) (cursorAt p at) whole struct-is (parts at known) (cursorAt p start) (sym (rw e at same))
+
+      pub opened-ready : FieldsReady s p depth (f .ty) (f .row .a) (f .row .b) at known start row judging
+      opened-ready =
+          record {
+            ready = record {
+              good = ready .good;
+              small = ready .small;
+              inside = within .2;
+              behind = omega (arith, within .1, ready .behind);
+              judged = λ j. rw value-is at (ready .judged j);
+            };
+            leaves = rw (d .is) (flat .fields (rw (d .is) at k));
+            room = few .2;
+            few = few .1;
+            fits = within .0;
+            forth = omega (arith, within .1);
+            deep = omega (arith, flat .deep (rw (← d .is) (omega (arith, k))));
+          }
+
+      pub opened-told : (R : ℕ → Shape) {l : List ℕ} (w : Walk) {m : List ℕ}
+          → Walked p start (told R (shapeIn s) (f .ty)) (wholeIn s p depth (f .ty) whole at known start) row l w m
+          → Walked p (at + 1) (told R (shapeIn s) (f .ty)) (valueIn s p (suc depth) (f .ty) at) row l w m
+      opened-told R w h = renamed value-is (further start (at + 1) w (omega (arith, within .1)) h)
+
+      pub opened-held : {l : List ℕ} (w : Walk) {m : List ℕ} → HeldFields s p depth (f .ty) (f .row .a) (f .row .b) at known start row l w m
+          → ValuedFlat s p (suc depth) (f .ty) at row l w m
+      opened-held {l} w h R shown =
+          opened-told R w (as-told R (shapeIn s) (parse (shapeIn s) depth) whole (f .ty) at known (cursorAt p start) row l (shown ∙ struct-is) struct-is (h R))

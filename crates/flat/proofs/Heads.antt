@@ -4,20 +4,19 @@ use mathlib.Core.Bool.{true, false}
 use mathlib.Core.List.{List}
 use Prim.Native.Nat.{ℕ, _+_, _-_, _/_, _≤_, _<_}
 use native.Mathlib.Omega.{arith}
-use lib.ListN.{length, take, drop, length-drop}
-use lib.Seq.{length-take-le}
+use lib.ListN.{length}
+use Rattle.buffer.specs.Span.{span}
 use Rattle.wire.specs.Bitmap.{Present}
 use Rattle.wire.specs.Little.{Bytes}
-use Rattle.wire.proofs.Numbers.{bytes-drop, bytes-take}
-use Rattle.parse.specs.Reader.{Accepted, seen, andThen, check, cursorAt}
+use Rattle.parse.specs.Reader.{Accepted, seen, andThen, check, cursorAt, block}
 use Rattle.parse.proofs.Answers.{accepted-check}
+use Rattle.parse.proofs.Places.{block-here, block-short}
 use Rattle.schema.specs.Table.{Table}
 use Rattle.value.specs.Read.{requiredSet, bitmap}
 use Rattle.walks.specs.Shape.{fieldsFrom}
 use Rattle.walks.proofs.Presence.{length-fields, bits-read}
 use Rattle.flat.specs.declared.leaf.Head.the-variants.{Bits, Refused}
-use Rattle.flat.specs.Leaf.{part, Headed}
-use Rattle.flat.proofs.Leaves.{block-reads, block-short}
+use Rattle.flat.specs.Leaf.{Headed}
 
 module _ (p : List ℕ) (T : Table) (first n at : ℕ) (room : first + n ≤ length (T .fields)) where
   pub head-cut : length p - at < (n + 7) / 8 → Headed p at (fieldsFrom T first n) (bitmap (fieldsFrom T first n) (cursorAt p at)) (Refused 20)
@@ -25,32 +24,25 @@ module _ (p : List ℕ) (T : Table) (first n at : ℕ) (room : first + n ≤ len
   head-cut h = record { same = rw (length-fields T first n room, block-short p at ((n + 7) / 8) h); within = tt }
 
   module _ (word known count unknown : ℕ) (inside : at + (n + 7) / 8 ≤ length p)
-      (is : Present (take ((n + 7) / 8) (drop at p)) n word known count unknown) where
-    bits-are : part p at (at + (n + 7) / 8) ≡ take ((n + 7) / 8) (drop at p)
-    bits-are = let e : at + (n + 7) / 8 - at ≡ (n + 7) / 8 = omega arith in rw e
+      (is : Present (span p at ((n + 7) / 8)) n word known count unknown) where
+    there : block ((n + 7) / 8) (cursorAt p at) ≡ seen (span p at ((n + 7) / 8)) (cursorAt p (at + (n + 7) / 8))
+    there = block-here p at ((n + 7) / 8) (omega arith)
 
     pub head-known : Accepted (bitmap (fieldsFrom T first n) (cursorAt p at)) → requiredSet (fieldsFrom T first n) word ≡ true
     unfolding bitmap andThen
     head-known h =
         accepted-check (requiredSet (fieldsFrom T first n) word) 25 at (cursorAt p (at + (n + 7) / 8)) (λ _ c. seen word c)
-        (rw (length-fields T first n room, block-reads p at ((n + 7) / 8) inside, bits-are, ← is .word-is) at h) .0
+        (rw (length-fields T first n room, there, ← is .word-is) at h) .0
 
     pub head-incomplete : requiredSet (fieldsFrom T first n) word ≡ false
         → Headed p at (fieldsFrom T first n) (bitmap (fieldsFrom T first n) (cursorAt p at)) (Refused 25)
     unfolding bitmap andThen check
-    head-incomplete h =
-        record { same = rw (length-fields T first n room, block-reads p at ((n + 7) / 8) inside, bits-are, ← is .word-is, h); within = tt }
+    head-incomplete h = record { same = rw (length-fields T first n room, there, ← is .word-is, h); within = tt }
 
     pub head-bits : requiredSet (fieldsFrom T first n) word ≡ true → 0 < n → n ≤ 64 → Bytes p
         → Headed p at (fieldsFrom T first n) (bitmap (fieldsFrom T first n) (cursorAt p at)) (Bits word known count unknown (at + (n + 7) / 8))
     unfolding bitmap andThen check
     head-bits h z few bytes =
-        let l = take ((n + 7) / 8) (drop at p) in
         let many : length (fieldsFrom T first n) ≡ n = length-fields T first n room in
-        let bs : Bytes l = bytes-take ((n + 7) / 8) (drop at p) (bytes-drop p at bytes) in
-        let long : length l ≡ (n + 7) / 8 = length-take-le ((n + 7) / 8) (drop at p) (rw length-drop (omega arith)) in
-        let b = bits-read (fieldsFrom T first n) n many l long bs word known count unknown is in
-        record {
-          same = rw (many, block-reads p at ((n + 7) / 8) inside, bits-are, ← is .word-is, h);
-          within = (b .0, b .1, b .2, b .3, omega arith, inside, omega (arith, is .count-le));
-        }
+        let b = bits-read (fieldsFrom T first n) many p at inside bytes is in
+        record { same = rw (many, there, ← is .word-is, h); within = (b .0, b .1, b .2, b .3, omega arith, inside, omega (arith, is .count-le)) }

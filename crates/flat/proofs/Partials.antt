@@ -1,19 +1,24 @@
 -- Laws of a struct of which only the first fields are shown: its first fields are walked as those of any struct, then the added ones, of which no row is written.
 use mathlib.Core.Path.{_≡_, refl, sym, ap, _∙_}
+use mathlib.Core.Bool.{Bool}
 use mathlib.Core.List.{List, [], _∷_, _++_}
-use Prim.Native.Nat.{ℕ, _+_, _-_, _/_, _%_, _^_, _≤_}
+use Prim.Native.Nat.{ℕ, _+_, _-_, _/_, _%_, _*_, _^_, _≤_, _<_}
+use native.Mathlib.Nat.{mod-lt}
 use native.Mathlib.Omega.{arith}
 use lib.Count.{ones}
 use lib.ListN.{length, take, drop}
+use lib.Pow.{pow-pos}
 use lib.Seq.{take-add, drop-drop}
 use Rattle.wire.proofs.Cases.{differ}
 use Rattle.parse.specs.Reader.{Answer, refused, seen, Reader, andThen, cursorAt, Accepted}
+use Rattle.parse.proofs.Answers.{accepted-first, accepted-alike, stops, refused-alike}
 use Rattle.schema.specs.declared.Field.{Field}
 use Rattle.schema.specs.Table.{Table, Shape, struct}
+use Rattle.schema.specs.File.{tableOf}
 use Rattle.value.specs.Value as tree
 use Rattle.value.specs.Value.{Tree, branch, Forest, stop, plus, rows, rowsAll, values}
 use Rattle.value.specs.Comparisons.{comparisons, comparisonsAll}
-use Rattle.value.specs.Read.{Item, present, parts, walk, nodeRow, wholeValue, knownBits}
+use Rattle.value.specs.Read.{Item, present, parts, walk, nodeRow, wholeValue, knownBits, parse}
 use Rattle.value.specs.Beside.{pruned, prunedAll}
 use Rattle.value.proofs.Bits.{present-append, present-mod, known-ones}
 use Rattle.value.proofs.Root.{present-unkeyed}
@@ -21,13 +26,15 @@ use Rattle.value.proofs.Without.{_⧺_, trees}
 use Rattle.value.proofs.RootTables.{walk-size}
 use Rattle.value.proofs.Pruned.{pruned-first}
 use Rattle.value.proofs.Narrowed.{goOn, walk-append}
-use Rattle.walks.specs.Shape.{fieldsFrom}
+use Rattle.walks.specs.Shape.{fieldsFrom, shapeIn}
 use Rattle.walks.proofs.Presence.{length-fields}
+use Rattle.flat.specs.declared.Walk.{Walk}
 use Rattle.flat.specs.declared.Walk.the-variants.{Past, Refused}
 use Rattle.flat.specs.Sheet.{putRow, putRows}
-use Rattle.flat.specs.Walk.{told, toldAll, toldHeld, done, stopped, walkOf, Walked}
+use Rattle.flat.specs.Walk.{told, toldAll, toldHeld, done, walkOf, Walked}
+use Rattle.flat.specs.Flat.{HeldFields, FieldsReady, HeldFirst}
 use Rattle.flat.proofs.Sheets.{put-twice}
-use Rattle.flat.proofs.Steps.{done-eq, renamed}
+use Rattle.flat.proofs.Steps.{done-eq, renamed, was, as-refused, refused-of}
 
 -- the comparisons due in what was read by two plans
 due-both : (S : ℕ → Shape) (us vs : Forest) (is js : List Item) → trees us ≡ length is
@@ -70,22 +77,18 @@ module _ (R S : ℕ → Shape) (P : ℕ → Reader Tree) (t place : ℕ) (fs gs 
     first-is = rw (m, present-mod fs h)
 
     pub first-accepted : Accepted all → Accepted (first mine)
-    unfolding andThen withRow
-    first-accepted a = rw first-is (go (walk P [] is (cursorAt p start)) (rw all-is at a))
-      where
-        go : (o : Answer Forest) → Accepted (andThen (andThen o (goOn P [] js)) (withRow place (length (is ++ js)) h)) → Accepted (andThen o (withRow place (length is) mine))
-        go (seen us c) a = tt
-        go (refused n q) a = a
+    unfolding withRow
+    first-accepted a =
+        rw first-is
+        (accepted-alike (walk P [] is (cursorAt p start)) _ _ (accepted-first (andThen (walk P [] is (cursorAt p start)) (goOn P [] js)) _ (rw all-is at a)) (λ _ _ _. tt))
 
     pub first-stop : (n q : ℕ) (after : List ℕ) → Walked p start (toldHeld R S 0 (present fs mine)) (first mine) row l (Refused n q) after
         → Walked p start (told R S t) all row l (Refused n q) after
-    unfolding andThen withRow
-    first-stop n q after w = record { same = rw all-is (go (walk P [] is (cursorAt p start)) (rw first-is at (w .same))); within = tt }
-      where
-        go : (o : Answer Forest) → stopped n q ≡ walkOf (toldHeld R S 0 (present fs mine)) (andThen o (withRow place (length is) mine)) 0 row l
-            → stopped n q ≡ walkOf (told R S t) (andThen (andThen o (goOn P [] js)) (withRow place (length (is ++ js)) h)) 0 row l
-        go (seen us c) e = differ cc
-        go (refused n′ q′) e = e
+    unfolding withRow
+    first-stop n q after w =
+        as-refused all n q
+        (all-is ∙ stops _ (refused-alike (walk P [] is (cursorAt p start)) _ _
+        (rw first-is at (refused-of w)) (λ us c e. differ cc)))
 
     -- What the walk over the first fields has given: trees, comparisons, rows and the struct's own row, which is not yet right.
     Gave : (sum here below : ℕ) (m₁ : List ℕ) → Forest → Type 0
@@ -122,24 +125,18 @@ module _ (R S : ℕ → Shape) (P : ℕ → Reader Tree) (t place : ℕ) (fs gs 
         added-is = rw (q, present-mod gs (h / 2 ^ length fs))
 
         pub added-accepted : Accepted all → Accepted (added here rest)
-        unfolding andThen withRow goOn
-        added-accepted a = rw added-is (go (walk P [] js (cursorAt p here)) (rw (all-next (gave .0) (gave .1)) at a))
-          where
-            go : (o : Answer Forest) → Accepted (andThen (andThen o (λ vs c. seen (gave .0 ⧺ vs) c)) (withRow place (length (is ++ js)) h))
-                → Accepted (andThen o (withRow here (length js) rest))
-            go (seen vs c) a = tt
-            go (refused n r) a = a
+        unfolding withRow goOn
+        added-accepted a =
+            rw added-is
+            (accepted-alike (walk P [] js (cursorAt p here)) _ _ (accepted-first (goOn P [] js (gave .0) (cursorAt p here)) _ (rw (all-next (gave .0) (gave .1)) at a)) (λ _ _ _. tt))
 
         pub added-stop : (n r : ℕ) (k m₂ after : List ℕ) → Walked p here (toldHeld R S 0 (present gs rest)) (added here rest) row k (Refused n r) m₂
             → Walked p start (told R S t) all row l (Refused n r) after
-        unfolding andThen withRow goOn
+        unfolding withRow goOn
         added-stop n r k m₂ after v =
-            record { same = rw (all-next (gave .0) (gave .1)) (go (walk P [] js (cursorAt p here)) (rw added-is at (v .same))); within = tt }
-          where
-            go : (o : Answer Forest) → stopped n r ≡ walkOf (toldHeld R S 0 (present gs rest)) (andThen o (withRow here (length js) rest)) 0 row k
-                → stopped n r ≡ walkOf (told R S t) (andThen (andThen o (λ vs c. seen (gave .0 ⧺ vs) c)) (withRow place (length (is ++ js)) h)) 0 row l
-            go (seen vs c) e = differ cc
-            go (refused n′ r′) e = e
+            as-refused all n r
+            (all-next (gave .0) (gave .1) ∙ stops _ (refused-alike (walk P [] js (cursorAt p here)) _ _
+            (rw added-is at (refused-of v)) (λ vs c e. differ cc)))
 
         module _ (shown : R t ≡ struct fs) (read : S t ≡ struct (fs ++ gs)) where
           -- What is told of a struct with both: the rows of the first fields, and the comparisons of all.
@@ -253,3 +250,80 @@ module _ (T : Table) (first n m : ℕ) (le : m ≤ n) (room : first + n ≤ leng
             let e : ones mine ≡ length (present fs h) = mine-count h mine is ∙ rw (mine-is, present-mod fs h) in
             renamed all-split
             (both-past R S P t place fs gs h p start row l mine mine-is sum here below m₁ w rest rest-known shown (read ∙ ap struct split) due next below₂ k m₂ after v (rw e at put))
+
+-- ---- in code: the fields of a struct that are scalars, strings or bytes, of which the first m are shown
+
+module _ {s p : List ℕ} {depth ty first n m place known start row : ℕ} {judging : Bool} (q : FieldsReady s p depth ty first n place known start row judging)
+    (few : m < n) {mine : ℕ} (is : mine ≡ known % 2 ^ m) where
+  abbrev T : Table
+  T = tableOf s
+
+  abbrev S : ℕ → Shape
+  S = shapeIn s
+
+  abbrev P : ℕ → Reader Tree
+  P = parse S depth
+
+  le : m ≤ n
+  le = omega (arith, few)
+
+  pub first-ready : FieldsReady s p depth ty first m place mine start row judging
+  first-ready =
+      record {
+        ready = record {
+          good = q .ready .good;
+          small = q .ready .small;
+          inside = q .ready .inside;
+          behind = q .ready .behind;
+          judged = λ j. fields-accepted T first n m le (q .room) S S P ty place known p start row [] mine is (q .ready .judged j);
+        };
+        leaves = λ i a b. q .leaves i a (omega (arith, b, le));
+        room = omega (arith, q .room, le);
+        few = omega (arith, q .few, le);
+        fits = rw is (mod-lt known (pow-pos m));
+        forth = q .forth;
+        deep = q .deep;
+      }
+
+  module _ {sheet after : List ℕ} {w : Walk} (walked : HeldFields s p depth ty first m place mine start row sheet w after) where
+    pub first-failed : {number at : ℕ} → w ≡ Refused number at → HeldFirst s p depth ty first n m place known start row sheet (Refused number at) after
+    first-failed e R shown = fields-stop T first n m le (q .room) R S P ty place known p start row sheet mine is _ _ after (was (walked R) e)
+
+    module _ {sum here below : ℕ} (e : w ≡ Past sum here below) where
+      within : (here ≤ length p) × (below ≤ here) × (sum + 16 * start ≤ 16 * here)
+      within = was (walked S) e .within
+
+      abbrev rest : ℕ
+      rest = known / 2 ^ m % 2 ^ (n - m)
+
+      pub rest-ready : FieldsReady s p depth ty (first + m) (n - m) here rest here row judging
+      rest-ready =
+          record {
+            ready = record {
+              good = q .ready .good;
+              small = q .ready .small;
+              inside = within .0;
+              behind = omega (arith, q .ready .behind, within .2);
+              judged = λ j. others-accepted T first n m le (q .room) S S P ty place known p start row sheet mine is sum here below after (was (walked S) e) rest refl (q .ready .judged j);
+            };
+            leaves = λ i a b. q .leaves i (omega (arith, a)) (omega (arith, b, le));
+            room = omega (arith, q .room, le);
+            few = omega (arith, q .few);
+            fits = mod-lt (known / 2 ^ m) (pow-pos (n - m));
+            forth = omega arith;
+            deep = q .deep;
+          }
+
+      module _ {cells cells′ : List ℕ} {v : Walk} (more : HeldFields s p depth ty (first + m) (n - m) here rest here row cells v cells′) where
+        pub rest-failed : {number at : ℕ} → v ≡ Refused number at → {end : List ℕ} → HeldFirst s p depth ty first n m place known start row sheet (Refused number at) end
+        rest-failed f R shown =
+            others-stop T first n m le (q .room) R S P ty place known p start row sheet mine is sum here below after (was (walked R) e) rest refl _ _ cells cells′ _ (was (more R) f)
+
+        module _ {due next below′ : ℕ} (f : v ≡ Past due next below′) where
+          pub rest-in : (place ≤ next) × (next ≤ 16384) × (row ≤ 16384) × (sum + due ≤ 262144)
+          rest-in = let x = was (more S) f .within in omega (arith, x, within, q .forth, q .ready .small, q .ready .inside, q .ready .behind)
+
+          pub rest-past : shapeIn s ty ≡ struct (fieldsFrom T first n) → {count : ℕ} → count ≡ ones mine → {end : List ℕ} → end ≡ putRow after row (nodeRow ty place next count)
+              → HeldFirst s p depth ty first n m place known start row sheet (Past (sum + due) next below) end
+          rest-past read same put R shown =
+              others-past T first n m le (q .room) R S P ty place known p start row sheet mine is sum here below after (was (walked R) e) rest refl shown read _ _ _ cells cells′ _ (was (more R) f) (rw same at put)

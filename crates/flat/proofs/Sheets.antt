@@ -11,6 +11,7 @@ use lib.ListN.{length, set, take, drop, length-set, take-append-drop}
 use lib.Seq.{set-set, set-comm, sets-eq, length-take-le, take-append-le, take-take, take-at, drop-at, paste}
 use Rattle.value.specs.declared.Row.{Row}
 use Rattle.value.specs.Sheet.{cellsOf}
+use Rattle.value.proofs.Sheets.{length-cells}
 use Rattle.flat.specs.Sheet.{put4, putRow, putRows, shownIn}
 
 length-put4 : (l : List ℕ) (b : ℕ) (r : Row) → length (put4 l b r) ≡ length l
@@ -151,11 +152,6 @@ pub rows-shown : (l : List ℕ) (rs : List Row) → 4 * length rs ≤ length l �
 rows-shown l rs h =
     let e : 0 + length rs ≡ length rs = omega arith in
     rows-paste l 0 rs (omega arith) ∙ rw e
-
-length-cells : (rs : List Row) → length (cellsOf rs) ≡ 4 * length rs
-unfolding cellsOf
-length-cells [] = refl
-length-cells (r ∷ rs) = let ih = length-cells rs in omega arith
 
 -- Rows that fit into another sheet, copied from there.
 pub rows-copied : (few l : List ℕ) (rs : List Row) → 4 * length rs ≤ length few → paste l 0 (putRows few 0 rs) (4 * length rs) ≡ shownIn l rs

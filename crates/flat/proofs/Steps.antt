@@ -1,66 +1,54 @@
 -- Laws of the walkers: what one step of a walk does to its end. What is read by the shapes S is shown by the shapes R.
 use mathlib.Core.Path.{_≡_, refl, sym, ap, _∙_}
-use mathlib.Core.Bool.{true, false}
 use mathlib.Core.List.{List, [], _∷_}
 use Prim.Native.Nat.{ℕ, zero, suc, _+_, _-_, _*_, _≤_, _<_}
 use native.Mathlib.Omega.{arith}
 use lib.ListN.{length, length-append}
 use Rattle.wire.proofs.Cases.{differ}
-use Rattle.parse.specs.Reader.{Cursor, Answer, refused, seen, Reader, andThen, check, cursorAt, Accepted}
+use Rattle.parse.specs.Reader.{Cursor, Answer, refused, seen, Reader, andThen, cursorAt, Accepted}
 use Rattle.parse.proofs.Answers.{accepted-first}
 use Rattle.schema.specs.Table.{Shape}
 use Rattle.value.specs.declared.Row.{Row}
 use Rattle.value.specs.Value as tree
 use Rattle.value.specs.Value.{Tree, tip, branch, Forest, plus, rows, rowsAll, values}
 use Rattle.value.specs.Comparisons.{mapDue, comparisons, comparisonsAll}
-use Rattle.value.specs.Read.{Item, plainItem, plan, rowCount, Own, plain, parts, own, among, walk, leafRow, nodeRow, wholeValue, parse}
+use Rattle.value.specs.Read.{Item, plan, rowCount, Own, plain, parts, own, walk, leafRow, nodeRow, wholeValue, parse}
 use Rattle.value.specs.Beside.{pruned, prunedAll}
 use Rattle.walks.specs.Shape.{shapeIn}
-use Rattle.walks.proofs.Items.{keyItem, afterItem, afterKey, item-step, key-step}
+use Rattle.walks.proofs.Walks.{deep}
+use Rattle.walks.proofs.Items.{ended-is, stopped-is, accepted-along, Sink}
 use Rattle.flat.specs.declared.leaf.Span.{Span}
 use Rattle.flat.specs.declared.leaf.Span.the-variants.{At, Refused as SpanRefused}
 use Rattle.flat.specs.declared.Walk.{Walk}
 use Rattle.flat.specs.declared.Walk.the-variants.{Past, Refused}
 use Rattle.flat.specs.Sheet.{putRow, putRows}
 use Rattle.flat.specs.Leaf.{part, spanOf, Spanned}
-use Rattle.flat.specs.Walk.{firstFields, Told, told, toldAll, toldHeld, Final, done, stopped, walkOf, Walked}
+use Rattle.flat.specs.Walk.{firstFields, Told, told, toldAll, toldHeld, Noted, noted, note, Final, done, stopped, walkOf, Walked}
 use Rattle.flat.proofs.Sheets.{rows-append, length-rows}
 use Rattle.flat.proofs.Leaves.{length-part}
 
 -- ---- ends
 
+noted-eq : {d e r q : ℕ} {l k : List ℕ} → d ≡ e → r ≡ q → l ≡ k → noted d r l ≡ noted e q k
+noted-eq f g h = cc
+
 pub done-eq : {c c′ : Cursor} {d e r q : ℕ} {l k : List ℕ} → c ≡ c′ → d ≡ e → r ≡ q → l ≡ k → done c d r l ≡ done c′ e q k
 done-eq e f g h = cc
 
 -- a walk keeps the sheet's length
-pub walk-length : {A : Type 0} (f : A → Told) (o : Answer A) (due row : ℕ) (l : List ℕ) (c : Cursor) (due′ row′ : ℕ) (m : List ℕ)
+pub walk-length : {A : Type 0} (f : A → Told) (o : Answer A) (due row : ℕ) (l : List ℕ) {c : Cursor} {due′ row′ : ℕ} {m : List ℕ}
     → done c due′ row′ m ≡ walkOf f o due row l → length m ≡ length l
-walk-length f (seen a c₁) due row l c due′ row′ m e = let g : m ≡ putRows l row (f a .rows) = cc in rw g (length-rows l row (f a .rows))
-walk-length f (refused n q) due row l c due′ row′ m e = differ cc
-
--- where two answers have the same end, one accepts where the other does
-pub accepted-along : {A B : Type 0} (f : A → Told) (g : B → Told) (o : Answer A) (o′ : Answer B) (due due′ row row′ : ℕ) (l m : List ℕ)
-    → walkOf f o due row l ≡ walkOf g o′ due′ row′ m → Accepted o′ → Accepted o
-accepted-along f g (seen a c) o′ due due′ row row′ l m e h = tt
-accepted-along f g (refused n q) (seen b c) due due′ row row′ l m e h = differ cc
-accepted-along f g (refused n q) (refused n′ q′) due due′ row row′ l m e h = h
+walk-length f (seen a c₁) due row l {m} e = let g : m ≡ putRows l row (f a .rows) = cc in rw g (length-rows l row (f a .rows))
+walk-length f (refused n q) due row l e = differ cc
 
 -- a walk that starts with more comparisons ends with as many more
-later : {A : Type 0} (f : A → Told) (o : Answer A) (sum row : ℕ) (l : List ℕ) (c : Cursor) (due row′ : ℕ) (m : List ℕ)
+pub later : {A : Type 0} (f : A → Told) (o : Answer A) (sum row : ℕ) (l : List ℕ) {c : Cursor} {due row′ : ℕ} {m : List ℕ}
     → done c due row′ m ≡ walkOf f o 0 row l → done c (sum + due) row′ m ≡ walkOf f o sum row l
-later f (seen a c₁) sum row l c due row′ m e =
-    let same : c ≡ c₁ = cc in
+later f (seen a c₁) sum row l {due} e =
     let g : due ≡ 0 + f a .due = cc in
-    let k : row′ ≡ row + length (f a .rows) = cc in
-    let put : m ≡ putRows l row (f a .rows) = cc in
-    done-eq same (omega arith) k put
-later f (refused n q) sum row l c due row′ m e = differ cc
-
--- a refusal does not depend on them
-stopped-too : {A : Type 0} (f : A → Told) (o : Answer A) (sum row : ℕ) (l : List ℕ) (n q : ℕ)
-    → stopped n q ≡ walkOf f o 0 row l → stopped n q ≡ walkOf f o sum row l
-stopped-too f (seen a c₁) sum row l n q e = differ cc
-stopped-too f (refused n′ q′) sum row l n q e = e
+    let h : sum + due ≡ sum + f a .due = omega arith in
+    cc
+later f (refused n q) sum row l e = differ cc
 
 module _ {A : Type 0} {f : A → Told} {p : List ℕ} where
   pub renamed : {least : ℕ} {o o′ : Answer A} {row : ℕ} {l : List ℕ} {r : Walk} {m : List ℕ}
@@ -73,6 +61,14 @@ module _ {A : Type 0} {f : A → Told} {p : List ℕ} where
 
   pub as-refused : {least : ℕ} {row : ℕ} {l m : List ℕ} (o : Answer A) (n q : ℕ) → o ≡ refused n q → Walked p least f o row l (Refused n q) m
   as-refused o n q e = record { same = rw e; within = tt }
+
+  -- a walk that went past has read, one that stopped was refused
+  pub read-of : {least : ℕ} {o : Answer A} {row : ℕ} {l : List ℕ} {due next row′ : ℕ} {m : List ℕ}
+      → Walked p least f o row l (Past due next row′) m → (a : A) × (o ≡ seen a (cursorAt p next))
+  read-of {o} {row} {l} w = let (a, e, _) = ended-is (λ a. note (f a)) o (noted 0 row l) (w .same) in (a, e)
+
+  pub refused-of : {least : ℕ} {o : Answer A} {row : ℕ} {l : List ℕ} {n q : ℕ} {m : List ℕ} → Walked p least f o row l (Refused n q) m → o ≡ refused n q
+  refused-of {o} {row} {l} w = stopped-is (λ a. note (f a)) o (noted 0 row l) (w .same)
 
   -- less is asked of the place where a walk ends
   pub further : (least least′ : ℕ) {o : Answer A} {row : ℕ} {l : List ℕ} (r : Walk) {m : List ℕ}
@@ -95,55 +91,20 @@ aheadIn known s p depth keys is here due row l =
     ahead (firstFields known (shapeIn s)) (shapeIn s) (parse (shapeIn s) depth) keys is (cursorAt p here) due row l
 
 module _ (R S : ℕ → Shape) where
-  then-plus : (i : Item) (is : List Item) (t : Tree) (o : Answer Forest) (due row : ℕ) (l : List ℕ)
-      → walkOf (toldAll R S (i ∷ is)) (andThen o (λ ts c. seen (plus t ts) c)) due row l
-      ≡ walkOf (toldAll R S is) o (due + told R S (i .type) t .due) (row + length (told R S (i .type) t .rows)) (putRows l row (told R S (i .type) t .rows))
-  unfolding andThen told toldAll rows rowsAll pruned prunedAll tree.value values comparisons comparisonsAll
-  then-plus i is t (seen ts c) due row l =
-      done-eq refl (omega arith) (rw length-append (omega arith)) (rows-append l row (rows (pruned R t (i .type))) (rowsAll (prunedAll R ts is)))
-  then-plus i is t (refused n q) due row l = refl
+  pub told-first : (i : Item) (is : List Item) (t : Tree) (ts : Forest) (x : Noted) → Unit {0}
+      → note (toldAll R S (i ∷ is) (plus t ts)) x ≡ note (toldAll R S is ts) (note (told R S (i .type) t) x)
+  unfolding told toldAll rows rowsAll pruned prunedAll tree.value values comparisons comparisonsAll
+  told-first i is t ts (noted due row l) _ =
+      noted-eq (omega arith) (rw length-append (omega arith)) (rows-append l row (rows (pruned R t (i .type))) (rowsAll (prunedAll R ts is)))
 
-  module _ (P : ℕ → Reader Tree) (keys : List (List ℕ)) (is : List Item) where
-    past : (t : ℕ) (o : Answer Tree) (due row : ℕ) (l : List ℕ) (c′ : Cursor) (due′ row′ : ℕ) (m : List ℕ)
-        → done c′ due′ row′ m ≡ walkOf (told R S t) o due row l
-        → walkOf (toldAll R S (plainItem t ∷ is)) (andThen o (afterItem P keys is)) due row l ≡ ahead R S P keys is c′ due′ row′ m
-    unfolding andThen afterItem
-    past t (seen x c) due row l c′ due′ row′ m e = then-plus (plainItem t) is x (walk P keys is c) due row l ∙ cc
-    past t (refused n q) due row l c′ due′ row′ m e = differ cc
+  -- What is told of trees, as a sheet takes it.
+  abbrev pub telling : Sink Noted
+  telling = record { one = λ t tree. note (told R S t tree); all = λ is ts. note (toldAll R S is ts); Fits = λ _. Unit {0}; next = told-first }
 
-    halted : {A B : Type 0} (g : A → Reader B) (f : A → Told) (k : B → Told) (o : Answer A) (due row : ℕ) (l : List ℕ) (n q : ℕ)
-        → stopped n q ≡ walkOf f o due row l → stopped n q ≡ walkOf k (andThen o g) due row l
-    unfolding andThen
-    halted g f k (seen a c) due row l n q e = differ cc
-    halted g f k (refused n′ q′) due row l n q e = e
-
-    module _ (t : ℕ) (c : Cursor) (sum row : ℕ) (l : List ℕ) where
-      pub item-past : (c′ : Cursor) (due row′ : ℕ) (m : List ℕ) → done c′ due row′ m ≡ walkOf (told R S t) (P t c) 0 row l
-          → ahead R S P keys (plainItem t ∷ is) c sum row l ≡ ahead R S P keys is c′ (sum + due) row′ m
-      item-past c′ due row′ m e =
-          rw (item-step P keys is t c) (past t (P t c) sum row l c′ (sum + due) row′ m (later (told R S t) (P t c) sum row l c′ due row′ m e))
-
-      pub item-stop : (n q : ℕ) → stopped n q ≡ walkOf (told R S t) (P t c) 0 row l → stopped n q ≡ ahead R S P keys (plainItem t ∷ is) c sum row l
-      item-stop n q e =
-          rw (item-step P keys is t c)
-          (halted (afterItem P keys is) (told R S t) (toldAll R S (plainItem t ∷ is)) (P t c) sum row l n q (stopped-too (told R S t) (P t c) sum row l n q e))
-
-    pub key-stop : (k : ℕ) (c : Cursor) (sum row : ℕ) (l : List ℕ) (n q : ℕ) → P k c ≡ refused n q
-        → stopped n q ≡ ahead R S P keys (keyItem k ∷ is) c sum row l
-    unfolding andThen
-    key-stop k c sum row l n q e = rw (key-step P keys is k c, e)
-
-    module _ (k : ℕ) (c : Cursor) (r : Row) (x : List ℕ) (c′ : Cursor) (read : P k c ≡ seen (tip r x) c′) where
-      pub key-again : (sum row : ℕ) (l : List ℕ) → among x keys ≡ true → stopped 24 (c .at) ≡ ahead R S P keys (keyItem k ∷ is) c sum row l
-      unfolding andThen check afterKey tree.value
-      key-again sum row l e = rw (key-step P keys is k c, read, e)
-
-      pub key-new : (sum row : ℕ) (l : List ℕ) → among x keys ≡ false
-          → ahead R S P keys (keyItem k ∷ is) c sum row l ≡ ahead R S P (x ∷ keys) is c′ sum (row + 1) (putRow l row r)
-      unfolding andThen check afterKey tree.value told rows pruned comparisons putRows
-      key-new sum row l e =
-          let z : sum + 0 ≡ sum = omega arith in
-          rw (key-step P keys is k c, read, e) (then-plus (keyItem k) is (tip r x) (walk P (x ∷ keys) is c′) sum row l ∙ rw z)
+  -- a leaf tells its own row
+  pub tip-told : (t : ℕ) (r : Row) (x : List ℕ) (due row : ℕ) (l : List ℕ) → noted due (row + 1) (putRow l row r) ≡ note (told R S t (tip r x)) (noted due row l)
+  unfolding told rows pruned tree.value comparisons putRows
+  tip-told t r x due row l = noted-eq (omega arith) refl refl
 
   pub walk-end : (P : ℕ → Reader Tree) (keys : List (List ℕ)) (c : Cursor) (due row : ℕ) (l : List ℕ) → done c due row l ≡ ahead R S P keys [] c due row l
   unfolding walk toldAll rowsAll prunedAll values comparisonsAll putRows
@@ -183,19 +144,14 @@ module _ (R S : ℕ → Shape) (P : ℕ → Reader Tree) (sh : Shape) (t place h
       → stopped n q ≡ ahead R S P [] (plan sh h) c 0 (row + 1) l
       → Walked p least (toldHeld R S (mapDue sh h) (plan sh h)) (wholeValue P t sh (parts place h) c) row l (Refused n q) after
   unfolding andThen
-  composite-stop p least n q after e = record { same = go (walk P [] (plan sh h) c) e; within = tt }
-    where
-      go : (o : Answer Forest) → stopped n q ≡ walkOf (toldAll R S (plan sh h)) o 0 (row + 1) l
-          → stopped n q ≡ walkOf (toldHeld R S (mapDue sh h) (plan sh h)) (andThen o (λ ts end. seen (branch (nodeRow t place (end .at) (rowCount sh h)) h ts) end)) 0 row l
-      go (seen ts c₁) e = differ cc
-      go (refused n′ q′) e = e
+  composite-stop p least n q after e = record { same = rw (stopped-is (telling R S .all (plan sh h)) (walk P [] (plan sh h) c) (noted 0 (row + 1) l) e); within = tt }
 
   -- what is left of an accepted composite is accepted
   pub rest-accepted : (o : Answer Forest) (is : List Item) (sum below : ℕ) (m : List ℕ)
       → walkOf (toldAll R S is) o sum below m ≡ ahead R S P [] (plan sh h) c 0 (row + 1) l
       → Accepted (wholeValue P t sh (parts place h) c) → Accepted o
   rest-accepted o is sum below m e a =
-      accepted-along (toldAll R S is) (toldAll R S (plan sh h)) o (walk P [] (plan sh h) c) sum 0 below (row + 1) m l e (accepted-first (walk P [] (plan sh h) c) _ a)
+      accepted-along (telling R S .all is) (telling R S .all (plan sh h)) o (walk P [] (plan sh h) c) _ _ e (accepted-first (walk P [] (plan sh h) c) _ a)
 
   -- where all that it holds is shown, it is shown as it is
   module _ (shown : R t ≡ sh) (read : S t ≡ sh) where
@@ -241,11 +197,8 @@ spanRow t from to = record { ty = t; place = from; length = to - from; count = 0
 
 module _ (S : ℕ → Shape) (d t : ℕ) (sh : Shape) (is : S t ≡ sh) (some : (d ≡ 0) → ⊥) (p : List ℕ) (at : ℕ) (r : Span)
     (read : Spanned p at (own sh (cursorAt p at)) r) where
-  deep : d ≡ suc (d - 1)
-  deep = omega (arith, some)
-
   pub leaf-failed : (n q : ℕ) → r ≡ SpanRefused q n → parse S d t (cursorAt p at) ≡ refused n q
-  leaf-failed n q e = rw deep (parse-refused S (d - 1) t (cursorAt p at) sh is n q (sym (read .same) ∙ ap (spanOf p) e))
+  leaf-failed n q e = rw (deep d some) (parse-refused S (d - 1) t (cursorAt p at) sh is n q (sym (read .same) ∙ ap (spanOf p) e))
 
   module _ (from to : ℕ) (e : r ≡ At from to) where
     pub leaf-in : (from ≤ to) × (to ≤ length p) × (at < to)
@@ -259,7 +212,7 @@ module _ (S : ℕ → Shape) (d t : ℕ) (sh : Shape) (is : S t ≡ sh) (some : 
 
     pub leaf-parsed : parse S d t (cursorAt p at) ≡ seen (tip (spanRow t from to) (part p from to)) (cursorAt p to)
     leaf-parsed =
-        rw deep (parse-whole S (d - 1) t (cursorAt p at) sh is (plain (part p from to)) (cursorAt p to) (sym (read .same) ∙ ap (spanOf p) e))
+        rw (deep d some) (parse-whole S (d - 1) t (cursorAt p at) sh is (plain (part p from to)) (cursorAt p to) (sym (read .same) ∙ ap (spanOf p) e))
         ∙ ap (λ (w : Row). seen (tip w (part p from to)) (cursorAt p to)) leaf-row
 
     pub leaf-past : (R : ℕ → Shape) (row : ℕ) (l after : List ℕ) → row ≤ at → after ≡ putRow l row (spanRow t from to)

@@ -2,33 +2,37 @@
 use mathlib.Core.Path.{_≡_, refl, sym, ap, _∙_}
 use mathlib.Core.Bool.{Bool, true, false, cond}
 use mathlib.Core.List.{List, []}
-use Prim.Native.Nat.{ℕ, _+_, _-_, _/_, _%_, _^_, _≤_, _<_}
+use Prim.Native.Nat.{ℕ, suc, _+_, _-_, _*_, _/_, _%_, _^_, _≤_, _<_}
 use native.Mathlib.Omega.{arith}
 use native.Mathlib.Decide.{decLt}
 use lib.Count.{trailingZeros}
 use lib.Dec.{ltb}
-use lib.ListN.{length, getD}
-use Rattle.parse.specs.Reader.{refused, cursorAt, Accepted}
+use lib.ListN.{length, getD, replicate}
+use Rattle.parse.specs.Reader.{cursorAt, Accepted}
 use Rattle.schema.specs.declared.Field.{Field}
 use Rattle.schema.specs.declared.TypeRow.{TypeRow}
 use Rattle.schema.specs.Table.{Shape, scalar, text, array, struct, rowAt, shape}
 use Rattle.schema.specs.File.{tableOf}
-use Rattle.schema.specs.Check.{IsGood, fieldRow}
-use Rattle.value.specs.Read.{Item, present, parts, own, walk, wholeValue, parse}
+use Rattle.schema.specs.Check.{fieldRow}
+use Rattle.value.specs.Read.{Item, plainItem, plan, own, walk, parse}
 use Rattle.value.specs.Narrow.{firstOf}
 use Rattle.walks.specs.Shape.{fieldsFrom, leafShape, shapeIn}
 use Rattle.walks.proofs.Masks.{Standing, standing-first, standing-some, standing-next, standing-field, standing-kind, standing-skip, standing-same, standing-end}
-use Rattle.walks.proofs.Tables.{shape-leaf, shape-array, shape-struct}
+use Rattle.walks.proofs.Tables.{few-fields, shape-leaf, shape-array, shape-struct}
+use Rattle.walks.proofs.Items.{elements-none}
+use Rattle.walks.proofs.Walks.{deeper, shallower}
 use Rattle.flat.specs.declared.elements.Prepared.{Prepared}
 use Rattle.flat.specs.declared.leaf.Span.{Span}
-use Rattle.flat.specs.declared.leaf.Span.the-variants.{At}
+use Rattle.flat.specs.declared.leaf.Span.the-variants.{At, Refused as SpanRefused}
+use Rattle.flat.specs.declared.Walk.{Walk}
 use Rattle.flat.specs.declared.Walk.the-variants.{Past, Refused}
 use Rattle.flat.specs.Sheet.{putRow}
 use Rattle.flat.specs.Leaf.{Spanned}
-use Rattle.flat.specs.Walk.{firstFields, told, toldHeld, Final, Walked}
-use Rattle.flat.specs.Flat.{LeavesIn, IsFlat, Described}
-use Rattle.flat.proofs.Steps.{ahead, stop-at, composite-past, composite-stop, rest-accepted, leaf-in, leaf-past, spanRow}
-use Rattle.flat.proofs.Composites.{first-of, first-whole, leftOver, field-stop, field-accepted, field-read}
+use Rattle.flat.specs.Walk.{valueIn, wholeIn, firstFields, told, toldHeld, Final, Walked, Ready}
+use Rattle.flat.specs.Flat.{LeavesIn, IsFlat, Described, HeldFields, FieldsReady}
+use Rattle.flat.proofs.Sheets.{length-put}
+use Rattle.flat.proofs.Steps.{ahead, was, as-refused, parse-deep, stop-at, composite-past, composite-stop, rest-accepted, own-accepted, leaf-failed, leaf-in, leaf-past, spanRow}
+use Rattle.flat.proofs.Composites.{first-of, first-whole, element-past, element-stop, element-accepted, leftOver, field-stop, field-accepted, field-read}
 
 -- ---- types
 
@@ -127,109 +131,212 @@ pub record Going (s p : List ℕ) (depth a b known start row : ℕ) (sheet : Lis
   pub on : Standing a b i bits
   pub count : below + length (leftOver (tableOf s) i (a + b - i) bits) ≡ row + 1 + length (leftOver (tableOf s) a b known)
 
-module _ (s p : List ℕ) (depth a b known start row : ℕ) (sheet : List ℕ) where
-  pub going-first : start ≤ length p → row + 1 ≤ start → b ≤ 64 → known < 2 ^ b → Going s p depth a b known start row sheet a known start (row + 1) sheet
-  going-first inside behind few fits =
+module _ {s p : List ℕ} {depth ty a b place known start row : ℕ} {judging : Bool} (q : FieldsReady s p depth ty a b place known start row judging) where
+  pub going-first : (sheet : List ℕ) → Going s p depth a b known start row sheet a known start (row + 1) sheet
+  going-first sheet =
       let e : a + b - a ≡ b = omega arith in
       record {
         same = λ R. rw e;
-        inside = inside;
-        behind = behind;
+        inside = q .ready .inside;
+        behind = q .ready .behind;
         forth = omega arith;
         long = refl;
-        on = standing-first few fits;
+        on = standing-first (q .few) (q .fits);
         count = rw e;
       }
 
-  module _ (i bits here below : ℕ) (l : List ℕ) (g : Going s p depth a b known start row sheet i bits here below l) (some : 0 < bits) where
-    -- the zeros below the next bit are passed over
-    pub going-skip : (z : ℕ) → z ≡ trailingZeros 64 bits → Going s p depth a b known start row sheet (i + z) (bits / 2 ^ z) here below l
-    going-skip z is =
-        let skip = standing-same (g .on) some is (tableOf s) in
-        record {
-          same = λ R. rw skip (g .same R);
-          inside = g .inside;
-          behind = g .behind;
-          forth = g .forth;
-          long = g .long;
-          on = standing-skip (g .on) some is;
-          count = rw skip (g .count);
-        }
+  module _ {sheet : List ℕ} {i bits here below : ℕ} {l : List ℕ} (g : Going s p depth a b known start row sheet i bits here below l) where
+    -- the numbers of fields and rows, and what is read of the next field
+    pub going-few : (i ≤ 2048) × (below ≤ 16384)
+    going-few = omega (arith, g .on .last, q .room, few-fields s (q .ready .good), g .inside, g .behind, q .ready .small)
 
-    module _ (room : a + b ≤ length (tableOf s .fields)) (good : IsGood s) (leaves : LeavesIn (tableOf s) a (a + b)) (f : Field) (is : f ≡ fieldRow (tableOf s) i)
-        (r : TypeRow) (row-is : r ≡ rowAt (tableOf s) (f .ty)) where
-      pub going-field : LeafField s f r
-      going-field =
-          let other = standing-kind (g .on) some s good room f is r row-is in
-          let kind : rowAt (tableOf s) (fieldRow (tableOf s) i .ty) .kind < 14 = leaves i (g .on .first) (omega (arith, standing-some (g .on) some)) in
-          let leaf : r .kind < 14 = rw (row-is, is) kind in
-          record { some = other; leaf = leaf; is = shape-leaf (tableOf s) (f .ty) r row-is other leaf }
+    module _ (bit : bits ≡ 0 → ⊥) where
+      some : 0 < bits
+      some = omega (arith, bit)
 
-      module _ (odd : bits % 2 ≡ 1) where
-        pub going-accepted : (ty place : ℕ)
-            → Accepted (wholeValue (parse (shapeIn s) depth) ty (struct (fieldsFrom (tableOf s) a b)) (parts place known) (cursorAt p start))
-            → Accepted (parse (shapeIn s) depth (f .ty) (cursorAt p here))
-        going-accepted ty place h =
+      -- the zeros below the next bit are passed over
+      pub going-skip : {z : ℕ} → z ≡ trailingZeros 64 bits → Going s p depth a b known start row sheet (i + z) (bits / 2 ^ z) here below l
+      going-skip is =
+          let skip = standing-same (g .on) some is (tableOf s) in
+          record {
+            same = λ R. rw skip (g .same R);
+            inside = g .inside;
+            behind = g .behind;
+            forth = g .forth;
+            long = g .long;
+            on = standing-skip (g .on) some is;
+            count = rw skip (g .count);
+          }
+
+      module _ {f : Field} (is : f ≡ fieldRow (tableOf s) i) {r : TypeRow} (row-is : r ≡ rowAt (tableOf s) (f .ty)) (odd : bits % 2 ≡ 1) where
+        field : LeafField s f r
+        field =
+            let other = standing-kind (g .on) some s (q .ready .good) (q .room) f is r row-is in
+            let kind : rowAt (tableOf s) (fieldRow (tableOf s) i .ty) .kind < 14 = q .leaves i (g .on .first) (omega (arith, standing-some (g .on) some)) in
+            let leaf : r .kind < 14 = rw (row-is, is) kind in
+            record { some = other; leaf = leaf; is = shape-leaf (tableOf s) (f .ty) r row-is other leaf }
+
+        deep : depth ≡ 0 → ⊥
+        deep = omega (arith, q .deep)
+
+        accepted : judging ≡ false → Accepted (parse (shapeIn s) depth (f .ty) (cursorAt p here))
+        accepted j =
             let S = shapeIn s in
             let P = parse S depth in
             let items = leftOver (tableOf s) i (a + b - i) bits in
             field-accepted S S P p (tableOf s) i (a + b - i) bits here 0 below l (standing-some (g .on) some) (omega (arith, g .on .last)) f is odd
-            (rest-accepted S S P (struct (fieldsFrom (tableOf s) a b)) ty place known (cursorAt p start) row sheet (walk P [] items (cursorAt p here)) items 0 below l (g .same S) h)
+            (rest-accepted S S P (struct (fieldsFrom (tableOf s) a b)) ty place known (cursorAt p start) row sheet (walk P [] items (cursorAt p here)) items 0 below l (g .same S) (q .ready .judged j))
 
-        pub going-stop : (R : ℕ → Shape) (ty place n q : ℕ) (after : List ℕ) → parse (shapeIn s) depth (f .ty) (cursorAt p here) ≡ refused n q
-            → Walked p start (toldHeld R (shapeIn s) 0 (present (fieldsFrom (tableOf s) a b) known))
-            (wholeValue (parse (shapeIn s) depth) ty (struct (fieldsFrom (tableOf s) a b)) (parts place known) (cursorAt p start)) row sheet (Refused n q) after
-        going-stop R ty place n q after e =
-            let S = shapeIn s in
-            let P = parse S depth in
-            composite-stop R S P (struct (fieldsFrom (tableOf s) a b)) ty place known (cursorAt p start) row sheet p start n q after
-            (field-stop R S P p (tableOf s) i (a + b - i) bits here 0 below l (standing-some (g .on) some) (omega (arith, g .on .last)) f is odd n q (stop-at (told R S (f .ty)) _ below l n q e) ∙ g .same R)
+        pub going-asked : (length p ≤ 16384) × (here ≤ length p) × (0 < r .kind) × (r .kind < 14) × (judging ≡ false → Accepted (own (leafShape (r .kind)) (cursorAt p here)))
+        going-asked = (
+          q .ready .small,
+          g .inside,
+          field .some,
+          field .leaf,
+          λ j.
+              own-accepted (shapeIn s) (depth - 1) (f .ty) (cursorAt p here) (leafShape (r .kind)) (field .is)
+              (deeper (λ n. Accepted (parse (shapeIn s) n (f .ty) (cursorAt p here))) depth deep (accepted j)),
+        )
 
-        pub going-on : (some : (depth ≡ 0) → ⊥) (c : Span) → Spanned p here (own (leafShape (r .kind)) (cursorAt p here)) c → (from to : ℕ) → c ≡ At from to
-            → (m : List ℕ) → m ≡ putRow l below (spanRow (f .ty) from to) → length m ≡ length l
-            → Going s p depth a b known start row sheet (i + 1) (bits / 2) to (below + 1) m
-        going-on deep c read from to e m put long =
-            let S = shapeIn s in
-            let T = tableOf s in
-            let left = a + b - i in
-            let next : a + b - (i + 1) ≡ left - 1 = omega arith in
-            let k = going-field in
-            let w = leaf-in S depth (f .ty) (leafShape (r .kind)) (k .is) deep p here c read from to e in
-            let more = ap length (standing-field (g .on) some T room f is odd) in
-            record {
-              same = λ R.
-                  let x = leaf-past S depth (f .ty) (leafShape (r .kind)) (k .is) deep p here c read from to e R below l m (g .behind) put in
-                  let read = field-read R S (parse S depth) p T i left bits here 0 below l (standing-some (g .on) some) (omega (arith, g .on .last)) f is odd 0 to (below + 1) m x to 0 (below + 1) m refl refl refl refl in
-                  rw next (sym (read .same) ∙ g .same R);
-              inside = w .1;
-              behind = omega (arith, w .2, g .behind);
-              forth = omega (arith, w .2, g .forth);
-              long = long ∙ g .long;
-              on = standing-next (g .on) some;
-              count = omega (arith, more, g .count);
-            }
+        module _ {c : Span} (read : Spanned p here (own (leafShape (r .kind)) (cursorAt p here)) c) where
+          pub going-stop : {number at : ℕ} → c ≡ SpanRefused at number → {after : List ℕ} → HeldFields s p depth ty a b place known start row sheet (Refused number at) after
+          going-stop {number} {at} e {after} R =
+              let S = shapeIn s in
+              let P = parse S depth in
+              composite-stop R S P (struct (fieldsFrom (tableOf s) a b)) ty place known (cursorAt p start) row sheet p start number at after
+              (field-stop R S P p (tableOf s) i (a + b - i) bits here 0 below l (standing-some (g .on) some) (omega (arith, g .on .last)) f is odd number at
+              (stop-at (told R S (f .ty)) _ below l number at (leaf-failed S depth (f .ty) (leafShape (r .kind)) (field .is) deep p here c read number at e)) ∙ g .same R)
 
-  -- no bit is left: the struct's own row has the number of rows written since
-  module _ (i here below : ℕ) (l : List ℕ) (g : Going s p depth a b known start row sheet i 0 here below l) where
-    none-left : leftOver (tableOf s) i (a + b - i) 0 ≡ []
-    none-left = standing-end (tableOf s) a b i refl
+          module _ {from to : ℕ} (e : c ≡ At from to) where
+            within : (from ≤ to) × (to ≤ length p) × (here < to)
+            within = leaf-in (shapeIn s) depth (f .ty) (leafShape (r .kind)) (field .is) deep p here c read from to e
 
-    pub going-count : below - row - 1 ≡ length (leftOver (tableOf s) a b known)
-    going-count =
-        let n : length (leftOver (tableOf s) i (a + b - i) 0) ≡ 0 = rw none-left in
-        omega (arith, n, g .count)
+            pub going-put : (below ≤ 16384) × (from ≤ 16384) × (to - from ≤ 16384) × (0 ≤ 16384)
+            going-put = omega (arith, within, g .inside, g .behind, q .ready .small)
 
-    pub going-rows : row + 1 ≤ below
-    going-rows =
-        let n : length (leftOver (tableOf s) i (a + b - i) 0) ≡ 0 = rw none-left in
-        omega (arith, n, g .count)
+            pub going-on : {m : List ℕ} → m ≡ putRow l below (spanRow (f .ty) from to) → Going s p depth a b known start row sheet (i + 1) (bits / 2) to (below + 1) m
+            going-on {m} put =
+                let S = shapeIn s in
+                let T = tableOf s in
+                let left = a + b - i in
+                let next : a + b - (i + 1) ≡ left - 1 = omega arith in
+                let w = within in
+                let more = ap length (standing-field (g .on) some T (q .room) f is odd) in
+                record {
+                  same = λ R.
+                      let x = leaf-past S depth (f .ty) (leafShape (r .kind)) (field .is) deep p here c read from to e R below l m (g .behind) put in
+                      let read = field-read R S (parse S depth) p T i left bits here 0 below l (standing-some (g .on) some) (omega (arith, g .on .last)) f is odd 0 to (below + 1) m x to 0 (below + 1) m refl refl refl refl in
+                      rw next (sym (read .same) ∙ g .same R);
+                  inside = w .1;
+                  behind = omega (arith, w .2, g .behind);
+                  forth = omega (arith, w .2, g .forth);
+                  long = rw put (length-put l below (spanRow (f .ty) from to)) ∙ g .long;
+                  on = standing-next (g .on) some;
+                  count = omega (arith, more, g .count);
+                }
 
-    pub going-end : (R : ℕ → Shape) (ty place : ℕ) (after : List ℕ)
-        → after ≡ putRow l row (record { ty = ty; place = place; length = here - place; count = below - row - 1 })
-        → Walked p start (toldHeld R (shapeIn s) 0 (present (fieldsFrom (tableOf s) a b) known))
-        (wholeValue (parse (shapeIn s) depth) ty (struct (fieldsFrom (tableOf s) a b)) (parts place known) (cursorAt p start)) row sheet (Past 0 here below) after
-    going-end R ty place after put =
-        let S = shapeIn s in
-        composite-past R S (parse S depth) (struct (fieldsFrom (tableOf s) a b)) ty place known (cursorAt p start) row sheet
-        p start here 0 0 below l after [] (leftOver (tableOf s) i (a + b - i) 0) none-left (g .same R) refl (rw (← going-count) put) (g .inside) (g .behind)
-        (omega (arith, g .forth))
+    -- no bit is left: the struct's own row has the number of rows written since
+    module _ (none : bits ≡ 0) where
+      none-left : leftOver (tableOf s) i (a + b - i) bits ≡ []
+      none-left = standing-end (tableOf s) a b i none
+
+      going-count : below ≡ row + 1 + length (leftOver (tableOf s) a b known)
+      going-count =
+          let n : length (leftOver (tableOf s) i (a + b - i) bits) ≡ 0 = rw none-left in
+          omega (arith, n, g .count)
+
+      pub going-rows : (place ≤ here) × (row + 1 ≤ below)
+      going-rows = omega (arith, going-count, g .forth, q .forth)
+
+      pub going-own : (row ≤ 16384) × (place ≤ 16384) × (here - place ≤ 16384) × (below - row - 1 ≤ 16384)
+      going-own = omega (arith, going-rows, g .inside, g .behind, q .ready .small)
+
+      pub going-end : {after : List ℕ} → after ≡ putRow l row (record { ty = ty; place = place; length = here - place; count = below - row - 1 })
+          → HeldFields s p depth ty a b place known start row sheet (Past 0 here below) after
+      going-end {after} put R =
+          let count : below - row - 1 ≡ length (leftOver (tableOf s) a b known) = omega (arith, going-count) in
+          composite-past R (shapeIn s) (parse (shapeIn s) depth) (struct (fieldsFrom (tableOf s) a b)) ty place known (cursorAt p start) row sheet
+          p start here 0 0 below l after [] (leftOver (tableOf s) i (a + b - i) bits) none-left (g .same R) refl (rw (← count) put) (g .inside) (g .behind)
+          (omega (arith, g .forth))
+
+-- ---- the elements of an array
+
+-- Where the loop over n elements stands, by whatever shapes it is shown of which Ok holds: so many are left.
+pub record Counting (Ok : (ℕ → Shape) → Type 0) (s p : List ℕ) (depth elem n start row : ℕ) (sheet : List ℕ) (left here sum below : ℕ) (l : List ℕ) : Type 0 where
+  pub same : (R : ℕ → Shape) → Ok R
+      → aheadBy R s p depth (replicate left (plainItem elem)) here sum below l ≡ aheadBy R s p depth (replicate n (plainItem elem)) start 0 (row + 1) sheet
+  pub inside : here ≤ length p
+  pub behind : below ≤ here
+  pub forth : sum + 16 * start ≤ 16 * here
+  pub long : length l ≡ length sheet
+
+-- What is answered of the array.
+abbrev Counted : (Ok : (ℕ → Shape) → Type 0) (s p : List ℕ) (depth ty elem n start row : ℕ) (sheet : List ℕ) → Walk → (after : List ℕ) → Type 0
+Counted Ok s p depth ty elem n start row sheet r after =
+    (R : ℕ → Shape) → Ok R → Walked p start (toldHeld R (shapeIn s) 0 (plan (array elem) n)) (wholeIn s p depth ty (array elem) start n start) row sheet r after
+
+-- Some shapes R₀ are such.
+module _ (Ok : (ℕ → Shape) → Type 0) (R₀ : ℕ → Shape) (ok : Ok R₀) (ty : ℕ) {s p : List ℕ} {depth elem n start row : ℕ} {judging : Bool}
+    (q : Ready s p start (row + 1) judging (wholeIn s p depth ty (array elem) start n start)) where
+  pub counting-first : (sheet : List ℕ) → Counting Ok s p depth elem n start row sheet n start 0 (row + 1) sheet
+  counting-first sheet = record { same = λ R shown. refl; inside = q .inside; behind = q .behind; forth = omega arith; long = refl }
+
+  module _ {sheet : List ℕ} {left here sum below : ℕ} {l : List ℕ} (g : Counting Ok s p depth elem n start row sheet left here sum below l) where
+    pub counting-own : n ≤ 16384 → (row ≤ 16384) × (start ≤ 16384) × (here - start ≤ 16384) × (n ≤ 16384)
+    counting-own few = omega (arith, q .small, q .inside, q .behind, g .inside, few)
+
+    pub counting-end : (0 < left → ⊥) → {after : List ℕ} → after ≡ putRow l row (record { ty = ty; place = start; length = here - start; count = n })
+        → Counted Ok s p depth ty elem n start row sheet (Past sum here below) after
+    counting-end none {after} put R shown =
+        composite-past R (shapeIn s) (parse (shapeIn s) depth) (array elem) ty start n (cursorAt p start) row sheet p start here sum sum below l after [] (replicate left (plainItem elem))
+        (elements-none elem left (omega (arith, none))) (g .same R shown) (omega arith) put (g .inside) (g .behind) (g .forth)
+
+    module _ (some : 0 < left) where
+      pub counting-ready : Ready s p here below judging (valueIn s p depth elem here)
+      counting-ready =
+          record {
+            good = q .good;
+            small = q .small;
+            inside = g .inside;
+            behind = g .behind;
+            judged = λ j.
+                element-accepted R₀ (shapeIn s) (parse (shapeIn s) depth) elem left some (cursorAt p here) sum below l
+                (rest-accepted R₀ (shapeIn s) (parse (shapeIn s) depth) (array elem) ty start n (cursorAt p start) row sheet
+                (walk (parse (shapeIn s) depth) [] (replicate left (plainItem elem)) (cursorAt p here)) (replicate left (plainItem elem)) sum below l (g .same R₀ ok) (q .judged j));
+          }
+
+      -- one level down, where there is one
+      pub counting-below : (depth ≡ 0 → ⊥) → Ready s p here below judging (valueIn s p (suc (depth - 1)) elem here)
+      counting-below d0 = deeper (λ d. Ready s p here below judging (valueIn s p d elem here)) depth d0 counting-ready
+
+      module _ {r : Walk} {m : List ℕ} (walked : (R : ℕ → Shape) → Ok R → Walked p (here + 1) (told R (shapeIn s) elem) (valueIn s p depth elem here) below l r m) where
+        pub counting-stop : {number place : ℕ} → r ≡ Refused number place → {after : List ℕ} → Counted Ok s p depth ty elem n start row sheet (Refused number place) after
+        counting-stop {number} {place} e {after} R shown =
+            composite-stop R (shapeIn s) (parse (shapeIn s) depth) (array elem) ty start n (cursorAt p start) row sheet p start number place after
+            (element-stop R (shapeIn s) (parse (shapeIn s) depth) elem left some (cursorAt p here) sum below l number place (was (walked R shown) e .same) ∙ g .same R shown)
+
+        module _ {due next row′ : ℕ} (e : r ≡ Past due next row′) where
+          pub counting-sum : sum + due ≤ 262144
+          counting-sum = let w = was (walked R₀ ok) e .within in omega (arith, w, g .forth, q .small)
+
+          pub counting-on : length m ≡ length l → Counting Ok s p depth elem n start row sheet (left - 1) next (sum + due) row′ m
+          counting-on long =
+              let w = was (walked R₀ ok) e .within in
+              record {
+                same = λ R shown.
+                    sym (element-past R (shapeIn s) (parse (shapeIn s) depth) elem left some (cursorAt p here) sum below l (cursorAt p next) due row′ m (was (walked R shown) e .same)) ∙ g .same R shown;
+                inside = w .0;
+                behind = w .1;
+                forth = omega (arith, w .2, g .forth);
+                long = long ∙ g .long;
+              }
+
+      pub counting-deep : depth ≡ 0 → {after : List ℕ} → Counted Ok s p depth ty elem n start row sheet (Refused 28 here) after
+      counting-deep none {after} = counting-stop {m = l} (λ R shown. as-refused _ _ _ (parse-deep (shapeIn s) depth elem (cursorAt p here) none)) refl
+
+-- An element of a type that was prepared, read one level down.
+pub lifted : (Ok : (ℕ → Shape) → Type 0) (s : List ℕ) (depth here : ℕ) {p : List ℕ} {e elem below : ℕ} {l : List ℕ} {r : Walk} {m : List ℕ} → e ≡ elem → (depth ≡ 0 → ⊥)
+    → ((R : ℕ → Shape) → Ok R → Walked p (here + 1) (told R (shapeIn s) e) (valueIn s p (suc (depth - 1)) e here) below l r m)
+    → (R : ℕ → Shape) → Ok R → Walked p (here + 1) (told R (shapeIn s) elem) (valueIn s p depth elem here) below l r m
+lifted Ok s depth here {p} {e} {elem} {below} {l} {r} {m} same d0 w R shown =
+    shallower (λ d. Walked p (here + 1) (told R (shapeIn s) elem) (valueIn s p d elem here) below l r m) depth d0 (rw same at (w R shown))

@@ -1,21 +1,27 @@
 -- Types whose values hold nothing but scalars, strings and bytes, as the loop over an array of such values needs them.
 use mathlib.Core.Path.{_≡_}
-use mathlib.Core.Bool.{Bool}
-use mathlib.Core.List.{List}
-use Prim.Native.Nat.{ℕ, _+_, _^_, _≤_, _<_}
+use mathlib.Core.Logic.{_⊎_}
+use mathlib.Core.Bool.{Bool, true, false}
+use mathlib.Core.List.{List, _∷_}
+use Prim.Native.Nat.{ℕ, _+_, _-_, _^_, _≤_, _<_}
 use lib.ListN.{length}
 use Rattle.parse.specs.Reader.{Answer, refused, seen, cursorAt}
 use Rattle.schema.specs.Table.{Table, Shape, rowAt, array, map, struct}
 use Rattle.schema.specs.File.{tableOf, Laid}
 use Rattle.schema.specs.Check.{fieldRow}
 use Rattle.value.specs.Comparisons.{mapDue}
-use Rattle.value.specs.Read.{Own, parts, own, plan}
+use Rattle.value.specs.Read.{Own, parts, own, among, plan}
 use Rattle.walks.specs.Shape.{fieldsFrom, shapeIn}
 use Rattle.walks.specs.Required.{Requires}
+use Rattle.walks.specs.Keys.{keysIn, Kept}
 use Rattle.flat.specs.declared.elements.Prepared.{Prepared}
 use Rattle.flat.specs.declared.elements.Opened.{Opened}
 use Rattle.flat.specs.declared.elements.Opened.the-variants.{Bits, Refused}
 use Rattle.flat.specs.declared.Walk.{Walk}
+use Rattle.flat.specs.declared.leaf.Span.{Span}
+use Rattle.flat.specs.declared.leaf.Span.the-variants.{At, Refused as SpanRefused}
+use Rattle.flat.specs.Sheet.{putRow}
+use Rattle.flat.specs.Leaf.{part, Spanned}
 use Rattle.flat.specs.Walk.{valueIn, wholeIn, told, toldHeld, Walked, Ready}
 
 -- The fields from one number up to another are scalars, strings or bytes.
@@ -85,13 +91,44 @@ pub record PairsReady (s p : List ℕ) (depth ty key val n start row : ℕ) (jud
   pub leaves : PairsIn (tableOf s) key val
   pub most : n ≤ 64
 
--- ---- structs of which only the first fields are shown
+-- The next key of a map, whose first i keys are kept where they are judged: it is none of them, is kept with them and has a row; or it is refused.
+abbrev pub KeyTold : (p : List ℕ) (at : ℕ) → Answer Own → (judging : Bool) (ty i row : ℕ) (sheet keys : List ℕ) → Span → (sheet′ keys′ : List ℕ) → Type 0
+KeyTold p at o judging ty i row sheet keys (At from to) sheet′ keys′ =
+    Spanned p at o (At from to)
+    × (judging ≡ true → (among (part p from to) (keysIn p keys i) ≡ false) × (keysIn p keys′ (i + 1) ≡ part p from to ∷ keysIn p keys i) × Kept p keys′ true (i + 1))
+    × (sheet′ ≡ putRow sheet row (record { ty = ty; place = from; length = to - from; count = 0 }))
+KeyTold p at o judging ty i row sheet keys (SpanRefused place number) sheet′ keys′ =
+    Spanned p at o (SpanRefused place number)
+    ⊎ ((place ≡ at) × (number ≡ 24) × (judging ≡ true) × ((from to : ℕ) × Spanned p at o (At from to) × (among (part p from to) (keysIn p keys i) ≡ true)))
+
+pub record KeyTaken (p : List ℕ) (at : ℕ) (o : Answer Own) (judging : Bool) (ty i row : ℕ) (sheet keys : List ℕ) (r : Span) (sheet′ keys′ : List ℕ) : Type 0 where
+  pub told : KeyTold p at o judging ty i row sheet keys r sheet′ keys′
+
+-- ---- the fields of a struct
 
 -- The fields of a struct from its bits on, with a row for each, all scalars, strings or bytes: n fields from the first on.
 abbrev pub HeldFields : (s p : List ℕ) (depth ty first n place known at row : ℕ) (sheet : List ℕ) → Walk → (after : List ℕ) → Type 0
 HeldFields s p depth ty first n place known at row sheet r after =
     (R : ℕ → Shape)
     → Walked p at (toldHeld R (shapeIn s) 0 (plan (struct (fieldsFrom (tableOf s) first n)) known)) (wholeIn s p depth ty (struct (fieldsFrom (tableOf s) first n)) place known at) row sheet r after
+
+-- What the loop over these fields may assume.
+pub record FieldsReady (s p : List ℕ) (depth ty first n place known start row : ℕ) (judging : Bool) : Type 0 where
+  pub ready : Ready s p start (row + 1) judging (wholeIn s p depth ty (struct (fieldsFrom (tableOf s) first n)) place known start)
+  pub leaves : LeavesIn (tableOf s) first (first + n)
+  pub room : first + n ≤ length (tableOf s .fields)
+  pub few : n ≤ 64
+  pub fits : known < 2 ^ n
+  pub forth : place ≤ start
+  pub deep : 0 < depth
+
+-- ---- structs of which only the first fields are shown
+
+-- The fields of a struct from its bits on, of which the first m are shown.
+abbrev pub HeldFirst : (s p : List ℕ) (depth ty first n m place known at row : ℕ) (sheet : List ℕ) → Walk → (after : List ℕ) → Type 0
+HeldFirst s p depth ty first n m place known at row sheet r after =
+    (R : ℕ → Shape) → R ty ≡ struct (fieldsFrom (tableOf s) first m)
+    → Walked p at (told R (shapeIn s) ty) (wholeIn s p depth ty (struct (fieldsFrom (tableOf s) first n)) place known at) row sheet r after
 
 -- The first m fields of a type's row.
 abbrev pub firstShape : (s : List ℕ) (ty m : ℕ) → Shape

@@ -4,7 +4,7 @@ use mathlib.Core.Bool.{Bool, false}
 use mathlib.Core.List.{List, [], _∷_}
 use Prim.Native.Nat.{ℕ, _+_, _*_, _≤_}
 use lib.ListN.{length, getD}
-use Rattle.parse.specs.Reader.{Cursor, Answer, refused, seen, cursorAt, Accepted}
+use Rattle.parse.specs.Reader.{Cursor, Answer, cursorAt, Accepted}
 use Rattle.schema.specs.declared.Field.{Field}
 use Rattle.schema.specs.Table.{Shape, struct}
 use Rattle.schema.specs.Check.{IsGood}
@@ -15,6 +15,8 @@ use Rattle.value.specs.Read.{Item, plan, parts, wholeValue, parse, rootStruct}
 use Rattle.value.specs.Beside.{prunedAll, shownRows}
 use Rattle.value.specs.Narrow.{firstOf}
 use Rattle.walks.specs.Shape.{shapeIn}
+use Rattle.walks.specs.Sink.{FinalOf, ended, finalOf}
+pub use Rattle.walks.specs.Sink.{stopped}
 use Rattle.flat.specs.declared.Walk.{Walk}
 use Rattle.flat.specs.declared.Walk.the-variants.{Past, Refused}
 use Rattle.flat.specs.Sheet.{putRows}
@@ -65,15 +67,24 @@ heldIn known s sh head = toldHeld (firstFields known (shapeIn s)) (shapeIn s) (m
 
 -- ---- what a walker answers
 
--- Where a walk ends: past what it read, with the comparisons due so far, the number of the next row and the sheet; or at a refusal.
-pub data Final : Type 0 where
-  done : Cursor → (due row : ℕ) → (sheet : List ℕ) → Final
-  stopped : (number place : ℕ) → Final
+-- What a walk leaves: the comparisons due so far, the number of the next row, and the sheet.
+pub data Noted : Type 0 where
+  noted : (due row : ℕ) → (sheet : List ℕ) → Noted
+
+-- What is told is put there: the comparisons added, the rows written from the next one on.
+abbrev pub note : Told → Noted → Noted
+note t (noted due row sheet) = noted (due + t .due) (row + length (t .rows)) (putRows sheet row (t .rows))
+
+-- Where a walk ends.
+abbrev pub Final : Type 0
+Final = FinalOf ℕ Noted
+
+abbrev pub done : Cursor → (due row : ℕ) → (sheet : List ℕ) → Final
+done c due row sheet = ended c (noted due row sheet)
 
 -- The end of a walk that gives this answer, after so many comparisons, whose rows stand in the sheet from `row` on.
 abbrev pub walkOf : {A : Type 0} → (A → Told) → Answer A → (due row : ℕ) → List ℕ → Final
-walkOf tell (seen a c) due row sheet = done c (due + tell a .due) (row + length (tell a .rows)) (putRows sheet row (tell a .rows))
-walkOf tell (refused n q) due row sheet = stopped n q
+walkOf tell o due row sheet = finalOf (λ a. note (tell a)) o (noted due row sheet)
 
 -- A walker's answer over the payload p, with the sheet that it leaves. Of what a refusal leaves there nothing is said: the entry lends memory of its own,
 -- or puts back what stood there.

@@ -21,14 +21,15 @@ use walks::zeros_in;
 use wire::bitmap::low_bits;
 ghost use mathlib.Core.Path.{_≡_};
 ghost use mathlib.Core.Bool.{true};
-ghost use Prim.Native.Nat.{suc, _+_, _^_, _≤_, _<_};
-ghost use lib.ListN.{length, getD};
+ghost use mathlib.Core.List.{List};
+ghost use Prim.Native.Nat.{ℕ, suc, _+_, _-_, _/_, _%_, _^_, _≤_, _<_};
+ghost use lib.ListN.{getD};
 ghost use Rattle.schema.specs.Table.{rowAt, array, struct};
 ghost use Rattle.schema.specs.File.{Laid, tableOf};
 ghost use Rattle.schema.specs.Check.{IsGood};
-ghost use Rattle.walks.specs.Shape.{fieldsFrom};
+ghost use Rattle.walks.specs.Shape.{fieldsFrom, shapeIn};
 ghost use Rattle.flat.specs.Walk.{valueIn, wholeIn, Ready};
-ghost use Rattle.flat.specs.Flat.{LeavesIn, IsFlat, Described, HeldFields, ValuedPart, HeldPart};
+ghost use Rattle.flat.specs.Flat.{IsFlat, Described, HeldFields, FieldsReady, HeldFirst, ValuedPart, HeldPart};
 
 // Whether a type is a struct of leaves of which only the first fields are shown.
 pub fn is_partly_shown(shown: &[u8; limit::TYPES], s: &[u8], ty: u32, depth: usize) -> bool
@@ -49,7 +50,7 @@ pub fn is_partly_shown(shown: &[u8; limit::TYPES], s: &[u8], ty: u32, depth: usi
     are_leaves(s, t.a as usize, n)
 }
 
-// The fields of a struct whose bits are set in `known`, of n from the first on, from `start` on, and the struct's own row: it stands at `place`.
+// The fields of a struct whose bits are set in `known`, of n from the first on, from `start` on, and the struct's own row: its bitmap stands at `place`.
 fn leaf_fields(
     s: &[u8],
     l: Layout,
@@ -65,8 +66,7 @@ fn leaf_fields(
     row: usize,
     judging: bool,
 ) -> Walk
-    requires { ⌜ Ready (now s) (now p) start (row + 1) judging (wholeIn (now s) (now p) depth ty (struct (fieldsFrom (tableOf (now s)) first n)) place known start) × (place ≤ start) × (0 < depth) ⌝ }
-    requires { ⌜ Laid (now s) l × LeavesIn (tableOf (now s)) first (first + n) × (n ≤ 64) × (known < 2 ^ n) × (first + n ≤ length (tableOf (now s) .fields)) ⌝ }
+    requires { ⌜ FieldsReady (now s) (now p) depth ty first n place known start row judging × Laid (now s) l ⌝ }
     ensures { λ r. ⌜ HeldFields (now (s .entry)) (now (p .entry)) depth ty first n place known start row (now (sheet .entry)) r (now (sheet .exit)) ⌝ }
 {
     let mut i = first;
@@ -103,7 +103,99 @@ fn leaf_fields(
     }
 }
 
-// A struct of which the first m fields are shown. Its own row is written again, with its whole length.
+// The fields of a struct from field m on, from a place on. They are given no rows.
+fn hidden_fields(
+    s: &[u8],
+    l: Layout,
+    p: &[u8],
+    ty: u32,
+    first: usize,
+    n: usize,
+    m: usize,
+    known: u64,
+    at: usize,
+    depth: usize,
+    row: usize,
+    judging: bool,
+) -> Walk
+    requires { ⌜ FieldsReady (now s) (now p) depth ty (first + m) (n - m) at (known / 2 ^ m % 2 ^ (n - m)) at row judging × Laid (now s) l × (m < n) × (n ≤ 64) ⌝ }
+    ensures { λ r. ⌜ ((sheet after : List ℕ) × HeldFields (now (s .entry)) (now (p .entry)) depth ty (first + m) (n - m) at (known / 2 ^ m % 2 ^ (n - m)) at row sheet r after) ⌝ }
+{
+    let mut none = [0u32; 1];
+    let rest = low_bits(known >> m, n - m);
+    leaf_fields(
+        s,
+        l,
+        p,
+        &mut none[..0],
+        ty,
+        first + m,
+        n - m,
+        rest,
+        at,
+        at,
+        depth,
+        row,
+        judging,
+    )
+}
+
+// The fields of a struct, of which the first m of n are shown. Its own row is written again, with its whole length.
+fn part_fields(
+    s: &[u8],
+    l: Layout,
+    p: &[u8],
+    sheet: &mut [u32],
+    ty: u32,
+    first: usize,
+    n: usize,
+    m: usize,
+    known: u64,
+    at: usize,
+    start: usize,
+    depth: usize,
+    row: usize,
+    judging: bool,
+) -> Walk
+    requires { ⌜ FieldsReady (now s) (now p) depth ty first n at known start row judging × Laid (now s) l × (m < n) × (shapeIn (now s) ty ≡ struct (fieldsFrom (tableOf (now s)) first n)) ⌝ }
+    ensures { λ r. ⌜ HeldFirst (now (s .entry)) (now (p .entry)) depth ty first n m at known start row (now (sheet .entry)) r (now (sheet .exit)) ⌝ }
+{
+    let mine = low_bits(known, m);
+    match leaf_fields(
+        s,
+        l,
+        p,
+        sheet,
+        ty,
+        first,
+        m,
+        mine,
+        at,
+        start,
+        depth,
+        row,
+        judging,
+    ) {
+        Walk::Refused { number, place } => Walk::Refused { number, place },
+        Walk::Past {
+            due: sum,
+            next: here,
+            row: below,
+        } => match hidden_fields(s, l, p, ty, first, n, m, known, here, depth, row, judging) {
+            Walk::Refused { number, place } => Walk::Refused { number, place },
+            Walk::Past { due, next, row: _ } => {
+                put_row(sheet, row, ty, at, next - at, ones_in(mine));
+                Walk::Past {
+                    due: sum + due,
+                    next: next,
+                    row: below,
+                }
+            }
+        },
+    }
+}
+
+// A struct of which the first m fields are shown.
 fn part_struct(
     s: &[u8],
     f: Prepared,
@@ -123,57 +215,22 @@ fn part_struct(
     match read_bits(p, f.required, n, at) {
         Opened::Refused { number } => Walk::Refused { number, place: at },
         Opened::Bits { known, start } => {
-            let mine = low_bits(known, m);
-            let count = ones_in(mine);
-            match leaf_fields(
+            part_fields(
                 s,
                 f.layout,
                 p,
                 sheet,
                 f.ty,
                 first,
+                n,
                 m,
-                mine,
+                known,
                 at,
                 start,
                 depth,
                 row,
                 judging,
-            ) {
-                Walk::Refused { number, place } => Walk::Refused { number, place },
-                Walk::Past {
-                    due: sum,
-                    next: here,
-                    row: below,
-                } => {
-                    let rest = low_bits(known >> m, n - m);
-                    match leaf_fields(
-                        s,
-                        f.layout,
-                        p,
-                        &mut sheet[..0],
-                        f.ty,
-                        first + m,
-                        n - m,
-                        rest,
-                        here,
-                        here,
-                        depth,
-                        row,
-                        judging,
-                    ) {
-                        Walk::Refused { number, place } => Walk::Refused { number, place },
-                        Walk::Past { due, next, row: _ } => {
-                            put_row(sheet, row, f.ty, at, next - at, count);
-                            Walk::Past {
-                                due: sum + due,
-                                next: next,
-                                row: below,
-                            }
-                        }
-                    }
-                }
-            }
+            )
         }
     }
 }

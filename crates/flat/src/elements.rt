@@ -1,5 +1,5 @@
 // Arrays whose elements hold nothing but scalars, strings and bytes: these themselves, arrays of them, and structs of them.
-// What the elements' type says is read once an array, and no call is made for an element or for what it holds.
+// What the elements' type says is read once an array; what reads an element has one call site, and is inlined there.
 use crate::Walk;
 use crate::leaf::Count;
 use crate::leaf::Span;
@@ -24,11 +24,11 @@ ghost use mathlib.Core.Bool.{true};
 ghost use Prim.Native.Nat.{suc, _+_, _≤_, _<_};
 ghost use lib.ListN.{length};
 ghost use Rattle.schema.specs.Table.{rowAt, array};
-ghost use Rattle.schema.specs.File.{tableOf};
+ghost use Rattle.schema.specs.File.{Laid, tableOf};
 ghost use Rattle.schema.specs.Check.{IsGood};
 ghost use Rattle.walks.specs.Shape.{shapeIn};
 ghost use Rattle.flat.specs.Walk.{valueIn, wholeIn, firstFields, Ready};
-ghost use Rattle.flat.specs.Flat.{LeavesIn, IsFlat, Described, Unfolded, ValuedFlat, HeldFlat, HeldLeaves};
+ghost use Rattle.flat.specs.Flat.{LeavesIn, IsFlat, Described, Unfolded, ValuedFlat, HeldFlat, HeldLeaves, HeldFields, FieldsReady};
 
 // A type as the loop over elements needs it: its row, the bits of a struct's fields that are not optional, and the table's layout.
 pub struct Prepared {
@@ -86,7 +86,7 @@ pub fn is_flat(shown: &[u8; limit::TYPES], s: &[u8], ty: u32, depth: usize) -> b
     are_leaves(s, t.a as usize, n)
 }
 
-// A type of a good table.
+// What is prepared of a type before its values are read.
 pub fn prepared_of(s: &[u8], ty: u32) -> Prepared
     requires { ⌜ IsGood (now s) ⌝ }
     ensures { λ r. ⌜ Described (now (s .entry)) ty r ⌝ }
@@ -187,6 +187,57 @@ fn leaves(
     }
 }
 
+// The fields of a struct whose bits are set in `known`, from `start` on, and the struct's own row: its bitmap stands at `at`. The loop of
+// `added::leaf_fields` again: one function at three call sites is not inlined, and takes small structs 1.7 times as long.
+fn flat_fields(
+    s: &[u8],
+    f: Prepared,
+    p: &[u8],
+    sheet: &mut [u32],
+    known: u64,
+    at: usize,
+    start: usize,
+    depth: usize,
+    row: usize,
+    judging: bool,
+) -> Walk
+    requires { ⌜ FieldsReady (now s) (now p) depth (f .ty) (f .row .a) (f .row .b) at known start row judging × Laid (now s) (f .layout) ⌝ }
+    ensures { λ r. ⌜ HeldFields (now (s .entry)) (now (p .entry)) depth (f .ty) (f .row .a) (f .row .b) at known start row (now (sheet .entry)) r (now (sheet .exit)) ⌝ }
+{
+    let mut i = f.row.a as usize;
+    let mut bits = known;
+    let mut here = start;
+    let mut below = row + 1;
+    while bits != 0 {
+        if bits % 2 == 1 {
+            let d = field_row(s, f.layout, i);
+            let t = row_at(s, f.layout, d.ty as usize);
+            match content(p, t.kind as usize, here, judging) {
+                Span::Refused { number, place } => {
+                    return Walk::Refused { number, place };
+                }
+                Span::At { from, to } => {
+                    put_row(sheet, below, d.ty, from, to - from, 0);
+                    here = to;
+                    below = below + 1;
+                }
+            }
+            bits = bits / 2;
+            i = i + 1;
+        } else {
+            let k = zeros_in(bits);
+            bits = bits >> k;
+            i = i + k;
+        }
+    }
+    put_row(sheet, row, f.ty, at, here - at, below - row - 1);
+    Walk::Past {
+        due: 0,
+        next: here,
+        row: below,
+    }
+}
+
 // A struct of scalars, strings and bytes.
 fn flat_struct(
     s: &[u8],
@@ -204,38 +255,7 @@ fn flat_struct(
     match read_bits(p, f.required, f.row.b as usize, at) {
         Opened::Refused { number } => Walk::Refused { number, place: at },
         Opened::Bits { known, start } => {
-            let mut i = f.row.a as usize;
-            let mut bits = known;
-            let mut here = start;
-            let mut below = row + 1;
-            while bits != 0 {
-                if bits % 2 == 1 {
-                    let d = field_row(s, f.layout, i);
-                    let t = row_at(s, f.layout, d.ty as usize);
-                    match content(p, t.kind as usize, here, judging) {
-                        Span::Refused { number, place } => {
-                            return Walk::Refused { number, place };
-                        }
-                        Span::At { from, to } => {
-                            put_row(sheet, below, d.ty, from, to - from, 0);
-                            here = to;
-                            below = below + 1;
-                        }
-                    }
-                    bits = bits / 2;
-                    i = i + 1;
-                } else {
-                    let k = zeros_in(bits);
-                    bits = bits >> k;
-                    i = i + k;
-                }
-            }
-            put_row(sheet, row, f.ty, at, here - at, below - row - 1);
-            Walk::Past {
-                due: 0,
-                next: here,
-                row: below,
-            }
+            flat_fields(s, f, p, sheet, known, at, start, depth, row, judging)
         }
     }
 }

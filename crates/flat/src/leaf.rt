@@ -23,7 +23,7 @@ ghost use Rattle.value.specs.Read.{own, bitmap};
 ghost use Rattle.walks.specs.Shape.{leafShape, fieldsFrom};
 ghost use Rattle.flat.specs.Leaf.{CountRead, Uncounted, Spanned, Headed};
 
-// Kinds, in the type in which the functions here are handed one.
+// Kinds as `usize`.
 const BOOL: usize = kind::BOOL as usize;
 
 const STRING: usize = kind::STRING as usize;
@@ -151,11 +151,14 @@ fn scalar(p: &[u8], kind: usize, at: usize) -> Span
     }
 }
 
-// Whether a content is UTF-8. A walk that does not judge knows that it is.
-fn is_utf8(source: &[u8], from: usize, n: usize, judging: bool) -> bool
-    requires { ⌜ (from + n ≤ length (now source)) × (judging ≡ false → utf8 (span (now source) from n) ≡ true) ⌝ }
-    ensures { λ r. ⌜ r ≡ utf8 (span (now (source .entry)) from n) ⌝ }
+// Whether a content is one of its kind: a string's is UTF-8. A walk that does not judge knows that it is.
+fn is_of_kind(source: &[u8], kind: usize, from: usize, n: usize, judging: bool) -> bool
+    requires { ⌜ (from + n ≤ length (now source)) × (judging ≡ false → kind ≡ 12 → utf8 (span (now source) from n) ≡ true) ⌝ }
+    ensures { λ r. ⌜ (r ≡ true → kind ≡ 12 → utf8 (span (now (source .entry)) from n) ≡ true) × (r ≡ false → (kind ≡ 12) × (utf8 (span (now (source .entry)) from n) ≡ false)) ⌝ }
 {
+    if kind != STRING {
+        return true;
+    }
     if judging {
         return utf8::valid(source, from, from + n);
     }
@@ -170,18 +173,15 @@ fn text(p: &[u8], kind: usize, at: usize, judging: bool) -> Span
     match read_count(p, at, 1) {
         Count::Refused { number } => Span::Refused { number, place: at },
         Count::Is { n, start } => {
-            let to = start + n;
-            if kind == STRING {
-                if !is_utf8(p, start, n, judging) {
-                    return Span::Refused {
-                        number: refusal::UTF8,
-                        place: start,
-                    };
-                }
+            if !is_of_kind(p, kind, start, n, judging) {
+                return Span::Refused {
+                    number: refusal::UTF8,
+                    place: start,
+                };
             }
             Span::At {
                 from: start,
-                to: to,
+                to: start + n,
             }
         }
     }

@@ -1,4 +1,4 @@
-// Arrays of maps that hold nothing but scalars, strings and bytes. One array of keys serves all of them, and no call is made for a map.
+// Arrays of maps that hold nothing but scalars, strings and bytes. One array of keys serves all of them; what reads a map has one call site, and is inlined there.
 use crate::Walk;
 use crate::keys::is_repeated;
 use crate::leaf::Count;
@@ -12,18 +12,22 @@ use schema::TypeRow;
 use schema::access::known_row;
 use schema::access::type_row;
 use value::MOST_PAIRS;
+use walks::key::FLAG_CELLS;
 use walks::key::clear_flags;
 ghost use mathlib.Core.Path.{_≡_};
-ghost use mathlib.Core.Bool.{true};
-ghost use Prim.Native.Nat.{suc, _+_, _/_, _≤_, _<_};
+ghost use mathlib.Core.Bool.{true, false};
+ghost use Prim.Native.Nat.{_+_, _/_, _≤_, _<_};
 ghost use lib.ListN.{length};
+ghost use Rattle.parse.specs.Reader.{cursorAt, Accepted};
 ghost use Rattle.schema.specs.Table.{rowAt, array, map};
 ghost use Rattle.schema.specs.File.{tableOf};
 ghost use Rattle.schema.specs.Check.{IsGood};
 ghost use Rattle.value.specs.Comparisons.{due};
-ghost use Rattle.walks.specs.Shape.{shapeIn};
+ghost use Rattle.value.specs.Read.{own};
+ghost use Rattle.walks.specs.Shape.{leafShape, shapeIn};
+ghost use Rattle.walks.specs.Keys.{Kept};
 ghost use Rattle.flat.specs.Walk.{valueIn, wholeIn, Ready};
-ghost use Rattle.flat.specs.Flat.{PairsIn, PairsReady, ValuedFlat, HeldFlat, HeldPairs};
+ghost use Rattle.flat.specs.Flat.{PairsIn, PairsReady, KeyTaken, ValuedFlat, HeldFlat, HeldPairs};
 
 // Whether a type's row is that of a map whose values are scalars, strings or bytes, as keys always are.
 pub fn holds_leaves(s: &[u8], t: TypeRow) -> bool
@@ -48,6 +52,37 @@ fn due_of(n: usize) -> u32
     (n * (n - 1) / 2) as u32
 }
 
+// The content of the next key, after the first i of a map, and its row; a key that is among those is refused.
+fn next_key(
+    p: &[u8],
+    sheet: &mut [u32],
+    keys: &mut [usize],
+    ty: u32,
+    kind: usize,
+    i: usize,
+    at: usize,
+    row: usize,
+    judging: bool,
+) -> Span
+    requires { ⌜ (length (now p) ≤ 16384) × (at ≤ length (now p)) × (0 < kind) × (kind < 14) × (judging ≡ false → Accepted (own (leafShape kind) (cursorAt (now p) at))) × (row ≤ 16384) ⌝ }
+    requires { ⌜ (judging ≡ true → (i + 4 < length (now keys) / 2) × Kept (now p) (now keys) true i) ⌝ }
+    ensures { λ r. ⌜ KeyTaken (now (p .entry)) at (own (leafShape kind) (cursorAt (now (p .entry)) at)) judging ty i row (now (sheet .entry)) (now (keys .entry)) r (now (sheet .exit)) (now (keys .exit)) ⌝ }
+{
+    match content(p, kind, at, judging) {
+        Span::Refused { number, place } => Span::Refused { number, place },
+        Span::At { from, to } => {
+            if is_repeated(p, keys, i, from, to - from, judging) {
+                return Span::Refused {
+                    number: refusal::REPEATED_KEY,
+                    place: at,
+                };
+            }
+            put_row(sheet, row, ty, from, to - from, 0);
+            Span::At { from, to }
+        }
+    }
+}
+
 // The n pairs of a map of type ty from a place on. What `keys` holds afterwards means nothing.
 fn leaf_pairs(
     s: &[u8],
@@ -66,8 +101,8 @@ fn leaf_pairs(
     requires { ⌜ PairsReady (now s) (now p) depth ty key val n start row judging × (judging ≡ true → n + 4 ≤ length (now keys) / 2) ⌝ }
     ensures { λ r. ⌜ HeldPairs (now (s .entry)) (now (p .entry)) depth ty key val start n start row (now (sheet .entry)) r (now (sheet .exit)) ⌝ }
 {
-    let k = known_row(s, key as usize);
-    let v = known_row(s, val as usize);
+    let k = known_row(s, key as usize).kind as usize;
+    let v = known_row(s, val as usize).kind as usize;
     let mut i = 0;
     let mut here = start;
     let mut below = row + 1;
@@ -78,29 +113,20 @@ fn leaf_pairs(
                 place: here,
             };
         }
-        match content(p, k.kind as usize, here, judging) {
+        match next_key(p, sheet, keys, key, k, i, here, below, judging) {
             Span::Refused { number, place } => {
                 return Walk::Refused { number, place };
             }
-            Span::At { from, to } => {
-                if is_repeated(p, keys, i, from, to - from, judging) {
-                    return Walk::Refused {
-                        number: refusal::REPEATED_KEY,
-                        place: here,
-                    };
+            Span::At { from: _, to } => match content(p, v, to, judging) {
+                Span::Refused { number, place } => {
+                    return Walk::Refused { number, place };
                 }
-                put_row(sheet, below, key, from, to - from, 0);
-                match content(p, v.kind as usize, to, judging) {
-                    Span::Refused { number, place } => {
-                        return Walk::Refused { number, place };
-                    }
-                    Span::At { from, to } => {
-                        put_row(sheet, below + 1, val, from, to - from, 0);
-                        here = to;
-                        below = below + 2;
-                    }
+                Span::At { from, to } => {
+                    put_row(sheet, below + 1, val, from, to - from, 0);
+                    here = to;
+                    below = below + 2;
                 }
-            }
+            },
         }
         i = i + 1;
     }
@@ -126,10 +152,16 @@ fn leaf_map(
     row: usize,
     judging: bool,
 ) -> Walk
-    requires { ⌜ Ready (now s) (now p) at row judging (valueIn (now s) (now p) (suc depth) ty at) × (shapeIn (now s) ty ≡ map key val) ⌝ }
+    requires { ⌜ Ready (now s) (now p) at row judging (valueIn (now s) (now p) depth ty at) × (shapeIn (now s) ty ≡ map key val) ⌝ }
     requires { ⌜ PairsIn (tableOf (now s)) key val × (68 ≤ length (now keys) / 2) ⌝ }
-    ensures { λ r. ⌜ ValuedFlat (now (s .entry)) (now (p .entry)) (suc depth) ty at row (now (sheet .entry)) r (now (sheet .exit)) ⌝ }
+    ensures { λ r. ⌜ ValuedFlat (now (s .entry)) (now (p .entry)) depth ty at row (now (sheet .entry)) r (now (sheet .exit)) ⌝ }
 {
+    if depth == 0 {
+        return Walk::Refused {
+            number: refusal::TOO_DEEP,
+            place: at,
+        };
+    }
     match map_count(p, at) {
         Count::Refused { number } => Walk::Refused { number, place: at },
         Count::Is { n, start } => {
@@ -149,7 +181,7 @@ fn leaf_map(
                 val,
                 n,
                 start,
-                depth,
+                depth - 1,
                 row,
                 judging,
             )
@@ -176,18 +208,12 @@ pub fn read_maps(
     requires { ⌜ PairsIn (tableOf (now s)) key val ⌝ }
     ensures { λ r. ⌜ HeldFlat (now (s .entry)) (now (p .entry)) depth ty elem start n start row (now (sheet .entry)) r (now (sheet .exit)) ⌝ }
 {
-    let mut keys = [0usize; 2 * MOST_PAIRS + 8];
+    let mut keys = [0usize; 2 * (MOST_PAIRS + FLAG_CELLS)];
     let mut left = n;
     let mut here = start;
     let mut below = row + 1;
     let mut sum: u32 = 0;
     while 0 < left {
-        if depth == 0 {
-            return Walk::Refused {
-                number: refusal::TOO_DEEP,
-                place: here,
-            };
-        }
         clear_flags(&mut keys);
         match leaf_map(
             s,
@@ -198,7 +224,7 @@ pub fn read_maps(
             key,
             val,
             here,
-            depth - 1,
+            depth,
             below,
             judging,
         ) {

@@ -16,7 +16,6 @@ use Rattle.buffer.proofs.Spans.{length-span}
 use Rattle.buffer.proofs.Stores.{put-seam, put-whole}
 use Rattle.wire.specs.Little.{little, Bytes}
 use Rattle.wire.specs.Bitmap.{Present}
-use Rattle.wire.proofs.Numbers.{bytes-drop, bytes-take}
 use Rattle.wire.proofs.Cases.{differ}
 use Rattle.parse.specs.Reader.{CursorOf, AnswerOf, refused, seen, Accepted}
 use Rattle.schema.specs.declared.TypeRow.{TypeRow}
@@ -63,8 +62,7 @@ pub unknown-is : (B : List ℕ) (place n : ℕ) → place + (n + 7) / 8 ≤ leng
     → Present (span B place ((n + 7) / 8)) n word known count unknown → (fs : List Field) → length fs ≡ n
     → unknown ≡ unknownBits fs (little (span B place (bitmapBytes (length fs))))
 unknown-is B place n within b word known count unknown is fs many =
-    let l = span B place ((n + 7) / 8) in
-    let read = bits-read fs n many l (length-span B place ((n + 7) / 8) within) (bytes-take ((n + 7) / 8) (drop place B) (bytes-drop B place b)) word known count unknown is in
+    let read = bits-read fs many B place within b is in
     read .2 ∙ ap (unknownBits fs) (is .word-is ∙ ap (λ (k : ℕ). little (span B place ((k + 7) / 8))) (sym many))
 
 -- ---- the number of the first fault

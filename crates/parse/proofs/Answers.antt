@@ -132,6 +132,22 @@ unfolding andThen check
 accepted-check true n p c f h = (refl, h)
 accepted-check false n p c f h = absurd h
 
+-- Where the second of two readers has another in its place, which accepts or refuses alike.
+module _ {E A B C : Type 0} (m : AnswerOf E A) (f : A → ReaderOf E B) (g : A → ReaderOf E C) where
+  pub accepted-alike : Accepted (andThen m f) → ((a : A) (c : CursorOf E) → Accepted (f a c) → Accepted (g a c)) → Accepted (andThen m g)
+  unfolding andThen
+  accepted-alike = elim m [
+    | refused n p ↦ λ a h. a
+    | seen a c ↦ λ b h. h a c b
+  ]
+
+  pub refused-alike : {n p : ℕ} → andThen m f ≡ refused n p → ((a : A) (c : CursorOf E) → f a c ≡ refused n p → g a c ≡ refused n p) → andThen m g ≡ refused n p
+  unfolding andThen
+  refused-alike = elim m [
+    | refused n p ↦ λ e h. cc
+    | seen a c ↦ λ e h. h a c e
+  ]
+
 -- Steps whose answer is known.
 pub stops : {E A B : Type 0} {m : AnswerOf E A} {n p : ℕ} (f : A → ReaderOf E B) → m ≡ refused n p → andThen m f ≡ refused n p
 unfolding andThen

@@ -8,7 +8,7 @@ use borrow.Author.Tests.{le-leb, lt-leb}
 use lib.ListN.{length, length-drop}
 use lib.Seq.{paste}
 use Rattle.wire.proofs.Cases.{differ}
-use Rattle.parse.specs.Reader.{Cursor, Answer, refused, seen, cursorAt, Accepted}
+use Rattle.parse.specs.Reader.{Answer, seen, cursorAt, Accepted}
 use Rattle.schema.specs.declared.TypeRow.{TypeRow}
 use Rattle.schema.specs.declared.Checked.{Checked}
 use Rattle.schema.specs.declared.Checked.the-variants.{Good, Refused as Faulty}
@@ -17,6 +17,7 @@ use Rattle.schema.specs.File.{tableOf}
 use Rattle.schema.specs.Check.{checked, IsGood}
 use Rattle.schema.specs.Extend.{widened}
 use Rattle.schema.proofs.Goods.{good-table}
+use Rattle.value.specs.declared.Row.{Row}
 use Rattle.value.specs.Value.{Tree}
 use Rattle.value.specs.Read as value
 use Rattle.value.specs.Beside.{shownRows}
@@ -27,10 +28,11 @@ use Rattle.reader.specs.declared.Reading.the-variants.{Shown, Refused}
 use Rattle.flat.specs.declared.Walk.{Walk}
 use Rattle.flat.specs.declared.Walk.the-variants.{Past, Refused as Stop}
 use Rattle.flat.specs.Sheet.{putRows, shownIn}
-use Rattle.flat.specs.Walk.{Told, told, firstFields, done, stopped, walkOf, endOf, rootIn, Walked}
+use Rattle.flat.specs.Walk.{Told, told, firstFields, done, walkOf, endOf, rootIn, Walked}
 use Rattle.reader.specs.Entry.{Outcome, outcome, readingIn, outcomeOf, room, payloadOutcome, byTable, readOutcome, numbers, numberIn}
 use Rattle.reader.specs.Beside.{shownOutcome, besidePayload, besideOutcome}
 use Rattle.flat.proofs.Sheets.{rows-shown, rows-copied}
+use Rattle.flat.proofs.Steps.{read-of, refused-of}
 
 -- ---- a payload, of which each struct is shown as far as its fields are known
 
@@ -61,86 +63,64 @@ module _ (known s : List ℕ) (ty : ℕ) (p sheet : List ℕ) (r : TypeRow) (is 
 
       -- the first walk, over cells of its own, leaves m of them
       module _ (few m : List ℕ) where
-        stop : (o : Answer Tree) (n q : ℕ) → stopped n q ≡ walkOf tell o 0 0 few → outcome (Refused n q) sheet ≡ answer o
-        stop (seen tree c) n q e = differ cc
-        stop (refused n′ q′) n q e = cc
-
-        full : (o : Answer Tree) (due next row : ℕ) → done (cursorAt p next) due row m ≡ walkOf tell o 0 0 few → room sheet < row
-            → outcome (Refused 30 0) sheet ≡ answer o
-        unfolding told
-        full (seen tree c) due next row e h =
-            let f : row ≡ 0 + length (tell tree .rows) = cc in
-            rw (lt-leb (length (tell tree .rows)) (room sheet) (omega arith))
-        full (refused n q) due next row e h = differ cc
-
-        fits : (o : Answer Tree) (due next row : ℕ) → done (cursorAt p next) due row m ≡ walkOf tell o 0 0 few → row ≤ room sheet → 0 ≡ numberIn (answer o)
-        unfolding told
-        fits (seen tree c) due next row e h =
-            let f : row ≡ 0 + length (tell tree .rows) = cc in
-            rw (le-leb (length (tell tree .rows)) (room sheet) (omega arith))
-        fits (refused n q) due next row e h = differ cc
-
-        -- what stands in the sheet is told by the rows that were written into it
-        told-in : (tree : Tree) (c : Cursor) (due next row : ℕ) (after : List ℕ) → done (cursorAt p next) due row m ≡ walkOf tell (seen tree c) 0 0 few
-            → row ≤ room sheet → after ≡ shownIn sheet (tell tree .rows) → outcome (Shown row next (length p - next) due) after ≡ answer (seen tree c)
-        unfolding told
-        told-in tree c due next row after e h after-is =
-            let f : row ≡ 0 + length (tell tree .rows) = cc in
-            let row-is : row ≡ length (tell tree .rows) = omega arith in
-            let d-is : due ≡ 0 + tell tree .due = cc in
-            let due-is : due ≡ tell tree .due = omega arith in
-            let c-is : cursorAt p next ≡ c = cc in
-            rw (le-leb (length (tell tree .rows)) (room sheet) (omega arith), ← c-is, length-drop, row-is, due-is, after-is)
-
-        shown : (o : Answer Tree) (due next row : ℕ) (w : Walk) (after : List ℕ) → done (cursorAt p next) due row m ≡ walkOf tell o 0 0 few → row ≤ room sheet
-            → endOf p w after ≡ walkOf tell o 0 0 sheet → outcome (Shown row next (length p - next) due) after ≡ answer o
-        shown (seen tree c) due next row (Past d a b) after e h g =
-            let f : row ≡ 0 + length (tell tree .rows) = cc in
-            let put : after ≡ putRows sheet 0 (tell tree .rows) = cc in
-            told-in tree c due next row after e h (put ∙ rows-shown sheet (tell tree .rows) (omega arith))
-        shown (seen tree c) due next row (Stop a b) after e h g = differ cc
-        shown (refused n q) due next row w after e h g = differ cc
-
-        copied : (o : Answer Tree) (due next row : ℕ) → done (cursorAt p next) due row m ≡ walkOf tell o 0 0 few → row ≤ room sheet → row ≤ room few
-            → outcome (Shown row next (length p - next) due) (paste sheet 0 m (4 * row)) ≡ answer o
-        copied (seen tree c) due next row e h g =
-            let f : row ≡ 0 + length (tell tree .rows) = cc in
-            let row-is : row ≡ length (tell tree .rows) = omega arith in
-            let put : m ≡ putRows few 0 (tell tree .rows) = cc in
-            told-in tree c due next row (paste sheet 0 m (4 * row)) e h (rw (put, row-is) (rows-copied few sheet (tell tree .rows) (omega arith)))
-        copied (refused n q) due next row e h g = differ cc
-
         pub entry-refused : (n q : ℕ) → Walked p 1 tell root 0 few (Stop n q) m → outcome (Refused n q) sheet ≡ shownOutcome known s ty p sheet
-        entry-refused n q w = rw (← entry-root) (stop root n q (w .same))
+        entry-refused n q w = rw (← entry-root, refused-of w)
 
         module _ (due next row : ℕ) (w : Walked p 1 tell root 0 few (Past due next row) m) where
+          read : (tree : Tree) × (root ≡ seen tree (cursorAt p next))
+          read = read-of w
+
+          abbrev told-rows : List Row
+          told-rows = tell (read .0) .rows
+
+          same : done (cursorAt p next) due row m ≡ walkOf tell (seen (read .0) (cursorAt p next)) 0 0 few
+          same = rw (read .1) at (w .same)
+
+          rows-are : row ≡ length told-rows
+          rows-are = let e = same in let f : row ≡ 0 + length told-rows = cc in omega arith
+
           -- the second walk is known to accept
           pub entry-judged : Accepted root
-          entry-judged = go root (w .same)
-            where
-              go : (o : Answer Tree) → done (cursorAt p next) due row m ≡ walkOf tell o 0 0 few → Accepted o
-              go (seen tree c) e = tt
-              go (refused n q) e = differ cc
+          entry-judged = rw (read .1) tt
 
           pub entry-full : room sheet < row → outcome (Refused 30 0) sheet ≡ shownOutcome known s ty p sheet
-          entry-full h = rw (← entry-root) (full root due next row (w .same) h)
+          unfolding told
+          entry-full h = rw (← entry-root, read .1, lt-leb (length told-rows) (room sheet) (omega (arith, rows-are)))
 
           -- the number alone, without the second walk
           pub entry-short : room sheet < row → 30 ≡ numberIn (shownOutcome known s ty p sheet)
           entry-short h = ap numberIn (entry-full h)
 
           pub entry-fits : row ≤ room sheet → 0 ≡ numberIn (shownOutcome known s ty p sheet)
-          entry-fits h = rw (← entry-root) (fits root due next row (w .same) h)
+          unfolding told
+          entry-fits h = rw (← entry-root, read .1, le-leb (length told-rows) (room sheet) (omega (arith, rows-are)))
+
+          -- what stands in the sheet is told by the rows that were written into it
+          told-in : (after : List ℕ) → row ≤ room sheet → after ≡ shownIn sheet told-rows
+              → outcome (Shown row next (length p - next) due) after ≡ shownOutcome known s ty p sheet
+          unfolding told
+          told-in after h after-is =
+              let e = same in
+              let d : due ≡ 0 + tell (read .0) .due = cc in
+              let due-is : tell (read .0) .due ≡ due = omega arith in
+              rw (← entry-root, read .1, le-leb (length told-rows) (room sheet) (omega (arith, rows-are)), length-drop, after-is, ← rows-are, due-is)
 
           -- few rows, copied from the first walk's cells
           pub entry-copied : row ≤ room sheet → row ≤ room few
               → outcome (Shown row next (length p - next) due) (paste sheet 0 m (4 * row)) ≡ shownOutcome known s ty p sheet
-          entry-copied h g = rw (← entry-root) (copied root due next row (w .same) h g)
+          entry-copied h g =
+              let e = same in
+              let put : m ≡ putRows few 0 told-rows = cc in
+              told-in (paste sheet 0 m (4 * row)) h ((λ i. paste sheet 0 (put i) (4 * rows-are i)) ∙ rows-copied few sheet told-rows (omega (arith, rows-are)))
 
           -- what the second walk has written
           pub entry-shown : (v : Walk) (after : List ℕ) → row ≤ room sheet → Walked p 1 tell root 0 sheet v after
               → outcome (Shown row next (length p - next) due) after ≡ shownOutcome known s ty p sheet
-          entry-shown v after h again = rw (← entry-root) (shown root due next row v after (w .same) h (again .same))
+          entry-shown v after h again = told-in after h (go v (rw (read .1) at (again .same)) ∙ rows-shown sheet told-rows (omega (arith, rows-are)))
+            where
+              go : (v : Walk) → endOf p v after ≡ walkOf tell (seen (read .0) (cursorAt p next)) 0 0 sheet → after ≡ putRows sheet 0 told-rows
+              go (Past d a b) e = cc
+              go (Stop a b) e = differ cc
 
 -- ---- any table
 

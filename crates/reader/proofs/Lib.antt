@@ -1,3 +1,4 @@
 pub mod Roots
+mod Calls
 pub mod Besides
 pub mod Entries

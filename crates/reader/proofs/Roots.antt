@@ -1,24 +1,43 @@
 -- Laws of the root: its known fields as those of any struct, and what follows them.
 use mathlib.Core.Path.{_≡_, refl, sym, ap, _∙_}
+use mathlib.Core.Bool.{Bool, true, false, not, _&&_, false≢true}
 use mathlib.Core.List.{List, []}
 use Prim.Native.Nat.{ℕ, zero, suc, _-_, _≤_, _<_}
 use native.Mathlib.Omega.{arith}
-use borrow.Author.Tests.{eq-eqb, ne-eqb, le-leb, lt-leb}
+use borrow.Author.Tests.{eqb-true, eq-eqb, ne-eqb, le-leb, lt-leb}
+use lib.Dec.{eqb}
 use lib.ListN.{length, drop, length-drop}
 use Rattle.wire.proofs.Cases.{differ}
 use Rattle.parse.specs.Reader.{Answer, refused, seen, Reader, andThen, check, cursorAt, Accepted}
 use Rattle.parse.proofs.Answers.{accepted-first}
 use Rattle.schema.specs.declared.Field.{Field}
+use Rattle.schema.proofs.Bools.{and-left, and-right}
 use Rattle.schema.specs.Table.{Shape, struct}
 use Rattle.value.specs.Value.{Tree, branch, Forest}
 use Rattle.value.specs.Read.{rowCount, plan, bitmap, parts, walk, nodeRow, wholeValue, parse, rootEnding, rootStruct}
 use Rattle.flat.specs.declared.leaf.Head.{Head}
 use Rattle.flat.specs.declared.leaf.Head.the-variants.{Bits, Refused as HeadRefused}
+use Rattle.flat.specs.declared.Walk.{Walk}
 use Rattle.flat.specs.declared.Walk.the-variants.{Past, Refused}
 use Rattle.flat.specs.Leaf.{headOf, HeadIn, Headed}
 use Rattle.flat.specs.Walk.{Told, done, stopped, walkOf, Walked}
+use Rattle.reader.specs.Root.{Ended, whole, faulty}
 
 -- ---- what follows the known fields
+
+-- something follows though no unknown bit is set
+pub surplus-told : (u rest : ℕ) → (eqb u 0 && not (eqb rest 0)) ≡ true → (u ≡ 0) × (rest ≡ 0 → ⊥)
+surplus-told u rest e = (
+  eqb-true u 0 (and-left (eqb u 0) (not (eqb rest 0)) e),
+  λ z. let f : not (eqb rest 0) ≡ false = rw (eq-eqb rest 0 z) in false≢true (sym f ∙ and-right (eqb u 0) (not (eqb rest 0)) e),
+)
+
+pub no-surplus : (u rest : ℕ) → (eqb u 0 && not (eqb rest 0)) ≡ false → u ≡ 0 → rest ≡ 0
+no-surplus u rest e z = go (eqb rest 0) refl
+  where
+    go : (b : Bool) → eqb rest 0 ≡ b → rest ≡ 0
+    go true q = eqb-true rest 0 q
+    go false q = let f : true ≡ false = rw (eq-eqb u 0 z, q) at e in absurd (false≢true (sym f))
 
 module _ (p : List ℕ) (next : ℕ) where
   pub ending-surplus : (u : ℕ) → u ≡ 0 → (length p - next ≡ 0 → ⊥) → rootEnding u (cursorAt p next) ≡ refused 27 next
@@ -116,17 +135,9 @@ module _ (S : ℕ → Shape) (t : ℕ) (fs : List Field) (p : List ℕ) where
 
         module _ (due next row′ : ℕ) (l m : List ℕ)
             (w : Walked p start tell (wholeValue (parse S 15) t (struct fs) (parts 0 known) (cursorAt p start)) 0 l (Past due next row′) m) where
-          pub root-end : (a q : ℕ) → rootEnding unknown (cursorAt p next) ≡ refused a q
-              → Walked p 1 tell (rootStruct S t fs (cursorAt p 0)) 0 l (Refused a q) m
+          pub root-end : {r : Walk} → Ended p due next row′ unknown r → Walked p 1 tell (rootStruct S t fs (cursorAt p 0)) 0 l r m
           unfolding inner
-          root-end a q e = record { same = rw root-step (end-stop tell p due next row′ l m unknown inner (w .same) a q e); within = tt }
-
-          pub root-past : unknown ≤ length p - next → (unknown ≡ 0 → length p - next ≡ 0)
-              → Walked p 1 tell (rootStruct S t fs (cursorAt p 0)) 0 l (Past due next row′) m
-          unfolding inner
-          root-past fit none =
+          root-end (faulty a e) = record { same = rw root-step (end-stop tell p due next row′ l m unknown inner (w .same) a next e); within = tt }
+          root-end (whole e) =
               let v = w .within in
-              record {
-                same = rw root-step (end-past tell p due next row′ l m unknown inner (w .same) (ending-fits p next unknown fit none));
-                within = (v .0, v .1, omega (arith, root-in .4));
-              }
+              record { same = rw root-step (end-past tell p due next row′ l m unknown inner (w .same) e); within = (v .0, v .1, omega (arith, root-in .4)) }

@@ -61,6 +61,25 @@ fn read_widened(ours: &[u8], theirs: &[u8], ty: u32, payload: &[u8], sheet: &mut
     read_shown(&known, theirs, ty, payload, sheet)
 }
 
+// By a good table beside any other: the refusal of the other comes first.
+fn read_good(ours: &[u8], theirs: &[u8], ty: u32, payload: &[u8], sheet: &mut [u32]) -> Reading
+    requires { ⌜ IsGood (now ours) ⌝ }
+    ensures { λ r. ⌜ Outcome.outcome r (now (sheet .exit)) ≡ besideOutcome (now (ours .entry)) (now (theirs .entry)) ty (now (payload .entry)) (now (sheet .entry)) ⌝ }
+{
+    match check(theirs) {
+        Checked::Refused { number, place } => Reading::Refused { number, place },
+        Checked::Good => {
+            if !is_widened(ours, theirs) {
+                return Reading::Refused {
+                    number: refusal::NO_EXTENSION,
+                    place: 0,
+                };
+            }
+            read_widened(ours, theirs, ty, payload, sheet)
+        }
+    }
+}
+
 // By any two tables: the refusal of ours comes first, then theirs.
 pub fn read_beside(
     ours: &[u8],
@@ -73,17 +92,6 @@ pub fn read_beside(
 {
     match check(ours) {
         Checked::Refused { number, place } => Reading::Refused { number, place },
-        Checked::Good => match check(theirs) {
-            Checked::Refused { number, place } => Reading::Refused { number, place },
-            Checked::Good => {
-                if !is_widened(ours, theirs) {
-                    return Reading::Refused {
-                        number: refusal::NO_EXTENSION,
-                        place: 0,
-                    };
-                }
-                read_widened(ours, theirs, ty, payload, sheet)
-            }
-        },
+        Checked::Good => read_good(ours, theirs, ty, payload, sheet),
     }
 }

@@ -20,9 +20,9 @@ ghost use Rattle.reader.specs.Beside.{shownOutcome};
 const ALL_FIELDS: u8 = limit::STRUCT_FIELDS as u8;
 
 // Rows of the small sheet that the first walk writes into, and its cells.
-const FEW_ROWS: usize = 32;
+const SCRATCH_ROWS: usize = 32;
 
-const FEW_CELLS: usize = 4 * FEW_ROWS;
+const SCRATCH_CELLS: usize = 4 * SCRATCH_ROWS;
 
 // The answer: the number of rows with the tail's place and length and the key comparisons due, or the refusal's number and place.
 pub enum Reading {
@@ -65,7 +65,7 @@ fn read_shown(
     }
     let first = t.a as usize;
     let n = t.b as usize;
-    let mut few = [0u32; FEW_CELLS];
+    let mut few = [0u32; SCRATCH_CELLS];
     match root(shown, schema, payload, &mut few, ty, first, n, true) {
         Walk::Refused { number, place } => Reading::Refused { number, place },
         Walk::Past { due, next, row } => {
@@ -75,7 +75,7 @@ fn read_shown(
                     place: 0,
                 };
             }
-            if row <= FEW_ROWS {
+            if row <= SCRATCH_ROWS {
                 copy_cells(sheet, &few, 4 * row);
             } else {
                 root(shown, schema, payload, sheet, ty, first, n, false);

@@ -22,27 +22,32 @@ use flat::leaf::shown_of;
 use flat::maps::holds_leaves;
 use flat::maps::read_maps;
 use flat::sheet::put_row;
+use schema::Layout;
 use schema::TypeRow;
-use schema::access::field;
 use schema::access::known_row;
 use schema::access::type_row;
+use schema::file::layout_of;
+use schema::rows::field_row;
 use value::MOST_PAIRS;
+use walks::key::FLAG_CELLS;
 use wire::bitmap::low_bits;
 ghost use mathlib.Core.Path.{_≡_};
 ghost use mathlib.Core.Bool.{true};
-ghost use Prim.Native.Nat.{suc, _+_, _/_, _≤_, _<_};
+ghost use mathlib.Core.List.{List};
+ghost use Prim.Native.Nat.{ℕ, suc, _+_, _-_, _/_, _%_, _^_, _≤_, _<_};
 ghost use lib.ListN.{length, getD};
 ghost use Rattle.schema.specs.Table.{rowAt, array, map, struct};
-ghost use Rattle.schema.specs.File.{tableOf};
+ghost use Rattle.schema.specs.File.{Laid, tableOf};
+ghost use Rattle.schema.specs.Check.{fieldRow};
 ghost use Rattle.value.specs.Read.{present};
 ghost use Rattle.walks.specs.Shape.{fieldsFrom, shapeIn};
+ghost use Rattle.reader.specs.Root.{Ended};
 ghost use Rattle.flat.specs.Walk.{valueIn, wholeIn, rootIn, Valued, Held, Shown, Rooted, Ready};
 
-// Pairs of a map whose keys are kept in the shortest array.
-const SHORT_MAP: usize = 2;
+// Pairs of a map whose keys are kept in the shortest array, and in the next.
+const TWO_KEYS: usize = 2;
 
-// Pairs of one whose keys are kept in the next.
-const MIDDLE_MAP: usize = 8;
+const FEW_KEYS: usize = 8;
 
 // An array, a map or a struct of type ty, whose row is t; what it holds has so many levels of depth.
 fn read_composite(
@@ -65,22 +70,10 @@ fn read_composite(
         return read_array(shown, s, p, sheet, ty, t.a, at, depth, row, judging);
     }
     if kind == kind::MAP {
-        return read_map(shown, s, p, sheet, ty, t.a, t.b, at, depth, row, judging);
+        return read_map(shown, s, p, sheet, ty, t, at, depth, row, judging);
     }
     if kind == kind::STRUCT {
-        return read_struct(
-            shown,
-            s,
-            p,
-            sheet,
-            ty,
-            t.a as usize,
-            t.b as usize,
-            at,
-            depth,
-            row,
-            judging,
-        );
+        return read_struct(shown, s, p, sheet, ty, t, at, depth, row, judging);
     }
     // A good table has no composite of another kind: this is never reached, and 42 is what the definition has for a type that there is not.
     Walk::Refused {
@@ -113,6 +106,13 @@ fn read_array(
             if kind < kind::ARRAY {
                 return read_elements(s, p, sheet, ty, elem, n, start, depth, row, judging);
             }
+            if is_flat(shown, s, elem, depth) {
+                return read_elements(s, p, sheet, ty, elem, n, start, depth, row, judging);
+            }
+            if is_partly_shown(shown, s, elem, depth) {
+                let m = shown_of(shown, elem);
+                return read_structs(s, p, sheet, ty, elem, m, n, start, depth, row, judging);
+            }
             if holds_leaves(s, t) {
                 return read_maps(
                     s,
@@ -129,62 +129,73 @@ fn read_array(
                     judging,
                 );
             }
-            if is_flat(shown, s, elem, depth) {
-                return read_elements(s, p, sheet, ty, elem, n, start, depth, row, judging);
-            }
-            if is_partly_shown(shown, s, elem, depth) {
-                let m = shown_of(shown, elem);
-                return read_structs(s, p, sheet, ty, elem, m, n, start, depth, row, judging);
-            }
-            let mut left = n;
-            let mut here = start;
-            let mut below = row + 1;
-            let mut sum: u32 = 0;
-            while 0 < left {
-                if depth == 0 {
-                    return Walk::Refused {
-                        number: refusal::TOO_DEEP,
-                        place: here,
-                    };
-                }
-                match read_composite(shown, s, p, sheet, elem, t, here, depth - 1, below, judging) {
-                    Walk::Refused { number, place } => {
-                        return Walk::Refused { number, place };
-                    }
-                    Walk::Past { due, next, row } => {
-                        here = next;
-                        below = row;
-                        sum = sum + due;
-                    }
-                }
-                left = left - 1;
-            }
-            put_row(sheet, row, ty, start, here - start, n);
-            Walk::Past {
-                due: sum,
-                next: here,
-                row: below,
-            }
+            read_composites(shown, s, p, sheet, ty, elem, n, start, depth, row, judging)
         }
     }
 }
 
-// A map of type ty, of at most 64 pairs. Its keys are kept in an array: a short one where there are few, a shorter one for two.
+// The n elements of an array, composites of the type elem.
+fn read_composites(
+    shown: &[u8; limit::TYPES],
+    s: &[u8],
+    p: &[u8],
+    sheet: &mut [u32],
+    ty: u32,
+    elem: u32,
+    n: usize,
+    start: usize,
+    depth: usize,
+    row: usize,
+    judging: bool,
+) -> Walk
+    requires { ⌜ Ready (now s) (now p) start (row + 1) judging (wholeIn (now s) (now p) depth ty (array elem) start n start) × (n ≤ 16384) ⌝ }
+    requires { ⌜ (13 < rowAt (tableOf (now s)) elem .kind) ⌝ }
+    ensures { λ r. ⌜ Held (now (shown .entry)) (now (s .entry)) (now (p .entry)) depth ty (array elem) start n start row (now (sheet .entry)) r (now (sheet .exit)) ⌝ }
+{
+    let t = known_row(s, elem as usize);
+    let mut left = n;
+    let mut here = start;
+    let mut below = row + 1;
+    let mut sum: u32 = 0;
+    while 0 < left {
+        if depth == 0 {
+            return Walk::Refused {
+                number: refusal::TOO_DEEP,
+                place: here,
+            };
+        }
+        match read_composite(shown, s, p, sheet, elem, t, here, depth - 1, below, judging) {
+            Walk::Refused { number, place } => return Walk::Refused { number, place },
+            Walk::Past { due, next, row } => {
+                here = next;
+                below = row;
+                sum = sum + due;
+            }
+        }
+        left = left - 1;
+    }
+    put_row(sheet, row, ty, start, here - start, n);
+    Walk::Past {
+        due: sum,
+        next: here,
+        row: below,
+    }
+}
+
+// A map of type ty, whose row is t, of at most 64 pairs.
 fn read_map(
     shown: &[u8; limit::TYPES],
     s: &[u8],
     p: &[u8],
     sheet: &mut [u32],
     ty: u32,
-    key: u32,
-    val: u32,
+    t: TypeRow,
     at: usize,
     depth: usize,
     row: usize,
     judging: bool,
 ) -> Walk
-    requires { ⌜ Ready (now s) (now p) at row judging (valueIn (now s) (now p) (suc depth) ty at) × (shapeIn (now s) ty ≡ map key val) ⌝ }
-    requires { ⌜ (0 < rowAt (tableOf (now s)) key .kind) × (rowAt (tableOf (now s)) key .kind < 14) × (0 < rowAt (tableOf (now s)) val .kind) ⌝ }
+    requires { ⌜ Ready (now s) (now p) at row judging (valueIn (now s) (now p) (suc depth) ty at) × (t ≡ rowAt (tableOf (now s)) ty) × (t .kind ≡ 15) ⌝ }
     ensures { λ r. ⌜ Valued (now (shown .entry)) (now (s .entry)) (now (p .entry)) (suc depth) ty at row (now (sheet .entry)) r (now (sheet .exit)) ⌝ }
 {
     match map_count(p, at) {
@@ -204,8 +215,8 @@ fn read_map(
                     row: row + 1,
                 };
             }
-            if n <= SHORT_MAP {
-                let mut keys = [0usize; 2 * SHORT_MAP + 8];
+            if n <= TWO_KEYS {
+                let mut keys = [0usize; 2 * (TWO_KEYS + FLAG_CELLS)];
                 return read_pairs(
                     shown,
                     s,
@@ -213,8 +224,8 @@ fn read_map(
                     sheet,
                     &mut keys,
                     ty,
-                    key,
-                    val,
+                    t.a,
+                    t.b,
                     n,
                     start,
                     depth,
@@ -222,62 +233,48 @@ fn read_map(
                     judging,
                 );
             }
-            if n <= MIDDLE_MAP {
-                let mut keys = [0usize; 2 * MIDDLE_MAP + 8];
-                return read_pairs(
-                    shown,
-                    s,
-                    p,
-                    sheet,
-                    &mut keys,
-                    ty,
-                    key,
-                    val,
-                    n,
-                    start,
-                    depth,
-                    row,
-                    judging,
-                );
-            }
-            read_many_pairs(
-                shown,
-                s,
-                p,
-                sheet,
-                ty,
-                key,
-                val,
-                n,
-                start,
-                depth,
-                row,
-                judging,
-            )
+            read_more_pairs(shown, s, p, sheet, ty, t, n, start, depth, row, judging)
         }
     }
 }
 
-// The n pairs of a map, of more than a few. The long array stands here, so that no other map has to clear it.
-fn read_many_pairs(
+// The n pairs of a map, more than two: the longer arrays of keys stand here, so that no other map has to clear them.
+fn read_more_pairs(
     shown: &[u8; limit::TYPES],
     s: &[u8],
     p: &[u8],
     sheet: &mut [u32],
     ty: u32,
-    key: u32,
-    val: u32,
+    t: TypeRow,
     n: usize,
     start: usize,
     depth: usize,
     row: usize,
     judging: bool,
 ) -> Walk
-    requires { ⌜ Ready (now s) (now p) start (row + 1) judging (wholeIn (now s) (now p) depth ty (map key val) start n start) ⌝ }
-    requires { ⌜ (0 < rowAt (tableOf (now s)) key .kind) × (rowAt (tableOf (now s)) key .kind < 14) × (0 < rowAt (tableOf (now s)) val .kind) × (0 < n) × (n ≤ 64) ⌝ }
-    ensures { λ r. ⌜ Held (now (shown .entry)) (now (s .entry)) (now (p .entry)) depth ty (map key val) start n start row (now (sheet .entry)) r (now (sheet .exit)) ⌝ }
+    requires { ⌜ Ready (now s) (now p) start (row + 1) judging (wholeIn (now s) (now p) depth ty (map (t .a) (t .b)) start n start) ⌝ }
+    requires { ⌜ (0 < rowAt (tableOf (now s)) (t .a) .kind) × (rowAt (tableOf (now s)) (t .a) .kind < 14) × (0 < rowAt (tableOf (now s)) (t .b) .kind) × (0 < n) × (n ≤ 64) ⌝ }
+    ensures { λ r. ⌜ Held (now (shown .entry)) (now (s .entry)) (now (p .entry)) depth ty (map (t .a) (t .b)) start n start row (now (sheet .entry)) r (now (sheet .exit)) ⌝ }
 {
-    let mut keys = [0usize; 2 * MOST_PAIRS + 8];
+    if n <= FEW_KEYS {
+        let mut keys = [0usize; 2 * (FEW_KEYS + FLAG_CELLS)];
+        return read_pairs(
+            shown,
+            s,
+            p,
+            sheet,
+            &mut keys,
+            ty,
+            t.a,
+            t.b,
+            n,
+            start,
+            depth,
+            row,
+            judging,
+        );
+    }
+    let mut keys = [0usize; 2 * (MOST_PAIRS + FLAG_CELLS)];
     read_pairs(
         shown,
         s,
@@ -285,8 +282,8 @@ fn read_many_pairs(
         sheet,
         &mut keys,
         ty,
-        key,
-        val,
+        t.a,
+        t.b,
         n,
         start,
         depth,
@@ -393,24 +390,24 @@ fn read_pairs(
     }
 }
 
-// An inner struct of type ty, which has n fields from the first on. An unknown bit is refused.
+// An inner struct of type ty, whose row is t. An unknown bit is refused.
 fn read_struct(
     shown: &[u8; limit::TYPES],
     s: &[u8],
     p: &[u8],
     sheet: &mut [u32],
     ty: u32,
-    first: usize,
-    n: usize,
+    t: TypeRow,
     at: usize,
     depth: usize,
     row: usize,
     judging: bool,
 ) -> Walk
-    requires { ⌜ Ready (now s) (now p) at row judging (valueIn (now s) (now p) (suc depth) ty at) × (shapeIn (now s) ty ≡ struct (fieldsFrom (tableOf (now s)) first n)) ⌝ }
-    requires { ⌜ (0 < n) × (n ≤ 64) × (first + n ≤ length (tableOf (now s) .fields)) ⌝ }
+    requires { ⌜ Ready (now s) (now p) at row judging (valueIn (now s) (now p) (suc depth) ty at) × (t ≡ rowAt (tableOf (now s)) ty) × (t .kind ≡ 16) ⌝ }
     ensures { λ r. ⌜ Valued (now (shown .entry)) (now (s .entry)) (now (p .entry)) (suc depth) ty at row (now (sheet .entry)) r (now (sheet .exit)) ⌝ }
 {
+    let first = t.a as usize;
+    let n = t.b as usize;
     match presence(s, p, first, n, at, judging) {
         Head::Refused { number } => Walk::Refused { number, place: at },
         Head::Bits {
@@ -426,26 +423,7 @@ fn read_struct(
                     place: at,
                 };
             }
-            let m = shown_of(shown, ty);
-            if m < n {
-                return read_shown_fields(
-                    shown,
-                    s,
-                    p,
-                    sheet,
-                    ty,
-                    first,
-                    n,
-                    m,
-                    known,
-                    at,
-                    start,
-                    depth,
-                    row,
-                    judging,
-                );
-            }
-            read_fields(
+            read_chosen_fields(
                 shown,
                 s,
                 p,
@@ -465,8 +443,66 @@ fn read_struct(
     }
 }
 
+// The fields of a struct, all of them or those that are shown.
+fn read_chosen_fields(
+    shown: &[u8; limit::TYPES],
+    s: &[u8],
+    p: &[u8],
+    sheet: &mut [u32],
+    ty: u32,
+    first: usize,
+    n: usize,
+    known: u64,
+    count: usize,
+    place: usize,
+    start: usize,
+    depth: usize,
+    row: usize,
+    judging: bool,
+) -> Walk
+    requires { ⌜ Ready (now s) (now p) start (row + 1) judging (wholeIn (now s) (now p) depth ty (struct (fieldsFrom (tableOf (now s)) first n)) place known start) ⌝ }
+    requires { ⌜ (shapeIn (now s) ty ≡ struct (fieldsFrom (tableOf (now s)) first n)) × (n ≤ 64) × (first + n ≤ length (tableOf (now s) .fields)) × (place ≤ start) ⌝ }
+    requires { ⌜ (count ≤ 64) × (count ≡ length (present (fieldsFrom (tableOf (now s)) first n) known)) ⌝ }
+    ensures { λ r. ⌜ Shown (now (shown .entry)) (now (s .entry)) (now (p .entry)) depth ty (fieldsFrom (tableOf (now (s .entry))) first n) place known start row (now (sheet .entry)) r (now (sheet .exit)) ⌝ }
+{
+    let m = shown_of(shown, ty);
+    if m < n {
+        return read_shown_fields(
+            shown,
+            s,
+            p,
+            sheet,
+            ty,
+            first,
+            n,
+            m,
+            known,
+            place,
+            start,
+            depth,
+            row,
+            judging,
+        );
+    }
+    read_fields(
+        shown,
+        s,
+        p,
+        sheet,
+        ty,
+        first,
+        n,
+        known,
+        count,
+        place,
+        start,
+        depth,
+        row,
+        judging,
+    )
+}
+
 // The fields of a struct whose bits are set in `known`, from `start` on, and the struct's own row: its bitmap stands at `place`.
-// Most fields are scalars, strings or bytes: these are read in the loop itself, without a call of their own.
 fn read_fields(
     shown: &[u8; limit::TYPES],
     s: &[u8],
@@ -487,6 +523,7 @@ fn read_fields(
     requires { ⌜ (first + n ≤ length (tableOf (now s) .fields)) × (place ≤ start) × (count ≤ 64) × (count ≡ length (present (fieldsFrom (tableOf (now s)) first n) known)) ⌝ }
     ensures { λ r. ⌜ Held (now (shown .entry)) (now (s .entry)) (now (p .entry)) depth ty (struct (fieldsFrom (tableOf (now (s .entry))) first n)) place known start row (now (sheet .entry)) r (now (sheet .exit)) ⌝ }
 {
+    let l = layout_of(s);
     let mut i = first;
     let mut left = n;
     let mut bits = known;
@@ -495,35 +532,14 @@ fn read_fields(
     let mut sum: u32 = 0;
     while 0 < left {
         if bits % 2 == 1 {
-            if depth == 0 {
-                return Walk::Refused {
-                    number: refusal::TOO_DEEP,
-                    place: here,
-                };
-            }
-            let f = field(s, i);
-            let t = type_row(s, f.ty as usize);
-            if kind::BYTES < t.kind {
-                match read_composite(shown, s, p, sheet, f.ty, t, here, depth - 1, below, judging) {
-                    Walk::Refused { number, place } => {
-                        return Walk::Refused { number, place };
-                    }
-                    Walk::Past { due, next, row } => {
-                        here = next;
-                        below = row;
-                        sum = sum + due;
-                    }
+            match read_field(shown, s, l, p, sheet, i, here, depth, below, judging) {
+                Walk::Refused { number, place } => {
+                    return Walk::Refused { number, place };
                 }
-            } else {
-                match content(p, t.kind as usize, here, judging) {
-                    Span::Refused { number, place } => {
-                        return Walk::Refused { number, place };
-                    }
-                    Span::At { from, to } => {
-                        put_row(sheet, below, f.ty, from, to - from, 0);
-                        here = to;
-                        below = below + 1;
-                    }
+                Walk::Past { due, next, row } => {
+                    here = next;
+                    below = row;
+                    sum = sum + due;
                 }
             }
         }
@@ -536,6 +552,49 @@ fn read_fields(
         due: sum,
         next: here,
         row: below,
+    }
+}
+
+// The field i of a struct. Most fields are scalars, strings or bytes: these are read here, without a call of their own.
+fn read_field(
+    shown: &[u8; limit::TYPES],
+    s: &[u8],
+    l: Layout,
+    p: &[u8],
+    sheet: &mut [u32],
+    i: usize,
+    at: usize,
+    depth: usize,
+    row: usize,
+    judging: bool,
+) -> Walk
+    requires { ⌜ Ready (now s) (now p) at row judging (valueIn (now s) (now p) depth (fieldRow (tableOf (now s)) i .ty) at) × Laid (now s) l × (0 < rowAt (tableOf (now s)) (fieldRow (tableOf (now s)) i .ty) .kind) ⌝ }
+    ensures { λ r. ⌜ Valued (now (shown .entry)) (now (s .entry)) (now (p .entry)) depth (fieldRow (tableOf (now (s .entry))) i .ty) at row (now (sheet .entry)) r (now (sheet .exit)) ⌝ }
+{
+    if depth == 0 {
+        return Walk::Refused {
+            number: refusal::TOO_DEEP,
+            place: at,
+        };
+    }
+    let ty = field_row(s, l, i).ty;
+    let t = known_row(s, ty as usize);
+    if kind::BYTES < t.kind {
+        return match read_composite(shown, s, p, sheet, ty, t, at, depth - 1, row, judging) {
+            Walk::Refused { number, place } => Walk::Refused { number, place },
+            Walk::Past { due, next, row } => Walk::Past { due, next, row },
+        };
+    }
+    match content(p, t.kind as usize, at, judging) {
+        Span::Refused { number, place } => Walk::Refused { number, place },
+        Span::At { from, to } => {
+            put_row(sheet, row, ty, from, to - from, 0);
+            Walk::Past {
+                due: 0,
+                next: to,
+                row: row + 1,
+            }
+        }
     }
 }
 
@@ -582,94 +641,80 @@ fn read_shown_fields(
         Walk::Refused { number, place } => Walk::Refused { number, place },
         Walk::Past {
             due: sum,
-            next: here,
+            next: at,
             row: below,
-        } => {
-            let rest = low_bits(known >> m, n - m);
-            match read_fields(
-                shown,
-                s,
-                p,
-                &mut sheet[..0],
-                ty,
-                first + m,
-                n - m,
-                rest,
-                ones_in(rest),
-                here,
-                here,
-                depth,
-                row,
-                judging,
-            ) {
-                Walk::Refused { number, place } => Walk::Refused { number, place },
-                Walk::Past { due, next, row: _ } => {
-                    put_row(sheet, row, ty, place, next - place, count);
-                    Walk::Past {
-                        due: sum + due,
-                        next: next,
-                        row: below,
-                    }
+        } => match read_added(shown, s, p, ty, first, n, m, known, at, depth, row, judging) {
+            Walk::Refused { number, place } => Walk::Refused { number, place },
+            Walk::Past { due, next, row: _ } => {
+                put_row(sheet, row, ty, place, next - place, count);
+                Walk::Past {
+                    due: sum + due,
+                    next: next,
+                    row: below,
                 }
             }
-        }
+        },
     }
 }
 
-// The fields of the root, all of them or those that are shown.
-fn chosen(
+// The fields of a struct after the first m, from a place on. They have no rows: none is lent to write them into.
+fn read_added(
     shown: &[u8; limit::TYPES],
     s: &[u8],
     p: &[u8],
-    sheet: &mut [u32],
     ty: u32,
     first: usize,
     n: usize,
+    m: usize,
     known: u64,
-    count: usize,
-    start: usize,
+    at: usize,
+    depth: usize,
+    row: usize,
     judging: bool,
 ) -> Walk
-    requires { ⌜ Ready (now s) (now p) start 1 judging (wholeIn (now s) (now p) 15 ty (struct (fieldsFrom (tableOf (now s)) first n)) 0 known start) ⌝ }
-    requires { ⌜ (shapeIn (now s) ty ≡ struct (fieldsFrom (tableOf (now s)) first n)) × (n ≤ 64) × (first + n ≤ length (tableOf (now s) .fields)) ⌝ }
-    requires { ⌜ (count ≤ 64) × (count ≡ length (present (fieldsFrom (tableOf (now s)) first n) known)) ⌝ }
-    ensures { λ r. ⌜ Shown (now (shown .entry)) (now (s .entry)) (now (p .entry)) 15 ty (fieldsFrom (tableOf (now (s .entry))) first n) 0 known start 0 (now (sheet .entry)) r (now (sheet .exit)) ⌝ }
+    requires { ⌜ Ready (now s) (now p) at (row + 1) judging (wholeIn (now s) (now p) depth ty (struct (fieldsFrom (tableOf (now s)) (first + m) (n - m))) at (known / 2 ^ m % 2 ^ (n - m)) at) ⌝ }
+    requires { ⌜ (n ≤ 64) × (m < n) × (first + n ≤ length (tableOf (now s) .fields)) ⌝ }
+    ensures { λ r. ⌜ ((l : List ℕ) × (after : List ℕ) × Held (now (shown .entry)) (now (s .entry)) (now (p .entry)) depth ty (struct (fieldsFrom (tableOf (now (s .entry))) (first + m) (n - m))) at (known / 2 ^ m % 2 ^ (n - m)) at row l r after) ⌝ }
 {
-    let m = shown_of(shown, ty);
-    if m < n {
-        return read_shown_fields(
-            shown,
-            s,
-            p,
-            sheet,
-            ty,
-            first,
-            n,
-            m,
-            known,
-            0,
-            start,
-            limit::BELOW_ROOT,
-            0,
-            judging,
-        );
-    }
+    let rest = low_bits(known >> m, n - m);
+    let mut none = [0u32; 1];
     read_fields(
         shown,
         s,
         p,
-        sheet,
+        &mut none[..0],
         ty,
-        first,
-        n,
-        known,
-        count,
-        0,
-        start,
-        limit::BELOW_ROOT,
-        0,
+        first + m,
+        n - m,
+        rest,
+        ones_in(rest),
+        at,
+        at,
+        depth,
+        row,
         judging,
     )
+}
+
+// The root after its known fields, which end at `next`. Each unknown bit asks for a byte or more of a tail; without one there is none.
+fn end_root(p: &[u8], due: u32, next: usize, row: usize, unknown: usize) -> Walk
+    requires { ⌜ next ≤ length (now p) ⌝ }
+    ensures { λ r. ⌜ Ended (now (p .entry)) due next row unknown r ⌝ }
+{
+    let rest = p.len() - next;
+    if (unknown == 0) & (rest != 0) {
+        return Walk::Refused {
+            number: refusal::SURPLUS,
+            place: next,
+        };
+    }
+    if rest < unknown {
+        return Walk::Refused {
+            number: refusal::CUT,
+            place: next,
+        };
+    }
+    Walk::Past { due, next, row }
 }
 
 // The root, a struct of type ty that has n fields from the first on. What follows its known fields is the tail, which is not read.
@@ -695,7 +740,7 @@ pub fn root(
             count,
             unknown,
             start,
-        } => match chosen(
+        } => match read_chosen_fields(
             shown,
             s,
             p,
@@ -705,28 +750,14 @@ pub fn root(
             n,
             known,
             count,
+            0,
             start,
+            limit::BELOW_ROOT,
+            0,
             judging,
         ) {
             Walk::Refused { number, place } => Walk::Refused { number, place },
-            Walk::Past { due, next, row } => {
-                let rest = p.len() - next;
-                if unknown == 0 {
-                    if rest != 0 {
-                        return Walk::Refused {
-                            number: refusal::SURPLUS,
-                            place: next,
-                        };
-                    }
-                }
-                if rest < unknown {
-                    return Walk::Refused {
-                        number: refusal::CUT,
-                        place: next,
-                    };
-                }
-                Walk::Past { due, next, row }
-            }
+            Walk::Past { due, next, row } => end_root(p, due, next, row, unknown),
         },
     }
 }

@@ -33,8 +33,8 @@ use Rattle.calls.specs.Slots.{goodTable, countOpen}
 use Rattle.calls.specs.Judge.{judgeRelease}
 use Rattle.calls.specs.Step.{stepOf, dueOf}
 use Rattle.calls.specs.Counting.{releaseRise, figureBy, fullAt, raised}
-use Rattle.calls.specs.Seats.{seatOf}
-use Rattle.calls.proofs.Seats.{judged-seated, rise-seated, release-seated, release-rise-seated}
+use Rattle.calls.specs.OwnSlots.{ownSlotOf}
+use Rattle.calls.proofs.OwnSlots.{judged-by-slot, rise-by-slot, release-by-slot, release-rise-by-slot}
 use Rattle.reader.specs.declared.Reading.{Reading}
 use Rattle.reader.specs.declared.Reading.the-variants.{Shown, Refused as Failed}
 use Rattle.reader.specs.Entry.{Outcome, outcome, numbers}
@@ -47,7 +47,7 @@ use Rattle.receiver.specs.declared.Plan.{Plan}
 use Rattle.receiver.specs.declared.Next.{Next}
 use Rattle.receiver.specs.declared.Next.the-variants.{Refused as NextRefused, Settle}
 use Rattle.receiver.specs.Answer.{RowEffect, rowEffect, stopped, payloadRead, numberIn, tallied, countedRead, answerOf, answerIn}
-use Rattle.receiver.specs.Planning.{onGood, onFrame, onCalls, frameFrom, stopPlan, judgedPlan, framePlan, tablesFault, frontOf, seatPlan, callPlan, goodPlan, bytesPlan, planOf, releasePlan, Fitted, stops, settles}
+use Rattle.receiver.specs.Planning.{onGood, onFrame, onCalls, frameFrom, stopPlan, judgedPlan, framePlan, tablesFault, frontOf, slotPlan, callPlan, goodPlan, bytesPlan, planOf, releasePlan, Fitted, stops, settles}
 use Rattle.receiver.specs.Receive.{frameSettled, settled}
 use Rattle.receiver.specs.Release.{releaseAnswer, releaseIn, releaseSettled}
 
@@ -129,10 +129,10 @@ module _ (good : Bool) (rows : ℕ) (T : Table) (side : ℕ) (bytes : List ℕ) 
       pub good-stop : (n : ℕ) → x ≡ front.Refused n → r ≡ stopPlan n 0 → r ≡ goodPlan good rows T side bytes l
       good-stop n e y = y ∙ ap after (sym e ∙ is) ∙ sym follows
 
-      pub good-whole : (f : Frame) (place end : ℕ) → x ≡ front.Whole f place end → r ≡ seatPlan T f (seatOf (f .correlation) (eqb (f .kind) 1) l) place end
+      pub good-whole : (f : Frame) (place end : ℕ) → x ≡ front.Whole f place end → r ≡ slotPlan T f (ownSlotOf (f .correlation) (eqb (f .kind) 1) l) place end
           → r ≡ goodPlan good rows T side bytes l
       good-whole f place end e y =
-          y ∙ (λ i. judgedPlan (judged-seated T f l i) (rise-seated T f l i) place end) ∙ ap after (sym e ∙ is) ∙ sym follows
+          y ∙ (λ i. judgedPlan (judged-by-slot T f l i) (rise-by-slot T f l i) place end) ∙ ap after (sym e ∙ is) ∙ sym follows
 
 -- A planned frame lies in the bytes.
 pub good-fitted : (schema : List ℕ) → IsGood schema → (good : Bool) (rows side : ℕ) (bytes : List ℕ) (l : List Call)
@@ -167,10 +167,10 @@ unfolding planOf
 fitted-plan schema side bytes rows l r e =
     (e, subst (λ (x : Plan). Fitted schema bytes (x .next)) (sym e) (checked-fitted schema (goodTable (tableOf schema) l) rows side bytes l))
 
--- ---- a release at its seat
+-- ---- a release at its slot
 
-pub call-planned : (id : ℕ) (l : List Call) (r : Plan) → r ≡ callPlan (seatOf id false l) → r ≡ judgedPlan (judgeRelease id l) (releaseRise l (judgeRelease id l)) 0 0
-call-planned id l r e = e ∙ (λ i. judgedPlan (release-seated id l i) (release-rise-seated id l i) 0 0)
+pub call-planned : (id : ℕ) (l : List Call) (r : Plan) → r ≡ callPlan (ownSlotOf id false l) → r ≡ judgedPlan (judgeRelease id l) (releaseRise l (judgeRelease id l)) 0 0
+call-planned id l r e = e ∙ (λ i. judgedPlan (release-by-slot id l i) (release-rise-by-slot id l i) 0 0)
 
 module _ (schema : List ℕ) (l : List Call) (id rows : ℕ) (v : Checked) (is : v ≡ checked schema) (r : Plan) where
   abbrev release : Plan
@@ -191,7 +191,7 @@ module _ (schema : List ℕ) (l : List Call) (id rows : ℕ) (v : Checked) (is :
     unfolding releasePlan
     release-stops n x = plan-good schema next v is r g (x ∙ calls-fault (goodTable T l) rows T (λ number. stopPlan number 0) release k test n)
 
-    pub release-goes : k ≡ 0 → r ≡ callPlan (seatOf id false l) → r ≡ releasePlan schema l id rows
+    pub release-goes : k ≡ 0 → r ≡ callPlan (ownSlotOf id false l) → r ≡ releasePlan schema l id rows
     unfolding releasePlan
     release-goes z x =
         plan-good schema next v is r g (call-planned id l r x ∙ calls-right (goodTable T l) rows T (λ number. stopPlan number 0) release k test z)

@@ -18,12 +18,12 @@ use Rattle.calls.specs.declared.Call.{Call}
 use Rattle.calls.specs.declared.Frame.{Frame}
 use Rattle.calls.specs.declared.Judged.{Judged}
 use Rattle.calls.specs.declared.Rise.{Rise}
-use Rattle.calls.specs.declared.Seat.{Seat}
+use Rattle.calls.specs.declared.OwnSlot.{OwnSlot}
 use Rattle.calls.specs.Slots.{slotOf, goodTable}
 use Rattle.calls.specs.Judge.{releaseVerdict, placed, judgeOf, judgeRelease}
 use Rattle.calls.specs.Counting.{riseOf, releaseRise}
 use Rattle.calls.specs.Apart.{verdict, verdictRise, verdictReleaseRise}
-use Rattle.calls.specs.Seats.{judgedAt}
+use Rattle.calls.specs.OwnSlots.{judgedAt}
 use Rattle.receiver.specs.declared.Front.{Front}
 use Rattle.receiver.specs.declared.Front.the-variants as front
 use Rattle.receiver.specs.declared.Plan.{Plan}
@@ -98,13 +98,13 @@ abbrev pub frontOf : (good : Bool) (rows : ℕ) → Table → (side : ℕ) (byte
 frontOf good rows T side bytes =
     onCalls good rows T front.Refused (onFrame (frameOf bytes) front.Refused (λ h place n. front.Whole (frameFrom side h) place (place + n)))
 
--- A whole frame and a release at their seat.
-abbrev pub seatPlan : Table → Frame → Seat → (place end : ℕ) → Plan
-seatPlan T f seat place end = let J = judgedAt T f seat in judgedPlan J (verdictRise (f .kind) (seat .own) (verdict J)) place end
+-- A whole frame and a release at their slot.
+abbrev pub slotPlan : Table → Frame → OwnSlot → (place end : ℕ) → Plan
+slotPlan T f slot place end = let J = judgedAt T f slot in judgedPlan J (verdictRise (f .kind) (slot .own) (verdict J)) place end
 
-abbrev pub callPlan : Seat → Plan
-callPlan seat =
-    let J = placed (slotOf (seat .slot)) (releaseVerdict (seat .own)) in judgedPlan J (verdictReleaseRise (seat .own) (verdict J)) 0 0
+abbrev pub callPlan : OwnSlot → Plan
+callPlan slot =
+    let J = placed (slotOf (slot .slot)) (releaseVerdict (slot .own)) in judgedPlan J (verdictReleaseRise (slot .own) (verdict J)) 0 0
 
 -- The frame's plan under a good schema table.
 abbrev pub goodPlan : (good : Bool) (rows : ℕ) → Table → (side : ℕ) (bytes : List ℕ) → List Call → Plan

@@ -4,7 +4,7 @@ use crate::Next;
 use crate::Plan;
 use calls::CallTable;
 use calls::Frame;
-use calls::Seat;
+use calls::OwnSlot;
 use constants::frame_kind;
 use constants::refusal;
 use frame::FrameRead;
@@ -19,7 +19,7 @@ ghost use Rattle.schema.specs.File.{tableOf};
 ghost use Rattle.schema.specs.Check.{IsGood};
 ghost use Rattle.frame.specs.Frame.{frameOf};
 ghost use Rattle.calls.specs.Slots.{goodTable};
-ghost use Rattle.receiver.specs.Planning.{frameFrom, Fitted, stopPlan, tablesFault, frontOf, seatPlan, callPlan, goodPlan, planOf, releasePlan};
+ghost use Rattle.receiver.specs.Planning.{frameFrom, Fitted, stopPlan, tablesFault, frontOf, slotPlan, callPlan, goodPlan, planOf, releasePlan};
 
 // What a step sees of a frame with this header.
 fn frame_from(side: u8, h: Header) -> Frame
@@ -94,13 +94,13 @@ pub fn front(
     }
 }
 
-// A whole frame with its seat, whose payload stands between these places.
-pub fn plan_frame(seat: Seat, schema: &[u8], f: Frame, place: usize, end: usize) -> Plan
+// A whole frame with its slot, whose payload stands between these places.
+pub fn plan_frame(slot: OwnSlot, schema: &[u8], f: Frame, place: usize, end: usize) -> Plan
     requires { ⌜ IsGood (now schema) ⌝ }
-    ensures { λ r. ⌜ r ≡ seatPlan (tableOf (now (schema .entry))) f seat place end ⌝ }
+    ensures { λ r. ⌜ r ≡ slotPlan (tableOf (now (schema .entry))) f slot place end ⌝ }
 {
-    let judged = seat.judge(schema, f);
-    let own = seat.own;
+    let judged = slot.judge(schema, f);
+    let own = slot.own;
     let rise = own.rise(f.kind, judged);
     Plan {
         row: rise.row,
@@ -113,12 +113,12 @@ pub fn plan_frame(seat: Seat, schema: &[u8], f: Frame, place: usize, end: usize)
     }
 }
 
-// The release of the call with this seat.
-pub fn plan_call(seat: Seat) -> Plan
-    ensures { λ r. ⌜ r ≡ callPlan seat ⌝ }
+// The release of the call with this slot.
+pub fn plan_call(slot: OwnSlot) -> Plan
+    ensures { λ r. ⌜ r ≡ callPlan slot ⌝ }
 {
-    let judged = seat.judge_release();
-    let own = seat.own;
+    let judged = slot.judge_release();
+    let own = slot.own;
     let rise = own.release_rise(judged);
     Plan {
         row: rise.row,
@@ -149,7 +149,7 @@ pub fn plan_good(
         Front::Refused(number) => stop(number, 0),
         Front::Whole { frame, place, end } => {
             plan_frame(
-                table.seat(frame.correlation, frame.kind == frame_kind::INVOKE),
+                table.own_slot(frame.correlation, frame.kind == frame_kind::INVOKE),
                 schema,
                 frame,
                 place,
@@ -180,7 +180,7 @@ pub fn plan_release(table: CallTable, schema: &[u8], correlation: u64, rows: usi
             if fault != refusal::ACCEPTED {
                 return stop(fault, 0);
             }
-            plan_call(table.seat(correlation, false))
+            plan_call(table.own_slot(correlation, false))
         }
     }
 }

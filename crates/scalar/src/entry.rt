@@ -18,7 +18,7 @@ ghost use Rattle.schema.specs.Check.{IsGood};
 ghost use Rattle.scalar.specs.declared.Answer.the-variants.{Refused};
 ghost use Rattle.scalar.specs.Scalar.{textAt, scalarOf, scalarBy, scalarAt};
 
-// Kinds, in the type in which the functions here are handed one.
+// Kinds as `usize`.
 const BOOL: usize = kind::BOOL as usize;
 
 const STRING: usize = kind::STRING as usize;

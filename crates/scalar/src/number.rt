@@ -12,7 +12,7 @@ ghost use lib.ListN.{length, take, drop};
 ghost use Rattle.schema.specs.Table.{width};
 ghost use Rattle.scalar.specs.Scalar.{valueOf};
 
-// Kinds, in the type in which the functions here are handed one.
+// Kinds as `usize`.
 const BOOL: usize = kind::BOOL as usize;
 
 const INT64: usize = kind::INT64 as usize;

@@ -14,16 +14,20 @@ use Rattle.schema.specs.declared.Method.{Method}
 use Rattle.schema.specs.declared.Found.the-variants.{Missing}
 use Rattle.schema.specs.Table.{Table}
 use Rattle.schema.specs.Check.{methodRow, formed, findAmong, isMissing, goodMethod}
-use Rattle.schema.specs.Flags.{flagOf}
+use Rattle.schema.specs.Flags.{mixed, flagOf}
 use Rattle.schema.proofs.Bools.{cases, clash, is-false}
 use Rattle.schema.proofs.Lowest.{below-none}
 use Rattle.schema.proofs.Checks.{method-judged}
 use Rattle.schema.proofs.Goods.{names-of}
 use Rattle.schema.proofs.Products.{top-below}
 
-pub flag-below : (k p s m : ℕ) → k ≡ flagOf p s m → k < 4096
-unfolding flagOf
-flag-below k p s m e = subst⁻¹ (λ (n : ℕ). n < 4096) e (top-below 12 52 _)
+of-below : (b : Bool) (p s m : ℕ) → flagOf b p s m < 4096
+unfolding flagOf mixed
+of-below true p s m = top-below 12 52 _
+of-below false p s m = top-below 12 52 _
+
+pub flag-below : (k : ℕ) (b : Bool) (p s m : ℕ) → k ≡ flagOf b p s m → k < 4096
+flag-below k b p s m e = subst⁻¹ (λ (n : ℕ). n < 4096) e (of-below b p s m)
 
 -- a flag that is set stays set
 pub set-kept : (seen : List Bool) (i j : ℕ) → getD seen j false ≡ true → getD (set seen i true) j false ≡ true
@@ -33,47 +37,47 @@ set-kept (b ∷ bs) zero (suc j) h = h
 set-kept (b ∷ bs) (suc i) zero h = h
 set-kept (b ∷ bs) (suc i) (suc j) h = set-kept bs i j h
 
-abbrev pub flag : Method → ℕ
-flag m = flagOf (m .«package») (m .service) (m .method)
+abbrev pub flag : (mixing : Bool) → Method → ℕ
+flag b m = flagOf b (m .«package») (m .service) (m .method)
 
 -- the flags of the first i methods are set
-pub record Flagged (T : Table) (seen : List Bool) (i : ℕ) : Type 0 where
-  pub flags : (j : ℕ) → j < i → getD seen (flag (methodRow T j)) false ≡ true
+pub record Flagged (T : Table) (mixing : Bool) (seen : List Bool) (i : ℕ) : Type 0 where
+  pub flags : (j : ℕ) → j < i → getD seen (flag mixing (methodRow T j)) false ≡ true
   pub wide : length seen ≡ 4096
 
-pub flagged-none : (T : Table) (seen : List Bool) → length seen ≡ 4096 → Flagged T seen 0
-flagged-none T seen h = record { flags = λ j k. absurd (not-suc-le-zero k); wide = h }
+pub flagged-none : (T : Table) (b : Bool) (seen : List Bool) → length seen ≡ 4096 → Flagged T b seen 0
+flagged-none T b seen h = record { flags = λ j k. absurd (not-suc-le-zero k); wide = h }
 
-module _ (T : Table) (seen : List Bool) (i : ℕ) (f : Flagged T seen i) (m : Method) (is : m ≡ methodRow T i) where
-  pub flagged-next : (k : ℕ) → k ≡ flag m → Flagged T (set seen k true) (i + 1)
+module _ (T : Table) (b : Bool) (seen : List Bool) (i : ℕ) (f : Flagged T b seen i) (m : Method) (is : m ≡ methodRow T i) where
+  pub flagged-next : (k : ℕ) → k ≡ flag b m → Flagged T b (set seen k true) (i + 1)
   flagged-next k e = record {
     flags = λ j h.
-        ⊎-elim (λ l. set-kept seen k (flag (methodRow T j)) (f .flags j (ltb-true j i l)))
+        ⊎-elim (λ l. set-kept seen k (flag b (methodRow T j)) (f .flags j (ltb-true j i l)))
         (λ l.
         let low = ltb-false j i l in
         let last : j ≡ i = omega arith in
-        let here : flag (methodRow T j) ≡ k = ap (λ (n : ℕ). flag (methodRow T n)) last ∙ sym (e ∙ ap flag is) in
-        ap (λ (n : ℕ). getD (set seen k true) n false) here ∙ getD-set-same seen k true false (omega (arith, flag-below k (m .«package») (m .service) (m .method) e, f .wide)))
+        let here : flag b (methodRow T j) ≡ k = ap (λ (n : ℕ). flag b (methodRow T n)) last ∙ sym (e ∙ ap (flag b) is) in
+        ap (λ (n : ℕ). getD (set seen k true) n false) here ∙ getD-set-same seen k true false (omega (arith, flag-below k b (m .«package») (m .service) (m .method) e, f .wide)))
         (cases (ltb j i));
     wide = length-set seen k true ∙ f .wide;
   }
 
-  unseen : getD seen (flag m) false ≡ false → findAmong T i (m .«package») (m .service) (m .method) ≡ Missing
+  unseen : getD seen (flag b m) false ≡ false → findAmong T i (m .«package») (m .service) (m .method) ≡ Missing
   unfolding findAmong
   unseen e =
       below-none _ i (λ j h. is-false _ (λ n.
       let s = names-of (methodRow T j) m n in
-      clash (getD seen (flag m) false) (subst (λ (k : ℕ). getD seen k false ≡ true) (λ x. flagOf (s .«package» x) (s .service x) (s .method x)) (f .flags j h)) e))
+      clash (getD seen (flag b m) false) (subst (λ (k : ℕ). getD seen k false ≡ true) (λ x. flagOf b (s .«package» x) (s .service x) (s .method x)) (f .flags j h)) e))
 
   -- looking through the earlier methods only where the flag is set makes no difference
-  looked : (b : Bool) → getD seen (flag m) false ≡ b
-      → (not b || isMissing (findAmong T i (m .«package») (m .service) (m .method))) ≡ isMissing (findAmong T i (m .«package») (m .service) (m .method))
+  looked : (c : Bool) → getD seen (flag b m) false ≡ c
+      → (not c || isMissing (findAmong T i (m .«package») (m .service) (m .method))) ≡ isMissing (findAmong T i (m .«package») (m .service) (m .method))
   looked true e = refl
   looked false e = sym (ap isMissing (unseen e))
 
   -- the judgement of a method, as the code makes it
-  pub many-judged : (k : ℕ) → k ≡ flag m
+  pub many-judged : (k : ℕ) → k ≡ flag b m
       → (formed T m && (not (getD seen k false) || isMissing (findAmong T i (m .«package») (m .service) (m .method)))) ≡ goodMethod T i
   many-judged k e =
-      ap (λ (b : Bool). formed T m && b) (ap (λ (n : ℕ). not (getD seen n false) || isMissing (findAmong T i (m .«package») (m .service) (m .method))) e ∙ looked _ refl)
+      ap (λ (c : Bool). formed T m && c) (ap (λ (n : ℕ). not (getD seen n false) || isMissing (findAmong T i (m .«package») (m .service) (m .method))) e ∙ looked _ refl)
       ∙ method-judged T i m _ is refl

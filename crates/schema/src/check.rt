@@ -6,6 +6,7 @@ use crate::Method;
 use crate::TypeRow;
 use crate::file::is_shaped;
 use crate::file::layout_of;
+use crate::product::mixed;
 use crate::product::wrapping_mul;
 use crate::rows::field_row;
 use crate::rows::find_among;
@@ -17,7 +18,7 @@ use constants::limit;
 use constants::refusal;
 use std::num::wrapping_add_u64;
 ghost use mathlib.Core.Path.{_≡_};
-ghost use mathlib.Core.Bool.{not, _||_};
+ghost use mathlib.Core.Bool.{true, false, not, _||_};
 ghost use Rattle.schema.specs.File.{Laid, tableOf};
 ghost use Rattle.schema.specs.Check.{plainRow, arrayRow, mapRow, structRow, goodRow, goodField, letterFits, formed, findAmong, isMissing, goodMethod, goodEntry, badEntry, badMethod, checkedTable, checked};
 ghost use Rattle.schema.specs.Flags.{flagOf};
@@ -139,16 +140,19 @@ fn bad_entry(s: &[u8], l: Layout, section: u32, n: usize) -> Found
     Found::Missing
 }
 
-// The flag of three identifiers, one of 4,096: the top bits of a sum of products. Those of ordinary tables have different ones.
-fn flag_of(package: u32, service: u32, method: u32) -> usize
-    ensures { λ r. ⌜ r ≡ flagOf «package» service method ⌝ }
+// The flag of three identifiers, one of 4,096: the top bits of a sum of products, by which those of ordinary tables differ, or of the numbers mixed.
+fn flag_of(package: u32, service: u32, method: u32, mixing: bool) -> usize
+    ensures { λ r. ⌜ r ≡ flagOf mixing «package» service method ⌝ }
 {
     let names = (package as u64) + (service as u64) * 4294967296;
-    let mixed = wrapping_add_u64(
+    if mixing {
+        return (mixed(wrapping_add_u64(mixed(names), method as u64)) >> 52) as usize;
+    }
+    let sum = wrapping_add_u64(
         wrapping_mul(names, 0x369D_EA0F_31A5_3F85),
         wrapping_mul(method as u64, 0xD6E8_FEB8_6659_FD93),
     );
-    (mixed >> 52) as usize
+    (sum >> 52) as usize
 }
 
 // Whether none of the first i methods has the identifiers of m. They are looked through only if one of them may have.
@@ -163,30 +167,76 @@ fn is_new(s: &[u8], l: Layout, i: usize, m: Method, possible: bool) -> bool
     }
 }
 
-// The lowest method at fault, where a method is compared with those before it only if one of them has its flag.
-fn bad_of_many(s: &[u8], l: Layout) -> Found
+// Flags of methods; so many times may one be taken before the first kind is given up; and so many methods are compared without flags.
+const FLAGS: usize = 4096;
+
+const MOST_SEARCHES: usize = 16;
+
+const FEW_METHODS: usize = 12;
+
+// The lowest method at fault, or crowded: many flags were taken, and the search was given up.
+struct Sought {
+    crowded: bool,
+    bad: Found,
+}
+
+// Looks for the lowest method at fault, where a method is compared with those before it only if one of them has its flag. That is given up where
+// too many are, unless the flags are of numbers mixed.
+fn bad_by_flags(s: &[u8], l: Layout, mixing: bool) -> Sought
     requires { ⌜ Laid (now s) l ⌝ }
-    ensures { λ x. ⌜ x ≡ badMethod (tableOf (now (s .entry))) ⌝ }
+    ensures { λ x. ⌜ (x .crowded ≡ false → x .bad ≡ badMethod (tableOf (now (s .entry)))) × (mixing ≡ true → x .crowded ≡ false) ⌝ }
 {
-    let mut seen = [false; 4096];
-    let mut i = 0;
+    let mut seen = [false; FLAGS];
+    let mut searches: usize = 0;
+    let mut i: usize = 0;
     while i < l.methods {
         let m = method_row(s, l, i);
-        let flag = flag_of(m.package, m.service, m.method);
-        if !(is_formed(s, l, m) & is_new(s, l, i, m, seen[flag])) {
-            return Found::At(i);
+        let formed = is_formed(s, l, m);
+        let flag = flag_of(m.package, m.service, m.method, mixing);
+        let taken = seen[flag];
+        if taken {
+            if (searches == MOST_SEARCHES) & !mixing {
+                return Sought {
+                    crowded: true,
+                    bad: Found::Missing,
+                };
+            }
+            searches += 1;
+        }
+        if !(formed & is_new(s, l, i, m, taken)) {
+            return Sought {
+                crowded: false,
+                bad: Found::At(i),
+            };
         }
         seen[flag] = true;
         i += 1;
     }
-    Found::Missing
+    Sought {
+        crowded: false,
+        bad: Found::Missing,
+    }
+}
+
+// The lowest method at fault.
+fn bad_of_many(s: &[u8], l: Layout) -> Found
+    requires { ⌜ Laid (now s) l ⌝ }
+    ensures { λ x. ⌜ x ≡ badMethod (tableOf (now (s .entry))) ⌝ }
+{
+    let first = bad_by_flags(s, l, false);
+    if first.crowded {
+        let second = bad_by_flags(s, l, true);
+        second.bad
+    } else {
+        first.bad
+    }
 }
 
 fn bad_method(s: &[u8], l: Layout) -> Found
     requires { ⌜ Laid (now s) l ⌝ }
     ensures { λ x. ⌜ x ≡ badMethod (tableOf (now (s .entry))) ⌝ }
 {
-    if l.methods <= 12 {
+    if l.methods <= FEW_METHODS {
         bad_entry(s, l, 2, l.methods)
     } else {
         bad_of_many(s, l)

@@ -1,5 +1,6 @@
 -- Laws of digests: each step of the hash as its code computes it, and the words of a content.
 use mathlib.Core.Path.{_≡_, refl, sym, ap, _∙_}
+use mathlib.Core.Bool.{true, false}
 use mathlib.Core.List.{List}
 use Prim.Native.Nat.{ℕ, suc, _+_, _-_, _*_, _/_, _%_, _^_, _≤_, _<_}
 use native.Mathlib.Omega.{arith}
@@ -12,7 +13,7 @@ use Rattle.buffer.proofs.Spans.{length-span}
 use Rattle.wire.specs.Little.{little}
 use Rattle.walks.specs.declared.siphash.SipState.{SipState}
 use Rattle.walks.specs.Siphash.{turned, sipRound, compressed, finalized, lastWord, words, siphash}
-use Rattle.walks.specs.Keys.{digest}
+use Rattle.walks.specs.Keys.{wordOf, isWord, digest}
 
 -- ---- the hash
 
@@ -85,10 +86,19 @@ module _ (B : List ℕ) (p n : ℕ) (ends : p + n ≤ length B) where
       let e : n % 8 ≡ n = omega arith in
       rw (length-span B p n ends, lt-ltb n 8 h) (is ∙ ap (λ (k : ℕ). lastWord (span B p k) n) e)
 
-  pub digest-word : (x : ℕ) → n ≡ 8 → x ≡ little (span B p 8) → x ≡ digest (span B p n)
-  unfolding digest
-  digest-word x e is = rw (length-span B p n ends, le-ltb n 8 (omega arith), eq-eqb n 8 e) (is ∙ ap (λ (k : ℕ). little (span B p k)) (sym e))
+  pub word-eight : (x : ℕ) → n ≡ 8 → x ≡ little (span B p 8) → x ≡ wordOf (span B p n)
+  unfolding wordOf
+  word-eight x e is = rw (length-span B p n ends, eq-eqb n 8 e) (is ∙ ap (λ (k : ℕ). little (span B p k)) (sym e))
 
-  pub digest-long : (x : ℕ) → 8 ≤ n → (n ≡ 8 → ⊥) → x ≡ siphash (span B p n) → x ≡ digest (span B p n)
-  unfolding digest
-  digest-long x h other is = rw (length-span B p n ends, le-ltb n 8 h, ne-eqb n 8 other) is
+  pub word-other : (n ≡ 8 → ⊥) → 0x0700_0000_0000_0000 ≡ wordOf (span B p n)
+  unfolding wordOf
+  word-other other = rw (length-span B p n ends, ne-eqb n 8 other)
+
+  module _ (w : ℕ) (word : w ≡ wordOf (span B p n)) (h : 8 ≤ n) where
+    pub digest-word : isWord w ≡ true → w ≡ digest (span B p n)
+    unfolding digest
+    digest-word t = rw (length-span B p n ends, le-ltb n 8 h, sym word, t)
+
+    pub digest-long : (x : ℕ) → isWord w ≡ false → x ≡ siphash (span B p n) → x ≡ digest (span B p n)
+    unfolding digest
+    digest-long x t is = rw (length-span B p n ends, le-ltb n 8 h, sym word, t) is

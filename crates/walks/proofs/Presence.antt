@@ -1,9 +1,9 @@
 -- Laws of a struct's presence bits: the test for required fields, the fields present, and how many bits are set.
-use mathlib.Core.Path.{_≡_, sym, ap, _∙_}
+use mathlib.Core.Path.{_≡_, sym, ap, subst, _∙_}
 use mathlib.Core.Bool.{Bool, true, false, not, _&&_, _||_}
 use mathlib.Core.List.{List, [], _∷_}
 use Prim.Native.Nat.{ℕ, suc, _+_, _-_, _*_, _/_, _%_, _^_, _≤_, _<_}
-use native.Mathlib.Nat.{mod-eq-of-lt, div-eq-of-lt, le-refl, div-lt-iff-lt-mul}
+use native.Mathlib.Nat.{mod-lt, mod-eq-of-lt, div-eq-of-lt, le-refl, div-lt-iff-lt-mul}
 use native.Mathlib.Numerals.{add-one}
 use native.Mathlib.Omega.{arith}
 use native.Mathlib.Decide.{decLt}
@@ -13,9 +13,11 @@ use lib.Dec.{ltb, eqb}
 use lib.ListN.{length, take, drop, length-drop}
 use lib.Pow.{pow-pos, shr-lt}
 use lib.Seq.{drop-cons, length-take-le}
+use Rattle.buffer.specs.Span.{span}
+use Rattle.buffer.proofs.Spans.{length-span}
 use Rattle.wire.specs.Bitmap.{Present}
 use Rattle.wire.specs.Little.{Bytes}
-use Rattle.wire.proofs.Numbers.{little-below, pow-bytes}
+use Rattle.wire.proofs.Numbers.{little-below, pow-bytes, bytes-drop, bytes-take}
 use Rattle.wire.proofs.Bitmaps.{known-count, unknown-count}
 use Rattle.schema.specs.declared.Field.{Field}
 use Rattle.schema.specs.Table.{Table, bitmapBytes}
@@ -96,12 +98,26 @@ none-above k n m h = elim (decLt m (2 ^ n)) [
       )
 ]
 
--- what is read of the bitmap l of a struct with n fields: the known bits and their count, the number of unknown ones,
+-- a word is below 2 ^ n where its low n bits are all of it, and only there
+module _ {word known : ℕ} (n : ℕ) (low : known ≡ word % 2 ^ n) where
+  pub word-below : word ≡ known → ltb word (2 ^ n) ≡ true
+  word-below e = lt-ltb word (2 ^ n) (subst (λ (m : ℕ). m < 2 ^ n) (sym (e ∙ low)) (mod-lt word (pow-pos n)))
+
+  pub word-above : (word ≡ known → ⊥) → ltb word (2 ^ n) ≡ false
+  word-above h = elim (decLt word (2 ^ n)) [
+    | yes l ↦ absurd (h (sym (low ∙ mod-eq-of-lt l)))
+    | no g ↦ le-ltb word (2 ^ n) (omega arith)
+  ]
+
+-- what is read of the bitmap of a struct with n fields: the known bits and their count, the number of unknown ones,
 -- and that there is none exactly where the word is below 2 ^ n
-pub bits-read : (fs : List Field) (n : ℕ) → length fs ≡ n → (l : List ℕ) → length l ≡ bitmapBytes n → Bytes l → (word known count unknown : ℕ)
-    → Present l n word known count unknown
+pub bits-read : (fs : List Field) {n : ℕ} → length fs ≡ n → (B : List ℕ) (p : ℕ) → p + (n + 7) / 8 ≤ length B → Bytes B → {word known count unknown : ℕ}
+    → Present (span B p ((n + 7) / 8)) n word known count unknown
     → (known ≡ knownBits fs word) × (count ≡ length (present fs known)) × (unknown ≡ unknownBits fs word) × (ltb word (2 ^ length fs) ≡ eqb unknown 0)
-bits-read fs n many l long bytes word known count unknown is =
+bits-read fs {n} many B p inside all {word} {known} {count} {unknown} is =
+    let l = span B p ((n + 7) / 8) in
+    let long = length-span B p ((n + 7) / 8) inside in
+    let bytes : Bytes l = bytes-take ((n + 7) / 8) (drop p B) (bytes-drop B p all) in
     let some : n ≤ 8 * length l = omega arith in
     let above : ℕ = 8 * bitmapBytes n - n in
     let whole : 8 * length l ≡ above + n = omega arith in

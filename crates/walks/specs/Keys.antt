@@ -10,9 +10,18 @@ use Rattle.buffer.specs.Span.{span}
 use Rattle.wire.specs.Little.{little}
 use Rattle.walks.specs.Siphash.{lastWord, siphash}
 
--- The digest of a content, a number that is compared first: contents with different digests differ.
+-- The number of eight bytes; of any other content the least digest of seven.
+unfoldable pub wordOf : List ℕ → ℕ
+wordOf x = cond (eqb (length x) 8) (little x) 0x0700_0000_0000_0000
+
+-- A number outside the digests of one to seven bytes, which have their length in the top byte.
+abbrev pub isWord : ℕ → Bool
+isWord w = ltb w 0x00FF_FFFF_FFFF_FFFF || ltb 0x0800_0000_0000_0000 w
+
+-- The digest of a content, a number that is compared first: contents with different digests differ. Of fewer than eight bytes it is their number with the
+-- length, of eight their number where it is no digest of fewer, and of all others their hash.
 unfoldable pub digest : List ℕ → ℕ
-digest x = cond (ltb (length x) 8) (lastWord x (length x)) (cond (eqb (length x) 8) (little x) (siphash x))
+digest x = cond (ltb (length x) 8) (lastWord x (length x)) (cond (isWord (wordOf x)) (wordOf x) (siphash x))
 
 -- Whether d is one of the first n digests.
 unfoldable pub holds : (keys : List ℕ) (n d : ℕ) → Bool

@@ -3,3 +3,4 @@ pub mod Shape
 pub mod Siphash
 pub mod Keys
 pub mod Required
+pub mod Sink

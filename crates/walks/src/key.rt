@@ -10,10 +10,27 @@ ghost use Prim.Native.Nat.{ℕ, _+_, _/_, _≤_, _<_};
 ghost use lib.ListN.{length};
 ghost use Rattle.buffer.specs.Span.{span};
 ghost use Rattle.value.specs.Read.{same, among};
-ghost use Rattle.walks.specs.Keys.{digest, holds, keyAt, keysIn, Flagged, KeptAt, Kept};
+ghost use Rattle.walks.specs.Keys.{wordOf, digest, holds, keyAt, keysIn, Flagged, KeptAt, Kept};
 
-// The digest of the n bytes at a place: of up to eight bytes their number, of fewer with n in the top byte, and of more their hash. A walk that does not
-// judge needs none, and gets 0.
+// Cells of flags in each half of the slice; those of the second are not used.
+pub const FLAG_CELLS: usize = 4;
+
+// The least digest of seven bytes.
+const SEVEN_BYTES: usize = 0x0700_0000_0000_0000;
+
+// The number of the n bytes at a place where there are eight. For more it is a digest of fewer, so that they are hashed.
+fn word_at(s: &[u8], place: usize, n: usize) -> usize
+    requires { ⌜ place + n ≤ length (now s) ⌝ }
+    ensures { λ r. ⌜ r ≡ wordOf (span (now (s .entry)) place n) ⌝ }
+{
+    if n == 8 {
+        return number(s, place, 8) as usize;
+    }
+    SEVEN_BYTES
+}
+
+// The digest of the n bytes at a place: of fewer than eight their number with n in the top byte, of eight their number unless it is among the digests
+// of one to seven or at their bounds, and of all others their hash. A walk that does not judge needs none, and gets 0.
 fn digest_of(s: &[u8], place: usize, n: usize, judging: bool) -> usize
     requires { ⌜ place + n ≤ length (now s) ⌝ }
     ensures { λ r. ⌜ (judging ≡ true → r ≡ digest (span (now (s .entry)) place n)) ⌝ }
@@ -24,8 +41,10 @@ fn digest_of(s: &[u8], place: usize, n: usize, judging: bool) -> usize
     if n < 8 {
         return last_word(s, place, n);
     }
-    if n == 8 {
-        return number(s, place, 8) as usize;
+    // Tests that cannot be made of the top byte alone: those would make eight loads of one.
+    let x = word_at(s, place, n);
+    if (x < 0x00FF_FFFF_FFFF_FFFF) | (0x0800_0000_0000_0000 < x) {
+        return x;
     }
     hash(s, place, n)
 }
@@ -109,7 +128,7 @@ pub fn clear_flags(keys: &mut [usize])
     requires { ⌜ 4 ≤ length (now keys) / 2 ⌝ }
     ensures { λ _. ⌜ ((d : ℕ) → Flagged (now (keys .exit)) d → ⊥) ⌝ }
 {
-    let first = keys.len() / 2 - 4;
+    let first = keys.len() / 2 - FLAG_CELLS;
     keys[first] = 0;
     keys[first + 1] = 0;
     keys[first + 2] = 0;
@@ -136,7 +155,7 @@ pub fn is_repeated(
     let d = digest_of(s, place, n, judging);
     keys[half + i] = place * 4294967296 + n;
     keys[i] = d;
-    let cell = half - 4 + d / 64 % 4;
+    let cell = half - FLAG_CELLS + d / 64 % FLAG_CELLS;
     let flags = keys[cell];
     if (flags >> (d % 64)) % 2 == 0 {
         keys[cell] = flags | (1usize << (d % 64));

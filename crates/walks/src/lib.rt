@@ -1,4 +1,4 @@
-// What the reader's and the writer's walks share: a struct's fields by its type row, the test of its presence bits, and the bits that are required.
+// What the reader's and the writer's walks share: the test of a struct's presence bits, the bits that are required, and the keys of a map with their hash.
 pub mod key;
 pub mod siphash;
 

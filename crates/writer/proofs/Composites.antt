@@ -1,33 +1,31 @@
 -- Laws of the walkers: a value of each shape by its row, and the turns of the loops over what it holds.
-use mathlib.Core.Path.{_≡_, refl, sym, ap, subst, _∙_}
+use mathlib.Core.Path.{_≡_, refl, sym, ap, _∙_}
 use mathlib.Core.Bool.{true, false, _&&_}
-use mathlib.Core.List.{List, [], _∷_, append-nil}
+use mathlib.Core.List.{List, [], append-nil}
 use Prim.Native.Nat.{ℕ, suc, _+_, _-_, _/_, _%_, _^_, _≤_, _<_}
-use native.Mathlib.Nat.{mod-eq-of-lt, mod-lt}
-use native.Mathlib.Decide.{decLt}
 use native.Mathlib.Omega.{arith}
-use borrow.Author.Tests.{lt-ltb, le-ltb, ltb-true, le-leb, lt-leb, eq-eqb, ne-eqb, eqb-true}
+use borrow.Author.Tests.{ltb-true, le-leb, lt-leb, eq-eqb, ne-eqb, eqb-true}
 use lib.Dec.{ltb, leb, eqb}
 use lib.ListN.{length, replicate}
-use lib.Pow.{pow-pos}
 use Rattle.buffer.specs.Store.{put}
 use Rattle.buffer.specs.Span.{span}
 use Rattle.wire.specs.Little.{bytes}
 use Rattle.wire.specs.Varuint.{varuintBytes}
 use Rattle.parse.specs.Reader.{CursorOf, AnswerOf, refused, seen, andThen, check, Accepted}
-use Rattle.parse.proofs.Answers.{accepted-first, accepted-check}
+use Rattle.parse.proofs.Answers.{accepted-first}
 use Rattle.schema.specs.declared.Field.{Field}
 use Rattle.schema.specs.Table.{Table, Shape, array, map, struct, bitmapBytes}
 use Rattle.schema.specs.Check.{fieldRow}
 use Rattle.schema.proofs.Bools.{and-left, and-right}
 use Rattle.value.specs.declared.Row.{Row}
 use Rattle.value.specs.Value.{Tree, tip, branch, Forest, stop, plus, value, values}
-use Rattle.value.specs.Read.{plainItem, pairs, plan, present, among, walk}
+use Rattle.value.specs.Read.{plainItem, pairs, plan, present, walk}
 use Rattle.value.specs.Spell.{leafBytes, headBytes, encode, encodeAll}
 use Rattle.value.specs.Write.{RowReader, rowDue, bitsAt, show}
 use Rattle.walks.specs.Shape.{leafShape}
 use Rattle.walks.proofs.Masks.{bitsLeft, Standing, standing-field}
-use Rattle.walks.proofs.Items.{keyItem, item-accepted, key-accepted, key-known, elements-some, pairs-some}
+use Rattle.walks.proofs.Presence.{word-below, word-above}
+use Rattle.walks.proofs.Items.{elements-some, item-accepted, item-stop, item-past}
 use Rattle.walks.proofs.Walks.{deep}
 use Rattle.writer.specs.declared.leaf.Due.{Due}
 use Rattle.writer.specs.declared.leaf.Due.the-variants.{Found, Missing}
@@ -36,10 +34,10 @@ use Rattle.writer.specs.declared.leaf.Leaf.the-variants.{At, Refused as 
 use Rattle.writer.specs.declared.leaf.Head.{Head}
 use Rattle.writer.specs.declared.leaf.Head.the-variants.{Bits, Refused as HeadRefused}
 use Rattle.writer.specs.declared.walk.Walk.the-variants.{Past}
-use Rattle.writer.specs.Emit.{cap, PutAt, Final, done, stopped, emit, emitAll}
+use Rattle.writer.specs.Emit.{cap, PutAt, emitted, Final, done, stopped, emit, emitAll}
 use Rattle.writer.specs.Leaf.{rowsAt, dueAnswer, DueIn, DueRow, leafOf, LeafIn, LeafRow, headOf, HeadIn, Headed}
 use Rattle.writer.specs.Walk.{Walked}
-use Rattle.writer.proofs.Steps.{done-put, branch-bytes, tip-bytes, item-past, item-stop, key-stop, key-again, key-new, show-refused, show-bad, show-parts, leaf-shown, leaf-refused}
+use Rattle.writer.proofs.Steps.{ahead, done-put, emitting, branch-bytes, tip-bytes, show-refused, show-bad, show-parts, leaf-shown, leaf-refused}
 
 -- ---- a leaf
 
@@ -104,7 +102,7 @@ module _ {t : ℕ} {cells : List ℕ} {row : ℕ} {due : Due} (found : DueRow ce
         array-node = show-parts S B d t (rowsAt cells row) (array a) is own (rowsAt cells (row + 1)) row-read 0 c refl
 
         pub array-start : {out : List ℕ} {pos next : ℕ} {mid : List ℕ} → length out ≤ 16384 → PutAt out pos (varuintBytes c) next mid
-            → emitAll S (replicate c (plainItem a)) (walk (show S B d) [] (replicate c (plainItem a)) (rowsAt cells (row + 1))) next mid ≡ emit S t (show S B (suc d) t (rowsAt cells row)) pos out
+            → ahead S (show S B d) [] (replicate c (plainItem a)) (rowsAt cells (row + 1)) next mid ≡ emit S t (show S B (suc d) t (rowsAt cells row)) pos out
         array-start = node-start S t (array a) is own c _ _ array-node _ _ _ _
 
         pub array-accepted : Accepted (show S B (suc d) t (rowsAt cells row)) → Accepted (walk (show S B d) [] (replicate c (plainItem a)) (rowsAt cells (row + 1)))
@@ -126,7 +124,7 @@ module _ {t : ℕ} {cells : List ℕ} {row : ℕ} {due : Due} (found : DueRow ce
               show-parts S B d t (rowsAt cells row) (map k v) is own (rowsAt cells (row + 1)) row-read 0 c (rw f)
 
           pub map-start : {out : List ℕ} {pos next : ℕ} {mid : List ℕ} → length out ≤ 16384 → PutAt out pos (varuintBytes c) next mid
-              → emitAll S (pairs c k v) (walk (show S B d) [] (pairs c k v) (rowsAt cells (row + 1))) next mid ≡ emit S t (show S B (suc d) t (rowsAt cells row)) pos out
+              → ahead S (show S B d) [] (pairs c k v) (rowsAt cells (row + 1)) next mid ≡ emit S t (show S B (suc d) t (rowsAt cells row)) pos out
           map-start = node-start S t (map k v) is own c _ _ map-node _ _ _ _
 
           pub map-accepted : Accepted (show S B (suc d) t (rowsAt cells row)) → Accepted (walk (show S B d) [] (pairs c k v) (rowsAt cells (row + 1)))
@@ -147,24 +145,15 @@ module _ {t : ℕ} {cells : List ℕ} {row : ℕ} {due : Due} (found : DueRow ce
             bits-read : bitsAt B row fs p (rowsAt cells (row + 1)) ≡ seen word (rowsAt cells (row + 1))
             bits-read = sym (headed .same row (rowsAt cells (row + 1))) ∙ ap (headOf row (rowsAt cells (row + 1))) q
 
-            -- a word other than its known bits is not below 2 ^ fields
-            above : (word ≡ known → ⊥) → 2 ^ length fs ≤ word
-            above h = elim (decLt word (2 ^ length fs)) [
-              | yes l ↦ absurd (h (sym (head-in .0 ∙ mod-eq-of-lt l)))
-              | no g ↦ omega arith
-            ]
-
             pub struct-unknown : (word ≡ known → ⊥) → show S B (suc d) t (rowsAt cells row) ≡ refused 50 row
             unfolding andThen check
             struct-unknown h =
-                let f : ltb word (2 ^ length fs) ≡ false = le-ltb word (2 ^ length fs) (above h) in
+                let f : ltb word (2 ^ length fs) ≡ false = word-above (length fs) (head-in .0) h in
                 show-bad S B d t (rowsAt cells row) (struct fs) is own (rowsAt cells (row + 1)) row-read 50 row (rw (bits-read, f))
 
             module _ (same-word : word ≡ known) where
               below : ltb word (2 ^ length fs) ≡ true
-              below =
-                  lt-ltb word (2 ^ length fs)
-                  (subst (λ (m : ℕ). m < 2 ^ length fs) (sym (same-word ∙ head-in .0)) (mod-lt word (pow-pos (length fs))))
+              below = word-below (length fs) (head-in .0) same-word
 
               counts : ones ≡ length (present fs word)
               counts = rw same-word (head-in .1)
@@ -183,7 +172,7 @@ module _ {t : ℕ} {cells : List ℕ} {row : ℕ} {due : Due} (found : DueRow ce
                     rw (← same-word) (show-parts S B d t (rowsAt cells row) (struct fs) is own (rowsAt cells (row + 1)) row-read 0 word (rw (bits-read, below, f)))
 
                 pub struct-start : {m : ℕ} → length fs ≡ m → {out : List ℕ} {pos next : ℕ} {mid : List ℕ} → length out ≤ 16384 → PutAt out pos (bytes (bitmapBytes m) known) next mid
-                    → emitAll S (present fs known) (walk (show S B d) [] (present fs known) (rowsAt cells (row + 1))) next mid ≡ emit S t (show S B (suc d) t (rowsAt cells row)) pos out
+                    → ahead S (show S B d) [] (present fs known) (rowsAt cells (row + 1)) next mid ≡ emit S t (show S B (suc d) t (rowsAt cells row)) pos out
                 struct-start long l put = node-start S t (struct fs) is own known _ _ struct-node _ _ _ _ l (rw long put)
 
                 pub struct-accepted : Accepted (show S B (suc d) t (rowsAt cells row)) → Accepted (walk (show S B d) [] (present fs known) (rowsAt cells (row + 1)))
@@ -193,18 +182,19 @@ module _ {t : ℕ} {cells : List ℕ} {row : ℕ} {due : Due} (found : DueRow ce
 
 module _ (P : ℕ → RowReader Tree) (e : ℕ) {left : ℕ} (some : 0 < left) (c : CursorOf Row) where
   pub element-accepted : Accepted (walk P [] (replicate left (plainItem e)) c) → Accepted (P e c)
-  element-accepted h = item-accepted P [] (replicate (left - 1) (plainItem e)) e c (rw (elements-some e left some) at h)
+  element-accepted h = item-accepted P [] (elements-some e left some) c h
 
   module _ (S : ℕ → Shape) (pos : ℕ) (out : List ℕ) where
     pub element-past : length out ≤ 16384 → {c′ : CursorOf Row} {next : ℕ} {mid : List ℕ} → done c′ next mid ≡ emit S e (P e c) pos out
-        → emitAll S (replicate (left - 1) (plainItem e)) (walk P [] (replicate (left - 1) (plainItem e)) c′) next mid
-        ≡ emitAll S (replicate left (plainItem e)) (walk P [] (replicate left (plainItem e)) c) pos out
-    element-past l {c′} {next} {mid} h =
-        rw (elements-some e left some) (item-past S P [] (replicate (left - 1) (plainItem e)) e c pos out l c′ next mid h)
+        → ahead S P [] (replicate (left - 1) (plainItem e)) c′ next mid
+        ≡ ahead S P [] (replicate left (plainItem e)) c pos out
+    unfolding emit emitAll
+    element-past l h = sym (item-past (emitting S) P [] (elements-some e left some) c (emitted pos out) l h)
 
     pub element-stop : {n q : ℕ} → stopped n q ≡ emit S e (P e c) pos out
-        → stopped n q ≡ emitAll S (replicate left (plainItem e)) (walk P [] (replicate left (plainItem e)) c) pos out
-    element-stop {n} {q} h = rw (elements-some e left some) (item-stop S P [] (replicate (left - 1) (plainItem e)) e c pos out n q h)
+        → stopped n q ≡ ahead S P [] (replicate left (plainItem e)) c pos out
+    unfolding emit emitAll
+    element-stop h = item-stop (emitting S) P [] (elements-some e left some) c (emitted pos out) _ h
 
 -- structs that the depth allows
 pub structs-held : (kind depth : ℕ) → (eqb kind 16 && ltb 0 depth) ≡ true → (kind ≡ 16) × (0 < depth)
@@ -226,7 +216,7 @@ module _ (P : ℕ → RowReader Tree) (t : ℕ) (c : CursorOf Row) where
       go (refused n q) h = h
 
   pub one-end : (S : ℕ → Shape) (pos : ℕ) (out : List ℕ)
-      → emitAll S (replicate 1 (plainItem t)) (walk P [] (replicate 1 (plainItem t)) c) pos out ≡ emit S t (P t c) pos out
+      → ahead S P [] (replicate 1 (plainItem t)) c pos out ≡ emit S t (P t c) pos out
   unfolding andThen emit emitAll encodeAll values
   one-end S pos out = rw one-read (go (P t c))
     where
@@ -238,8 +228,8 @@ module _ (P : ℕ → RowReader Tree) (t : ℕ) (c : CursorOf Row) where
 
 -- A turn of the loop over b fields from a on: from one row, place and output to the next, with the same end.
 pub record Turned (S : ℕ → Shape) (P : ℕ → RowReader Tree) (cells : List ℕ) (T : Table) (a b i bits here to : ℕ) (out : List ℕ) (here′ to′ : ℕ) (out′ : List ℕ) : Type 0 where
-  pub same : emitAll S (bitsLeft T a b (i + 1) (bits / 2)) (walk P [] (bitsLeft T a b (i + 1) (bits / 2)) (rowsAt cells here′)) to′ out′
-      ≡ emitAll S (bitsLeft T a b i bits) (walk P [] (bitsLeft T a b i bits) (rowsAt cells here)) to out
+  pub same : ahead S P [] (bitsLeft T a b (i + 1) (bits / 2)) (rowsAt cells here′) to′ out′
+      ≡ ahead S P [] (bitsLeft T a b i bits) (rowsAt cells here) to out
   pub inside : here′ ≤ length cells / 4
   pub behind : to′ ≤ 16385
   pub long : length out′ ≡ length out
@@ -247,25 +237,23 @@ pub record Turned (S : ℕ → Shape) (P : ℕ → RowReader Tree) (cells : List
 module _ (P : ℕ → RowReader Tree) (cells : List ℕ) (T : Table) {a b i bits : ℕ} (here : ℕ) (g : Standing a b i bits) (some : 0 < bits) (room : a + b ≤ length (T .fields))
     {f : Field} (is : f ≡ fieldRow T i) (odd : bits % 2 ≡ 1) where
   pub field-accepted : Accepted (walk P [] (bitsLeft T a b i bits) (rowsAt cells here)) → Accepted (P (f .ty) (rowsAt cells here))
-  field-accepted h =
-      item-accepted P [] (bitsLeft T a b (i + 1) (bits / 2)) (f .ty) (rowsAt cells here) (rw (standing-field g some T room f is odd) at h)
+  field-accepted h = item-accepted P [] (standing-field g some T room f is odd) (rowsAt cells here) h
 
   module _ (S : ℕ → Shape) (to : ℕ) (out : List ℕ) where
     pub field-stop : {n q : ℕ} → stopped n q ≡ emit S (f .ty) (P (f .ty) (rowsAt cells here)) to out
-        → stopped n q ≡ emitAll S (bitsLeft T a b i bits) (walk P [] (bitsLeft T a b i bits) (rowsAt cells here)) to out
-    field-stop {n} {q} h =
-        rw (standing-field g some T room f is odd) (item-stop S P [] (bitsLeft T a b (i + 1) (bits / 2)) (f .ty) (rowsAt cells here) to out n q h)
+        → stopped n q ≡ ahead S P [] (bitsLeft T a b i bits) (rowsAt cells here) to out
+    unfolding emit emitAll
+    field-stop h = item-stop (emitting S) P [] (standing-field g some T room f is odd) (rowsAt cells here) (emitted to out) _ h
 
     pub field-read : length out ≤ 16384 → {row next : ℕ} {mid : List ℕ}
         → Walked cells (emit S (f .ty) (P (f .ty) (rowsAt cells here)) to out) (Past row next) mid → length mid ≡ length out
         → {here′ to′ : ℕ} {out′ : List ℕ} → here′ ≡ row → to′ ≡ next → out′ ≡ mid → Turned S P cells T a b i bits here to out here′ to′ out′
-    field-read l {row} {next} {mid} h k e₁ e₂ e₃ =
+    unfolding emit emitAll
+    field-read l h k e₁ e₂ e₃ =
         let w = h .within in
         rw (e₁, e₂, e₃)
         (record {
-          same =
-              rw (standing-field g some T room f is odd)
-              (item-past S P [] (bitsLeft T a b (i + 1) (bits / 2)) (f .ty) (rowsAt cells here) to out l (rowsAt cells row) next mid (h .same));
+          same = sym (item-past (emitting S) P [] (standing-field g some T room f is odd) (rowsAt cells here) (emitted to out) l (h .same));
           inside = w .0;
           behind = w .1;
           long = k;
@@ -282,52 +270,7 @@ pub came-by : {cells : List ℕ} {end : Final} {before : List ℕ} {row next : �
     → {here to : ℕ} {out′ : List ℕ} → here ≡ row → to ≡ next → out′ ≡ out → Came cells end before here to out′
 came-by w k e₁ e₂ e₃ = rw (e₁, e₂, e₃) (record { walked = w; long = k })
 
-module _ (P : ℕ → RowReader Tree) (k v : ℕ) {n i : ℕ} (keys : List (List ℕ)) (cells : List ℕ) (here : ℕ) (some : i < n) where
-  split : pairs (n - i) k v ≡ keyItem k ∷ (plainItem v ∷ pairs (n - i - 1) k v)
-  split = pairs-some k v (n - i) (omega arith)
-
-  pub pair-key-accepted : Accepted (walk P keys (pairs (n - i) k v) (rowsAt cells here)) → Accepted (P k (rowsAt cells here))
-  pair-key-accepted h = key-accepted P keys (plainItem v ∷ pairs (n - i - 1) k v) k (rowsAt cells here) (rw split at h)
-
-  pub pair-key-stop : (S : ℕ → Shape) (to : ℕ) (out : List ℕ) {a q : ℕ} → P k (rowsAt cells here) ≡ refused a q
-      → stopped a q ≡ emitAll S (pairs (n - i) k v) (walk P keys (pairs (n - i) k v) (rowsAt cells here)) to out
-  pair-key-stop S to out {a} {q} e = rw split (key-stop S P keys (plainItem v ∷ pairs (n - i - 1) k v) k (rowsAt cells here) to out a q e)
-
-  module _ {x : List ℕ} {c′ : CursorOf Row} (read : (r : Row) × (P k (rowsAt cells here) ≡ seen (tip r x) c′)) where
-    known : Accepted (walk P keys (pairs (n - i) k v) (rowsAt cells here)) → (among x keys ≡ false) × Accepted (walk P (x ∷ keys) (plainItem v ∷ pairs (n - i - 1) k v) c′)
-    known h = key-known P keys (plainItem v ∷ pairs (n - i - 1) k v) k (rowsAt cells here) (read .0) x c′ (read .1) (rw split at h)
-
-    pub pair-known : Accepted (walk P keys (pairs (n - i) k v) (rowsAt cells here)) → among x keys ≡ false
-    pair-known h = known h .0
-
-    pub pair-value-accepted : Accepted (walk P keys (pairs (n - i) k v) (rowsAt cells here)) → Accepted (P v c′)
-    pair-value-accepted h = item-accepted P (x ∷ keys) (pairs (n - i - 1) k v) v c′ (known h .1)
-
-    module _ (S : ℕ → Shape) (to : ℕ) (out : List ℕ) where
-      pub pair-again : among x keys ≡ true → stopped 24 here ≡ emitAll S (pairs (n - i) k v) (walk P keys (pairs (n - i) k v) (rowsAt cells here)) to out
-      pair-again e =
-          rw split (key-again S P keys (plainItem v ∷ pairs (n - i - 1) k v) k (rowsAt cells here) (read .0) x c′ (read .1) to out e)
-
-      module _ (new : among x keys ≡ false) {sh : Shape} (is : S k ≡ sh) {next : ℕ} {mid : List ℕ} (l : length out ≤ 16384)
-          (put : PutAt out to (leafBytes sh x) next mid) where
-        value-next : emitAll S (plainItem v ∷ pairs (n - i - 1) k v) (walk P (x ∷ keys) (plainItem v ∷ pairs (n - i - 1) k v) c′) next mid
-            ≡ emitAll S (pairs (n - i) k v) (walk P keys (pairs (n - i) k v) (rowsAt cells here)) to out
-        value-next =
-            rw split (key-new S P keys (plainItem v ∷ pairs (n - i - 1) k v) k (rowsAt cells here) (read .0) x c′ (read .1) to out next mid l (rw is put) new)
-
-        pub pair-value-stop : {a q : ℕ} → stopped a q ≡ emit S v (P v c′) next mid
-            → stopped a q ≡ emitAll S (pairs (n - i) k v) (walk P keys (pairs (n - i) k v) (rowsAt cells here)) to out
-        pair-value-stop {a} {q} e = item-stop S P (x ∷ keys) (pairs (n - i - 1) k v) v c′ next mid a q e ∙ value-next
-
-        pub pair-value-past : length mid ≤ 16384 → {c″ : CursorOf Row} {to′ : ℕ} {out′ : List ℕ} → done c″ to′ out′ ≡ emit S v (P v c′) next mid
-            → {keys′ : List (List ℕ)} → keys′ ≡ x ∷ keys
-            → emitAll S (pairs (n - (i + 1)) k v) (walk P keys′ (pairs (n - (i + 1)) k v) c″) to′ out′
-            ≡ emitAll S (pairs (n - i) k v) (walk P keys (pairs (n - i) k v) (rowsAt cells here)) to out
-        pair-value-past l′ {c″} {to′} {out′} e f =
-            let q : n - (i + 1) ≡ n - i - 1 = omega arith in
-            rw (f, q) (item-past S P (x ∷ keys) (pairs (n - i - 1) k v) v c′ next mid l′ c″ to′ out′ e ∙ value-next)
-
 -- the loop over pairs starts with no key
 pub pairs-start : (S : ℕ → Shape) (P : ℕ → RowReader Tree) (k v n : ℕ) {keys : List (List ℕ)} (c : CursorOf Row) (to : ℕ) (out : List ℕ) → keys ≡ []
-    → emitAll S (pairs (n - 0) k v) (walk P keys (pairs (n - 0) k v) c) to out ≡ emitAll S (pairs n k v) (walk P [] (pairs n k v) c) to out
+    → ahead S P keys (pairs (n - 0) k v) c to out ≡ ahead S P [] (pairs n k v) c to out
 pairs-start S P k v n c to out e = let q : n - 0 ≡ n = omega arith in rw (e, q)

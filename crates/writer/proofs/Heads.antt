@@ -4,15 +4,12 @@ use mathlib.Core.Bool.{true, false}
 use mathlib.Core.List.{List}
 use Prim.Native.Nat.{ℕ, _+_, _/_, _^_, _≤_, _<_}
 use native.Mathlib.Nat.{mod-lt}
-use native.Mathlib.Omega.{arith}
 use borrow.Author.Tests.{le-leb, lt-leb}
-use lib.ListN.{length, drop, length-drop}
+use lib.ListN.{length}
 use lib.Pow.{pow-pos}
-use lib.Seq.{length-take-le}
 use Rattle.buffer.specs.Span.{span}
 use Rattle.wire.specs.Bitmap.{Present}
 use Rattle.wire.specs.Little.{Bytes}
-use Rattle.wire.proofs.Numbers.{bytes-drop, bytes-take}
 use Rattle.parse.specs.Reader.{andThen, check}
 use Rattle.schema.specs.declared.Field.{Field}
 use Rattle.value.specs.Read.{requiredSet}
@@ -37,10 +34,7 @@ module _ (B : List ℕ) (fs : List Field) {n : ℕ} (p : ℕ) (many : length fs 
     pub head-bits : requiredSet fs word ≡ true → 0 < n → n ≤ 64 → Bytes B → Headed B fs p (Bits word known count unknown)
     unfolding bitsAt andThen check
     head-bits h z few bytes =
-        let l = span B p ((n + 7) / 8) in
-        let bs : Bytes l = bytes-take ((n + 7) / 8) (drop p B) (bytes-drop B p bytes) in
-        let long : length l ≡ (n + 7) / 8 = length-take-le ((n + 7) / 8) (drop p B) (rw length-drop (omega arith)) in
-        let b = bits-read fs n many l long bs word known count unknown is in
+        let b = bits-read fs many B p inside bytes is in
         record { same = λ k cur. rw (many, le-leb (p + (n + 7) / 8) (length B) inside, ← is .word-is, h); within = (b .0, b .1, b .3) }
 
 -- the known bits are those of the fields

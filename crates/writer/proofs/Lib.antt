@@ -3,6 +3,7 @@ pub mod Leaves
 pub mod Heads
 pub mod Steps
 pub mod Composites
+pub mod Keys
 pub mod Roots
 pub mod Entries
 pub mod Outcomes

@@ -1,16 +1,16 @@
 -- Laws of the root: its row, its known fields, and that no row is left over; and of the two walks over a whole sheet.
 use mathlib.Core.Path.{_≡_, refl, sym, ap, _∙_}
-use mathlib.Core.Bool.{true, false}
+use mathlib.Core.Bool.{Bool, true, false, cond}
 use mathlib.Core.List.{List, []}
 use Prim.Native.Nat.{ℕ, _+_, _/_, _≤_, _<_}
 use native.Mathlib.Omega.{arith}
 use borrow.Author.Tests.{eq-eqb, ne-eqb}
 use lib.Dec.{eqb}
 use lib.ListN.{length, drop, length-drop}
+use Rattle.buffer.specs.Store.{put}
 use Rattle.wire.specs.Little.{bytes}
-use Rattle.wire.proofs.Cases.{differ}
-use Rattle.parse.specs.Reader.{AnswerOf, refused, seen, andThen, check, Accepted}
-use Rattle.parse.proofs.Answers.{accepted-first, accepted-check}
+use Rattle.parse.specs.Reader.{CursorOf, AnswerOf, refused, seen, andThen, check, Accepted}
+use Rattle.parse.proofs.Answers.{accepted-first}
 use Rattle.schema.specs.declared.Field.{Field}
 use Rattle.schema.specs.Table.{Shape, struct, bitmapBytes}
 use Rattle.value.specs.declared.Row.{Row}
@@ -24,8 +24,9 @@ use Rattle.writer.specs.declared.leaf.Due.{Due}
 use Rattle.writer.specs.declared.leaf.Due.the-variants.{Found, Missing}
 use Rattle.writer.specs.declared.leaf.Head.{Head}
 use Rattle.writer.specs.declared.leaf.Head.the-variants.{Bits, Refused}
-use Rattle.writer.specs.Emit.{PutAt, done, stopped, emit, emitAll}
+use Rattle.writer.specs.Emit.{cap, PutAt, Final, done, stopped, emit, emitAll}
 use Rattle.writer.specs.Leaf.{rowsAt, dueAnswer, DueRow, headOf, HeadIn, Headed}
+use Rattle.writer.specs.Walk.{wholeEnd}
 use Rattle.writer.proofs.Steps.{done-put, branch-bytes}
 use Rattle.writer.proofs.Composites.{row-read}
 
@@ -84,46 +85,45 @@ module _ (S : ℕ → Shape) (B : List ℕ) (fs : List Field) {t : ℕ} {cells :
           pub root-accepted : Accepted (showRoot S B t fs (rowsAt cells 0)) → Accepted (walk (show S B 15) [] (present fs known) (rowsAt cells 1))
           root-accepted a = accepted-first _ _ (rw root-walk at a)
 
-          module _ (out : List ℕ) (next : ℕ) (mid : List ℕ) where
-            pub root-stopped : {number place : ℕ} → stopped number place ≡ emitAll S (present fs known) (walk (show S B 15) [] (present fs known) (rowsAt cells 1)) next mid
-                → stopped number place ≡ emit S t (showRoot S B t fs (rowsAt cells 0)) 0 out
-            unfolding andThen emit emitAll
-            root-stopped {number} {place} h = rw root-walk (go (walk (show S B 15) [] (present fs known) (rowsAt cells 1)) h)
-              where
-                go : (m : AnswerOf Row Forest) → stopped number place ≡ emitAll S (present fs known) m next mid → stopped number place ≡ emit S t (andThen m (afterFields own known)) 0 out
-                go (refused _ _) h = h
-                go (seen ts c₁) h = differ cc
+          -- its encoding is that of a struct with the known bits, and it ends as its fields do where no row is left over
+          pub root-start : S t ≡ struct fs → {m : ℕ} → length fs ≡ m → (out : List ℕ) (next : ℕ) (mid : List ℕ) → length out ≤ 16384
+              → PutAt out 0 (bytes (bitmapBytes m) known) next mid
+              → wholeEnd (emitAll S (present fs known) (walk (show S B 15) [] (present fs known) (rowsAt cells 1)) next mid) ≡ emit S t (showRoot S B t fs (rowsAt cells 0)) 0 out
+          unfolding andThen check emit emitAll afterFields wholeEnd
+          root-start is long out next mid small p = rw root-walk (go (walk (show S B 15) [] (present fs known) (rowsAt cells 1)))
+            where
+              closed : (ts : Forest) (c₁ : CursorOf Row) (b : Bool)
+                  → cond b (done c₁ (cap (next + length (encodeAll S (values ts) (present fs known)))) (put mid next (encodeAll S (values ts) (present fs known)))) (stopped 50 (c₁ .at))
+                  ≡ emit S t (andThen (check b 50 (c₁ .at) c₁) (λ _ c₂. seen (branch own known ts) c₂)) 0 out
+              closed ts c₁ true =
+                  rw (branch-bytes S t own known ts, is)
+                  (done-put c₁ out 0 (bytes (bitmapBytes (length fs)) known) (encodeAll S (values ts) (present fs known)) next mid small (rw long p))
+              closed ts c₁ false = refl
 
-            module _ {row pos : ℕ} {out′ : List ℕ}
-                (h : done (rowsAt cells row) pos out′ ≡ emitAll S (present fs known) (walk (show S B 15) [] (present fs known) (rowsAt cells 1)) next mid) where
-              left-over : row ≤ length cells / 4 → length (drop row (rowsOf cells)) + row ≡ length cells / 4
-              left-over l = rw (length-drop, length-rows cells) (omega arith)
+              go : (m : AnswerOf Row Forest) → wholeEnd (emitAll S (present fs known) m next mid) ≡ emit S t (andThen m (afterFields own known)) 0 out
+              go (refused _ _) = refl
+              go (seen ts c₁) = closed ts c₁ (eqb (length (c₁ .left)) 0)
 
-              pub root-left : row < length cells / 4 → stopped 50 row ≡ emit S t (showRoot S B t fs (rowsAt cells 0)) 0 out
-              unfolding andThen check emit emitAll afterFields
-              root-left l = rw root-walk (go (walk (show S B 15) [] (present fs known) (rowsAt cells 1)) h)
-                where
-                  go : (m : AnswerOf Row Forest) → done (rowsAt cells row) pos out′ ≡ emitAll S (present fs known) m next mid → stopped 50 row ≡ emit S t (andThen m (afterFields own known)) 0 out
-                  go (seen ts c₁) h =
-                      let g : c₁ ≡ rowsAt cells row = cc in
-                      let some = left-over (omega arith) in
-                      let f : eqb (length (drop row (rowsOf cells))) 0 ≡ false = ne-eqb (length (drop row (rowsOf cells))) 0 (λ z. omega arith) in
-                      rw (g, f)
-                  go (refused _ _) h = differ cc
+-- ---- a walk over a whole sheet
 
-              -- its encoding is that of a struct with the known bits
-              pub root-done : row ≤ length cells / 4 → length cells / 4 ≤ row → S t ≡ struct fs → {m : ℕ} → length fs ≡ m → length out ≤ 16384
-                  → PutAt out 0 (bytes (bitmapBytes m) known) next mid
-                  → done (rowsAt cells row) pos out′ ≡ emit S t (showRoot S B t fs (rowsAt cells 0)) 0 out
-              unfolding andThen check emit emitAll afterFields
-              root-done l l′ is long small p = rw root-walk (go (walk (show S B 15) [] (present fs known) (rowsAt cells 1)) h)
-                where
-                  go : (m : AnswerOf Row Forest) → done (rowsAt cells row) pos out′ ≡ emitAll S (present fs known) m next mid
-                      → done (rowsAt cells row) pos out′ ≡ emit S t (andThen m (afterFields own known)) 0 out
-                  go (seen ts c₁) h =
-                      let g : c₁ ≡ rowsAt cells row = cc in
-                      let none = left-over l in
-                      let f : eqb (length (drop row (rowsOf cells))) 0 ≡ true = eq-eqb (length (drop row (rowsOf cells))) 0 (omega arith) in
-                      rw (g, f, branch-bytes S t own known ts, is)
-                      (h ∙ rw g (done-put (rowsAt cells row) out 0 (bytes (bitmapBytes (length fs)) known) (encodeAll S (values ts) (present fs known)) next mid small (rw long p)))
-                  go (refused _ _) h = differ cc
+pub whole-stopped : {end : Final} {n q : ℕ} → stopped n q ≡ end → stopped n q ≡ wholeEnd end
+unfolding wholeEnd
+whole-stopped {end} h = rw (← h)
+
+module _ (cells : List ℕ) {row pos : ℕ} {out : List ℕ} {end : Final} (h : done (rowsAt cells row) pos out ≡ end) (l : row ≤ length cells / 4) where
+  left-over : length (drop row (rowsOf cells)) + row ≡ length cells / 4
+  left-over = rw (length-drop, length-rows cells) (omega arith)
+
+  pub whole-left : row < length cells / 4 → stopped 50 row ≡ wholeEnd end
+  unfolding wholeEnd
+  whole-left some =
+      let k = left-over in
+      let f : eqb (length (drop row (rowsOf cells))) 0 ≡ false = ne-eqb (length (drop row (rowsOf cells))) 0 (λ z. omega arith) in
+      rw (← h, f)
+
+  pub whole-done : length cells / 4 ≤ row → done (rowsAt cells row) pos out ≡ wholeEnd end
+  unfolding wholeEnd
+  whole-done none =
+      let k = left-over in
+      let f : eqb (length (drop row (rowsOf cells))) 0 ≡ true = eq-eqb (length (drop row (rowsOf cells))) 0 (omega arith) in
+      rw (← h, f)

@@ -1,5 +1,5 @@
 -- Laws of the walkers: what one step of a walk does to its end.
-use mathlib.Core.Path.{_≡_, refl, _∙_}
+use mathlib.Core.Path.{_≡_, refl, sym, ap, _∙_}
 use mathlib.Core.Bool.{Bool, true, false}
 use mathlib.Core.List.{List, [], _∷_, _++_}
 use Prim.Native.Nat.{ℕ, zero, suc, _+_, _-_, _/_, _≤_}
@@ -7,20 +7,20 @@ use native.Mathlib.Omega.{arith}
 use lib.Dec.{eqb}
 use lib.ListN.{length}
 use Rattle.buffer.specs.Store.{put}
-use Rattle.wire.proofs.Cases.{differ}
 use Rattle.parse.specs.Reader.{CursorOf, AnswerOf, refused, seen, andThen, check, Accepted}
-use Rattle.parse.proofs.Answers.{accepted-first}
+use Rattle.parse.proofs.Answers.{accepted-first, accepted-alike, refused-alike, then-inv, stops, steps}
 use Rattle.schema.specs.Table.{Shape, unknown}
 use Rattle.value.specs.declared.Row.{Row}
 use Rattle.value.specs.Value.{Tree, tip, branch, Forest, plus, value, values}
-use Rattle.value.specs.Read.{Item, plainItem, plan, plain, parts, among, walk}
+use Rattle.value.specs.Read.{Item, plan, plain, parts, walk}
 use Rattle.value.specs.Spell.{leafBytes, headBytes, encode, encodeAll}
 use Rattle.value.specs.Write.{RowReader, nextRow, rowDue, says, held, show}
 use Rattle.walks.proofs.Walks.{deep, deeper, shallower}
-use Rattle.walks.proofs.Items.{keyItem, afterItem, afterKey, item-step, key-step}
+use Rattle.walks.specs.Sink.{ended}
+use Rattle.walks.proofs.Items.{accepted-along, Sink}
 use Rattle.writer.specs.declared.walk.Walk.{Walk}
 use Rattle.writer.specs.declared.walk.Walk.the-variants.{Past, Refused}
-use Rattle.writer.specs.Emit.{cap, PutAt, Final, done, stopped, emit, emitAll}
+use Rattle.writer.specs.Emit.{cap, PutAt, Emitted, emitted, append, Final, done, stopped, emit, emitAll}
 use Rattle.writer.specs.Leaf.{rowsAt, rowSays}
 use Rattle.writer.specs.Walk.{Walked, Ready}
 use Rattle.writer.proofs.Puts.{put-after}
@@ -48,13 +48,41 @@ pub shown-refused : (S : ℕ → Shape) (t pos : ℕ) (out : List ℕ) {o : Answ
     → r ≡ Refused n q → o ≡ refused n q → Walked cells (emit S t o pos out) r out′
 shown-refused S t pos out e h = as-refused e (shown-stopped S t pos out h)
 
+-- bytes put after bytes
+put-both : (out : List ℕ) (pos : ℕ) (a b : List ℕ) (next : ℕ) (mid : List ℕ) → length out ≤ 16384 → PutAt out pos a next mid
+    → append b (emitted next mid) ≡ append (a ++ b) (emitted pos out)
+put-both out pos a b next mid h p =
+    let w = put-after out pos a b next mid (cap (next + length b)) (put mid next b) h p (record { holds = refl; further = refl; capped = omega arith }) in
+    let e : put mid next b ≡ put out pos (a ++ b) = w .holds in
+    let f : cap (next + length b) ≡ cap (pos + length (a ++ b)) = w .further in
+    cc
+
+pub done-put : (c : CursorOf Row) (out : List ℕ) (pos : ℕ) (a b : List ℕ) (next : ℕ) (mid : List ℕ) → length out ≤ 16384 → PutAt out pos a next mid
+    → done c (cap (next + length b)) (put mid next b) ≡ done c (cap (pos + length (a ++ b))) (put out pos (a ++ b))
+done-put c out pos a b next mid h p = ap (λ (x : Emitted). ended c x) (put-both out pos a b next mid h p)
+
+pub put-is : {out : List ℕ} {pos : ℕ} {bs : List ℕ} {next : ℕ} {after : List ℕ} → PutAt out pos bs next after → emitted next after ≡ append bs (emitted pos out)
+put-is p = let e = p .holds in let f = p .further in cc
+
+module _ (S : ℕ → Shape) where
+  abbrev pub Small : Emitted → Type 0
+  Small (emitted pos out) = length out ≤ 16384
+
+  pub first-emitted : (i : Item) (is : List Item) (t : Tree) (ts : Forest) (x : Emitted) → Small x
+      → append (encodeAll S (values (plus t ts)) (i ∷ is)) x ≡ append (encodeAll S (values ts) is) (append (encode S (value t) (i .type)) x)
+  unfolding encodeAll values
+  first-emitted i is t ts (emitted pos out) h =
+      sym (put-both out pos (encode S (value t) (i .type)) (encodeAll S (values ts) is) _ _ h (record { holds = refl; further = refl; capped = omega arith }))
+
+  -- The encoding of trees, as an output takes it.
+  abbrev pub emitting : Sink Emitted
+  emitting = record { one = λ t tree. append (encode S (value tree) t); all = λ is ts. append (encodeAll S (values ts) is); Fits = Small; next = first-emitted }
+
 -- where two walks have the same end, one accepts where the other does
 pub shown-along : (S : ℕ → Shape) (is is′ : List Item) (o o′ : AnswerOf Row Forest) (pos pos′ : ℕ) (l m : List ℕ)
     → emitAll S is o pos l ≡ emitAll S is′ o′ pos′ m → Accepted o′ → Accepted o
 unfolding emitAll
-shown-along S is is′ (seen a c) o′ pos pos′ l m e h = tt
-shown-along S is is′ (refused n q) (seen b c) pos pos′ l m e h = differ cc
-shown-along S is is′ (refused n q) (refused n′ q′) pos pos′ l m e h = h
+shown-along S is is′ o o′ pos pos′ l m e h = accepted-along (emitting S .all is) (emitting S .all is′) o o′ _ _ e h
 
 -- what a walker may assume of the next one
 pub onward : {A A′ : Type 0} {s cells out out′ : List ℕ} {row row′ pos pos′ : ℕ} {judging : Bool} {o : AnswerOf Row A} {o′ : AnswerOf Row A′}
@@ -62,18 +90,6 @@ pub onward : {A A′ : Type 0} {s cells out out′ : List ℕ} {row row′ pos p
     → Ready s cells out′ row′ pos′ judging o′
 onward w inside behind long held =
     record { good = w .good; inside = inside; behind = behind; small = rw long (w .small); judged = λ j. held (w .judged j) }
-
-pub done-put : (c : CursorOf Row) (out : List ℕ) (pos : ℕ) (a b : List ℕ) (next : ℕ) (mid : List ℕ) → length out ≤ 16384 → PutAt out pos a next mid
-    → done c (cap (next + length b)) (put mid next b) ≡ done c (cap (pos + length (a ++ b))) (put out pos (a ++ b))
-done-put c out pos a b next mid h p =
-    let w = put-after out pos a b next mid (cap (next + length b)) (put mid next b) h p (record { holds = refl; further = refl; capped = omega arith }) in
-    let e : put mid next b ≡ put out pos (a ++ b) = w .holds in
-    let f : cap (next + length b) ≡ cap (pos + length (a ++ b)) = w .further in
-    cc
-
-all-plus : (S : ℕ → Shape) (i : Item) (is : List Item) (t : Tree) (ts : Forest) → encodeAll S (values (plus t ts)) (i ∷ is) ≡ encode S (value t) (i .type) ++ encodeAll S (values ts) is
-unfolding encodeAll values
-all-plus S i is t ts = refl
 
 pub branch-bytes : (S : ℕ → Shape) (t : ℕ) (r : Row) (h : ℕ) (ts : Forest) → encode S (value (branch r h ts)) t ≡ headBytes (S t) h ++ encodeAll S (values ts) (plan (S t) h)
 unfolding encode value
@@ -85,64 +101,18 @@ tip-bytes S t r x = refl
 
 -- ---- items one after the other
 
-module _ (S : ℕ → Shape) (P : ℕ → RowReader Tree) (keys : List (List ℕ)) (is : List Item) where
-  -- the values of the items after one
-  then-plus : (i : Item) (t : Tree) (o : AnswerOf Row Forest) (pos : ℕ) (out : List ℕ) (next : ℕ) (mid : List ℕ) → length out ≤ 16384 → PutAt out pos (encode S (value t) (i .type)) next mid
-      → emitAll S is o next mid ≡ emitAll S (i ∷ is) (andThen o (λ ts c. seen (plus t ts) c)) pos out
-  unfolding andThen emitAll
-  then-plus i t (seen ts c) pos out next mid h p = rw (all-plus S i is t ts) (done-put c out pos (encode S (value t) (i .type)) (encodeAll S (values ts) is) next mid h p)
-  then-plus i t (refused n q) pos out next mid h p = refl
-
-  put-by : (t : ℕ) (tree : Tree) (pos : ℕ) (out : List ℕ) → PutAt out pos (encode S (value tree) t) (cap (pos + length (encode S (value tree) t))) (put out pos (encode S (value tree) t))
-  put-by t tree pos out = record { holds = refl; further = refl; capped = omega arith }
-
-  module _ (t : ℕ) (c : CursorOf Row) (pos : ℕ) (out : List ℕ) where
-    pub item-past : length out ≤ 16384 → (c′ : CursorOf Row) (next : ℕ) (mid : List ℕ) → done c′ next mid ≡ emit S t (P t c) pos out
-        → emitAll S is (walk P keys is c′) next mid ≡ emitAll S (plainItem t ∷ is) (walk P keys (plainItem t ∷ is) c) pos out
-    unfolding andThen emit afterItem
-    item-past h c′ next mid e = rw (item-step P keys is t c) (go (P t c) e)
-      where
-        go : (o : AnswerOf Row Tree) → done c′ next mid ≡ emit S t o pos out
-            → emitAll S is (walk P keys is c′) next mid ≡ emitAll S (plainItem t ∷ is) (andThen o (afterItem P keys is)) pos out
-        go (seen tree c₁) e =
-            let k : c₁ ≡ c′ = cc in
-            let a : next ≡ cap (pos + length (encode S (value tree) t)) = cc in
-            let b : mid ≡ put out pos (encode S (value tree) t) = cc in
-            rw (a, b, k) (then-plus (plainItem t) tree (walk P keys is c′) pos out _ _ h (put-by t tree pos out))
-        go (refused n q) e = differ cc
-
-    pub item-stop : (n q : ℕ) → stopped n q ≡ emit S t (P t c) pos out → stopped n q ≡ emitAll S (plainItem t ∷ is) (walk P keys (plainItem t ∷ is) c) pos out
-    unfolding andThen emit emitAll
-    item-stop n q e = rw (item-step P keys is t c) (go (P t c) e)
-      where
-        go : (o : AnswerOf Row Tree) → stopped n q ≡ emit S t o pos out → stopped n q ≡ emitAll S (plainItem t ∷ is) (andThen o (afterItem P keys is)) pos out
-        go (seen tree c₁) e = differ cc
-        go (refused n′ q′) e = e
-
-  pub key-stop : (k : ℕ) (c : CursorOf Row) (pos : ℕ) (out : List ℕ) (n q : ℕ) → P k c ≡ refused n q
-      → stopped n q ≡ emitAll S (keyItem k ∷ is) (walk P keys (keyItem k ∷ is) c) pos out
-  unfolding andThen emitAll
-  key-stop k c pos out n q e = rw (key-step P keys is k c, e)
-
-  module _ (k : ℕ) (c : CursorOf Row) (r : Row) (x : List ℕ) (c′ : CursorOf Row) (read : P k c ≡ seen (tip r x) c′) where
-    pub key-again : (pos : ℕ) (out : List ℕ) → among x keys ≡ true → stopped 24 (c .at) ≡ emitAll S (keyItem k ∷ is) (walk P keys (keyItem k ∷ is) c) pos out
-    unfolding andThen check afterKey value emitAll
-    key-again pos out e = rw (key-step P keys is k c, read, e)
-
-    pub key-new : (pos : ℕ) (out : List ℕ) (next : ℕ) (mid : List ℕ) → length out ≤ 16384 → PutAt out pos (leafBytes (S k) x) next mid → among x keys ≡ false
-        → emitAll S is (walk P (x ∷ keys) is c′) next mid ≡ emitAll S (keyItem k ∷ is) (walk P keys (keyItem k ∷ is) c) pos out
-    unfolding andThen check afterKey value
-    key-new pos out next mid h p e =
-        rw (key-step P keys is k c, read, e) (then-plus (keyItem k) (tip r x) (walk P (x ∷ keys) is c′) pos out next mid h (rw (tip-bytes S k r x) p))
+-- The end of a walk over the items of a plan.
+abbrev pub ahead : (ℕ → Shape) → (ℕ → RowReader Tree) → (keys : List (List ℕ)) → List Item → CursorOf Row → (pos : ℕ) → List ℕ → Final
+ahead S P keys is c pos out = emitAll S is (walk P keys is c) pos out
 
 walk-end : (S : ℕ → Shape) (P : ℕ → RowReader Tree) (keys : List (List ℕ)) (c : CursorOf Row) (pos : ℕ) (out : List ℕ) → pos ≤ 16385
-    → done c pos out ≡ emitAll S [] (walk P keys [] c) pos out
+    → done c pos out ≡ ahead S P keys [] c pos out
 unfolding walk emitAll encodeAll values put
 walk-end S P keys c pos out h = let e : cap (pos + 0) ≡ pos = omega arith in rw e
 
 -- where no item is left, the end is here
 pub walk-done : (S : ℕ → Shape) (P : ℕ → RowReader Tree) (keys : List (List ℕ)) {is : List Item} {cells : List ℕ} {row pos : ℕ} {out : List ℕ} {end : Final}
-    → is ≡ [] → emitAll S is (walk P keys is (rowsAt cells row)) pos out ≡ end → row ≤ length cells / 4 → pos ≤ 16385 → Walked cells end (Past row pos) out
+    → is ≡ [] → ahead S P keys is (rowsAt cells row) pos out ≡ end → row ≤ length cells / 4 → pos ≤ 16385 → Walked cells end (Past row pos) out
 walk-done S P keys {cells} {row} {pos} {out} e h i p =
     record { same = walk-end S P keys (rowsAt cells row) pos out p ∙ (rw e at h); within = (i, p) }
 
@@ -177,36 +147,19 @@ module _ (S : ℕ → Shape) (B : List ℕ) (d t : ℕ) (c : CursorOf Row) where
   -- ---- a leaf
 
   module _ (sh : Shape) (is : S t ≡ sh) where
-    leaf-cases : (x : List ℕ) (c′ : CursorOf Row) (o : AnswerOf Row Row) → andThen o (λ r. says B (c .at) sh (r .place) (r .length) (r .count)) ≡ seen (plain x) c′
-        → (r : Row) × (andThen o (afterRow sh) ≡ seen (tip r x) c′)
-    unfolding andThen afterRow
-    leaf-cases x c′ (seen r c₁) e = (r, rw e)
-    leaf-cases x c′ (refused n q) e = differ cc
-
-    leaf-none : (n q : ℕ) (o : AnswerOf Row Row) → andThen o (λ r. says B (c .at) sh (r .place) (r .length) (r .count)) ≡ refused n q
-        → andThen o (afterRow sh) ≡ refused n q
-    unfolding andThen afterRow
-    leaf-none n q (seen r c₁) e = rw e
-    leaf-none n q (refused n′ q′) e = cc
-
     pub leaf-shown : (x : List ℕ) (c′ : CursorOf Row) → rowSays B t sh c ≡ seen (plain x) c′ → (r : Row) × (show S B (suc d) t c ≡ seen (tip r x) c′)
-    unfolding rowSays
+    unfolding rowSays afterRow
     leaf-shown x c′ e =
-        let w = leaf-cases x c′ (rowDue t c) e in
-        (w .0, rw (show-step, is) (w .1))
+        let (r, _, row, said) = then-inv (rowDue t c) _ e in
+        (r, rw (show-step, is) (steps (afterRow sh) row (steps _ said refl)))
 
     pub leaf-refused : (n q : ℕ) → rowSays B t sh c ≡ refused n q → show S B (suc d) t c ≡ refused n q
-    unfolding rowSays
-    leaf-refused n q e = rw (show-step, is) (leaf-none n q (rowDue t c) e)
-
-    leaf-first : (o : AnswerOf Row Row) → Accepted (andThen o (afterRow sh)) → Accepted (andThen o (λ r. says B (c .at) sh (r .place) (r .length) (r .count)))
-    unfolding andThen afterRow
-    leaf-first (seen r c₁) h = accepted-first (says B (c .at) sh (r .place) (r .length) (r .count) c₁) _ h
-    leaf-first (refused n q) h = h
+    unfolding rowSays afterRow
+    leaf-refused n q e = rw (show-step, is) (refused-alike (rowDue t c) _ _ e (λ r c₁. stops _))
 
     leaf-said : Accepted (show S B (suc d) t c) → Accepted (rowSays B t sh c)
-    unfolding rowSays
-    leaf-said h = leaf-first (rowDue t c) (rw (show-step, is) at h)
+    unfolding rowSays afterRow
+    leaf-said h = accepted-alike (rowDue t c) _ _ (rw (show-step, is) at h) (λ r c₁. accepted-first (says B (c .at) sh (r .place) (r .length) (r .count) c₁) _)
 
 -- ---- by the depth that is left
 
@@ -231,8 +184,8 @@ module _ (S : ℕ → Shape) (B : List ℕ) {d : ℕ} (some : d ≡ 0 → ⊥) (
   items-deeper = deeper (λ k. Accepted (walk (show S B k) [] is c)) d some
 
   pub items-shallower : (pos : ℕ) (out : List ℕ) {cells : List ℕ} {r : Walk} {out′ : List ℕ}
-      → Walked cells (emitAll S is (walk (show S B (suc (d - 1))) [] is c) pos out) r out′ → Walked cells (emitAll S is (walk (show S B d) [] is c) pos out) r out′
-  items-shallower pos out {cells} {r} {out′} = shallower (λ k. Walked cells (emitAll S is (walk (show S B k) [] is c) pos out) r out′) d some
+      → Walked cells (ahead S (show S B (suc (d - 1))) [] is c pos out) r out′ → Walked cells (ahead S (show S B d) [] is c pos out) r out′
+  items-shallower pos out {cells} {r} {out′} = shallower (λ k. Walked cells (ahead S (show S B k) [] is c pos out) r out′) d some
 
 row-none : (t k : ℕ) → rowDue t (record { left = []; at = k }) ≡ refused 50 k
 unfolding andThen rowDue nextRow

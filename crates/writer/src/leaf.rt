@@ -12,7 +12,7 @@ ghost use Rattle.schema.specs.Table.{width};
 ghost use Rattle.walks.specs.Shape.{leafShape};
 ghost use Rattle.writer.specs.Leaf.{rowsAt, DueRow, Judged, rowSays, LeafRow, HeadedBy};
 
-// Kinds, in the type in which the functions here are handed one.
+// Kinds as `usize`.
 const BOOL: usize = kind::BOOL as usize;
 
 const STRING: usize = kind::STRING as usize;

@@ -15,7 +15,7 @@ ghost use Rattle.walks.specs.Shape.{leafShape};
 // One byte more than a payload may have: what is longer counts as this.
 const OVER: usize = limit::PAYLOAD + 1;
 
-// Kinds, in the type in which the functions here are handed one.
+// Kinds as `usize`.
 const STRING: usize = kind::STRING as usize;
 
 // The place n bytes further, and 16,385 for every place above 16,384.

@@ -13,11 +13,11 @@ use constants::kind;
 use constants::limit;
 use constants::refusal;
 use schema::TypeRow;
-use schema::access::type_row;
+use schema::access::known_row;
 use schema::file::layout_of;
 use schema::rows::field_row;
-use schema::rows::row;
 use value::MOST_PAIRS;
+use walks::key::FLAG_CELLS;
 use walks::key::is_repeated;
 use walks::required_of;
 use walks::zeros_in;
@@ -25,21 +25,21 @@ ghost use mathlib.Core.Path.{_≡_};
 ghost use mathlib.Core.List.{[]};
 ghost use Prim.Native.Nat.{suc, _+_, _/_, _^_, _≤_, _<_};
 ghost use lib.ListN.{length, replicate};
-ghost use Rattle.schema.specs.Table.{rowAt, array, map, struct};
+ghost use Rattle.schema.specs.Table.{rowAt, array, struct};
 ghost use Rattle.schema.specs.File.{tableOf};
 ghost use Rattle.value.specs.Read.{plainItem, pairs, present};
 ghost use Rattle.writer.specs.declared.walk.Walk.the-variants.{Refused};
 ghost use Rattle.walks.specs.Shape.{fieldsFrom, shapeIn};
 ghost use Rattle.walks.specs.Required.{Requires};
-ghost use Rattle.writer.specs.Walk.{valueIn, itemsIn, rootIn, valueEnd, itemsEnd, rootEnd, Walked, Ready};
+ghost use Rattle.writer.specs.Walk.{valueIn, itemsIn, rootIn, valueEnd, itemsEnd, rootEnd, wholeEnd, Walked, Ready, MapRow, KeyReady, KeyPut};
 
-// Kinds, in the type in which the functions here are handed one.
+// Kinds as `usize`.
 const ARRAY: usize = kind::ARRAY as usize;
 
 const STRUCT: usize = kind::STRUCT as usize;
 
 // Pairs of a map whose keys are kept in a short array.
-const SHORT_MAP: usize = 8;
+const FEW_KEYS: usize = 8;
 
 // The row and the place in the output after what was written, or a refusal with its row.
 pub enum Walk {
@@ -53,7 +53,7 @@ fn refused(number: u32, place: usize) -> Walk
     Walk::Refused { number, place }
 }
 
-// An array, a map or a struct of type ty in a row, whose type row is t; what it holds has so many levels of depth.
+// An array, a map or a struct of type ty in a row, whose type row is t.
 fn write_composite(
     s: &[u8],
     sheet: &[u32],
@@ -66,42 +66,21 @@ fn write_composite(
     depth: usize,
     judging: bool,
 ) -> Walk
-    requires { ⌜ Ready (now s) (now sheet) (now out) row pos judging (valueIn (now s) (now source) (now sheet) (suc depth) ty row) × (t ≡ rowAt (tableOf (now s)) ty) × (13 < t .kind) ⌝ }
-    ensures { λ r. ⌜ Walked (now (sheet .entry)) (valueEnd (now (s .entry)) (now (source .entry)) (now (sheet .entry)) (suc depth) ty row pos (now (out .entry))) r (now (out .exit)) ⌝ }
+    requires { ⌜ Ready (now s) (now sheet) (now out) row pos judging (valueIn (now s) (now source) (now sheet) depth ty row) × (t ≡ rowAt (tableOf (now s)) ty) × (13 < t .kind) ⌝ }
+    ensures { λ r. ⌜ Walked (now (sheet .entry)) (valueEnd (now (s .entry)) (now (source .entry)) (now (sheet .entry)) depth ty row pos (now (out .entry))) r (now (out .exit)) ⌝ }
 {
+    if depth == 0 {
+        return refused(refusal::TOO_DEEP, row);
+    }
     let kind = t.kind;
     if kind == kind::ARRAY {
-        return write_array(s, sheet, source, out, ty, t.a, row, pos, depth, judging);
+        return write_array(s, sheet, source, out, ty, t.a, row, pos, depth - 1, judging);
     }
     if kind == kind::MAP {
-        return write_map(
-            s,
-            sheet,
-            source,
-            out,
-            ty,
-            t.a,
-            t.b,
-            row,
-            pos,
-            depth,
-            judging,
-        );
+        return write_map(s, sheet, source, out, ty, t, row, pos, depth - 1, judging);
     }
     if kind == kind::STRUCT {
-        return write_one_struct(
-            s,
-            sheet,
-            source,
-            out,
-            ty,
-            t.a as usize,
-            t.b as usize,
-            row,
-            pos,
-            depth,
-            judging,
-        );
+        return write_run(s, sheet, source, out, ty, t, 1, row, pos, depth, judging);
     }
     // A good table has no composite of another kind: this is never reached, and 50 is what the definition has for a type that there is not.
     refused(refusal::SHEET, row)
@@ -199,89 +178,90 @@ fn write_array(
             count,
         } => {
             let next = put_number(out, pos, count as u64);
-            let t = type_row(s, elem as usize);
-            let kind = t.kind as usize;
-            if kind < ARRAY {
-                return leaves(
-                    s,
-                    sheet,
-                    source,
-                    out,
-                    kind,
-                    elem,
-                    count,
-                    row + 1,
-                    next,
-                    depth,
-                    judging,
-                );
-            }
-            if (kind == STRUCT) & (0 < depth) {
-                return write_structs(
-                    s,
-                    sheet,
-                    source,
-                    out,
-                    elem,
-                    t.a as usize,
-                    t.b as usize,
-                    count,
-                    row + 1,
-                    next,
-                    depth - 1,
-                    judging,
-                );
-            }
-            let mut left = count;
-            let mut here = row + 1;
-            let mut to = next;
-            while 0 < left {
-                if depth == 0 {
-                    return refused(refusal::TOO_DEEP, here);
-                }
-                match write_composite(
-                    s,
-                    sheet,
-                    source,
-                    out,
-                    elem,
-                    t,
-                    here,
-                    to,
-                    depth - 1,
-                    judging,
-                ) {
-                    Walk::Refused { number, place } => {
-                        return Walk::Refused { number, place };
-                    }
-                    Walk::Past { row, pos } => {
-                        here = row;
-                        to = pos;
-                    }
-                }
-                left = left - 1;
-            }
-            Walk::Past { row: here, pos: to }
+            write_elements(
+                s,
+                sheet,
+                source,
+                out,
+                elem,
+                count,
+                row + 1,
+                next,
+                depth,
+                judging,
+            )
         }
     }
 }
 
-// A map of type ty; one of more than 64 pairs is refused at its row. Its keys are kept in an array, a short one where there are few.
+// The n elements of an array from a row on, which have the type ty.
+fn write_elements(
+    s: &[u8],
+    sheet: &[u32],
+    source: &[u8],
+    out: &mut [u8],
+    ty: u32,
+    n: usize,
+    start: usize,
+    pos: usize,
+    depth: usize,
+    judging: bool,
+) -> Walk
+    requires { ⌜ Ready (now s) (now sheet) (now out) start pos judging (itemsIn (now s) (now source) (now sheet) depth [] (replicate n (plainItem ty)) start) × (0 < rowAt (tableOf (now s)) ty .kind) ⌝ }
+    ensures { λ r. ⌜ Walked (now (sheet .entry)) (itemsEnd (now (s .entry)) (now (source .entry)) (now (sheet .entry)) depth [] (replicate n (plainItem ty)) start pos (now (out .entry))) r (now (out .exit)) ⌝ }
+{
+    let t = known_row(s, ty as usize);
+    let kind = t.kind as usize;
+    if kind < ARRAY {
+        return leaves(
+            s,
+            sheet,
+            source,
+            out,
+            kind,
+            ty,
+            n,
+            start,
+            pos,
+            depth,
+            judging,
+        );
+    }
+    if (kind == STRUCT) & (0 < depth) {
+        return write_run(s, sheet, source, out, ty, t, n, start, pos, depth, judging);
+    }
+    let mut left = n;
+    let mut here = start;
+    let mut to = pos;
+    while 0 < left {
+        match write_composite(s, sheet, source, out, ty, t, here, to, depth, judging) {
+            Walk::Refused { number, place } => {
+                return Walk::Refused { number, place };
+            }
+            Walk::Past { row, pos } => {
+                here = row;
+                to = pos;
+            }
+        }
+        left = left - 1;
+    }
+    Walk::Past { row: here, pos: to }
+}
+
+// A map of type ty, whose type row is t; one of more than 64 pairs is refused at its row.
 fn write_map(
     s: &[u8],
     sheet: &[u32],
     source: &[u8],
     out: &mut [u8],
     ty: u32,
-    key: u32,
-    val: u32,
+    t: TypeRow,
     row: usize,
     pos: usize,
     depth: usize,
     judging: bool,
 ) -> Walk
-    requires { ⌜ Ready (now s) (now sheet) (now out) row pos judging (valueIn (now s) (now source) (now sheet) (suc depth) ty row) × (shapeIn (now s) ty ≡ map key val) ⌝ }
-    requires { ⌜ (0 < rowAt (tableOf (now s)) key .kind) × (rowAt (tableOf (now s)) key .kind < 14) × (0 < rowAt (tableOf (now s)) val .kind) ⌝ }
+    requires { ⌜ Ready (now s) (now sheet) (now out) row pos judging (valueIn (now s) (now source) (now sheet) (suc depth) ty row) × (t ≡ rowAt (tableOf (now s)) ty) × (t .kind ≡ 15) ⌝ }
     ensures { λ r. ⌜ Walked (now (sheet .entry)) (valueEnd (now (s .entry)) (now (source .entry)) (now (sheet .entry)) (suc depth) ty row pos (now (out .entry))) r (now (out .exit)) ⌝ }
 {
     match row_due(sheet, row, ty) {
@@ -289,43 +269,30 @@ fn write_map(
         Due::Found {
             place: _,
             length: _,
-            count,
+            count: n,
         } => {
-            if MOST_PAIRS < count {
+            if MOST_PAIRS < n {
                 return refused(refusal::MAP_TOO_LONG, row);
             }
-            let next = put_number(out, pos, count as u64);
-            if count == 0 {
+            let next = put_number(out, pos, n as u64);
+            if n == 0 {
                 return Walk::Past {
                     row: row + 1,
                     pos: next,
                 };
             }
-            if count <= SHORT_MAP {
-                let mut keys = [0usize; 2 * SHORT_MAP + 8];
-                return write_pairs(
-                    s,
-                    sheet,
-                    source,
-                    out,
-                    &mut keys,
-                    key,
-                    val,
-                    count,
-                    row + 1,
-                    next,
-                    depth,
-                    judging,
-                );
+            if FEW_KEYS < n {
+                return write_many_pairs(s, sheet, source, out, t, n, row + 1, next, depth, judging);
             }
-            write_many_pairs(
+            let mut keys = [0usize; 2 * (FEW_KEYS + FLAG_CELLS)];
+            write_pairs(
                 s,
                 sheet,
                 source,
                 out,
-                key,
-                val,
-                count,
+                &mut keys,
+                t,
+                n,
                 row + 1,
                 next,
                 depth,
@@ -341,33 +308,65 @@ fn write_many_pairs(
     sheet: &[u32],
     source: &[u8],
     out: &mut [u8],
-    key: u32,
-    val: u32,
+    t: TypeRow,
     n: usize,
     start: usize,
     pos: usize,
     depth: usize,
     judging: bool,
 ) -> Walk
-    requires { ⌜ Ready (now s) (now sheet) (now out) start pos judging (itemsIn (now s) (now source) (now sheet) depth [] (pairs n key val) start) ⌝ }
-    requires { ⌜ (0 < rowAt (tableOf (now s)) key .kind) × (rowAt (tableOf (now s)) key .kind < 14) × (0 < rowAt (tableOf (now s)) val .kind) × (n ≤ 64) ⌝ }
-    ensures { λ r. ⌜ Walked (now (sheet .entry)) (itemsEnd (now (s .entry)) (now (source .entry)) (now (sheet .entry)) depth [] (pairs n key val) start pos (now (out .entry))) r (now (out .exit)) ⌝ }
+    requires { ⌜ Ready (now s) (now sheet) (now out) start pos judging (itemsIn (now s) (now source) (now sheet) depth [] (pairs n (t .a) (t .b)) start) × MapRow (now s) t × (n ≤ 64) ⌝ }
+    ensures { λ r. ⌜ Walked (now (sheet .entry)) (itemsEnd (now (s .entry)) (now (source .entry)) (now (sheet .entry)) depth [] (pairs n (t .a) (t .b)) start pos (now (out .entry))) r (now (out .exit)) ⌝ }
 {
-    let mut keys = [0usize; 2 * MOST_PAIRS + 8];
+    let mut keys = [0usize; 2 * (MOST_PAIRS + FLAG_CELLS)];
     write_pairs(
         s,
         sheet,
         source,
         out,
         &mut keys,
-        key,
-        val,
+        t,
         n,
         start,
         pos,
         depth,
         judging,
     )
+}
+
+// Key i of a map, of a kind from 1 to 13, in a row. It is kept in `keys`.
+fn write_key(
+    sheet: &[u32],
+    source: &[u8],
+    out: &mut [u8],
+    keys: &mut [usize],
+    i: usize,
+    kind: usize,
+    key: u32,
+    row: usize,
+    pos: usize,
+    depth: usize,
+    judging: bool,
+) -> Walk
+    requires { ⌜ KeyReady (now source) (now sheet) (now out) (now keys) i kind key row pos depth judging ⌝ }
+    ensures { λ r. ⌜ KeyPut (now (source .entry)) (now (sheet .entry)) (now (out .entry)) (now (keys .entry)) i kind key row pos depth judging r (now (out .exit)) (now (keys .exit)) ⌝ }
+{
+    if depth == 0 {
+        return refused(refusal::TOO_DEEP, row);
+    }
+    match leaf_row(sheet, source, kind, key, row, judging) {
+        Leaf::Refused { number } => refused(number, row),
+        Leaf::At { place, length } => {
+            if is_repeated(source, keys, i, place, length, judging) {
+                return refused(refusal::REPEATED_KEY, row);
+            }
+            let next = put_content(out, pos, kind, source, place, length);
+            Walk::Past {
+                row: row + 1,
+                pos: next,
+            }
+        }
+    }
 }
 
 // The n pairs of a map from a row on. What `keys` holds afterwards means nothing.
@@ -377,93 +376,74 @@ fn write_pairs(
     source: &[u8],
     out: &mut [u8],
     keys: &mut [usize],
-    key: u32,
-    val: u32,
+    t: TypeRow,
     n: usize,
     start: usize,
     pos: usize,
     depth: usize,
     judging: bool,
 ) -> Walk
-    requires { ⌜ Ready (now s) (now sheet) (now out) start pos judging (itemsIn (now s) (now source) (now sheet) depth [] (pairs n key val) start) ⌝ }
-    requires { ⌜ (0 < rowAt (tableOf (now s)) key .kind) × (rowAt (tableOf (now s)) key .kind < 14) × (0 < rowAt (tableOf (now s)) val .kind) × (n + 4 ≤ length (now keys) / 2) × (n ≤ 64) ⌝ }
-    ensures { λ r. ⌜ Walked (now (sheet .entry)) (itemsEnd (now (s .entry)) (now (source .entry)) (now (sheet .entry)) depth [] (pairs n key val) start pos (now (out .entry))) r (now (out .exit)) ⌝ }
+    requires { ⌜ Ready (now s) (now sheet) (now out) start pos judging (itemsIn (now s) (now source) (now sheet) depth [] (pairs n (t .a) (t .b)) start) × MapRow (now s) t × (n + 4 ≤ length (now keys) / 2) × (n ≤ 64) ⌝ }
+    ensures { λ r. ⌜ Walked (now (sheet .entry)) (itemsEnd (now (s .entry)) (now (source .entry)) (now (sheet .entry)) depth [] (pairs n (t .a) (t .b)) start pos (now (out .entry))) r (now (out .exit)) ⌝ }
 {
-    let k = type_row(s, key as usize);
-    let v = type_row(s, val as usize);
+    let k = known_row(s, t.a as usize).kind as usize;
+    let v = known_row(s, t.b as usize);
     let mut i = 0;
-    let mut here = start;
+    let mut at = start;
     let mut to = pos;
     while i < n {
-        if depth == 0 {
-            return refused(refusal::TOO_DEEP, here);
-        }
-        match leaf_row(sheet, source, k.kind as usize, key, here, judging) {
-            Leaf::Refused { number } => {
-                return refused(number, here);
+        match write_key(sheet, source, out, keys, i, k, t.a, at, to, depth, judging) {
+            Walk::Refused { number, place } => {
+                return Walk::Refused { number, place };
             }
-            Leaf::At { place, length } => {
-                if is_repeated(source, keys, i, place, length, judging) {
-                    return refused(refusal::REPEATED_KEY, here);
+            Walk::Past { row, pos } => {
+                at = row;
+                to = pos;
+            }
+        }
+        if kind::BYTES < v.kind {
+            match write_composite(s, sheet, source, out, t.b, v, at, to, depth, judging) {
+                Walk::Refused { number, place } => {
+                    return Walk::Refused { number, place };
                 }
-                let next = put_content(out, to, k.kind as usize, source, place, length);
-                if kind::BYTES < v.kind {
-                    match write_composite(
-                        s,
-                        sheet,
-                        source,
-                        out,
-                        val,
-                        v,
-                        here + 1,
-                        next,
-                        depth - 1,
-                        judging,
-                    ) {
-                        Walk::Refused { number, place } => {
-                            return Walk::Refused { number, place };
-                        }
-                        Walk::Past { row, pos } => {
-                            here = row;
-                            to = pos;
-                        }
-                    }
-                } else {
-                    match leaf_row(sheet, source, v.kind as usize, val, here + 1, judging) {
-                        Leaf::Refused { number } => {
-                            return refused(number, here + 1);
-                        }
-                        Leaf::At { place, length } => {
-                            to = put_content(out, next, v.kind as usize, source, place, length);
-                            here = here + 2;
-                        }
-                    }
+                Walk::Past { row, pos } => {
+                    at = row;
+                    to = pos;
+                }
+            }
+        } else {
+            match leaf_row(sheet, source, v.kind as usize, t.b, at, judging) {
+                Leaf::Refused { number } => {
+                    return refused(number, at);
+                }
+                Leaf::At { place, length } => {
+                    to = put_content(out, to, v.kind as usize, source, place, length);
+                    at = at + 1;
                 }
             }
         }
         i = i + 1;
     }
-    Walk::Past { row: here, pos: to }
+    Walk::Past { row: at, pos: to }
 }
 
-// A struct of type ty, which has n fields from the first on, as a run of one. It is a function of its own, which is inlined: called
+// So many structs of type ty from a row on, whose type row is t. It is a function of its own, which is inlined: called
 // outright, the arguments of that call would be copied for arrays and maps too.
-fn write_one_struct(
+fn write_run(
     s: &[u8],
     sheet: &[u32],
     source: &[u8],
     out: &mut [u8],
     ty: u32,
-    first: usize,
+    t: TypeRow,
     n: usize,
     row: usize,
     pos: usize,
     depth: usize,
     judging: bool,
 ) -> Walk
-    requires { ⌜ Ready (now s) (now sheet) (now out) row pos judging (valueIn (now s) (now source) (now sheet) (suc depth) ty row) × (shapeIn (now s) ty ≡ struct (fieldsFrom (tableOf (now s)) first n)) ⌝ }
-    requires { ⌜ (0 < n) × (n ≤ 64) × (first + n ≤ length (tableOf (now s) .fields)) ⌝ }
-    ensures { λ r. ⌜ Walked (now (sheet .entry)) (valueEnd (now (s .entry)) (now (source .entry)) (now (sheet .entry)) (suc depth) ty row pos (now (out .entry))) r (now (out .exit)) ⌝ }
+    requires { ⌜ Ready (now s) (now sheet) (now out) row pos judging (itemsIn (now s) (now source) (now sheet) depth [] (replicate n (plainItem ty)) row) × (t ≡ rowAt (tableOf (now s)) ty) × (t .kind ≡ 16) × (0 < depth) ⌝ }
+    ensures { λ r. ⌜ Walked (now (sheet .entry)) (itemsEnd (now (s .entry)) (now (source .entry)) (now (sheet .entry)) depth [] (replicate n (plainItem ty)) row pos (now (out .entry))) r (now (out .exit)) ⌝ }
 {
     write_structs(
         s,
@@ -471,12 +451,12 @@ fn write_one_struct(
         source,
         out,
         ty,
-        first,
+        t.a as usize,
+        t.b as usize,
         n,
-        1,
         row,
         pos,
-        depth,
+        depth - 1,
         judging,
     )
 }
@@ -590,8 +570,42 @@ fn write_struct(
     }
 }
 
+// A value of type ty in a row. It has one call site, into which it is inlined, since most fields are scalars, strings or bytes.
+fn write_value(
+    s: &[u8],
+    sheet: &[u32],
+    source: &[u8],
+    out: &mut [u8],
+    ty: u32,
+    row: usize,
+    pos: usize,
+    depth: usize,
+    judging: bool,
+) -> Walk
+    requires { ⌜ Ready (now s) (now sheet) (now out) row pos judging (valueIn (now s) (now source) (now sheet) depth ty row) × (0 < rowAt (tableOf (now s)) ty .kind) ⌝ }
+    ensures { λ r. ⌜ Walked (now (sheet .entry)) (valueEnd (now (s .entry)) (now (source .entry)) (now (sheet .entry)) depth ty row pos (now (out .entry))) r (now (out .exit)) ⌝ }
+{
+    let t = known_row(s, ty as usize);
+    let kind = t.kind as usize;
+    if ARRAY <= kind {
+        return write_composite(s, sheet, source, out, ty, t, row, pos, depth, judging);
+    }
+    if depth == 0 {
+        return refused(refusal::TOO_DEEP, row);
+    }
+    match leaf_row(sheet, source, kind, ty, row, judging) {
+        Leaf::Refused { number } => refused(number, row),
+        Leaf::At { place, length } => {
+            let next = put_content(out, pos, kind, source, place, length);
+            Walk::Past {
+                row: row + 1,
+                pos: next,
+            }
+        }
+    }
+}
+
 // The fields of a struct whose bits are set in `known`, from the row `start` on.
-// Most fields are scalars, strings or bytes: these are written in the loop itself, without a call of their own.
 fn write_fields(
     s: &[u8],
     sheet: &[u32],
@@ -616,41 +630,14 @@ fn write_fields(
     let mut to = pos;
     while bits != 0 {
         if bits % 2 == 1 {
-            if depth == 0 {
-                return refused(refusal::TOO_DEEP, here);
-            }
             let f = field_row(s, l, i);
-            let t = row(s, l, f.ty as usize);
-            if kind::BYTES < t.kind {
-                match write_composite(
-                    s,
-                    sheet,
-                    source,
-                    out,
-                    f.ty,
-                    t,
-                    here,
-                    to,
-                    depth - 1,
-                    judging,
-                ) {
-                    Walk::Refused { number, place } => {
-                        return Walk::Refused { number, place };
-                    }
-                    Walk::Past { row, pos } => {
-                        here = row;
-                        to = pos;
-                    }
+            match write_value(s, sheet, source, out, f.ty, here, to, depth, judging) {
+                Walk::Refused { number, place } => {
+                    return Walk::Refused { number, place };
                 }
-            } else {
-                match leaf_row(sheet, source, t.kind as usize, f.ty, here, judging) {
-                    Leaf::Refused { number } => {
-                        return refused(number, here);
-                    }
-                    Leaf::At { place, length } => {
-                        to = put_content(out, to, t.kind as usize, source, place, length);
-                        here = here + 1;
-                    }
+                Walk::Past { row, pos } => {
+                    here = row;
+                    to = pos;
                 }
             }
             bits = bits / 2;
@@ -662,6 +649,45 @@ fn write_fields(
         }
     }
     Walk::Past { row: here, pos: to }
+}
+
+// The known fields of the root from row 1 on, of those that it has from the first on. No row is left over.
+fn root_fields(
+    s: &[u8],
+    sheet: &[u32],
+    source: &[u8],
+    out: &mut [u8],
+    first: usize,
+    n: usize,
+    known: u64,
+    to: usize,
+    judging: bool,
+) -> Walk
+    requires { ⌜ Ready (now s) (now sheet) (now out) 1 to judging (itemsIn (now s) (now source) (now sheet) 15 [] (present (fieldsFrom (tableOf (now s)) first n) known) 1) ⌝ }
+    requires { ⌜ (n ≤ 64) × (known < 2 ^ n) × (first + n ≤ length (tableOf (now s) .fields)) ⌝ }
+    ensures { λ r. ⌜ Walked (now (sheet .entry)) (wholeEnd (itemsEnd (now (s .entry)) (now (source .entry)) (now (sheet .entry)) 15 [] (present (fieldsFrom (tableOf (now (s .entry))) first n) known) 1 to (now (out .entry)))) r (now (out .exit)) ⌝ }
+{
+    match write_fields(
+        s,
+        sheet,
+        source,
+        out,
+        first,
+        n,
+        known,
+        1,
+        to,
+        limit::BELOW_ROOT,
+        judging,
+    ) {
+        Walk::Refused { number, place } => Walk::Refused { number, place },
+        Walk::Past { row, pos } => {
+            if row < sheet.len() / 4 {
+                return refused(refusal::SHEET, row);
+            }
+            Walk::Past { row, pos }
+        }
+    }
 }
 
 // The root, a struct of type ty that has n fields from the first on, in row 0. Its unknown bits are left out, and no row is left over.
@@ -697,27 +723,7 @@ pub fn root(
                     return refused(refusal::SHEET, 0);
                 }
                 let next = put_bits(out, 0, (n + 7) / 8, known);
-                match write_fields(
-                    s,
-                    sheet,
-                    source,
-                    out,
-                    first,
-                    n,
-                    known,
-                    1,
-                    next,
-                    limit::BELOW_ROOT,
-                    judging,
-                ) {
-                    Walk::Refused { number, place } => Walk::Refused { number, place },
-                    Walk::Past { row, pos } => {
-                        if row < sheet.len() / 4 {
-                            return refused(refusal::SHEET, row);
-                        }
-                        Walk::Past { row, pos }
-                    }
-                }
+                root_fields(s, sheet, source, out, first, n, known, next, judging)
             }
         },
     }

@@ -167,7 +167,11 @@ impl Lines {
             "2 types, 256 methods, identifiers in no order",
             samples::table_of_scattered_methods(256),
         );
-        for (input, schema) in &[full, methods, scattered] {
+        let apart = (
+            "2 types, 256 methods, identifiers 45,202 apart",
+            samples::table_of_methods_apart(256, 45_202),
+        );
+        for (input, schema) in &[full, methods, scattered, apart] {
             self.line(table, "table check", input, |run| run.check_table(schema))?;
         }
         let payloads = samples::payloads();
@@ -201,20 +205,11 @@ impl Lines {
         self.line(table, "table check", "256 methods of one flag", |run| {
             run.check_table(&one_flag)
         })?;
-        for keys in [
-            samples::maps_of_one_flag(),
-            samples::maps_of_shared_digests(),
-        ] {
+        for keys in [samples::maps_of_one_flag(), samples::maps_of_lengths()] {
             self.line(table, "read", keys.name, |run| run.read(&keys))?;
             self.line(table, "write", keys.name, |run| run.write(&keys))?;
         }
         let receipt = samples::receipt();
-        let few = (0..127).map(|call| call * 5473).collect();
-        let few = arrival(&receipt, 8, few, &[]);
-        let input = "CANCEL, correlations 5,473 apart, of six flags";
-        self.line(table, "receive, 127 calls open", input, |run| {
-            run.receive(&few)
-        })?;
         let same = arrival(&receipt, 8, samples::correlations_of_one_flag(127), &[]);
         let input = "CANCEL, correlations of one flag";
         self.line(table, "receive, 127 calls open", input, |run| {
@@ -243,6 +238,7 @@ impl Lines {
         for (distance, input) in [
             (1 << 32, "CANCEL, correlations alike in their low 32 bits"),
             (1021, "CANCEL, correlations 1,021 apart"),
+            (5473, "CANCEL, correlations 5,473 apart"),
         ] {
             let apart = (0..127).map(|call| call * distance).collect();
             let arrival = arrival(8, apart, &[]);

@@ -70,25 +70,37 @@ pub fn table_of_scattered_methods(methods: usize) -> Vec<u8> {
     table_of_names((0..methods).map(|_| [next(), next(), next()]))
 }
 
-/// A good table whose methods' identifiers are chosen to share the flag by
-/// which the library looks for a method with the same identifiers. `fast` takes
-/// its first slot from the same number.
-pub fn table_of_one_flag(methods: usize) -> Vec<u8> {
-    let flag = |method: u32| {
-        let names = (1u64 + (2 << 32)).wrapping_mul(0x369D_EA0F_31A5_3F85);
-        names.wrapping_add(u64::from(method).wrapping_mul(0xD6E8_FEB8_6659_FD93)) >> 52
-    };
-    let chosen = (0..u32::MAX).filter(|&method| flag(method) == 5);
-    table_of_names(chosen.take(methods).map(|method| [1, 2, method]))
+/// The same, with a distance between two and two of their last identifiers.
+pub fn table_of_methods_apart(methods: usize, distance: u32) -> Vec<u8> {
+    table_of_names((0..methods as u32).map(|method| [1, 2, distance * method]))
 }
 
-/// Correlations that are chosen to share the flag by which the library looks
-/// for two calls with one correlation. `fast` takes its first slot from the
-/// same number.
+/// A number mixed as the library mixes it: by the two products of splitmix64.
+fn mixed(x: u64) -> u64 {
+    let once = (x ^ x >> 30).wrapping_mul(0xBF58_476D_1CE4_E5B9);
+    (once ^ once >> 27).wrapping_mul(0x94D0_49BB_1331_11EB)
+}
+
+/// A good table whose methods' identifiers are chosen against the flags by
+/// which the library looks for a method with the same identifiers: those of
+/// their sums are so few that it gives them up, and those of their mixed numbers
+/// are one. `fast` takes its first slots from the same numbers.
+pub fn table_of_one_flag(methods: usize) -> Vec<u8> {
+    let names = 1u64 + (2 << 32);
+    let (sum, seed) = (names.wrapping_mul(0x369D_EA0F_31A5_3F85), mixed(names));
+    let few = |method: u64| sum.wrapping_add(method.wrapping_mul(0xD6E8_FEB8_6659_FD93)) >> 60 == 0;
+    let one = |method: u64| mixed(seed.wrapping_add(method)) >> 52 == 5;
+    let all = (0..u32::MAX).filter(|&method| few(method.into()) && one(method.into()));
+    table_of_names(all.take(methods).map(|method| [1, 2, method]))
+}
+
+/// Correlations that are chosen in the same way against the flags by which the
+/// library looks for two calls with one correlation.
 pub fn correlations_of_one_flag(calls: usize) -> Vec<u64> {
-    let flag = |correlation: u64| correlation.wrapping_mul(0x9E37_79B9_7F4A_7C15) >> 54;
-    let chosen = (0..u64::MAX).filter(|&correlation| flag(correlation) == 5);
-    chosen.take(calls).collect()
+    let few = |correlation: u64| correlation.wrapping_mul(0x9E37_79B9_7F4A_7C15) >> 60 == 0;
+    let one = |correlation: u64| mixed(correlation) >> 54 == 5;
+    let all = (0..u64::MAX).filter(|&correlation| few(correlation) && one(correlation));
+    all.take(calls).collect()
 }
 
 /// A good table of one struct and methods with these identifiers.
@@ -318,10 +330,10 @@ pub fn maps_of_one_flag() -> Sample {
     maps(name, 64, BYTE, UINT16, |index| vec![7, index as u8])
 }
 
-/// Maps whose keys are chosen so that two and two have one digest of the
-/// library's: 32 strings of seven bytes, and the same with a byte 7 after them.
-pub fn maps_of_shared_digests() -> Sample {
-    let name = "64-pair maps, string keys of one digest by twos";
+/// Maps whose keys are 32 strings of seven bytes, and the same with a byte 7
+/// after them, which the library's digests tell apart by hashing alone.
+pub fn maps_of_lengths() -> Sample {
+    let name = "64-pair maps, string keys by twos, one with a byte 7 more";
     maps(name, 64, WORD, STRING, |index| {
         let key = format!("receip{}", char::from(0x40 + (index % 32) as u8));
         text(&[key.as_bytes(), &[7][..index / 32]].concat())

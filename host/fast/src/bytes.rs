@@ -49,3 +49,10 @@ fn number_at_end(s: &[u8], at: usize, n: usize) -> u64 {
     let bytes = s[at..at + n].iter().rev();
     bytes.fold(0, |number, &byte| number << 8 | u64::from(byte))
 }
+
+/// A number mixed by the two products of splitmix64.
+#[inline(always)]
+pub fn mixed(x: u64) -> u64 {
+    let once = (x ^ x >> 30).wrapping_mul(0xBF58_476D_1CE4_E5B9);
+    (once ^ once >> 27).wrapping_mul(0x94D0_49BB_1331_11EB)
+}

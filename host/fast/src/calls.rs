@@ -1,6 +1,6 @@
 //! The call table, and one frame against it.
 
-use crate::bytes::u32_at;
+use crate::bytes::{mixed, u32_at};
 use crate::frame::{read_frame, Frame, FrameAnswer};
 use crate::reader::{read_checked, Reading};
 use crate::scratch::{with, Scratch};
@@ -139,12 +139,35 @@ const GOOD: u32 = {
 struct Seen {
     open: usize,
     free: usize,
+    /// The index is by numbers mixed.
+    mixing: bool,
     index: [u8; 512],
 }
 
+/// What became of a look at the slots: how many are open and which is the first
+/// that is free, where they are good.
+enum Looked {
+    Good {
+        open: usize,
+        free: usize,
+    },
+    Bad,
+    /// Given up: so many correlations lie in a place of the index that is taken.
+    Crowded,
+}
+
+/// As many places may be passed over before the numbers are mixed.
+const CROWDED: usize = 256;
+
+/// The first place of a correlation in the index: top bits of the number whose
+/// top bits are the library's flag.
 #[inline(always)]
-fn hash(correlation: u64) -> usize {
-    (correlation.wrapping_mul(0x9E37_79B9_7F4A_7C15) >> 55) as usize
+fn hash(correlation: u64, mixing: bool) -> usize {
+    let number = match mixing {
+        true => mixed(correlation),
+        false => correlation.wrapping_mul(0x9E37_79B9_7F4A_7C15),
+    };
+    (number >> 55) as usize
 }
 
 /// A frame that the order of calls allows: its slot, the record there once it
@@ -210,44 +233,68 @@ impl CallTable {
 
     /// Whether the slots are good by themselves and their correlations differ.
     #[inline(always)]
-    fn look(&self, table: &Table, seen: &mut Seen) -> bool {
+    fn look<const MIXING: bool>(&self, table: &Table, index: &mut [u8; 512]) -> Looked {
+        let (mut open, mut free, mut passed) = (0, SLOTS, 0);
         for (i, &slot) in self.slots.iter().enumerate() {
             if !slot.is_open() {
                 if slot != Slot::default() {
-                    return false;
+                    return Looked::Bad;
                 }
-                if seen.free == SLOTS {
-                    seen.free = i;
+                if free == SLOTS {
+                    free = i;
                 }
                 continue;
             }
             let Some(method) = table.methods.get(slot.method()) else {
-                return false;
+                return Looked::Bad;
             };
             let form = u64::from(method[12]) & 3;
             if GOOD >> (form << 3 | slot.marks()) & 1 == 0 || !slot.has_streams(form) {
-                return false;
+                return Looked::Bad;
             }
-            seen.open += 1;
-            let mut at = hash(slot.correlation);
-            loop {
-                let there = seen.index[at & 511];
-                if there == 0 {
-                    break;
+            open += 1;
+            let mut at = hash(slot.correlation, MIXING);
+            if index[at] != 0 {
+                let Some(steps) = self.pass(index, at, slot.correlation) else {
+                    return Looked::Bad;
+                };
+                passed += steps;
+                if !MIXING && passed > CROWDED {
+                    return Looked::Crowded;
                 }
-                if self.slots[(usize::from(there) - 1) & 127].correlation == slot.correlation {
-                    return false;
-                }
-                at += 1;
+                at += steps;
             }
-            seen.index[at & 511] = i as u8 + 1;
+            index[at & 511] = i as u8 + 1;
         }
-        true
+        Looked::Good { open, free }
+    }
+
+    /// How far the first free place of the index is, or none where a place passed
+    /// over has this correlation.
+    #[inline(never)]
+    fn pass(&self, index: &[u8; 512], from: usize, correlation: u64) -> Option<usize> {
+        let mut steps = 0;
+        loop {
+            let there = index[(from + steps) & 511];
+            if there == 0 {
+                return Some(steps);
+            }
+            if self.slots[(usize::from(there) - 1) & 127].correlation == correlation {
+                return None;
+            }
+            steps += 1;
+        }
+    }
+
+    #[cold]
+    fn look_mixing(&self, table: &Table, index: &mut [u8; 512]) -> Looked {
+        *index = [0; 512];
+        self.look::<true>(table, index)
     }
 
     #[inline(always)]
     fn find(&self, seen: &Seen, correlation: u64) -> Option<usize> {
-        let mut at = hash(correlation);
+        let mut at = hash(correlation, seen.mixing);
         loop {
             let there = usize::from(seen.index[at & 511]);
             if there == 0 {
@@ -271,17 +318,24 @@ impl CallTable {
         rows: usize,
     ) -> Result<(Table<'a>, Seen), Refusal> {
         let table = check(schema, &mut scratch.info)?;
-        let mut seen = Seen {
-            open: 0,
-            free: SLOTS,
-            index: [0; 512],
-        };
-        if !self.look(&table, &mut seen) {
-            return Err(Refusal::of(15));
+        let mut index = [0; 512];
+        let mut looked = self.look::<false>(&table, &mut index);
+        let mixing = matches!(looked, Looked::Crowded);
+        if mixing {
+            looked = self.look_mixing(&table, &mut index);
         }
+        let Looked::Good { open, free } = looked else {
+            return Err(Refusal::of(15));
+        };
         if rows != table.methods.len() {
             return Err(Refusal::of(19));
         }
+        let seen = Seen {
+            open,
+            free,
+            mixing,
+            index,
+        };
         Ok((table, seen))
     }
 

@@ -1,6 +1,6 @@
 //! The check of the schema table; it leaves the type rows in a short form.
 
-use crate::bytes::{u32_at, u64_at};
+use crate::bytes::{mixed, u32_at, u64_at};
 use crate::Refusal;
 
 /// A type row in a short form.
@@ -152,17 +152,29 @@ fn check_methods(methods: &[[u8; 32]], types: &[[u8; 12]]) -> Result<(), Refusal
 
 #[inline(never)]
 fn check_many(methods: &[[u8; 32]], types: &[[u8; 12]]) -> Result<(), Refusal> {
+    check_hashed::<false>(methods, types)
+        .or_else(|| check_hashed::<true>(methods, types))
+        .unwrap_or(Ok(()))
+}
+
+/// As many slots may be passed over before the numbers are mixed.
+const CROWDED: usize = 512;
+
+/// Looks for the same identifiers by a table of slots; none where so many lie
+/// in a slot that is taken that it was given up. With mixed numbers it is not.
+#[inline(always)]
+fn check_hashed<const MIXING: bool>(
+    methods: &[[u8; 32]],
+    types: &[[u8; 12]],
+) -> Option<Result<(), Refusal>> {
     let mut slots = [0u16; 1024];
+    let mut passed = 0;
     for (i, row) in methods.iter().enumerate() {
         if !formed(types, row) {
-            return refuse(44, i);
+            return Some(refuse(44, i));
         }
         let own = ids(row);
-        let mixed = own
-            .0
-            .wrapping_mul(0x369D_EA0F_31A5_3F85)
-            .wrapping_add((own.1 as u64).wrapping_mul(0xD6E8_FEB8_6659_FD93));
-        let mut at = (mixed >> 54) as usize;
+        let mut at = (number_of::<MIXING>(own) >> 54) as usize;
         loop {
             let there = slots[at & 1023];
             if there == 0 {
@@ -170,10 +182,26 @@ fn check_many(methods: &[[u8; 32]], types: &[[u8; 12]]) -> Result<(), Refusal> {
                 break;
             }
             if ids(&methods[there as usize - 1]) == own {
-                return refuse(44, i);
+                return Some(refuse(44, i));
+            }
+            passed += 1;
+            if !MIXING && passed == CROWDED {
+                return None;
             }
             at += 1;
         }
     }
-    Ok(())
+    Some(Ok(()))
+}
+
+/// The number whose top bits are the slot: the library's, whose flags are more
+/// of these bits.
+#[inline(always)]
+fn number_of<const MIXING: bool>((names, method): (u64, u32)) -> u64 {
+    if MIXING {
+        return mixed(mixed(names).wrapping_add(method as u64));
+    }
+    names
+        .wrapping_mul(0x369D_EA0F_31A5_3F85)
+        .wrapping_add((method as u64).wrapping_mul(0xD6E8_FEB8_6659_FD93))
 }

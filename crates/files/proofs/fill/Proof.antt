@@ -20,15 +20,15 @@ loop-holds c = (refl, omega arith)
 
 -- what a turn leaves of the buffer is as long as it was, and holds what was read
 kept : (c : tie.After-slice-known2 Inv-loop μ-loop) → let here = c .before .before .before .before .before .before .loop in
-    length (putMid (here .n) (length (here .buf) - here .n) (here .buf) (c .before .before .some .last .1 .1 .1 .0)) ≡ length (here .buf)
+    length (putMid (here .n) (length (here .buf) - here .n) (here .buf) (c .before .before .read-once .last .1 .1 .1 .0)) ≡ length (here .buf)
 kept c =
     let here = c .before .before .before .before .before .before .loop in
-    same-len-mid (here .n) (length (here .buf) - here .n) (here .buf) (c .before .before .some .last .1 .1 .1 .0) (c .before .before .some .kept .1 .1 .1 .0)
+    same-len-mid (here .n) (length (here .buf) - here .n) (here .buf) (c .before .before .read-once .last .1 .1 .1 .0) (c .before .before .read-once .kept .1 .1 .1 .0)
 
-inside : (c : tie.After-slice-known2 Inv-loop μ-loop) → let here = c .before .before .before .before .before .before .loop in here .n + c .before .before .some .result ≤ length (here .buf)
+inside : (c : tie.After-slice-known2 Inv-loop μ-loop) → let here = c .before .before .before .before .before .before .loop in here .n + c .before .before .read-once .result ≤ length (here .buf)
 inside c =
     let here = c .before .before .before .before .before .before .loop in
-    omega (arith, here .inv .1, c .before .before .some .ensures .0, c .before .before .some .kept .1 .1 .1 .0, mid-len (here .n) (length (here .buf)) (here .buf) (omega arith))
+    omega (arith, here .inv .1, c .before .before .read-once .ensures .0, c .before .before .read-once .kept .1 .1 .1 .0, mid-len (here .n) (length (here .buf)) (here .buf) (omega arith))
 
 same-length : tie.Need-same-length Inv-loop μ-loop
 same-length c = kept (c .before) ∙ c .before .before .before .before .before .before .before .loop .inv .0

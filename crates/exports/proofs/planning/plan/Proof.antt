@@ -1,11 +1,11 @@
--- `exports::planning::plan` meets its contract: the verdict on the schema table and the front of the bytes pick the case, and the cells give the seat.
+-- `exports::planning::plan` meets its contract: the verdict on the schema table and the front of the bytes pick the case, and the cells give the slot.
 use mathlib.Core.Path.{sym, ap, _∙_}
 use mathlib.Core.Bool.{Bool}
 use denote.Ref.{now}
 use borrow.Author.Needs.{needs}
 use Rattle.schema.specs.File.{tableOf}
-use Rattle.calls.specs.declared.Seat.{Seat}
-use Rattle.receiver.specs.Planning.{frontOf, seatPlan, goodPlan}
+use Rattle.calls.specs.declared.OwnSlot.{OwnSlot}
+use Rattle.receiver.specs.Planning.{frontOf, slotPlan, goodPlan}
 use Rattle.receiver.proofs.Returns.{plan-faulty, plan-good, good-stop, good-whole}
 use Rattle.exports.specs.Records.{callsOf}
 use Rattle.exports.proofs.Plans.{goodCells, cells-plan}
@@ -45,8 +45,8 @@ returns-2 c =
 
 returns-3 : tie.Need-returns-3
 returns-3 c =
-    let seat = c .before in
-    let whole = seat .before .before .before in
+    let slot = c .before in
+    let whole = slot .before .before .before in
     let front = whole .before .before in
     let good = front .before .before in
     let told = good .before .before in
@@ -59,7 +59,7 @@ returns-3 c =
     let here = goodCells cells s (a .rows) in
     let is = front .front .ensures ∙ ap (λ (b : Bool). frontOf b (a .rows) T (a .side) bytes) (good .are-good .ensures .0) in
     let h = whole .frame .given in
-    let e = c .plan-frame .ensures ∙ ap (λ (x : Seat). seatPlan T (h .0 .0) x (h .0 .1 .0) (h .0 .1 .1 .0)) (seat .seat .ensures) in
+    let e = c .plan-frame .ensures ∙ ap (λ (x : OwnSlot). slotPlan T (h .0 .0) x (h .0 .1 .0) (h .0 .1 .1 .0)) (slot .own-slot .ensures) in
     cells-plan cells s (a .rows) (a .side) bytes (c .plan-frame .result)
     (plan-good s (goodPlan here (a .rows) T (a .side) bytes (callsOf cells)) (table .check .result) (table .check .ensures) (c .plan-frame .result) (told .enum-told .given .1)
     (good-whole here (a .rows) T (a .side) bytes (callsOf cells) (front .front .result) is (c .plan-frame .result) (h .0 .0) (h .0 .1 .0) (h .0 .1 .1 .0) (h .1) e))

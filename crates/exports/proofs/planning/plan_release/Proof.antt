@@ -4,7 +4,7 @@ use mathlib.Core.Bool.{Bool}
 use Prim.Native.Nat.{ℕ}
 use denote.Ref.{now}
 use Rattle.schema.specs.File.{tableOf}
-use Rattle.calls.specs.declared.Seat.{Seat}
+use Rattle.calls.specs.declared.OwnSlot.{OwnSlot}
 use Rattle.receiver.specs.Planning.{callPlan, tablesFault}
 use Rattle.exports.proofs.Plans.{cells-faulty, cells-stop, cells-call}
 use borrow.Author.Needs.{needs}
@@ -37,8 +37,8 @@ returns-2 c =
 
 returns-3 : tie.Need-returns-3
 returns-3 c =
-    let seat = c .before in
-    let fault = seat .before .before in
+    let slot = c .before in
+    let fault = slot .before .before in
     let good = fault .before in
     let told = good .before .before in
     let table = told .before .before in
@@ -47,7 +47,7 @@ returns-3 c =
     let is = fault .tables-fault .ensures ∙ ap (λ (b : Bool). tablesFault b (a .rows) (tableOf s)) (good .are-good .ensures .0) in
     let e =
     cells-call (now (a .cells)) s (a .rows) (a .correlation) (table .check .result) (table .check .ensures) (c .plan-call .result) (told .enum-told .given .1)
-    (fault .tables-fault .result) is (seat .before .if1 .left) (c .plan-call .ensures ∙ ap callPlan (seat .seat .ensures)) in
+    (fault .tables-fault .result) is (slot .before .if1 .left) (c .plan-call .ensures ∙ ap callPlan (slot .own-slot .ensures)) in
     (e, good .are-good .ensures .1)
 
 pub plan-release-spec : {M : Type 1} → statement M

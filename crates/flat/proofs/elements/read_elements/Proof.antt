@@ -1,31 +1,17 @@
 -- `flat::elements::read_elements` meets its contract. The invariant: what is left of the elements gives the same end, whatever is shown.
 use borrow.Author.Needs.{needs}
-use mathlib.Core.Path.{_≡_, refl, sym, ap, _∙_}
-use mathlib.Core.Bool.{false}
-use mathlib.Core.List.{[]}
-use Prim.Native.Nat.{ℕ, suc, _+_, _-_, _*_, _≤_}
+use mathlib.Core.Path.{_≡_, refl, _∙_}
+use Prim.Native.Nat.{ℕ, suc, _-_}
 use native.Mathlib.Omega.{arith}
-use lib.ListN.{length, replicate}
-use Rattle.parse.specs.Reader.{cursorAt, Accepted}
-use Rattle.schema.specs.Table.{Shape, array, shape}
-use Rattle.schema.specs.File.{tableOf}
-use Rattle.value.specs.Read.{plainItem, walk, parse}
+use Rattle.schema.specs.Table.{Shape}
 use Rattle.walks.specs.Shape.{shapeIn}
-use Rattle.walks.proofs.Items.{elements-none}
-use Rattle.walks.proofs.Walks.{deeper, deep}
-use Rattle.flat.specs.Walk.{told}
-use Rattle.flat.proofs.Steps.{renamed, was, stop-at, composite-past, composite-stop, rest-accepted, parse-deep}
-use Rattle.flat.proofs.Composites.{element-past, element-stop, element-accepted}
-use Rattle.flat.proofs.Turns.{described-own, aheadBy}
+use Rattle.flat.proofs.Turns.{described-own, Counting, counting-first, counting-own, counting-end, counting-below, counting-deep, counting-stop, counting-sum, counting-on, lifted}
 use Rattle.flat.proofs.elements.read_elements.Statement.{statement}
 use Rattle.flat.proofs.elements.read_elements.Tie as tie
 
 abbrev Inv-loop : tie.InvT-loop
 Inv-loop s p sheet₀ ty elem n start depth row judging f left₀ here₀ below₀ sum₀ sheet left here below sum =
-    ((R : ℕ → Shape)
-    → R elem ≡ shapeIn s elem
-    → aheadBy R s p depth (replicate left (plainItem elem)) here sum below sheet ≡ aheadBy R s p depth (replicate n (plainItem elem)) start 0 (row + 1) sheet₀)
-    × (here ≤ length p) × (below ≤ here) × (sum + 16 * start ≤ 16 * here) × (length sheet ≡ length sheet₀)
+    Counting (λ R. R elem ≡ shapeIn s elem) s p depth elem n start row sheet₀ left here sum below sheet
 
 abbrev μ-loop : tie.MeasureT-loop
 μ-loop s p sheet₀ ty elem n start depth row judging f left₀ here₀ below₀ sum₀ sheet left here below sum = left
@@ -37,115 +23,102 @@ read-elements-spec =
     Inv-loop
     μ-loop
     -- prepared-of-requires
-    (λ c κs. c .before .before .before .pre .0 .good)
+    (λ c κs. let pre = c .before .before .before .pre in pre .0 .good)
     -- add-below
-    (λ c. let pre = c .before .before .before .before .pre .0 in omega (arith, pre .small, pre .inside, pre .behind))
+    (λ c. let pre = c .before .before .before .before .pre in omega (arith, pre .0 .small, pre .0 .inside, pre .0 .behind))
     -- loop-holds
-    (λ c. let pre = c .before .before .before .before .pre .0 in (λ R shown. refl, pre .inside, pre .behind, omega arith, refl))
+    (λ c.
+    let args = c .before .before .before .before .args in
+    let pre = c .before .before .before .before .pre in
+    counting-first (λ R. R (args .elem) ≡ shapeIn (args .s .now) (args .elem)) (shapeIn (args .s .now)) refl (args .ty) (pre .0) _)
     -- same-length
-    (λ c. c .before .before .loop .inv .4)
+    (λ c. c .before .before .loop .inv .long)
     -- returns
-    (λ c R shown.
-    let args = c .before .before .before .before .before .before .before .args in
-    let loop = c .before .before .loop in
-    let S = shape (tableOf (args .s .now)) in
-    let P = parse S (args .depth) in
-    let here = cursorAt (args .p .now) (loop .here) in
-    composite-stop R S P (array (args .elem)) (args .ty) (args .start) (args .n) _ (args .row) (args .sheet .now) _ _ _ _ _
-    (element-stop R S P (args .elem) (loop .left) (c .before .loop-test .taken) here (loop .sum) (loop .below) (loop .sheet) _ _
-    (stop-at (told R S (args .elem)) _ (loop .below) (loop .sheet) _ _ (parse-deep S (args .depth) (args .elem) here (c .if1 .taken))) ∙ loop .inv .0 R shown))
+    (λ c.
+    let loop = c .before .before in
+    let args = loop .before .before .before .before .before .args in
+    let pre = loop .before .before .before .before .before .pre in
+    counting-deep (λ R. R (args .elem) ≡ shapeIn (args .s .now) (args .elem)) (shapeIn (args .s .now)) refl (args .ty) (pre .0) (loop .loop .inv) (c .before .loop-test .taken) (c .if1 .taken))
     -- sub-element
     (λ c. search needs)
     -- element-requires
     (λ c κs.
-    let args = c .before .before .before .before .before .before .before .before .args in
-    let pre = c .before .before .before .before .before .before .before .before .pre in
-    let loop = c .before .before .before .loop in
-    let f = c .before .before .before .before .prepared-of in
-    let S = shape (tableOf (args .s .now)) in
-    let P = parse S (args .depth) in
-    let p = args .p .now in
-    let here = cursorAt p (loop .here) in
-    let d0 = c .before .if1 .left in
-    let items = replicate (loop .left) (plainItem (args .elem)) in
-    let same = f .ensures .same in
-    let judged : args .judging ≡ false → Accepted (parse S (suc (args .depth - 1)) (args .elem) here) =
-    λ j.
-    deeper (λ k. Accepted (parse S k (args .elem) here)) (args .depth) d0
-    (element-accepted S S P (args .elem) (loop .left) (c .before .before .loop-test .taken) here (loop .sum) (loop .below) (loop .sheet)
-    (rest-accepted S S P (array (args .elem)) (args .ty) (args .start) (args .n) (cursorAt p (args .start)) (args .row) (args .sheet .now)
-    (walk P [] items here) items (loop .sum) (loop .below) (loop .sheet) (loop .inv .0 S refl) (pre .0 .judged j))) in
-    let level : args .depth ≡ suc (args .depth - 1) = omega (arith, d0) in (
-      rw same (record { good = pre .0 .good; small = pre .0 .small; inside = loop .inv .1; behind = loop .inv .2; judged = judged }),
+    let loop = c .before .before .before in
+    let args = loop .before .before .before .before .before .args in
+    let pre = loop .before .before .before .before .before .pre in
+    let ready = counting-below (λ R. R (args .elem) ≡ shapeIn (args .s .now) (args .elem)) (shapeIn (args .s .now)) refl (args .ty) (pre .0) (loop .loop .inv) (c .before .before .loop-test .taken) (c .before .if1 .left) in
+    let f = loop .before .prepared-of in
+    let level : args .depth ≡ suc (args .depth - 1) = omega (arith, c .before .if1 .left) in (
+      rw (f .ensures .same) ready,
       described-own (args .s .now) (args .elem) (f .result) (f .ensures),
-      rw (same, ← level) (pre .1),
+      rw (f .ensures .same, ← level) (pre .1),
     ))
     -- enum-known-number
     (λ c. search needs)
     -- same-length-2
-    (λ c. c .before .before .before .before .before .element .kept .1 .1 .1 .0 ∙ c .before .before .before .before .before .before .before .before .before .loop .inv .4)
+    (λ c. c .before .before .before .before .before .element .kept .1 .1 .1 .0 ∙ c .before .before .before .before .before .before .before .before .before .loop .inv .long)
     -- returns-2
-    (λ c R shown.
-    let back = c .before .before .before .before .before .before .before .before .before in
-    let args = back .before .before .before .before .before .args in
-    let loop = c .before .before .before .before .before .before .before .before .before .loop in
-    let S = shape (tableOf (args .s .now)) in
-    let P = parse S (args .depth) in
-    let p = args .p .now in
-    let here = cursorAt p (loop .here) in
-    let same = back .before .prepared-of .ensures .same in
-    let valued = rw same at (c .before .before .before .before .before .element .ensures) in
-    let w = renamed (ap (λ (k : ℕ). parse S k (args .elem) here) (deep (args .depth) (c .before .before .before .before .before .before .before .if1 .left))) (was (valued R shown) (c .before .number .given .1)) in
-    composite-stop R S P (array (args .elem)) (args .ty) (args .start) (args .n) _ (args .row) (args .sheet .now) _ _ _ _ _
-    (element-stop R S P (args .elem) (loop .left) (c .before .before .before .before .before .before .before .before .loop-test .taken) here (loop .sum) (loop .below) (loop .sheet) _ _ (w .same) ∙ loop .inv .0 R shown))
+    (λ c.
+    let c5 = c .before .before .before .before .before in
+    let c7 = c5 .before .before in
+    let c8 = c7 .before in
+    let c9 = c8 .before in
+    let loop = c9 in
+    let args = loop .before .before .before .before .before .args in
+    let pre = loop .before .before .before .before .before .pre in
+    let same = loop .before .prepared-of .ensures .same in
+    let Ok : (ℕ → Shape) → Type 0 = λ R. R (args .elem) ≡ shapeIn (args .s .now) (args .elem) in
+    let walked = lifted Ok (args .s .now) (args .depth) (loop .loop .here) same (c7 .if1 .left) (λ R shown. c5 .element .ensures R (rw same shown)) in
+    counting-stop Ok (shapeIn (args .s .now)) refl (args .ty) (pre .0) (loop .loop .inv) (c8 .loop-test .taken) walked (c .before .number .given .1))
     -- enum-known-due
     (λ c. search needs)
     -- add-sum
     (λ c.
-    let back = c .before .before .before .before .before .before .before .before .before in
-    let S = shape (tableOf (back .before .before .before .before .before .args .s .now)) in
-    let inv = back .loop .inv in
-    let w = rw (c .before .due .given .1) at (c .before .before .before .before .before .element .ensures S refl .within) in
-    omega (arith, inv .3, w .2, w .0, back .before .before .before .before .before .pre .0 .small))
+    let c5 = c .before .before .before .before .before in
+    let c7 = c5 .before .before in
+    let c8 = c7 .before in
+    let c9 = c8 .before in
+    let loop = c9 in
+    let args = loop .before .before .before .before .before .args in
+    let pre = loop .before .before .before .before .before .pre in
+    let same = loop .before .prepared-of .ensures .same in
+    let Ok : (ℕ → Shape) → Type 0 = λ R. R (args .elem) ≡ shapeIn (args .s .now) (args .elem) in
+    let walked = lifted Ok (args .s .now) (args .depth) (loop .loop .here) same (c7 .if1 .left) (λ R shown. c5 .element .ensures R (rw same shown)) in
+    let most = counting-sum Ok (shapeIn (args .s .now)) refl (args .ty) (pre .0) (loop .loop .inv) (c8 .loop-test .taken) walked (c .before .due .given .1) in
+    omega (arith, most))
     -- sub-left
     (λ c. search needs)
     -- loop-less
     (λ c. omega arith)
     -- loop-again
     (λ c.
-    let back = c .before .before .before .before .before .before .before .before .before in
-    let args = back .before .before .before .before .before .args in
-    let loop = c .before .before .before .before .before .before .before .before .before .loop in
-    let S = shape (tableOf (args .s .now)) in
-    let P = parse S (args .depth) in
-    let p = args .p .now in
-    let here = cursorAt p (loop .here) in
-    let same = back .before .prepared-of .ensures .same in
-    let inv = loop .inv in
-    let within = rw (c .before .due .given .1) at (c .before .before .before .before .before .element .ensures S refl .within) in (
-      λ R shown.
-          let valued = rw same at (c .before .before .before .before .before .element .ensures) in
-          let w = renamed (ap (λ (k : ℕ). parse S k (args .elem) here) (deep (args .depth) (c .before .before .before .before .before .before .before .if1 .left))) (was (valued R shown) (c .before .due .given .1)) in
-          sym (element-past R S P (args .elem) (loop .left) (c .before .before .before .before .before .before .before .before .loop-test .taken) here (loop .sum) (loop .below) (loop .sheet) _ _ _ _ (w .same)) ∙ inv .0 R shown,
-      within .0,
-      within .1,
-      omega (arith, inv .3, within .2),
-      c .before .before .before .before .before .element .kept .1 .1 .1 .0 ∙ inv .4,
-    ))
+    let c5 = c .before .before .before .before .before in
+    let c7 = c5 .before .before in
+    let c8 = c7 .before in
+    let c9 = c8 .before in
+    let loop = c9 in
+    let args = loop .before .before .before .before .before .args in
+    let pre = loop .before .before .before .before .before .pre in
+    let same = loop .before .prepared-of .ensures .same in
+    let Ok : (ℕ → Shape) → Type 0 = λ R. R (args .elem) ≡ shapeIn (args .s .now) (args .elem) in
+    let walked = lifted Ok (args .s .now) (args .depth) (loop .loop .here) same (c7 .if1 .left) (λ R shown. c5 .element .ensures R (rw same shown)) in
+    counting-on Ok (shapeIn (args .s .now)) refl (args .ty) (pre .0) (loop .loop .inv) (c8 .loop-test .taken) walked (c .before .due .given .1) (c5 .element .kept .1 .1 .1 .0))
     -- sub-put-row
-    (λ c. omega (arith, c .before .before .loop .inv .3))
+    (λ c. omega (arith, c .before .before .loop .inv .forth))
     -- put-row-requires
-    (λ c κs. let pre = c .before .before .before .before .before .before .before .pre in let inv = c .before .before .loop .inv in omega (arith, pre .0 .small, pre .0 .inside, pre .0 .behind, pre .2, inv .1, inv .2, inv .3))
+    (λ c κs.
+    let loop = c .before .before in
+    let args = loop .before .before .before .before .before .args in
+    let pre = loop .before .before .before .before .before .pre in
+    counting-own (λ R. R (args .elem) ≡ shapeIn (args .s .now) (args .elem)) (shapeIn (args .s .now)) refl (args .ty) (pre .0) (loop .loop .inv) (pre .2))
     -- same-length-3
-    (λ c. c .before .before .put-row .kept .0 ∙ c .before .before .before .before .before .loop .inv .4)
+    (λ c. c .before .before .put-row .kept .0 ∙ c .before .before .before .before .before .loop .inv .long)
     -- returns-3
-    (λ c R shown.
-    let back = c .before .before .before .before .before .before .before .before .before in
-    let loop = c .before .before .before .before .before .loop in
-    let args = back .before .args in
-    let S = shape (tableOf (args .s .now)) in
-    let p = args .p .now in
-    let inv = loop .inv in
-    composite-past R S (parse S (args .depth)) (array (args .elem)) (args .ty) (args .start) (args .n) (cursorAt p (args .start)) (args .row) (args .sheet .now)
-    p (args .start) (loop .here) (loop .sum) (loop .sum) (loop .below) (loop .sheet) _ [] (replicate (loop .left) (plainItem (args .elem)))
-    (elements-none (args .elem) (loop .left) (c .before .before .before .before .loop-test .left)) (inv .0 R shown) (omega arith) (c .before .before .put-row .ensures) (inv .1) (inv .2) (inv .3)))
+    (λ c.
+    let c2 = c .before .before in
+    let c4 = c2 .before .before in
+    let c5 = c4 .before in
+    let loop = c5 in
+    let args = loop .before .before .before .before .before .args in
+    let pre = loop .before .before .before .before .before .pre in
+    counting-end (λ R. R (args .elem) ≡ shapeIn (args .s .now) (args .elem)) (shapeIn (args .s .now)) refl (args .ty) (pre .0) (loop .loop .inv) (λ h. omega (arith, c4 .loop-test .left, h)) (c2 .put-row .ensures)))

@@ -1,7 +1,9 @@
 -- `flat::leaf::text` meets its contract.
-use mathlib.Core.Path.{sym, _∙_}
+use mathlib.Core.Logic.{⊎-elim}
 use native.Mathlib.Omega.{arith}
-use borrow.Author.Tests.{not-true, not-false}
+use borrow.Author.Tests.{not-true, not-false, eqb-true, eqb-false}
+use lib.Dec.{eqb}
+use Rattle.schema.proofs.Bools.{cases}
 use Rattle.flat.proofs.Leaves.{text-refused, text-in, text-known, text-bad, text-at, text-valid, text-plain}
 use borrow.Author.Needs.{needs}
 use Rattle.flat.proofs.leaf.text.Statement.{statement}
@@ -17,23 +19,29 @@ text-spec =
     (λ c. search needs)
     -- enum-known-n
     (λ c. search needs)
-    -- add-to
-    (λ c. let h = text-in _ (c .before .before .before .before .before .args .kind) _ _ (c .before .before .before .read-count .ensures) _ _ (c .before .n .given .1) in omega arith)
-    -- is-utf8-requires
-    (λ c κs. let h = text-in _ (c .before .before .before .before .before .before .args .kind) _ _ (c .before .before .before .before .read-count .ensures) _ _ (c .before .before .n .given .1) in (
-      h .1,
-      λ j. text-known _ (c .before .before .before .before .before .before .args .kind) _ _ (c .before .before .before .before .read-count .ensures) _ _ (c .before .before .n .given .1) (c .if1 .taken)
-          (c .before .before .before .before .before .before .pre .1 j),
-    ))
+    -- is-of-kind-requires
+    (λ c κs.
+    let kind = c .before .before .before .before .before .args .kind in
+    let read = c .before .before .before .read-count .ensures in
+    let is = c .before .n .given .1 in
+    (text-in _ kind _ _ read _ _ is .1, λ j k. text-known _ kind _ _ read _ _ is k (c .before .before .before .before .before .pre .1 j)))
     -- returns
-    (λ c. text-bad _ (c .before .before .before .before .before .before .before .before .args .kind) _ _ (c .before .before .before .before .before .before .read-count .ensures) _ _
-    (c .before .before .before .before .n .given .1) (c .before .before .if1 .taken) (sym (c .before .is-utf8 .ensures) ∙ not-true _ (c .if2 .taken)))
+    (λ c.
+    let bad = c .before .is-of-kind .ensures .1 (not-true _ (c .if1 .taken)) in
+    text-bad _ (c .before .before .before .before .before .before .before .args .kind) _ _ (c .before .before .before .before .before .read-count .ensures) _ _ (c .before .before .before .n .given .1) (bad .0) (bad .1))
+    -- add-to
+    (λ c.
+    let c3 = c .before .before .before in
+    let c5 = c3 .before .before in
+    let c7 = c5 .before .before in
+    let h = text-in _ (c7 .args .kind) _ _ (c5 .read-count .ensures) _ _ (c3 .n .given .1) in omega (arith, h .1, c7 .pre .0))
     -- returns-2
     (λ c. text-refused _ (c .before .before .before .before .before .args .kind) _ _ (c .before .before .before .read-count .ensures) _ (c .before .number .given .1))
     -- returns-3
-    (λ c. text-at _ (c .before .before .before .before .before .before .before .before .args .kind) _ _ (c .before .before .before .before .before .before .read-count .ensures) _ _
-    (c .before .before .before .before .n .given .1) (text-valid _ (c .before .before .before .before .before .before .before .before .args .kind) _ _ (c .before .before .before .before .before .before .read-count .ensures) _
-    _ (c .before .before .before .before .n .given .1) (c .before .before .if1 .taken) (sym (c .before .is-utf8 .ensures) ∙ not-false _ (c .if2 .left))))
-    -- returns-4
-    (λ c. text-at _ (c .before .before .before .before .before .before .args .kind) _ _ (c .before .before .before .before .read-count .ensures) _ _ (c .before .before .n .given .1)
-    (text-plain _ (c .before .before .before .before .before .before .args .kind) _ _ (c .before .before .before .before .read-count .ensures) _ _ (c .before .before .n .given .1) (c .if1 .left))))
+    (λ c.
+    let kind = c .before .before .before .before .before .before .before .args .kind in
+    let read = c .before .before .before .before .before .read-count .ensures in
+    let is = c .before .before .before .n .given .1 in
+    let good = c .before .is-of-kind .ensures .0 (not-false _ (c .if1 .left)) in
+    text-at _ kind _ _ read _ _ is
+    (⊎-elim (λ e. let k = eqb-true kind 12 e in text-valid _ kind _ _ read _ _ is k (good k)) (λ e. text-plain _ kind _ _ read _ _ is (eqb-false kind 12 e)) (cases (eqb kind 12)))))

@@ -1,17 +1,15 @@
 -- `flat::maps::leaf_pairs` meets its contract. The invariant: what is left of the pairs gives the same end, whatever is shown, and where keys are
 -- judged those behind are kept.
 use borrow.Author.Needs.{needs}
-use mathlib.Core.Path.{_≡_, refl, sym, ap, _∙_}
+use mathlib.Core.Path.{_≡_, refl, sym, _∙_}
 use mathlib.Core.Bool.{true}
-use mathlib.Core.List.{List, [], _∷_}
-use Prim.Native.Nat.{ℕ, _+_, _-_}
+use mathlib.Core.List.{List, []}
+use Prim.Native.Nat.{ℕ, _-_}
 use native.Mathlib.Omega.{arith}
 use lib.ListN.{length}
-use Rattle.value.specs.Read.{among}
 use Rattle.walks.specs.Keys.{keysIn, Kept}
 use Rattle.walks.proofs.Keys.{keys-none}
-use Rattle.flat.specs.Leaf.{part}
-use Rattle.flat.proofs.Pairs.{Along, along-first, along-end, along-deep, key-asked, key-failed, key-in, again-stop, value-asked, value-failed, value-in, along-turn}
+use Rattle.flat.proofs.Pairs.{Along, along-first, along-end, along-deep, key-asked, key-failed, key-kept, value-asked, value-failed, value-put, along-turn}
 use Rattle.flat.proofs.maps.leaf_pairs.Statement.{statement}
 use Rattle.flat.proofs.maps.leaf_pairs.Tie as tie
 
@@ -31,276 +29,154 @@ leaf-pairs-spec =
     μ-loop
     -- known-row-requires
     (λ c κs. (c .before .before .before .before .pre .0 .ready .good, c .before .before .before .before .pre .0 .leaves .0))
+    -- cast-k
+    (λ c. search needs)
     -- known-row-requires-2
-    (λ c κs. (c .before .before .before .before .before .pre .0 .ready .good, c .before .before .before .before .before .pre .0 .leaves .2))
+    (λ c κs. (c .before .before .before .before .before .before .pre .0 .ready .good, c .before .before .before .before .before .before .pre .0 .leaves .2))
+    -- cast-v
+    (λ c. search needs)
     -- add-below
-    (λ c. let pre = c .before .before .before .before .before .before .pre .0 .ready in omega (arith, pre .small, pre .inside, pre .behind))
+    (λ c. let pre = c .before .before .before .before .before .before .before .before .pre .0 .ready in omega (arith, pre .small, pre .inside, pre .behind))
     -- loop-holds
-    (λ c. let pre = c .before .before .before .before .before .before .pre in ([], along-first (pre .0) _, refl, λ j. (sym (keys-none (c .before .before .before .before .before .before .args .p .now) _), λ i lt. absurd (omega arith))))
+    (λ c.
+    let c8 = c .before .before .before .before .before .before .before .before in
+    ([], along-first (c8 .pre .0) _, refl, λ j. (sym (keys-none (c8 .args .p .now) _), λ i lt. absurd (omega arith))))
     -- same-length
     (λ c. c .before .before .loop .inv .1 .long)
     -- same-length-2
     (λ c. c .before .before .loop .inv .2)
     -- returns
-    (λ c. along-deep (c .before .before .before .before .before .before .before .before .before .pre .0) (c .before .before .loop .inv .1) (c .before .loop-test .taken) (c .if1 .taken))
-    -- cast-content
-    (λ c. search needs)
-    -- content-requires
+    (λ c. along-deep (c .before .before .before .before .before .before .before .before .before .before .before .pre .0) (c .before .before .loop .inv .1) (c .before .loop-test .taken) (c .if1 .taken))
+    -- next-key-requires
     (λ c κs.
-    let back = c .before .before .before .before .before .before .before .before .before in
-    let pre = back .before .pre in
-    let inv = c .before .before .before .loop .inv in
-    let some = c .before .before .loop-test .taken in
-    let d0 = c .before .if1 .left in
-    let k = c .before .before .before .before .before .known-row .ensures in
-    (pre .0 .ready .small, inv .1 .inside, rw k (pre .0 .leaves .0), rw k (pre .0 .leaves .1), key-asked (pre .0) (inv .1) some d0 k))
+    let loop = c .before .before .before .before in
+    let inv = loop .loop .inv in
+    let some = c .before .before .before .loop-test .taken in
+    let pre = loop .before .before .before .before .before .before .before .before .before .pre in
+    (key-asked (pre .0) (inv .1) some (c .before .before .if1 .left) (loop .before .before .before .before .known-row .ensures), λ j. (omega (arith, some, inv .2, pre .1 j), inv .3 j .1)))
     -- enum-known-place
     (λ c. search needs)
     -- same-length-3
-    (λ c. c .before .before .before .before .before .before .before .loop .inv .1 .long)
+    (λ c. c .before .before .before .before .before .before .before .next-key .kept .1 .0 ∙ c .before .before .before .before .before .before .before .before .before .before .before .before .loop .inv .1 .long)
     -- same-length-4
-    (λ c. c .before .before .before .before .before .before .before .loop .inv .2)
+    (λ c. c .before .before .before .before .before .before .before .next-key .kept .1 .1 .0 ∙ c .before .before .before .before .before .before .before .before .before .before .before .before .loop .inv .2)
     -- returns-2
     (λ c.
-    let back = c .before .before .before .before .before .before .before .before .before in
-    let pre = back .before .before .before .before .before .pre in
-    let inv = c .before .before .before .before .before .before .before .loop .inv in
-    let some = c .before .before .before .before .before .before .loop-test .taken in
-    let d0 = c .before .before .before .before .before .if1 .left in
-    let k = c .before .before .before .before .before .before .before .before .before .known-row .ensures in
-    key-failed (pre .0) (inv .1) some d0 k (c .before .before .before .content .ensures) (c .before .place .given .1))
-    -- enum-known-from
+    let c7 = c .before .before .before .before .before .before .before in
+    let c10 = c7 .before .before .before in
+    let c11 = c10 .before in
+    let c12 = c11 .before in
+    let loop = c12 in
+    key-failed (loop .before .before .before .before .before .before .before .before .before .pre .0) (loop .loop .inv .1) (c11 .loop-test .taken) (c10 .if1 .left) (loop .before .before .before .before .known-row .ensures)
+    (loop .loop .inv .3) (c7 .next-key .ensures) (c .before .place .given .1))
+    -- enum-known-to
     (λ c. search needs)
-    -- sub-is-repeated
-    (λ c.
-    let back = c .before .before .before .before .before .before .before .before .before in
-    let pre = back .before .before .before .before .before .before .pre in
-    let inv = c .before .before .before .before .before .before .before .before .loop .inv in
-    let some = c .before .before .before .before .before .before .before .loop-test .taken in
-    let d0 = c .before .before .before .before .before .before .if1 .left in
-    let k = back .before .known-row .ensures in
-    let read = c .before .before .before .before .content .ensures in
-    let e = c .before .before .from .given .1 in
-    let i = key-in (pre .0) (inv .1) some d0 k read e in
-    omega (arith, i .0))
-    -- is-repeated-requires
+    -- content-requires
     (λ c κs.
-    let back = c .before .before .before .before .before .before .before .before .before in
-    let pre = back .before .before .before .before .before .before .pre in
-    let inv = c .before .before .before .before .before .before .before .before .loop .inv in
-    let some = c .before .before .before .before .before .before .before .loop-test .taken in
-    let d0 = c .before .before .before .before .before .before .if1 .left in
-    let k = back .before .known-row .ensures in
-    let read = c .before .before .before .before .content .ensures in
-    let e = c .before .before .from .given .1 in
-    let i = key-in (pre .0) (inv .1) some d0 k read e in
-    let small = pre .0 .ready .small in
-    (omega (arith, i, small), omega (arith, i, small), omega (arith, i), λ j. (omega (arith, some, inv .2, pre .1 j), inv .3 j .1)))
-    -- same-length-5
-    (λ c.
-    let back = c .before .before .before .before .before .before .before .before .before in
-    back .before .before .before .loop .inv .1 .long)
-    -- same-length-6
-    (λ c.
-    let back = c .before .before .before .before .before .before .before .before .before in
-    c .before .before .before .is-repeated .kept .1 .0 ∙ back .before .before .before .loop .inv .2)
-    -- returns-3
-    (λ c.
-    let back = c .before .before .before .before .before .before .before .before .before in
-    let farther = back .before .before .before .before .before .before .before .before .before in
-    let pre = farther .before .pre in
-    let inv = back .before .before .before .loop .inv in
-    let some = back .before .before .loop-test .taken in
-    let d0 = back .before .if1 .left in
-    let k = back .before .before .before .before .before .known-row .ensures in
-    let read = c .before .before .before .before .before .before .before .before .content .ensures in
-    let e = c .before .before .before .before .before .before .from .given .1 in
-    let i = key-in (pre .0) (inv .1) some d0 k read e in
-    let said = c .before .before .before .is-repeated .ensures in
-    again-stop (pre .0) (inv .1) some d0 k read e _ (inv .3) (said .1 .0) (said .0) (c .if2 .taken))
-    -- sub-put-row
-    (λ c.
-    let back = c .before .before .before .before .before .before .before .before .before in
-    let farther = back .before .before .before .before .before .before .before .before .before in
-    let pre = farther .before .before .pre in
-    let inv = back .before .before .before .before .loop .inv in
-    let some = back .before .before .before .loop-test .taken in
-    let d0 = back .before .before .if1 .left in
-    let k = back .before .before .before .before .before .before .known-row .ensures in
-    let read = c .before .before .before .before .before .before .before .before .before .content .ensures in
-    let e = c .before .before .before .before .before .before .before .from .given .1 in
-    let i = key-in (pre .0) (inv .1) some d0 k read e in
-    omega (arith, i .0))
-    -- put-row-requires
-    (λ c κs.
-    let back = c .before .before .before .before .before .before .before .before .before in
-    let farther = back .before .before .before .before .before .before .before .before .before in
-    let pre = farther .before .before .pre in
-    let inv = back .before .before .before .before .loop .inv in
-    let some = back .before .before .before .loop-test .taken in
-    let d0 = back .before .before .if1 .left in
-    let k = back .before .before .before .before .before .before .known-row .ensures in
-    let read = c .before .before .before .before .before .before .before .before .before .content .ensures in
-    let e = c .before .before .before .before .before .before .before .from .given .1 in
-    let i = key-in (pre .0) (inv .1) some d0 k read e in
-    omega (arith, i, pre .0 .ready .small, inv .1 .behind))
-    -- cast-content-2
-    (λ c. search needs)
-    -- content-requires-2
-    (λ c κs.
-    let back = c .before .before .before .before .before .before .before .before .before in
-    let farther = back .before .before .before .before .before .before .before .before .before in
-    let pre = farther .before .before .before .before .before .before .pre in
-    let inv = back .before .before .before .before .before .before .before .before .loop .inv in
-    let some = back .before .before .before .before .before .before .before .loop-test .taken in
-    let d0 = back .before .before .before .before .before .before .if1 .left in
-    let k = farther .before .known-row .ensures in
-    let read = back .before .before .before .before .content .ensures in
-    let e = back .before .before .from .given .1 in
-    let i = key-in (pre .0) (inv .1) some d0 k read e in
-    let said = c .before .before .before .before .before .before .before .before .is-repeated .ensures in
-    let put = c .before .before .before .put-row .ensures in
-    let v = farther .known-row2 .ensures in
-    (pre .0 .ready .small, i .1, rw v (pre .0 .leaves .2), rw v (pre .0 .leaves .3), value-asked (pre .0) (inv .1) some d0 k read e _ (inv .3) (said .1 .0) (c .before .before .before .before .before .if2 .left) put v))
+    let c7 = c .before .before .before .before .before .before .before in
+    let c10 = c7 .before .before .before in
+    let c11 = c10 .before in
+    let c12 = c11 .before in
+    let loop = c12 in
+    value-asked (loop .before .before .before .before .before .before .before .before .before .pre .0) (loop .loop .inv .1) (c11 .loop-test .taken) (c10 .if1 .left) (loop .before .before .before .before .known-row .ensures)
+    (loop .loop .inv .3) (c7 .next-key .ensures) (c .before .to .given .1) (loop .before .before .known-row2 .ensures))
     -- enum-known-place-2
     (λ c. search needs)
-    -- same-length-7
+    -- same-length-5
     (λ c.
-    let back = c .before .before .before .before .before .before .before .before .before in
-    let farther = back .before .before .before .before .before .before .before .before .before in
-    c .before .before .before .before .before .before .before .put-row .kept .0 ∙ farther .before .before .before .loop .inv .1 .long)
-    -- same-length-8
+    let c11 = c .before .before .before .before .before .before .before .before .before .before .before in
+    let c16 = c11 .before .before .before .before .before in
+    c11 .next-key .kept .1 .0 ∙ c16 .loop .inv .1 .long)
+    -- same-length-6
     (λ c.
-    let back = c .before .before .before .before .before .before .before .before .before in
-    let farther = back .before .before .before .before .before .before .before .before .before in
-    back .before .before .before .is-repeated .kept .1 .0 ∙ farther .before .before .before .loop .inv .2)
-    -- returns-4
+    let c11 = c .before .before .before .before .before .before .before .before .before .before .before in
+    let c16 = c11 .before .before .before .before .before in
+    c11 .next-key .kept .1 .1 .0 ∙ c16 .loop .inv .2)
+    -- returns-3
     (λ c.
-    let back = c .before .before .before .before .before .before .before .before .before in
-    let farther = back .before .before .before .before .before .before .before .before .before in
-    let farthest = farther .before .before .before .before .before .before .before .before .before in
-    let pre = farthest .before .pre in
-    let inv = farther .before .before .before .loop .inv in
-    let some = farther .before .before .loop-test .taken in
-    let d0 = farther .before .if1 .left in
-    let k = farther .before .before .before .before .before .known-row .ensures in
-    let read = back .before .before .before .before .before .before .before .before .content .ensures in
-    let e = back .before .before .before .before .before .before .from .given .1 in
-    let i = key-in (pre .0) (inv .1) some d0 k read e in
-    let said = back .before .before .before .is-repeated .ensures in
-    let put = c .before .before .before .before .before .before .before .put-row .ensures in
-    let v = farther .before .before .before .before .known-row2 .ensures in
-    value-failed (pre .0) (inv .1) some d0 k read e _ (inv .3) (said .1 .0) (c .before .before .before .before .before .before .before .before .before .if2 .left) put v (c .before .before .before .content2 .ensures) (c .before .place2 .given .1))
-    -- enum-known-from-2
+    let c3 = c .before .before .before in
+    let c5 = c3 .before .before in
+    let c11 = c5 .before .before .before .before .before .before in
+    let c14 = c11 .before .before .before in
+    let c15 = c14 .before in
+    let c16 = c15 .before in
+    let loop = c16 in
+    value-failed (loop .before .before .before .before .before .before .before .before .before .pre .0) (loop .loop .inv .1) (c15 .loop-test .taken) (c14 .if1 .left)
+    (loop .before .before .before .before .known-row .ensures) (loop .loop .inv .3) (c11 .next-key .ensures) (c5 .to .given .1) (loop .before .before .known-row2 .ensures) (c3 .content .ensures) (c .before .place2 .given .1))
+    -- enum-known-from
     (λ c. search needs)
     -- add-put-row
     (λ c.
-    let back = c .before .before .before .before .before .before .before .before .before in
-    let farther = back .before .before .before .before .before .before .before .before .before in
-    let farthest = farther .before .before .before .before .before .before .before .before .before in
-    let a = farther .before .before .before .before .loop .inv .1 in omega (arith, a .inside, a .behind, farthest .before .before .pre .0 .ready .small))
-    -- sub-put-row-2
-    (λ c.
-    let back = c .before .before .before .before .before .before .before .before .before in
-    let farther = back .before .before .before .before .before .before .before .before .before in
-    let farthest = farther .before .before .before .before .before .before .before .before .before in
-    let pre = farthest .before .before .pre in
-    let inv = farther .before .before .before .before .loop .inv in
-    let some = farther .before .before .before .loop-test .taken in
-    let d0 = farther .before .before .if1 .left in
-    let k = farther .before .before .before .before .before .before .known-row .ensures in
-    let read = farther .content .ensures in
-    let e = back .before .before .before .before .before .before .before .from .given .1 in
-    let i = key-in (pre .0) (inv .1) some d0 k read e in
-    let said = back .before .before .before .before .is-repeated .ensures in
-    let put = c .before .before .before .before .before .before .before .before .put-row .ensures in
-    let v = farther .before .before .before .before .before .known-row2 .ensures in
-    let read′ = c .before .before .before .before .content2 .ensures in
-    let e′ = c .before .before .from2 .given .1 in
-    let x = value-in (pre .0) (inv .1) some d0 k read e _ (inv .3) (said .1 .0) (back .before .if2 .left) put v read′ e′ in
-    omega (arith, x .0))
-    -- put-row-requires-2
+    let c17 = c .before .before .before .before .before .before .before .before .before .before .before .before .before .before .before .before .before in
+    let c26 = c17 .before .before .before .before .before .before .before .before .before in
+    let a = c17 .loop .inv .1 in omega (arith, a .inside, a .behind, c26 .pre .0 .ready .small))
+    -- sub-put-row
+    (λ c. let w = rw (c .before .before .from .given .1) at (c .before .before .before .before .content .ensures .within) in omega (arith, w))
+    -- put-row-requires
     (λ c κs.
-    let back = c .before .before .before .before .before .before .before .before .before in
-    let farther = back .before .before .before .before .before .before .before .before .before in
-    let farthest = farther .before .before .before .before .before .before .before .before .before in
-    let pre = farthest .before .before .pre in
-    let inv = farther .before .before .before .before .loop .inv in
-    let some = farther .before .before .before .loop-test .taken in
-    let d0 = farther .before .before .if1 .left in
-    let k = farther .before .before .before .before .before .before .known-row .ensures in
-    let read = farther .content .ensures in
-    let e = back .before .before .before .before .before .before .before .from .given .1 in
-    let i = key-in (pre .0) (inv .1) some d0 k read e in
-    let said = back .before .before .before .before .is-repeated .ensures in
-    let put = c .before .before .before .before .before .before .before .before .put-row .ensures in
-    let v = farther .before .before .before .before .before .known-row2 .ensures in
-    let read′ = c .before .before .before .before .content2 .ensures in
-    let e′ = c .before .before .from2 .given .1 in
-    let x = value-in (pre .0) (inv .1) some d0 k read e _ (inv .3) (said .1 .0) (back .before .if2 .left) put v read′ e′ in
-    omega (arith, i, x, pre .0 .ready .small, inv .1 .behind))
+    let c2 = c .before .before in
+    let c4 = c2 .before .before in
+    let c6 = c4 .before .before in
+    let c12 = c6 .before .before .before .before .before .before in
+    let c15 = c12 .before .before .before in
+    let c16 = c15 .before in
+    let c17 = c16 .before in
+    let loop = c17 in
+    let w = value-put (loop .before .before .before .before .before .before .before .before .before .pre .0) (loop .loop .inv .1) (c16 .loop-test .taken) (c15 .if1 .left)
+    (loop .before .before .before .before .known-row .ensures) (loop .loop .inv .3) (c12 .next-key .ensures) (c6 .to .given .1) (loop .before .before .known-row2 .ensures) (c4 .content .ensures) (c2 .from .given .1) in
+    omega (arith, w))
     -- add-below-2
     (λ c.
-    let back = c .before .before .before .before .before .before .before .before .before in
-    let farther = back .before .before .before .before .before .before .before .before .before in
-    let farthest = farther .before .before .before .before .before .before .before .before .before in
-    let a = farther .before .before .before .before .before .before .before .loop .inv .1 in omega (arith, a .inside, a .behind, farthest .before .before .before .before .before .pre .0 .ready .small))
+    let c20 = c .before .before .before .before .before .before .before .before .before .before .before .before .before .before .before .before .before .before .before .before in
+    let c29 = c20 .before .before .before .before .before .before .before .before .before in
+    let a = c20 .loop .inv .1 in omega (arith, a .inside, a .behind, c29 .pre .0 .ready .small))
     -- add-i
     (λ c.
-    let back = c .before .before .before .before .before .before .before .before .before in
-    let farther = back .before .before .before .before .before .before .before .before .before in
-    let farthest = farther .before .before .before .before .before .before .before .before .before in
-    omega (arith, farther .before .before .before .before .before .before .loop-test .taken, farthest .before .before .before .before .before .pre .0 .most))
+    let c19 = c .before .before .before .before .before .before .before .before .before .before .before .before .before .before .before .before .before .before .before in
+    let c29 = c19 .before .before .before .before .before .before .before .before .before .before in
+    omega (arith, c19 .loop-test .taken, c29 .pre .0 .most))
     -- loop-less
-    (λ c.
-    let back = c .before .before .before .before .before .before .before .before .before in
-    let farther = back .before .before .before .before .before .before .before .before .before in
-    omega (arith, farther .before .before .before .before .before .before .loop-test .taken))
+    (λ c. omega (arith, c .before .before .before .before .before .before .before .before .before .before .before .before .before .before .before .before .before .before .before .loop-test .taken))
     -- loop-again
     (λ c.
-    let back = c .before .before .before .before .before .before .before .before .before in
-    let farther = back .before .before .before .before .before .before .before .before .before in
-    let farthest = farther .before .before .before .before .before .before .before .before .before in
-    let pre = farthest .before .before .before .before .before .pre in
-    let inv = farther .before .before .before .before .before .before .before .loop .inv in
-    let some = farther .before .before .before .before .before .before .loop-test .taken in
-    let d0 = farther .before .before .before .before .before .if1 .left in
-    let k = farthest .known-row .ensures in
-    let read = farther .before .before .before .content .ensures in
-    let e = farther .before .from .given .1 in
-    let i = key-in (pre .0) (inv .1) some d0 k read e in
-    let said = back .before .before .before .before .before .before .before .is-repeated .ensures in
-    let put = back .before .before .put-row .ensures in
-    let v = farther .before .before .before .before .before .before .before .before .known-row2 .ensures in
-    let p = farthest .before .before .before .before .before .args .p .now in
-    let from = farther .before .from .given .0 .0 in
-    let to = farther .before .from .given .0 .1 .0 in
-    let fresh = back .before .before .before .before .if2 .left in
-    let read′ = c .before .before .before .before .before .before .before .content2 .ensures in
-    let e′ = c .before .before .before .before .before .from2 .given .1 in (
-      part p from to ∷ inv .0,
-      along-turn (pre .0) (inv .1) some d0 k read e _ (inv .3) (said .1 .0) fresh put v read′ e′ (c .before .before .put-row2 .ensures),
-      back .before .before .before .before .before .before .before .is-repeated .kept .1 .0 ∙ inv .2,
-      λ j. (ap (λ (ks : List (List ℕ)). part p from to ∷ ks) (inv .3 j .0) ∙ sym (said .1 .1 .0 j), said .1 .1 .1 j),
+    let c2 = c .before .before in
+    let c5 = c2 .before .before .before in
+    let c7 = c5 .before .before in
+    let c9 = c7 .before .before in
+    let c15 = c9 .before .before .before .before .before .before in
+    let c18 = c15 .before .before .before in
+    let c19 = c18 .before in
+    let c20 = c19 .before in
+    let loop = c20 in
+    let inv = loop .loop .inv in
+    let next = c15 .next-key in
+    let to = c9 .to .given .1 in
+    let q = loop .before .before .before .before .before .before .before .before .before .pre .0 in
+    let some = c19 .loop-test .taken in
+    let d0 = c18 .if1 .left in
+    let k = loop .before .before .before .before .known-row .ensures in (
+      _,
+      along-turn q (inv .1) some d0 k (inv .3) (next .ensures) to (loop .before .before .known-row2 .ensures) (c7 .content .ensures) (c5 .from .given .1) (c2 .put-row .ensures),
+      next .kept .1 .1 .0 ∙ inv .2,
+      key-kept q (inv .1) some d0 k (inv .3) (next .ensures) to,
     ))
-    -- sub-put-row-3
+    -- sub-put-row-2
     (λ c. omega (arith, c .before .before .loop .inv .1 .forth))
-    -- put-row-requires-3
+    -- put-row-requires-2
     (λ c κs.
-    let pre = c .before .before .before .before .before .before .before .before .before .pre in
+    let pre = c .before .before .before .before .before .before .before .before .before .before .before .pre .0 in
     let a = c .before .before .loop .inv .1 in
-    omega (arith, a .inside, a .behind, a .forth, pre .0 .ready .small, pre .0 .ready .inside, pre .0 .ready .behind, pre .0 .most))
+    omega (arith, a .inside, a .behind, a .forth, pre .ready .small, pre .ready .inside, pre .ready .behind, pre .most))
     -- due-of-requires
-    (λ c κs.
-    let back = c .before .before .before .before .before .before .before .before .before in
-    back .before .before .before .pre .0 .most)
-    -- same-length-9
-    (λ c. c .before .before .before .put-row3 .kept .0 ∙ c .before .before .before .before .before .before .loop .inv .1 .long)
-    -- same-length-10
+    (λ c κs. c .before .before .before .before .before .before .before .before .before .before .before .before .before .before .pre .0 .most)
+    -- same-length-7
+    (λ c. c .before .before .before .put-row2 .kept .0 ∙ c .before .before .before .before .before .before .loop .inv .1 .long)
+    -- same-length-8
     (λ c. c .before .before .before .before .before .before .loop .inv .2)
-    -- returns-5
+    -- returns-4
     (λ c.
-    let back = c .before .before .before .before .before .before .before .before .before in
-    let pre = back .before .before .before .before .pre in
-    let due = c .due-of .ensures in
-    rw due (along-end (pre .0) (c .before .before .before .before .before .before .loop .inv .1) (omega (arith, c .before .before .before .before .before .loop-test .left)) (c .before .before .before .put-row3 .ensures))))
+    let c3 = c .before .before .before in
+    let c5 = c3 .before .before in
+    let c6 = c5 .before in
+    let c15 = c6 .before .before .before .before .before .before .before .before .before in
+    rw (c .due-of .ensures) (along-end (c15 .pre .0) (c6 .loop .inv .1) (omega (arith, c5 .loop-test .left)) (c3 .put-row2 .ensures))))

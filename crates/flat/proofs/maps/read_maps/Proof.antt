@@ -1,31 +1,16 @@
 -- `flat::maps::read_maps` meets its contract. The invariant: what is left of the elements gives the same end, whatever is shown.
 use borrow.Author.Needs.{needs}
-use mathlib.Core.Path.{_≡_, refl, sym, ap, _∙_}
-use mathlib.Core.Bool.{false}
-use mathlib.Core.List.{[]}
-use Prim.Native.Nat.{ℕ, suc, _+_, _-_, _*_, _≤_}
+use mathlib.Core.Path.{_≡_, refl, sym, _∙_}
 use native.Mathlib.Omega.{arith}
-use lib.ListN.{length, replicate}
-use Rattle.parse.specs.Reader.{cursorAt, Accepted}
-use Rattle.schema.specs.Table.{Shape, array, shape}
-use Rattle.schema.specs.File.{tableOf}
-use Rattle.value.specs.Read.{plainItem, walk, parse}
+use lib.ListN.{length}
 use Rattle.walks.specs.Shape.{shapeIn}
-use Rattle.walks.proofs.Items.{elements-none}
-use Rattle.walks.proofs.Walks.{deeper, deep}
-use Rattle.flat.specs.Walk.{told}
-use Rattle.flat.proofs.Steps.{renamed, was, stop-at, composite-past, composite-stop, rest-accepted, parse-deep}
-use Rattle.flat.proofs.Composites.{element-past, element-stop, element-accepted}
-use Rattle.flat.proofs.Turns.{aheadBy}
+use Rattle.flat.proofs.Turns.{Counting, counting-first, counting-own, counting-end, counting-ready, counting-stop, counting-sum, counting-on}
 use Rattle.flat.proofs.maps.read_maps.Statement.{statement}
 use Rattle.flat.proofs.maps.read_maps.Tie as tie
 
 abbrev Inv-loop : tie.InvT-loop
 Inv-loop s p sheet₀ ty elem key val n start depth row judging keys₀ left₀ here₀ below₀ sum₀ sheet keys left here below sum =
-    ((R : ℕ → Shape)
-    → R elem ≡ shapeIn s elem
-    → aheadBy R s p depth (replicate left (plainItem elem)) here sum below sheet ≡ aheadBy R s p depth (replicate n (plainItem elem)) start 0 (row + 1) sheet₀)
-    × (here ≤ length p) × (below ≤ here) × (sum + 16 * start ≤ 16 * here) × (length sheet ≡ length sheet₀) × (length keys ≡ 136)
+    Counting (λ R. R elem ≡ shapeIn s elem) s p depth elem n start row sheet₀ left here sum below sheet × (length keys ≡ 136)
 
 abbrev μ-loop : tie.MeasureT-loop
 μ-loop s p sheet₀ ty elem key val n start depth row judging keys₀ left₀ here₀ below₀ sum₀ sheet keys left here below sum = left
@@ -39,119 +24,85 @@ read-maps-spec =
     -- add-below
     (λ c. let pre = c .before .before .before .pre .0 .0 in omega (arith, pre .small, pre .inside, pre .behind))
     -- loop-holds
-    (λ c. let pre = c .before .before .before .pre .0 .0 in (λ R shown. refl, pre .inside, pre .behind, omega arith, refl, refl))
-    -- same-length
-    (λ c. c .before .before .loop .inv .4)
-    -- returns
     (λ c.
-    let args = c .before .before .before .before .before .before .args in
-    let loop = c .before .before .loop in
-    let S = shape (tableOf (args .s .now)) in
-    let P = parse S (args .depth) in
-    let p = args .p .now in
-    let here = cursorAt p (loop .here) in
-    λ R shown.
-    composite-stop R S P (array (args .elem)) (args .ty) (args .start) (args .n) _ (args .row) (args .sheet .now) _ _ _ _ _
-    (element-stop R S P (args .elem) (loop .left) (c .before .loop-test .taken) here (loop .sum) (loop .below) (loop .sheet) _ _
-    (stop-at (told R S (args .elem)) _ (loop .below) (loop .sheet) _ _ (parse-deep S (args .depth) (args .elem) here (c .if1 .taken))) ∙ loop .inv .0 R shown))
+    let args = c .before .before .before .args in
+    (counting-first (λ R. R (args .elem) ≡ shapeIn (args .s .now) (args .elem)) (shapeIn (args .s .now)) refl (args .ty) (c .before .before .before .pre .0 .0) _, refl))
     -- slice-aggregate-clear-flags
-    (λ c. sym (c .before .before .before .loop .inv .5))
+    (λ c. sym (c .before .before .loop .inv .1))
     -- clear-flags-requires
-    (λ c κs. omega (arith, c .before .before .before .loop .inv .5))
+    (λ c κs. omega (arith, c .before .before .loop .inv .1))
     -- slice-aggregate-leaf-map
-    (λ c. sym (c .before .before .before .clear-flags .kept .0 ∙ c .before .before .before .before .before .before .before .loop .inv .5))
-    -- sub-leaf-map
-    (λ c. search needs)
+    (λ c. sym (c .before .before .before .clear-flags .kept .0 ∙ c .before .before .before .before .before .before .loop .inv .1))
     -- leaf-map-requires
     (λ c κs.
-    let args = c .before .before .before .before .before .before .before .before .before .before .before .args in
-    let loop = c .before .before .before .before .before .before .before .loop in
-    let S = shape (tableOf (args .s .now)) in
-    let P = parse S (args .depth) in
-    let p = args .p .now in
-    let here = cursorAt p (loop .here) in
-    let pre = c .before .before .before .before .before .before .before .before .before .before .before .pre in
-    let ready = pre .0 .0 in
-    let items = replicate (loop .left) (plainItem (args .elem)) in
-    let judged : args .judging ≡ false → Accepted (parse S (suc (args .depth - 1)) (args .elem) here) =
-    λ j.
-    deeper (λ k. Accepted (parse S k (args .elem) here)) (args .depth) (c .before .before .before .before .before .if1 .left)
-    (element-accepted S S P (args .elem) (loop .left) (c .before .before .before .before .before .before .loop-test .taken) here (loop .sum) (loop .below) (loop .sheet)
-    (rest-accepted S S P (array (args .elem)) (args .ty) (args .start) (args .n) (cursorAt p (args .start)) (args .row) (args .sheet .now)
-    (walk P [] items here) items (loop .sum) (loop .below) (loop .sheet) (loop .inv .0 S refl) (ready .judged j))) in (
-      (record { good = ready .good; small = ready .small; inside = loop .inv .1; behind = loop .inv .2; judged = judged }, pre .0 .1),
-      (pre .1, omega (arith, c .before .before .before .clear-flags .kept .0, loop .inv .5)),
-    ))
+    let c3 = c .before .before .before in
+    let c5 = c3 .before .before in
+    let c6 = c5 .before in
+    let c10 = c6 .before .before .before .before in
+    let loop = c6 in
+    let s = loop .before .before .before .before .args .s .now in
+    let ready = counting-ready (λ R. R (loop .before .before .before .before .args .elem) ≡ shapeIn s (loop .before .before .before .before .args .elem)) (shapeIn s) refl (loop .before .before .before .before .args .ty)
+    (loop .before .before .before .before .pre .0 .0) (loop .loop .inv .0) (c5 .loop-test .taken) in
+    let pre = c10 .pre in
+    ((ready, pre .0 .1), (pre .1, omega (arith, c3 .clear-flags .kept .0, c6 .loop .inv .1))))
     -- enum-known-number
     (λ c. search needs)
-    -- same-length-2
+    -- same-length
+    (λ c. c .before .before .before .before .before .before .leaf-map .kept .1 .1 .0 ∙ c .before .before .before .before .before .before .before .before .before .before .before .before .before .loop .inv .0 .long)
+    -- returns
     (λ c.
-    let back = c .before .before .before .before .before .before .before .before .before .before .before .before in
-    c .before .before .before .before .before .before .leaf-map .kept .1 .1 .0 ∙ back .before .before .loop .inv .4)
-    -- returns-2
-    (λ c.
-    let back = c .before .before .before .before .before .before .before .before .before .before .before .before in
-    let args = back .before .before .before .before .before .before .args in
-    let loop = back .before .before .loop in
-    let S = shape (tableOf (args .s .now)) in
-    let P = parse S (args .depth) in
-    let p = args .p .now in
-    let here = cursorAt p (loop .here) in
-    let d0 = back .if1 .left in
-    λ R shown.
-    let w = renamed (ap (λ (k : ℕ). parse S k (args .elem) here) (deep (args .depth) d0)) (was (c .before .before .before .before .before .before .leaf-map .ensures R shown) (c .before .number .given .1)) in
-    composite-stop R S P (array (args .elem)) (args .ty) (args .start) (args .n) _ (args .row) (args .sheet .now) _ _ _ _ _
-    (element-stop R S P (args .elem) (loop .left) (back .before .loop-test .taken) here (loop .sum) (loop .below) (loop .sheet) _ _ (w .same) ∙ loop .inv .0 R shown))
+    let c6 = c .before .before .before .before .before .before in
+    let c12 = c6 .before .before .before .before .before .before in
+    let c13 = c12 .before in
+    let loop = c13 in
+    let s = loop .before .before .before .before .args .s .now in
+    counting-stop (λ R. R (loop .before .before .before .before .args .elem) ≡ shapeIn s (loop .before .before .before .before .args .elem)) (shapeIn s) refl (loop .before .before .before .before .args .ty)
+    (loop .before .before .before .before .pre .0 .0) (loop .loop .inv .0) (c12 .loop-test .taken) (c6 .leaf-map .ensures) (c .before .number .given .1))
     -- enum-known-due
     (λ c. search needs)
     -- add-sum
     (λ c.
-    let back = c .before .before .before .before .before .before .before .before .before .before .before .before in
-    let S = shape (tableOf (back .before .before .before .before .before .before .args .s .now)) in
-    let inv = back .before .before .loop .inv in
-    let w = rw (c .before .due .given .1) at (c .before .before .before .before .before .before .leaf-map .ensures S refl .within) in
-    omega (arith, inv .3, w .2, w .0, back .before .before .before .before .before .before .pre .0 .0 .small))
+    let c6 = c .before .before .before .before .before .before in
+    let c12 = c6 .before .before .before .before .before .before in
+    let c13 = c12 .before in
+    let loop = c13 in
+    let s = loop .before .before .before .before .args .s .now in
+    let most = counting-sum (λ R. R (loop .before .before .before .before .args .elem) ≡ shapeIn s (loop .before .before .before .before .args .elem)) (shapeIn s) refl (loop .before .before .before .before .args .ty)
+    (loop .before .before .before .before .pre .0 .0) (loop .loop .inv .0) (c12 .loop-test .taken) (c6 .leaf-map .ensures) (c .before .due .given .1) in
+    omega (arith, most))
     -- sub-left
     (λ c. search needs)
     -- loop-less
     (λ c. omega arith)
     -- loop-again
     (λ c.
-    let back = c .before .before .before .before .before .before .before .before .before .before .before .before in
-    let args = back .before .before .before .before .before .before .args in
-    let loop = back .before .before .loop in
-    let S = shape (tableOf (args .s .now)) in
-    let P = parse S (args .depth) in
-    let p = args .p .now in
-    let here = cursorAt p (loop .here) in
-    let d0 = back .if1 .left in
-    let inv = loop .inv in
-    let within = rw (c .before .due .given .1) at (c .before .before .before .before .before .before .leaf-map .ensures S refl .within) in (
-      λ R shown.
-          let w = renamed (ap (λ (k : ℕ). parse S k (args .elem) here) (deep (args .depth) d0)) (was (c .before .before .before .before .before .before .leaf-map .ensures R shown) (c .before .due .given .1)) in
-          sym (element-past R S P (args .elem) (loop .left) (back .before .loop-test .taken) here (loop .sum) (loop .below) (loop .sheet) _ _ _ _ (w .same)) ∙ inv .0 R shown,
-      within .0,
-      within .1,
-      omega (arith, inv .3, within .2),
-      c .before .before .before .before .before .before .leaf-map .kept .1 .1 .0 ∙ inv .4,
-      c .before .before .before .before .before .before .leaf-map .kept .1 .1 .1 .0 ∙ c .before .before .before .before .before .before .before .before .before .before .clear-flags .kept .0 ∙ inv .5,
-    ))
+    let c6 = c .before .before .before .before .before .before in
+    let c10 = c6 .before .before .before .before in
+    let c12 = c10 .before .before in
+    let c13 = c12 .before in
+    let loop = c13 in
+    let s = loop .before .before .before .before .args .s .now in
+    let on = counting-on (λ R. R (loop .before .before .before .before .args .elem) ≡ shapeIn s (loop .before .before .before .before .args .elem)) (shapeIn s) refl (loop .before .before .before .before .args .ty)
+    (loop .before .before .before .before .pre .0 .0) (loop .loop .inv .0) (c12 .loop-test .taken) (c6 .leaf-map .ensures) (c .before .due .given .1) (c6 .leaf-map .kept .1 .1 .0) in
+    (on, c6 .leaf-map .kept .1 .1 .1 .0 ∙ c10 .clear-flags .kept .0 ∙ loop .loop .inv .1))
     -- sub-put-row
-    (λ c. omega (arith, c .before .before .loop .inv .3))
+    (λ c. omega (arith, c .before .before .loop .inv .0 .forth))
     -- put-row-requires
-    (λ c κs. let pre = c .before .before .before .before .before .before .pre .0 in let inv = c .before .before .loop .inv in omega (arith, pre .0 .small, pre .0 .inside, pre .0 .behind, pre .2, inv .1, inv .2, inv .3))
-    -- same-length-3
-    (λ c. c .before .before .put-row .kept .0 ∙ c .before .before .before .before .before .loop .inv .4)
-    -- returns-3
+    (λ c κs.
+    let c2 = c .before .before in
+    let c6 = c2 .before .before .before .before in
+    let loop = c2 in
+    let s = loop .before .before .before .before .args .s .now in
+    counting-own (λ R. R (loop .before .before .before .before .args .elem) ≡ shapeIn s (loop .before .before .before .before .args .elem)) (shapeIn s) refl (loop .before .before .before .before .args .ty)
+    (loop .before .before .before .before .pre .0 .0) (loop .loop .inv .0) (c6 .pre .0 .2))
+    -- same-length-2
+    (λ c. c .before .before .put-row .kept .0 ∙ c .before .before .before .before .before .loop .inv .0 .long)
+    -- returns-2
     (λ c.
-    let args = c .before .before .before .before .before .before .before .before .before .args in
-    let loop = c .before .before .before .before .before .loop in
-    let S = shape (tableOf (args .s .now)) in
-    let P = parse S (args .depth) in
-    let p = args .p .now in
-    let here = cursorAt p (loop .here) in
-    let inv = loop .inv in
-    λ R shown.
-    composite-past R S P (array (args .elem)) (args .ty) (args .start) (args .n) (cursorAt p (args .start)) (args .row) (args .sheet .now)
-    p (args .start) (loop .here) (loop .sum) (loop .sum) (loop .below) (loop .sheet) _ [] (replicate (loop .left) (plainItem (args .elem)))
-    (elements-none (args .elem) (loop .left) (c .before .before .before .before .loop-test .left)) (inv .0 R shown) (omega arith) (c .before .before .put-row .ensures) (inv .1) (inv .2) (inv .3)))
+    let c2 = c .before .before in
+    let c4 = c2 .before .before in
+    let c5 = c4 .before in
+    let loop = c5 in
+    let s = loop .before .before .before .before .args .s .now in
+    counting-end (λ R. R (loop .before .before .before .before .args .elem) ≡ shapeIn s (loop .before .before .before .before .args .elem)) (shapeIn s) refl (loop .before .before .before .before .args .ty)
+    (loop .before .before .before .before .pre .0 .0) (loop .loop .inv .0) (λ h. omega (arith, c4 .loop-test .left, h)) (c2 .put-row .ensures)))

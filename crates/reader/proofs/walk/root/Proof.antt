@@ -1,12 +1,11 @@
 -- `reader::walk::root` meets its contract: the fields are those of an inner struct, at depth 2.
-use mathlib.Core.Logic.{⊎-elim}
 use native.Mathlib.Omega.{arith}
 use Rattle.schema.specs.Table.{shape}
 use Rattle.schema.specs.File.{tableOf}
 use Rattle.walks.specs.Shape.{fieldsFrom}
 use Rattle.flat.specs.Walk.{toldIn}
 use Rattle.flat.proofs.Steps.{was, as-refused}
-use Rattle.reader.proofs.Roots.{ending-surplus, ending-short, root-bitmap, root-refused, root-in, root-fields, root-stop, root-end, root-past}
+use Rattle.reader.proofs.Roots.{root-bitmap, root-refused, root-in, root-fields, root-stop, root-end}
 use borrow.Author.Needs.{needs}
 use Rattle.reader.proofs.walk.root.Statement.{statement}
 use Rattle.reader.proofs.walk.root.Tie as tie
@@ -29,7 +28,7 @@ root-spec =
     (λ c. search needs)
     -- enum-known-known
     (λ c. search needs)
-    -- chosen-requires
+    -- read-chosen-fields-requires
     (λ c κs.
     let args = c .before .before .before .before .before .before .before .before .args in
     let asked = c .before .before .before .before .before .before .before .before .pre in
@@ -48,45 +47,15 @@ root-spec =
         behind = omega (arith, h .4);
         judged = λ j. root-fields S (args .ty) fs p _ read _ _ _ _ _ (bits .given .1) (pre .judged j);
       },
-      ((asked .1 .0, asked .1 .2, asked .1 .3), (h .6, h .1)),
+      ((asked .1 .0, asked .1 .2, asked .1 .3, omega arith), (h .6, h .1)),
     ))
     -- enum-known-number-2
     (λ c. search needs)
     -- enum-known-due
     (λ c. search needs)
-    -- sub-rest
-    (λ c. let w = was (c .before .before .before .before .before .chosen .ensures) (c .before .due .given .1) .within in w .0)
-    -- same-length
-    (λ c. c .before .before .before .before .before .before .before .chosen .kept .1 .1 .1 .0)
+    -- end-root-requires
+    (λ c κs. was (c .before .before .before .before .before .read-chosen-fields .ensures) (c .before .due .given .1) .within .0)
     -- returns
-    (λ c.
-    let back = c .before .before .before .before .before .before .before .before .before in
-    let args = back .before .before .before .before .before .before .before .args in
-    let asked = back .before .before .before .before .before .before .before .pre in
-    let T = tableOf (args .s .now) in
-    let S = shape T in
-    let p = args .p .now in
-    let fs = fieldsFrom T (args .first) (args .n) in
-    let tell = toldIn (args .shown .now) (args .s .now) (args .ty) in
-    let read = back .before .before .before .presence .ensures in
-    root-end S (args .ty) fs p _ read _ _ _ _ _ (back .before .known .given .1) tell _ _ _ _ _ (was (c .before .before .before .before .before .before .before .chosen .ensures) (c .before .before .before .due .given .1)) _ _
-    (ending-surplus p _ _ (c .before .if1 .taken) (c .if2 .taken)))
-    -- same-length-2
-    (λ c. c .before .before .before .before .before .before .before .chosen .kept .1 .1 .1 .0)
-    -- returns-2
-    (λ c.
-    let back = c .before .before .before .before .before .before .before .before .before in
-    let args = back .before .before .before .before .before .before .before .args in
-    let asked = back .before .before .before .before .before .before .before .pre in
-    let T = tableOf (args .s .now) in
-    let S = shape T in
-    let p = args .p .now in
-    let fs = fieldsFrom T (args .first) (args .n) in
-    let tell = toldIn (args .shown .now) (args .s .now) (args .ty) in
-    let read = back .before .before .before .presence .ensures in
-    root-end S (args .ty) fs p _ read _ _ _ _ _ (back .before .known .given .1) tell _ _ _ _ _ (was (c .before .before .before .before .before .before .before .chosen .ensures) (c .before .before .before .due .given .1)) _ _
-    (ending-short p _ _ (c .if3 .taken)))
-    -- returns-3
     (λ c.
     let args = c .before .before .before .before .before .before .before .args in
     let asked = c .before .before .before .before .before .before .before .pre in
@@ -94,9 +63,9 @@ root-spec =
     let S = shape T in
     let p = args .p .now in
     as-refused _ _ _ (root-refused S (args .ty) (fieldsFrom T (args .first) (args .n)) p _ (c .before .before .before .presence .ensures) _ (c .before .number .given .1)))
-    -- same-length-3
-    (λ c. c .before .before .before .before .before .chosen .kept .1 .1 .1 .0)
-    -- returns-4
+    -- same-length
+    (λ c. c .before .before .before .before .before .read-chosen-fields .kept .1 .1 .1 .0)
+    -- returns-2
     (λ c.
     let back = c .before .before .before .before .before .before .before .before .before in
     let args = back .before .before .before .before .before .args in
@@ -107,19 +76,17 @@ root-spec =
     let fs = fieldsFrom T (args .first) (args .n) in
     let tell = toldIn (args .shown .now) (args .s .now) (args .ty) in
     let read = back .before .presence .ensures in
-    root-stop S (args .ty) fs p _ read _ _ _ _ _ (c .before .before .before .before .before .before .before .before .known .given .1) tell _ _ _ _ (was (c .before .before .before .before .before .chosen .ensures) (c .before .number2 .given .1)))
-    -- same-length-4
-    (λ c. c .before .before .before .before .before .before .before .chosen .kept .1 .1 .1 .0)
-    -- returns-5
+    root-stop S (args .ty) fs p _ read _ _ _ _ _ (c .before .before .before .before .before .before .before .before .known .given .1) tell _ _ _ _
+    (was (c .before .before .before .before .before .read-chosen-fields .ensures) (c .before .number2 .given .1)))
+    -- same-length-2
+    (λ c. c .before .before .before .before .before .before .read-chosen-fields .kept .1 .1 .1 .0)
+    -- returns-3
     (λ c.
-    let back = c .before .before .before .before .before .before .before .before .before in
-    let args = back .before .before .before .before .before .before .before .args in
-    let asked = back .before .before .before .before .before .before .before .pre in
+    let fields = c .before .before .before .before .before .before in
+    let head = fields .before .before .before in
+    let start = head .before .before .before .before .before .before in
+    let args = start .args in
     let T = tableOf (args .s .now) in
-    let S = shape T in
-    let p = args .p .now in
-    let fs = fieldsFrom T (args .first) (args .n) in
     let tell = toldIn (args .shown .now) (args .s .now) (args .ty) in
-    let read = back .before .before .before .presence .ensures in
-    root-past S (args .ty) fs p _ read _ _ _ _ _ (back .before .known .given .1) tell _ _ _ _ _ (was (c .before .before .before .before .before .before .before .chosen .ensures) (c .before .before .before .due .given .1)) (c .if3 .left)
-    (⊎-elim (λ w z. w .1 .left) (λ w z. absurd (w .left z)) (c .before .if1 .came))))
+    root-end (shape T) (args .ty) (fieldsFrom T (args .first) (args .n)) (args .p .now) _ (head .before .before .presence .ensures) _ _ _ _ _ (head .known .given .1) tell _ _ _ _ _
+    (was (fields .read-chosen-fields .ensures) (c .before .before .due .given .1)) (c .end-root .ensures)))

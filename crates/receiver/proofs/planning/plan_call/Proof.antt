@@ -11,7 +11,7 @@ returns : tie.Need-returns
 returns c =
     let a = c .before .before .args in
     let j = c .before .judge-release .ensures in
-    let k = c .release-rise .ensures ∙ ap (λ (J : Judged). verdictReleaseRise (a .seat .own) (verdict J)) j in
+    let k = c .release-rise .ensures ∙ ap (λ (J : Judged). verdictReleaseRise (a .slot .own) (verdict J)) j in
     λ i. judgedPlan (j i) (k i) 0 0
 
 pub plan-call-spec : {M : Type 1} → statement M

@@ -4,7 +4,7 @@ use mathlib.Core.Bool.{Bool}
 use Prim.Native.Nat.{ℕ}
 use denote.Ref.{now}
 use Rattle.schema.specs.File.{tableOf}
-use Rattle.calls.specs.declared.Seat.{Seat}
+use Rattle.calls.specs.declared.OwnSlot.{OwnSlot}
 use Rattle.receiver.specs.Planning.{callPlan, tablesFault, releasePlan}
 use Rattle.receiver.proofs.Returns.{release-faulty, release-stops, release-goes}
 use borrow.Author.Needs.{needs}
@@ -33,8 +33,8 @@ returns-2 c =
 
 returns-3 : tie.Need-returns-3
 returns-3 c =
-    let seat = c .before in
-    let fault = seat .before .before in
+    let slot = c .before in
+    let fault = slot .before .before in
     let good = fault .before in
     let told = good .before in
     let table = told .before .before in
@@ -42,7 +42,7 @@ returns-3 c =
     let s = now (a .schema) in
     let is = fault .tables-fault .ensures ∙ ap (λ (b : Bool). tablesFault b (a .rows) (tableOf s)) (good .is-good .ensures) in
     release-goes s (a .table .slots) (a .correlation) (a .rows) (table .check .result) (table .check .ensures) (c .plan-call .result) (told .enum-told .given .1)
-    (fault .tables-fault .result) is (seat .before .if1 .left) (c .plan-call .ensures ∙ ap callPlan (seat .seat .ensures))
+    (fault .tables-fault .result) is (slot .before .if1 .left) (c .plan-call .ensures ∙ ap callPlan (slot .own-slot .ensures))
 
 pub plan-release-spec : {M : Type 1} → statement M
 plan-release-spec =

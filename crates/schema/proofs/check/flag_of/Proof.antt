@@ -2,7 +2,7 @@
 use mathlib.Core.Path.{ap, _∙_}
 use Prim.Native.Nat.{ℕ, _+_, _/_, _%_, _^_}
 use borrow.Author.Needs.{needs}
-use Rattle.schema.specs.Flags.{flagOf}
+use Rattle.schema.specs.Flags.{mixed, flagOf}
 use Rattle.schema.proofs.check.flag_of.Statement.{statement}
 use Rattle.schema.proofs.check.flag_of.Tie as tie
 
@@ -10,8 +10,17 @@ returns : tie.Need-returns
 unfolding flagOf
 returns c =
     let second = c .before in
-    let sum = c .wrapping-add-u64 .ensures ∙ (λ i. (second .before .wrapping-mul .ensures i + second .wrapping-mul2 .ensures i) % 2 ^ 64) in
-    ap (λ (n : ℕ). n / 2 ^ 52) sum
+    let first = second .before in
+    let seed = second .wrapping-add-u64 .ensures ∙ (λ i. (first .mixed .ensures i + first .before .before .args .method) % 2 ^ 64) in
+    rw (first .before .if1 .taken) (ap (λ (n : ℕ). n / 2 ^ 52) (c .mixed2 .ensures ∙ ap mixed seed))
+
+returns-2 : tie.Need-returns-2
+unfolding flagOf
+returns-2 c =
+    let second = c .before in
+    let first = second .before in
+    let sum = c .wrapping-add-u642 .ensures ∙ (λ i. (first .wrapping-mul .ensures i + second .wrapping-mul2 .ensures i) % 2 ^ 64) in
+    rw (first .before .if1 .left) (ap (λ (n : ℕ). n / 2 ^ 52) sum)
 
 pub flag-of-spec : {M : Type 1} → statement M
 flag-of-spec =
@@ -22,4 +31,8 @@ flag-of-spec =
     (λ c κs. search needs)
     (λ c κs. search needs)
     (λ c κs. search needs)
-    returns)
+    returns
+    (λ c κs. search needs)
+    (λ c κs. search needs)
+    (λ c κs. search needs)
+    returns-2)

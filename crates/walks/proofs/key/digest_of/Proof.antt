@@ -20,17 +20,17 @@ digest-of-spec =
     let first = c .before .before .before .before in
     let args = first .args in
     digest-short (args .s .now) (args .place) (args .n) (first .pre) _ (c .before .if2 .taken) (c .last-word .ensures))
-    -- number-requires
+    -- word-at-requires
     (λ c κs. search needs)
     -- returns-3
     (λ c j.
     let first = c .before .before .before .before .before in
     let args = first .args in
-    digest-word (args .s .now) (args .place) (args .n) (first .pre) _ (c .before .if3 .taken) (c .number .ensures))
+    digest-word (args .s .now) (args .place) (args .n) (first .pre) _ (c .before .word-at .ensures) (c .before .before .if2 .left) (c .if3 .taken))
     -- hash-requires
     (λ c κs. search needs)
     -- returns-4
     (λ c j.
-    let first = c .before .before .before .before .before in
+    let first = c .before .before .before .before .before .before in
     let args = first .args in
-    digest-long (args .s .now) (args .place) (args .n) (first .pre) _ (c .before .before .if2 .left) (c .before .if3 .left) (c .hash .ensures)))
+    digest-long (args .s .now) (args .place) (args .n) (first .pre) _ (c .before .before .word-at .ensures) (c .before .before .before .if2 .left) _ (c .before .if3 .left) (c .hash .ensures)))
