@@ -1,2 +1,3 @@
 pub mod Spans
 pub mod Stores
+pub mod ByHand

@@ -9,7 +9,7 @@ use lib.ListN.{length, getD, take, drop, set, length-set, length-drop, drop-of-l
 use lib.Seq.{take-all, drop-nil, drop-cons, getD-set-same}
 use lib.Dec.{eqb}
 use borrow.Author.Tests.{eqb-true}
-use Rattle.calls.specs.Slots.{holds, flagOfNumber, distinct}
+use Rattle.calls.specs.Slots.{contains, flagOfNumber, distinct}
 use Rattle.schema.specs.Flags.{mixed}
 use Rattle.schema.proofs.Bools.{clash}
 use Rattle.schema.proofs.Flags.{set-kept}
@@ -33,58 +33,58 @@ seen-kept b seen i (x ∷ xs) s = (set-kept seen i (flagOfNumber b x) (s .0), se
 
 -- looking through the list only where the flag is seen makes no difference
 module _ (b : Bool) (seen : List Bool) (x : ℕ) where
-  unseen : (xs : List ℕ) → Seen b seen xs → bits b seen x ≡ false → holds x xs ≡ false
+  unseen : (xs : List ℕ) → Seen b seen xs → bits b seen x ≡ false → contains x xs ≡ false
   unseen [] s q = refl
   unseen (y ∷ ys) s q = go (eqb y x) refl (unseen ys (s .1) q)
     where
-      go : (c : Bool) → eqb y x ≡ c → holds x ys ≡ false → (c || holds x ys) ≡ false
+      go : (c : Bool) → eqb y x ≡ c → contains x ys ≡ false → (c || contains x ys) ≡ false
       go true e ih = clash (bits b seen x) (subst (λ (n : ℕ). bits b seen n ≡ true) (eqb-true y x e) (s .0)) q
       go false e ih = ih
 
-  looked : (xs : List ℕ) → Seen b seen xs → (bits b seen x && holds x xs) ≡ holds x xs
+  looked : (xs : List ℕ) → Seen b seen xs → (bits b seen x && contains x xs) ≡ contains x xs
   looked xs s = go (bits b seen x) refl
     where
-      go : (c : Bool) → bits b seen x ≡ c → (c && holds x xs) ≡ holds x xs
+      go : (c : Bool) → bits b seen x ≡ c → (c && contains x xs) ≡ contains x xs
       go true e = refl
       go false e = sym (unseen xs s e)
 
 drop-false : (l : List ℕ) (i : ℕ) → distinct (drop i l) ≡ false → distinct l ≡ false
 drop-false [] i h = rw (drop-nil i) at h
 drop-false (x ∷ xs) zero h = h
-drop-false (x ∷ xs) (suc i) h = go (not (holds x xs)) (drop-false xs i h)
+drop-false (x ∷ xs) (suc i) h = go (not (contains x xs)) (drop-false xs i h)
   where
     go : (b : Bool) → distinct xs ≡ false → (b && distinct xs) ≡ false
     go true e = e
     go false e = refl
 
 -- ---- the loop: the numbers from place i on differ, and their flags are seen
-pub record Apart (l : List ℕ) (mixing : Bool) (seen : List Bool) (i : ℕ) : Type 0 where
+pub record DistinctFrom (l : List ℕ) (mixing : Bool) (seen : List Bool) (i : ℕ) : Type 0 where
   pub differ : distinct (drop i l) ≡ true
   pub seenBits : Seen mixing seen (drop i l)
   pub within : i ≤ length l
   pub wide : length seen ≡ 1024
 
-pub apart-none : (l : List ℕ) (b : Bool) (seen : List Bool) → length seen ≡ 1024 → Apart l b seen (length l)
-apart-none l b seen h =
+pub distinct-none : (l : List ℕ) (b : Bool) (seen : List Bool) → length seen ≡ 1024 → DistinctFrom l b seen (length l)
+distinct-none l b seen h =
     let e = drop-of-length-le l {i = length l} (omega arith) in
     record { differ = rw e; seenBits = rw e tt; within = omega arith; wide = h }
 
-pub apart-all : (l : List ℕ) (b : Bool) (seen : List Bool) (i : ℕ) → Apart l b seen i → i ≤ 0 → true ≡ distinct l
-apart-all l b seen i a h =
+pub distinct-all : (l : List ℕ) (b : Bool) (seen : List Bool) (i : ℕ) → DistinctFrom l b seen i → i ≤ 0 → true ≡ distinct l
+distinct-all l b seen i a h =
     let z : i ≡ 0 = omega arith in
     sym (subst (λ (n : ℕ). distinct (drop n l) ≡ true) z (a .differ))
 
-module _ (l : List ℕ) (b : Bool) (seen : List Bool) (i : ℕ) (a : Apart l b seen i) (h : 0 < i) (k : ℕ) (e : k ≡ flagOfNumber b (getD l (i - 1) 0)) where
+module _ (l : List ℕ) (b : Bool) (seen : List Bool) (i : ℕ) (a : DistinctFrom l b seen i) (h : 0 < i) (k : ℕ) (e : k ≡ flagOfNumber b (getD l (i - 1) 0)) where
   abbrev x : ℕ
   x = getD l (i - 1) 0
 
   -- the number is among the later ones, as the code asks it: the part runs to the end of the list
   abbrev again : Bool
-  again = getD seen k false && holds x (take (length l - i) (drop i l))
+  again = getD seen k false && contains x (take (length l - i) (drop i l))
 
-  again-holds : again ≡ holds x (drop i l)
-  again-holds =
-      (λ j. getD seen (e j) false && holds x (take-all (length l - i) (drop i l) (omega (arith, length-drop i l)) j))
+  again-contains : again ≡ contains x (drop i l)
+  again-contains =
+      (λ j. getD seen (e j) false && contains x (take-all (length l - i) (drop i l) (omega (arith, length-drop i l)) j))
       ∙ looked b seen x (drop i l) (a .seenBits)
 
   before : drop (i - 1) l ≡ x ∷ drop i l
@@ -93,14 +93,14 @@ module _ (l : List ℕ) (b : Bool) (seen : List Bool) (i : ℕ) (a : Apart l b s
       let m : i - 1 < length l = omega (arith, a .within) in
       drop-cons l (i - 1) 0 m ∙ ap (λ (n : ℕ). x ∷ drop n l) k
 
-  pub apart-here : again ≡ true → false ≡ distinct l
-  apart-here t = sym (drop-false l (i - 1) (rw (before, sym again-holds ∙ t)))
+  pub distinct-here : again ≡ true → false ≡ distinct l
+  distinct-here t = sym (drop-false l (i - 1) (rw (before, sym again-contains ∙ t)))
 
-  pub apart-next : again ≡ false → Apart l b (set seen k true) (i - 1)
-  apart-next t =
+  pub distinct-next : again ≡ false → DistinctFrom l b (set seen k true) (i - 1)
+  distinct-next t =
       let w : flagOfNumber b x < length seen = omega (arith, a .wide, flag-below b x) in
       record {
-        differ = rw (before, sym again-holds ∙ t) (a .differ);
+        differ = rw (before, sym again-contains ∙ t) (a .differ);
         seenBits = rw (before, e) (getD-set-same seen (flagOfNumber b x) true false w, seen-kept b seen (flagOfNumber b x) (drop i l) (a .seenBits));
         within = omega (arith, a .within);
         wide = length-set seen k true ∙ a .wide;

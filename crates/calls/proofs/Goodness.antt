@@ -12,7 +12,7 @@ use Rattle.schema.specs.Table.{Table}
 use Rattle.calls.specs.declared.Call.{Call}
 use Rattle.calls.specs.declared.FormRow.{FormRow}
 use Rattle.calls.specs.Record.{emptyCall, implies, complete, zeroCall, goodOpen}
-use Rattle.calls.specs.Slots.{freshTable, slot, formRow, goodCall, goodCalls, openIds, holds, distinct, goodTable}
+use Rattle.calls.specs.Slots.{freshTable, slot, formRow, goodCall, goodCalls, openIds, contains, distinct, goodTable}
 use Rattle.calls.specs.Good.{GoodCall, GoodCalls}
 use Rattle.schema.proofs.Bools.{cases, clash, and-i, and-left, and-right, or-right, or-cases, not-i, is-false}
 use Rattle.calls.proofs.Bools.{imp-i, imp-e}
@@ -132,26 +132,26 @@ module _ (T : Table) (c : Call) where
       go false o = subst (λ (x : Call). zeroCall x ≡ true) (sym (z o)) refl
 
 -- ---- the correlations of the open calls
-open-held : (l : List Call) (j : ℕ) → slot l j .«open» ≡ true → holds (slot l j .correlation) (openIds l) ≡ true
+open-held : (l : List Call) (j : ℕ) → slot l j .«open» ≡ true → contains (slot l j .correlation) (openIds l) ≡ true
 open-held [] j o = clash false o refl
 open-held (x ∷ xs) zero o = rw (o, eq-eqb (x .correlation) (x .correlation) refl)
 open-held (x ∷ xs) (suc j) o = go (x .«open») (open-held xs j o)
   where
-    go : (b : Bool) → holds (slot xs j .correlation) (openIds xs) ≡ true → holds (slot xs j .correlation) (cond b (x .correlation ∷ openIds xs) (openIds xs)) ≡ true
-    go true h = or-right (eqb (x .correlation) (slot xs j .correlation)) (holds (slot xs j .correlation) (openIds xs)) h
+    go : (b : Bool) → contains (slot xs j .correlation) (openIds xs) ≡ true → contains (slot xs j .correlation) (cond b (x .correlation ∷ openIds xs) (openIds xs)) ≡ true
+    go true h = or-right (eqb (x .correlation) (slot xs j .correlation)) (contains (slot xs j .correlation) (openIds xs)) h
     go false h = h
 
-held-open : (n : ℕ) (l : List Call) → holds n (openIds l) ≡ true → (j : ℕ) × (slot l j .«open» ≡ true) × (slot l j .correlation ≡ n)
+held-open : (n : ℕ) (l : List Call) → contains n (openIds l) ≡ true → (j : ℕ) × (slot l j .«open» ≡ true) × (slot l j .correlation ≡ n)
 held-open n [] h = clash false h refl
 held-open n (x ∷ xs) h = go (x .«open») refl h (held-open n xs)
   where
     later : (j : ℕ) × (slot xs j .«open» ≡ true) × (slot xs j .correlation ≡ n) → (j : ℕ) × (slot (x ∷ xs) j .«open» ≡ true) × (slot (x ∷ xs) j .correlation ≡ n)
     later r = (suc (r .0), r .1, r .2)
 
-    go : (b : Bool) → x .«open» ≡ b → holds n (cond b (x .correlation ∷ openIds xs) (openIds xs)) ≡ true →
-        (holds n (openIds xs) ≡ true → (j : ℕ) × (slot xs j .«open» ≡ true) × (slot xs j .correlation ≡ n)) →
+    go : (b : Bool) → x .«open» ≡ b → contains n (cond b (x .correlation ∷ openIds xs) (openIds xs)) ≡ true →
+        (contains n (openIds xs) ≡ true → (j : ℕ) × (slot xs j .«open» ≡ true) × (slot xs j .correlation ≡ n)) →
         (j : ℕ) × (slot (x ∷ xs) j .«open» ≡ true) × (slot (x ∷ xs) j .correlation ≡ n)
-    go true o t ih = ⊎-elim (λ e. (0, o, eqb-true (x .correlation) n e)) (λ e. later (ih e)) (or-cases (eqb (x .correlation) n) (holds n (openIds xs)) t)
+    go true o t ih = ⊎-elim (λ e. (0, o, eqb-true (x .correlation) n e)) (λ e. later (ih e)) (or-cases (eqb (x .correlation) n) (contains n (openIds xs)) t)
     go false o t ih = later (ih t)
 
 abbrev Differ : List Call → Type 0
@@ -159,11 +159,11 @@ Differ l = (i j : ℕ) → slot l i .«open» ≡ true → slot l j .«open» �
 
 -- an open record before the rest: no record of the rest is open under its correlation
 module _ (x : Call) (xs : List Call) (o : x .«open» ≡ true) where
-  apart : distinct (openIds (x ∷ xs)) ≡ true → (holds (x .correlation) (openIds xs) ≡ false) × (distinct (openIds xs) ≡ true)
+  apart : distinct (openIds (x ∷ xs)) ≡ true → (contains (x .correlation) (openIds xs) ≡ false) × (distinct (openIds xs) ≡ true)
   apart d =
-      let n = not (holds (x .correlation) (openIds xs)) in
+      let n = not (contains (x .correlation) (openIds xs)) in
       let e : (n && distinct (openIds xs)) ≡ true = rw o at d in
-      (not-true (holds (x .correlation) (openIds xs)) (and-left n (distinct (openIds xs)) e), and-right n (distinct (openIds xs)) e)
+      (not-true (contains (x .correlation) (openIds xs)) (and-left n (distinct (openIds xs)) e), and-right n (distinct (openIds xs)) e)
 
 distinct-rest : (x : Call) (xs : List Call) → distinct (openIds (x ∷ xs)) ≡ true → distinct (openIds xs) ≡ true
 distinct-rest x xs d = ⊎-elim (λ o. apart x xs o d .1) (λ o. rw o at d) (cases (x .«open»))
@@ -172,9 +172,9 @@ differ-of : (l : List Call) → distinct (openIds l) ≡ true → Differ l
 differ-of [] d i j p q e = clash false p refl
 differ-of (x ∷ xs) d zero zero p q e = refl
 differ-of (x ∷ xs) d zero (suc j) p q e =
-    clash (holds (x .correlation) (openIds xs)) (subst (λ (n : ℕ). holds n (openIds xs) ≡ true) (sym e) (open-held xs j q)) (apart x xs p d .0)
+    clash (contains (x .correlation) (openIds xs)) (subst (λ (n : ℕ). contains n (openIds xs) ≡ true) (sym e) (open-held xs j q)) (apart x xs p d .0)
 differ-of (x ∷ xs) d (suc i) zero p q e =
-    clash (holds (x .correlation) (openIds xs)) (subst (λ (n : ℕ). holds n (openIds xs) ≡ true) e (open-held xs i p)) (apart x xs q d .0)
+    clash (contains (x .correlation) (openIds xs)) (subst (λ (n : ℕ). contains n (openIds xs) ≡ true) e (open-held xs i p)) (apart x xs q d .0)
 differ-of (x ∷ xs) d (suc i) (suc j) p q e = ap suc (differ-of xs (distinct-rest x xs d) i j p q e)
 
 later-differ : (x : Call) (xs : List Call) → Differ (x ∷ xs) → Differ xs
@@ -184,13 +184,13 @@ distinct-of : (l : List Call) → Differ l → distinct (openIds l) ≡ true
 distinct-of [] f = refl
 distinct-of (x ∷ xs) f = go (x .«open») refl (distinct-of xs (later-differ x xs f))
   where
-    none : x .«open» ≡ true → holds (x .correlation) (openIds xs) ≡ true → ⊥
+    none : x .«open» ≡ true → contains (x .correlation) (openIds xs) ≡ true → ⊥
     none o h = let r = held-open (x .correlation) xs h in let k = f 0 (suc (r .0)) o (r .1) (sym (r .2)) in omega arith
 
     go : (b : Bool) → x .«open» ≡ b → distinct (openIds xs) ≡ true → distinct (cond b (x .correlation ∷ openIds xs) (openIds xs)) ≡ true
     go true o ih =
-        and-i (not (holds (x .correlation) (openIds xs))) (distinct (openIds xs))
-        (not-i (holds (x .correlation) (openIds xs)) (is-false (holds (x .correlation) (openIds xs)) (none o))) ih
+        and-i (not (contains (x .correlation) (openIds xs))) (distinct (openIds xs))
+        (not-i (contains (x .correlation) (openIds xs)) (is-false (contains (x .correlation) (openIds xs)) (none o))) ih
     go false o ih = ih
 
 -- ---- the whole table

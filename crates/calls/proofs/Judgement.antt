@@ -94,13 +94,13 @@ module _ (T : Table) (f : Frame) where
     pub isInvoke : f .kind ≡ 1
     pub isNew : c ≡ openedCall method id
     pub notOpen : own ≡ none
-    pub room : b ≡ false
+    pub notFull : b ≡ false
 
   invoke-opens : (g : Found) (own : OwnCall) (b : Bool) (c : Call) (d : Payload) → foundMethod ≡ g → f .kind ≡ 1 → invokeVerdict T id g own b ≡ opens c d → Invoked own b c
   invoke-opens Missing own b c d m k e = differ cc
   invoke-opens (At n) own b c d m k e =
       let r = open-opens (openedCall n id) c (payloadOf (methodRow T n) 1) d own b e in
-      record { method = n; isMethod = m; isInvoke = k; isNew = sym (r .0); notOpen = r .1; room = r .2 }
+      record { method = n; isMethod = m; isInvoke = k; isNew = sym (r .0); notOpen = r .1; notFull = r .2 }
 
   invoke-never : (g : Found) (own : OwnCall) (b : Bool) (c : Call) (d : Payload) → invokeVerdict T id g own b ≡ goes c d → ⊥
   invoke-never Missing own b c d e = differ cc
@@ -212,7 +212,7 @@ module _ (T : Table) (f : Frame) (l : List Call) where
         isInvoke = w .isInvoke;
         isNew = w .isNew;
         notOpen = own-none l (f .correlation) (w .notOpen);
-        lowest = not-full l j (w .room) s;
+        lowest = not-full l j (w .notFull) s;
       }
 
   pub judged-goes : (i : ℕ) (c : Call) (d : Payload) → judgeOf T f l ≡ Goes i c d → Going i c

@@ -26,7 +26,7 @@ use Rattle.calls.specs.declared.Rise.{Rise}
 use Rattle.calls.specs.Forms.{letter, lettersRow, rowOfForm}
 use Rattle.calls.specs.Numbers.{endsCall, EndsCall, payload, many-pairs}
 use Rattle.calls.specs.Record.{implies, emptyCall, openedCall, isCall, complete, allowed, notAllowed, isInput, isOutput, atLimit, counting, marked, ends, afterFrame}
-use Rattle.calls.specs.Slots.{slot, firstSlot, holds, OwnCall, none, one, recordAt, ownOf, full}
+use Rattle.calls.specs.Slots.{slot, firstSlot, contains, OwnCall, none, one, recordAt, ownOf, full}
 use Rattle.calls.specs.Judge.{rightSide, payloadOf, Verdict, stop, opens, goes, invokeVerdict, callVerdict, otherVerdict, verdictOf, judgeOf, releaseVerdict, judgeRelease}
 use Rattle.calls.specs.Step.{receive, release}
 use Rattle.calls.specs.Counting.{noRise, ending, riseOf, releaseRise, figureBy}
@@ -169,9 +169,9 @@ module _ (form : ℕ) (before : Elements) (h : List ℕ) (c : Call) (m : ℕ) (w
 
     whole-next : complete row (marked kind c) ≡ allCame form (kind ∷ h)
     whole-next =
-        let r : (c .responded || eqb kind 6) ≡ (eqb kind 6 || holds 6 h) = or-comm (c .responded) (eqb kind 6) ∙ ap (λ (b : Bool). eqb kind 6 || b) (w .responded) in
-        let i : (c .«input_closed» || eqb kind 3) ≡ (eqb kind 3 || holds 3 h) = or-comm (c .«input_closed») (eqb kind 3) ∙ ap (λ (b : Bool). eqb kind 3 || b) (w .inputClosed) in
-        let o : (c .«output_closed» || eqb kind 5) ≡ (eqb kind 5 || holds 5 h) = or-comm (c .«output_closed») (eqb kind 5) ∙ ap (λ (b : Bool). eqb kind 5 || b) (w .outputClosed) in
+        let r : (c .responded || eqb kind 6) ≡ (eqb kind 6 || contains 6 h) = or-comm (c .responded) (eqb kind 6) ∙ ap (λ (b : Bool). eqb kind 6 || b) (w .responded) in
+        let i : (c .«input_closed» || eqb kind 3) ≡ (eqb kind 3 || contains 3 h) = or-comm (c .«input_closed») (eqb kind 3) ∙ ap (λ (b : Bool). eqb kind 3 || b) (w .inputClosed) in
+        let o : (c .«output_closed» || eqb kind 5) ≡ (eqb kind 5 || contains 5 h) = or-comm (c .«output_closed») (eqb kind 5) ∙ ap (λ (b : Bool). eqb kind 5 || b) (w .outputClosed) in
         λ k. (r k) && (implies (row .1) (i k) && implies (row .3) (o k))
 
     ends-over : ends row kind c ≡ over form (kind ∷ h)

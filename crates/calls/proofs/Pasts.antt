@@ -16,7 +16,7 @@ use Rattle.schema.proofs.Bools.{clash, and-i, and-left, and-right, or-false, is
 use Rattle.calls.specs.declared.Call.{Call}
 use Rattle.calls.specs.Forms.{letter, lettersRow}
 use Rattle.calls.specs.Record.{implies, isCall}
-use Rattle.calls.specs.Slots.{slot, firstSlot, formRow, holds, ownOf}
+use Rattle.calls.specs.Slots.{slot, firstSlot, formRow, contains, ownOf}
 use Rattle.calls.specs.Good.{GoodCall, GoodCalls}
 use Rattle.calls.specs.Order.{cancelled, MayCome, inStream, inClose, outStream, outClose, response, error, cancel, allCame, over, Came, begun}
 use Rattle.calls.specs.Order.{next, Elements, times, closed, since, Lawful, idle, calling, Marks, nothing, call, LawfulRecord, PastIn}
@@ -27,9 +27,9 @@ use Rattle.calls.proofs.Kept.{call-open}
 
 -- ---- what kinds in a lawful order tell
 record Told (form : ℕ) (h : List ℕ) : Type 0 where
-  inputs : holds 3 h ≡ true → letter 2 form ≡ true
-  outputs : holds 5 h ≡ true → letter 1 form ≡ true
-  later : holds 5 h ≡ true → holds 6 h ≡ true
+  inputs : contains 3 h ≡ true → letter 2 form ≡ true
+  outputs : contains 5 h ≡ true → letter 1 form ≡ true
+  later : contains 5 h ≡ true → contains 6 h ≡ true
   noInputs : letter 2 form ≡ false → times 2 h ≡ 0
   noOutputs : letter 1 form ≡ false → times 4 h ≡ 0
   notOver : over form h ≡ false
@@ -117,7 +117,7 @@ abbrev markings : (responded input output cancel : Bool) → List ℕ
 markings r i o x = cond x (8 ∷ marking r i o) (marking r i o)
 
 abbrev Leaves : (r i o x : Bool) → List ℕ → Type 0
-Leaves r i o x h = (r ≡ holds 6 h) × (i ≡ holds 3 h) × (o ≡ holds 5 h) × (x ≡ cancelled h) × (holds 7 h ≡ false) × (times 2 h ≡ 0) × (times 4 h ≡ 0)
+Leaves r i o x h = (r ≡ contains 6 h) × (i ≡ contains 3 h) × (o ≡ contains 5 h) × (x ≡ cancelled h) × (contains 7 h ≡ false) × (times 2 h ≡ 0) × (times 4 h ≡ 0)
 
 leaves : (r i o x : Bool) → Leaves r i o x (markings r i o x)
 leaves true true true true = (refl, refl, refl, refl, refl, refl, refl)
@@ -245,7 +245,7 @@ module _ (T : Table) (g : GoodSchema T) (c : Call) where
             afterResponse = rw (m .outputClosed, m .responded) (t .later);
             inputElements = rw e inputs;
             outputElements = rw e outputs;
-            notComplete = rw (e, m .responded, m .inputClosed, m .outputClosed) (or-false (holds 7 h) (allCame form h) (t .notOver) .1);
+            notComplete = rw (e, m .responded, m .inputClosed, m .outputClosed) (or-false (contains 7 h) (allCame form h) (t .notOver) .1);
           }
 
   -- The record of an open call is good exactly where the rules allow kinds that leave its marks.

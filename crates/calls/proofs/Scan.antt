@@ -14,7 +14,7 @@ use Rattle.schema.specs.Table.{Table}
 use Rattle.schema.proofs.Bools.{or-assoc, or-none}
 use Rattle.calls.specs.declared.Call.{Call}
 use Rattle.calls.specs.Record.{emptyCall}
-use Rattle.calls.specs.Slots.{slot, firstSlot, goodCall, goodCalls, openIds, holds, distinct, goodTable}
+use Rattle.calls.specs.Slots.{slot, firstSlot, goodCall, goodCalls, openIds, contains, distinct, goodTable}
 
 module _ {A : Type 0} (d : A) (l : List A) (i : ℕ) where
   pub rest-step : i < length l → drop i l ≡ getD l i d ∷ drop (i + 1) l
@@ -33,12 +33,12 @@ module _ (p : Call → Bool) (l : List Call) (i : ℕ) (e : firstSlot p 0 l ≡ 
   pub first-none : length l ≤ i → Missing ≡ firstSlot p 0 l
   first-none h = sym (e ∙ rw (rest-end emptyCall l i h))
 
-module _ (found : Bool) (n : ℕ) (l : List ℕ) (i : ℕ) (e : (found || holds n (drop i l)) ≡ holds n l) where
-  pub holds-next : i < length l → ((found || eqb (getD l i 0) n) || holds n (drop (i + 1) l)) ≡ holds n l
-  holds-next h = or-assoc found (eqb (getD l i 0) n) (holds n (drop (i + 1) l)) ∙ rw (rest-step 0 l i h) at e
+module _ (found : Bool) (n : ℕ) (l : List ℕ) (i : ℕ) (e : (found || contains n (drop i l)) ≡ contains n l) where
+  pub contains-next : i < length l → ((found || eqb (getD l i 0) n) || contains n (drop (i + 1) l)) ≡ contains n l
+  contains-next h = or-assoc found (eqb (getD l i 0) n) (contains n (drop (i + 1) l)) ∙ rw (rest-step 0 l i h) at e
 
-  pub holds-end : length l ≤ i → found ≡ holds n l
-  holds-end h = sym (or-none found) ∙ rw (rest-end 0 l i h) at e
+  pub contains-end : length l ≤ i → found ≡ contains n l
+  contains-end h = sym (or-none found) ∙ rw (rest-end 0 l i h) at e
 
 -- ---- the loop of the goodness test: the records passed are good, and ids holds the correlations of the open ones
 pub record Gathered (T : Table) (l : List Call) (ids : List ℕ) (n i : ℕ) : Type 0 where

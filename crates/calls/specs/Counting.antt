@@ -46,17 +46,17 @@ figureBy r n = cond (eqb n 0) (r .accepted) (cond (endsCall n) (r .refused) Noth
 
 -- ---- the row
 
-abbrev pub figureIn : Tally → Figure → ℕ
-figureIn t Nothing = 0
-figureIn t Opened = t .opened
-figureIn t Completed = t .completed
-figureIn t Errored = t .errored
-figureIn t Cancelled = t .cancelled
-figureIn t Failed = t .failed
+abbrev pub amountIn : Tally → Figure → ℕ
+amountIn t Nothing = 0
+amountIn t Opened = t .opened
+amountIn t Completed = t .completed
+amountIn t Errored = t .errored
+amountIn t Cancelled = t .cancelled
+amountIn t Failed = t .failed
 
 -- A tally at 4294967295 would rise no more.
 abbrev pub fullAt : Tally → Figure → Bool
-fullAt t f = eqb (figureIn t f) 4294967295
+fullAt t f = eqb (amountIn t f) 4294967295
 
 unfoldable pub raised : Tally → Figure → Tally
 raised t Nothing = t

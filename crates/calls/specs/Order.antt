@@ -16,27 +16,27 @@ use Rattle.calls.specs.declared.Payload.{Payload}
 use Rattle.calls.specs.Forms.{letter}
 use Rattle.calls.specs.Numbers.{endsCall}
 use Rattle.calls.specs.Record.{implies, counting}
-use Rattle.calls.specs.Slots.{holds, OwnCall, none, one, ownOf}
+use Rattle.calls.specs.Slots.{contains, OwnCall, none, one, ownOf}
 use Rattle.calls.specs.Judge.{rightSide}
 use Rattle.calls.specs.Event.{Event, frame, release, identifier}
 use Rattle.calls.specs.Belongs.{Belongs}
 
--- The kinds accepted since INVOKE, the last first. `holds k h` says that kind k came.
+-- The kinds accepted since INVOKE, the last first. `contains k h` says that kind k came.
 
 -- The call is cancelled: CANCEL was accepted.
 abbrev pub cancelled : List ℕ → Bool
-cancelled h = holds 8 h
+cancelled h = contains 8 h
 
 -- What may come next in an open call of this form.
 pub data MayCome (form : ℕ) (h : List ℕ) : ℕ → Type 0 where
   -- Stream frames need their stream in the form and not closed.
-  inStream : cancelled h ≡ false → letter 2 form ≡ true → holds 3 h ≡ false → MayCome form h 2
-  inClose : cancelled h ≡ false → letter 2 form ≡ true → holds 3 h ≡ false → MayCome form h 3
+  inStream : cancelled h ≡ false → letter 2 form ≡ true → contains 3 h ≡ false → MayCome form h 2
+  inClose : cancelled h ≡ false → letter 2 form ≡ true → contains 3 h ≡ false → MayCome form h 3
   -- Output frames follow RESPONSE.
-  outStream : cancelled h ≡ false → letter 1 form ≡ true → holds 5 h ≡ false → holds 6 h ≡ true → MayCome form h 4
-  outClose : cancelled h ≡ false → letter 1 form ≡ true → holds 5 h ≡ false → holds 6 h ≡ true → MayCome form h 5
+  outStream : cancelled h ≡ false → letter 1 form ≡ true → contains 5 h ≡ false → contains 6 h ≡ true → MayCome form h 4
+  outClose : cancelled h ≡ false → letter 1 form ≡ true → contains 5 h ≡ false → contains 6 h ≡ true → MayCome form h 5
   -- RESPONSE comes once, for every form.
-  response : cancelled h ≡ false → holds 6 h ≡ false → MayCome form h 6
+  response : cancelled h ≡ false → contains 6 h ≡ false → MayCome form h 6
   -- ERROR is accepted after CANCEL too.
   error : MayCome form h 7
   cancel : cancelled h ≡ false → MayCome form h 8
@@ -49,11 +49,11 @@ pub record Crosses (h : List ℕ) (kind : ℕ) : Type 0 where
 
 -- A call is complete after RESPONSE and the close of each stream it has.
 abbrev pub allCame : (form : ℕ) → List ℕ → Bool
-allCame form h = holds 6 h && (implies (letter 2 form) (holds 3 h) && implies (letter 1 form) (holds 5 h))
+allCame form h = contains 6 h && (implies (letter 2 form) (contains 3 h) && implies (letter 1 form) (contains 5 h))
 
 -- ERROR ends it at once.
 abbrev pub over : (form : ℕ) → List ℕ → Bool
-over form h = holds 7 h || allCame form h
+over form h = contains 7 h || allCame form h
 
 -- Kinds in an order that the rules allow, of a call that is not over: each might come when it came, and none ended the call.
 pub data Came (form : ℕ) : List ℕ → Type 0 where
@@ -184,13 +184,13 @@ pub data Releases : Past → (number : ℕ) → Type 0 where
 -- The marks of an open call's record, by the kinds accepted, and its elements.
 pub record Marks (m : ℕ) (b : Elements) (h : List ℕ) (c : Call) : Type 0 where
   pub method : c .method ≡ m
-  pub responded : c .responded ≡ holds 6 h
-  pub inputClosed : c .«input_closed» ≡ holds 3 h
-  pub outputClosed : c .«output_closed» ≡ holds 5 h
+  pub responded : c .responded ≡ contains 6 h
+  pub inputClosed : c .«input_closed» ≡ contains 3 h
+  pub outputClosed : c .«output_closed» ≡ contains 5 h
   pub isCancelled : c .cancelled ≡ cancelled h
   pub inputElements : c .«input_elements» ≡ inputsOf b h
   pub outputElements : c .«output_elements» ≡ outputsOf b h
-  pub noError : holds 7 h ≡ false
+  pub noError : contains 7 h ≡ false
 
 pub data Reflects : Past → OwnCall → Type 0 where
   nothing : Reflects closed none

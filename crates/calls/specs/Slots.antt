@@ -72,9 +72,9 @@ openIds [] = []
 openIds (x ∷ xs) = cond (x .«open») (x .correlation ∷ openIds xs) (openIds xs)
 
 -- The number is one of the list.
-abbrev pub holds : ℕ → List ℕ → Bool
-holds n [] = false
-holds n (x ∷ xs) = eqb x n || holds n xs
+abbrev pub contains : ℕ → List ℕ → Bool
+contains n [] = false
+contains n (x ∷ xs) = eqb x n || contains n xs
 
 -- The flag of a number, one of 1,024: the top bits of a product modulo 2^64, or of the number mixed. The code looks for a number among others only if one
 -- of them has its flag.
@@ -84,7 +84,7 @@ flagOfNumber mixing n = cond mixing (mixed n) (n * 0x9E37_79B9_7F4A_7C15 % 2 ^ 6
 -- No two of the list are equal.
 abbrev pub distinct : List ℕ → Bool
 distinct [] = true
-distinct (x ∷ xs) = not (holds x xs) && distinct xs
+distinct (x ∷ xs) = not (contains x xs) && distinct xs
 
 unfoldable pub goodTable : Table → List Call → Bool
 goodTable T l = goodCalls T l && distinct (openIds l)

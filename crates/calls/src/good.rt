@@ -16,11 +16,11 @@ ghost use Prim.Native.Nat.{_<_};
 ghost use Rattle.schema.specs.File.{tableOf};
 ghost use Rattle.schema.specs.Check.{IsGood};
 ghost use Rattle.calls.specs.Forms.{tableOne};
-ghost use Rattle.calls.specs.Slots.{goodCall, holds, flagOfNumber, distinct, goodTable};
+ghost use Rattle.calls.specs.Slots.{goodCall, contains, flagOfNumber, distinct, goodTable};
 
 // Whether the number is one of the slice.
-fn holds(ids: &[u64], id: u64) -> bool
-    ensures { λ r. ⌜ r ≡ holds id (now (ids .entry)) ⌝ }
+fn contains(ids: &[u64], id: u64) -> bool
+    ensures { λ r. ⌜ r ≡ contains id (now (ids .entry)) ⌝ }
 {
     let mut found = false;
     let mut i: usize = 0;
@@ -31,38 +31,44 @@ fn holds(ids: &[u64], id: u64) -> bool
     found
 }
 
-// Whether the number is one of the slice, which is looked through only where that is possible.
-fn holds_where(possible: bool, ids: &[u64], id: u64) -> bool
-    ensures { λ r. ⌜ r ≡ (possible && holds id (now (ids .entry))) ⌝ }
+// Whether the number is one of the slice, which is looked through only where the number's flag is taken.
+fn contains_where(taken: bool, ids: &[u64], id: u64) -> bool
+    ensures { λ r. ⌜ r ≡ (taken && contains id (now (ids .entry))) ⌝ }
 {
-    if possible { holds(ids, id) } else { false }
+    if taken { contains(ids, id) } else { false }
 }
+
+// What a number is multiplied by: 2^64 divided by the golden ratio.
+const FACTOR: u64 = 0x9E37_79B9_7F4A_7C15;
+
+// A flag is the top 10 of 64 bits.
+const FLAG_SHIFT: u64 = 54;
 
 // The flag of a number, one of 1,024: the top bits of a product, by which those of ordinary tables differ, or of the number mixed.
 fn flag_of(id: u64, mixing: bool) -> usize
     ensures { λ r. ⌜ (r ≡ flagOfNumber mixing id) × (r < 1024) ⌝ }
 {
     if mixing {
-        return (mixed(id) >> 54) as usize;
+        return (mixed(id) >> FLAG_SHIFT) as usize;
     }
-    (wrapping_mul(id, 0x9E37_79B9_7F4A_7C15) >> 54) as usize
+    (wrapping_mul(id, FACTOR) >> FLAG_SHIFT) as usize
 }
 
-// Flags of numbers, and so many times may one be taken before the first kind is given up.
+// Flags of numbers, and so many times may one be taken before the first kind is abandoned.
 const FLAGS: usize = 1024;
 
 const MOST_SEARCHES: usize = 16;
 
-// Whether no two of a slice are equal, or crowded: many flags were taken, and the search was given up.
+// Whether no two of a slice are equal, unless the search was abandoned, since many flags were taken.
 struct Sought {
-    crowded: bool,
+    abandoned: bool,
     distinct: bool,
 }
 
-// Looks for two of the slice that are equal, where a number is compared with the later ones only if one of them has its flag. That is given up
+// Looks for two of the slice that are equal, where a number is compared with the later ones only if one of them has its flag. That is abandoned
 // where too many are, unless the flags are of numbers mixed.
 fn distinct_by_flags(ids: &[u64], mixing: bool) -> Sought
-    ensures { λ r. ⌜ (r .crowded ≡ false → r .distinct ≡ distinct (now (ids .entry))) × (mixing ≡ true → r .crowded ≡ false) ⌝ }
+    ensures { λ r. ⌜ (r .abandoned ≡ false → r .distinct ≡ distinct (now (ids .entry))) × (mixing ≡ true → r .abandoned ≡ false) ⌝ }
 {
     let mut seen = [false; FLAGS];
     let mut searches: usize = 0;
@@ -75,15 +81,15 @@ fn distinct_by_flags(ids: &[u64], mixing: bool) -> Sought
         if taken {
             if (searches == MOST_SEARCHES) & !mixing {
                 return Sought {
-                    crowded: true,
+                    abandoned: true,
                     distinct: false,
                 };
             }
             searches += 1;
         }
-        if holds_where(taken, &ids[i..], id) {
+        if contains_where(taken, &ids[i..], id) {
             return Sought {
-                crowded: false,
+                abandoned: false,
                 distinct: false,
             };
         }
@@ -91,7 +97,7 @@ fn distinct_by_flags(ids: &[u64], mixing: bool) -> Sought
         i = at;
     }
     Sought {
-        crowded: false,
+        abandoned: false,
         distinct: true,
     }
 }
@@ -101,7 +107,7 @@ pub fn distinct(ids: &[u64]) -> bool
     ensures { λ r. ⌜ r ≡ distinct (now (ids .entry)) ⌝ }
 {
     let first = distinct_by_flags(ids, false);
-    if first.crowded {
+    if first.abandoned {
         let second = distinct_by_flags(ids, true);
         second.distinct
     } else {

@@ -1,9 +1,9 @@
 // The calls of a connection: the call table by value, when it is good, its step on a judged frame and on a release, and what that raises in a tally row.
+pub mod call_record;
 pub mod forms;
 pub mod good;
 pub mod judge;
 pub mod numbers;
-pub mod record;
 pub mod slots;
 pub mod step;
 pub mod tallies;

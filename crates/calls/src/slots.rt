@@ -3,7 +3,7 @@ use crate::Call;
 use crate::CallTable;
 use crate::OwnCall;
 use crate::OwnSlot;
-use crate::record::EMPTY;
+use crate::call_record::EMPTY;
 use constants::limit;
 use schema::Found;
 ghost use mathlib.Core.Path.{_≡_};

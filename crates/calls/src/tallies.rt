@@ -11,7 +11,7 @@ use constants::limit;
 use constants::refusal;
 ghost use mathlib.Core.Path.{_≡_};
 ghost use mathlib.Core.Bool.{false};
-ghost use Rattle.calls.specs.Counting.{noTally, ending, figureBy, figureIn, fullAt, raised};
+ghost use Rattle.calls.specs.Counting.{ending, figureBy, amountIn, fullAt, raised};
 ghost use Rattle.calls.specs.Apart.{verdict, verdictRise, verdictReleaseRise};
 
 // A fresh row.
@@ -116,8 +116,9 @@ impl Rise {
 }
 
 impl Tally {
-    fn figure(self, f: Figure) -> u32
-        ensures { λ r. ⌜ r ≡ figureIn self f ⌝ }
+    // How much a figure stands at.
+    fn amount(self, f: Figure) -> u32
+        ensures { λ r. ⌜ r ≡ amountIn self f ⌝ }
     {
         match f {
             Figure::Nothing => 0,
@@ -133,7 +134,7 @@ impl Tally {
     pub fn is_full(self, f: Figure) -> bool
         ensures { λ r. ⌜ r ≡ fullAt self f ⌝ }
     {
-        self.figure(f) == limit::TALLY
+        self.amount(f) == limit::TALLY
     }
 
     // The row with one more in a figure that is not full.

@@ -132,7 +132,7 @@ sides =
       server = 83;  -- S
     }
 
--- What is fixed in a frame and in a file (01).
+-- What is fixed in a frame, in a file and on a sheet (01).
 abbrev pub formats : FixedNumbers
 formats =
     record {
@@ -143,6 +143,7 @@ formats =
       header = 25;  -- 25 bytes before the length
       layout = 1;  -- layout number 1
       «no_type» = 4294967295;  -- an N has 4294967295
+      «row_cells» = 4;  -- rows of four 32-bit numbers
     }
 
 -- Limits (01; those of 2026-05 and 2026-10).

@@ -1,4 +1,4 @@
-// What is fixed in a frame and in a file.
+// What is fixed in a frame, in a file and on a sheet.
 
 // The first byte of a frame.
 pub const MAGIC: u8 = 0xAF;
@@ -20,3 +20,6 @@ pub const LAYOUT: u32 = 1;
 
 // In place of a type, where there is none.
 pub const NO_TYPE: u32 = 4294967295;
+
+// Cells of a row of the sheet.
+pub const ROW_CELLS: usize = 4;

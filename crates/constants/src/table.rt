@@ -112,6 +112,7 @@ pub struct FixedNumbers {
     pub header: usize,
     pub layout: u32,
     pub no_type: u32,
+    pub row_cells: usize,
 }
 
 pub struct LimitNumbers {
@@ -271,6 +272,7 @@ pub fn formats() -> FixedNumbers
         header: format::HEADER,
         layout: format::LAYOUT,
         no_type: format::NO_TYPE,
+        row_cells: format::ROW_CELLS,
     }
 }
 

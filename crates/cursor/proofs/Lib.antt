@@ -1,4 +1,6 @@
 mod Held
+mod Method
+mod Answers
 pub mod Items
 pub mod Texts
 pub mod Laws

@@ -29,7 +29,7 @@ use Rattle.receiver.specs.Answer.{Effect, effect, stopped}
 use Rattle.receiver.specs.Receive.{received}
 use Rattle.receiver.specs.Release.{ReleaseEffect, releaseEffect, releaseAnswer, released}
 use Rattle.receiver.specs.Run.{Event, input, release, State, stateAfter, stateFrom}
-use Rattle.receiver.proofs.Kept.{holds, same-length, same-rows, release-holds, release-length, release-rows}
+use Rattle.receiver.proofs.Kept.{answer-holds, same-length, same-rows, release-holds, release-length, release-rows}
 use Rattle.receiver.proofs.Answers.{refused-untouched as sheet-kept, refused-rows as rows-kept}
 use Rattle.receiver.proofs.Records.{refused-kept}
 use Rattle.receiver.proofs.Releases.{refused-kept as release-kept, refused-rows as release-rows-kept}
@@ -367,7 +367,7 @@ module _ (cells schema : List ℕ) (side : ℕ) (bytes sheet tallies : List ℕ)
 
     next-fits : CallsFit next
     next-fits =
-        holds schema side bytes sheet rows (callsOf cells) (λ _ l. CallsFit l)
+        answer-holds schema side bytes sheet rows (callsOf cells) (λ _ l. CallsFit l)
         (λ n q e. loaded-fits cells)
         (λ f w g t reading.
         let l = callsOf cells in

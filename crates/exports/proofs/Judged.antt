@@ -34,9 +34,9 @@ module _ (s : List ℕ) (side : ℕ) (bytes sheet : List ℕ) (ts : List Tally) 
   refused-effect check.Good = stop-effect 15 0
   refused-effect (check.Refused n q) = stop-effect n q
 
-  pub judged-effect : (known : Bool) (rows : ℕ) (p : Plan) → rows ≡ length ts → p ≡ cond known (planOf s side bytes rows l) (refusedPlan (checked s))
+  pub judged-effect : (isTable : Bool) (rows : ℕ) (p : Plan) → rows ≡ length ts → p ≡ cond isTable (planOf s side bytes rows l) (refusedPlan (checked s))
       → (r : Settled) (cs : List ℕ) → rowEffect (r .answer) cs (r .row) ≡ settled s bytes sheet l (getD ts (p .row) noTally) (p .next)
-      → effect (r .answer) cs (set ts (p .row) (r .row)) ≡ judgement known s side bytes sheet ts l
+      → effect (r .answer) cs (set ts (p .row) (r .row)) ≡ judgement isTable s side bytes sheet ts l
   unfolding judgement
   judged-effect true rows p n e r cs is = within s side bytes sheet ts l p (e ∙ ap (λ (k : ℕ). planOf s side bytes k l) n) r cs is
   judged-effect false rows p n e r cs is = ap (inRow ts (p .row)) is ∙ ap effectOf e ∙ refused-effect (checked s)
@@ -53,9 +53,9 @@ module _ (s : List ℕ) (l : List Call) (id : ℕ) (ts : List Tally) where
   refused-release check.Good = stop-release 15 0
   refused-release (check.Refused n q) = stop-release n q
 
-  pub judged-release : (known : Bool) (rows : ℕ) (p : Plan) → rows ≡ length ts → p ≡ cond known (releasePlan s l id rows) (refusedPlan (checked s))
+  pub judged-release : (isTable : Bool) (rows : ℕ) (p : Plan) → rows ≡ length ts → p ≡ cond isTable (releasePlan s l id rows) (refusedPlan (checked s))
       → (r : SettledRelease) → r ≡ releaseSettled l (getD ts (p .row) noTally) (p .next)
-      → releaseEffect (r .answer) (set ts (p .row) (r .row)) ≡ releaseJudgement known s l id ts
+      → releaseEffect (r .answer) (set ts (p .row) (r .row)) ≡ releaseJudgement isTable s l id ts
   unfolding releaseJudgement
   judged-release true rows p n e r is = release-within s l id ts p (e ∙ ap (λ (k : ℕ). releasePlan s l id k) n) r is
   judged-release false rows p n e r is =

@@ -53,8 +53,8 @@ module _ (cells schema : List ℕ) (rows : ℕ) where
   goodCells = areCalls cells && goodTable T l
 
   module _ (side : ℕ) (bytes : List ℕ) where
-    known-plan : (known : Bool)
-        → cond known (planOf schema side bytes rows l) (refusedPlan (checked schema)) ≡ checkedPlan schema (goodPlan (known && goodTable T l) rows T side bytes l)
+    known-plan : (isTable : Bool)
+        → cond isTable (planOf schema side bytes rows l) (refusedPlan (checked schema)) ≡ checkedPlan schema (goodPlan (isTable && goodTable T l) rows T side bytes l)
     unfolding planOf
     known-plan true = refl
     known-plan false = refused-checked (checked schema)
@@ -72,8 +72,8 @@ module _ (cells schema : List ℕ) (rows : ℕ) where
     abbrev next : Plan
     next = onCalls goodCells rows T (λ number. stopPlan number 0) release
 
-    known-release : (known : Bool)
-        → cond known (releasePlan schema l id rows) (refusedPlan (checked schema)) ≡ checkedPlan schema (onCalls (known && goodTable T l) rows T (λ number. stopPlan number 0) release)
+    known-release : (isTable : Bool)
+        → cond isTable (releasePlan schema l id rows) (refusedPlan (checked schema)) ≡ checkedPlan schema (onCalls (isTable && goodTable T l) rows T (λ number. stopPlan number 0) release)
     unfolding releasePlan
     known-release true = refl
     known-release false = refused-checked (checked schema)
@@ -153,9 +153,9 @@ slot-stored cells i c t = go (ltb i 128) refl
 -- ---- a plan settled
 
 -- Cells that are no call table: the judgement stops.
-pub refused-stops : (known : Bool) (x p : Plan) (v : Checked) (J : Judged) → p ≡ cond known x (refusedPlan v) → ((n q : ℕ) → p .next ≡ NextRefused n q → J ≡ JudgedRefused n)
-    → known ≡ false → (n : ℕ) × (J ≡ JudgedRefused n)
-refused-stops known x p v J e f k = go v (e ∙ ap (λ (b : Bool). cond b x (refusedPlan v)) k)
+pub refused-stops : (isTable : Bool) (x p : Plan) (v : Checked) (J : Judged) → p ≡ cond isTable x (refusedPlan v) → ((n q : ℕ) → p .next ≡ NextRefused n q → J ≡ JudgedRefused n)
+    → isTable ≡ false → (n : ℕ) × (J ≡ JudgedRefused n)
+refused-stops isTable x p v J e f k = go v (e ∙ ap (λ (b : Bool). cond b x (refusedPlan v)) k)
   where
     go : (v : Checked) → p ≡ refusedPlan v → (n : ℕ) × (J ≡ JudgedRefused n)
     go Good h = (15, f 15 0 (ap (λ (y : Plan). y .next) h))

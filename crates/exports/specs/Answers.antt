@@ -191,8 +191,8 @@ refusedPlan (check.Refused number row) = stopPlan number row
 
 -- One frame against the call table l, which the cells are, or are not.
 unfoldable pub judgement : Bool → (schema : List ℕ) (side : ℕ) (bytes sheet : List ℕ) → List Tally → List Call → Effect
-judgement known schema side bytes sheet ts l =
-    cond known (received schema side bytes sheet ts l) (effect (notCalls (checked schema) l) sheet ts)
+judgement isTable schema side bytes sheet ts l =
+    cond isTable (received schema side bytes sheet ts l) (effect (notCalls (checked schema) l) sheet ts)
 
 -- One frame against the call table and the tally rows that these cells hold. Cells that are no call table are refused as one that is not good.
 abbrev pub receiving : (table schema : List ℕ) (side : ℕ) (bytes sheet tallies : List ℕ) → Effect
@@ -220,7 +220,7 @@ notReleased check.Good l = releaseAnswer 15 0 l
 notReleased (check.Refused number row) l = releaseAnswer number row l
 
 unfoldable pub releaseJudgement : Bool → (schema : List ℕ) → List Call → (correlation : ℕ) → List Tally → ReleaseEffect
-releaseJudgement known schema l id ts = cond known (released schema l id ts) (releaseEffect (notReleased (checked schema) l) ts)
+releaseJudgement isTable schema l id ts = cond isTable (released schema l id ts) (releaseEffect (notReleased (checked schema) l) ts)
 
 abbrev pub releasing : (table schema : List ℕ) (correlation : ℕ) (tallies : List ℕ) → ReleaseEffect
 releasing table schema id tallies = releaseJudgement (areCalls table) schema (callsOf table) id (rowsOf tallies)

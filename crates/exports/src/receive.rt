@@ -1,6 +1,7 @@
 // One frame against the call table and the tally rows that the caller lends.
 use crate::cells::store;
 use crate::planning::plan;
+use crate::rows::TALLY_CELLS;
 use crate::rows::put_row;
 use crate::rows::row_in;
 use crate::settling::keep;
@@ -30,7 +31,14 @@ fn judge(
     ensures { λ _. ⌜ now (tallies .exit) ≡ rowCells (now (tallies .entry)) (receiving (now (table .entry)) (now (schema .entry)) side (now (bytes .entry)) (now (sheet .entry)) (now (tallies .entry)) .tallies) ⌝ }
     ensures { λ r. ⌜ CountsOpen (now (table .entry)) (now (calls .exit)) × RefusedCells (now (table .entry)) (r .judged) ⌝ }
 {
-    let plan = plan(table, schema, side, bytes, tallies.len() / 5, calls);
+    let plan = plan(
+        table,
+        schema,
+        side,
+        bytes,
+        tallies.len() / TALLY_CELLS,
+        calls,
+    );
     let row = plan.row;
     let old = row_in(tallies, row);
     let done = settle_plan(plan, schema, bytes, sheet, old);

@@ -1,11 +1,11 @@
-// The call table in cells that the caller lends, three a record.
+// The call table in cells that the caller lends.
 use crate::cells::put;
 use calls::Call;
 use calls::OwnCall;
 use calls::OwnSlot;
+use calls::call_record::EMPTY;
 use calls::forms::TABLE_1;
 use calls::good::distinct;
-use calls::record::EMPTY;
 use constants::limit;
 use schema::Found;
 use schema::access::method_count;
@@ -22,10 +22,21 @@ ghost use Rattle.calls.specs.Slots.{slot, recordAt, goodCall, goodTable, firstS
 ghost use Rattle.calls.specs.OwnSlots.{ownSlotOf};
 ghost use Rattle.exports.specs.Records.{callOf, callAt, callsOf, CountsOpen, marksOf, recordCells, plain, areCalls};
 
-// The cells of a call table, three for each record.
-const CELLS: usize = 3 * limit::CALLS;
+// Cells of a record: the correlation, the method, and the marks with the counts of elements.
+const RECORD_CELLS: usize = 3;
 
-// The marks' cell: a bit for each of the five marks, then the counts of input and of output elements.
+// The cells of a call table.
+const CELLS: usize = RECORD_CELLS * limit::CALLS;
+
+// The marks' cell: a bit for each of the five marks, of which the first says that the call is open, then the counts of input and of output elements.
+const RESPONDED: u64 = 2;
+
+const INPUT_CLOSED: u64 = 4;
+
+const OUTPUT_CLOSED: u64 = 8;
+
+const CANCELLED: u64 = 16;
+
 const INPUTS: u64 = 32;
 
 // Counts of elements, and what comes after the two of them.
@@ -52,10 +63,10 @@ fn call_of(correlation: u64, method: u64, marks: u64) -> Call
         correlation,
         method: (method % METHODS) as u32,
         open: marks % 2 == 1,
-        responded: marks / 2 % 2 == 1,
-        input_closed: marks / 4 % 2 == 1,
-        output_closed: marks / 8 % 2 == 1,
-        cancelled: marks / 16 % 2 == 1,
+        responded: marks / RESPONDED % 2 == 1,
+        input_closed: marks / INPUT_CLOSED % 2 == 1,
+        output_closed: marks / OUTPUT_CLOSED % 2 == 1,
+        cancelled: marks / CANCELLED % 2 == 1,
         input_elements: (marks / INPUTS % COUNTS) as u16,
         output_elements: (marks / OUTPUTS % COUNTS) as u16,
     }
@@ -66,9 +77,9 @@ fn call_at(cells: &[u64], i: usize) -> Call
     ensures { λ r. ⌜ r ≡ callAt (now (cells .entry)) i ⌝ }
 {
     call_of(
-        cell(cells, 3 * i),
-        cell(cells, 3 * i + 1),
-        cell(cells, 3 * i + 2),
+        cell(cells, RECORD_CELLS * i),
+        cell(cells, RECORD_CELLS * i + 1),
+        cell(cells, RECORD_CELLS * i + 2),
     )
 }
 
@@ -118,9 +129,9 @@ pub fn are_good(cells: &[u64], s: &[u8], calls: &mut usize) -> bool
     let mut n: usize = 0;
     let mut i: usize = 0;
     while i < limit::CALLS {
-        let id = cells[3 * i];
-        let marks = cells[3 * i + 2];
-        if !is_good(s, id, cells[3 * i + 1], marks) {
+        let id = cells[RECORD_CELLS * i];
+        let marks = cells[RECORD_CELLS * i + 2];
+        if !is_good(s, id, cells[RECORD_CELLS * i + 1], marks) {
             *calls = open_count(cells);
             return false;
         }
@@ -139,7 +150,7 @@ fn is_open(cells: &[u64], i: usize) -> bool
     requires { ⌜ i < 128 ⌝ }
     ensures { λ r. ⌜ r ≡ callAt (now (cells .entry)) i .«open» ⌝ }
 {
-    cell(cells, 3 * i + 2) % 2 == 1
+    cell(cells, RECORD_CELLS * i + 2) % 2 == 1
 }
 
 // Whether it is that of a call open under this correlation.
@@ -147,7 +158,7 @@ fn is_call(cells: &[u64], i: usize, id: u64) -> bool
     requires { ⌜ i < 128 ⌝ }
     ensures { λ r. ⌜ r ≡ isCall id (callAt (now (cells .entry)) i) ⌝ }
 {
-    is_open(cells, i) & (cell(cells, 3 * i) == id)
+    is_open(cells, i) & (cell(cells, RECORD_CELLS * i) == id)
 }
 
 // The slot of the open call with this correlation.
@@ -255,10 +266,10 @@ fn marks_of(call: Call) -> u64
     ensures { λ r. ⌜ r ≡ marksOf call ⌝ }
 {
     mark(call.open)
-        + 2 * mark(call.responded)
-        + 4 * mark(call.input_closed)
-        + 8 * mark(call.output_closed)
-        + 16 * mark(call.cancelled)
+        + RESPONDED * mark(call.responded)
+        + INPUT_CLOSED * mark(call.input_closed)
+        + OUTPUT_CLOSED * mark(call.output_closed)
+        + CANCELLED * mark(call.cancelled)
         + INPUTS * (call.input_elements as u64)
         + OUTPUTS * (call.output_elements as u64)
 }
@@ -268,9 +279,9 @@ fn put_call(cells: &mut [u64], i: usize, call: Call)
     requires { ⌜ i < 128 ⌝ }
     ensures { λ _. ⌜ now (cells .exit) ≡ sets (now (cells .entry)) (3 * i) (recordCells call) ⌝ }
 {
-    put(cells, 3 * i, call.correlation);
-    put(cells, 3 * i + 1, call.method as u64);
-    put(cells, 3 * i + 2, marks_of(call));
+    put(cells, RECORD_CELLS * i, call.correlation);
+    put(cells, RECORD_CELLS * i + 1, call.method as u64);
+    put(cells, RECORD_CELLS * i + 2, marks_of(call));
 }
 
 // A record put at a slot; past the last nothing changes.

@@ -1,6 +1,7 @@
 // The release of a cancelled call in the call table and the tally rows that the caller lends.
 use crate::cells::store;
 use crate::planning::plan_release;
+use crate::rows::TALLY_CELLS;
 use crate::rows::put_row;
 use crate::rows::row_in;
 use crate::settling::keep;
@@ -25,7 +26,13 @@ fn judge(
     ensures { λ _. ⌜ now (tallies .exit) ≡ rowCells (now (tallies .entry)) (releasing (now (table .entry)) (now (schema .entry)) correlation (now (tallies .entry)) .tallies) ⌝ }
     ensures { λ r. ⌜ CountsOpen (now (table .entry)) (now (calls .exit)) × RefusedCells (now (table .entry)) (r .judged) ⌝ }
 {
-    let plan = plan_release(table, schema, correlation, tallies.len() / 5, calls);
+    let plan = plan_release(
+        table,
+        schema,
+        correlation,
+        tallies.len() / TALLY_CELLS,
+        calls,
+    );
     let row = plan.row;
     let old = row_in(tallies, row);
     let done = settle_call(plan, old);

@@ -11,6 +11,22 @@ ghost use Rattle.scalar.specs.Scalar.{scalarBy, scalarNumber};
 ghost use Rattle.exports.specs.Cells.{stored};
 ghost use Rattle.exports.specs.Answers.{bitsOf, floatBits, sheetRow, valueCells, scalarCells};
 
+// The greatest number of 64 bits.
+const GREATEST: u64 = 18446744073709551615;
+
+// The cases of a value, as the answer tells them.
+const TRUTH: u64 = 1;
+
+const SIGNED: u64 = 2;
+
+const UNSIGNED: u64 = 3;
+
+const FLOAT32: u64 = 4;
+
+const FLOAT64: u64 = 5;
+
+const SPAN: u64 = 6;
+
 fn scalar_number(a: Answer) -> u32
     ensures { λ r. ⌜ r ≡ scalarNumber a ⌝ }
 {
@@ -25,7 +41,7 @@ fn bits_of(x: i64) -> u64
     ensures { λ r. ⌜ r ≡ bitsOf x ⌝ }
 {
     if x < 0 {
-        18446744073709551615 - ((-1 - x) as u64)
+        GREATEST - ((-1 - x) as u64)
     } else {
         x as u64
     }
@@ -54,12 +70,12 @@ fn value_cells(s: Scalar) -> [u64; 4]
     ensures { λ r. ⌜ r ≡ 0 ∷ valueCells s ⌝ }
 {
     match s {
-        Scalar::Truth(b) => [0, 1, b as u64, 0],
-        Scalar::Signed(x) => [0, 2, bits_of(x), 0],
-        Scalar::Unsigned(x) => [0, 3, x, 0],
-        Scalar::Float32(x, bits) => [0, 4, bits as u64, bits32(x) as u64],
-        Scalar::Float64(x, bits) => [0, 5, bits, bits64(x)],
-        Scalar::Span { place, length } => [0, 6, place as u64, length as u64],
+        Scalar::Truth(b) => [0, TRUTH, b as u64, 0],
+        Scalar::Signed(x) => [0, SIGNED, bits_of(x), 0],
+        Scalar::Unsigned(x) => [0, UNSIGNED, x, 0],
+        Scalar::Float32(x, bits) => [0, FLOAT32, bits as u64, bits32(x) as u64],
+        Scalar::Float64(x, bits) => [0, FLOAT64, bits, bits64(x)],
+        Scalar::Span { place, length } => [0, SPAN, place as u64, length as u64],
     }
 }
 

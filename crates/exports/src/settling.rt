@@ -15,7 +15,7 @@ ghost use Prim.Native.Nat.{_≤_};
 ghost use lib.ListN.{set};
 ghost use Rattle.calls.specs.Slots.{countOpen};
 ghost use Rattle.receiver.specs.Answer.{answerIn};
-ghost use Rattle.exports.specs.Records.{callsOf, CountsOpen, areCalls};
+ghost use Rattle.exports.specs.Records.{callsOf, CountsOpen};
 ghost use Rattle.exports.specs.Answers.{keptOf, callCells, RefusedCells};
 
 fn one(b: bool) -> usize

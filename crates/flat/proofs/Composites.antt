@@ -15,13 +15,13 @@ use Rattle.parse.proofs.Answers.{accepted-first}
 use Rattle.schema.specs.declared.Field.{Field}
 use Rattle.schema.specs.Table.{Table, Shape, array, map, struct}
 use Rattle.schema.specs.Check.{fieldRow}
-use Rattle.schema.proofs.Bools.{cases, clash}
+use Rattle.schema.proofs.Bools.{cases}
 use Rattle.value.specs.Narrow.{firstOf}
-use Rattle.value.specs.Comparisons.{due}
+use Rattle.value.specs.Comparisons.{keyComparisons}
 use Rattle.value.specs.Value.{Tree, tip}
 use Rattle.value.specs.Read.{Item, plainItem, pairs, present, parts, bitmap, among, walk, wholeValue, parse}
 use Rattle.value.proofs.Narrowed.{first-all}
-use Rattle.value.proofs.Comparisons.{due-half, due-few}
+use Rattle.value.proofs.Comparisons.{comparisons-half, comparisons-few}
 use Rattle.walks.specs.Shape.{fieldsFrom}
 use Rattle.walks.proofs.Presence.{length-fields, present-set, present-clear}
 use Rattle.walks.proofs.Items.{elements-some, pairs-some, pairs-none, item-accepted, item-stop, item-past, key-known, key-again, pair-stop, pair-past}
@@ -32,7 +32,7 @@ use Rattle.flat.specs.declared.leaf.Head.the-variants.{Bits, Refused as 
 use Rattle.flat.specs.declared.Walk.{Walk}
 use Rattle.flat.specs.declared.Walk.the-variants.{Past}
 use Rattle.flat.specs.Sheet.{putRow}
-use Rattle.flat.specs.Leaf.{part, countOf, CountIn, CountRead, headOf, HeadIn, Headed}
+use Rattle.flat.specs.Leaf.{between, countOf, CountIn, CountRead, headOf, HeadIn, Headed}
 use Rattle.flat.specs.Walk.{firstFields, told, toldHeld, noted, note, done, stopped, walkOf, Walked}
 use Rattle.flat.proofs.Steps.{ahead, telling, tip-told, later, renamed, further, composite-past, as-told, spanRow, walk-length, parse-refused, parse-whole, own-accepted}
 
@@ -87,7 +87,7 @@ module _ (S : ℕ → Shape) (d t : ℕ) (p : List ℕ) (at : ℕ) where
 
       -- a map as it is told from its head on
       pub map-valued : (R : ℕ → Shape) → R t ≡ map k v → n ≤ 64 → {row : ℕ} {l : List ℕ} (w : Walk) {m : List ℕ}
-          → Walked p start (toldHeld R S (due n) (pairs n k v)) (wholeValue (parse S d) t (map k v) (parts start n) (cursorAt p start)) row l w m
+          → Walked p start (toldHeld R S (keyComparisons n) (pairs n k v)) (wholeValue (parse S d) t (map k v) (parts start n) (cursorAt p start)) row l w m
           → Walked p (at + 1) (told R S t) (parse S (suc d) t (cursorAt p at)) row l w m
       map-valued R shown few w h =
           let i = count-in 2 r read n start q in
@@ -104,8 +104,8 @@ module _ (S : ℕ → Shape) (d t : ℕ) (p : List ℕ) (at : ℕ) where
       struct-refused number q =
           parse-refused S d t (cursorAt p at) (struct fs) is number at (rw (sym (read .same) ∙ ap (headOf p at) q))
 
-      module _ (word known count unknown start : ℕ) (q : r ≡ Bits word known count unknown start) where
-        pub head-in : HeadIn (length p) at fs (Bits word known count unknown start)
+      module _ (word known ones unknown start : ℕ) (q : r ≡ Bits word known ones unknown start) where
+        pub head-in : HeadIn (length p) at fs (Bits word known ones unknown start)
         head-in = rw q at (read .within)
 
         bits-read : bitmap fs (cursorAt p at) ≡ seen word (cursorAt p start)
@@ -134,25 +134,25 @@ module _ (S : ℕ → Shape) (d t : ℕ) (p : List ℕ) (at : ℕ) where
 
 -- ---- what is known of a type
 
-pub first-of : (known : List ℕ) (S : ℕ → Shape) (t : ℕ) {sh : Shape} → S t ≡ sh → firstFields known S t ≡ firstOf (getD known t 0) sh
+pub first-of : (shown : List ℕ) (S : ℕ → Shape) (t : ℕ) {sh : Shape} → S t ≡ sh → firstFields shown S t ≡ firstOf (getD shown t 0) sh
 unfolding firstFields
-first-of known S t e = rw e
+first-of shown S t e = rw e
 
 -- a struct with no more fields than are known is shown whole, one with more by its first ones
-module _ (known : List ℕ) (S : ℕ → Shape) (T : Table) (t first n : ℕ) (is : S t ≡ struct (fieldsFrom T first n)) (room : first + n ≤ length (T .fields)) where
-  pub first-whole : n ≤ getD known t 0 → firstFields known S t ≡ struct (fieldsFrom T first n)
-  first-whole le = first-of known S t is ∙ first-all (getD known t 0) _ (omega (arith, length-fields T first n room))
+module _ (shown : List ℕ) (S : ℕ → Shape) (T : Table) (t first n : ℕ) (is : S t ≡ struct (fieldsFrom T first n)) (room : first + n ≤ length (T .fields)) where
+  pub first-whole : n ≤ getD shown t 0 → firstFields shown S t ≡ struct (fieldsFrom T first n)
+  first-whole le = first-of shown S t is ∙ first-all (getD shown t 0) _ (omega (arith, length-fields T first n room))
 
-  pub first-part : (m : ℕ) → m ≡ getD known t 0 → m ≤ n → firstFields known S t ≡ struct (fieldsFrom T first m)
+  pub first-part : (m : ℕ) → m ≡ getD shown t 0 → m ≤ n → firstFields shown S t ≡ struct (fieldsFrom T first m)
   unfolding fieldsFrom
-  first-part m e le = first-of known S t is ∙ ap struct (rw (← e) (take-take m n (drop first (T .fields)) le))
+  first-part m e le = first-of shown S t is ∙ ap struct (rw (← e) (take-take m n (drop first (T .fields)) le))
 
 -- ---- elements of an array
 
 module _ (R S : ℕ → Shape) (P : ℕ → Reader Tree) (e left : ℕ) (some : 0 < left) (c : Cursor) (sum row : ℕ) (l : List ℕ) where
-  pub element-past : (c′ : Cursor) (due row′ : ℕ) (m : List ℕ) → done c′ due row′ m ≡ walkOf (told R S e) (P e c) 0 row l
-      → ahead R S P [] (replicate left (plainItem e)) c sum row l ≡ ahead R S P [] (replicate (left - 1) (plainItem e)) c′ (sum + due) row′ m
-  element-past c′ due row′ m h =
+  pub element-past : (c′ : Cursor) (compared row′ : ℕ) (m : List ℕ) → done c′ compared row′ m ≡ walkOf (told R S e) (P e c) 0 row l
+      → ahead R S P [] (replicate left (plainItem e)) c sum row l ≡ ahead R S P [] (replicate (left - 1) (plainItem e)) c′ (sum + compared) row′ m
+  element-past c′ compared row′ m h =
       item-past (telling R S) P [] (elements-some e left some) c (noted sum row l) tt (later (told R S e) (P e c) sum row l h)
 
   pub element-stop : (n q : ℕ) → stopped n q ≡ walkOf (told R S e) (P e c) 0 row l
@@ -188,11 +188,11 @@ module _ (R S : ℕ → Shape) (P : ℕ → Reader Tree) (p : List ℕ) (T : Tab
     pub field-accepted : Accepted (walk P [] (leftOver T i left bits) (cursorAt p here)) → Accepted (P (f .ty) (cursorAt p here))
     field-accepted h = item-accepted P [] (present-set T i left some room bits f is b) (cursorAt p here) h
 
-    pub field-read : (due next row′ : ℕ) (k : List ℕ)
-        → Walked p (here + 1) (told R S (f .ty)) (P (f .ty) (cursorAt p here)) below l (Past due next row′) k
-        → (here′ sum′ below′ : ℕ) (m : List ℕ) → here′ ≡ next → sum′ ≡ sum + due → below′ ≡ row′ → m ≡ k
+    pub field-read : (compared next row′ : ℕ) (k : List ℕ)
+        → Walked p (here + 1) (told R S (f .ty)) (P (f .ty) (cursorAt p here)) below l (Past compared next row′) k
+        → (here′ sum′ below′ : ℕ) (m : List ℕ) → here′ ≡ next → sum′ ≡ sum + compared → below′ ≡ row′ → m ≡ k
         → Turned R S P p T i left bits here sum below l here′ sum′ below′ m
-    field-read due next row′ k h here′ sum′ below′ m e₁ e₂ e₃ e₄ =
+    field-read compared next row′ k h here′ sum′ below′ m e₁ e₂ e₃ e₄ =
         let w = h .within in
         rw (e₁, e₂, e₃, e₄)
         (record {
@@ -204,11 +204,6 @@ module _ (R S : ℕ → Shape) (P : ℕ → Reader Tree) (p : List ℕ) (T : Tab
           forth = omega arith;
           long = walk-length (told R S (f .ty)) (P (f .ty) (cursorAt p here)) 0 below l (h .same);
         })
-
-  -- a present field that stops, whatever its type is
-  pub field-deep : bits % 2 ≡ 1 → (n q : ℕ) → ((ty : ℕ) → stopped n q ≡ walkOf (told R S ty) (P ty (cursorAt p here)) 0 below l)
-      → stopped n q ≡ ahead R S P [] (leftOver T i left bits) (cursorAt p here) sum below l
-  field-deep b n q h = field-stop (fieldRow T i) refl b n q (h (fieldRow T i .ty))
 
   pub field-absent : (bits % 2 ≡ 1 → ⊥) → here ≤ length p → below ≤ here
       → (here′ sum′ below′ : ℕ) (m : List ℕ) → here′ ≡ here → sum′ ≡ sum → below′ ≡ below → m ≡ l
@@ -227,59 +222,38 @@ module _ (R S : ℕ → Shape) (P : ℕ → Reader Tree) (p : List ℕ) (k v n i
       → stopped a q ≡ ahead R S P keys (pairs (n - i) k v) (cursorAt p here) sum below l
   pair-key-stop sum below l a q e = item-stop (telling R S) P keys (pairs-some k v some) (cursorAt p here) (noted sum below l) _ (rw e)
 
-  module _ (from to : ℕ) (read : P k (cursorAt p here) ≡ seen (tip (spanRow k from to) (part p from to)) (cursorAt p to)) where
-    pub pair-again : (sum below : ℕ) (l : List ℕ) → among (part p from to) keys ≡ true
+  module _ (from to : ℕ) (read : P k (cursorAt p here) ≡ seen (tip (spanRow k from to) (between p from to)) (cursorAt p to)) where
+    pub pair-again : (sum below : ℕ) (l : List ℕ) → among (between p from to) keys ≡ true
         → stopped 24 here ≡ ahead R S P keys (pairs (n - i) k v) (cursorAt p here) sum below l
     pair-again sum below l e = key-again (telling R S) P keys (pairs-some k v some) (cursorAt p here) read (noted sum below l) e
 
     -- a key is new where the walk that judges says so, and where the other walk is known to accept
     module _ (judging r : Bool) where
-      pub pair-new : (judging ≡ false → Accepted (walk P keys (pairs (n - i) k v) (cursorAt p here))) → (judging ≡ true → r ≡ among (part p from to) keys)
-          → r ≡ false → among (part p from to) keys ≡ false
+      pub pair-new : (judging ≡ false → Accepted (walk P keys (pairs (n - i) k v) (cursorAt p here))) → (judging ≡ true → r ≡ among (between p from to) keys)
+          → r ≡ false → among (between p from to) keys ≡ false
       pair-new a q e = ⊎-elim (λ j. sym (q j) ∙ e) (λ j. key-known P keys (pairs-some k v some) (cursorAt p here) read (a j) .0) (cases judging)
 
-      pub pair-old : (judging ≡ false → r ≡ false) → (judging ≡ true → r ≡ among (part p from to) keys) → r ≡ true → among (part p from to) keys ≡ true
-      pair-old a q e = ⊎-elim (λ j. sym (q j) ∙ e) (λ j. clash r e (a j)) (cases judging)
-
-    module _ (new : among (part p from to) keys ≡ false) (sum below : ℕ) (l m : List ℕ) (put : m ≡ putRow l below (spanRow k from to)) where
-      key-told : noted sum (below + 1) m ≡ note (told R S k (tip (spanRow k from to) (part p from to))) (noted sum below l)
-      key-told = rw put (tip-told R S k (spanRow k from to) (part p from to) sum below l)
+    module _ (new : among (between p from to) keys ≡ false) (sum below : ℕ) (l m : List ℕ) (put : m ≡ putRow l below (spanRow k from to)) where
+      key-told : noted sum (below + 1) m ≡ note (told R S k (tip (spanRow k from to) (between p from to))) (noted sum below l)
+      key-told = rw put (tip-told R S k (spanRow k from to) (between p from to) sum below l)
 
       pub pair-value-accepted : Accepted (walk P keys (pairs (n - i) k v) (cursorAt p here)) → Accepted (P v (cursorAt p to))
-      pair-value-accepted h = item-accepted P (part p from to ∷ keys) refl (cursorAt p to) (key-known P keys (pairs-some k v some) (cursorAt p here) read h .1)
+      pair-value-accepted h = item-accepted P (between p from to ∷ keys) refl (cursorAt p to) (key-known P keys (pairs-some k v some) (cursorAt p here) read h .1)
 
       pub pair-value-stop : (a q : ℕ) → stopped a q ≡ walkOf (told R S v) (P v (cursorAt p to)) 0 (below + 1) m
           → stopped a q ≡ ahead R S P keys (pairs (n - i) k v) (cursorAt p here) sum below l
       pair-value-stop a q e = pair-stop (telling R S) P k v keys (cursorAt p here) some read (noted sum below l) new tt key-told (noted 0 (below + 1) m) e
 
-      -- A turn of the loop over pairs, with the key's row already written.
-      pub record Paired (here′ sum′ below′ : ℕ) (m′ : List ℕ) : Type 0 where
-        pub same : ahead R S P keys (pairs (n - i) k v) (cursorAt p here) sum below l
-            ≡ ahead R S P (part p from to ∷ keys) (pairs (n - (i + 1)) k v) (cursorAt p here′) sum′ below′ m′
-        pub inside : here′ ≤ length p
-        pub behind : below′ ≤ here′
-        pub forth : sum′ + 16 * (to + 1) ≤ sum + 16 * here′
-        pub long : length m′ ≡ length m
-
-      pub pair-turn : (due next row′ : ℕ) (k′ : List ℕ)
-          → Walked p (to + 1) (told R S v) (P v (cursorAt p to)) (below + 1) m (Past due next row′) k′
-          → (here′ sum′ below′ : ℕ) (m′ : List ℕ) → here′ ≡ next → sum′ ≡ sum + due → below′ ≡ row′ → m′ ≡ k′ → Paired here′ sum′ below′ m′
-      pair-turn due next row′ k′ h here′ sum′ below′ m′ e₁ e₂ e₃ e₄ =
-          let w = h .within in
-          rw (e₁, e₂, e₃, e₄)
-          (record {
-            same =
-                pair-past (telling R S) P k v keys (cursorAt p here) some read (noted sum below l) new tt key-told tt
-                (later (told R S v) (P v (cursorAt p to)) sum (below + 1) m (h .same));
-            inside = w .0;
-            behind = w .1;
-            forth = omega arith;
-            long = walk-length (told R S v) (P v (cursorAt p to)) 0 (below + 1) m (h .same);
-          })
+      -- a turn of the loop over pairs, with the key's row already written
+      pub pair-turn : (compared next row′ : ℕ) (m′ : List ℕ) → done (cursorAt p next) compared row′ m′ ≡ walkOf (told R S v) (P v (cursorAt p to)) 0 (below + 1) m
+          → ahead R S P keys (pairs (n - i) k v) (cursorAt p here) sum below l
+          ≡ ahead R S P (between p from to ∷ keys) (pairs (n - (i + 1)) k v) (cursorAt p next) (sum + compared) row′ m′
+      pair-turn compared next row′ m′ h =
+          pair-past (telling R S) P k v keys (cursorAt p here) some read (noted sum below l) new tt key-told tt (later (told R S v) (P v (cursorAt p to)) sum (below + 1) m h)
 
 -- the comparisons of a map's own keys, at most 32 a pair
-pub own-due : (n : ℕ) → n * (n - 1) / 2 ≡ due n
-own-due n = rw (← due-half n) (omega arith)
+pub own-comparisons : (n : ℕ) → n * (n - 1) / 2 ≡ keyComparisons n
+own-comparisons n = rw (← comparisons-half n) (omega arith)
 
 -- a map without pairs, which has its own row alone
 module _ (S : ℕ → Shape) (d t : ℕ) (p : List ℕ) (at k v : ℕ) (is : S t ≡ map k v) (r : Count) (read : CountRead p at 2 (count 2 (cursorAt p at)) r) where
@@ -292,10 +266,10 @@ module _ (S : ℕ → Shape) (d t : ℕ) (p : List ℕ) (at k v : ℕ) (is : S t
       map-valued S d t p at k v is r read n start q R shown (omega (arith, none)) _
       (composite-past R S (parse S d) (map k v) t start n (cursorAt p start) row l p start start 0 0 (row + 1) l
       _ [] (pairs n k v) (pairs-none k v n (omega (arith, none))) refl
-      (rw none (omega (arith, own-due 0))) (rw (zero, none) put) (omega (arith, i .1)) (omega (arith, i .0, behind)) (omega arith))
+      (rw none (omega (arith, own-comparisons 0))) (rw (zero, none) put) (omega (arith, i .1)) (omega (arith, i .0, behind)) (omega arith))
 
 pub few-pairs : (n : ℕ) → n ≤ 64 → n * (n - 1) ≤ 63 * n
-few-pairs n h = rw (← due-half n) (due-few n h)
+few-pairs n h = rw (← comparisons-half n) (comparisons-few n h)
 
 -- the loop over pairs starts with all of them
 pub pairs-first : (R S : ℕ → Shape) (P : ℕ → Reader Tree) (k v n : ℕ) (c : Cursor) (row : ℕ) (l : List ℕ)

@@ -18,12 +18,12 @@ use Rattle.value.specs.Read.{parts, bitmap, own, parse}
 use Rattle.walks.specs.Shape.{fieldsFrom, shapeIn}
 use Rattle.walks.proofs.Tables.{struct-row, shape-struct}
 use Rattle.flat.specs.declared.elements.Prepared.{Prepared}
-use Rattle.flat.specs.declared.elements.Opened.{Opened}
-use Rattle.flat.specs.declared.elements.Opened.the-variants.{Bits, Refused}
+use Rattle.flat.specs.declared.elements.InnerHead.{InnerHead}
+use Rattle.flat.specs.declared.elements.InnerHead.the-variants.{Bits, Refused}
 use Rattle.flat.specs.declared.Walk.{Walk}
 use Rattle.flat.specs.declared.Walk.the-variants.{Refused as Stopped}
 use Rattle.flat.specs.Walk.{valueIn, wholeIn, told, Walked, Ready}
-use Rattle.flat.specs.Flat.{LeavesIn, IsFlat, Described, openedOf, Unfolded, ValuedFlat, HeldFields, FieldsReady}
+use Rattle.flat.specs.Flat.{LeavesIn, IsFlat, Described, innerHeadOf, InnerHeaded, ValuedFlat, HeldFields, FieldsReady}
 use Rattle.flat.proofs.Steps.{renamed, as-refused, further, as-told, parse-refused, parse-whole}
 
 -- ---- fields that are scalars, strings or bytes
@@ -70,16 +70,16 @@ module _ {s p : List ℕ} {f : Prepared} {at depth row : ℕ} {judging : Bool} (
   pub struct-is : shapeIn s (f .ty) ≡ whole
   struct-is = shape-struct (tableOf s) (f .ty) (f .row) (d .is) k
 
-  pub opened-asked : (0 < f .row .b) × (f .row .b ≤ 64) × (at ≤ length p)
-  opened-asked = (few .0, few .1, ready .inside)
+  pub inner-asked : (0 < f .row .b) × (f .row .b ≤ 64) × (at ≤ length p)
+  inner-asked = (few .0, few .1, ready .inside)
 
-  module _ {r : Opened} (u : Unfolded p (f .required) (f .row .b) at r) where
-    same : openedOf p at r ≡ own whole (cursorAt p at)
+  module _ {r : InnerHead} (u : InnerHeaded p (f .required) (f .row .b) at r) where
+    same : innerHeadOf p at r ≡ own whole (cursorAt p at)
     same = u .same (tableOf s) (f .row .a) (few .2) (d .required k)
 
-    pub opened-refused : {number : ℕ} → r ≡ Refused number → (R : ℕ → Shape) {l m : List ℕ}
+    pub inner-refused : {number : ℕ} → r ≡ Refused number → (R : ℕ → Shape) {l m : List ℕ}
         → Walked p (at + 1) (told R (shapeIn s) (f .ty)) (valueIn s p (suc depth) (f .ty) at) row l (Stopped number at) m
-    opened-refused {number} e R = as-refused _ _ _ (parse-refused (shapeIn s) depth (f .ty) (cursorAt p at) whole struct-is number at (sym (rw e at same)))
+    inner-refused {number} e R = as-refused _ _ _ (parse-refused (shapeIn s) depth (f .ty) (cursorAt p at) whole struct-is number at (sym (rw e at same)))
 
     module _ {known start : ℕ} (e : r ≡ Bits known start) where
       within : (known < 2 ^ f .row .b) × (at < start) × (start ≤ length p)
@@ -88,8 +88,8 @@ module _ {s p : List ℕ} {f : Prepared} {at depth row : ℕ} {judging : Bool} (
       value-is : valueIn s p (suc depth) (f .ty) at ≡ wholeIn s p depth (f .ty) whole at known start
       value-is = parse-whole (shapeIn s) depth (f .ty) (cursorAt p at) whole struct-is (parts at known) (cursorAt p start) (sym (rw e at same))
 
-      pub opened-ready : FieldsReady s p depth (f .ty) (f .row .a) (f .row .b) at known start row judging
-      opened-ready =
+      pub inner-ready : FieldsReady s p depth (f .ty) (f .row .a) (f .row .b) at known start row judging
+      inner-ready =
           record {
             ready = record {
               good = ready .good;
@@ -99,19 +99,19 @@ module _ {s p : List ℕ} {f : Prepared} {at depth row : ℕ} {judging : Bool} (
               judged = λ j. rw value-is at (ready .judged j);
             };
             leaves = rw (d .is) (flat .fields (rw (d .is) at k));
-            room = few .2;
+            in-table = few .2;
             few = few .1;
             fits = within .0;
             forth = omega (arith, within .1);
             deep = omega (arith, flat .deep (rw (← d .is) (omega (arith, k))));
           }
 
-      pub opened-told : (R : ℕ → Shape) {l : List ℕ} (w : Walk) {m : List ℕ}
+      pub inner-told : (R : ℕ → Shape) {l : List ℕ} (w : Walk) {m : List ℕ}
           → Walked p start (told R (shapeIn s) (f .ty)) (wholeIn s p depth (f .ty) whole at known start) row l w m
           → Walked p (at + 1) (told R (shapeIn s) (f .ty)) (valueIn s p (suc depth) (f .ty) at) row l w m
-      opened-told R w h = renamed value-is (further start (at + 1) w (omega (arith, within .1)) h)
+      inner-told R w h = renamed value-is (further start (at + 1) w (omega (arith, within .1)) h)
 
-      pub opened-held : {l : List ℕ} (w : Walk) {m : List ℕ} → HeldFields s p depth (f .ty) (f .row .a) (f .row .b) at known start row l w m
+      pub inner-held : {l : List ℕ} (w : Walk) {m : List ℕ} → HeldFields s p depth (f .ty) (f .row .a) (f .row .b) at known start row l w m
           → ValuedFlat s p (suc depth) (f .ty) at row l w m
-      opened-held {l} w h R shown =
-          opened-told R w (as-told R (shapeIn s) (parse (shapeIn s) depth) whole (f .ty) at known (cursorAt p start) row l (shown ∙ struct-is) struct-is (h R))
+      inner-held {l} w h R shown =
+          inner-told R w (as-told R (shapeIn s) (parse (shapeIn s) depth) whole (f .ty) at known (cursorAt p start) row l (shown ∙ struct-is) struct-is (h R))

@@ -23,8 +23,8 @@ module _ (p : List ℕ) (T : Table) (first n at : ℕ) (room : first + n ≤ len
   unfolding bitmap andThen
   head-cut h = record { same = rw (length-fields T first n room, block-short p at ((n + 7) / 8) h); within = tt }
 
-  module _ (word known count unknown : ℕ) (inside : at + (n + 7) / 8 ≤ length p)
-      (is : Present (span p at ((n + 7) / 8)) n word known count unknown) where
+  module _ (word known ones unknown : ℕ) (inside : at + (n + 7) / 8 ≤ length p)
+      (is : Present (span p at ((n + 7) / 8)) n word known ones unknown) where
     there : block ((n + 7) / 8) (cursorAt p at) ≡ seen (span p at ((n + 7) / 8)) (cursorAt p (at + (n + 7) / 8))
     there = block-here p at ((n + 7) / 8) (omega arith)
 
@@ -40,9 +40,9 @@ module _ (p : List ℕ) (T : Table) (first n at : ℕ) (room : first + n ≤ len
     head-incomplete h = record { same = rw (length-fields T first n room, there, ← is .word-is, h); within = tt }
 
     pub head-bits : requiredSet (fieldsFrom T first n) word ≡ true → 0 < n → n ≤ 64 → Bytes p
-        → Headed p at (fieldsFrom T first n) (bitmap (fieldsFrom T first n) (cursorAt p at)) (Bits word known count unknown (at + (n + 7) / 8))
+        → Headed p at (fieldsFrom T first n) (bitmap (fieldsFrom T first n) (cursorAt p at)) (Bits word known ones unknown (at + (n + 7) / 8))
     unfolding bitmap andThen check
     head-bits h z few bytes =
         let many : length (fieldsFrom T first n) ≡ n = length-fields T first n room in
         let b = bits-read (fieldsFrom T first n) many p at inside bytes is in
-        record { same = rw (many, there, ← is .word-is, h); within = (b .0, b .1, b .2, b .3, omega arith, inside, omega (arith, is .count-le)) }
+        record { same = rw (many, there, ← is .word-is, h); within = (b .0, b .1, b .2, b .3, omega arith, inside, omega (arith, is .ones-few)) }

@@ -5,7 +5,7 @@ use mathlib.Core.List.{List}
 use Prim.Native.Nat.{ℕ, _+_, _-_, _*_, _≤_, _<_}
 use native.Mathlib.Nat.{mul-le-mul}
 use native.Mathlib.Omega.{arith}
-use borrow.Author.Tests.{lt-ltb, le-ltb, eq-eqb, ne-eqb}
+use borrow.Author.Tests.{eq-eqb}
 use lib.Dec.{ltb, eqb}
 use lib.ListN.{length, getD, length-drop, length-take}
 use Rattle.buffer.specs.Span.{span}
@@ -19,20 +19,20 @@ use Rattle.parse.proofs.Answers.{accepted-check}
 use Rattle.parse.proofs.Places.{var-here, cut-here, malformed-here, block-here, block-short, count-stops, count-short, count-here}
 use Rattle.schema.specs.Table.{scalar, text, width}
 use Rattle.value.specs.Read.{plain, own}
-use Rattle.value.proofs.Spans.{truth-byte}
+use Rattle.value.proofs.Spans.{scalar-untrue}
 use Rattle.flat.specs.declared.leaf.Count.{Count}
 use Rattle.flat.specs.declared.leaf.Count.the-variants.{Is, Refused as CountRefused}
 use Rattle.flat.specs.declared.leaf.Span.the-variants.{At, Refused as SpanRefused}
-use Rattle.flat.specs.Leaf.{part, countOf, CountIn, CountRead, Spanned}
+use Rattle.flat.specs.Leaf.{between, countOf, CountIn, CountRead, Spanned}
 
 -- ---- parts of the payload
 
-pub length-part : (p : List ℕ) (from to : ℕ) → to ≤ length p → length (part p from to) ≡ to - from
-length-part p from to h = simp (length-take, length-drop) (omega arith)
+pub length-between : (p : List ℕ) (from to : ℕ) → to ≤ length p → length (between p from to) ≡ to - from
+length-between p from to h = simp (length-take, length-drop) (omega arith)
 
 module _ (p : List ℕ) (at : ℕ) where
-  part-is : (n : ℕ) → part p at (at + n) ≡ span p at n
-  part-is n = let e : at + n - at ≡ n = omega arith in rw e
+  between-is : (n : ℕ) → between p at (at + n) ≡ span p at n
+  between-is n = let e : at + n - at ≡ n = omega arith in rw e
 
   -- ---- counts
 
@@ -67,19 +67,12 @@ module _ (p : List ℕ) (kind at w : ℕ) (is : w ≡ width kind) where
   module _ (room : at + w ≤ length p) where
     pub scalar-at : (not (eqb kind 1) || ltb (little (span p at w)) 2) ≡ true → 0 < w → Spanned p at (own (scalar kind) (cursorAt p at)) (At at (at + w))
     unfolding andThen check
-    scalar-at t z = record { same = rw (part-is p at w, ← is, block-here p at w (omega arith), t); within = (omega arith, room, omega arith) }
-
-    pub scalar-truth : kind ≡ 1 → getD p at 0 ≤ 1 → (not (eqb kind 1) || ltb (little (span p at w)) 2) ≡ true
-    scalar-truth k h = rw (eq-eqb kind 1 k, truth-byte p kind at w is room k) (lt-ltb (getD p at 0) 2 (omega arith))
-
-    pub scalar-other : (kind ≡ 1 → ⊥) → (not (eqb kind 1) || ltb (little (span p at w)) 2) ≡ true
-    scalar-other k = rw (ne-eqb kind 1 k)
+    scalar-at t z = record { same = rw (between-is p at w, ← is, block-here p at w (omega arith), t); within = (omega arith, room, omega arith) }
 
     pub scalar-bad : kind ≡ 1 → 1 < getD p at 0 → Spanned p at (own (scalar kind) (cursorAt p at)) (SpanRefused at 22)
     unfolding andThen check
     scalar-bad k h =
-        let f : ltb (little (span p at w)) 2 ≡ false = rw (truth-byte p kind at w is room k) (le-ltb (getD p at 0) 2 h) in
-        record { same = rw (← is, block-here p at w (omega arith), f, eq-eqb kind 1 k); within = tt }
+        record { same = rw (← is, block-here p at w (omega arith), scalar-untrue p kind at w is room k h, eq-eqb kind 1 k); within = tt }
 
 -- ---- strings and bytes
 
@@ -112,10 +105,4 @@ module _ (p : List ℕ) (kind at : ℕ) (r : Count) (counted : CountRead p at 1 
 
     pub text-at : (not (eqb kind 12) || utf8 (span p start n)) ≡ true → Spanned p at (own (text kind) (cursorAt p at)) (At start (start + n))
     unfolding andThen check
-    text-at t = record { same = rw (part-is p start n, read-as, content-read, t); within = (omega arith, text-in .1, omega (arith, text-in .0)) }
-
-    pub text-valid : kind ≡ 12 → utf8 (span p start n) ≡ true → (not (eqb kind 12) || utf8 (span p start n)) ≡ true
-    text-valid k e = rw (eq-eqb kind 12 k) e
-
-    pub text-plain : (kind ≡ 12 → ⊥) → (not (eqb kind 12) || utf8 (span p start n)) ≡ true
-    text-plain k = rw (ne-eqb kind 12 k)
+    text-at t = record { same = rw (between-is p start n, read-as, content-read, t); within = (omega arith, text-in .1, omega (arith, text-in .0)) }

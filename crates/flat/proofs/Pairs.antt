@@ -1,20 +1,22 @@
--- Laws of maps that hold nothing but scalars, strings and bytes: where the loop over pairs stands, its turns, and its end.
+-- Laws of maps: what is told of a key, where the loop over pairs stands, its turns and its end; and a map of scalars, strings and bytes by its count.
 use mathlib.Core.Path.{_≡_, refl, ap, _∙_, sym}
-use mathlib.Core.Logic.{⊎-elim}
+use mathlib.Core.Logic.{inl, inr, ⊎-elim}
 use mathlib.Core.Bool.{Bool, true, false}
 use mathlib.Core.List.{List, [], _∷_}
-use Prim.Native.Nat.{ℕ, _+_, _-_, _*_, _≤_, _<_}
+use Prim.Native.Nat.{ℕ, suc, _+_, _-_, _*_, _/_, _≤_, _<_}
 use native.Mathlib.Omega.{arith}
 use lib.ListN.{length}
-use Rattle.parse.specs.Reader.{Reader, refused, seen, cursorAt, Accepted, count}
+use Rattle.parse.specs.Reader.{Reader, Answer, refused, cursorAt, Accepted, count}
 use Rattle.schema.specs.declared.TypeRow.{TypeRow}
 use Rattle.schema.specs.Table.{Shape, map, rowAt}
 use Rattle.schema.specs.File.{tableOf}
-use Rattle.value.specs.Value.{Tree, tip}
-use Rattle.value.specs.Comparisons.{due}
-use Rattle.value.specs.Read.{pairs, own, among, walk, parse}
+use Rattle.schema.proofs.Bools.{cases, clash}
+use Rattle.value.specs.Value.{Tree}
+use Rattle.value.specs.Comparisons.{keyComparisons, mapComparisons}
+use Rattle.value.specs.Read.{Own, pairs, plan, own, among, walk, parse}
 use Rattle.walks.specs.Shape.{leafShape, shapeIn}
 use Rattle.walks.specs.Keys.{keysIn, Kept}
+use Rattle.walks.proofs.Keys.{keys-none}
 use Rattle.walks.proofs.Tables.{shape-leaf}
 use Rattle.walks.proofs.Items.{pairs-none}
 use Rattle.walks.proofs.Walks.{deep, deeper, shallower}
@@ -25,34 +27,104 @@ use Rattle.flat.specs.declared.leaf.Count.the-variants.{Is, Refused as C
 use Rattle.flat.specs.declared.Walk.{Walk}
 use Rattle.flat.specs.declared.Walk.the-variants.{Past, Refused}
 use Rattle.flat.specs.Sheet.{putRow}
-use Rattle.flat.specs.Leaf.{part, Spanned, CountRead}
-use Rattle.flat.specs.Walk.{valueIn, told, Walked, Ready}
-use Rattle.flat.specs.Flat.{PairsIn, PairsReady, KeyTold, KeyTaken, ValuedFlat, HeldPairs}
+use Rattle.flat.specs.Leaf.{between, Spanned, CountRead}
+use Rattle.flat.specs.Walk.{valueIn, wholeIn, told, toldHeld, done, stopped, walkOf, Walked, Ready}
+use Rattle.flat.specs.Flat.{PairsReady, KeyTold, KeyTaken, ValuedFlat, HeldPairs}
 use Rattle.flat.proofs.Sheets.{length-put}
-use Rattle.flat.proofs.Steps.{ahead, as-refused, stop-at, composite-past, composite-stop, rest-accepted, own-accepted, parse-deep, spanRow, leaf-failed, leaf-in, leaf-parsed, leaf-past}
-use Rattle.flat.proofs.Composites.{pair-key-accepted, pair-key-stop, pair-new, pair-again, pair-value-accepted, pair-value-stop, Paired, pair-turn}
-use Rattle.flat.proofs.Composites.{own-due, few-pairs, pairs-first, count-in, map-refused, map-many, map-whole, map-valued}
+use Rattle.flat.proofs.Steps.{ahead, was, walk-length, as-refused, composite-past, composite-stop, rest-accepted, own-accepted, parse-deep, spanRow, leaf-failed, leaf-in, leaf-parsed, leaf-past}
+use Rattle.flat.proofs.Composites.{pair-key-accepted, pair-key-stop, pair-new, pair-again, pair-value-accepted, pair-value-stop, pair-turn}
+use Rattle.flat.proofs.Composites.{own-comparisons, few-pairs, pairs-first, count-in, map-refused, map-many, map-whole, map-valued}
 
--- Where the loop over n pairs stands: at pair i, with the keys before it. The map's own row is `row`.
-pub record Along (s p : List ℕ) (depth key val n start row : ℕ) (sheet : List ℕ) (keys : List (List ℕ)) (i here below : ℕ) (l : List ℕ) : Type 0 where
-  pub same : (R : ℕ → Shape)
-      → ahead R (shapeIn s) (parse (shapeIn s) depth) keys (pairs (n - i) key val) (cursorAt p here) 0 below l
+-- ---- a key
+
+-- what is told of a key by its content, and by whether it is among those that are kept
+module _ {p : List ℕ} {at : ℕ} {o : Answer Own} {r : Span} (read : Spanned p at o r) where
+  pub key-refused : {judging : Bool} {ty i row : ℕ} {l kept m kept′ : List ℕ} {number place : ℕ} → r ≡ SpanRefused place number
+      → KeyTaken p at o judging ty i row l kept (SpanRefused place number) m kept′
+  key-refused e = record { told = inl (rw e at read) }
+
+  module _ {from to : ℕ} (e : r ≡ At from to) where
+    key-in : (from ≤ to) × (to ≤ length p) × (at < to)
+    key-in = rw e at (read .within)
+
+    pub key-forth : from ≤ to
+    key-forth = key-in .0
+
+    pub key-small : length p ≤ 16384 → (from < 4294967296) × (to - from < 4294967296) × (from + (to - from) ≤ length p)
+    key-small h = omega (arith, h, key-in)
+
+    pub key-put : {row : ℕ} → length p ≤ 16384 → row ≤ 16384 → (row ≤ 16384) × (from ≤ 16384) × (to - from ≤ 16384) × (0 ≤ 16384)
+    key-put h b = omega (arith, h, b, key-in)
+
+    module _ {judging again : Bool} {i : ℕ} {kept kept′ : List ℕ}
+        (said : (judging ≡ false → again ≡ false) × ((judging ≡ true → again ≡ among (between p from to) (keysIn p kept i))
+        × ((judging ≡ true → keysIn p kept′ (i + 1) ≡ between p from to ∷ keysIn p kept i) × (judging ≡ true → Kept p kept′ true (i + 1))))) {ty row : ℕ} {l m : List ℕ} where
+      pub key-again : again ≡ true → KeyTaken p at o judging ty i row l kept (SpanRefused at 24) m kept′
+      key-again y =
+          let j : judging ≡ true = ⊎-elim (λ j. j) (λ j. clash again y (said .0 j)) (cases judging) in
+          record { told = inr (refl, refl, j, (from, to, rw e at read, sym (said .1 .0 j) ∙ y)) }
+
+      pub key-new : again ≡ false → m ≡ putRow l row (spanRow ty from to) → KeyTaken p at o judging ty i row l kept (At from to) m kept′
+      key-new n put = record { told = (rw e at read, λ j. (sym (said .1 .0 j) ∙ n, said .1 .1 .0 j, said .1 .1 .1 j), put) }
+
+-- ---- the loop over pairs
+
+-- Where the loop over n pairs stands: at pair i, with the keys before it, which are kept where keys are judged. What is left gives the same end, by whatever shapes
+-- it is shown of which Ok holds; some are such. The map's own row is `row`.
+pub record Along (Ok : (ℕ → Shape) → Type 0) (s p : List ℕ) (depth ty key val n start row : ℕ) (judging : Bool) (sheet kept : List ℕ) (i here sum below : ℕ) (l : List ℕ) : Type 0 where
+  pub asked : PairsReady s p depth ty key val n start row judging
+  pub by : ℕ → Shape
+  pub ok : Ok by
+  pub had : List (List ℕ)
+  pub held : judging ≡ true → (had ≡ keysIn p kept i) × Kept p kept true i
+  pub same : (R : ℕ → Shape) → Ok R
+      → ahead R (shapeIn s) (parse (shapeIn s) depth) had (pairs (n - i) key val) (cursorAt p here) sum below l
       ≡ ahead R (shapeIn s) (parse (shapeIn s) depth) [] (pairs n key val) (cursorAt p start) 0 (row + 1) sheet
   pub inside : here ≤ length p
   pub behind : below ≤ here
-  pub forth : 32 * i + 16 * start ≤ 16 * here
+  pub forth : sum + 32 * i + 16 * start ≤ 16 * here
   pub long : length l ≡ length sheet
   pub few : i ≤ n
+
+-- Where it stands after the key of pair i, whose row is written: by the value's answer, whatever that is, it stops or goes on.
+pub record Midway (Ok : (ℕ → Shape) → Type 0) (s p : List ℕ) (depth ty key val n start row : ℕ) (judging : Bool) (sheet kept : List ℕ) (i here sum below : ℕ) (l : List ℕ) : Type 0 where
+  pub asked : PairsReady s p depth ty key val n start row judging
+  pub by : ℕ → Shape
+  pub ok : Ok by
+  pub had : List (List ℕ)
+  pub held : judging ≡ true → (had ≡ keysIn p kept (i + 1)) × Kept p kept true (i + 1)
+  pub ready : Ready s p here below judging (valueIn s p depth val here)
+  pub stops : (R : ℕ → Shape) → Ok R → (number place : ℕ) → stopped number place ≡ walkOf (told R (shapeIn s) val) (valueIn s p depth val here) 0 below l
+      → stopped number place ≡ ahead R (shapeIn s) (parse (shapeIn s) depth) [] (pairs n key val) (cursorAt p start) 0 (row + 1) sheet
+  pub goes : (R : ℕ → Shape) → Ok R → (compared next row′ : ℕ) (m : List ℕ)
+      → done (cursorAt p next) compared row′ m ≡ walkOf (told R (shapeIn s) val) (valueIn s p depth val here) 0 below l
+      → ahead R (shapeIn s) (parse (shapeIn s) depth) had (pairs (n - (i + 1)) key val) (cursorAt p next) (sum + compared) row′ m
+      ≡ ahead R (shapeIn s) (parse (shapeIn s) depth) [] (pairs n key val) (cursorAt p start) 0 (row + 1) sheet
+  pub forth : sum + 32 * i + 16 * start + 16 ≤ 16 * here
+  pub long : length l ≡ length sheet
+  pub some : i < n
+
+-- What is answered of the map from its head on.
+abbrev PairsTold : (Ok : (ℕ → Shape) → Type 0) (s p : List ℕ) (depth ty key val n start row : ℕ) (sheet : List ℕ) → Walk → (after : List ℕ) → Type 0
+PairsTold Ok s p depth ty key val n start row sheet r after =
+    (R : ℕ → Shape) → Ok R
+    → Walked p start (toldHeld R (shapeIn s) (mapComparisons (map key val) n) (plan (map key val) n)) (wholeIn s p depth ty (map key val) start n start) row sheet r after
 
 -- A reading at a depth.
 abbrev readAt : (s : List ℕ) (depth : ℕ) → ℕ → Reader Tree
 readAt s depth = parse (shapeIn s) depth
 
-module _ {s p : List ℕ} {depth ty key val n start row : ℕ} {judging : Bool} (q : PairsReady s p depth ty key val n start row judging) where
-  pub along-first : (sheet : List ℕ) → Along s p depth key val n start row sheet [] 0 start (row + 1) sheet
-  along-first sheet =
+module _ {Ok : (ℕ → Shape) → Type 0} {s p : List ℕ} {depth ty key val n start row : ℕ} {judging : Bool} where
+  pub along-first : PairsReady s p depth ty key val n start row judging → (R : ℕ → Shape) → Ok R → (sheet kept : List ℕ)
+      → Along Ok s p depth ty key val n start row judging sheet kept 0 start 0 (row + 1) sheet
+  along-first q R ok sheet kept =
       record {
-        same = λ R. pairs-first R (shapeIn s) (readAt s depth) key val n (cursorAt p start) (row + 1) sheet;
+        asked = q;
+        by = R;
+        ok = ok;
+        had = [];
+        held = λ j. (sym (keys-none p kept), λ i lt. absurd (omega arith));
+        same = λ R′ o. pairs-first R′ (shapeIn s) (readAt s depth) key val n (cursorAt p start) (row + 1) sheet;
         inside = q .ready .inside;
         behind = q .ready .behind;
         forth = omega arith;
@@ -60,146 +132,167 @@ module _ {s p : List ℕ} {depth ty key val n start row : ℕ} {judging : Bool} 
         few = omega arith;
       }
 
-  -- all pairs are read, and the map's own row is written
-  pub along-end : {sheet : List ℕ} {keys : List (List ℕ)} {i here below : ℕ} {l : List ℕ} → Along s p depth key val n start row sheet keys i here below l
-      → n ≤ i → {after : List ℕ} → after ≡ putRow l row (record { ty = ty; place = start; length = here - start; count = n })
-      → HeldPairs s p depth ty key val start n start row sheet (Past (due n) here below) after
-  along-end {sheet} {keys} {i} {here} {below} {l} a end {after} put R =
-      let h = few-pairs n (q .most) in
-      let d = own-due n in
-      let room : due n + 16 * start ≤ 16 * here = omega (arith, h, d, a .forth, a .few, end) in
-      composite-past R (shapeIn s) (readAt s depth) (map key val) ty start n (cursorAt p start) row sheet p start here 0 (due n) below l after keys (pairs (n - i) key val)
-      (pairs-none key val (n - i) (omega arith)) (a .same R) (omega arith) put (a .inside) (a .behind) room
+  module _ {sheet kept : List ℕ} {i here sum below : ℕ} {l : List ℕ} (a : Along Ok s p depth ty key val n start row judging sheet kept i here sum below l) where
+    pub along-own : (start ≤ here) × (row ≤ 16384) × (start ≤ 16384) × (here - start ≤ 16384) × (n ≤ 16384)
+    along-own = omega (arith, a .inside, a .forth, a .asked .ready .small, a .asked .ready .inside, a .asked .ready .behind, a .asked .most)
 
-  module _ {sheet : List ℕ} {keys : List (List ℕ)} {i here below : ℕ} {l : List ℕ} (a : Along s p depth key val n start row sheet keys i here below l) (some : i < n) where
-    -- the pair's key is refused
-    pub along-stop : (number place : ℕ) (after : List ℕ) → parse (shapeIn s) depth key (cursorAt p here) ≡ refused number place
-        → HeldPairs s p depth ty key val start n start row sheet (Refused number place) after
-    along-stop number place after e R =
-        composite-stop R (shapeIn s) (readAt s depth) (map key val) ty start n (cursorAt p start) row sheet p start number place after
-        (pair-key-stop R (shapeIn s) (readAt s depth) p key val n i keys here some 0 below l number place e ∙ a .same R)
+    -- all pairs are read, and the map's own row is written
+    module _ (end : n ≤ i) where
+      pub along-sum : sum + keyComparisons n + 16 * start ≤ 16 * here
+      along-sum = omega (arith, few-pairs n (a .asked .most), own-comparisons n, a .forth, a .few, end)
 
-    pub along-deep : depth ≡ 0 → {after : List ℕ} → HeldPairs s p depth ty key val start n start row sheet (Refused 28 here) after
-    along-deep e {after} = along-stop 28 here after (parse-deep (shapeIn s) depth key (cursorAt p here) e)
+      pub along-end : {after : List ℕ} → after ≡ putRow l row (record { ty = ty; place = start; length = here - start; count = n }) → {total : ℕ} → total ≡ sum + keyComparisons n
+          → PairsTold Ok s p depth ty key val n start row sheet (Past total here below) after
+      along-end {after} put {total} d R ok =
+          composite-past R (shapeIn s) (readAt s depth) (map key val) ty start n (cursorAt p start) row sheet p start here sum total below l after (a .had) (pairs (n - i) key val)
+          (pairs-none key val (n - i) (omega arith)) (a .same R ok) (omega (arith, d)) put (a .inside) (a .behind) (omega (arith, along-sum, d))
 
-    left : judging ≡ false → Accepted (walk (readAt s depth) keys (pairs (n - i) key val) (cursorAt p here))
-    left j =
-        rest-accepted (shapeIn s) (shapeIn s) (readAt s depth) (map key val) ty start n (cursorAt p start) row sheet (walk (readAt s depth) keys (pairs (n - i) key val) (cursorAt p here))
-        (pairs (n - i) key val) 0 below l (a .same (shapeIn s)) (q .ready .judged j)
+    module _ (some : i < n) where
+      -- the pair's key is refused
+      along-stop : (number place : ℕ) (after : List ℕ) → parse (shapeIn s) depth key (cursorAt p here) ≡ refused number place
+          → PairsTold Ok s p depth ty key val n start row sheet (Refused number place) after
+      along-stop number place after e R ok =
+          composite-stop R (shapeIn s) (readAt s depth) (map key val) ty start n (cursorAt p start) row sheet p start number place after
+          (pair-key-stop R (shapeIn s) (readAt s depth) p key val n i (a .had) here some sum below l number place e ∙ a .same R ok)
 
-    module _ (d0 : depth ≡ 0 → ⊥) {k : TypeRow} (row-k : k ≡ rowAt (tableOf s) key) where
-      key-is : shapeIn s key ≡ leafShape (k .kind)
-      key-is = shape-leaf (tableOf s) key k row-k (rw row-k (q .leaves .0)) (rw row-k (q .leaves .1))
+      pub along-deep : depth ≡ 0 → {after : List ℕ} → PairsTold Ok s p depth ty key val n start row sheet (Refused 28 here) after
+      along-deep e {after} = along-stop 28 here after (parse-deep (shapeIn s) depth key (cursorAt p here) e)
 
-      pub key-asked : (length p ≤ 16384) × (here ≤ length p) × (0 < k .kind) × (k .kind < 14)
-          × (judging ≡ false → Accepted (own (leafShape (k .kind)) (cursorAt p here))) × (below ≤ 16384)
-      key-asked = (
-        q .ready .small,
-        a .inside,
-        rw row-k (q .leaves .0),
-        rw row-k (q .leaves .1),
-        λ j.
-            own-accepted (shapeIn s) (depth - 1) key (cursorAt p here) (leafShape (k .kind)) key-is
-            (deeper (λ d. Accepted (parse (shapeIn s) d key (cursorAt p here))) depth d0 (pair-key-accepted (shapeIn s) (shapeIn s) (readAt s depth) p key val n i keys here some (left j))),
-        omega (arith, a .inside, a .behind, q .ready .small),
+      left : judging ≡ false → Accepted (walk (readAt s depth) (a .had) (pairs (n - i) key val) (cursorAt p here))
+      left j =
+          rest-accepted (a .by) (shapeIn s) (readAt s depth) (map key val) ty start n (cursorAt p start) row sheet
+          (walk (readAt s depth) (a .had) (pairs (n - i) key val) (cursorAt p here)) (pairs (n - i) key val) sum below l (a .same (a .by) (a .ok)) (a .asked .ready .judged j)
+
+      module _ (d0 : depth ≡ 0 → ⊥) {k : TypeRow} (row-k : k ≡ rowAt (tableOf s) key) where
+        key-is : shapeIn s key ≡ leafShape (k .kind)
+        key-is = shape-leaf (tableOf s) key k row-k (rw row-k (a .asked .some)) (rw row-k (a .asked .leaf))
+
+        pub key-asked : (length p ≤ 16384) × (here ≤ length p) × (0 < k .kind) × (k .kind < 14)
+            × (judging ≡ false → Accepted (own (leafShape (k .kind)) (cursorAt p here))) × (below ≤ 16384)
+        key-asked = (
+          a .asked .ready .small,
+          a .inside,
+          rw row-k (a .asked .some),
+          rw row-k (a .asked .leaf),
+          λ j.
+              own-accepted (shapeIn s) (depth - 1) key (cursorAt p here) (leafShape (k .kind)) key-is
+              (deeper (λ d. Accepted (parse (shapeIn s) d key (cursorAt p here))) depth d0 (pair-key-accepted (a .by) (shapeIn s) (readAt s depth) p key val n i (a .had) here some (left j))),
+          omega (arith, a .inside, a .behind, a .asked .ready .small),
+        )
+
+        pub key-room : {size : ℕ} → length kept ≡ size → (judging ≡ true → n + 4 ≤ size / 2) → judging ≡ true → (i + 4 < length kept / 2) × Kept p kept true i
+        key-room e h j = (omega (arith, some, e, h j), a .held j .1)
+
+        -- what was told of the next key
+        module _ {kept′ m : List ℕ} {r : Span} (taken : KeyTaken p here (own (leafShape (k .kind)) (cursorAt p here)) judging key i below l kept r m kept′) where
+          pub key-failed : {number place : ℕ} → r ≡ SpanRefused place number → {after : List ℕ}
+              → PairsTold Ok s p depth ty key val n start row sheet (Refused number place) after
+          key-failed {number} {place} e {after} =
+              ⊎-elim (λ read. along-stop number place after (leaf-failed (shapeIn s) depth key (leafShape (k .kind)) key-is d0 p here _ read number place refl)) again (rw e at (taken .told))
+            where
+              again : (place ≡ here) × (number ≡ 24) × (judging ≡ true)
+                  × ((from to : ℕ) × Spanned p here (own (leafShape (k .kind)) (cursorAt p here)) (At from to) × (among (between p from to) (keysIn p kept i) ≡ true))
+                  → PairsTold Ok s p depth ty key val n start row sheet (Refused number place) after
+              again x R ok =
+                  let from = x .3 .0 in
+                  let to = x .3 .1 in
+                  let old : among (between p from to) (a .had) ≡ true = rw (a .held (x .2) .0) (x .3 .3) in
+                  rw (x .0, x .1)
+                  (composite-stop R (shapeIn s) (readAt s depth) (map key val) ty start n (cursorAt p start) row sheet p start 24 here after
+                  (pair-again R (shapeIn s) (readAt s depth) p key val n i (a .had) here some from to
+                  (leaf-parsed (shapeIn s) depth key (leafShape (k .kind)) key-is d0 p here _ (x .3 .2) from to refl) sum below l old ∙ a .same R ok))
+
+          pub key-past : {from to : ℕ} → r ≡ At from to → Midway Ok s p depth ty key val n start row judging sheet kept′ i to sum (below + 1) m
+          key-past {from} {to} e =
+              let told : KeyTold p here (own (leafShape (k .kind)) (cursorAt p here)) judging key i below l kept (At from to) m kept′ = rw e at (taken .told) in
+              let P = readAt s depth in
+              let w = leaf-in (shapeIn s) depth key (leafShape (k .kind)) key-is d0 p here _ (told .0) from to refl in
+              let read = leaf-parsed (shapeIn s) depth key (leafShape (k .kind)) key-is d0 p here _ (told .0) from to refl in
+              -- the walk that does not judge is known to accept
+              let new = pair-new (a .by) (shapeIn s) P p key val n i (a .had) here some from to read judging false left (λ j. sym (ap (among (between p from to)) (a .held j .0) ∙ told .1 j .0)) refl in
+              record {
+                asked = a .asked;
+                by = a .by;
+                ok = a .ok;
+                had = between p from to ∷ a .had;
+                held = λ j. (ap (λ (ks : List (List ℕ)). between p from to ∷ ks) (a .held j .0) ∙ sym (told .1 j .1), told .1 j .2);
+                ready = record {
+                  good = a .asked .ready .good;
+                  small = a .asked .ready .small;
+                  inside = w .1;
+                  behind = omega (arith, w .2, a .behind);
+                  judged = λ j. pair-value-accepted (a .by) (shapeIn s) P p key val n i (a .had) here some from to read new sum below l m (told .2) (left j);
+                };
+                stops = λ R ok number place h. pair-value-stop R (shapeIn s) P p key val n i (a .had) here some from to read new sum below l m (told .2) number place h ∙ a .same R ok;
+                goes = λ R ok compared next row′ m′ h.
+                    sym (pair-turn R (shapeIn s) P p key val n i (a .had) here some from to read new sum below l m (told .2) compared next row′ m′ h) ∙ a .same R ok;
+                forth = omega (arith, w .2, a .forth);
+                long = rw (told .2) (length-put l below (spanRow key from to)) ∙ a .long;
+                some = some;
+              }
+
+  module _ {sheet kept : List ℕ} {i here sum below : ℕ} {l : List ℕ} (a : Midway Ok s p depth ty key val n start row judging sheet kept i here sum below l) where
+    -- one level down, where there is one
+    pub value-below : (depth ≡ 0 → ⊥) → Ready s p here below judging (valueIn s p (suc (depth - 1)) val here)
+    value-below d0 = deeper (λ d. Ready s p here below judging (valueIn s p d val here)) depth d0 (a .ready)
+
+    module _ {r : Walk} {m : List ℕ} (walked : (R : ℕ → Shape) → Ok R → Walked p (here + 1) (told R (shapeIn s) val) (valueIn s p depth val here) below l r m) where
+      pub value-failed : {number place : ℕ} → r ≡ Refused number place → {after : List ℕ} → PairsTold Ok s p depth ty key val n start row sheet (Refused number place) after
+      value-failed {number} {place} e {after} R ok =
+          composite-stop R (shapeIn s) (readAt s depth) (map key val) ty start n (cursorAt p start) row sheet p start number place after
+          (a .stops R ok number place (was (walked R ok) e .same))
+
+      module _ {compared next row′ : ℕ} (e : r ≡ Past compared next row′) where
+        pub value-sum : sum + compared ≤ 262144
+        value-sum = let w = was (walked (a .by) (a .ok)) e .within in omega (arith, w, a .forth, a .asked .ready .small)
+
+        pub along-turn : Along Ok s p depth ty key val n start row judging sheet kept (i + 1) next (sum + compared) row′ m
+        along-turn =
+            let x = was (walked (a .by) (a .ok)) e in
+            let w = x .within in
+            record {
+              asked = a .asked;
+              by = a .by;
+              ok = a .ok;
+              had = a .had;
+              held = a .held;
+              same = λ R ok. a .goes R ok compared next row′ m (was (walked R ok) e .same);
+              inside = w .0;
+              behind = w .1;
+              forth = omega (arith, w .2, a .forth);
+              long = walk-length (told (a .by) (shapeIn s) val) (valueIn s p depth val here) 0 below l (x .same) ∙ a .long;
+              few = omega (arith, a .some);
+            }
+
+    -- a value that is a scalar, a string or bytes
+    module _ (d0 : depth ≡ 0 → ⊥) {v : TypeRow} (row-v : v ≡ rowAt (tableOf s) val) (some : 0 < rowAt (tableOf s) val .kind) (leaf : rowAt (tableOf s) val .kind < 14) where
+      val-is : shapeIn s val ≡ leafShape (v .kind)
+      val-is = shape-leaf (tableOf s) val v row-v (rw row-v some) (rw row-v leaf)
+
+      pub leaf-asked : (length p ≤ 16384) × (here ≤ length p) × (0 < v .kind) × (v .kind < 14) × (judging ≡ false → Accepted (own (leafShape (v .kind)) (cursorAt p here)))
+      leaf-asked = (
+        a .asked .ready .small,
+        a .ready .inside,
+        rw row-v some,
+        rw row-v leaf,
+        λ j. own-accepted (shapeIn s) (depth - 1) val (cursorAt p here) (leafShape (v .kind)) val-is (value-below d0 .judged j),
       )
 
-      -- the keys that are kept where keys are judged, and what was told of the next
-      module _ {kept kept′ m : List ℕ} (held : judging ≡ true → (keys ≡ keysIn p kept i) × Kept p kept true i) {r : Span}
-          (taken : KeyTaken p here (own (leafShape (k .kind)) (cursorAt p here)) judging key i below l kept r m kept′) where
-        pub key-failed : {number place : ℕ} → r ≡ SpanRefused place number → {after : List ℕ}
-            → HeldPairs s p depth ty key val start n start row sheet (Refused number place) after
-        key-failed {number} {place} e {after} =
-            ⊎-elim (λ read. along-stop number place after (leaf-failed (shapeIn s) depth key (leafShape (k .kind)) key-is d0 p here _ read number place refl)) again (rw e at (taken .told))
-          where
-            again : (place ≡ here) × (number ≡ 24) × (judging ≡ true)
-                × ((from to : ℕ) × Spanned p here (own (leafShape (k .kind)) (cursorAt p here)) (At from to) × (among (part p from to) (keysIn p kept i) ≡ true))
-                → HeldPairs s p depth ty key val start n start row sheet (Refused number place) after
-            again x R =
-                let from = x .3 .0 in
-                let to = x .3 .1 in
-                let old : among (part p from to) keys ≡ true = rw (held (x .2) .0) (x .3 .3) in
-                rw (x .0, x .1)
-                (composite-stop R (shapeIn s) (readAt s depth) (map key val) ty start n (cursorAt p start) row sheet p start 24 here after
-                (pair-again R (shapeIn s) (readAt s depth) p key val n i keys here some from to
-                (leaf-parsed (shapeIn s) depth key (leafShape (k .kind)) key-is d0 p here _ (x .3 .2) from to refl) 0 below l old ∙ a .same R))
+      module _ {r : Span} (read : Spanned p here (own (leafShape (v .kind)) (cursorAt p here)) r) where
+        pub leaf-stop : {number place : ℕ} → r ≡ SpanRefused place number → {after : List ℕ} → PairsTold Ok s p depth ty key val n start row sheet (Refused number place) after
+        leaf-stop e = value-failed {m = l} (λ R ok. as-refused _ _ _ (leaf-failed (shapeIn s) depth val (leafShape (v .kind)) val-is d0 p here r read _ _ e)) refl
 
         module _ {from to : ℕ} (e : r ≡ At from to) where
-          told-key : KeyTold p here (own (leafShape (k .kind)) (cursorAt p here)) judging key i below l kept (At from to) m kept′
-          told-key = rw e at (taken .told)
+          pub leaf-put : (from ≤ to) × (below ≤ 16384) × (from ≤ 16384) × (to - from ≤ 16384) × (0 ≤ 16384)
+          leaf-put =
+              let w = leaf-in (shapeIn s) depth val (leafShape (v .kind)) val-is d0 p here r read from to e in
+              omega (arith, w, a .ready .behind, a .ready .inside, a .asked .ready .small)
 
-          key-in : (from ≤ to) × (to ≤ length p) × (here < to)
-          key-in = leaf-in (shapeIn s) depth key (leafShape (k .kind)) key-is d0 p here _ (told-key .0) from to refl
-
-          key-read : (readAt s depth) key (cursorAt p here) ≡ seen (tip (spanRow key from to) (part p from to)) (cursorAt p to)
-          key-read = leaf-parsed (shapeIn s) depth key (leafShape (k .kind)) key-is d0 p here _ (told-key .0) from to refl
-
-          -- the walk that does not judge is known to accept
-          new : among (part p from to) keys ≡ false
-          new =
-              pair-new (shapeIn s) (shapeIn s) (readAt s depth) p key val n i keys here some from to key-read judging false left
-              (λ j. sym (ap (among (part p from to)) (held j .0) ∙ told-key .1 j .0)) refl
-
-          pub key-kept : judging ≡ true → (part p from to ∷ keys ≡ keysIn p kept′ (i + 1)) × Kept p kept′ true (i + 1)
-          key-kept j = (ap (λ (ks : List (List ℕ)). part p from to ∷ ks) (held j .0) ∙ sym (told-key .1 j .1), told-key .1 j .2)
-
-          pub key-long : length m ≡ length sheet
-          key-long = rw (told-key .2) (length-put l below (spanRow key from to)) ∙ a .long
-
-          module _ {v : TypeRow} (row-v : v ≡ rowAt (tableOf s) val) where
-            val-is : shapeIn s val ≡ leafShape (v .kind)
-            val-is = shape-leaf (tableOf s) val v row-v (rw row-v (q .leaves .2)) (rw row-v (q .leaves .3))
-
-            pub value-asked : (length p ≤ 16384) × (to ≤ length p) × (0 < v .kind) × (v .kind < 14) × (judging ≡ false → Accepted (own (leafShape (v .kind)) (cursorAt p to)))
-            value-asked = (
-              q .ready .small,
-              key-in .1,
-              rw row-v (q .leaves .2),
-              rw row-v (q .leaves .3),
-              λ j.
-                  own-accepted (shapeIn s) (depth - 1) val (cursorAt p to) (leafShape (v .kind)) val-is
-                  (deeper (λ d. Accepted (parse (shapeIn s) d val (cursorAt p to))) depth d0
-                  (pair-value-accepted (shapeIn s) (shapeIn s) (readAt s depth) p key val n i keys here some from to key-read new 0 below l m (told-key .2) (left j))),
-            )
-
-            module _ {r′ : Span} (read′ : Spanned p to (own (leafShape (v .kind)) (cursorAt p to)) r′) where
-              pub value-failed : {number place : ℕ} → r′ ≡ SpanRefused place number → {after : List ℕ}
-                  → HeldPairs s p depth ty key val start n start row sheet (Refused number place) after
-              value-failed {number} {place} e′ {after} R =
-                  composite-stop R (shapeIn s) (readAt s depth) (map key val) ty start n (cursorAt p start) row sheet p start number place after
-                  (pair-value-stop R (shapeIn s) (readAt s depth) p key val n i keys here some from to key-read new 0 below l m (told-key .2) number place
-                  (stop-at (told R (shapeIn s) val) ((readAt s depth) val (cursorAt p to)) (below + 1) m number place
-                  (leaf-failed (shapeIn s) depth val (leafShape (v .kind)) val-is d0 p to r′ read′ number place e′)) ∙ a .same R)
-
-              module _ {from′ to′ : ℕ} (e′ : r′ ≡ At from′ to′) where
-                value-in : (from′ ≤ to′) × (to′ ≤ length p) × (to < to′)
-                value-in = leaf-in (shapeIn s) depth val (leafShape (v .kind)) val-is d0 p to r′ read′ from′ to′ e′
-
-                pub value-put : (below + 2 ≤ 16384) × (from′ ≤ to′) × (to′ ≤ 16384)
-                value-put = omega (arith, key-in, value-in, a .behind, q .ready .small)
-
-                turned : (R : ℕ → Shape) {m′ : List ℕ} → m′ ≡ putRow m (below + 1) (spanRow val from′ to′)
-                    → Paired R (shapeIn s) (readAt s depth) p key val n i keys here some from to key-read new 0 below l m (told-key .2) to′ 0 (below + 2) m′
-                turned R {m′} put′ =
-                    let w = key-in in
-                    pair-turn R (shapeIn s) (readAt s depth) p key val n i keys here some from to key-read new 0 below l m (told-key .2) 0 to′ (below + 1 + 1) m′
-                    (leaf-past (shapeIn s) depth val (leafShape (v .kind)) val-is d0 p to r′ read′ from′ to′ e′ R (below + 1) m m′ (omega (arith, w, a .behind)) put′)
-                    to′ 0 (below + 2) m′ refl refl (omega arith) refl
-
-                pub along-turn : {m′ : List ℕ} → m′ ≡ putRow m (below + 1) (spanRow val from′ to′)
-                    → Along s p depth key val n start row sheet (part p from to ∷ keys) (i + 1) to′ (below + 2) m′
-                along-turn put′ =
-                    let w = key-in in
-                    let x = value-in in
-                    let t = turned (shapeIn s) put′ in
-                    record {
-                      same = λ R. sym (turned R put′ .same) ∙ a .same R;
-                      inside = x .1;
-                      behind = omega (arith, w, x, a .behind);
-                      forth = omega (arith, w, x, a .forth);
-                      long = t .long ∙ key-long;
-                      few = omega arith;
-                    }
+          pub leaf-turn : {below′ : ℕ} → below′ ≡ below + 1 → {m : List ℕ} → m ≡ putRow l below (spanRow val from to)
+              → Along Ok s p depth ty key val n start row judging sheet kept (i + 1) to sum below′ m
+          leaf-turn up {m} put =
+              let z : sum ≡ sum + 0 = omega arith in
+              rw (up, z) (along-turn (λ R ok. leaf-past (shapeIn s) depth val (leafShape (v .kind)) val-is d0 p here r read from to e R below l m (a .ready .behind) put) refl)
 
 -- ---- a map by its count
 
@@ -216,8 +309,8 @@ module _ {s p : List ℕ} {ty key val at depth row : ℕ} {judging : Bool} (read
       counted-many many R shown = as-refused _ _ _ (rw (deep depth d0) (map-many (shapeIn s) (depth - 1) ty p at key val is r read n start e many))
 
       module _ (few : n ≤ 64) where
-        pub counted-ready : PairsIn (tableOf s) key val → PairsReady s p (depth - 1) ty key val n start row judging
-        counted-ready leaves =
+        pub counted-ready : 0 < rowAt (tableOf s) key .kind → rowAt (tableOf s) key .kind < 14 → PairsReady s p (depth - 1) ty key val n start row judging
+        counted-ready some leaf =
             let i = count-in (shapeIn s) (depth - 1) ty p at 2 r read n start e in
             record {
               ready = record {
@@ -229,7 +322,8 @@ module _ {s p : List ℕ} {ty key val at depth row : ℕ} {judging : Bool} (read
                     rw (map-whole (shapeIn s) (depth - 1) ty p at key val is r read n start e few) at
                     (deeper (λ d. Accepted (parse (shapeIn s) d ty (cursorAt p at))) depth d0 (ready .judged j));
               };
-              leaves = leaves;
+              some = some;
+              leaf = leaf;
               most = few;
             }
 

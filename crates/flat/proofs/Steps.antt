@@ -11,7 +11,7 @@ use Rattle.schema.specs.Table.{Shape}
 use Rattle.value.specs.declared.Row.{Row}
 use Rattle.value.specs.Value as tree
 use Rattle.value.specs.Value.{Tree, tip, branch, Forest, plus, rows, rowsAll, values}
-use Rattle.value.specs.Comparisons.{mapDue, comparisons, comparisonsAll}
+use Rattle.value.specs.Comparisons.{mapComparisons, comparisons, comparisonsAll}
 use Rattle.value.specs.Read.{Item, plan, rowCount, Own, plain, parts, own, walk, leafRow, nodeRow, wholeValue, parse}
 use Rattle.value.specs.Beside.{pruned, prunedAll}
 use Rattle.walks.specs.Shape.{shapeIn}
@@ -22,10 +22,10 @@ use Rattle.flat.specs.declared.leaf.Span.the-variants.{At, Refused as Sp
 use Rattle.flat.specs.declared.Walk.{Walk}
 use Rattle.flat.specs.declared.Walk.the-variants.{Past, Refused}
 use Rattle.flat.specs.Sheet.{putRow, putRows}
-use Rattle.flat.specs.Leaf.{part, spanOf, Spanned}
+use Rattle.flat.specs.Leaf.{between, spanOf, Spanned}
 use Rattle.flat.specs.Walk.{firstFields, Told, told, toldAll, toldHeld, Noted, noted, note, Final, done, stopped, walkOf, Walked}
 use Rattle.flat.proofs.Sheets.{rows-append, length-rows}
-use Rattle.flat.proofs.Leaves.{length-part}
+use Rattle.flat.proofs.Leaves.{length-between}
 
 -- ---- ends
 
@@ -36,17 +36,17 @@ pub done-eq : {c c′ : Cursor} {d e r q : ℕ} {l k : List ℕ} → c ≡ c′ 
 done-eq e f g h = cc
 
 -- a walk keeps the sheet's length
-pub walk-length : {A : Type 0} (f : A → Told) (o : Answer A) (due row : ℕ) (l : List ℕ) {c : Cursor} {due′ row′ : ℕ} {m : List ℕ}
-    → done c due′ row′ m ≡ walkOf f o due row l → length m ≡ length l
-walk-length f (seen a c₁) due row l {m} e = let g : m ≡ putRows l row (f a .rows) = cc in rw g (length-rows l row (f a .rows))
-walk-length f (refused n q) due row l e = differ cc
+pub walk-length : {A : Type 0} (f : A → Told) (o : Answer A) (compared row : ℕ) (l : List ℕ) {c : Cursor} {compared′ row′ : ℕ} {m : List ℕ}
+    → done c compared′ row′ m ≡ walkOf f o compared row l → length m ≡ length l
+walk-length f (seen a c₁) compared row l {m} e = let g : m ≡ putRows l row (f a .rows) = cc in rw g (length-rows l row (f a .rows))
+walk-length f (refused n q) compared row l e = differ cc
 
 -- a walk that starts with more comparisons ends with as many more
-pub later : {A : Type 0} (f : A → Told) (o : Answer A) (sum row : ℕ) (l : List ℕ) {c : Cursor} {due row′ : ℕ} {m : List ℕ}
-    → done c due row′ m ≡ walkOf f o 0 row l → done c (sum + due) row′ m ≡ walkOf f o sum row l
-later f (seen a c₁) sum row l {due} e =
-    let g : due ≡ 0 + f a .due = cc in
-    let h : sum + due ≡ sum + f a .due = omega arith in
+pub later : {A : Type 0} (f : A → Told) (o : Answer A) (sum row : ℕ) (l : List ℕ) {c : Cursor} {compared row′ : ℕ} {m : List ℕ}
+    → done c compared row′ m ≡ walkOf f o 0 row l → done c (sum + compared) row′ m ≡ walkOf f o sum row l
+later f (seen a c₁) sum row l {compared} e =
+    let g : compared ≡ 0 + f a .comparisons = cc in
+    let h : sum + compared ≡ sum + f a .comparisons = omega arith in
     cc
 later f (refused n q) sum row l e = differ cc
 
@@ -63,8 +63,8 @@ module _ {A : Type 0} {f : A → Told} {p : List ℕ} where
   as-refused o n q e = record { same = rw e; within = tt }
 
   -- a walk that went past has read, one that stopped was refused
-  pub read-of : {least : ℕ} {o : Answer A} {row : ℕ} {l : List ℕ} {due next row′ : ℕ} {m : List ℕ}
-      → Walked p least f o row l (Past due next row′) m → (a : A) × (o ≡ seen a (cursorAt p next))
+  pub read-of : {least : ℕ} {o : Answer A} {row : ℕ} {l : List ℕ} {compared next row′ : ℕ} {m : List ℕ}
+      → Walked p least f o row l (Past compared next row′) m → (a : A) × (o ≡ seen a (cursorAt p next))
   read-of {o} {row} {l} w = let (a, e, _) = ended-is (λ a. note (f a)) o (noted 0 row l) (w .same) in (a, e)
 
   pub refused-of : {least : ℕ} {o : Answer A} {row : ℕ} {l : List ℕ} {n q : ℕ} {m : List ℕ} → Walked p least f o row l (Refused n q) m → o ≡ refused n q
@@ -73,7 +73,7 @@ module _ {A : Type 0} {f : A → Told} {p : List ℕ} where
   -- less is asked of the place where a walk ends
   pub further : (least least′ : ℕ) {o : Answer A} {row : ℕ} {l : List ℕ} (r : Walk) {m : List ℕ}
       → least′ ≤ least → Walked p least f o row l r m → Walked p least′ f o row l r m
-  further least least′ (Past due next row) h w = record { same = w .same; within = let v = w .within in (v .0, v .1, omega arith) }
+  further least least′ (Past compared next row) h w = record { same = w .same; within = let v = w .within in (v .0, v .1, omega arith) }
   further least least′ (Refused n q) h w = record { same = w .same; within = tt }
 
 pub stop-at : {A : Type 0} (f : A → Told) (o : Answer A) (row : ℕ) (l : List ℕ) (n q : ℕ) → o ≡ refused n q → stopped n q ≡ walkOf f o 0 row l
@@ -82,19 +82,19 @@ stop-at f o row l n q e = rw e
 -- ---- items one after the other
 
 -- The end of a walk over the items of a plan.
-abbrev pub ahead : (R S : ℕ → Shape) → (ℕ → Reader Tree) → (keys : List (List ℕ)) → List Item → Cursor → (due row : ℕ) → List ℕ → Final
-ahead R S P keys is c due row l = walkOf (toldAll R S is) (walk P keys is c) due row l
+abbrev pub ahead : (R S : ℕ → Shape) → (ℕ → Reader Tree) → (keys : List (List ℕ)) → List Item → Cursor → (compared row : ℕ) → List ℕ → Final
+ahead R S P keys is c compared row l = walkOf (toldAll R S is) (walk P keys is c) compared row l
 
 -- By the table in the file s, of a payload, shown as far as is known.
-abbrev pub aheadIn : (known s p : List ℕ) (depth : ℕ) (keys : List (List ℕ)) → List Item → (here due row : ℕ) → List ℕ → Final
-aheadIn known s p depth keys is here due row l =
-    ahead (firstFields known (shapeIn s)) (shapeIn s) (parse (shapeIn s) depth) keys is (cursorAt p here) due row l
+abbrev pub aheadIn : (shown s p : List ℕ) (depth : ℕ) (keys : List (List ℕ)) → List Item → (here compared row : ℕ) → List ℕ → Final
+aheadIn shown s p depth keys is here compared row l =
+    ahead (firstFields shown (shapeIn s)) (shapeIn s) (parse (shapeIn s) depth) keys is (cursorAt p here) compared row l
 
 module _ (R S : ℕ → Shape) where
   pub told-first : (i : Item) (is : List Item) (t : Tree) (ts : Forest) (x : Noted) → Unit {0}
       → note (toldAll R S (i ∷ is) (plus t ts)) x ≡ note (toldAll R S is ts) (note (told R S (i .type) t) x)
   unfolding told toldAll rows rowsAll pruned prunedAll tree.value values comparisons comparisonsAll
-  told-first i is t ts (noted due row l) _ =
+  told-first i is t ts (noted compared row l) _ =
       noted-eq (omega arith) (rw length-append (omega arith)) (rows-append l row (rows (pruned R t (i .type))) (rowsAll (prunedAll R ts is)))
 
   -- What is told of trees, as a sheet takes it.
@@ -102,47 +102,47 @@ module _ (R S : ℕ → Shape) where
   telling = record { one = λ t tree. note (told R S t tree); all = λ is ts. note (toldAll R S is ts); Fits = λ _. Unit {0}; next = told-first }
 
   -- a leaf tells its own row
-  pub tip-told : (t : ℕ) (r : Row) (x : List ℕ) (due row : ℕ) (l : List ℕ) → noted due (row + 1) (putRow l row r) ≡ note (told R S t (tip r x)) (noted due row l)
+  pub tip-told : (t : ℕ) (r : Row) (x : List ℕ) (compared row : ℕ) (l : List ℕ) → noted compared (row + 1) (putRow l row r) ≡ note (told R S t (tip r x)) (noted compared row l)
   unfolding told rows pruned tree.value comparisons putRows
-  tip-told t r x due row l = noted-eq (omega arith) refl refl
+  tip-told t r x compared row l = noted-eq (omega arith) refl refl
 
-  pub walk-end : (P : ℕ → Reader Tree) (keys : List (List ℕ)) (c : Cursor) (due row : ℕ) (l : List ℕ) → done c due row l ≡ ahead R S P keys [] c due row l
+  pub walk-end : (P : ℕ → Reader Tree) (keys : List (List ℕ)) (c : Cursor) (compared row : ℕ) (l : List ℕ) → done c compared row l ≡ ahead R S P keys [] c compared row l
   unfolding walk toldAll rowsAll prunedAll values comparisonsAll putRows
-  walk-end P keys c due row l = done-eq refl (omega arith) (omega arith) refl
+  walk-end P keys c compared row l = done-eq refl (omega arith) (omega arith) refl
 
 -- ---- a composite
 
 module _ (R S : ℕ → Shape) (P : ℕ → Reader Tree) (sh : Shape) (t place h : ℕ) (c : Cursor) (row : ℕ) (l : List ℕ) where
-  own-row : (o : Answer Forest) (c′ : Cursor) (sum due below : ℕ) (m : List ℕ) → due ≡ mapDue sh h + sum
+  own-row : (o : Answer Forest) (c′ : Cursor) (sum compared below : ℕ) (m : List ℕ) → compared ≡ mapComparisons sh h + sum
       → done c′ sum below m ≡ walkOf (toldAll R S (plan sh h)) o 0 (row + 1) l
-      → done c′ due below (putRow m row (nodeRow t place (c′ .at) (rowCount sh h)))
-      ≡ walkOf (toldHeld R S (mapDue sh h) (plan sh h)) (andThen o (λ ts end. seen (branch (nodeRow t place (end .at) (rowCount sh h)) h ts) end)) 0 row l
+      → done c′ compared below (putRow m row (nodeRow t place (c′ .at) (rowCount sh h)))
+      ≡ walkOf (toldHeld R S (mapComparisons sh h) (plan sh h)) (andThen o (λ ts end. seen (branch (nodeRow t place (end .at) (rowCount sh h)) h ts) end)) 0 row l
   unfolding andThen toldHeld putRows
-  own-row (seen ts c₁) c′ sum due below m d e =
+  own-row (seen ts c₁) c′ sum compared below m d e =
       let f : c′ ≡ c₁ = cc in
-      let u : sum ≡ 0 + toldAll R S (plan sh h) ts .due = cc in
+      let u : sum ≡ 0 + toldAll R S (plan sh h) ts .comparisons = cc in
       let g : below ≡ row + 1 + length (toldAll R S (plan sh h) ts .rows) = cc in
       let k : m ≡ putRows l (row + 1) (toldAll R S (plan sh h) ts .rows) = cc in
       rw (← k, ← f) (done-eq refl (omega arith) (omega arith) refl)
-  own-row (refused n q) c′ sum due below m d e = differ cc
+  own-row (refused n q) c′ sum compared below m d e = differ cc
 
   -- its own row is written after those of what it holds
-  pub composite-past : (p : List ℕ) (least here sum due below : ℕ) (m after : List ℕ) (keys : List (List ℕ)) (is : List Item)
+  pub composite-past : (p : List ℕ) (least here sum compared below : ℕ) (m after : List ℕ) (keys : List (List ℕ)) (is : List Item)
       → is ≡ []
       → ahead R S P keys is (cursorAt p here) sum below m ≡ ahead R S P [] (plan sh h) c 0 (row + 1) l
-      → due ≡ mapDue sh h + sum
+      → compared ≡ mapComparisons sh h + sum
       → after ≡ putRow m row (nodeRow t place here (rowCount sh h))
-      → here ≤ length p → below ≤ here → due + 16 * least ≤ 16 * here
-      → Walked p least (toldHeld R S (mapDue sh h) (plan sh h)) (wholeValue P t sh (parts place h) c) row l (Past due here below) after
-  composite-past p least here sum due below m after keys is none e d put i b f =
+      → here ≤ length p → below ≤ here → compared + 16 * least ≤ 16 * here
+      → Walked p least (toldHeld R S (mapComparisons sh h) (plan sh h)) (wholeValue P t sh (parts place h) c) row l (Past compared here below) after
+  composite-past p least here sum compared below m after keys is none e d put i b f =
       record {
-        same = rw put (own-row (walk P [] (plan sh h) c) (cursorAt p here) sum due below m d (walk-end R S P keys (cursorAt p here) sum below m ∙ rw none at e));
+        same = rw put (own-row (walk P [] (plan sh h) c) (cursorAt p here) sum compared below m d (walk-end R S P keys (cursorAt p here) sum below m ∙ rw none at e));
         within = (i, b, f);
       }
 
   pub composite-stop : (p : List ℕ) (least n q : ℕ) (after : List ℕ)
       → stopped n q ≡ ahead R S P [] (plan sh h) c 0 (row + 1) l
-      → Walked p least (toldHeld R S (mapDue sh h) (plan sh h)) (wholeValue P t sh (parts place h) c) row l (Refused n q) after
+      → Walked p least (toldHeld R S (mapComparisons sh h) (plan sh h)) (wholeValue P t sh (parts place h) c) row l (Refused n q) after
   unfolding andThen
   composite-stop p least n q after e = record { same = rw (stopped-is (telling R S .all (plan sh h)) (walk P [] (plan sh h) c) (noted 0 (row + 1) l) e); within = tt }
 
@@ -156,14 +156,14 @@ module _ (R S : ℕ → Shape) (P : ℕ → Reader Tree) (sh : Shape) (t place h
   -- where all that it holds is shown, it is shown as it is
   module _ (shown : R t ≡ sh) (read : S t ≡ sh) where
     held-same : (o : Answer Forest)
-        → walkOf (toldHeld R S (mapDue sh h) (plan sh h)) (andThen o (λ ts end. seen (branch (nodeRow t place (end .at) (rowCount sh h)) h ts) end)) 0 row l
+        → walkOf (toldHeld R S (mapComparisons sh h) (plan sh h)) (andThen o (λ ts end. seen (branch (nodeRow t place (end .at) (rowCount sh h)) h ts) end)) 0 row l
         ≡ walkOf (told R S t) (andThen o (λ ts end. seen (branch (nodeRow t place (end .at) (rowCount sh h)) h ts) end)) 0 row l
     unfolding andThen toldHeld told toldAll rows rowsAll pruned prunedAll tree.value values comparisons comparisonsAll
     held-same (seen ts c₁) = rw (shown, read)
     held-same (refused n q) = refl
 
     pub as-told : {p : List ℕ} {least : ℕ} {r : Walk} {m : List ℕ}
-        → Walked p least (toldHeld R S (mapDue sh h) (plan sh h)) (wholeValue P t sh (parts place h) c) row l r m
+        → Walked p least (toldHeld R S (mapComparisons sh h) (plan sh h)) (wholeValue P t sh (parts place h) c) row l r m
         → Walked p least (told R S t) (wholeValue P t sh (parts place h) c) row l r m
     as-told w = record { same = w .same ∙ held-same (walk P [] (plan sh h) c); within = w .within }
 
@@ -204,16 +204,16 @@ module _ (S : ℕ → Shape) (d t : ℕ) (sh : Shape) (is : S t ≡ sh) (some : 
     pub leaf-in : (from ≤ to) × (to ≤ length p) × (at < to)
     leaf-in = rw e at (read .within)
 
-    leaf-row : leafRow t to (length (part p from to)) ≡ spanRow t from to
+    leaf-row : leafRow t to (length (between p from to)) ≡ spanRow t from to
     leaf-row =
         let i = leaf-in in
         let k : to - (to - from) ≡ from = omega arith in
-        rw (length-part p from to (i .1), k)
+        rw (length-between p from to (i .1), k)
 
-    pub leaf-parsed : parse S d t (cursorAt p at) ≡ seen (tip (spanRow t from to) (part p from to)) (cursorAt p to)
+    pub leaf-parsed : parse S d t (cursorAt p at) ≡ seen (tip (spanRow t from to) (between p from to)) (cursorAt p to)
     leaf-parsed =
-        rw (deep d some) (parse-whole S (d - 1) t (cursorAt p at) sh is (plain (part p from to)) (cursorAt p to) (sym (read .same) ∙ ap (spanOf p) e))
-        ∙ ap (λ (w : Row). seen (tip w (part p from to)) (cursorAt p to)) leaf-row
+        rw (deep d some) (parse-whole S (d - 1) t (cursorAt p at) sh is (plain (between p from to)) (cursorAt p to) (sym (read .same) ∙ ap (spanOf p) e))
+        ∙ ap (λ (w : Row). seen (tip w (between p from to)) (cursorAt p to)) leaf-row
 
     pub leaf-past : (R : ℕ → Shape) (row : ℕ) (l after : List ℕ) → row ≤ at → after ≡ putRow l row (spanRow t from to)
         → Walked p (at + 1) (told R S t) (parse S d t (cursorAt p at)) row l (Past 0 to (row + 1)) after

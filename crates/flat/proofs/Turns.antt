@@ -57,10 +57,10 @@ module _ (s : List ℕ) (depth t : ℕ) (r : TypeRow) (is : r ≡ rowAt (tableOf
           other = λ a e. absurd (omega arith);
         }
 
-    pub leaf-shown : (known : List ℕ) → firstFields known (shapeIn s) t ≡ shapeIn s t
-    leaf-shown known =
+    pub leaf-shown : (shown : List ℕ) → firstFields shown (shapeIn s) t ≡ shapeIn s t
+    leaf-shown shown =
         let e = shape-leaf (tableOf s) t r is z h in
-        first-of known (shapeIn s) t e ∙ leaf-whole (getD known t 0) (r .kind) ∙ sym e
+        first-of shown (shapeIn s) t e ∙ leaf-whole (getD shown t 0) (r .kind) ∙ sym e
 
   -- neither a struct nor an array
   pub leaf-left : IsFlat s depth t → (r .kind ≡ 16 → ⊥) → (r .kind ≡ 14 → ⊥) → (0 < r .kind) × (r .kind < 14)
@@ -86,8 +86,8 @@ module _ (s : List ℕ) (depth t : ℕ) (r : TypeRow) (is : r ≡ rowAt (tableOf
           other = λ a n. absurd (n e);
         }
 
-    pub array-shown : (known : List ℕ) → firstFields known (shapeIn s) t ≡ shapeIn s t
-    array-shown known = let e = shape-array (tableOf s) t r is k in first-of known (shapeIn s) t e ∙ sym e
+    pub array-shown : (shown : List ℕ) → firstFields shown (shapeIn s) t ≡ shapeIn s t
+    array-shown shown = let e = shape-array (tableOf s) t r is k in first-of shown (shapeIn s) t e ∙ sym e
 
   module _ (k : r .kind ≡ 16) where
     pub flat-struct : 1 < depth → LeavesIn (tableOf s) (r .a) (r .a + r .b) → IsFlat s depth t
@@ -101,9 +101,9 @@ module _ (s : List ℕ) (depth t : ℕ) (r : TypeRow) (is : r ≡ rowAt (tableOf
           other = λ a n. e;
         }
 
-    pub struct-shown : (known : List ℕ) → r .a + r .b ≤ length (tableOf s .fields) → r .b ≤ getD known t 0 → firstFields known (shapeIn s) t ≡ shapeIn s t
-    struct-shown known room le =
-        let e = shape-struct (tableOf s) t r is k in first-whole known (shapeIn s) (tableOf s) t (r .a) (r .b) e room le ∙ sym e
+    pub struct-shown : (shown : List ℕ) → r .a + r .b ≤ length (tableOf s .fields) → r .b ≤ getD shown t 0 → firstFields shown (shapeIn s) t ≡ shapeIn s t
+    struct-shown shown room le =
+        let e = shape-struct (tableOf s) t r is k in first-whole shown (shapeIn s) (tableOf s) t (r .a) (r .b) e room le ∙ sym e
 
 pub described-own : (s : List ℕ) (ty : ℕ) (e : Prepared) → Described s ty e → Described s (e .ty) e
 described-own s ty e d = record { same = refl; laid = d .laid; is = d .is ∙ ap (rowAt (tableOf s)) (sym (d .same)); required = d .required }
@@ -117,8 +117,8 @@ pub record LeafField (s : List ℕ) (f : Field) (r : TypeRow) : Type 0 where
   pub is : shape (tableOf s) (f .ty) ≡ leafShape (r .kind)
 
 -- The end of a walk over items, shown by the shapes R.
-abbrev pub aheadBy : (R : ℕ → Shape) (s p : List ℕ) (depth : ℕ) → List Item → (here due row : ℕ) → List ℕ → Final
-aheadBy R s p depth is here due row l = ahead R (shapeIn s) (parse (shapeIn s) depth) [] is (cursorAt p here) due row l
+abbrev pub aheadBy : (R : ℕ → Shape) (s p : List ℕ) (depth : ℕ) → List Item → (here compared row : ℕ) → List ℕ → Final
+aheadBy R s p depth is here compared row l = ahead R (shapeIn s) (parse (shapeIn s) depth) [] is (cursorAt p here) compared row l
 
 -- Where the loop over b fields from a on stands: at field i, with these bits left. The struct's own row is `row`.
 pub record Going (s p : List ℕ) (depth a b known start row : ℕ) (sheet : List ℕ) (i bits here below : ℕ) (l : List ℕ) : Type 0 where
@@ -148,7 +148,7 @@ module _ {s p : List ℕ} {depth ty a b place known start row : ℕ} {judging : 
   module _ {sheet : List ℕ} {i bits here below : ℕ} {l : List ℕ} (g : Going s p depth a b known start row sheet i bits here below l) where
     -- the numbers of fields and rows, and what is read of the next field
     pub going-few : (i ≤ 2048) × (below ≤ 16384)
-    going-few = omega (arith, g .on .last, q .room, few-fields s (q .ready .good), g .inside, g .behind, q .ready .small)
+    going-few = omega (arith, g .on .last, q .in-table, few-fields s (q .ready .good), g .inside, g .behind, q .ready .small)
 
     module _ (bit : bits ≡ 0 → ⊥) where
       some : 0 < bits
@@ -171,7 +171,7 @@ module _ {s p : List ℕ} {depth ty a b place known start row : ℕ} {judging : 
       module _ {f : Field} (is : f ≡ fieldRow (tableOf s) i) {r : TypeRow} (row-is : r ≡ rowAt (tableOf s) (f .ty)) (odd : bits % 2 ≡ 1) where
         field : LeafField s f r
         field =
-            let other = standing-kind (g .on) some s (q .ready .good) (q .room) f is r row-is in
+            let other = standing-kind (g .on) some s (q .ready .good) (q .in-table) f is r row-is in
             let kind : rowAt (tableOf s) (fieldRow (tableOf s) i .ty) .kind < 14 = q .leaves i (g .on .first) (omega (arith, standing-some (g .on) some)) in
             let leaf : r .kind < 14 = rw (row-is, is) kind in
             record { some = other; leaf = leaf; is = shape-leaf (tableOf s) (f .ty) r row-is other leaf }
@@ -221,7 +221,7 @@ module _ {s p : List ℕ} {depth ty a b place known start row : ℕ} {judging : 
                 let left = a + b - i in
                 let next : a + b - (i + 1) ≡ left - 1 = omega arith in
                 let w = within in
-                let more = ap length (standing-field (g .on) some T (q .room) f is odd) in
+                let more = ap length (standing-field (g .on) some T (q .in-table) f is odd) in
                 record {
                   same = λ R.
                       let x = leaf-past S depth (f .ty) (leafShape (r .kind)) (field .is) deep p here c read from to e R below l m (g .behind) put in
@@ -261,8 +261,11 @@ module _ {s p : List ℕ} {depth ty a b place known start row : ℕ} {judging : 
 
 -- ---- the elements of an array
 
--- Where the loop over n elements stands, by whatever shapes it is shown of which Ok holds: so many are left.
-pub record Counting (Ok : (ℕ → Shape) → Type 0) (s p : List ℕ) (depth elem n start row : ℕ) (sheet : List ℕ) (left here sum below : ℕ) (l : List ℕ) : Type 0 where
+-- Where the loop over n elements stands, by whatever shapes it is shown of which Ok holds, as it does of some: so many are left. What was asked of the array is kept.
+pub record Counting (Ok : (ℕ → Shape) → Type 0) (s p : List ℕ) (depth ty elem n start row : ℕ) (judging : Bool) (sheet : List ℕ) (left here sum below : ℕ) (l : List ℕ) : Type 0 where
+  pub asked : Ready s p start (row + 1) judging (wholeIn s p depth ty (array elem) start n start)
+  pub by : ℕ → Shape
+  pub ok : Ok by
   pub same : (R : ℕ → Shape) → Ok R
       → aheadBy R s p depth (replicate left (plainItem elem)) here sum below l ≡ aheadBy R s p depth (replicate n (plainItem elem)) start 0 (row + 1) sheet
   pub inside : here ≤ length p
@@ -275,15 +278,14 @@ abbrev Counted : (Ok : (ℕ → Shape) → Type 0) (s p : List ℕ) (depth ty el
 Counted Ok s p depth ty elem n start row sheet r after =
     (R : ℕ → Shape) → Ok R → Walked p start (toldHeld R (shapeIn s) 0 (plan (array elem) n)) (wholeIn s p depth ty (array elem) start n start) row sheet r after
 
--- Some shapes R₀ are such.
-module _ (Ok : (ℕ → Shape) → Type 0) (R₀ : ℕ → Shape) (ok : Ok R₀) (ty : ℕ) {s p : List ℕ} {depth elem n start row : ℕ} {judging : Bool}
-    (q : Ready s p start (row + 1) judging (wholeIn s p depth ty (array elem) start n start)) where
-  pub counting-first : (sheet : List ℕ) → Counting Ok s p depth elem n start row sheet n start 0 (row + 1) sheet
-  counting-first sheet = record { same = λ R shown. refl; inside = q .inside; behind = q .behind; forth = omega arith; long = refl }
+module _ {Ok : (ℕ → Shape) → Type 0} {s p : List ℕ} {depth ty elem n start row : ℕ} {judging : Bool} where
+  pub counting-first : Ready s p start (row + 1) judging (wholeIn s p depth ty (array elem) start n start) → (R : ℕ → Shape) → Ok R → (sheet : List ℕ)
+      → Counting Ok s p depth ty elem n start row judging sheet n start 0 (row + 1) sheet
+  counting-first q R ok sheet = record { asked = q; by = R; ok = ok; same = λ R shown. refl; inside = q .inside; behind = q .behind; forth = omega arith; long = refl }
 
-  module _ {sheet : List ℕ} {left here sum below : ℕ} {l : List ℕ} (g : Counting Ok s p depth elem n start row sheet left here sum below l) where
+  module _ {sheet : List ℕ} {left here sum below : ℕ} {l : List ℕ} (g : Counting Ok s p depth ty elem n start row judging sheet left here sum below l) where
     pub counting-own : n ≤ 16384 → (row ≤ 16384) × (start ≤ 16384) × (here - start ≤ 16384) × (n ≤ 16384)
-    counting-own few = omega (arith, q .small, q .inside, q .behind, g .inside, few)
+    counting-own few = let q = g .asked in omega (arith, q .small, q .inside, q .behind, g .inside, few)
 
     pub counting-end : (0 < left → ⊥) → {after : List ℕ} → after ≡ putRow l row (record { ty = ty; place = start; length = here - start; count = n })
         → Counted Ok s p depth ty elem n start row sheet (Past sum here below) after
@@ -294,15 +296,17 @@ module _ (Ok : (ℕ → Shape) → Type 0) (R₀ : ℕ → Shape) (ok : Ok R₀)
     module _ (some : 0 < left) where
       pub counting-ready : Ready s p here below judging (valueIn s p depth elem here)
       counting-ready =
+          let S = shapeIn s in
+          let P = parse S depth in
+          let items = replicate left (plainItem elem) in
           record {
-            good = q .good;
-            small = q .small;
+            good = g .asked .good;
+            small = g .asked .small;
             inside = g .inside;
             behind = g .behind;
             judged = λ j.
-                element-accepted R₀ (shapeIn s) (parse (shapeIn s) depth) elem left some (cursorAt p here) sum below l
-                (rest-accepted R₀ (shapeIn s) (parse (shapeIn s) depth) (array elem) ty start n (cursorAt p start) row sheet
-                (walk (parse (shapeIn s) depth) [] (replicate left (plainItem elem)) (cursorAt p here)) (replicate left (plainItem elem)) sum below l (g .same R₀ ok) (q .judged j));
+                element-accepted (g .by) S P elem left some (cursorAt p here) sum below l
+                (rest-accepted (g .by) S P (array elem) ty start n (cursorAt p start) row sheet (walk P [] items (cursorAt p here)) items sum below l (g .same (g .by) (g .ok)) (g .asked .judged j));
           }
 
       -- one level down, where there is one
@@ -315,16 +319,19 @@ module _ (Ok : (ℕ → Shape) → Type 0) (R₀ : ℕ → Shape) (ok : Ok R₀)
             composite-stop R (shapeIn s) (parse (shapeIn s) depth) (array elem) ty start n (cursorAt p start) row sheet p start number place after
             (element-stop R (shapeIn s) (parse (shapeIn s) depth) elem left some (cursorAt p here) sum below l number place (was (walked R shown) e .same) ∙ g .same R shown)
 
-        module _ {due next row′ : ℕ} (e : r ≡ Past due next row′) where
-          pub counting-sum : sum + due ≤ 262144
-          counting-sum = let w = was (walked R₀ ok) e .within in omega (arith, w, g .forth, q .small)
+        module _ {compared next row′ : ℕ} (e : r ≡ Past compared next row′) where
+          pub counting-sum : sum + compared ≤ 262144
+          counting-sum = let w = was (walked (g .by) (g .ok)) e .within in omega (arith, w, g .forth, g .asked .small)
 
-          pub counting-on : length m ≡ length l → Counting Ok s p depth elem n start row sheet (left - 1) next (sum + due) row′ m
+          pub counting-on : length m ≡ length l → Counting Ok s p depth ty elem n start row judging sheet (left - 1) next (sum + compared) row′ m
           counting-on long =
-              let w = was (walked R₀ ok) e .within in
+              let w = was (walked (g .by) (g .ok)) e .within in
               record {
+                asked = g .asked;
+                by = g .by;
+                ok = g .ok;
                 same = λ R shown.
-                    sym (element-past R (shapeIn s) (parse (shapeIn s) depth) elem left some (cursorAt p here) sum below l (cursorAt p next) due row′ m (was (walked R shown) e .same)) ∙ g .same R shown;
+                    sym (element-past R (shapeIn s) (parse (shapeIn s) depth) elem left some (cursorAt p here) sum below l (cursorAt p next) compared row′ m (was (walked R shown) e .same)) ∙ g .same R shown;
                 inside = w .0;
                 behind = w .1;
                 forth = omega (arith, w .2, g .forth);

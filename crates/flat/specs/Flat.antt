@@ -9,19 +9,19 @@ use Rattle.parse.specs.Reader.{Answer, refused, seen, cursorAt}
 use Rattle.schema.specs.Table.{Table, Shape, rowAt, array, map, struct}
 use Rattle.schema.specs.File.{tableOf, Laid}
 use Rattle.schema.specs.Check.{fieldRow}
-use Rattle.value.specs.Comparisons.{mapDue}
+use Rattle.value.specs.Comparisons.{mapComparisons}
 use Rattle.value.specs.Read.{Own, parts, own, among, plan}
 use Rattle.walks.specs.Shape.{fieldsFrom, shapeIn}
 use Rattle.walks.specs.Required.{Requires}
 use Rattle.walks.specs.Keys.{keysIn, Kept}
 use Rattle.flat.specs.declared.elements.Prepared.{Prepared}
-use Rattle.flat.specs.declared.elements.Opened.{Opened}
-use Rattle.flat.specs.declared.elements.Opened.the-variants.{Bits, Refused}
+use Rattle.flat.specs.declared.elements.InnerHead.{InnerHead}
+use Rattle.flat.specs.declared.elements.InnerHead.the-variants.{Bits, Refused}
 use Rattle.flat.specs.declared.Walk.{Walk}
 use Rattle.flat.specs.declared.leaf.Span.{Span}
 use Rattle.flat.specs.declared.leaf.Span.the-variants.{At, Refused as SpanRefused}
 use Rattle.flat.specs.Sheet.{putRow}
-use Rattle.flat.specs.Leaf.{part, Spanned}
+use Rattle.flat.specs.Leaf.{between, Spanned}
 use Rattle.flat.specs.Walk.{valueIn, wholeIn, told, toldHeld, Walked, Ready}
 
 -- The fields from one number up to another are scalars, strings or bytes.
@@ -49,18 +49,18 @@ pub record Described (s : List ℕ) (ty : ℕ) (e : Prepared) : Type 0 where
 
 -- ---- the bitmap of an inner struct
 
-abbrev pub openedOf : List ℕ → ℕ → Opened → Answer Own
-openedOf p at (Bits known start) = seen (parts at known) (cursorAt p start)
-openedOf p at (Refused number) = refused number at
+abbrev pub innerHeadOf : List ℕ → ℕ → InnerHead → Answer Own
+innerHeadOf p at (Bits known start) = seen (parts at known) (cursorAt p start)
+innerHeadOf p at (Refused number) = refused number at
 
-abbrev pub OpenedIn : (size n at : ℕ) → Opened → Type 0
-OpenedIn size n at (Bits known start) = (known < 2 ^ n) × (at < start) × (start ≤ size)
-OpenedIn size n at (Refused number) = Unit {0}
+abbrev pub InnerHeadIn : (size n at : ℕ) → InnerHead → Type 0
+InnerHeadIn size n at (Bits known start) = (known < 2 ^ n) × (at < start) × (start ≤ size)
+InnerHeadIn size n at (Refused number) = Unit {0}
 
-pub record Unfolded (p : List ℕ) (required n at : ℕ) (r : Opened) : Type 0 where
+pub record InnerHeaded (p : List ℕ) (required n at : ℕ) (r : InnerHead) : Type 0 where
   pub same : (T : Table) (first : ℕ) → first + n ≤ length (T .fields) → Requires required (fieldsFrom T first n)
-      → openedOf p at r ≡ own (struct (fieldsFrom T first n)) (cursorAt p at)
-  pub within : OpenedIn (length p) n at r
+      → innerHeadOf p at r ≡ own (struct (fieldsFrom T first n)) (cursorAt p at)
+  pub within : InnerHeadIn (length p) n at r
 
 -- ---- what is answered, by whatever shapes R it is shown
 
@@ -83,23 +83,24 @@ HeldLeaves s p depth ty elem place n at row sheet r after =
 abbrev pub HeldPairs : (s p : List ℕ) (depth ty key val place n at row : ℕ) (sheet : List ℕ) → Walk → (after : List ℕ) → Type 0
 HeldPairs s p depth ty key val place n at row sheet r after =
     (R : ℕ → Shape)
-    → Walked p at (toldHeld R (shapeIn s) (mapDue (map key val) n) (plan (map key val) n)) (wholeIn s p depth ty (map key val) place n at) row sheet r after
+    → Walked p at (toldHeld R (shapeIn s) (mapComparisons (map key val) n) (plan (map key val) n)) (wholeIn s p depth ty (map key val) place n at) row sheet r after
 
--- What the loop over the n pairs of such a map may assume.
+-- What the loop over the n pairs of a map may assume.
 pub record PairsReady (s p : List ℕ) (depth ty key val n start row : ℕ) (judging : Bool) : Type 0 where
   pub ready : Ready s p start (row + 1) judging (wholeIn s p depth ty (map key val) start n start)
-  pub leaves : PairsIn (tableOf s) key val
+  pub some : 0 < rowAt (tableOf s) key .kind
+  pub leaf : rowAt (tableOf s) key .kind < 14
   pub most : n ≤ 64
 
 -- The next key of a map, whose first i keys are kept where they are judged: it is none of them, is kept with them and has a row; or it is refused.
 abbrev pub KeyTold : (p : List ℕ) (at : ℕ) → Answer Own → (judging : Bool) (ty i row : ℕ) (sheet keys : List ℕ) → Span → (sheet′ keys′ : List ℕ) → Type 0
 KeyTold p at o judging ty i row sheet keys (At from to) sheet′ keys′ =
     Spanned p at o (At from to)
-    × (judging ≡ true → (among (part p from to) (keysIn p keys i) ≡ false) × (keysIn p keys′ (i + 1) ≡ part p from to ∷ keysIn p keys i) × Kept p keys′ true (i + 1))
+    × (judging ≡ true → (among (between p from to) (keysIn p keys i) ≡ false) × (keysIn p keys′ (i + 1) ≡ between p from to ∷ keysIn p keys i) × Kept p keys′ true (i + 1))
     × (sheet′ ≡ putRow sheet row (record { ty = ty; place = from; length = to - from; count = 0 }))
 KeyTold p at o judging ty i row sheet keys (SpanRefused place number) sheet′ keys′ =
     Spanned p at o (SpanRefused place number)
-    ⊎ ((place ≡ at) × (number ≡ 24) × (judging ≡ true) × ((from to : ℕ) × Spanned p at o (At from to) × (among (part p from to) (keysIn p keys i) ≡ true)))
+    ⊎ ((place ≡ at) × (number ≡ 24) × (judging ≡ true) × ((from to : ℕ) × Spanned p at o (At from to) × (among (between p from to) (keysIn p keys i) ≡ true)))
 
 pub record KeyTaken (p : List ℕ) (at : ℕ) (o : Answer Own) (judging : Bool) (ty i row : ℕ) (sheet keys : List ℕ) (r : Span) (sheet′ keys′ : List ℕ) : Type 0 where
   pub told : KeyTold p at o judging ty i row sheet keys r sheet′ keys′
@@ -116,7 +117,7 @@ HeldFields s p depth ty first n place known at row sheet r after =
 pub record FieldsReady (s p : List ℕ) (depth ty first n place known start row : ℕ) (judging : Bool) : Type 0 where
   pub ready : Ready s p start (row + 1) judging (wholeIn s p depth ty (struct (fieldsFrom (tableOf s) first n)) place known start)
   pub leaves : LeavesIn (tableOf s) first (first + n)
-  pub room : first + n ≤ length (tableOf s .fields)
+  pub in-table : first + n ≤ length (tableOf s .fields)
   pub few : n ≤ 64
   pub fits : known < 2 ^ n
   pub forth : place ≤ start
@@ -135,11 +136,11 @@ abbrev pub firstShape : (s : List ℕ) (ty m : ℕ) → Shape
 firstShape s ty m = struct (fieldsFrom (tableOf s) (rowAt (tableOf s) ty .a) m)
 
 -- A struct of which the first m fields are shown.
-abbrev pub ValuedPart : (s p : List ℕ) (depth ty m at row : ℕ) (sheet : List ℕ) → Walk → (after : List ℕ) → Type 0
-ValuedPart s p depth ty m at row sheet r after =
+abbrev pub ValuedPartial : (s p : List ℕ) (depth ty m at row : ℕ) (sheet : List ℕ) → Walk → (after : List ℕ) → Type 0
+ValuedPartial s p depth ty m at row sheet r after =
     (R : ℕ → Shape) → R ty ≡ firstShape s ty m → Walked p (at + 1) (told R (shapeIn s) ty) (valueIn s p depth ty at) row sheet r after
 
 -- An array of such structs from its head on.
-abbrev pub HeldPart : (s p : List ℕ) (depth ty elem m place n at row : ℕ) (sheet : List ℕ) → Walk → (after : List ℕ) → Type 0
-HeldPart s p depth ty elem m place n at row sheet r after =
+abbrev pub HeldPartial : (s p : List ℕ) (depth ty elem m place n at row : ℕ) (sheet : List ℕ) → Walk → (after : List ℕ) → Type 0
+HeldPartial s p depth ty elem m place n at row sheet r after =
     (R : ℕ → Shape) → R elem ≡ firstShape s elem m → Walked p at (toldHeld R (shapeIn s) 0 (plan (array elem) n)) (wholeIn s p depth ty (array elem) place n at) row sheet r after

@@ -15,8 +15,8 @@ use Rattle.flat.specs.declared.leaf.Head.{Head}
 use Rattle.flat.specs.declared.leaf.Head.the-variants.{Bits, Refused as HeadRefused}
 
 -- The bytes from one place up to another.
-abbrev pub part : List ℕ → ℕ → ℕ → List ℕ
-part p from to = take (to - from) (drop from p)
+abbrev pub between : List ℕ → ℕ → ℕ → List ℕ
+between p from to = take (to - from) (drop from p)
 
 -- ---- counts
 
@@ -40,7 +40,7 @@ Uncounted p at o = CountRead p at 2 o (Is 0 (at + 1))
 -- ---- contents
 
 abbrev pub spanOf : List ℕ → Span → Answer Own
-spanOf p (At from to) = seen (plain (part p from to)) (cursorAt p to)
+spanOf p (At from to) = seen (plain (between p from to)) (cursorAt p to)
 spanOf p (SpanRefused place number) = refused number place
 
 abbrev pub SpanIn : (size at : ℕ) → Span → Type 0
@@ -54,19 +54,19 @@ pub record Spanned (p : List ℕ) (at : ℕ) (o : Answer Own) (r : Span) : Type 
 -- ---- presence bits
 
 abbrev pub headOf : List ℕ → ℕ → Head → Answer ℕ
-headOf p at (Bits word known count unknown start) = seen word (cursorAt p start)
+headOf p at (Bits word known ones unknown start) = seen word (cursorAt p start)
 headOf p at (HeadRefused number) = refused number at
 
 -- The known bits and their count, the number of unknown ones, and that there is none exactly where the word is below 2 ^ fields.
 abbrev pub HeadIn : (size at : ℕ) → List Field → Head → Type 0
-HeadIn size at fs (Bits word known count unknown start) =
+HeadIn size at fs (Bits word known ones unknown start) =
     (known ≡ knownBits fs word)
-    × (count ≡ length (present fs known))
+    × (ones ≡ length (present fs known))
     × (unknown ≡ unknownBits fs word)
     × (ltb word (2 ^ length fs) ≡ eqb unknown 0)
     × (at < start)
     × (start ≤ size)
-    × (count ≤ 64)
+    × (ones ≤ 64)
 HeadIn size at fs (HeadRefused number) = Unit {0}
 
 pub record Headed (p : List ℕ) (at : ℕ) (fs : List Field) (o : Answer ℕ) (r : Head) : Type 0 where

@@ -1,10 +1,10 @@
 // Arrays of structs that hold nothing but scalars, strings and bytes, and of which only the first fields are shown: the others are read without a row.
 use crate::Walk;
-use crate::elements::Opened;
+use crate::elements::InnerHead;
 use crate::elements::Prepared;
 use crate::elements::are_leaves;
+use crate::elements::inner_presence;
 use crate::elements::prepared_of;
-use crate::elements::read_bits;
 use crate::leaf::Span;
 use crate::leaf::content;
 use crate::leaf::ones_in;
@@ -29,7 +29,7 @@ ghost use Rattle.schema.specs.File.{Laid, tableOf};
 ghost use Rattle.schema.specs.Check.{IsGood};
 ghost use Rattle.walks.specs.Shape.{fieldsFrom, shapeIn};
 ghost use Rattle.flat.specs.Walk.{valueIn, wholeIn, Ready};
-ghost use Rattle.flat.specs.Flat.{IsFlat, Described, HeldFields, FieldsReady, HeldFirst, ValuedPart, HeldPart};
+ghost use Rattle.flat.specs.Flat.{IsFlat, Described, HeldFields, FieldsReady, HeldFirst, ValuedPartial, HeldPartial};
 
 // Whether a type is a struct of leaves of which only the first fields are shown.
 pub fn is_partly_shown(shown: &[u8; limit::TYPES], s: &[u8], ty: u32, depth: usize) -> bool
@@ -104,7 +104,7 @@ fn leaf_fields(
 }
 
 // The fields of a struct from field m on, from a place on. They are given no rows.
-fn hidden_fields(
+fn added_fields(
     s: &[u8],
     l: Layout,
     p: &[u8],
@@ -141,7 +141,7 @@ fn hidden_fields(
 }
 
 // The fields of a struct, of which the first m of n are shown. Its own row is written again, with its whole length.
-fn part_fields(
+fn partial_fields(
     s: &[u8],
     l: Layout,
     p: &[u8],
@@ -151,14 +151,14 @@ fn part_fields(
     n: usize,
     m: usize,
     known: u64,
-    at: usize,
+    place: usize,
     start: usize,
     depth: usize,
     row: usize,
     judging: bool,
 ) -> Walk
-    requires { ⌜ FieldsReady (now s) (now p) depth ty first n at known start row judging × Laid (now s) l × (m < n) × (shapeIn (now s) ty ≡ struct (fieldsFrom (tableOf (now s)) first n)) ⌝ }
-    ensures { λ r. ⌜ HeldFirst (now (s .entry)) (now (p .entry)) depth ty first n m at known start row (now (sheet .entry)) r (now (sheet .exit)) ⌝ }
+    requires { ⌜ FieldsReady (now s) (now p) depth ty first n place known start row judging × Laid (now s) l × (m < n) × (shapeIn (now s) ty ≡ struct (fieldsFrom (tableOf (now s)) first n)) ⌝ }
+    ensures { λ r. ⌜ HeldFirst (now (s .entry)) (now (p .entry)) depth ty first n m place known start row (now (sheet .entry)) r (now (sheet .exit)) ⌝ }
 {
     let mine = low_bits(known, m);
     match leaf_fields(
@@ -170,7 +170,7 @@ fn part_fields(
         first,
         m,
         mine,
-        at,
+        place,
         start,
         depth,
         row,
@@ -181,10 +181,10 @@ fn part_fields(
             due: sum,
             next: here,
             row: below,
-        } => match hidden_fields(s, l, p, ty, first, n, m, known, here, depth, row, judging) {
+        } => match added_fields(s, l, p, ty, first, n, m, known, here, depth, row, judging) {
             Walk::Refused { number, place } => Walk::Refused { number, place },
             Walk::Past { due, next, row: _ } => {
-                put_row(sheet, row, ty, at, next - at, ones_in(mine));
+                put_row(sheet, row, ty, place, next - place, ones_in(mine));
                 Walk::Past {
                     due: sum + due,
                     next: next,
@@ -196,7 +196,7 @@ fn part_fields(
 }
 
 // A struct of which the first m fields are shown.
-fn part_struct(
+fn partial_struct(
     s: &[u8],
     f: Prepared,
     m: usize,
@@ -208,14 +208,14 @@ fn part_struct(
     judging: bool,
 ) -> Walk
     requires { ⌜ Ready (now s) (now p) at row judging (valueIn (now s) (now p) (suc depth) (f .ty) at) × Described (now s) (f .ty) f × IsFlat (now s) (suc depth) (f .ty) × (f .row .kind ≡ 16) × (m < f .row .b) ⌝ }
-    ensures { λ r. ⌜ ValuedPart (now (s .entry)) (now (p .entry)) (suc depth) (f .ty) m at row (now (sheet .entry)) r (now (sheet .exit)) ⌝ }
+    ensures { λ r. ⌜ ValuedPartial (now (s .entry)) (now (p .entry)) (suc depth) (f .ty) m at row (now (sheet .entry)) r (now (sheet .exit)) ⌝ }
 {
     let first = f.row.a as usize;
     let n = f.row.b as usize;
-    match read_bits(p, f.required, n, at) {
-        Opened::Refused { number } => Walk::Refused { number, place: at },
-        Opened::Bits { known, start } => {
-            part_fields(
+    match inner_presence(p, f.required, n, at) {
+        InnerHead::Refused { number } => Walk::Refused { number, place: at },
+        InnerHead::Bits { known, start } => {
+            partial_fields(
                 s,
                 f.layout,
                 p,
@@ -251,7 +251,7 @@ pub fn read_structs(
 ) -> Walk
     requires { ⌜ Ready (now s) (now p) start (row + 1) judging (wholeIn (now s) (now p) depth ty (array elem) start n start) × IsFlat (now s) depth elem × (n ≤ 16384) ⌝ }
     requires { ⌜ (rowAt (tableOf (now s)) elem .kind ≡ 16) × (m < rowAt (tableOf (now s)) elem .b) ⌝ }
-    ensures { λ r. ⌜ HeldPart (now (s .entry)) (now (p .entry)) depth ty elem m start n start row (now (sheet .entry)) r (now (sheet .exit)) ⌝ }
+    ensures { λ r. ⌜ HeldPartial (now (s .entry)) (now (p .entry)) depth ty elem m start n start row (now (sheet .entry)) r (now (sheet .exit)) ⌝ }
 {
     let f = prepared_of(s, elem);
     let mut left = n;
@@ -265,7 +265,7 @@ pub fn read_structs(
                 place: here,
             };
         }
-        match part_struct(s, f, m, p, sheet, here, depth - 1, below, judging) {
+        match partial_struct(s, f, m, p, sheet, here, depth - 1, below, judging) {
             Walk::Refused { number, place } => {
                 return Walk::Refused { number, place };
             }

@@ -28,7 +28,7 @@ ghost use Rattle.schema.specs.File.{Laid, tableOf};
 ghost use Rattle.schema.specs.Check.{IsGood};
 ghost use Rattle.walks.specs.Shape.{shapeIn};
 ghost use Rattle.flat.specs.Walk.{valueIn, wholeIn, firstFields, Ready};
-ghost use Rattle.flat.specs.Flat.{LeavesIn, IsFlat, Described, Unfolded, ValuedFlat, HeldFlat, HeldLeaves, HeldFields, FieldsReady};
+ghost use Rattle.flat.specs.Flat.{LeavesIn, IsFlat, Described, InnerHeaded, ValuedFlat, HeldFlat, HeldLeaves, HeldFields, FieldsReady};
 
 // A type as the loop over elements needs it: its row, the bits of a struct's fields that are not optional, and the table's layout.
 pub struct Prepared {
@@ -38,8 +38,8 @@ pub struct Prepared {
     pub layout: Layout,
 }
 
-// A struct's bits and the place after its bitmap, or a refusal at the bitmap's own place.
-pub enum Opened {
+// What the bitmap of an inner struct says: its bits, all of known fields, and the place after it; or a refusal at the bitmap's own place.
+pub enum InnerHead {
     Bits { known: u64, start: usize },
     Refused { number: u32 },
 }
@@ -111,35 +111,35 @@ pub fn prepared_of(s: &[u8], ty: u32) -> Prepared
 }
 
 // The bitmap of an inner struct that has n fields, of which those with bits in `required` have to be there.
-pub fn read_bits(p: &[u8], required: u64, n: usize, at: usize) -> Opened
+pub fn inner_presence(p: &[u8], required: u64, n: usize, at: usize) -> InnerHead
     requires { ⌜ (0 < n) × (n ≤ 64) × (at ≤ length (now p)) ⌝ }
-    ensures { λ r. ⌜ Unfolded (now (p .entry)) required n at r ⌝ }
+    ensures { λ r. ⌜ InnerHeaded (now (p .entry)) required n at r ⌝ }
 {
-    let size = (n + 7) / 8;
+    let size = (n + bitmap::SPARE_BITS) / bitmap::BYTE_BITS;
     if p.len() - at < size {
-        return Opened::Refused {
+        return InnerHead::Refused {
             number: refusal::CUT,
         };
     }
     let b = bitmap::read(p, at, n);
     if required & b.bits != required {
-        return Opened::Refused {
+        return InnerHead::Refused {
             number: refusal::ABSENT_FIELD,
         };
     }
     if b.bits != b.known {
-        return Opened::Refused {
+        return InnerHead::Refused {
             number: refusal::UNKNOWN_BIT,
         };
     }
-    Opened::Bits {
+    InnerHead::Bits {
         known: b.known,
         start: at + size,
     }
 }
 
 // The n elements of an array from a place on that are scalars, strings or bytes.
-fn leaves(
+fn read_leaves(
     s: &[u8],
     p: &[u8],
     sheet: &mut [u32],
@@ -187,7 +187,7 @@ fn leaves(
     }
 }
 
-// The fields of a struct whose bits are set in `known`, from `start` on, and the struct's own row: its bitmap stands at `at`. The loop of
+// The fields of a struct whose bits are set in `known`, from `start` on, and the struct's own row: its bitmap stands at `place`. The loop of
 // `added::leaf_fields` again: one function at three call sites is not inlined, and takes small structs 1.7 times as long.
 fn flat_fields(
     s: &[u8],
@@ -195,14 +195,14 @@ fn flat_fields(
     p: &[u8],
     sheet: &mut [u32],
     known: u64,
-    at: usize,
+    place: usize,
     start: usize,
     depth: usize,
     row: usize,
     judging: bool,
 ) -> Walk
-    requires { ⌜ FieldsReady (now s) (now p) depth (f .ty) (f .row .a) (f .row .b) at known start row judging × Laid (now s) (f .layout) ⌝ }
-    ensures { λ r. ⌜ HeldFields (now (s .entry)) (now (p .entry)) depth (f .ty) (f .row .a) (f .row .b) at known start row (now (sheet .entry)) r (now (sheet .exit)) ⌝ }
+    requires { ⌜ FieldsReady (now s) (now p) depth (f .ty) (f .row .a) (f .row .b) place known start row judging × Laid (now s) (f .layout) ⌝ }
+    ensures { λ r. ⌜ HeldFields (now (s .entry)) (now (p .entry)) depth (f .ty) (f .row .a) (f .row .b) place known start row (now (sheet .entry)) r (now (sheet .exit)) ⌝ }
 {
     let mut i = f.row.a as usize;
     let mut bits = known;
@@ -230,7 +230,7 @@ fn flat_fields(
             i = i + k;
         }
     }
-    put_row(sheet, row, f.ty, at, here - at, below - row - 1);
+    put_row(sheet, row, f.ty, place, here - place, below - row - 1);
     Walk::Past {
         due: 0,
         next: here,
@@ -252,9 +252,9 @@ fn flat_struct(
     requires { ⌜ Ready (now s) (now p) at row judging (valueIn (now s) (now p) (suc depth) (f .ty) at) × Described (now s) (f .ty) f × IsFlat (now s) (suc depth) (f .ty) × (f .row .kind ≡ 16) ⌝ }
     ensures { λ r. ⌜ ValuedFlat (now (s .entry)) (now (p .entry)) (suc depth) (f .ty) at row (now (sheet .entry)) r (now (sheet .exit)) ⌝ }
 {
-    match read_bits(p, f.required, f.row.b as usize, at) {
-        Opened::Refused { number } => Walk::Refused { number, place: at },
-        Opened::Bits { known, start } => {
+    match inner_presence(p, f.required, f.row.b as usize, at) {
+        InnerHead::Refused { number } => Walk::Refused { number, place: at },
+        InnerHead::Bits { known, start } => {
             flat_fields(s, f, p, sheet, known, at, start, depth, row, judging)
         }
     }
@@ -277,7 +277,7 @@ fn flat_array(
     match read_count(p, at, 1) {
         Count::Refused { number } => Walk::Refused { number, place: at },
         Count::Is { n, start } => {
-            leaves(s, p, sheet, f.ty, f.row.a, n, start, depth, row, judging)
+            read_leaves(s, p, sheet, f.ty, f.row.a, n, start, depth, row, judging)
         }
     }
 }

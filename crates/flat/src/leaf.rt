@@ -1,4 +1,4 @@
-// A value's own bytes: counts, contents of scalars and strings, and presence bits.
+// A value's own bytes: counts, contents of leaves, and presence bits. A leaf is a value of a kind that holds no other: a scalar, a string or bytes.
 use constants::kind;
 use constants::limit;
 use constants::refusal;
@@ -46,7 +46,7 @@ pub enum Head {
     Bits {
         word: u64,
         known: u64,
-        count: usize,
+        ones: usize,
         unknown: usize,
         start: usize,
     },
@@ -219,7 +219,7 @@ pub fn presence(s: &[u8], p: &[u8], first: usize, n: usize, at: usize, judging: 
     requires { ⌜ IsGood (now s) × (0 < n) × (n ≤ 64) × (first + n ≤ length (tableOf (now s) .fields)) × (at ≤ length (now p)) × (judging ≡ false → Accepted (bitmap (fieldsFrom (tableOf (now s)) first n) (cursorAt (now p) at))) ⌝ }
     ensures { λ r. ⌜ Headed (now (p .entry)) at (fieldsFrom (tableOf (now (s .entry))) first n) (bitmap (fieldsFrom (tableOf (now (s .entry))) first n) (cursorAt (now (p .entry)) at)) r ⌝ }
 {
-    let size = (n + 7) / 8;
+    let size = (n + bitmap::SPARE_BITS) / bitmap::BYTE_BITS;
     if p.len() - at < size {
         return Head::Refused {
             number: refusal::CUT,
@@ -234,7 +234,7 @@ pub fn presence(s: &[u8], p: &[u8], first: usize, n: usize, at: usize, judging: 
     Head::Bits {
         word: b.bits,
         known: b.known,
-        count: b.count as usize,
+        ones: b.ones as usize,
         unknown: b.unknown as usize,
         start: at + size,
     }

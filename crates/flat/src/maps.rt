@@ -22,7 +22,7 @@ ghost use Rattle.parse.specs.Reader.{cursorAt, Accepted};
 ghost use Rattle.schema.specs.Table.{rowAt, array, map};
 ghost use Rattle.schema.specs.File.{tableOf};
 ghost use Rattle.schema.specs.Check.{IsGood};
-ghost use Rattle.value.specs.Comparisons.{due};
+ghost use Rattle.value.specs.Comparisons.{keyComparisons};
 ghost use Rattle.value.specs.Read.{own};
 ghost use Rattle.walks.specs.Shape.{leafShape, shapeIn};
 ghost use Rattle.walks.specs.Keys.{Kept};
@@ -42,9 +42,9 @@ pub fn holds_leaves(s: &[u8], t: TypeRow) -> bool
 }
 
 // The comparisons due of the keys of a map of n pairs.
-fn due_of(n: usize) -> u32
+fn key_comparisons(n: usize) -> u32
     requires { ⌜ n ≤ 64 ⌝ }
-    ensures { λ r. ⌜ r ≡ due n ⌝ }
+    ensures { λ r. ⌜ r ≡ keyComparisons n ⌝ }
 {
     if n == 0 {
         return 0;
@@ -99,6 +99,7 @@ fn leaf_pairs(
     judging: bool,
 ) -> Walk
     requires { ⌜ PairsReady (now s) (now p) depth ty key val n start row judging × (judging ≡ true → n + 4 ≤ length (now keys) / 2) ⌝ }
+    requires { ⌜ (0 < rowAt (tableOf (now s)) val .kind) × (rowAt (tableOf (now s)) val .kind < 14) ⌝ }
     ensures { λ r. ⌜ HeldPairs (now (s .entry)) (now (p .entry)) depth ty key val start n start row (now (sheet .entry)) r (now (sheet .exit)) ⌝ }
 {
     let k = known_row(s, key as usize).kind as usize;
@@ -132,7 +133,7 @@ fn leaf_pairs(
     }
     put_row(sheet, row, ty, start, here - start, n);
     Walk::Past {
-        due: due_of(n),
+        due: key_comparisons(n),
         next: here,
         row: below,
     }

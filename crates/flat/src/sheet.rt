@@ -1,4 +1,5 @@
 // The sheet: rows of four cells.
+use constants::format;
 ghost use mathlib.Core.Path.{_≡_};
 ghost use Prim.Native.Nat.{_≤_};
 ghost use lib.ListN.{length};
@@ -10,8 +11,8 @@ pub fn put_row(sheet: &mut [u32], row: usize, ty: u32, place: usize, length: usi
     requires { ⌜ (row ≤ 16384) × (place ≤ 16384) × (length ≤ 16384) × (count ≤ 16384) ⌝ }
     ensures { λ _. ⌜ now (sheet .exit) ≡ putRow (now (sheet .entry)) row (record { ty = ty; place = place; length = length; count = count }) ⌝ }
 {
-    let base = 4 * row;
-    if base + 4 <= sheet.len() {
+    let base = format::ROW_CELLS * row;
+    if base + format::ROW_CELLS <= sheet.len() {
         sheet[base] = ty;
         sheet[base + 1] = place as u32;
         sheet[base + 2] = length as u32;

@@ -58,10 +58,10 @@ place-none cells h = sym (ap rootPlace (no-rows cells 0 (omega arith)))
 pub place-first : (cells : List ℕ) → 4 ≤ length cells → getD cells 1 0 ≡ rootPlace (rowsOf cells)
 place-first cells h = sym (ap rootPlace (rows-from cells 0 (omega arith)))
 
-pub unknown-is : (B : List ℕ) (place n : ℕ) → place + (n + 7) / 8 ≤ length B → Bytes B → (word known count unknown : ℕ)
-    → Present (span B place ((n + 7) / 8)) n word known count unknown → (fs : List Field) → length fs ≡ n
+pub unknown-is : (B : List ℕ) (place n : ℕ) → place + (n + 7) / 8 ≤ length B → Bytes B → (word known ones unknown : ℕ)
+    → Present (span B place ((n + 7) / 8)) n word known ones unknown → (fs : List Field) → length fs ≡ n
     → unknown ≡ unknownBits fs (little (span B place (bitmapBytes (length fs))))
-unknown-is B place n within b word known count unknown is fs many =
+unknown-is B place n within b word known ones unknown is fs many =
     let read = bits-read fs many B place within b is in
     read .2 ∙ ap (unknownBits fs) (is .word-is ∙ ap (λ (k : ℕ). little (span B place ((k + 7) / 8))) (sym many))
 

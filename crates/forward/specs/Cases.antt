@@ -58,8 +58,8 @@ abbrev P2 : List ℕ
 P2 = 0x01 ∷ 0x00 ∷ []
 
 -- The rows of P6 in bytes where it starts at place p; those of P2 at 0.
-abbrev known : (p : ℕ) → List ℕ
-known p = 4 ∷ p ∷ 4 ∷ 1 ∷ 3 ∷ (p + 2) ∷ 2 ∷ 1 ∷ 2 ∷ (p + 2) ∷ 2 ∷ 1 ∷ 0 ∷ (p + 3) ∷ 1 ∷ 0 ∷ []
+abbrev rowsP6 : (p : ℕ) → List ℕ
+rowsP6 p = 4 ∷ p ∷ 4 ∷ 1 ∷ 3 ∷ (p + 2) ∷ 2 ∷ 1 ∷ 2 ∷ (p + 2) ∷ 2 ∷ 1 ∷ 0 ∷ (p + 3) ∷ 1 ∷ 0 ∷ []
 
 abbrev short : List ℕ
 short = 4 ∷ 0 ∷ 2 ∷ 1 ∷ 3 ∷ 2 ∷ 0 ∷ 0 ∷ []
@@ -67,33 +67,33 @@ short = 4 ∷ 0 ∷ 2 ∷ 1 ∷ 3 ∷ 2 ∷ 0 ∷ 0 ∷ []
 abbrev pub worked : List ForwardCase
 worked =
     -- P6 comes out as it is, with just room enough, with two bytes more, and from bytes where it starts at 2; with a byte less of room it is 52.
-    writes 4 (known 0) P6 4 1 0 P6
-    ∷ writes 4 (known 0) P6 4 1 2 P6
-    ∷ writes 4 (known 2) (0xEE ∷ 0xEE ∷ P6) 6 1 0 P6
-    ∷ refuses 4 (known 0) P6 4 1 4 52 0
+    writes 4 (rowsP6 0) P6 4 1 0 P6
+    ∷ writes 4 (rowsP6 0) P6 4 1 2 P6
+    ∷ writes 4 (rowsP6 2) (0xEE ∷ 0xEE ∷ P6) 6 1 0 P6
+    ∷ refuses 4 (rowsP6 0) P6 4 1 4 52 0
     -- The tail may be longer than the unknown bits, lie within the value's bytes, and before them.
-    ∷ writes 4 (known 0) P6 2 2 0 (0x05 ∷ 0x01 ∷ 0x01 ∷ 0x07 ∷ 0x01 ∷ 0x07 ∷ [])
-    ∷ writes 4 (known 1) (0x09 ∷ 0x05 ∷ 0x01 ∷ 0x01 ∷ 0x07 ∷ []) 0 1 0 P6
+    ∷ writes 4 (rowsP6 0) P6 2 2 0 (0x05 ∷ 0x01 ∷ 0x01 ∷ 0x07 ∷ 0x01 ∷ 0x07 ∷ [])
+    ∷ writes 4 (rowsP6 1) (0x09 ∷ 0x05 ∷ 0x01 ∷ 0x01 ∷ 0x07 ∷ []) 0 1 0 P6
     -- 51 before 50: the tail ends or starts past the bytes, too short for the unknown bits or not.
-    ∷ refuses 4 (known 0) P6 5 1 0 51 0
-    ∷ refuses 4 (known 0) P6 6 0 0 51 0
+    ∷ refuses 4 (rowsP6 0) P6 5 1 0 51 0
+    ∷ refuses 4 (rowsP6 0) P6 6 0 0 51 0
     ∷ refuses 4 short P2 3 0 0 51 0
     -- 50 before 52: shorter than the unknown bits; present without any.
-    ∷ refuses 4 (known 0) P6 5 0 0 50 0
+    ∷ refuses 4 (rowsP6 0) P6 5 0 0 50 0
     ∷ refuses 4 short P2 0 1 0 50 0
     ∷ writes 4 short P2 2 0 1 P2
     -- The rows' faults before the tail's: 46 for a type that is no struct, no row, a row left over, an inner unknown bit.
     ∷ refuses 3 [] P6 9 9 0 46 0
     ∷ refuses 4 [] P6 9 9 0 50 0
     ∷ refuses 4 (short ++ (0 ∷ 0 ∷ 1 ∷ 0 ∷ [])) P2 9 9 0 50 2
-    ∷ refuses 4 (known 0) (0x01 ∷ 0x01 ∷ 0x05 ∷ 0x07 ∷ 0x09 ∷ []) 4 9 0 50 2
+    ∷ refuses 4 (rowsP6 0) (0x01 ∷ 0x01 ∷ 0x05 ∷ 0x07 ∷ 0x09 ∷ []) 4 9 0 50 2
     ∷ []
 
 -- The whole is above 16,384 bytes: 7 before 52, and one byte less is 52.
 abbrev pub large : List ForwardCase
 large =
-    refuses 4 (known 0) (0x05 ∷ 0x01 ∷ 0x01 ∷ 0x07 ∷ replicate 16381 0x09) 4 16381 0 7 0
-    ∷ refuses 4 (known 0) (0x05 ∷ 0x01 ∷ 0x01 ∷ 0x07 ∷ replicate 16381 0x09) 4 16380 0 52 0
+    refuses 4 (rowsP6 0) (0x05 ∷ 0x01 ∷ 0x01 ∷ 0x07 ∷ replicate 16381 0x09) 4 16381 0 7 0
+    ∷ refuses 4 (rowsP6 0) (0x05 ∷ 0x01 ∷ 0x01 ∷ 0x07 ∷ replicate 16381 0x09) 4 16380 0 52 0
     ∷ []
 
 -- ---- by a table of two types: uint8, and a struct of nine optional ones, which has two presence bytes

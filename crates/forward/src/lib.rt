@@ -1,4 +1,5 @@
 // The forwarding writer: the rows of a sheet over their bytes, written as a payload with the root's unknown bits kept and a tail after the known fields.
+use constants::format;
 use constants::kind;
 use constants::limit;
 use constants::refusal;
@@ -39,7 +40,7 @@ fn refused(number: u32) -> Writing
 fn root_place(sheet: &[u32]) -> usize
     ensures { λ r. ⌜ r ≡ rootPlace (rowsOf (now (sheet .entry))) ⌝ }
 {
-    if sheet.len() < 4 {
+    if sheet.len() < format::ROW_CELLS {
         return 0;
     }
     wide(sheet[1])
@@ -151,7 +152,7 @@ pub fn forward_sheet(
                 pos,
                 source,
                 place,
-                (n + 7) / 8,
+                (n + bitmap::SPARE_BITS) / bitmap::BYTE_BITS,
                 tail_place,
                 tail_length,
             );

@@ -123,7 +123,7 @@ cut-more at-kind =
 cut-more (at-flags {k = k} w) =
     let s : List ℕ = 0xAF ∷ 0x01 ∷ 0x01 ∷ k ∷ [] in
     by-places s ∙ passed s 2 _ 2 _ (omega arith) refl ∙ passed s 3 _ 3 _ (omega arith) refl ∙ passed s 4 _ 4 _ (omega arith) (kind-known k w) ∙ short s 5 _ 5 _ (omega arith)
-cut-more (in-identifiers {k = k} {part = p} w l) = start-read k p w ∙ rw (lt-leb 25 (length (0xAF ∷ 0x01 ∷ 0x01 ∷ k ∷ 0x00 ∷ p)) (omega arith))
+cut-more (in-identifiers {k = k} {cut = p} w l) = start-read k p w ∙ rw (lt-leb 25 (length (0xAF ∷ 0x01 ∷ 0x01 ∷ k ∷ 0x00 ∷ p)) (omega arith))
 cut-more (in-length {front = f} x w c) =
     header-read w x ∙ ap (framePayload (25 + length x) (headerAt (f ++ x))) (cut-front x c) ∙ is-cut (25 + length x) (headerAt (f ++ x))
 cut-more (in-payload {front = f} n x p w spells small l) =

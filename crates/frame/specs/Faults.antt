@@ -40,9 +40,9 @@ pub data CutFrame : (s : List ℕ) → Type 0 where
   at-version : CutFrame (0xAF ∷ 0x01 ∷ [])
   at-kind : CutFrame (0xAF ∷ 0x01 ∷ 0x01 ∷ [])
   at-flags : {k : ℕ} → IsKind k → CutFrame (0xAF ∷ 0x01 ∷ 0x01 ∷ k ∷ [])
-  in-identifiers : {k : ℕ} {part : List ℕ} → IsKind k → length part < 20 → CutFrame (0xAF ∷ 0x01 ∷ 0x01 ∷ k ∷ 0x00 ∷ part)
-  in-length : {front : List ℕ} (part : List ℕ) → RightHeader front → Completed Spelled part → CutFrame (front ++ part)
-  in-payload : {front : List ℕ} (n : ℕ) (size part : List ℕ) → RightHeader front → Spelled n size → n ≤ 16384 → length part < n → CutFrame (front ++ (size ++ part))
+  in-identifiers : {k : ℕ} {cut : List ℕ} → IsKind k → length cut < 20 → CutFrame (0xAF ∷ 0x01 ∷ 0x01 ∷ k ∷ 0x00 ∷ cut)
+  in-length : {front : List ℕ} (cut : List ℕ) → RightHeader front → Completed Spelled cut → CutFrame (front ++ cut)
+  in-payload : {front : List ℕ} (n : ℕ) (size cut : List ℕ) → RightHeader front → Spelled n size → n ≤ 16384 → length cut < n → CutFrame (front ++ (size ++ cut))
 
 -- 01's number for the bytes s: 0 where they start with a frame, 1 where they are cut, and else that of the field at fault.
 pub data FrameNumber (s : List ℕ) : (number : ℕ) → Type 0 where

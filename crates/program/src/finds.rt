@@ -1,4 +1,7 @@
 // The entries of one call, by the index of a record: find INDEX RECORD CALL.
+use crate::arguments::FIRST;
+use crate::arguments::SECOND;
+use crate::arguments::THIRD;
 use crate::print::MOST;
 use crate::print::is_over;
 use crate::print::print;
@@ -23,10 +26,10 @@ fn show(index: &[u8], record: &[u8], correlation: u64) {
     }
 }
 
-// The correlation that the fourth argument gives.
+// The correlation that the verb's third argument gives.
 fn call(whole: &mut bool) -> u64 {
     let mut text = io::buffer();
-    let n = os::arg(4, &mut text);
+    let n = os::arg(THIRD, &mut text);
     let mut value = 0;
     let mut good = os::errno() == 0;
     if good {
@@ -53,8 +56,8 @@ pub fn find() {
     }
     let mut index = [0u8; MOST];
     let mut record = [0u8; MOST];
-    let n = files::read(b"arf", 2, &mut index, &mut whole);
-    let m = files::read(b"arf", 3, &mut record, &mut whole);
+    let n = files::read(b"arf", FIRST, &mut index, &mut whole);
+    let m = files::read(b"arf", SECOND, &mut record, &mut whole);
     if whole && !is_over(n, b"the index") && !is_over(m, b"the record") {
         show(&index[..n], &record[..m], correlation);
     }

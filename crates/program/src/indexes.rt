@@ -1,4 +1,7 @@
 // The index of a record: index SCHEMA RECORD INDEX. Writes it to a new file, and says in words how many entries it covers.
+use crate::arguments::FIRST;
+use crate::arguments::SECOND;
+use crate::arguments::THIRD;
 use crate::print::LONGEST;
 use crate::print::MOST;
 use crate::print::is_over;
@@ -8,19 +11,22 @@ use index::Indexing;
 // The most bytes of an index.
 const INDEX: usize = 38848;
 
-// Says how many entries an index of so many bytes covers: each has a row of 16 bytes, and the trailer as many.
+// Bytes of a row of it, and of its trailer.
+const ROW: usize = 16;
+
+// Says how many entries an index of so many bytes covers: each has a row, and the trailer is as long.
 fn tell(length: usize) {
     let mut entries = 0;
-    if 16 <= length {
-        entries = length / 16 - 1;
+    if ROW <= length {
+        entries = length / ROW - 1;
     }
     told::indexed(entries, length);
 }
 
-// Writes an index to the new file that the fourth argument names.
+// Writes an index to the new file that the verb's third argument names.
 fn save(index: &[u8], whole: &mut bool) {
     let mut path = io::buffer();
-    let n = files::name(b"arf", 4, &mut path, whole);
+    let n = files::name(b"arf", THIRD, &mut path, whole);
     if *whole {
         files::save(b"arf", &path[..n], index, whole);
     }
@@ -46,8 +52,8 @@ pub fn index() {
     let mut schema = [0u8; MOST];
     let mut record = [0u8; LONGEST];
     let mut whole = true;
-    let n = files::read(b"arf", 2, &mut schema, &mut whole);
-    let m = files::read(b"arf", 3, &mut record, &mut whole);
+    let n = files::read(b"arf", FIRST, &mut schema, &mut whole);
+    let m = files::read(b"arf", SECOND, &mut record, &mut whole);
     if whole && !is_over(n, b"the schema file") {
         make(&schema[..n], &record[..m]);
     }

@@ -1,4 +1,6 @@
 // The listing of a record by a schema file: list SCHEMA RECORD.
+use crate::arguments::FIRST;
+use crate::arguments::SECOND;
 use crate::print::LONGEST;
 use crate::print::print;
 
@@ -12,8 +14,8 @@ pub fn list() {
     let mut schema = [0u8; LONGEST];
     let mut entries = [0u8; LONGEST];
     let mut whole = true;
-    let n = files::read(b"arf", 2, &mut schema, &mut whole);
-    let m = files::read(b"arf", 3, &mut entries, &mut whole);
+    let n = files::read(b"arf", FIRST, &mut schema, &mut whole);
+    let m = files::read(b"arf", SECOND, &mut entries, &mut whole);
     if whole {
         show(&schema[..n], &entries[..m]);
     }

@@ -1,5 +1,6 @@
 // The program behind ./arf: its first argument is a verb, and the others are what that takes. It prints the verb's text on standard output, or on standard
 // error why it failed, and never both.
+mod arguments;
 mod finds;
 mod indexes;
 mod list;
@@ -55,13 +56,13 @@ fn run_three(verb: &[u8]) {
 
 fn main() {
     let mut verb = io::buffer();
-    let n = os::arg(1, &mut verb);
+    let n = os::arg(arguments::VERB, &mut verb);
     let words = os::arg_count();
-    if words == 3 {
+    if words == arguments::WITH_ONE {
         run_one(&verb[..n]);
-    } else if words == 4 {
+    } else if words == arguments::WITH_TWO {
         run_two(&verb[..n]);
-    } else if words == 5 {
+    } else if words == arguments::WITH_THREE {
         run_three(&verb[..n]);
     } else {
         usage();

@@ -1,5 +1,6 @@
 // The salvage of a torn record: salvage RECORD COPY SPANS. Writes the kept entries and the list of spans, two little-endian 32-bit numbers each, to two new
 // files, and says in words what was kept and left out.
+use crate::arguments::FIRST;
 use crate::print::LONGEST;
 use crate::save;
 use crate::told;
@@ -33,7 +34,7 @@ fn keep(record: &[u8]) {
 pub fn salvage() {
     let mut record = [0u8; LONGEST];
     let mut whole = true;
-    let n = files::read(b"arf", 2, &mut record, &mut whole);
+    let n = files::read(b"arf", FIRST, &mut record, &mut whole);
     if whole {
         keep(&record[..n]);
     }

@@ -1,23 +1,35 @@
 // The two files of a salvage.
+use crate::arguments::SECOND;
+use crate::arguments::THIRD;
 ghost use Rattle.io.specs.Counts.{Counts};
+
+// Cells of a span.
+const SPAN_CELLS: usize = 2;
 
 // The number of the cells of n spans at the front of the list; there are never more than the list has.
 pub fn front_cells(n: usize, spans: &[u32]) -> usize
     ensures { λ r. ⌜ Counts r (now (spans .entry)) ⌝ }
 {
-    if spans.len() / 2 < n {
+    if spans.len() / SPAN_CELLS < n {
         return 0;
     }
-    2 * n
+    SPAN_CELLS * n
 }
+
+// How many numbers a byte has, and what the third and the fourth byte of a number count.
+const BYTE: u32 = 256;
+
+const THIRD_BYTE: u32 = 65536;
+
+const FOURTH_BYTE: u32 = 16777216;
 
 // Four bytes, the least first.
 fn put_word(fd: i32, path: &[u8], word: u32, whole: &mut bool) {
     let bytes = [
-        (word % 256) as u8,
-        (word / 256 % 256) as u8,
-        (word / 65536 % 256) as u8,
-        (word / 16777216) as u8,
+        (word % BYTE) as u8,
+        (word / BYTE % BYTE) as u8,
+        (word / THIRD_BYTE % BYTE) as u8,
+        (word / FOURTH_BYTE) as u8,
     ];
     files::put(b"arf", fd, path, &bytes, whole);
 }
@@ -43,12 +55,12 @@ fn save_spans(path: &[u8], spans: &[u32], whole: &mut bool) {
     }
 }
 
-// Writes the copy and the list to the new files that the third and the fourth argument name: both, or neither.
+// Writes the copy and the list to the new files that the verb's second and third argument name: both, or neither.
 pub fn save(copy: &[u8], spans: &[u32], whole: &mut bool) {
     let mut first = io::buffer();
     let mut second = io::buffer();
-    let n = files::name(b"arf", 3, &mut first, whole);
-    let m = files::name(b"arf", 4, &mut second, whole);
+    let n = files::name(b"arf", SECOND, &mut first, whole);
+    let m = files::name(b"arf", THIRD, &mut second, whole);
     if !*whole {
         return;
     }

@@ -1,11 +1,13 @@
 // Schema files, and numbers in words: check SCHEMA, extends OLD NEW, explain NUMBER.
+use crate::arguments::FIRST;
+use crate::arguments::SECOND;
 use crate::print::LONGEST;
 use crate::print::print;
 
 pub fn check() {
     let mut schema = [0u8; LONGEST];
     let mut whole = true;
-    let n = files::read(b"arf", 2, &mut schema, &mut whole);
+    let n = files::read(b"arf", FIRST, &mut schema, &mut whole);
     if whole {
         let mut out = [0u8; words::MOST];
         let length = words::check(&schema[..n], &mut out);
@@ -17,8 +19,8 @@ pub fn extends() {
     let mut old = [0u8; LONGEST];
     let mut new = [0u8; LONGEST];
     let mut whole = true;
-    let n = files::read(b"arf", 2, &mut old, &mut whole);
-    let m = files::read(b"arf", 3, &mut new, &mut whole);
+    let n = files::read(b"arf", FIRST, &mut old, &mut whole);
+    let m = files::read(b"arf", SECOND, &mut new, &mut whole);
     if whole {
         let mut out = [0u8; words::MOST];
         let length = words::extends(&old[..n], &new[..m], &mut out);
@@ -28,7 +30,7 @@ pub fn extends() {
 
 pub fn explain() {
     let mut word = io::buffer();
-    let n = os::arg(2, &mut word);
+    let n = os::arg(FIRST, &mut word);
     let mut out = [0u8; words::MOST];
     let length = words::explain(&word[..n], &mut out);
     print(&out[..length]);

@@ -80,8 +80,8 @@ shown-value s good ty fs st payload sheet k place n c after e =
     let fields : hs ≡ fs = cc (is, st) in
     let shows′ : Shows (shapes s) payload ty fs rs v = subst (λ (l : List Field). Shows (shapes s) payload ty l rs v) fields shows in
     let shown : Shows (shapes s) payload ty fs (firstRows k after) v = subst (λ (l : List Row). Shows (shapes s) payload ty fs l v) (sym same) shows′ in
-    let due = comparisons-of s ty payload sheet k place n c after e fs st v shown .0 in
-    let (tail, q, _, _, _, _) = value.accepted-iff-spelled (tableOf s) (good-table s good) ty fs st payload (room sheet) v place n .0 (rs, a ∙ ap (accepted rs place n) due, shows′) in
+    let compared = comparisons-of s ty payload sheet k place n c after e fs st v shown .0 in
+    let (tail, q, _, _, _, _) = value.accepted-iff-spelled (tableOf s) (good-table s good) ty fs st payload (room sheet) v place n .0 (rs, a ∙ ap (accepted rs place n) compared, shows′) in
     (v, shown, root-kept (shapes s) ty fs st v payload tail q)
 
 -- ---- two files for which the answer is yes are good, and the new table extends the old one
@@ -200,8 +200,8 @@ module _ (old new : List ℕ) (yes : extension old new ≡ Yes) where
           let r′ : ReadsAs old ty fs (take n out′) sheet v n 0 = subst (λ (l : List Field). ReadsAs old ty l (take n out′) sheet v n 0) same r in
           let (after, o, q, l, d) = r′ in
           let (equal, shown) = old-by-new (take n out′) sheet (size v) n 0 _ after o (none-added (take n out′) sheet (size v) n _ after o) in
-          let due = comparisons-of new ty (take n out′) sheet (size v) n 0 _ after (equal ∙ o) (fs ++ gs) st′ v (shown v q) .0 in
-          let o′ = ap (λ (c : ℕ). outcome (Shown (size v) n 0 c) after) due in
+          let compared = comparisons-of new ty (take n out′) sheet (size v) n 0 _ after (equal ∙ o) (fs ++ gs) st′ v (shown v q) .0 in
+          let o′ = ap (λ (c : ℕ). outcome (Shown (size v) n 0 c) after) compared in
           (v, shows′, r′, (after, equal ∙ o ∙ o′, shown v q, l, d))
 
     -- A payload without unknown bits that the old reader accepts: the new reader gives the very same answer and sheet, and there is no tail. The rows show

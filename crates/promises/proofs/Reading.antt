@@ -15,7 +15,7 @@ use Rattle.schema.specs.Check.{IsGood}
 use Rattle.schema.proofs.Goods.{good-table}
 use Rattle.value.specs.declared.Row.{Row}
 use Rattle.value.specs.Value.{Tree, Value, leaf, node, rows, size}
-use Rattle.value.specs.Comparisons.{comparisons, rowsDue}
+use Rattle.value.specs.Comparisons.{comparisons, rowsComparisons}
 use Rattle.value.specs.Read.{rootBits, unknownBits, refusal, accepted, read}
 use Rattle.value.specs.Fits.{RootFits, Shows}
 use Rattle.value.specs.Delimits.{RootDelimits}
@@ -88,14 +88,14 @@ module _ (s : List ℕ) (ty : ℕ) (payload sheet : List ℕ) (k place n c : ℕ
 
   -- They are those of any value that the rows show, which are those that its rows count.
   pub comparisons-of : (fs : List Field) → shapes s ty ≡ struct fs → (v : Value) → Shows (shapes s) payload ty fs (firstRows k after) v
-      → (c ≡ comparisons (shapes s) v ty) × (c ≡ rowsDue (shapes s) (firstRows k after))
+      → (c ≡ comparisons (shapes s) v ty) × (c ≡ rowsComparisons (shapes s) (firstRows k after))
   comparisons-of fs st v shows =
       let good = shown-good s ty payload sheet k place n c after e in
       let (rs, a, k-is, after-is) = shown-from s ty payload sheet good k place n c after e in
       let same : firstRows k after ≡ rs = rows-back sheet rs k after k-is after-is in
-      let counted : c ≡ rowsDue (shapes s) (firstRows k after) =
-      value.comparisons-counted (tableOf s) (good-table s good) ty payload (room sheet) rs place n c a ∙ ap (rowsDue (shapes s)) (sym same) in
-      (counted ∙ sym (value.shown-due (tableOf s) (good-table s good) ty fs st payload (firstRows k after) v shows), counted)
+      let counted : c ≡ rowsComparisons (shapes s) (firstRows k after) =
+      value.comparisons-counted (tableOf s) (good-table s good) ty payload (room sheet) rs place n c a ∙ ap (rowsComparisons (shapes s)) (sym same) in
+      (counted ∙ sym (value.shown-comparisons (tableOf s) (good-table s good) ty fs st payload (firstRows k after) v shows), counted)
 
 -- ---- refusals
 

@@ -24,9 +24,9 @@ Unextended ours theirs = IsGood ours × IsGood theirs × (Widens (tableOf ours) 
 module _ (ours theirs : List ℕ) (ty : ℕ) (payload : List ℕ) where
   -- The reader shows w, of type ty, in the first rows of the sheet, by ours and whatever further bits its structs have; the other cells are as they were.
   -- The tail is at a place, of n bytes, and so many key comparisons are due.
-  abbrev pub ReadsBeside : (sheet : List ℕ) → Value → (place n due : ℕ) → Type 0
-  ReadsBeside sheet w place n due =
-      (after : List ℕ) × (besideOutcome ours theirs ty payload sheet ≡ outcome (Shown (size w) place n due) after)
+  abbrev pub ReadsBeside : (sheet : List ℕ) → Value → (place n compared : ℕ) → Type 0
+  ReadsBeside sheet w place n compared =
+      (after : List ℕ) × (besideOutcome ours theirs ty payload sheet ≡ outcome (Shown (size w) place n compared) after)
       × ShowsKnown (shapes ours) payload ty (firstRows (size w) after) w
       × (length after ≡ length sheet)
       × (drop (4 * size w) after ≡ drop (4 * size w) sheet)

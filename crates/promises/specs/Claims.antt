@@ -75,12 +75,12 @@ module _ (old new : List ℕ) (ty : ℕ) (fs gs : List Field) (payload sheet : L
   abbrev pub OldAnswers : (first : Option ℕ) → Type 0
   OldAnswers (some p) = readOutcome old ty payload sheet ≡ outcome (Refused 26 p) sheet
   OldAnswers none =
-      (known : List ℕ) × (added : List ℕ)
-      × (payload ≡ known ++ added)
+      (front : List ℕ) × (added : List ℕ)
+      × (payload ≡ front ++ added)
       × RootSpells (shapes old) fs (without (shapes old) v ty) payload added
       × AllSpell (Spells (shapes new) 15) (addedItems fs gs v) (addedValues fs v) added
       × (rootCarries fs v ≡ false → added ≡ [])
-      × (size (without (shapes old) v ty) ≤ room sheet → ReadsAs old ty fs payload sheet (without (shapes old) v ty) (length known) (length added))
+      × (size (without (shapes old) v ty) ≤ room sheet → ReadsAs old ty fs payload sheet (without (shapes old) v ty) (length front) (length added))
       × (room sheet < size (without (shapes old) v ty) → readOutcome old ty payload sheet ≡ outcome (Refused 30 0) sheet)
 
   -- The same, with the tree of v that has the places: by the new shapes it fits the payload and delimits its bytes up to the end.

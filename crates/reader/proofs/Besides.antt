@@ -37,8 +37,8 @@ use Rattle.flat.specs.Walk.{firstFields}
 -- ---- the numbers of fields
 
 -- Those of the types before i are there: a loop writes one after the other.
-abbrev pub KnowsBelow : (s known : List ℕ) (i : ℕ) → Type 0
-KnowsBelow s known i = (j : ℕ) → j < i → getD known j 0 ≡ fieldsIn (shapeIn s j)
+abbrev pub KnowsBelow : (s shown : List ℕ) (i : ℕ) → Type 0
+KnowsBelow s shown i = (j : ℕ) → j < i → getD shown j 0 ≡ fieldsIn (shapeIn s j)
 
 module _ (s : List ℕ) (good : IsGood s) where
   -- by a type's row
@@ -66,22 +66,22 @@ module _ (s : List ℕ) (good : IsGood s) where
       let z : rowAt (tableOf s) t ≡ noRow = List·getD-eq-default (tableOf s .types) noRow (omega arith) in
       shape-none (tableOf s) t noRow (sym z) refl
 
-  pub knows-more : (known : List ℕ) (i x : ℕ) → i < length known → x ≡ fieldsIn (shapeIn s i) → KnowsBelow s known i → KnowsBelow s (set known i x) (i + 1)
-  knows-more known i x h e k j l = elim (decLt j i) [
-    | yes lt ↦ getD-set-other known i j x 0 (omega arith) ∙ k j lt
-    | no g ↦ let q : j ≡ i = omega arith in rw q (getD-set-same known i x 0 h ∙ e)
+  pub knows-more : (shown : List ℕ) (i x : ℕ) → i < length shown → x ≡ fieldsIn (shapeIn s i) → KnowsBelow s shown i → KnowsBelow s (set shown i x) (i + 1)
+  knows-more shown i x h e k j l = elim (decLt j i) [
+    | yes lt ↦ getD-set-other shown i j x 0 (omega arith) ∙ k j lt
+    | no g ↦ let q : j ≡ i = omega arith in rw q (getD-set-same shown i x 0 h ∙ e)
   ]
 
-  pub knows-all : (known : List ℕ) (i : ℕ) → length known ≡ 256 → 256 ≤ i → KnowsBelow s known i → Knows known s
-  knows-all known i long h k t = elim (decLt t 256) [
+  pub knows-all : (shown : List ℕ) (i : ℕ) → length shown ≡ 256 → 256 ≤ i → KnowsBelow s shown i → Knows shown s
+  knows-all shown i long h k t = elim (decLt t 256) [
     | yes lt ↦ k t (omega arith)
-    | no g ↦ List·getD-eq-default known 0 (omega arith) ∙ rw (none-past t (omega arith))
+    | no g ↦ List·getD-eq-default shown 0 (omega arith) ∙ rw (none-past t (omega arith))
   ]
 
   -- 64 are all fields of any struct
-  pub all-known : (known : List ℕ) → ((t : ℕ) → t < 256 → getD known t 0 ≡ 64) → (t : ℕ) → shapeIn s t ≡ firstFields known (shapeIn s) t
+  pub all-known : (shown : List ℕ) → ((t : ℕ) → t < 256 → getD shown t 0 ≡ 64) → (t : ℕ) → shapeIn s t ≡ firstFields shown (shapeIn s) t
   unfolding firstFields
-  all-known known k t = elim (decLt t 256) [
+  all-known shown k t = elim (decLt t 256) [
     | yes lt ↦ rw (k t lt) (sym (first-all 64 (shapeIn s t) (few _ _ (shapeIn s t) (shapes.within (tableOf s) (good-table s good) t))))
     | no g ↦ rw (none-past t (omega arith))
   ]
@@ -99,23 +99,23 @@ module _ (s : List ℕ) (good : IsGood s) where
 on-struct : {A : Type 0} (sh : Shape) (fs : List Field) → sh ≡ struct fs → (other : A) (f : List Field → A) → onStruct sh other f ≡ f fs
 on-struct sh fs e other f = rw e
 
-module _ (ours : List ℕ) (good : IsGood ours) (S′ : ℕ → Shape) (known : List ℕ)
-    (agree : (t : ℕ) → t < length (tableOf ours .types) → shapeIn ours t ≡ firstFields known S′ t) (ty : ℕ) (there : ty < length (tableOf ours .types)) (rows : ℕ) where
-  reading-agrees : (o : Answer Tree) → readingAs (shownRows (firstFields known S′) ty) S′ ty rows o ≡ readingAs (shownRows (shapeIn ours) ty) S′ ty rows o
+module _ (ours : List ℕ) (good : IsGood ours) (S′ : ℕ → Shape) (shown : List ℕ)
+    (agree : (t : ℕ) → t < length (tableOf ours .types) → shapeIn ours t ≡ firstFields shown S′ t) (ty : ℕ) (there : ty < length (tableOf ours .types)) (rows : ℕ) where
+  reading-agrees : (o : Answer Tree) → readingAs (shownRows (firstFields shown S′) ty) S′ ty rows o ≡ readingAs (shownRows (shapeIn ours) ty) S′ ty rows o
   reading-agrees (refused n p) = refl
   reading-agrees (seen tree end) =
-      rw (← pruned-agree (shapeIn ours) (firstFields known S′) (length (tableOf ours .types)) (λ t l. good-closed (tableOf ours) (good-table ours good) t) agree tree ty there)
+      rw (← pruned-agree (shapeIn ours) (firstFields shown S′) (length (tableOf ours .types)) (λ t l. good-closed (tableOf ours) (good-table ours good) t) agree tree ty there)
 
 module _ (s : List ℕ) (good : IsGood s) (ty : ℕ) (p sheet : List ℕ) where
   -- Where all fields are known, all rows are shown.
-  pub shown-all : (known : List ℕ) → ((t : ℕ) → t < 256 → getD known t 0 ≡ 64) → shownOutcome known s ty p sheet ≡ payloadOutcome s ty p sheet
+  pub shown-all : (shown : List ℕ) → ((t : ℕ) → t < 256 → getD shown t 0 ≡ 64) → shownOutcome shown s ty p sheet ≡ payloadOutcome s ty p sheet
   unfolding shownOutcome payloadOutcome read
-  shown-all known k = ap (outcomeOf sheet) (go (shapeIn s ty) refl)
+  shown-all shown k = ap (outcomeOf sheet) (go (shapeIn s ty) refl)
     where
       go : (sh : Shape) → shapeIn s ty ≡ sh
-          → readingAs (shownRows (firstFields known (shapeIn s)) ty) (shapeIn s) ty (room sheet) (rootOf (shapeIn s) ty p) ≡ reading (shapeIn s) ty (room sheet) (rootOf (shapeIn s) ty p)
+          → readingAs (shownRows (firstFields shown (shapeIn s)) ty) (shapeIn s) ty (room sheet) (rootOf (shapeIn s) ty p) ≡ reading (shapeIn s) ty (room sheet) (rootOf (shapeIn s) ty p)
       go (struct fs) e =
-          reading-agrees s good (shapeIn s) known (λ t l. all-known s good known k t) ty (struct-type s good ty fs e .0) (room sheet) (rootOf (shapeIn s) ty p)
+          reading-agrees s good (shapeIn s) shown (λ t l. all-known s good shown k t) ty (struct-type s good ty fs e .0) (room sheet) (rootOf (shapeIn s) ty p)
           ∙ sym (on-struct (shapeIn s ty) fs e (refusal 46 0) (λ _. readingAs (shownRows (shapeIn s) ty) (shapeIn s) ty (room sheet) (rootOf (shapeIn s) ty p)))
           ∙ beside-same (shapeIn s) ty p (room sheet)
       go unknown e = rw e
@@ -130,16 +130,16 @@ module _ (ours theirs : List ℕ) (good : IsGood ours) (good′ : IsGood theirs)
   beside-type k = rw (no-struct ours good ty r is k)
 
   -- Where their structs are shown as far as ours has fields, they are shown by ours.
-  pub beside-shown : r .kind ≡ 16 → widened (tableOf ours) (tableOf theirs) ≡ true → (known : List ℕ) → Knows known ours
-      → shownOutcome known theirs ty p sheet ≡ besidePayload ours theirs ty p sheet
+  pub beside-shown : r .kind ≡ 16 → widened (tableOf ours) (tableOf theirs) ≡ true → (shown : List ℕ) → Knows shown ours
+      → shownOutcome shown theirs ty p sheet ≡ besidePayload ours theirs ty p sheet
   unfolding shownOutcome besidePayload readBeside firstFields
-  beside-shown k x known h =
+  beside-shown k x shown h =
       let st = shape-struct (tableOf ours) ty r is k in
       let wide = widens-iff (tableOf ours) (tableOf theirs) (good-table ours good) (good-table theirs good′) .0 x in
       ap (outcomeOf sheet)
-      (reading-agrees ours good (shapeIn theirs) known (λ t l. agrees t l (grows (tableOf ours) (tableOf theirs) (good-table ours good) (good-table theirs good′) wide t l)) ty
+      (reading-agrees ours good (shapeIn theirs) shown (λ t l. agrees t l (grows (tableOf ours) (tableOf theirs) (good-table ours good) (good-table theirs good′) wide t l)) ty
       (struct-type ours good ty _ st .0) (room sheet) (rootOf (shapeIn theirs) ty p)
       ∙ sym (on-struct (shapeIn ours ty) _ st (refusal 46 0) (λ _. readingAs (shownRows (shapeIn ours) ty) (shapeIn theirs) ty (room sheet) (rootOf (shapeIn theirs) ty p))))
     where
-      agrees : (t : ℕ) → t < length (tableOf ours .types) → Grows (shapeIn ours t) (shapeIn theirs t) → shapeIn ours t ≡ firstFields known (shapeIn theirs) t
+      agrees : (t : ℕ) → t < length (tableOf ours .types) → Grows (shapeIn ours t) (shapeIn theirs t) → shapeIn ours t ≡ firstFields shown (shapeIn theirs) t
       agrees t l g = narrowed g ∙ rw (h t)

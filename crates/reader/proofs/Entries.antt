@@ -36,44 +36,44 @@ use Rattle.flat.proofs.Steps.{read-of, refused-of}
 
 -- ---- a payload, of which each struct is shown as far as its fields are known
 
-module _ (known s : List ℕ) (ty : ℕ) (p sheet : List ℕ) (r : TypeRow) (is : r ≡ rowAt (tableOf s) ty) where
+module _ (shown s : List ℕ) (ty : ℕ) (p sheet : List ℕ) (r : TypeRow) (is : r ≡ rowAt (tableOf s) ty) where
   -- What is told of the root.
   abbrev tell : Tree → Told
-  tell = told (firstFields known (shapeIn s)) (shapeIn s) ty
+  tell = told (firstFields shown (shapeIn s)) (shapeIn s) ty
 
   abbrev root : Answer Tree
   root = rootIn s p ty (fieldsFrom (tableOf s) (r .a) (r .b))
 
   abbrev answer : Answer Tree → Outcome
-  answer o = outcomeOf sheet (value.readingAs (shownRows (firstFields known (shapeIn s)) ty) (shapeIn s) ty (room sheet) o)
+  answer o = outcomeOf sheet (value.readingAs (shownRows (firstFields shown (shapeIn s)) ty) (shapeIn s) ty (room sheet) o)
 
-  pub entry-type : IsGood s → (r .kind ≡ 16 → ⊥) → outcome (Refused 46 0) sheet ≡ shownOutcome known s ty p sheet
+  pub entry-type : IsGood s → (r .kind ≡ 16 → ⊥) → outcome (Refused 46 0) sheet ≡ shownOutcome shown s ty p sheet
   unfolding shownOutcome
   entry-type good k = rw (no-struct s good ty r is k)
 
   module _ (k : r .kind ≡ 16) where
-    pub entry-long : 16384 < length p → outcome (Refused 7 0) sheet ≡ shownOutcome known s ty p sheet
+    pub entry-long : 16384 < length p → outcome (Refused 7 0) sheet ≡ shownOutcome shown s ty p sheet
     unfolding shownOutcome
     entry-long h = rw (shape-struct (tableOf s) ty r is k, lt-leb (length p) 16384 h)
 
     module _ (small : length p ≤ 16384) where
-      entry-root : answer root ≡ shownOutcome known s ty p sheet
+      entry-root : answer root ≡ shownOutcome shown s ty p sheet
       unfolding shownOutcome
       entry-root = rw (shape-struct (tableOf s) ty r is k, le-leb (length p) 16384 small)
 
       -- the first walk, over cells of its own, leaves m of them
       module _ (few m : List ℕ) where
-        pub entry-refused : (n q : ℕ) → Walked p 1 tell root 0 few (Stop n q) m → outcome (Refused n q) sheet ≡ shownOutcome known s ty p sheet
+        pub entry-refused : (n q : ℕ) → Walked p 1 tell root 0 few (Stop n q) m → outcome (Refused n q) sheet ≡ shownOutcome shown s ty p sheet
         entry-refused n q w = rw (← entry-root, refused-of w)
 
-        module _ (due next row : ℕ) (w : Walked p 1 tell root 0 few (Past due next row) m) where
+        module _ (compared next row : ℕ) (w : Walked p 1 tell root 0 few (Past compared next row) m) where
           read : (tree : Tree) × (root ≡ seen tree (cursorAt p next))
           read = read-of w
 
           abbrev told-rows : List Row
           told-rows = tell (read .0) .rows
 
-          same : done (cursorAt p next) due row m ≡ walkOf tell (seen (read .0) (cursorAt p next)) 0 0 few
+          same : done (cursorAt p next) compared row m ≡ walkOf tell (seen (read .0) (cursorAt p next)) 0 0 few
           same = rw (read .1) at (w .same)
 
           rows-are : row ≡ length told-rows
@@ -83,31 +83,31 @@ module _ (known s : List ℕ) (ty : ℕ) (p sheet : List ℕ) (r : TypeRow) (is 
           pub entry-judged : Accepted root
           entry-judged = rw (read .1) tt
 
-          pub entry-full : room sheet < row → outcome (Refused 30 0) sheet ≡ shownOutcome known s ty p sheet
+          pub entry-full : room sheet < row → outcome (Refused 30 0) sheet ≡ shownOutcome shown s ty p sheet
           unfolding told
           entry-full h = rw (← entry-root, read .1, lt-leb (length told-rows) (room sheet) (omega (arith, rows-are)))
 
           -- the number alone, without the second walk
-          pub entry-short : room sheet < row → 30 ≡ numberIn (shownOutcome known s ty p sheet)
+          pub entry-short : room sheet < row → 30 ≡ numberIn (shownOutcome shown s ty p sheet)
           entry-short h = ap numberIn (entry-full h)
 
-          pub entry-fits : row ≤ room sheet → 0 ≡ numberIn (shownOutcome known s ty p sheet)
+          pub entry-fits : row ≤ room sheet → 0 ≡ numberIn (shownOutcome shown s ty p sheet)
           unfolding told
           entry-fits h = rw (← entry-root, read .1, le-leb (length told-rows) (room sheet) (omega (arith, rows-are)))
 
           -- what stands in the sheet is told by the rows that were written into it
           told-in : (after : List ℕ) → row ≤ room sheet → after ≡ shownIn sheet told-rows
-              → outcome (Shown row next (length p - next) due) after ≡ shownOutcome known s ty p sheet
+              → outcome (Shown row next (length p - next) compared) after ≡ shownOutcome shown s ty p sheet
           unfolding told
           told-in after h after-is =
               let e = same in
-              let d : due ≡ 0 + tell (read .0) .due = cc in
-              let due-is : tell (read .0) .due ≡ due = omega arith in
-              rw (← entry-root, read .1, le-leb (length told-rows) (room sheet) (omega (arith, rows-are)), length-drop, after-is, ← rows-are, due-is)
+              let d : compared ≡ 0 + tell (read .0) .comparisons = cc in
+              let compared-is : tell (read .0) .comparisons ≡ compared = omega arith in
+              rw (← entry-root, read .1, le-leb (length told-rows) (room sheet) (omega (arith, rows-are)), length-drop, after-is, ← rows-are, compared-is)
 
           -- few rows, copied from the first walk's cells
           pub entry-copied : row ≤ room sheet → row ≤ room few
-              → outcome (Shown row next (length p - next) due) (paste sheet 0 m (4 * row)) ≡ shownOutcome known s ty p sheet
+              → outcome (Shown row next (length p - next) compared) (paste sheet 0 m (4 * row)) ≡ shownOutcome shown s ty p sheet
           entry-copied h g =
               let e = same in
               let put : m ≡ putRows few 0 told-rows = cc in
@@ -115,7 +115,7 @@ module _ (known s : List ℕ) (ty : ℕ) (p sheet : List ℕ) (r : TypeRow) (is 
 
           -- what the second walk has written
           pub entry-shown : (v : Walk) (after : List ℕ) → row ≤ room sheet → Walked p 1 tell root 0 sheet v after
-              → outcome (Shown row next (length p - next) due) after ≡ shownOutcome known s ty p sheet
+              → outcome (Shown row next (length p - next) compared) after ≡ shownOutcome shown s ty p sheet
           entry-shown v after h again = told-in after h (go v (rw (read .1) at (again .same)) ∙ rows-shown sheet told-rows (omega (arith, rows-are)))
             where
               go : (v : Walk) → endOf p v after ≡ walkOf tell (seen (read .0) (cursorAt p next)) 0 0 sheet → after ≡ putRows sheet 0 told-rows
@@ -157,21 +157,21 @@ module _ (ours theirs : List ℕ) (ty : ℕ) (p sheet : List ℕ) (v : Checked) 
 -- ---- the key comparisons due are never above 258,048
 
 -- the number of an answer
-abbrev pub dueIn : Outcome → ℕ
-dueIn o = numbers (readingIn o) .comparisons
+abbrev pub comparisonsIn : Outcome → ℕ
+comparisonsIn o = numbers (readingIn o) .comparisons
 
-pub payload-within : (s : List ℕ) → IsGood s → (ty : ℕ) (p sheet : List ℕ) → dueIn (payloadOutcome s ty p sheet) ≤ 258048
+pub payload-within : (s : List ℕ) → IsGood s → (ty : ℕ) (p sheet : List ℕ) → comparisonsIn (payloadOutcome s ty p sheet) ≤ 258048
 unfolding payloadOutcome
 payload-within s good ty p sheet = go (value.read (tableOf s) ty p (room sheet)) refl
   where
-    go : (a : value.Reading) → value.read (tableOf s) ty p (room sheet) ≡ a → dueIn (outcomeOf sheet a) ≤ 258048
+    go : (a : value.Reading) → value.read (tableOf s) ty p (room sheet) ≡ a → comparisonsIn (outcomeOf sheet a) ≤ 258048
     go (value.refusal n q) e = omega arith
-    go (value.accepted rs place n due) e = comparisons-within (tableOf s) (good-table s good) ty p (room sheet) rs place n due e
+    go (value.accepted rs place n compared) e = comparisons-within (tableOf s) (good-table s good) ty p (room sheet) rs place n compared e
 
-pub read-within : (s : List ℕ) (ty : ℕ) (p sheet : List ℕ) → dueIn (readOutcome s ty p sheet) ≤ 258048
+pub read-within : (s : List ℕ) (ty : ℕ) (p sheet : List ℕ) → comparisonsIn (readOutcome s ty p sheet) ≤ 258048
 unfolding readOutcome
 read-within s ty p sheet = go (checked s) refl
   where
-    go : (v : Checked) → checked s ≡ v → dueIn (byTable v s ty p sheet) ≤ 258048
+    go : (v : Checked) → checked s ≡ v → comparisonsIn (byTable v s ty p sheet) ≤ 258048
     go Good e = payload-within s e ty p sheet
     go (Faulty n q) e = omega arith

@@ -1,4 +1,6 @@
 pub mod Roots
 mod Calls
+mod Childless
+mod Structs
 pub mod Besides
 pub mod Entries

@@ -16,13 +16,13 @@ use Rattle.reader.specs.Entry.{Outcome, outcome, outcomeOf, afterTable, 
 use Rattle.flat.specs.Walk.{firstFields}
 
 -- The numbers of fields that ours has of each struct; 0 for any other type.
-abbrev pub Knows : (known ours : List ℕ) → Type 0
-Knows known ours = (t : ℕ) → getD known t 0 ≡ fieldsIn (shapeIn ours t)
+abbrev pub Knows : (shown ours : List ℕ) → Type 0
+Knows shown ours = (t : ℕ) → getD shown t 0 ≡ fieldsIn (shapeIn ours t)
 
 -- A payload read by a good table, of which each struct's first fields are shown, as many as are known of its type.
-unfoldable pub shownOutcome : (known schema : List ℕ) (ty : ℕ) (payload sheet : List ℕ) → Outcome
-shownOutcome known schema ty payload sheet =
-    outcomeOf sheet (readingAs (shownRows (firstFields known (shapeIn schema)) ty) (shapeIn schema) ty (room sheet) (rootOf (shapeIn schema) ty payload))
+unfoldable pub shownOutcome : (shown schema : List ℕ) (ty : ℕ) (payload sheet : List ℕ) → Outcome
+shownOutcome shown schema ty payload sheet =
+    outcomeOf sheet (readingAs (shownRows (firstFields shown (shapeIn schema)) ty) (shapeIn schema) ty (room sheet) (rootOf (shapeIn schema) ty payload))
 
 -- A payload read by their good table and shown by ours, which theirs extends but for the bitmaps' bytes.
 unfoldable pub besidePayload : (ours theirs : List ℕ) (ty : ℕ) (payload sheet : List ℕ) → Outcome

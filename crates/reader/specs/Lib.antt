@@ -2,3 +2,5 @@
 pub mod Entry
 pub mod Beside
 pub mod Root
+pub mod Childless
+pub mod Structs

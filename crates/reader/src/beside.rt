@@ -35,14 +35,14 @@ fn known_fields(ours: &[u8]) -> [u8; limit::TYPES]
     requires { ⌜ IsGood (now ours) ⌝ }
     ensures { λ r. ⌜ Knows r (now (ours .entry)) ⌝ }
 {
-    let mut known = [0u8; limit::TYPES];
+    let mut shown = [0u8; limit::TYPES];
     let mut i = 0;
     while i < limit::TYPES {
         let t = type_row(ours, i);
-        known[i] = fields_of(t);
+        shown[i] = fields_of(t);
         i = i + 1;
     }
-    known
+    shown
 }
 
 // By two good tables, of which theirs extends ours but for the bitmaps' bytes.
@@ -57,8 +57,8 @@ fn read_widened(ours: &[u8], theirs: &[u8], ty: u32, payload: &[u8], sheet: &mut
             place: 0,
         };
     }
-    let known = known_fields(ours);
-    read_shown(&known, theirs, ty, payload, sheet)
+    let shown = known_fields(ours);
+    read_shown(&shown, theirs, ty, payload, sheet)
 }
 
 // By a good table beside any other: the refusal of the other comes first.

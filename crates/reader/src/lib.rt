@@ -1,8 +1,10 @@
 // The payload reader: values of a schema table's types, shown as rows of a sheet.
 pub mod beside;
+pub mod pairs;
 pub mod walk;
 
 use crate::walk::root;
+use constants::format;
 use constants::kind;
 use constants::limit;
 use constants::refusal;
@@ -22,7 +24,7 @@ const ALL_FIELDS: u8 = limit::STRUCT_FIELDS as u8;
 // Rows of the small sheet that the first walk writes into, and its cells.
 const SCRATCH_ROWS: usize = 32;
 
-const SCRATCH_CELLS: usize = 4 * SCRATCH_ROWS;
+const SCRATCH_CELLS: usize = format::ROW_CELLS * SCRATCH_ROWS;
 
 // The answer: the number of rows with the tail's place and length and the key comparisons due, or the refusal's number and place.
 pub enum Reading {
@@ -69,14 +71,14 @@ fn read_shown(
     match root(shown, schema, payload, &mut few, ty, first, n, true) {
         Walk::Refused { number, place } => Reading::Refused { number, place },
         Walk::Past { due, next, row } => {
-            if sheet.len() / 4 < row {
+            if sheet.len() / format::ROW_CELLS < row {
                 return Reading::Refused {
                     number: refusal::SHEET_TOO_SHORT,
                     place: 0,
                 };
             }
             if row <= SCRATCH_ROWS {
-                copy_cells(sheet, &few, 4 * row);
+                copy_cells(sheet, &few, format::ROW_CELLS * row);
             } else {
                 root(shown, schema, payload, sheet, ty, first, n, false);
             }
@@ -137,7 +139,7 @@ fn judge_shown(
             next: _,
             row,
         } => {
-            if row <= sheet.len() / 4 {
+            if row <= sheet.len() / format::ROW_CELLS {
                 return refusal::ACCEPTED;
             }
             refusal::SHEET_TOO_SHORT

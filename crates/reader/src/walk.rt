@@ -1,5 +1,8 @@
 // The walkers read the payload p by the schema table s and write rows from `row` on where the sheet has them, of a struct of type ty for the first shown[ty]
 // fields. They call each other in a cycle, in which the depth still allowed falls; a walk that does not judge skips tests that would read contents again.
+use crate::pairs::needs_walker;
+use crate::pairs::read_childless;
+use crate::pairs::read_key;
 use constants::kind;
 use constants::limit;
 use constants::refusal;
@@ -8,12 +11,10 @@ use flat::added::is_partly_shown;
 use flat::added::read_structs;
 use flat::elements::is_flat;
 use flat::elements::read_elements;
-use flat::keys::is_repeated;
 use flat::leaf::Count;
 use flat::leaf::Head;
 use flat::leaf::Span;
 use flat::leaf::content;
-use flat::leaf::is_empty_map;
 use flat::leaf::map_count;
 use flat::leaf::ones_in;
 use flat::leaf::presence;
@@ -34,15 +35,15 @@ use wire::bitmap::low_bits;
 ghost use mathlib.Core.Path.{_≡_};
 ghost use mathlib.Core.Bool.{true};
 ghost use mathlib.Core.List.{List};
-ghost use Prim.Native.Nat.{ℕ, suc, _+_, _-_, _/_, _%_, _^_, _≤_, _<_};
+ghost use Prim.Native.Nat.{ℕ, suc, _+_, _/_, _≤_, _<_};
 ghost use lib.ListN.{length, getD};
 ghost use Rattle.schema.specs.Table.{rowAt, array, map, struct};
 ghost use Rattle.schema.specs.File.{Laid, tableOf};
 ghost use Rattle.schema.specs.Check.{fieldRow};
-ghost use Rattle.value.specs.Read.{present};
 ghost use Rattle.walks.specs.Shape.{fieldsFrom, shapeIn};
 ghost use Rattle.reader.specs.Root.{Ended};
-ghost use Rattle.flat.specs.Walk.{valueIn, wholeIn, rootIn, Valued, Held, Shown, Rooted, Ready};
+ghost use Rattle.reader.specs.Structs.{OfType, OfCount, addedTo, HeldBy, ShownBy, ReadyFor};
+ghost use Rattle.flat.specs.Walk.{valueIn, wholeIn, rootIn, Valued, Held, Rooted, Ready};
 
 // Pairs of a map whose keys are kept in the shortest array, and in the next.
 const TWO_KEYS: usize = 2;
@@ -292,7 +293,7 @@ fn read_more_pairs(
     )
 }
 
-// The n pairs of a map from a place on; what `keys` holds afterwards means nothing. A value that is an empty map is answered without a call of its own.
+// The n pairs of a map from a place on; what `keys` holds afterwards means nothing. A value that is an empty map takes no call of the cycle.
 fn read_pairs(
     shown: &[u8; limit::TYPES],
     s: &[u8],
@@ -326,58 +327,22 @@ fn read_pairs(
                 place: here,
             };
         }
-        match content(p, k.kind as usize, here, judging) {
-            Span::Refused { number, place } => {
-                return Walk::Refused { number, place };
-            }
-            Span::At { from, to } => {
-                if is_repeated(p, keys, i, from, to - from, judging) {
-                    return Walk::Refused {
-                        number: refusal::REPEATED_KEY,
-                        place: here,
-                    };
-                }
-                put_row(sheet, below, key, from, to - from, 0);
-                if kind::BYTES < v.kind {
-                    if is_empty_map(p, v.kind, to) {
-                        put_row(sheet, below + 1, val, to + 1, 0, 0);
-                        here = to + 1;
-                        below = below + 2;
-                    } else {
-                        match read_composite(
-                            shown,
-                            s,
-                            p,
-                            sheet,
-                            val,
-                            v,
-                            to,
-                            depth - 1,
-                            below + 1,
-                            judging,
-                        ) {
-                            Walk::Refused { number, place } => {
-                                return Walk::Refused { number, place };
-                            }
-                            Walk::Past { due, next, row } => {
-                                here = next;
-                                below = row;
-                                sum = sum + due;
-                            }
-                        }
-                    }
-                } else {
-                    match content(p, v.kind as usize, to, judging) {
-                        Span::Refused { number, place } => {
-                            return Walk::Refused { number, place };
-                        }
-                        Span::At { from, to } => {
-                            put_row(sheet, below + 1, val, from, to - from, 0);
-                            here = to;
-                            below = below + 2;
-                        }
-                    }
-                }
+        match read_key(p, sheet, keys, key, k, i, here, below, judging) {
+            Span::Refused { number, place } => return Walk::Refused { number, place },
+            Span::At { from: _, to } => here = to,
+        }
+        below = below + 1;
+        let read = if needs_walker(p, v, here) {
+            read_composite(shown, s, p, sheet, val, v, here, depth - 1, below, judging)
+        } else {
+            read_childless(p, sheet, val, v, here, below, judging)
+        };
+        match read {
+            Walk::Refused { number, place } => return Walk::Refused { number, place },
+            Walk::Past { due, next, row } => {
+                here = next;
+                below = row;
+                sum = sum + due;
             }
         }
         i = i + 1;
@@ -388,6 +353,18 @@ fn read_pairs(
         next: here,
         row: below,
     }
+}
+
+// The fields of a struct of type ty: n from the first on, those whose bits are set in `known`, `ones` of them. Its bitmap stands at `place`, its fields from
+// `start` on.
+struct Fields {
+    ty: u32,
+    first: usize,
+    n: usize,
+    known: u64,
+    ones: usize,
+    place: usize,
+    start: usize,
 }
 
 // An inner struct of type ty, whose row is t. An unknown bit is refused.
@@ -413,7 +390,7 @@ fn read_struct(
         Head::Bits {
             word: _,
             known,
-            count,
+            ones,
             unknown,
             start,
         } => {
@@ -423,22 +400,16 @@ fn read_struct(
                     place: at,
                 };
             }
-            read_chosen_fields(
-                shown,
-                s,
-                p,
-                sheet,
+            let f = Fields {
                 ty,
                 first,
                 n,
                 known,
-                count,
-                at,
+                ones,
+                place: at,
                 start,
-                depth,
-                row,
-                judging,
-            )
+            };
+            read_chosen_fields(shown, s, p, sheet, f, depth, row, judging)
         }
     }
 }
@@ -449,85 +420,40 @@ fn read_chosen_fields(
     s: &[u8],
     p: &[u8],
     sheet: &mut [u32],
-    ty: u32,
-    first: usize,
-    n: usize,
-    known: u64,
-    count: usize,
-    place: usize,
-    start: usize,
+    f: Fields,
     depth: usize,
     row: usize,
     judging: bool,
 ) -> Walk
-    requires { ⌜ Ready (now s) (now p) start (row + 1) judging (wholeIn (now s) (now p) depth ty (struct (fieldsFrom (tableOf (now s)) first n)) place known start) ⌝ }
-    requires { ⌜ (shapeIn (now s) ty ≡ struct (fieldsFrom (tableOf (now s)) first n)) × (n ≤ 64) × (first + n ≤ length (tableOf (now s) .fields)) × (place ≤ start) ⌝ }
-    requires { ⌜ (count ≤ 64) × (count ≡ length (present (fieldsFrom (tableOf (now s)) first n) known)) ⌝ }
-    ensures { λ r. ⌜ Shown (now (shown .entry)) (now (s .entry)) (now (p .entry)) depth ty (fieldsFrom (tableOf (now (s .entry))) first n) place known start row (now (sheet .entry)) r (now (sheet .exit)) ⌝ }
+    requires { ⌜ ReadyFor (now s) (now p) depth f row judging × OfType (now s) f × OfCount (now s) f ⌝ }
+    ensures { λ r. ⌜ ShownBy (now (shown .entry)) (now (s .entry)) (now (p .entry)) depth f row (now (sheet .entry)) r (now (sheet .exit)) ⌝ }
 {
-    let m = shown_of(shown, ty);
-    if m < n {
-        return read_shown_fields(
-            shown,
-            s,
-            p,
-            sheet,
-            ty,
-            first,
-            n,
-            m,
-            known,
-            place,
-            start,
-            depth,
-            row,
-            judging,
-        );
+    let m = shown_of(shown, f.ty);
+    if m < f.n {
+        return read_shown_fields(shown, s, p, sheet, f, depth, row, judging);
     }
-    read_fields(
-        shown,
-        s,
-        p,
-        sheet,
-        ty,
-        first,
-        n,
-        known,
-        count,
-        place,
-        start,
-        depth,
-        row,
-        judging,
-    )
+    read_fields(shown, s, p, sheet, f, depth, row, judging)
 }
 
-// The fields of a struct whose bits are set in `known`, from `start` on, and the struct's own row: its bitmap stands at `place`.
+// The fields of a struct, and its own row.
 fn read_fields(
     shown: &[u8; limit::TYPES],
     s: &[u8],
     p: &[u8],
     sheet: &mut [u32],
-    ty: u32,
-    first: usize,
-    n: usize,
-    known: u64,
-    count: usize,
-    place: usize,
-    start: usize,
+    f: Fields,
     depth: usize,
     row: usize,
     judging: bool,
 ) -> Walk
-    requires { ⌜ Ready (now s) (now p) start (row + 1) judging (wholeIn (now s) (now p) depth ty (struct (fieldsFrom (tableOf (now s)) first n)) place known start) ⌝ }
-    requires { ⌜ (first + n ≤ length (tableOf (now s) .fields)) × (place ≤ start) × (count ≤ 64) × (count ≡ length (present (fieldsFrom (tableOf (now s)) first n) known)) ⌝ }
-    ensures { λ r. ⌜ Held (now (shown .entry)) (now (s .entry)) (now (p .entry)) depth ty (struct (fieldsFrom (tableOf (now (s .entry))) first n)) place known start row (now (sheet .entry)) r (now (sheet .exit)) ⌝ }
+    requires { ⌜ ReadyFor (now s) (now p) depth f row judging × OfCount (now s) f ⌝ }
+    ensures { λ r. ⌜ HeldBy (now (shown .entry)) (now (s .entry)) (now (p .entry)) depth f row (now (sheet .entry)) r (now (sheet .exit)) ⌝ }
 {
     let l = layout_of(s);
-    let mut i = first;
-    let mut left = n;
-    let mut bits = known;
-    let mut here = start;
+    let mut i = f.first;
+    let mut left = f.n;
+    let mut bits = f.known;
+    let mut here = f.start;
     let mut below = row + 1;
     let mut sum: u32 = 0;
     while 0 < left {
@@ -547,7 +473,7 @@ fn read_fields(
         i = i + 1;
         left = left - 1;
     }
-    put_row(sheet, row, ty, place, here - place, count);
+    put_row(sheet, row, f.ty, f.place, here - f.place, f.ones);
     Walk::Past {
         due: sum,
         next: here,
@@ -598,55 +524,42 @@ fn read_field(
     }
 }
 
-// The fields of a struct of which m are shown, fewer than it has: the others are read without a row. The struct's own row is written again, with its whole length.
+// The fields of a struct of which fewer are shown than it has: the others are read without a row. The struct's own row is written again, with its whole length.
 fn read_shown_fields(
     shown: &[u8; limit::TYPES],
     s: &[u8],
     p: &[u8],
     sheet: &mut [u32],
-    ty: u32,
-    first: usize,
-    n: usize,
-    m: usize,
-    known: u64,
-    place: usize,
-    start: usize,
+    f: Fields,
     depth: usize,
     row: usize,
     judging: bool,
 ) -> Walk
-    requires { ⌜ Ready (now s) (now p) start (row + 1) judging (wholeIn (now s) (now p) depth ty (struct (fieldsFrom (tableOf (now s)) first n)) place known start) ⌝ }
-    requires { ⌜ (shapeIn (now s) ty ≡ struct (fieldsFrom (tableOf (now s)) first n)) × (n ≤ 64) × (first + n ≤ length (tableOf (now s) .fields)) × (place ≤ start) ⌝ }
-    requires { ⌜ (m ≡ getD (now shown) ty 0) × (m < n) ⌝ }
-    ensures { λ r. ⌜ Shown (now (shown .entry)) (now (s .entry)) (now (p .entry)) depth ty (fieldsFrom (tableOf (now (s .entry))) first n) place known start row (now (sheet .entry)) r (now (sheet .exit)) ⌝ }
+    requires { ⌜ ReadyFor (now s) (now p) depth f row judging × OfType (now s) f × (getD (now shown) (f .ty) 0 < f .n) ⌝ }
+    ensures { λ r. ⌜ ShownBy (now (shown .entry)) (now (s .entry)) (now (p .entry)) depth f row (now (sheet .entry)) r (now (sheet .exit)) ⌝ }
 {
-    let mine = low_bits(known, m);
-    let count = ones_in(mine);
-    match read_fields(
-        shown,
-        s,
-        p,
-        sheet,
-        ty,
-        first,
-        m,
-        mine,
-        count,
-        place,
-        start,
-        depth,
-        row,
-        judging,
-    ) {
+    let m = shown_of(shown, f.ty);
+    let mine = low_bits(f.known, m);
+    let ones = ones_in(mine);
+    let ours = Fields {
+        ty: f.ty,
+        first: f.first,
+        n: m,
+        known: mine,
+        ones,
+        place: f.place,
+        start: f.start,
+    };
+    match read_fields(shown, s, p, sheet, ours, depth, row, judging) {
         Walk::Refused { number, place } => Walk::Refused { number, place },
         Walk::Past {
             due: sum,
             next: at,
             row: below,
-        } => match read_added(shown, s, p, ty, first, n, m, known, at, depth, row, judging) {
+        } => match read_added(shown, s, p, f, at, depth, row, judging) {
             Walk::Refused { number, place } => Walk::Refused { number, place },
             Walk::Past { due, next, row: _ } => {
-                put_row(sheet, row, ty, place, next - place, count);
+                put_row(sheet, row, f.ty, f.place, next - f.place, ones);
                 Walk::Past {
                     due: sum + due,
                     next: next,
@@ -657,43 +570,34 @@ fn read_shown_fields(
     }
 }
 
-// The fields of a struct after the first m, from a place on. They have no rows: none is lent to write them into.
+// The fields of a struct after those that are shown, from a place on. They have no rows: none is lent to write them into.
 fn read_added(
     shown: &[u8; limit::TYPES],
     s: &[u8],
     p: &[u8],
-    ty: u32,
-    first: usize,
-    n: usize,
-    m: usize,
-    known: u64,
+    f: Fields,
     at: usize,
     depth: usize,
     row: usize,
     judging: bool,
 ) -> Walk
-    requires { ⌜ Ready (now s) (now p) at (row + 1) judging (wholeIn (now s) (now p) depth ty (struct (fieldsFrom (tableOf (now s)) (first + m) (n - m))) at (known / 2 ^ m % 2 ^ (n - m)) at) ⌝ }
-    requires { ⌜ (n ≤ 64) × (m < n) × (first + n ≤ length (tableOf (now s) .fields)) ⌝ }
-    ensures { λ r. ⌜ ((l : List ℕ) × (after : List ℕ) × Held (now (shown .entry)) (now (s .entry)) (now (p .entry)) depth ty (struct (fieldsFrom (tableOf (now (s .entry))) (first + m) (n - m))) at (known / 2 ^ m % 2 ^ (n - m)) at row l r after) ⌝ }
+    requires { ⌜ ReadyFor (now s) (now p) depth (addedTo f (getD (now shown) (f .ty) 0) at) row judging ⌝ }
+    requires { ⌜ (f .ty < 256) × (f .n ≤ 64) × (getD (now shown) (f .ty) 0 < f .n) ⌝ }
+    ensures { λ r. ⌜ ((l : List ℕ) × (after : List ℕ) × HeldBy (now (shown .entry)) (now (s .entry)) (now (p .entry)) depth (addedTo f (getD (now (shown .entry)) (f .ty) 0) at) row l r after) ⌝ }
 {
-    let rest = low_bits(known >> m, n - m);
+    let m = shown_of(shown, f.ty);
+    let rest = low_bits(f.known >> m, f.n - m);
+    let added = Fields {
+        ty: f.ty,
+        first: f.first + m,
+        n: f.n - m,
+        known: rest,
+        ones: ones_in(rest),
+        place: at,
+        start: at,
+    };
     let mut none = [0u32; 1];
-    read_fields(
-        shown,
-        s,
-        p,
-        &mut none[..0],
-        ty,
-        first + m,
-        n - m,
-        rest,
-        ones_in(rest),
-        at,
-        at,
-        depth,
-        row,
-        judging,
-    )
+    read_fields(shown, s, p, &mut none[..0], added, depth, row, judging)
 }
 
 // The root after its known fields, which end at `next`. Each unknown bit asks for a byte or more of a tail; without one there is none.
@@ -737,27 +641,23 @@ pub fn root(
         Head::Bits {
             word: _,
             known,
-            count,
+            ones,
             unknown,
             start,
-        } => match read_chosen_fields(
-            shown,
-            s,
-            p,
-            sheet,
-            ty,
-            first,
-            n,
-            known,
-            count,
-            0,
-            start,
-            limit::BELOW_ROOT,
-            0,
-            judging,
-        ) {
-            Walk::Refused { number, place } => Walk::Refused { number, place },
-            Walk::Past { due, next, row } => end_root(p, due, next, row, unknown),
-        },
+        } => {
+            let f = Fields {
+                ty,
+                first,
+                n,
+                known,
+                ones,
+                place: 0,
+                start,
+            };
+            match read_chosen_fields(shown, s, p, sheet, f, limit::BELOW_ROOT, 0, judging) {
+                Walk::Refused { number, place } => Walk::Refused { number, place },
+                Walk::Past { due, next, row } => end_root(p, due, next, row, unknown),
+            }
+        }
     }
 }

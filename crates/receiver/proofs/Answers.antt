@@ -42,7 +42,7 @@ use Rattle.receiver.specs.Receive.{answered, frameSettled, frameEffect, 
 use Rattle.receiver.specs.Claims.{Front, ShowsRows, Nothing, rowFor, Alike, tables, frameFault, needsMore, Keeping, elementLimit, tallyFull, rowsMiscounted, sheetSmall, KeptWhole}
 use Rattle.receiver.proofs.Ways.{front-is, Early, schema, calls, rows, frame, early, Way, stops, judges, ways, stops-early, judged}
 use Rattle.receiver.proofs.Rows.{unraised, rows-alike}
-use Rattle.receiver.proofs.Kept.{frameRise, holds-row, same-rows}
+use Rattle.receiver.proofs.Kept.{frameRise, answer-holds-row, same-rows}
 use Rattle.receiver.proofs.Records.{front-once, refused-kept}
 use Rattle.receiver.proofs.Payloads.{Untouched, refused-read, unread, tallied-untouched, tallied-same}
 use Rattle.receiver.proofs.Apart.{same-answer}
@@ -189,7 +189,7 @@ module _ (s : List ℕ) (side : ℕ) (bytes sheet : List ℕ) (ts : List Tally) 
   -- The sheet shows as many rows as the answer says, and its other cells are as they were.
   pub shown : (rs : List Row) × ShowsRows rs sheet (received s side bytes sheet ts l)
   shown =
-      let alike : Alike (tableOf s) side bytes l l ts ts = record { good = refl; own = λ f w. refl; room = λ f w k. refl; rows = refl; row = λ m w. refl } in
+      let alike : Alike (tableOf s) side bytes l l ts ts = record { good = refl; own = λ f w. refl; fullness = λ f w k. refl; rows = refl; row = λ m w. refl } in
       let same = same-answer sheet sheet ts ts l l s refl side bytes alike in
       (same .rows, same .first)
 
@@ -231,7 +231,7 @@ module _ (s : List ℕ) (side : ℕ) (bytes sheet : List ℕ) (ts : List Tally) 
       → a .tallies ≡ ts
   refused-rows z k =
       rows-alike (received s side bytes sheet ts l .tallies) ts (same-rows s side bytes sheet ts l)
-      (λ m. holds-row s side bytes sheet ts l m (λ n _ t. (n ≡ 0 → ⊥) → endsCall n ≡ false → t ≡ rowFor ts m)
+      (λ m. answer-holds-row s side bytes sheet ts l m (λ n _ t. (n ≡ 0 → ⊥) → endsCall n ≡ false → t ≡ rowFor ts m)
       (λ n q e z k. refl) (λ f w r reading z k. unraised m (frameRise s f l) _ (rowFor ts m) z k) z k)
 
   -- 17, 18, 19 and 30 change nothing and use no bytes.
@@ -251,7 +251,7 @@ module _ (s : List ℕ) (side : ℕ) (bytes sheet : List ℕ) (ts : List Tally) 
     where
       one : (m : ℕ) → rowFor (received s side bytes sheet ts l .tallies) m ≡ rowFor ts m
       one m =
-          holds-row s side bytes sheet ts l m (λ n _ t. (n ≡ 0 → ⊥) → t ≡ rowFor ts m) (λ n q e z. refl)
+          answer-holds-row s side bytes sheet ts l m (λ n _ t. (n ≡ 0 → ⊥) → t ≡ rowFor ts m) (λ n q e z. refl)
           (λ f′ w′ r reading z.
           let first : f′ .kind ≡ 1 = rw (front-once w′ w) k in
           rw (invoke-figure s l f′ _ first z (judgeOf (tableOf s) f′ l) refl) (none-raised (eqb (frameRise s f′ l .row) m) (rowFor ts m)))

@@ -144,7 +144,7 @@ module _ (sheet₁ sheet₂ : List ℕ) (ts₁ ts₂ : List Tally) (l₁ l₂ : 
               let f = frameFrom side h in
               let front = front-of side bytes h place n e in
               rw (judged s side bytes sheet₂ ts₂ l₂ h place n (ready-too r) e)
-              (frame-same f (take n (drop place bytes)) (place + n) (w .own f front) (w .room f front)
+              (frame-same f (take n (drop place bytes)) (place + n) (w .own f front) (w .fullness f front)
               (λ m k. w .row m (record { frame = f; front = front; isMethod = k })))
 
 -- ---- two sheets with as much room

@@ -24,7 +24,7 @@ use Rattle.calls.specs.declared.Rise.{Rise}
 use Rattle.calls.specs.Record.{counting}
 use Rattle.calls.specs.Slots.{freshTable, goodTable, ownOf}
 use Rattle.calls.specs.Step.{stepOf, dueOf}
-use Rattle.calls.specs.Counting.{noTally, figureBy, figureIn, fullAt}
+use Rattle.calls.specs.Counting.{noTally, figureBy, amountIn, fullAt}
 use Rattle.calls.specs.Event.{identifier}
 use Rattle.calls.specs.Order.{Heard, closed, pastOf}
 use Rattle.calls.specs.Figures.{counts, counted, figures}
@@ -44,7 +44,7 @@ use Rattle.receiver.specs.Run.{Input, input, frameHeard, eventNumber, st
 use Rattle.receiver.specs.Fresh.{FreshEffect, freshEffect, receivedFresh, inputs, freshRun}
 use Rattle.receiver.proofs.Rows.{fresh-row}
 use Rattle.receiver.proofs.Lent.{fresh-long}
-use Rattle.receiver.proofs.Kept.{holds, stays-good as rows-good}
+use Rattle.receiver.proofs.Kept.{answer-holds, stays-good as rows-good}
 use Rattle.receiver.proofs.Apart.{same-room as rows-room}
 use Rattle.receiver.proofs.Answers.{used-by-number as rows-used, rest-ignored as rows-rest}
 use Rattle.receiver.proofs.Numbered.{used-or-kept}
@@ -84,7 +84,7 @@ module _ (s : List ℕ) (side : ℕ) (bytes sheet : List ℕ) (l : List Call) wh
   pub few-more : (most : ℕ) → FewIn most l → FewIn (suc most) (a .answer .table .slots)
   unfolding receivedFresh
   few-more most h =
-      holds s side bytes sheet fresh l (λ _ l′. FewIn (suc most) l′) (λ n q e i. record { inputs = omega (arith, h i .inputs); outputs = omega (arith, h i .outputs) })
+      answer-holds s side bytes sheet fresh l (λ _ l′. FewIn (suc most) l′) (λ n q e i. record { inputs = omega (arith, h i .inputs); outputs = omega (arith, h i .outputs) })
       (λ f w g t r. step-more (tableOf s) f r most l h)
 
 -- fresh rows are never full
@@ -171,9 +171,9 @@ module _ (s : List ℕ) (g : IsGood s) where
   T = tableOf s
 
   small-figure : (es : List Heard) (m : ℕ) → length es < 4294967295 → Unfull (figures T m es)
-  small-figure es m h x = ne-eqb (figureIn (figures T m es) x) 4294967295 (λ z. omega (arith, z, h, most x))
+  small-figure es m h x = ne-eqb (amountIn (figures T m es) x) 4294967295 (λ z. omega (arith, z, h, most x))
     where
-      most : (x : Figure) → figureIn (figures T m es) x ≤ length es
+      most : (x : Figure) → amountIn (figures T m es) x ≤ length es
       most Nothing = omega arith
       most Opened = counted-most T m 1 es
       most Completed = counted-most T m 2 es

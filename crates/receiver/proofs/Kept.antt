@@ -78,11 +78,11 @@ stop-holds P l n q h = h
 
 module _ (s : List ℕ) (side : ℕ) (bytes sheet : List ℕ) (ts : List Tally) (l : List Call) where
   -- What holds of the number, the records and the row of method m where the answer stops, and of every step of a frame at the front.
-  pub holds-row : (m : ℕ) (P : ℕ → List Call → Tally → Type 0) → ((n q : ℕ) → Stops s bytes l (length ts) n q → P n l (rowFor ts m))
+  pub answer-holds-row : (m : ℕ) (P : ℕ → List Call → Tally → Type 0) → ((n q : ℕ) → Stops s bytes l (length ts) n q → P n l (rowFor ts m))
       → ((f : Frame) → Front side bytes f → TablesReady s l (length ts) → (reading : Payload → ℕ) →
       let r = receive (tableOf s) f reading l in P (r .number) (r .table .slots) (rowAfter m (frameRise s f l) (r .number) (rowFor ts m)))
       → let a = received s side bytes sheet ts l in P (a .answer .number) (a .answer .table .slots) (rowFor (a .tallies) m)
-  holds-row m P stop step = go (ways s side bytes sheet ts l)
+  answer-holds-row m P stop step = go (ways s side bytes sheet ts l)
     where
       go : {x : Effect} → Way s side bytes sheet ts l x → P (x .answer .number) (x .answer .table .slots) (rowFor (x .tallies) m)
       go (stops {n} {q} w) = stop-holds (λ k l′. P k l′ (rowFor ts m)) l n q (stop n q w)
@@ -94,18 +94,18 @@ module _ (s : List ℕ) (side : ℕ) (bytes sheet : List ℕ) (ts : List Tally) 
           (step f (front-of side bytes h place n e) w (readingOf s f p sheet ts l)))
 
   -- The same of the number and the records.
-  pub holds : (P : ℕ → List Call → Type 0) → ((n q : ℕ) → Stops s bytes l (length ts) n q → P n l)
+  pub answer-holds : (P : ℕ → List Call → Type 0) → ((n q : ℕ) → Stops s bytes l (length ts) n q → P n l)
       → ((f : Frame) → Front side bytes f → IsGood s → goodTable (tableOf s) l ≡ true → (reading : Payload → ℕ) →
       let r = receive (tableOf s) f reading l in P (r .number) (r .table .slots))
       → let a = received s side bytes sheet ts l in P (a .answer .number) (a .answer .table .slots)
-  holds P stop step =
-      holds-row 0 (λ n l′ _. P n l′) stop (λ f v w reading. step f v (w .schemaGood) (good-test (tableOf s) l (w .callsGood)) reading)
+  answer-holds P stop step =
+      answer-holds-row 0 (λ n l′ _. P n l′) stop (λ f v w reading. step f v (w .schemaGood) (good-test (tableOf s) l (w .callsGood)) reading)
 
   pub stays-good : goodTable (tableOf s) l ≡ true → goodTable (tableOf s) (received s side bytes sheet ts l .answer .table .slots) ≡ true
-  stays-good good = holds (λ _ l′. goodTable (tableOf s) l′ ≡ true) (λ n q e. good) (λ f w g t r. test-stays (tableOf s) f r l t)
+  stays-good good = answer-holds (λ _ l′. goodTable (tableOf s) l′ ≡ true) (λ n q e. good) (λ f w g t r. test-stays (tableOf s) f r l t)
 
   pub same-length : length (received s side bytes sheet ts l .answer .table .slots) ≡ length l
-  same-length = holds (λ _ l′. length l′ ≡ length l) (λ n q e. refl) (λ f w g t r. stays-long (tableOf s) f r l)
+  same-length = answer-holds (λ _ l′. length l′ ≡ length l) (λ n q e. refl) (λ f w g t r. stays-long (tableOf s) f r l)
 
   -- There are as many tally rows as before.
   pub same-rows : length (received s side bytes sheet ts l .tallies) ≡ length ts

@@ -10,7 +10,7 @@ pub mod Records
 pub mod Releases
 pub mod Answers
 pub mod Numbered
-pub mod Due
+pub mod Comparisons
 pub mod Runs
 pub mod Tallies
 pub mod FreshRows

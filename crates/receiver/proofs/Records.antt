@@ -38,7 +38,7 @@ use Rattle.receiver.specs.Planning.{frameFrom}
 use Rattle.receiver.specs.Receive.{received}
 use Rattle.receiver.specs.Claims.{Front, Reply, Alike}
 use Rattle.receiver.proofs.Ways.{front-is, Early, schema, calls, rows, frame, early}
-use Rattle.receiver.proofs.Kept.{holds}
+use Rattle.receiver.proofs.Kept.{answer-holds}
 use Rattle.receiver.proofs.Apart.{same-answer}
 
 -- the payload's number matters only where the payload is read
@@ -114,33 +114,33 @@ module _ (s : List ℕ) (side : ℕ) (bytes sheet : List ℕ) (ts : List Tally) 
 
   -- The record of every other identifier is unchanged.
   pub others-kept : (k : ℕ) → ((f : Frame) → Front side bytes f → k ≡ f .correlation → ⊥) → ownOf k slots ≡ ownOf k l
-  others-kept k other = holds s side bytes sheet ts l (λ _ l′. ownOf k l′ ≡ ownOf k l) (λ n q e. refl) (λ f w g t r. calls.others-kept T f l r k (other f w))
+  others-kept k other = answer-holds s side bytes sheet ts l (λ _ l′. ownOf k l′ ≡ ownOf k l) (λ n q e. refl) (λ f w g t r. calls.others-kept T f l r k (other f w))
 
   -- No slot is changed but that of the frame's own call, or the one where INVOKE opens a call.
   pub slots-kept : (j : ℕ) → ((f : Frame) → Front side bytes f → touched (judgeOf T f l) ≡ At j → ⊥) → slot slots j ≡ slot l j
-  slots-kept j other = holds s side bytes sheet ts l (λ _ l′. slot l′ j ≡ slot l j) (λ n q e. refl) (λ f w g t r. calls.other-slots T f l r j (other f w))
+  slots-kept j other = answer-holds s side bytes sheet ts l (λ _ l′. slot l′ j ≡ slot l j) (λ n q e. refl) (λ f w g t r. calls.other-slots T f l r j (other f w))
 
   -- A new call takes the lowest free slot.
   pub opened-lowest : (i : ℕ) → slot l i .«open» ≡ false → slot slots i .«open» ≡ true → (k : ℕ) → k < i → slot l k .«open» ≡ true
   opened-lowest i z =
-      holds s side bytes sheet ts l (λ _ l′. slot l′ i .«open» ≡ true → (k : ℕ) → k < i → slot l k .«open» ≡ true)
+      answer-holds s side bytes sheet ts l (λ _ l′. slot l′ i .«open» ≡ true → (k : ℕ) → k < i → slot l k .«open» ≡ true)
       (λ n q e o. clash (slot l i .«open») o z) (λ f w g t r. opened-by T f l r i z)
 
   -- An open slot under another correlation than the frame's is unchanged.
   pub open-kept : (i : ℕ) → slot l i .«open» ≡ true → ((f : Frame) → Front side bytes f → slot l i .correlation ≡ f .correlation → ⊥)
       → slot slots i ≡ slot l i
-  open-kept i o other = holds s side bytes sheet ts l (λ _ l′. slot l′ i ≡ slot l i) (λ n q e. refl) (λ f w g t r. calls.open-kept T f l r i o (other f w))
+  open-kept i o other = answer-holds s side bytes sheet ts l (λ _ l′. slot l′ i ≡ slot l i) (λ n q e. refl) (λ f w g t r. calls.open-kept T f l r i o (other f w))
 
   -- Only a payload refusal, the completion of the call or ERROR frees a slot, and its own.
   pub freed : (i : ℕ) → slot l i .«open» ≡ true → slot slots i .«open» ≡ false → (f : Frame) × Front side bytes f × Freed T (calls-event.frame f) number (slot l i)
   freed i o =
-      holds s side bytes sheet ts l (λ n l′. slot l′ i .«open» ≡ false → (f : Frame) × Front side bytes f × Freed T (calls-event.frame f) n (slot l i))
+      answer-holds s side bytes sheet ts l (λ n l′. slot l′ i .«open» ≡ false → (f : Frame) × Front side bytes f × Freed T (calls-event.frame f) n (slot l i))
       (λ n q e z. clash (slot l i .«open») o z) (λ f w g t r z. (f, w, calls.freed T f l i o r z))
 
   -- A refusal that is no payload refusal changes no call, 30 among them.
   pub refused-kept : (number ≡ 0 → ⊥) → endsCall number ≡ false → slots ≡ l
   refused-kept =
-      holds s side bytes sheet ts l (λ n l′. (n ≡ 0 → ⊥) → endsCall n ≡ false → l′ ≡ l)
+      answer-holds s side bytes sheet ts l (λ n l′. (n ≡ 0 → ⊥) → endsCall n ≡ false → l′ ≡ l)
       (λ n q e z r. refl) (λ f w g t reading z r. calls.refused-same T f reading l z (inl r))
 
   -- ---- the call of a frame
@@ -148,7 +148,7 @@ module _ (s : List ℕ) (side : ℕ) (bytes sheet : List ℕ) (ts : List Tally) 
     -- An INVOKE that is refused opens no call.
     pub opens-none : f .kind ≡ 1 → (number ≡ 0 → ⊥) → slots ≡ l
     opens-none k =
-        holds s side bytes sheet ts l (λ n l′. (n ≡ 0 → ⊥) → l′ ≡ l)
+        answer-holds s side bytes sheet ts l (λ n l′. (n ≡ 0 → ⊥) → l′ ≡ l)
         (λ n q e z. refl) (λ f′ w′ g t r z. calls.refused-same T f′ r l z (inr (rw (front-once w′ w) k)))
 
     -- An accepted CANCEL sets the mark of its call: the record stays in its slot, with its identifier and its other marks, and every other slot as it was.
@@ -164,14 +164,14 @@ module _ (s : List ℕ) (side : ℕ) (bytes sheet : List ℕ) (ts : List Tally) 
 
         marked : slots ≡ set l i new
         marked =
-            holds s side bytes sheet ts l (λ n l′. n ≡ 0 → l′ ≡ set l i new) (λ n q e y. absurd (early-zero (early s l (length ts) bytes e) y))
+            answer-holds s side bytes sheet ts l (λ n l′. n ≡ 0 → l′ ≡ set l i new) (λ n q e y. absurd (early-zero (early s l (length ts) bytes e) y))
             (λ f′ w′ g t r y. let same = front-once w′ w in
             calls.cancel-marked T f′ l (good-clauses T l t) (rw same k) r y i (rw same own)) z
 
     -- It frees no slot.
     pub cancel-frees-none : f .kind ≡ 8 → number ≡ 0 → (i : ℕ) → slot l i .«open» ≡ true → slot slots i .«open» ≡ true
     cancel-frees-none k z i o =
-        holds s side bytes sheet ts l (λ n l′. n ≡ 0 → slot l′ i .«open» ≡ true) (λ n q e z. o)
+        answer-holds s side bytes sheet ts l (λ n l′. n ≡ 0 → slot l′ i .«open» ≡ true) (λ n q e z. o)
         (λ f′ w′ g t r z. calls.cancel-frees-none T f′ l (good-clauses T l t) (rw (front-once w′ w) k) r z i o) z
 
     -- The own record afterwards, by the judgement without a slot and the answer's number.
@@ -179,7 +179,7 @@ module _ (s : List ℕ) (side : ℕ) (bytes sheet : List ℕ) (ts : List Tally) 
     own-after =
         let own = ownOf (f .correlation) l in
         let v = verdictOf T f own (full l) in
-        holds s side bytes sheet ts l (λ n l′. ownOf (f .correlation) l′ ≡ verdictOwn v n own)
+        answer-holds s side bytes sheet ts l (λ n l′. ownOf (f .correlation) l′ ≡ verdictOwn v n own)
         (λ n q e. sym (own-kept v own (early s l (length ts) bytes e)))
         (λ f′ w′ g t r. rw (front-once w′ w) (
         calls.own-after T f l (good-clauses T l t) r
@@ -189,7 +189,7 @@ module _ (s : List ℕ) (side : ℕ) (bytes sheet : List ℕ) (ts : List Tally) 
     -- Payload refusals end the open call.
     pub refused-ends : (f .kind ≡ 1 → ⊥) → endsCall number ≡ true → ownOf (f .correlation) slots ≡ none
     refused-ends other =
-        holds s side bytes sheet ts l (λ n l′. endsCall n ≡ true → ownOf (f .correlation) l′ ≡ none)
+        answer-holds s side bytes sheet ts l (λ n l′. endsCall n ≡ true → ownOf (f .correlation) l′ ≡ none)
         (λ n q e t. clash (endsCall n) t (early-spares (early s l (length ts) bytes e)))
         (λ f′ w′ g t r. rw (front-once w′ w) (calls.refused-ends T f l (good-clauses T l t) other r))
 
@@ -202,6 +202,6 @@ pub same-own : (s : List ℕ) (side : ℕ) (bytes sheet₁ sheet₂ : List ℕ) 
     ownOf (f .correlation) (a₁ .answer .table .slots) ≡ ownOf (f .correlation) (a₂ .answer .table .slots)
 same-own s side bytes sheet₁ sheet₂ ts₁ ts₂ l₁ l₂ space w f v =
     let own = w .own f v in
-    let e = calls.same-verdict (tableOf s) f l₁ l₂ own (w .room f v) in
+    let e = calls.same-verdict (tableOf s) f l₁ l₂ own (w .fullness f v) in
     let number = ap (λ (r : Reply). r .numbers .number) (same-answer sheet₁ sheet₂ ts₁ ts₂ l₁ l₂ s space side bytes w .reply) in
     own-after s side bytes sheet₁ ts₁ l₁ f v ∙ (λ i. verdictOwn (e i) (number i) (own i)) ∙ sym (own-after s side bytes sheet₂ ts₂ l₂ f v)

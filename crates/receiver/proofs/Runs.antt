@@ -31,7 +31,7 @@ use Rattle.calls.specs.declared.Judged.{Judged}
 use Rattle.calls.specs.declared.Judged.the-variants.{Refused as JudgedRefused, Opens, Goes}
 use Rattle.calls.specs.declared.Payload.the-variants.{Struct, Empty, Unread}
 use Rattle.calls.specs.Record.{emptyCall, isCall}
-use Rattle.calls.specs.Slots.{freshTable, slot, countOpen, goodTable, holds, ownOf, full}
+use Rattle.calls.specs.Slots.{freshTable, slot, countOpen, goodTable, contains, ownOf, full}
 use Rattle.calls.specs.declared.OwnCall.{OwnCall}
 use Rattle.calls.specs.declared.OwnCall.the-variants.{None as none, One as one}
 use Rattle.calls.specs.Judge.{rightSide, judgeOf, judgeRelease, Verdict, stop, goes, releaseVerdict}
@@ -67,7 +67,7 @@ use Rattle.receiver.specs.Claims.{Front, payloadIn, TablesReady, rowFor,
 use Rattle.receiver.specs.Order.{Said, said, saidBy, Answered, stops, value, empty, surplus, error, Counted, fullTally, rises, ByRules, ReleasedAs, refusedRelease, fullRelease, releasedNow, Reflected}
 use Rattle.receiver.specs.Run.{Input, Event, input, release, State, stateAfter, eventNumber, Happens, frame, releases, frameHeard, heardIn, stateFrom, heardFrom}
 use Rattle.receiver.specs.Run.{callsAfter, rowsAfter, answerAfter, fullAfter, pastIn, RoomAfter, freshTallies, freshState}
-use Rattle.receiver.proofs.Kept.{frameRise, readingOf, stop-holds, frame-holds, holds as holds-after, stays-good, same-length, same-rows, release-holds, release-good, release-length, release-rows}
+use Rattle.receiver.proofs.Kept.{frameRise, readingOf, stop-holds, frame-holds, answer-holds as holds-after, stays-good, same-length, same-rows, release-holds, release-good, release-length, release-rows}
 use Rattle.receiver.proofs.Records.{front-once, others-kept, freed as frame-freed, refused-kept}
 use Rattle.receiver.proofs.Answers.{used-by-number, refused-untouched, refused-rows}
 use Rattle.receiver.proofs.Releases.{others-kept as release-others, freed as release-freed}
@@ -493,7 +493,7 @@ call-raises T f past t n low high = rw (ne-eqb n 0 (λ z. omega (arith, low, z))
 -- ---- a history
 
 -- the client's kinds but INVOKE
-one-of-three : (P : ℕ → Type 0) → P 2 → P 3 → P 8 → (k : ℕ) → holds k (2 ∷ 3 ∷ 8 ∷ []) ≡ true → P k
+one-of-three : (P : ℕ → Type 0) → P 2 → P 3 → P 8 → (k : ℕ) → contains k (2 ∷ 3 ∷ 8 ∷ []) ≡ true → P k
 one-of-three P a b c k t =
     ⊎-elim (λ q. subst P (eqb-true 2 k q) a)
     (λ r. ⊎-elim (λ q. subst P (eqb-true 3 k q) b)
@@ -631,7 +631,7 @@ module _ (s : List ℕ) (g : IsGood s) (start : State) (past : ℕ → Past) (st
 
   -- A client frame of a cancelled call (IN_STREAM, IN_CLOSE, CANCEL) is 12 where its identifiers are not the call's, and else 14.
   pub client-late : (es : List Event) (i : Input) (f : Frame) (w : Front (i .side) (i .bytes) f) (m : ℕ) (b : Elements) (h : List ℕ)
-      → pastIn s start past es (f .correlation) ≡ since m b h → rules.cancelled h ≡ true → f .side ≡ 67 → holds (f .kind) (2 ∷ 3 ∷ 8 ∷ []) ≡ true
+      → pastIn s start past es (f .correlation) ≡ since m b h → rules.cancelled h ≡ true → f .side ≡ 67 → contains (f .kind) (2 ∷ 3 ∷ 8 ∷ []) ≡ true
       → let a = answerAfter s start es i .answer in
       (same T f m ≡ false → a .number ≡ 12) × (same T f m ≡ true → a .number ≡ 14)
   client-late es i f w m b h e late side kinds = (

@@ -52,7 +52,7 @@ use Rattle.receiver.specs.Claims.{Front, payloadIn, TablesReady, Unready
 use Rattle.receiver.specs.Run.{Input, Event, input, release, State, stateAfter, frameHeard, stateFrom, heardFrom, callsAfter, rowsAfter, freshState}
 use Rattle.receiver.proofs.Ways.{front-of, Way, stops, judges, ways, stops-early, judged}
 use Rattle.receiver.proofs.Rows.{none-raised, fresh-row}
-use Rattle.receiver.proofs.Kept.{frameRise, frame-row, holds-row, release-holds-row}
+use Rattle.receiver.proofs.Kept.{frameRise, frame-row, answer-holds-row, release-holds-row}
 use Rattle.receiver.proofs.Apart.{same-rise, ready-too, stops-too, same-answer}
 use Rattle.receiver.proofs.Runs.{fresh-stands, front-judged, front-counts, calls-good, rows-right, ready-after, reflected}
 
@@ -61,7 +61,7 @@ use Rattle.receiver.proofs.Runs.{fresh-stands, front-judged, front-coun
 event-balanced : (s : List ℕ) (e : Event) (st : State) (m : ℕ) → Balanced m (rowFor (st .tallies) m) (st .calls)
     → let x = stateAfter s e st in Balanced m (rowFor (x .tallies) m) (x .calls)
 event-balanced s (input i) st m b =
-    holds-row s (i .side) (i .bytes) (i .sheet) (st .tallies) (st .calls) m (λ _ l t. Balanced m t l) (λ n q e. b)
+    answer-holds-row s (i .side) (i .bytes) (i .sheet) (st .tallies) (st .calls) m (λ _ l t. Balanced m t l) (λ n q e. b)
     (λ f w r reading. frame-balanced (tableOf s) f (st .calls) reading m (rowFor (st .tallies) m) b)
 event-balanced s (release id) st m b =
     release-holds-row s (st .calls) id (st .tallies) m (λ _ l t. Balanced m t l) (λ n q e. b)
@@ -235,7 +235,7 @@ module _ (m : ℕ) where
 pub other-rows : (s : List ℕ) (side : ℕ) (bytes sheet : List ℕ) (ts : List Tally) (l : List Call) (m : ℕ) → (About (tableOf s) side bytes l m → ⊥)
     → rowFor (received s side bytes sheet ts l .tallies) m ≡ rowFor ts m
 other-rows s side bytes sheet ts l m other =
-    holds-row s side bytes sheet ts l m (λ _ _ t. t ≡ rowFor ts m) (λ n q e. refl) (λ f w r reading. kept f w _)
+    answer-holds-row s side bytes sheet ts l m (λ _ _ t. t ≡ rowFor ts m) (λ n q e. refl) (λ f w r reading. kept f w _)
   where
     kept : (f : Frame) → Front side bytes f → (n : ℕ) → rowAfter m (frameRise s f l) n (rowFor ts m) ≡ rowFor ts m
     kept f w n =
@@ -299,7 +299,7 @@ module _ (s : List ℕ) (side : ℕ) (bytes sheet₁ sheet₂ : List ℕ) (ts₁
       go (judges h place n r e) =
           let f = frameFrom side h in
           let front = front-of side bytes h place n e in
-          let rise = same-rise sheet₁ sheet₂ ts₁ ts₂ l₁ l₂ s space f (w .own f front) (w .room f front) in
+          let rise = same-rise sheet₁ sheet₂ ts₁ ts₂ l₁ l₂ s space f (w .own f front) (w .fullness f front) in
           judged-row sheet₁ ts₁ l₁ h place n r e
           ∙ (λ i. rowAfter m (rise i) (same-number i) ((w .row m about) i))
           ∙ sym (judged-row sheet₂ ts₂ l₂ h place n (ready-too sheet₁ sheet₂ ts₁ ts₂ l₁ l₂ s space side bytes w r) e)

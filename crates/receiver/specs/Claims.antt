@@ -157,7 +157,7 @@ pub record SameAnswer (sheet₁ sheet₂ : List ℕ) (a₁ a₂ : Effect) : Type
 pub record Alike (T : Table) (side : ℕ) (bytes : List ℕ) (l₁ l₂ : List Call) (ts₁ ts₂ : List Tally) : Type 0 where
   pub good : goodTable T l₁ ≡ goodTable T l₂
   pub own : (f : Frame) → Front side bytes f → ownOf (f .correlation) l₁ ≡ ownOf (f .correlation) l₂
-  pub room : (f : Frame) → Front side bytes f → f .kind ≡ 1 → full l₁ ≡ full l₂
+  pub fullness : (f : Frame) → Front side bytes f → f .kind ≡ 1 → full l₁ ≡ full l₂
   pub rows : length ts₁ ≡ length ts₂
   pub row : (m : ℕ) → About T side bytes l₁ m → rowFor ts₁ m ≡ rowFor ts₂ m
 

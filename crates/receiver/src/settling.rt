@@ -24,7 +24,7 @@ ghost use mathlib.Core.List.{List};
 ghost use Prim.Native.Nat.{ℕ};
 ghost use Rattle.schema.specs.Check.{IsGood};
 ghost use Rattle.calls.specs.declared.Call.{Call};
-ghost use Rattle.calls.specs.Counting.{noTally, countedNumber};
+ghost use Rattle.calls.specs.Counting.{noTally};
 ghost use Rattle.receiver.specs.Answer.{rowEffect, answerIn, countedRead};
 ghost use Rattle.receiver.specs.Planning.{Fitted};
 ghost use Rattle.receiver.specs.Receive.{frameSettled, settled, Unkept};

@@ -127,7 +127,7 @@ goes-on-iff s side bytes l = (going, entering)
         let w = or-false (eqb (a .used) 0) (eqb (a .number) 8 && other) e in
         let some = eqb-false (a .used) 0 (w .0) in
         record {
-          known = sender some (w .1);
+          isSide = sender some (w .1);
           uses = some;
         }
 
@@ -140,7 +140,7 @@ goes-on-iff s side bytes l = (going, entering)
     entering w =
         or-neither (eqb (a .used) 0) (eqb (a .number) 8 && other) (ne-eqb (a .used) 0 (w .uses))
         (and-none (eqb (a .number) 8) (eqb side 67 || eqb side 83)
-        (⊎-elim (λ c. or-left (eqb side 67) (eqb side 83) (eq-eqb side 67 c)) (λ d. or-right (eqb side 67) (eqb side 83) (eq-eqb side 83 d)) (w .known)))
+        (⊎-elim (λ c. or-left (eqb side 67) (eqb side 83) (eq-eqb side 67 c)) (λ d. or-right (eqb side 67) (eqb side 83) (eq-eqb side 83 d)) (w .isSide)))
 
 -- Where there is none, it stops.
 pub stops-there : (s : List ℕ) (side : ℕ) (bytes : List ℕ) (l : List Call) →

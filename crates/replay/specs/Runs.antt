@@ -12,7 +12,7 @@ use Rattle.replay.specs.Run.{answerTo, Entry, entryOf, Run, halted, onwa
 
 -- A side byte with this answer to its frame is an entry: the side is C (67) or S (83), and the answer uses bytes.
 pub record GoesOn (side : ℕ) (a : Received) : Type 0 where
-  pub known : (side ≡ 67) ⊎ (side ≡ 83)
+  pub isSide : (side ≡ 67) ⊎ (side ≡ 83)
   pub uses : a .used ≡ 0 → ⊥
 
 -- The run of what is left of a record from a place on, with these calls open: it goes on as long as there are entries, and stops at the first place where

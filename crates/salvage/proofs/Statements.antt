@@ -155,7 +155,7 @@ module _ (torn copy spans : List ℕ) (n b m : ℕ) (copied listed : List ℕ) w
         bytes = bytes;
         holes = holes;
         fits = omega (arith, bytes, fits);
-        room = omega (arith, cells, room);
+        spans-fit = omega (arith, cells, room);
         copied-is = sym (ap (λ (o : Outcome). o .copy) e) ∙ ap (λ (k : ℕ). copyOf ps ++ drop k copy) bytes;
         listed-is = sym (ap (λ (o : Outcome). o .spans) e) ∙ ap (λ (k : ℕ). spansOf 0 ps ++ drop k spans) cells;
       }
@@ -171,7 +171,7 @@ module _ (torn copy spans : List ℕ) (n b m : ℕ) (copied listed : List ℕ) w
       let cells : length (spansOf 0 ps) ≡ 2 * m = omega (arith, spans-length 0 ps, holes) in
       let copy-is : filled copy (copyOf ps) ≡ copied = ap (λ (k : ℕ). copyOf ps ++ drop k copy) bytes ∙ ap (λ (l : List Piece). copyOf l ++ drop b copy) is ∙ sym (a .copied-is) in
       let list-is : filled spans (spansOf 0 ps) ≡ listed = ap (λ (k : ℕ). spansOf 0 ps ++ drop k spans) cells ∙ ap (λ (l : List Piece). spansOf 0 l ++ drop (2 * m) spans) is ∙ sym (a .listed-is) in
-      sym (accepted torn copy spans (a .small) (omega (arith, bytes, a .fits)) (omega (arith, cells, a .room)))
+      sym (accepted torn copy spans (a .small) (omega (arith, bytes, a .fits)) (omega (arith, cells, a .spans-fit)))
       ∙ λ i. outcome (Salvaged (entries i) (bytes i) (holes i)) (copy-is i) (list-is i)
 
   -- A salvage is accepted exactly where the record is short enough and both buffers have room. Kept entries and listed spans then are a cover of the
@@ -247,7 +247,7 @@ whole-copied s es copy spans w small fits =
       bytes = ap length (k .copy);
       holes = k .count;
       fits = fits;
-      room = omega arith;
+      spans-fit = omega arith;
       copied-is = ap (λ (l : List ℕ). l ++ drop (length s) copy) (sym (k .copy));
       listed-is = ap (λ (l : List ℕ). l ++ spans) (sym (k .spans 0));
     })

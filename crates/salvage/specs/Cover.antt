@@ -32,7 +32,7 @@ pub record Accepted (torn copy spans : List ℕ) (n b m : ℕ) (copied listed : 
   pub bytes : length (copyOf pieces) ≡ b
   pub holes : spanCount pieces ≡ m
   pub fits : b ≤ length copy
-  pub room : 2 * m ≤ length spans
+  pub spans-fit : 2 * m ≤ length spans
   pub copied-is : copied ≡ copyOf pieces ++ drop b copy
   pub listed-is : listed ≡ spansOf 0 pieces ++ drop (2 * m) spans
 

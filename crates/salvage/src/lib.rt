@@ -86,7 +86,7 @@ fn put_pieces(torn: &[u8], copy: &mut [u8], spans: &mut [u32]) -> Measure
             pos += piece.length;
             entries += 1;
         } else {
-            put_span(spans, 2 * listed, at, piece.length);
+            put_span(spans, SPAN_CELLS * listed, at, piece.length);
             listed += 1;
         }
         at = next;
@@ -98,12 +98,20 @@ fn put_pieces(torn: &[u8], copy: &mut [u8], spans: &mut [u32]) -> Measure
     }
 }
 
+// The bytes of the shortest entry, and of a span before it.
+const ENTRY: usize = 27;
+
+const SPAN_AND_ENTRY: usize = ENTRY + 1;
+
+// Cells of a listed span: its place and its length.
+const SPAN_CELLS: usize = 2;
+
 // Whether a copy and a list of these lengths have room for the pieces of any record of so many bytes.
 fn has_room(torn: usize, copy: usize, spans: usize) -> bool
     requires { ⌜ torn ≤ 65536 ⌝ }
     ensures { λ r. ⌜ r ≡ roomForAny torn copy spans ⌝ }
 {
-    (torn <= copy) & ((torn + 27) / 28 * 2 <= spans)
+    (torn <= copy) & ((torn + ENTRY) / SPAN_AND_ENTRY * SPAN_CELLS <= spans)
 }
 
 // What a copy and a list of these lengths are refused for, 52 or 53, or 0 where both have room. Nothing is counted where every record has room.
@@ -118,7 +126,7 @@ fn room_fault(torn: &[u8], copy: usize, spans: usize) -> u32
     if copy < m.bytes {
         return refusal::OUTPUT_TOO_SHORT;
     }
-    if spans < 2 * m.spans {
+    if spans < SPAN_CELLS * m.spans {
         return refusal::LIST_TOO_SHORT;
     }
     refusal::ACCEPTED

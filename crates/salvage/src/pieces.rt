@@ -9,6 +9,11 @@ ghost use lib.ListN.{length, drop};
 ghost use Rattle.record.specs.Entry.{entryLength};
 ghost use Rattle.salvage.specs.Pieces.{spanLength, firstPiece, isKept, bytesIn, magicAfter, magicAmong};
 
+// Places that are looked at together, and the bytes that this takes: the last magic ends two bytes further on.
+const BLOCK: usize = 32;
+
+const BLOCK_BYTES: usize = BLOCK + 2;
+
 // An entry that is kept, or a span that is left out.
 pub struct Piece {
     pub kept: bool,
@@ -23,14 +28,14 @@ fn has_magic(bytes: &[u8], at: usize) -> bool
     (bytes[at + 1] == format::MAGIC) & (bytes[at + 2] == format::MAGIC_2)
 }
 
-// Whether it does after one of 32 places. All are looked at: a loop without a way out compares several at a time.
+// Whether it does after one of a block's places. All are looked at: a loop without a way out compares several at a time.
 fn has_magics(bytes: &[u8], at: usize) -> bool
     requires { ⌜ at + 34 ≤ length (now bytes) ⌝ }
     ensures { λ r. ⌜ r ≡ magicAmong (now (bytes .entry)) at 32 ⌝ }
 {
     let mut found = false;
     let mut i: usize = 0;
-    while i < 32 {
+    while i < BLOCK {
         found = found | has_magic(bytes, at + i);
         i += 1;
     }
@@ -48,16 +53,16 @@ fn starts(bytes: &[u8], at: usize) -> bool
     entry_length(&bytes[at..]) != 0
 }
 
-// The first of 32 places where an entry starts, or the place after them.
+// The first of a block's places where an entry starts, or the place after them.
 fn within_block(bytes: &[u8], from: usize) -> usize
     requires { ⌜ from + 34 ≤ length (now bytes) ⌝ }
     ensures { λ r. ⌜ r ≡ from + min 32 (spanLength (drop from (now (bytes .entry)))) ⌝ }
 {
     if !has_magics(bytes, from) {
-        return from + 32;
+        return from + BLOCK;
     }
     let mut i = from;
-    while i < from + 32 {
+    while i < from + BLOCK {
         if starts(bytes, i) {
             return i;
         }
@@ -86,12 +91,12 @@ fn forward(bytes: &[u8]) -> usize
     ensures { λ r. ⌜ r ≡ spanLength (now (bytes .entry)) ⌝ }
 {
     let mut i = 0;
-    while 34 <= bytes.len() - i {
+    while BLOCK_BYTES <= bytes.len() - i {
         let next = within_block(bytes, i);
-        if next < i + 32 {
+        if next < i + BLOCK {
             return next;
         }
-        i += 32;
+        i += BLOCK;
     }
     in_rest(bytes, i)
 }

@@ -41,15 +41,15 @@ abbrev pub flag : (mixing : Bool) → Method → ℕ
 flag b m = flagOf b (m .«package») (m .service) (m .method)
 
 -- the flags of the first i methods are set
-pub record Flagged (T : Table) (mixing : Bool) (seen : List Bool) (i : ℕ) : Type 0 where
+pub record MethodsFlagged (T : Table) (mixing : Bool) (seen : List Bool) (i : ℕ) : Type 0 where
   pub flags : (j : ℕ) → j < i → getD seen (flag mixing (methodRow T j)) false ≡ true
   pub wide : length seen ≡ 4096
 
-pub flagged-none : (T : Table) (b : Bool) (seen : List Bool) → length seen ≡ 4096 → Flagged T b seen 0
+pub flagged-none : (T : Table) (b : Bool) (seen : List Bool) → length seen ≡ 4096 → MethodsFlagged T b seen 0
 flagged-none T b seen h = record { flags = λ j k. absurd (not-suc-le-zero k); wide = h }
 
-module _ (T : Table) (b : Bool) (seen : List Bool) (i : ℕ) (f : Flagged T b seen i) (m : Method) (is : m ≡ methodRow T i) where
-  pub flagged-next : (k : ℕ) → k ≡ flag b m → Flagged T b (set seen k true) (i + 1)
+module _ (T : Table) (b : Bool) (seen : List Bool) (i : ℕ) (f : MethodsFlagged T b seen i) (m : Method) (is : m ≡ methodRow T i) where
+  pub flagged-next : (k : ℕ) → k ≡ flag b m → MethodsFlagged T b (set seen k true) (i + 1)
   flagged-next k e = record {
     flags = λ j h.
         ⊎-elim (λ l. set-kept seen k (flag b (methodRow T j)) (f .flags j (ltb-true j i l)))

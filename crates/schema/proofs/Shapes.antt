@@ -162,8 +162,8 @@ module _ (T : Table) (g : GoodSchema T) where
       (cases (ltb t (length (T .types))))
 
   -- a type number is in the table exactly where its shape is known
-  pub known : (t : ℕ) → t < length (T .types) → shape T t ≡ unknown → ⊥
-  known t h e =
+  pub known-shape : (t : ℕ) → t < length (T .types) → shape T t ≡ unknown → ⊥
+  known-shape t h e =
       let k = g .rows t h .kind in
       let z : kindOf (shape T t) ≡ 0 = ap kindOf e in
       omega (arith, kind-of t)

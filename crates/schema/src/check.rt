@@ -6,6 +6,7 @@ use crate::Method;
 use crate::TypeRow;
 use crate::file::is_shaped;
 use crate::file::layout_of;
+use crate::product::HALF;
 use crate::product::mixed;
 use crate::product::wrapping_mul;
 use crate::rows::field_row;
@@ -140,51 +141,59 @@ fn bad_entry(s: &[u8], l: Layout, section: u32, n: usize) -> Found
     Found::Missing
 }
 
+// What package and service, as one number, and the method are multiplied by: odd, with ones all over.
+const NAMES_FACTOR: u64 = 0x369D_EA0F_31A5_3F85;
+
+const METHOD_FACTOR: u64 = 0xD6E8_FEB8_6659_FD93;
+
+// A flag is the top 12 of 64 bits.
+const FLAG_SHIFT: u64 = 52;
+
 // The flag of three identifiers, one of 4,096: the top bits of a sum of products, by which those of ordinary tables differ, or of the numbers mixed.
 fn flag_of(package: u32, service: u32, method: u32, mixing: bool) -> usize
     ensures { λ r. ⌜ r ≡ flagOf mixing «package» service method ⌝ }
 {
-    let names = (package as u64) + (service as u64) * 4294967296;
+    let names = (package as u64) + (service as u64) * HALF;
     if mixing {
-        return (mixed(wrapping_add_u64(mixed(names), method as u64)) >> 52) as usize;
+        return (mixed(wrapping_add_u64(mixed(names), method as u64)) >> FLAG_SHIFT) as usize;
     }
     let sum = wrapping_add_u64(
-        wrapping_mul(names, 0x369D_EA0F_31A5_3F85),
-        wrapping_mul(method as u64, 0xD6E8_FEB8_6659_FD93),
+        wrapping_mul(names, NAMES_FACTOR),
+        wrapping_mul(method as u64, METHOD_FACTOR),
     );
-    (sum >> 52) as usize
+    (sum >> FLAG_SHIFT) as usize
 }
 
-// Whether none of the first i methods has the identifiers of m. They are looked through only if one of them may have.
-fn is_new(s: &[u8], l: Layout, i: usize, m: Method, possible: bool) -> bool
+// Whether none of the first i methods has the identifiers of m. They are looked through only where its flag is taken: else none of them has.
+fn is_new(s: &[u8], l: Layout, i: usize, m: Method, taken: bool) -> bool
     requires { ⌜ Laid (now s) l ⌝ }
-    ensures { λ x. ⌜ x ≡ (not possible || isMissing (findAmong (tableOf (now (s .entry))) i (m .«package») (m .service) (m .method))) ⌝ }
+    ensures { λ x. ⌜ x ≡ (not taken || isMissing (findAmong (tableOf (now (s .entry))) i (m .«package») (m .service) (m .method))) ⌝ }
 {
-    if possible {
+    if taken {
         is_missing(find_among(s, l, i, m.package, m.service, m.method))
     } else {
         true
     }
 }
 
-// Flags of methods; so many times may one be taken before the first kind is given up; and so many methods are compared without flags.
+// Flags of methods; so many times may one be taken before the first kind is abandoned; and so many methods are compared without flags.
 const FLAGS: usize = 4096;
 
 const MOST_SEARCHES: usize = 16;
 
 const FEW_METHODS: usize = 12;
 
-// The lowest method at fault, or crowded: many flags were taken, and the search was given up.
+// The lowest method at fault, unless the search was abandoned, since many flags were taken.
 struct Sought {
-    crowded: bool,
+    abandoned: bool,
     bad: Found,
 }
 
-// Looks for the lowest method at fault, where a method is compared with those before it only if one of them has its flag. That is given up where
+// Looks for the lowest method at fault, where a method is compared with those before it only if one of them has its flag. That is abandoned where
 // too many are, unless the flags are of numbers mixed.
 fn bad_by_flags(s: &[u8], l: Layout, mixing: bool) -> Sought
     requires { ⌜ Laid (now s) l ⌝ }
-    ensures { λ x. ⌜ (x .crowded ≡ false → x .bad ≡ badMethod (tableOf (now (s .entry)))) × (mixing ≡ true → x .crowded ≡ false) ⌝ }
+    ensures { λ x. ⌜ (x .abandoned ≡ false → x .bad ≡ badMethod (tableOf (now (s .entry)))) × (mixing ≡ true → x .abandoned ≡ false) ⌝ }
 {
     let mut seen = [false; FLAGS];
     let mut searches: usize = 0;
@@ -197,7 +206,7 @@ fn bad_by_flags(s: &[u8], l: Layout, mixing: bool) -> Sought
         if taken {
             if (searches == MOST_SEARCHES) & !mixing {
                 return Sought {
-                    crowded: true,
+                    abandoned: true,
                     bad: Found::Missing,
                 };
             }
@@ -205,7 +214,7 @@ fn bad_by_flags(s: &[u8], l: Layout, mixing: bool) -> Sought
         }
         if !(formed & is_new(s, l, i, m, taken)) {
             return Sought {
-                crowded: false,
+                abandoned: false,
                 bad: Found::At(i),
             };
         }
@@ -213,7 +222,7 @@ fn bad_by_flags(s: &[u8], l: Layout, mixing: bool) -> Sought
         i += 1;
     }
     Sought {
-        crowded: false,
+        abandoned: false,
         bad: Found::Missing,
     }
 }
@@ -224,7 +233,7 @@ fn bad_of_many(s: &[u8], l: Layout) -> Found
     ensures { λ x. ⌜ x ≡ badMethod (tableOf (now (s .entry))) ⌝ }
 {
     let first = bad_by_flags(s, l, false);
-    if first.crowded {
+    if first.abandoned {
         let second = bad_by_flags(s, l, true);
         second.bad
     } else {

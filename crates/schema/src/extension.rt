@@ -13,6 +13,7 @@ use crate::rows::find_among;
 use crate::rows::method_row;
 use crate::rows::row;
 use constants::kind;
+use wire::bitmap;
 ghost use mathlib.Core.Path.{_≡_};
 ghost use Prim.Native.Nat.{_<_, _^_};
 ghost use Rattle.schema.specs.Table.{bitmapBytes};
@@ -145,11 +146,16 @@ pub fn is_widened(old: &[u8], new: &[u8]) -> bool
     (l.types <= k.types) & (keeps_rows(old, l, new, k) & keeps_methods(old, l, new, k))
 }
 
+// Those of `wire::bitmap`, as wide as a count of fields is here.
+const BYTE_BITS: u64 = bitmap::BYTE_BITS as u64;
+
+const SPARE_BITS: u64 = bitmap::SPARE_BITS as u64;
+
 // The whole bytes of a bitmap with a bit for each of n fields.
 fn bitmap_bytes(n: u32) -> u64
     ensures { λ x. ⌜ x ≡ bitmapBytes n ⌝ }
 {
-    ((n as u64) + 7) / 8
+    ((n as u64) + SPARE_BITS) / BYTE_BITS
 }
 
 fn keeps_bitmap(r: TypeRow, q: TypeRow) -> bool

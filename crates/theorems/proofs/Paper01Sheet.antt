@@ -82,7 +82,7 @@ too-few-rows = promises-Reading.too-few-rows
 
 -- Computed: `value/Examples.read-keys`.
 
--- Stated in other files: `Request10.due-pairs`, `Request10.due-half`, `Request10.own-due`, `Demand2.shown-iff-spelled`, `Request10.comparisons-of`,
+-- Stated in other files: `Request10.comparisons-pairs`, `Request10.comparisons-half`, `Request10.own-comparisons`, `Demand2.shown-iff-spelled`, `Request10.comparisons-of`,
 -- `Demand2.by-order`.
 
 -- 02, 2026-10: "To be shown: never above 258,048. On a refusal it is 0."

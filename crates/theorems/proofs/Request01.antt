@@ -14,7 +14,7 @@ use Rattle.calls.specs.declared.Tally.{Tally}
 use Rattle.calls.specs.declared.Call.{Call}
 use Rattle.calls.specs.declared.Frame.{Frame as calls-Frame}
 use Rattle.calls.specs.Record.{isCall, withMark, allowed, notAllowed}
-use Rattle.calls.specs.Slots.{slot, ownOf, holds, goodTable, countOpen}
+use Rattle.calls.specs.Slots.{slot, ownOf, contains, goodTable, countOpen}
 use Rattle.calls.specs.declared.OwnCall.the-variants.{None as calls-none, One as one}
 use Rattle.calls.specs.Event.{Event as calls-Event, identifier}
 use Rattle.calls.specs.Apart.{EndsCancelled}
@@ -133,7 +133,7 @@ invoke-open = receiver-Runs.invoke-open
 pub client-late : (s : List ℕ) (g : IsGood s) (start : State) (past : ℕ → Past) (st : Reflected (tableOf s) (start .calls) (start .tallies) past) →
     let T = tableOf s in
     (es : List receiver-Event) (i : Input) (f : calls-Frame) (w : Front (i .side) (i .bytes) f) (m : ℕ) (b : Elements) (h : List ℕ)
-    → pastIn s start past es (f .correlation) ≡ since m b h → cancelled h ≡ true → f .side ≡ 67 → holds (f .kind) (2 ∷ 3 ∷ 8 ∷ []) ≡ true
+    → pastIn s start past es (f .correlation) ≡ since m b h → cancelled h ≡ true → f .side ≡ 67 → contains (f .kind) (2 ∷ 3 ∷ 8 ∷ []) ≡ true
     → let a = answerAfter s start es i .answer in
     (same T f m ≡ false → a .number ≡ 12) × (same T f m ≡ true → a .number ≡ 14)
 client-late = receiver-Runs.client-late

@@ -72,12 +72,12 @@ fresh-few = receiver-Runs.fresh-few
 -- The contracts of `arf::receive` and `arf::release` fix every lent row.
 
 -- What holds of the number, the records and the row of method m where the answer stops, and of every step of a frame at the front.
-pub holds-row : (s : List ℕ) (side : ℕ) (bytes sheet : List ℕ) (ts : List Tally) (l : List Call)
+pub answer-holds-row : (s : List ℕ) (side : ℕ) (bytes sheet : List ℕ) (ts : List Tally) (l : List Call)
     (m : ℕ) (P : ℕ → List Call → Tally → Type 0) → ((n q : ℕ) → Stops s bytes l (length ts) n q → P n l (rowFor ts m))
     → ((f : calls-Frame) → Front side bytes f → TablesReady s l (length ts) → (reading : Payload → ℕ) →
     let r = receive (tableOf s) f reading l in P (r .number) (r .table .slots) (rowAfter m (frameRise s f l) (r .number) (rowFor ts m)))
     → let a = received s side bytes sheet ts l in P (a .answer .number) (a .answer .table .slots) (rowFor (a .tallies) m)
-holds-row = receiver-Kept.holds-row
+answer-holds-row = receiver-Kept.answer-holds-row
 
 -- What holds of the number, the records and the row of method m where it stops at a fault of the tables, and of every release that is judged.
 pub release-holds-row : (s : List ℕ) (l : List Call) (id : ℕ) (ts : List Tally)

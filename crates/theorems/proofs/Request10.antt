@@ -17,7 +17,7 @@ use Rattle.value.specs.Value.{Value, Values, node}
 use Rattle.value.specs.Spell.{RootSpells, MapsSmall, Spells, keysOf}
 use Rattle.value.specs.declared.Row.{Row as value-Row}
 use Rattle.value.specs.Fits.{Shows}
-use Rattle.value.specs.Comparisons.{due, pairsAmong, mapDue, comparisons, rowsDue}
+use Rattle.value.specs.Comparisons.{keyComparisons, pairsAmong, mapComparisons, comparisons, rowsComparisons}
 use Rattle.value.specs.Read.{plan, parse, read, accepted}
 use Rattle.value.specs.Write.{show}
 use Rattle.reader.specs.Entry.{readOutcome, outcome as reader-outcome}
@@ -26,7 +26,7 @@ use Rattle.receiver.specs.Receive.{received}
 use Rattle.promises.specs.Claims.{shapes, firstRows}
 use Rattle.calls.proofs.Used as calls-Used
 use Rattle.value.proofs.Statements as value-Statements
-use Rattle.receiver.proofs.Due as receiver-Due
+use Rattle.receiver.proofs.Comparisons as receiver-Comparisons
 use Rattle.promises.proofs.Reading as promises-Reading
 
 -- "Maps get at most 64 pairs, a premise demands 2 and 3 carry from here."
@@ -45,23 +45,23 @@ shown-small = value-Statements.shown-small
 -- The number is a function of the value, `value/specs/Comparisons.comparisons`.
 
 -- Those of n keys are the pairs of an earlier key and a later one.
-pub due-pairs : (n : ℕ) → due n ≡ pairsAmong n
-due-pairs = value-Statements.due-pairs
+pub comparisons-pairs : (n : ℕ) → keyComparisons n ≡ pairsAmong n
+comparisons-pairs = value-Statements.comparisons-pairs
 
 -- Of n keys it is n(n-1)/2.
-pub due-half : (n : ℕ) → 2 * due n ≡ n * (n - 1)
-due-half = value-Statements.due-half
+pub comparisons-half : (n : ℕ) → 2 * keyComparisons n ≡ n * (n - 1)
+comparisons-half = value-Statements.comparisons-half
 
 -- A composite's own comparisons are those of each later one of its keys with each earlier one.
-pub own-due : (T : Table) (good : GoodSchema T) (t : ℕ) (d h : ℕ) (vs : Values) (u : List ℕ) → Spells (shape T) d t (node h vs) u
-    → mapDue (shape T t) h ≡ pairsAmong (length (keysOf (plan (shape T t) h) vs))
-own-due = value-Statements.own-due
+pub own-comparisons : (T : Table) (good : GoodSchema T) (t : ℕ) (d h : ℕ) (vs : Values) (u : List ℕ) → Spells (shape T) d t (node h vs) u
+    → mapComparisons (shape T t) h ≡ pairsAmong (length (keysOf (plan (shape T t) h) vs))
+own-comparisons = value-Statements.own-comparisons
 
 -- The comparisons answered are those of any value that the rows show, which are those that its rows count.
 pub comparisons-of : (s : List ℕ) (ty : ℕ) (payload sheet : List ℕ) (k place n c : ℕ) (after : List ℕ)
     (e : readOutcome s ty payload sheet ≡ reader-outcome (Shown k place n c) after)
     (fs : List Field) → shapes s ty ≡ struct fs → (v : Value) → Shows (shapes s) payload ty fs (firstRows k after) v
-    → (c ≡ comparisons (shapes s) v ty) × (c ≡ rowsDue (shapes s) (firstRows k after))
+    → (c ≡ comparisons (shapes s) v ty) × (c ≡ rowsComparisons (shapes s) (firstRows k after))
 comparisons-of = promises-Reading.comparisons-of
 
 -- Computed: `value/Examples.read-keys`.
@@ -79,7 +79,7 @@ comparisons-within = promises-Reading.comparisons-within
 -- For any frame and call table.
 pub receiver-comparisons-within : (s : List ℕ) (side : ℕ) (bytes sheet : List ℕ) (ts : List Tally) (l : List Call)
     → received s side bytes sheet ts l .answer .comparisons ≤ 258048
-receiver-comparisons-within = receiver-Due.comparisons-within
+receiver-comparisons-within = receiver-Comparisons.comparisons-within
 
 -- Of a good table alone.
 pub value-comparisons-within : (T : Table) (good : GoodSchema T) (t : ℕ)

@@ -58,38 +58,38 @@ module _ (ours theirs : Table) (good : GoodSchema ours) (good′ : GoodSchema th
   gains = gained-fields (shape ours) (shape theirs) (length (ours .types)) x t l fs st
 
   -- A payload is accepted with exactly the rows of a tree that fits it and delimits its bytes by theirs, without the added fields: no cell is free.
-  pub rows-beside : (payload : List ℕ) (room : ℕ) (rs : List Row) (place n due : ℕ)
-      → (readBeside ours theirs t payload room ≡ accepted rs place n due) ↔ DelimitedBeside (shape ours) (shape theirs) t payload room rs place n due
+  pub rows-beside : (payload : List ℕ) (room : ℕ) (rs : List Row) (place n compared : ℕ)
+      → (readBeside ours theirs t payload room ≡ accepted rs place n compared) ↔ DelimitedBeside (shape ours) (shape theirs) t payload room rs place n compared
   unfolding readBeside
-  rows-beside payload room rs place n due = (
-    beside.beside-delimited (shape ours) (shape theirs) (length (ours .types)) x t l fs st payload room rs place n due,
-    beside.delimited-beside (shape ours) (shape theirs) (length (ours .types)) x t l fs st payload room rs place n due,
+  rows-beside payload room rs place n compared = (
+    beside.beside-delimited (shape ours) (shape theirs) (length (ours .types)) x t l fs st payload room rs place n compared,
+    beside.delimited-beside (shape ours) (shape theirs) (length (ours .types)) x t l fs st payload room rs place n compared,
   )
 
   -- What is accepted their own reader accepts, given room for its rows, with the same tail and the same key comparisons due. The rows shown here are some
   -- of its rows, with type, place and length as there.
-  pub theirs-accepts : (payload : List ℕ) (room : ℕ) (rs : List Row) (place n due : ℕ) → readBeside ours theirs t payload room ≡ accepted rs place n due
-      → (rs′ : List Row) × SomeOf rs rs′ × ((room′ : ℕ) → length rs′ ≤ room′ → read theirs t payload room′ ≡ accepted rs′ place n due)
-  theirs-accepts payload room rs place n due e =
-      let (tree, d, r, c, _) = rows-beside payload room rs place n due .0 e in
-      (rows tree, rw r at (laws.pruned-rows (shape ours) tree t), λ room′ f. rows-delimit theirs good′ t payload room′ (rows tree) place n due .1 (tree, d, refl, c, f))
+  pub theirs-accepts : (payload : List ℕ) (room : ℕ) (rs : List Row) (place n compared : ℕ) → readBeside ours theirs t payload room ≡ accepted rs place n compared
+      → (rs′ : List Row) × SomeOf rs rs′ × ((room′ : ℕ) → length rs′ ≤ room′ → read theirs t payload room′ ≡ accepted rs′ place n compared)
+  theirs-accepts payload room rs place n compared e =
+      let (tree, d, r, c, _) = rows-beside payload room rs place n compared .0 e in
+      (rows tree, rw r at (laws.pruned-rows (shape ours) tree t), λ room′ f. rows-delimit theirs good′ t payload room′ (rows tree) place n compared .1 (tree, d, refl, c, f))
 
   -- They are never above 258,048.
-  pub comparisons-within : (payload : List ℕ) (room : ℕ) (rs : List Row) (place n due : ℕ) → readBeside ours theirs t payload room ≡ accepted rs place n due
-      → due ≤ 258048
-  comparisons-within payload room rs place n due e =
-      let (rs′, _, h) = theirs-accepts payload room rs place n due e in
-      statements.comparisons-within theirs good′ t payload (length rs′) rs′ place n due (h (length rs′) (omega arith))
+  pub comparisons-within : (payload : List ℕ) (room : ℕ) (rs : List Row) (place n compared : ℕ) → readBeside ours theirs t payload room ≡ accepted rs place n compared
+      → compared ≤ 258048
+  comparisons-within payload room rs place n compared e =
+      let (rs′, _, h) = theirs-accepts payload room rs place n compared e in
+      statements.comparisons-within theirs good′ t payload (length rs′) rs′ place n compared (h (length rs′) (omega arith))
 
   module _ (fs′ : List Field) (st′ : shape theirs t ≡ struct fs′) where
     -- A payload is accepted, with rows that show w by ours, exactly where it spells by theirs, within the limits, a value that without its added fields is w.
-    pub shown-iff-spelled : (payload : List ℕ) (room : ℕ) (w : Value) (place n due : ℕ)
-        → ShownAs (shape ours) t payload (readBeside ours theirs t payload room) w place n due
-        ↔ ((v : Value) × (without (shape ours) v t ≡ w) × RightfulBeside (shape ours) (shape theirs) t fs′ payload room v place n due)
+    pub shown-iff-spelled : (payload : List ℕ) (room : ℕ) (w : Value) (place n compared : ℕ)
+        → ShownAs (shape ours) t payload (readBeside ours theirs t payload room) w place n compared
+        ↔ ((v : Value) × (without (shape ours) v t ≡ w) × RightfulBeside (shape ours) (shape theirs) t fs′ payload room v place n compared)
     unfolding readBeside
-    shown-iff-spelled payload room w place n due = (
-      beside.beside-rightful (shape ours) (shape theirs) (length (ours .types)) x t l fs st payload room fs′ st′ place n due w,
-      λ (v, e, q). rw e at (beside.rightful-beside (shape ours) (shape theirs) (length (ours .types)) x t l fs st payload room fs′ st′ place n due v q),
+    shown-iff-spelled payload room w place n compared = (
+      beside.beside-rightful (shape ours) (shape theirs) (length (ours .types)) x t l fs st payload room fs′ st′ place n compared w,
+      λ (v, e, q). rw e at (beside.rightful-beside (shape ours) (shape theirs) (length (ours .types)) x t l fs st payload room fs′ st′ place n compared v q),
     )
 
     -- A refusal is one that their reader gives, with any room; or it is 30, for a payload that is otherwise right.
@@ -120,15 +120,15 @@ module _ (ours theirs : Table) (good : GoodSchema ours) (good′ : GoodSchema th
         (v, rw g at s, λ room′ f. shown-iff-spelled out room′ _ (length out) 0 _ .1 (v, refl, (tail, q, short, f, h, p, refl)))
 
     -- What is shown here and accepted by our plain writer comes back with the same known fields, and those only.
-    pub shown-then-written : (payload : List ℕ) (room : ℕ) (rs : List Row) (place n due : ℕ) → readBeside ours theirs t payload room ≡ accepted rs place n due
+    pub shown-then-written : (payload : List ℕ) (room : ℕ) (rs : List Row) (place n compared : ℕ) → readBeside ours theirs t payload room ≡ accepted rs place n compared
         → (room′ : ℕ) (out : List ℕ) → write ours t rs payload room′ ≡ written out
-        → (v : Value) × RightfulBeside (shape ours) (shape theirs) t fs′ payload room v place n due
+        → (v : Value) × RightfulBeside (shape ours) (shape theirs) t fs′ payload room v place n compared
         × ReadAs (shape ours) t fs out (read ours t out room) (without (shape ours) v t) (length out) 0
-    shown-then-written payload room rs place n due e room′ out k =
-        let (_, _, _, _, f) = rows-beside payload room rs place n due .0 e in
+    shown-then-written payload room rs place n compared e room′ out k =
+        let (_, _, _, _, f) = rows-beside payload room rs place n compared .0 e in
         let (fs″, w, st″, s, a) = read-back ours good t rs payload room′ out k room f in
         let g : fs″ ≡ fs = cc in
-        let (v, u, q) = shown-iff-spelled payload room w place n due .0 (rs, e, telling.shows-known (shape ours) t fs″ st″ payload w rs s) in
+        let (v, u, q) = shown-iff-spelled payload room w place n compared .0 (rs, e, telling.shows-known (shape ours) t fs″ st″ payload w rs s) in
         (v, q, rw (g, ← u) at a)
 
 -- Every refusal is one of the list.
@@ -146,8 +146,8 @@ module _ (ours theirs : Table) (good : GoodSchema ours) (good′ : GoodSchema th
   l′ = shape-known ours good t (λ e. differ cc)
 
   -- Where the base reader accepts too, it shows the same value, by the same rows but for the root's length, which here reaches over the added fields.
-  pub both-accept : (room′ : ℕ) (rs rs′ : List Row) (place place′ n n′ due due′ : ℕ) → read ours t payload room ≡ accepted rs place n due
-      → readBeside ours theirs t payload room′ ≡ accepted rs′ place′ n′ due′
+  pub both-accept : (room′ : ℕ) (rs rs′ : List Row) (place place′ n n′ compared compared′ : ℕ) → read ours t payload room ≡ accepted rs place n compared
+      → readBeside ours theirs t payload room′ ≡ accepted rs′ place′ n′ compared′
       → (rs′ ≡ rootLength place′ rs) × ((v : Value) × Shows (shape ours) payload t fs rs v × ShowsKnown (shape ours) payload t rs′ v)
   unfolding read readBeside
   both-accept = beside.both-accept (shape ours) (shape theirs) (length (ours .types)) (good-extension ours theirs good good′ extends) t l′ fs gs st st′ payload room

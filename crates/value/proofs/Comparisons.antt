@@ -17,7 +17,7 @@ use Rattle.value.specs.declared.Row.{Row}
 use Rattle.value.specs.Value.{Tree, tip, branch, Forest, stop, plus, rows, rowsAll, Value, leaf, node, Values, none, some, value, values}
 use Rattle.value.specs.Plan.{Item, plainItem, present, plan}
 use Rattle.value.specs.Read.{rootStruct}
-use Rattle.value.specs.Comparisons.{due, mapDue, comparisons, comparisonsAll, rowsDue, sum, pairsAmong}
+use Rattle.value.specs.Comparisons.{keyComparisons, mapComparisons, comparisons, comparisonsAll, rowsComparisons, sum, pairsAmong}
 use Rattle.value.specs.Spell.{HeadSpells, AllSpell, keysOf, Spells, RootSpells}
 use Rattle.value.specs.Fits.{LeafFits, HeadFits, AllFit, Fits, RootFits, Shows}
 use Rattle.schema.specs.Extend.{Grows, same, gains}
@@ -31,17 +31,17 @@ use Rattle.value.proofs.TwoTables.{Below, plan-below}
 
 -- ---- of n keys
 
-due-square : (n : ℕ) → 2 * due n + n ≡ n * n
-unfolding due
-due-square zero = refl
-due-square (suc n) = rw (suc-mul, mul-suc) (omega (arith, due-square n))
+comparisons-square : (n : ℕ) → 2 * keyComparisons n + n ≡ n * n
+unfolding keyComparisons
+comparisons-square zero = refl
+comparisons-square (suc n) = rw (suc-mul, mul-suc) (omega (arith, comparisons-square n))
 
-pub due-half : (n : ℕ) → 2 * due n ≡ n * (n - 1)
-unfolding due
-due-half zero = refl
-due-half (suc n) =
+pub comparisons-half : (n : ℕ) → 2 * keyComparisons n ≡ n * (n - 1)
+unfolding keyComparisons
+comparisons-half zero = refl
+comparisons-half (suc n) =
     let e : suc n - 1 ≡ n = omega arith in
-    rw e (omega (arith, due-square (suc n), mul-suc (suc n) n))
+    rw e (omega (arith, comparisons-square (suc n), mul-suc (suc n) n))
 
 below : (n j : ℕ) → sum n (λ i. cond (ltb i j) 1 0) ≡ min n j
 below zero j = omega arith
@@ -51,18 +51,18 @@ below (suc n) j = go (ltb n j) refl (below n j)
     go true e h = omega (arith, ltb-true n j e)
     go false e h = omega (arith, ltb-false n j e)
 
-rises : (m n : ℕ) → n ≤ m → sum n (λ j. sum m (λ i. cond (ltb i j) 1 0)) ≡ due n
-unfolding due
+rises : (m n : ℕ) → n ≤ m → sum n (λ j. sum m (λ i. cond (ltb i j) 1 0)) ≡ keyComparisons n
+unfolding keyComparisons
 rises m zero h = refl
 rises m (suc n) h = omega (arith, rises m n (omega arith), below m n)
 
 -- They are the pairs of an earlier key and a later one.
-pub due-pairs : (n : ℕ) → due n ≡ pairsAmong n
-due-pairs n = sym (rises n n (omega arith))
+pub comparisons-pairs : (n : ℕ) → keyComparisons n ≡ pairsAmong n
+comparisons-pairs n = sym (rises n n (omega arith))
 
 -- A map of 64 pairs at most has 63 for each two pairs at most.
-pub due-few : (n : ℕ) → n ≤ 64 → 2 * due n ≤ 63 * n
-due-few n h = omega (arith, due-square n, mul-le-mul-right n h)
+pub comparisons-few : (n : ℕ) → n ≤ 64 → 2 * keyComparisons n ≤ 63 * n
+comparisons-few n h = omega (arith, comparisons-square n, mul-le-mul-right n h)
 
 -- ---- of a composite's own keys
 
@@ -75,87 +75,87 @@ unkeyed-keys [] vs u = refl
 unkeyed-keys (i ∷ is) none u = refl
 unkeyed-keys (i ∷ is) (some v vs) u = rw (u .0) (unkeyed-keys is vs (u .1))
 
-own-keys : (P : ℕ → Value → List ℕ → Type 0) (s : Shape) (h : ℕ) (vs : Values) (u : List ℕ) → AllSpell P (plan s h) vs u → mapDue s h ≡ due (length (keysOf (plan s h) vs))
-unfolding due
-own-keys P (map k v) h vs u q = ap due (sym (pair-keys P h k v vs u q .0))
-own-keys P (array e) h vs u q = ap due (sym (unkeyed-keys (plan (array e) h) vs (replicate-unkeyed h e)))
-own-keys P (struct fs) h vs u q = ap due (sym (unkeyed-keys (present fs h) vs (present-unkeyed fs h)))
+own-keys : (P : ℕ → Value → List ℕ → Type 0) (s : Shape) (h : ℕ) (vs : Values) (u : List ℕ) → AllSpell P (plan s h) vs u → mapComparisons s h ≡ keyComparisons (length (keysOf (plan s h) vs))
+unfolding keyComparisons
+own-keys P (map k v) h vs u q = ap keyComparisons (sym (pair-keys P h k v vs u q .0))
+own-keys P (array e) h vs u q = ap keyComparisons (sym (unkeyed-keys (plan (array e) h) vs (replicate-unkeyed h e)))
+own-keys P (struct fs) h vs u q = ap keyComparisons (sym (unkeyed-keys (present fs h) vs (present-unkeyed fs h)))
 own-keys P unknown h vs u q = refl
 own-keys P (scalar _) h vs u q = refl
 own-keys P (text _) h vs u q = refl
 
 -- Each later one with each earlier one.
-pub own-due : (S : ℕ → Shape) (d t h : ℕ) (vs : Values) (u : List ℕ) → Spells S d t (node h vs) u → mapDue (S t) h ≡ pairsAmong (length (keysOf (plan (S t) h) vs))
-own-due S zero t h vs u q = absurd q
-own-due S (suc d) t h vs u q = own-keys (Spells S d) (S t) h vs (q .1) (q .4) ∙ due-pairs (length (keysOf (plan (S t) h) vs))
+pub own-comparisons : (S : ℕ → Shape) (d t h : ℕ) (vs : Values) (u : List ℕ) → Spells S d t (node h vs) u → mapComparisons (S t) h ≡ pairsAmong (length (keysOf (plan (S t) h) vs))
+own-comparisons S zero t h vs u q = absurd q
+own-comparisons S (suc d) t h vs u q = own-keys (Spells S d) (S t) h vs (q .1) (q .4) ∙ comparisons-pairs (length (keysOf (plan (S t) h) vs))
 
 -- ---- from rows
 
 module _ (S : ℕ → Shape) where
-  pub due-append : (rs qs : List Row) → rowsDue S (rs ++ qs) ≡ rowsDue S rs + rowsDue S qs
-  unfolding rowsDue
-  due-append [] qs = omega arith
-  due-append (r ∷ rs) qs = omega (arith, due-append rs qs)
+  pub comparisons-append : (rs qs : List Row) → rowsComparisons S (rs ++ qs) ≡ rowsComparisons S rs + rowsComparisons S qs
+  unfolding rowsComparisons
+  comparisons-append [] qs = omega arith
+  comparisons-append (r ∷ rs) qs = omega (arith, comparisons-append rs qs)
 
 module _ (B : List ℕ) where
   -- A leaf's row has no pairs, and a composite's row has the count of its head.
-  leaf-due : (s : Shape) (p n c : ℕ) (x : List ℕ) → LeafFits B s p n c x → mapDue s c ≡ 0
-  leaf-due (scalar _) p n c x q = refl
-  leaf-due (text _) p n c x q = refl
-  leaf-due unknown p n c x q = refl
-  leaf-due (array _) p n c x q = refl
-  leaf-due (map _ _) p n c x q = absurd q
-  leaf-due (struct _) p n c x q = refl
+  leaf-comparisons : (s : Shape) (p n c : ℕ) (x : List ℕ) → LeafFits B s p n c x → mapComparisons s c ≡ 0
+  leaf-comparisons (scalar _) p n c x q = refl
+  leaf-comparisons (text _) p n c x q = refl
+  leaf-comparisons unknown p n c x q = refl
+  leaf-comparisons (array _) p n c x q = refl
+  leaf-comparisons (map _ _) p n c x q = absurd q
+  leaf-comparisons (struct _) p n c x q = refl
 
-  head-due : (s : Shape) (p c h : ℕ) → HeadFits B s p c h → mapDue s c ≡ mapDue s h
-  head-due (map _ _) p c h q = ap due (q .0)
-  head-due (array _) p c h q = refl
-  head-due (struct _) p c h q = refl
-  head-due unknown p c h q = refl
-  head-due (scalar _) p c h q = refl
-  head-due (text _) p c h q = refl
+  head-comparisons : (s : Shape) (p c h : ℕ) → HeadFits B s p c h → mapComparisons s c ≡ mapComparisons s h
+  head-comparisons (map _ _) p c h q = ap keyComparisons (q .0)
+  head-comparisons (array _) p c h q = refl
+  head-comparisons (struct _) p c h q = refl
+  head-comparisons unknown p c h q = refl
+  head-comparisons (scalar _) p c h q = refl
+  head-comparisons (text _) p c h q = refl
 
   module _ (S : ℕ → Shape) where
-    all-due : (d : ℕ) → ((t : ℕ) (tree : Tree) → Fits S B d t tree → comparisons S (value tree) t ≡ rowsDue S (rows tree))
-        → (is : List Item) (ts : Forest) → AllFit (Fits S B d) is ts → comparisonsAll S (values ts) is ≡ rowsDue S (rowsAll ts)
-    unfolding comparisonsAll values rowsAll rowsDue
-    all-due d h [] stop q = refl
-    all-due d h [] (plus t ts) q = absurd q
-    all-due d h (i ∷ is) stop q = absurd q
-    all-due d h (i ∷ is) (plus t ts) q = ap₂ (λ (a b : ℕ). a + b) (h (i .type) t (q .0)) (all-due d h is ts (q .1)) ∙ sym (due-append S (rows t) (rowsAll ts))
+    all-comparisons : (d : ℕ) → ((t : ℕ) (tree : Tree) → Fits S B d t tree → comparisons S (value tree) t ≡ rowsComparisons S (rows tree))
+        → (is : List Item) (ts : Forest) → AllFit (Fits S B d) is ts → comparisonsAll S (values ts) is ≡ rowsComparisons S (rowsAll ts)
+    unfolding comparisonsAll values rowsAll rowsComparisons
+    all-comparisons d h [] stop q = refl
+    all-comparisons d h [] (plus t ts) q = absurd q
+    all-comparisons d h (i ∷ is) stop q = absurd q
+    all-comparisons d h (i ∷ is) (plus t ts) q = ap₂ (λ (a b : ℕ). a + b) (h (i .type) t (q .0)) (all-comparisons d h is ts (q .1)) ∙ sym (comparisons-append S (rows t) (rowsAll ts))
 
     -- The comparisons due in a value are those that the rows of its tree count.
-    pub tree-due : (d t : ℕ) (tree : Tree) → Fits S B d t tree → comparisons S (value tree) t ≡ rowsDue S (rows tree)
-    unfolding comparisons value rows rowsDue
-    tree-due zero t tree q = absurd q
-    tree-due (suc d) t (tip r x) q =
-        let a : mapDue (S (r .ty)) (r .count) ≡ mapDue (S t) (r .count) = ap (λ (k : ℕ). mapDue (S k) (r .count)) (q .0) in
-        omega (arith, a, leaf-due (S t) (r .place) (r .length) (r .count) x (q .1))
-    tree-due (suc d) t (branch r h ts) q =
-        let a : mapDue (S (r .ty)) (r .count) ≡ mapDue (S t) (r .count) = ap (λ (k : ℕ). mapDue (S k) (r .count)) (q .0) in
-        omega (arith, a, head-due (S t) (r .place) (r .count) h (q .1), all-due d (tree-due d) (plan (S t) h) ts (q .2))
+    pub tree-comparisons : (d t : ℕ) (tree : Tree) → Fits S B d t tree → comparisons S (value tree) t ≡ rowsComparisons S (rows tree)
+    unfolding comparisons value rows rowsComparisons
+    tree-comparisons zero t tree q = absurd q
+    tree-comparisons (suc d) t (tip r x) q =
+        let a : mapComparisons (S (r .ty)) (r .count) ≡ mapComparisons (S t) (r .count) = ap (λ (k : ℕ). mapComparisons (S k) (r .count)) (q .0) in
+        omega (arith, a, leaf-comparisons (S t) (r .place) (r .length) (r .count) x (q .1))
+    tree-comparisons (suc d) t (branch r h ts) q =
+        let a : mapComparisons (S (r .ty)) (r .count) ≡ mapComparisons (S t) (r .count) = ap (λ (k : ℕ). mapComparisons (S k) (r .count)) (q .0) in
+        omega (arith, a, head-comparisons (S t) (r .place) (r .count) h (q .1), all-comparisons d (tree-comparisons d) (plan (S t) h) ts (q .2))
 
-    pub root-due : (t : ℕ) (fs : List Field) → S t ≡ struct fs → (tree : Tree) → RootFits S B t fs tree → comparisons S (value tree) t ≡ rowsDue S (rows tree)
-    unfolding comparisons value rows rowsDue
-    root-due t fs st (tip r x) q = absurd q
-    root-due t fs st (branch r h ts) q =
-        let a : mapDue (S (r .ty)) (r .count) ≡ 0 = ap (λ (k : ℕ). mapDue (S k) (r .count)) (q .1) ∙ rw st in
-        rw (a, st) (omega (arith, all-due 15 (tree-due 15) (plan (struct fs) h) ts (q .5)))
+    pub root-comparisons : (t : ℕ) (fs : List Field) → S t ≡ struct fs → (tree : Tree) → RootFits S B t fs tree → comparisons S (value tree) t ≡ rowsComparisons S (rows tree)
+    unfolding comparisons value rows rowsComparisons
+    root-comparisons t fs st (tip r x) q = absurd q
+    root-comparisons t fs st (branch r h ts) q =
+        let a : mapComparisons (S (r .ty)) (r .count) ≡ 0 = ap (λ (k : ℕ). mapComparisons (S k) (r .count)) (q .1) ∙ rw st in
+        rw (a, st) (omega (arith, all-comparisons 15 (tree-comparisons 15) (plan (struct fs) h) ts (q .5)))
 
     -- The same of what the reader sees.
-    pub read-due : (t : ℕ) (fs : List Field) → S t ≡ struct fs → (tree : Tree) (end : Cursor) → rootStruct S t fs (cursorAt B 0) ≡ seen tree end
-        → comparisons S (value tree) t ≡ rowsDue S (rows tree)
-    read-due t fs st tree end e = root-due t fs st tree (seen-end (root-placed B S t fs (cursorAt B 0) (refl, zero-le)) e .1)
+    pub read-comparisons : (t : ℕ) (fs : List Field) → S t ≡ struct fs → (tree : Tree) (end : Cursor) → rootStruct S t fs (cursorAt B 0) ≡ seen tree end
+        → comparisons S (value tree) t ≡ rowsComparisons S (rows tree)
+    read-comparisons t fs st tree end e = root-comparisons t fs st tree (seen-end (root-placed B S t fs (cursorAt B 0) (refl, zero-le)) e .1)
 
-pub shown-due : (S : ℕ → Shape) (t : ℕ) (fs : List Field) → S t ≡ struct fs → (B : List ℕ) (rs : List Row) (v : Value) → Shows S B t fs rs v
-    → comparisons S v t ≡ rowsDue S rs
-shown-due S t fs st B rs v (tree, r, f, e) = rw (e, r) at (root-due B S t fs st tree f)
+pub shown-comparisons : (S : ℕ → Shape) (t : ℕ) (fs : List Field) → S t ≡ struct fs → (B : List ℕ) (rs : List Row) (v : Value) → Shows S B t fs rs v
+    → comparisons S v t ≡ rowsComparisons S rs
+shown-comparisons S t fs st B rs v (tree, r, f, e) = rw (e, r) at (root-comparisons B S t fs st tree f)
 
 -- ---- the bound
 
 -- A map's own are 63 for each 4 of its keys and values at most.
-head-few : (s : Shape) (h : ℕ) (u : List ℕ) → HeadSpells s h u → 4 * mapDue s h ≤ 63 * length (plan s h)
-head-few (map k v) h u q = omega (arith, due-few h (q .1), length-pairs h k v)
+head-few : (s : Shape) (h : ℕ) (u : List ℕ) → HeadSpells s h u → 4 * mapComparisons s h ≤ 63 * length (plan s h)
+head-few (map k v) h u q = omega (arith, comparisons-few h (q .1), length-pairs h k v)
 head-few (array _) h u q = omega arith
 head-few (struct _) h u q = omega arith
 head-few unknown h u q = omega arith
@@ -190,7 +190,7 @@ module _ (S : ℕ → Shape) (solid : (t : ℕ) → Solid (S t)) where
 
 -- ---- by an old table and by one that extends it
 
-grown-same : {s s′ : Shape} → Grows s s′ → (h : ℕ) (u : List ℕ) → HeadSpells s h u → (plan s′ h ≡ plan s h) × (mapDue s′ h ≡ mapDue s h)
+grown-same : {s s′ : Shape} → Grows s s′ → (h : ℕ) (u : List ℕ) → HeadSpells s h u → (plan s′ h ≡ plan s h) × (mapComparisons s′ h ≡ mapComparisons s h)
 grown-same (same _) h u q = (refl, refl)
 grown-same (gains fs gs o) h u q = (present-gain fs gs h (q .1), refl)
 

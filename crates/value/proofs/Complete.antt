@@ -19,7 +19,7 @@ use Rattle.value.specs.Read.{Item, plain, parts, plainItem, pairs, plan,
 use Rattle.value.specs.Spell.{LeafSpells, BitmapSpells, HeadSpells, AllSpell, WholeSpells, Spells}
 use Rattle.value.specs.Reasons.{least}
 use Rattle.value.proofs.Shapes.{Solid}
-use Rattle.value.proofs.Keys.{Fresh, apart-fresh}
+use Rattle.value.proofs.Keys.{Fresh, distinct-fresh}
 
 leaf-takes : (s : Shape) → Solid s → (x u : List ℕ) → LeafSpells s x u → 0 < length u
 leaf-takes (scalar kind) h x u q = rw (q .0, q .1) h
@@ -120,7 +120,7 @@ module _ (P : ℕ → Value → List ℕ → Type 0) (pos : (t : ℕ) (v : Value
     whole-complete t s (leaf x) u rest c q l = yields-then (leaf-complete s x u rest c q l) (λ o c′ w. rw (w .0) (gives (refl, w .1)))
     whole-complete t s (node h vs) u rest c q l =
         yields-then (head-complete s h (q .0) (q .1 ++ rest) c (q .3) (l ∙ rw (q .2, append-assoc)) (simp length-append (omega (arith, least-plan s h (q .0) (q .3), all-take P pos (plan s h) vs (q .1) (q .4))))) (λ o c′ w.
-        rw (w .1) (yields-then (walk-complete [] (plan s h) vs (q .1) rest c′ (q .4) (apart-fresh (plan s h) vs (q .5)) (w .2)) (λ ts c″ w′. gives (rw (w′ .0), w′ .1))))
+        rw (w .1) (yields-then (walk-complete [] (plan s h) vs (q .1) rest c′ (q .4) (distinct-fresh (plan s h) vs (q .5)) (w .2)) (λ ts c″ w′. gives (rw (w′ .0), w′ .1))))
 
 module _ (S : ℕ → Shape) (solid : (t : ℕ) → Solid (S t)) where
   pub parse-complete : (d t : ℕ) (v : Value) (u rest : List ℕ) (c : Cursor) → Spells S d t v u → c .left ≡ u ++ rest

@@ -18,7 +18,7 @@ use Rattle.value.specs.Read.{Item, Own, plain, parts, plan, rowCount, le
 use Rattle.value.specs.Spell.{LeafSpells, HeadSpells, AllSpell, Spells, RootSpells}
 use Rattle.value.specs.Fits.{LeafFits}
 use Rattle.value.specs.Delimits.{AllStand, NodeSpan, firstAt, Delimits, RootDelimits}
-use Rattle.value.proofs.Keys.{Fresh, fresh-apart}
+use Rattle.value.proofs.Keys.{Fresh, fresh-distinct}
 use Rattle.value.proofs.Sound.{bitmap-reads, OwnSpells, own-reads, walk-reads, parse-reads}
 use Rattle.value.proofs.Root.{ending-sound, root-sound}
 use Rattle.value.proofs.Placed.{OwnFits, own-placed}
@@ -119,7 +119,7 @@ module _ (B : List ℕ) where
         → NodeSpan (Spells S d) B s h (values ts) start p (end - p) × (p + (end - p) ≡ end) × AllStand (Delimits S B d) (plan s h) ts (firstAt s p) end
     node-stands d (struct fs) p h start mid end ts o l q f a b =
         let z : mid ≡ p + bitmapBytes (length fs) = omega (arith, length-span B start (mid - start) (omega arith), o .0 .0 .0, o .1) in
-        ((o .1, rw (o .1) (_, _, joined start mid end (o .2) l, o .0, q, fresh-apart (plan (struct fs) h) (values ts) f)), omega (arith, o .1, o .2), rw (← z) a)
+        ((o .1, rw (o .1) (_, _, joined start mid end (o .2) l, o .0, q, fresh-distinct (plan (struct fs) h) (values ts) f)), omega (arith, o .1, o .2), rw (← z) a)
     node-stands d (array e) p h start mid end ts o l q f a b = rw (o .1) ((o .2, o .0, q), omega arith, a)
     node-stands d (map k v) p h start mid end ts o l q f a b = rw (o .1) ((o .2, o .0, q), omega arith, a)
     node-stands d unknown p h start mid end ts o l q f a b = absurd (o .0)

@@ -18,7 +18,7 @@ use Rattle.schema.specs.Table.{Shape, unknown, scalar, text, array, map, struct
 use Rattle.value.specs.declared.Row.{Row}
 use Rattle.value.specs.Value.{Tree, tip, branch, Forest, stop, plus, rows, Value, leaf, node, Values, some, value, values}
 use Rattle.value.specs.Read.{Item, plan, rootOf, accepted, reading}
-use Rattle.value.specs.Spell.{keysOf, Apart, WholeSpells, Spells, RootSpells}
+use Rattle.value.specs.Spell.{keysOf, Distinct, WholeSpells, Spells, RootSpells}
 use Rattle.value.specs.Fits.{LeafFits, HeadFits, AllFit, Fits, RootFits}
 use Rattle.value.specs.Delimits.{AllStand, NodeSpan, firstAt, Delimits, RootDelimits}
 use Rattle.value.specs.Claims.{DelimitedTree, Delimited}
@@ -84,7 +84,7 @@ module _ (S : ℕ → Shape) (solid : (t : ℕ) → Solid (S t)) (B : List ℕ) 
 
   -- ---- what is delimited is spelled
 
-  node-spelled : (d : ℕ) (s : Shape) (h start p n end : ℕ) (ts : Forest) → p + n ≡ end → Apart (keysOf (plan s h) (values ts))
+  node-spelled : (d : ℕ) (s : Shape) (h start p n end : ℕ) (ts : Forest) → p + n ≡ end → Distinct (keysOf (plan s h) (values ts))
       → NodeSpan (Spells S d) B s h (values ts) start p n → WholeSpells (Spells S d) s (node h (values ts)) (span B start (end - start))
   node-spelled d (struct fs) h start p n end ts e a o = let k : end - start ≡ n = omega (arith, o .0) in rw (k, ← o .0) (o .1)
   node-spelled d (array _) h start p n end ts e a o =
@@ -235,13 +235,13 @@ module _ (S : ℕ → Shape) (t : ℕ) (payload : List ℕ) where
       let w = determined S solid payload t fs read tree (end .at) place g f (root-delimits payload S t fs read end e) d in
       (end, root-of S t payload fs st short ∙ e ∙ ap (λ (x : Tree). seen x end) (w .0), w .1, omega (arith, root-in S t fs payload read end e .1, w .1))
 
-module _ (S : ℕ → Shape) (t : ℕ) (payload : List ℕ) (room : ℕ) (rs : List Row) (place n due : ℕ) where
-  pub read-delimited : reading S t room (rootOf S t payload) ≡ accepted rs place n due → Delimited S t payload room rs place n due
+module _ (S : ℕ → Shape) (t : ℕ) (payload : List ℕ) (room : ℕ) (rs : List Row) (place n compared : ℕ) where
+  pub read-delimited : reading S t room (rootOf S t payload) ≡ accepted rs place n compared → Delimited S t payload room rs place n compared
   read-delimited e =
-      let (tree, (end, k, r, p, l, c, f)) = accepted-gives rows S t room _ rs place n due e in
+      let (tree, (end, k, r, p, l, c, f)) = accepted-gives rows S t room _ rs place n compared e in
       (tree, rw (p, l) at (read-tree S t payload tree end k), r, c, f)
 
-  pub delimited-read : ((t : ℕ) → Solid (S t)) → Delimited S t payload room rs place n due → reading S t room (rootOf S t payload) ≡ accepted rs place n due
+  pub delimited-read : ((t : ℕ) → Solid (S t)) → Delimited S t payload room rs place n compared → reading S t room (rootOf S t payload) ≡ accepted rs place n compared
   delimited-read solid (tree, d, r, c, f) =
       let (end, k, p, l) = tree-read S t payload solid tree place n d in
-      gives-accepted rows S t room _ rs place n due tree (end, k, r, p, l, c, f)
+      gives-accepted rows S t room _ rs place n compared tree (end, k, r, p, l, c, f)

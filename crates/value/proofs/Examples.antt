@@ -43,7 +43,7 @@ case t p n a = record { type = t; payload = p; room = n; answer = a }
 
 -- The answer to a case, and those to several.
 unfoldable pub answered : Table → ReadCase → Reading
-unfolding read.read read.rootStruct read.rootEnding onesIn read.parse read.walk read.bitmap answer.count read.present read.requiredSet table.shape value.rows value.value comparisons.comparisons comparisons.due
+unfolding read.read read.rootStruct read.rootEnding onesIn read.parse read.walk read.bitmap answer.count read.present read.requiredSet table.shape value.rows value.value comparisons.comparisons comparisons.keyComparisons
 answered T c = read.read T (c .type) (c .payload) (c .room)
 
 unfoldable pub answers : Table → List ReadCase → List Reading

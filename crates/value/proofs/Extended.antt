@@ -157,30 +157,30 @@ module _ (S S′ : ℕ → Shape) (n : ℕ) (x : Extension S S′ n) (t : ℕ) (
     roots-agree = root-agrees S S′ n x t fs gs below (gained .0) (gained .1) (cursorAt payload 0)
 
     -- And both count the same comparisons due in what the old one reads.
-    pub same-due : (tree : Tree) (end : Cursor) → rootStruct S t fs (cursorAt payload 0) ≡ seen tree end → comparisons S′ (value tree) t ≡ comparisons S (value tree) t
-    same-due tree end k =
+    pub same-comparisons : (tree : Tree) (end : Cursor) → rootStruct S t fs (cursorAt payload 0) ≡ seen tree end → comparisons S′ (value tree) t ≡ comparisons S (value tree) t
+    same-comparisons tree end k =
         root-same S S′ n (x .wide) t l fs gs st st′ (value tree) payload (end .left) (seen-end (root-sound S t fs (cursorAt payload 0)) k)
 
     -- What the old reader accepts, with no added field's bit set, the new one accepts with the same rows, tail and comparisons; the rows show the same
     -- value.
-    pub old-by-new : (rs : List Row) (place k due : ℕ) → reading S t room (rootOf S t payload) ≡ accepted rs place k due → NoneAdded fs gs payload
-        → (reading S′ t room (rootOf S′ t payload) ≡ accepted rs place k due)
+    pub old-by-new : (rs : List Row) (place k compared : ℕ) → reading S t room (rootOf S t payload) ≡ accepted rs place k compared → NoneAdded fs gs payload
+        → (reading S′ t room (rootOf S′ t payload) ≡ accepted rs place k compared)
         × ((v : Value) × Shows S payload t fs rs v × Shows S′ payload t (fs ++ gs) rs v)
-    old-by-new rs place k₀ due e bare =
-        let a = accepts S t payload room rs place k₀ due e in
+    old-by-new rs place k₀ compared e bare =
+        let a = accepts S t payload room rs place k₀ compared e in
         let f : a .fs ≡ fs = cc (a .is-struct) in
         let k : rootStruct S t fs (cursorAt payload 0) ≡ seen (a .tree) (a .end) = rw f at (a .reads) in
         let k′ = agrees-accepts (roots-agree bare) k in
-        let d = same-due (a .tree) (a .end) k in (
-          accepted-of S′ t payload room rs place k₀ due
-              (record { fs = fs ++ gs; tree = a .tree; end = a .end; is-struct = st′; reads = k′; has-rows = a .has-rows; has-place = a .has-place; has-length = a .has-length; has-due = d ∙ a .has-due; short = a .short; fits = a .fits }),
+        let d = same-comparisons (a .tree) (a .end) k in (
+          accepted-of S′ t payload room rs place k₀ compared
+              (record { fs = fs ++ gs; tree = a .tree; end = a .end; is-struct = st′; reads = k′; has-rows = a .has-rows; has-place = a .has-place; has-length = a .has-length; has-compared = d ∙ a .has-compared; short = a .short; fits = a .fits }),
           (value (a .tree), rw (a .has-rows) at (root-in S t fs payload (a .tree) (a .end) k .0), rw (a .has-rows) at (root-in S′ t (fs ++ gs) payload (a .tree) (a .end) k′ .0)),
         )
 
     -- No added field's bit is set where the old reader accepts without a tail.
-    pub none-added : (rs : List Row) (place due : ℕ) → reading S t room (rootOf S t payload) ≡ accepted rs place 0 due → NoneAdded fs gs payload
-    none-added rs place due e =
-        let a = accepts S t payload room rs place 0 due e in
+    pub none-added : (rs : List Row) (place compared : ℕ) → reading S t room (rootOf S t payload) ≡ accepted rs place 0 compared → NoneAdded fs gs payload
+    none-added rs place compared e =
+        let a = accepts S t payload room rs place 0 compared e in
         let f : a .fs ≡ fs = cc (a .is-struct) in
         let k : rootStruct S t fs (cursorAt payload 0) ≡ seen (a .tree) (a .end) = rw f at (a .reads) in
         seen-end (tailless S S′ n x t fs gs below (gained .0) (gained .1) (cursorAt payload 0)) k (a .has-length)

@@ -10,7 +10,7 @@ use Rattle.value.specs.Value.{Tree, tip, branch, Forest, stop, plus, Val
 use Rattle.value.specs.Read.{Item, plan}
 use Rattle.value.specs.Spell.{AllSpell, WholeSpells, Spells, RootSpells, EachMap, EachIn, Differ, KeysDiffer, FewPairs, MapsSmall}
 use Rattle.value.specs.Fits.{AllFit, WholeFits, Fits, RootFits, Shows}
-use Rattle.value.proofs.Pairs.{apart-differ}
+use Rattle.value.proofs.Pairs.{distinct-differ}
 
 module _ (Q : (n : ℕ) → Values → Type 0) (S : ℕ → Shape) where
   -- Values that bytes spell.
@@ -64,10 +64,10 @@ module _ (Q : (n : ℕ) → Values → Type 0) (S : ℕ → Shape) where
 module _ (S : ℕ → Shape) (t : ℕ) (fs : List Field) (st : S t ≡ struct fs) where
   -- The keys of each map in a payload's value differ.
   pub root-differs : (v : Value) (p z : List ℕ) → RootSpells S fs v p z → KeysDiffer S v t
-  root-differs = root-each Differ S apart t fs st
+  root-differs = root-each Differ S distinct t fs st
     where
-      apart : (d k w n : ℕ) (vs : Values) (u : List ℕ) → WholeSpells (Spells S d) (map k w) (node n vs) u → Differ n vs
-      apart d k w n vs u q = apart-differ (Spells S d) n k w vs (q .1) (q .4) (q .5)
+      distinct : (d k w n : ℕ) (vs : Values) (u : List ℕ) → WholeSpells (Spells S d) (map k w) (node n vs) u → Differ n vs
+      distinct d k w n vs u q = distinct-differ (Spells S d) n k w vs (q .1) (q .4) (q .5)
 
   -- Each map in a payload's value, and in a value that a sheet shows, has 64 pairs at most.
   pub root-small : (v : Value) (p z : List ℕ) → RootSpells S fs v p z → MapsSmall S v t

@@ -13,7 +13,7 @@ use Rattle.schema.proofs.Shapes.{KeyShape}
 use Rattle.value.specs.declared.Row.{Row}
 use Rattle.value.specs.Value.{Tree, tip, branch, Forest, stop, plus, Value, leaf, node, Values, none, some, value, values, content}
 use Rattle.value.specs.Read.{Item, pairs, plan}
-use Rattle.value.specs.Spell.{HeadSpells, AllSpell, Spells, keysOf, Apart, nth, Differ}
+use Rattle.value.specs.Spell.{HeadSpells, AllSpell, Spells, keysOf, Distinct, nth, Differ}
 use Rattle.value.specs.Fits.{HeadFits, AllFit, Fits}
 use Rattle.value.specs.Reasons.{Due, AmongKeys, KeyAmong}
 use Rattle.value.specs.SheetReasons.{RowDue}
@@ -36,10 +36,10 @@ pair-keys P (suc n) k w (some a (some b vs)) u q = let r = pair-keys P n k w vs 
 
 -- ---- keys whose contents are apart are those that differ as values
 
-pub apart-differ : (P : ℕ → Value → List ℕ → Type 0) (n k w : ℕ) (vs : Values) (u : List ℕ) → AllSpell P (pairs n k w) vs u → Apart (keysOf (pairs n k w) vs) → Differ n vs
-apart-differ P n k w vs u q apart i j l m e =
+pub distinct-differ : (P : ℕ → Value → List ℕ → Type 0) (n k w : ℕ) (vs : Values) (u : List ℕ) → AllSpell P (pairs n k w) vs u → Distinct (keysOf (pairs n k w) vs) → Differ n vs
+distinct-differ P n k w vs u q distinct i j l m e =
     let r = pair-keys P n k w vs u q in
-    apart i j l (rw (r .0) m) (r .1 i (omega arith) ∙ ap content e ∙ sym (r .1 j m))
+    distinct i j l (rw (r .0) m) (r .1 i (omega arith) ∙ ap content e ∙ sym (r .1 j m))
 
 -- Leaves with the same content are the same value.
 same-leaf : (x y : List ℕ) → content (leaf x) ≡ content (leaf y) → leaf x ≡ leaf y
@@ -56,8 +56,8 @@ module _ (P : ℕ → Value → List ℕ → Type 0) (k : ℕ) (leaves : (v : Va
       let e : 2 * suc i ≡ suc (suc (2 * i)) = omega arith in
       rw e (key-leaf n w vs (q .4 .1) (q .4 .4) i (omega arith))
 
-  differ-apart : (n w : ℕ) (vs : Values) (u : List ℕ) → AllSpell P (pairs n k w) vs u → Differ n vs → Apart (keysOf (pairs n k w) vs)
-  differ-apart n w vs u q differs i j l m e =
+  differ-distinct : (n w : ℕ) (vs : Values) (u : List ℕ) → AllSpell P (pairs n k w) vs u → Differ n vs → Distinct (keysOf (pairs n k w) vs)
+  differ-distinct n w vs u q differs i j l m e =
       let r = pair-keys P n k w vs u q in
       let m′ : j < n = rw (r .0) at m in
       let (x, is-x) = key-leaf n w vs u q i (omega arith) in
@@ -65,8 +65,8 @@ module _ (P : ℕ → Value → List ℕ → Type 0) (k : ℕ) (leaves : (v : Va
       let same : content (leaf x) ≡ content (leaf y) = sym (ap content is-x) ∙ sym (r .1 i (omega arith)) ∙ e ∙ r .1 j m′ ∙ ap content is-y in
       differs i j l m′ (is-x ∙ same-leaf x y same ∙ sym is-y)
 
-  apart-iff : (n w : ℕ) (vs : Values) (u : List ℕ) → AllSpell P (pairs n k w) vs u → Apart (keysOf (pairs n k w) vs) ↔ Differ n vs
-  apart-iff n w vs u q = (apart-differ P n k w vs u q, differ-apart n w vs u q)
+  distinct-iff : (n w : ℕ) (vs : Values) (u : List ℕ) → AllSpell P (pairs n k w) vs u → Distinct (keysOf (pairs n k w) vs) ↔ Differ n vs
+  distinct-iff n w vs u q = (distinct-differ P n k w vs u q, differ-distinct n w vs u q)
 
   -- A content is that of one of the keys of m pairs exactly where that key is the same value.
   holds-iff : (m w : ℕ) (vs : Values) (u : List ℕ) → AllSpell P (pairs m k w) vs u → (v : Value) (x : List ℕ) → P k v x
@@ -138,19 +138,19 @@ module _ (S : ℕ → Shape) (k : ℕ) (key : KeyShape (S k)) where
     pub map-iff : (d n : ℕ) (vs : Values) (u : List ℕ) → Spells S (suc d) t (node n vs) u
         ↔ ((x : List ℕ) × (y : List ℕ) × (u ≡ x ++ y) × Spelled n x × (n ≤ 64) × AllSpell (Spells S d) (plan (map k w) n) vs y × Differ n vs)
     map-iff d n vs u = rw is-map (
-      λ (x, y, e, (s, few), q, a). (x, y, e, s, few, q, apart-iff (Spells S d) k (spelled-leaf d) n w vs y q .0 a),
-      λ (x, y, e, s, few, q, a). (x, y, e, (s, few), q, apart-iff (Spells S d) k (spelled-leaf d) n w vs y q .1 a),
+      λ (x, y, e, (s, few), q, a). (x, y, e, s, few, q, distinct-iff (Spells S d) k (spelled-leaf d) n w vs y q .0 a),
+      λ (x, y, e, s, few, q, a). (x, y, e, (s, few), q, distinct-iff (Spells S d) k (spelled-leaf d) n w vs y q .1 a),
     )
 
     pub map-shown-iff : (B : List ℕ) (d n : ℕ) (r : Row) (ts : Forest) → Fits S B (suc d) t (branch r n ts)
         ↔ ((r .ty ≡ t) × (r .count ≡ n) × (n ≤ 64) × AllFit (Fits S B d) (plan (map k w) n) ts × Differ n (values ts))
     map-shown-iff B d n r ts = rw is-map (
-      λ (ty, (c, few), q, a). (ty, c, few, q, apart q .0 a),
-      λ (ty, c, few, q, a). (ty, (c, few), q, apart q .1 a),
+      λ (ty, (c, few), q, a). (ty, c, few, q, distinct q .0 a),
+      λ (ty, c, few, q, a). (ty, (c, few), q, distinct q .1 a),
     )
       where
-        apart : AllFit (Fits S B d) (pairs n k w) ts → Apart (keysOf (pairs n k w) (values ts)) ↔ Differ n (values ts)
-        apart q = apart-iff (Fitted (Fits S B d)) k (fitted-leaf B d) n w (values ts) [] (all-fitted (Fits S B d) (pairs n k w) ts q)
+        distinct : AllFit (Fits S B d) (pairs n k w) ts → Distinct (keysOf (pairs n k w) (values ts)) ↔ Differ n (values ts)
+        distinct q = distinct-iff (Fitted (Fits S B d)) k (fitted-leaf B d) n w (values ts) [] (all-fitted (Fits S B d) (pairs n k w) ts q)
 
     -- The reason of 24, in bytes and in rows: of the m pairs before the later key one has the same value as its key.
     pub repeated-iff : {d : ℕ} {u y left : List ℕ} {i : Item} {earlier : List (List ℕ)} (q : Due S d (S t) u y left i earlier) → i .key ≡ true

@@ -14,7 +14,7 @@ use Rattle.schema.specs.Table.{Shape, unknown, scalar, text, array, map, struct
 use Rattle.value.specs.Value.{Tree, tip, branch, values}
 use Rattle.value.specs.Read.{Item, Own, plain, parts, plan, rowCount, leafRow, nodeRow, bitmap, own, walk, wholeValue, parse, rootStruct}
 use Rattle.value.specs.Fits.{LeafFits, BitsFit, HeadFits, AllFit, WholeFits, Fits, RootFits}
-use Rattle.value.proofs.Keys.{Fresh, fresh-apart}
+use Rattle.value.proofs.Keys.{Fresh, fresh-distinct}
 use Rattle.value.proofs.Sound.{asked}
 use Rattle.value.proofs.Root.{ending-sound}
 
@@ -58,7 +58,7 @@ module _ (B : List ℕ) where
     whole-placed t s (plain x) c o q = holds {a = tip (leafRow t (c .at) (length x)) x} (o, (refl, q))
     whole-placed t s (parts start h) c o q =
         seen-after (walk-placed [] (plan s h) c o) (λ ts c′ w.
-        holds {a = branch (nodeRow t start (c′ .at) (rowCount s h)) h ts} (w .0, (refl, q, w .1, fresh-apart (plan s h) (values ts) (w .2))))
+        holds {a = branch (nodeRow t start (c′ .at) (rowCount s h)) h ts} (w .0, (refl, q, w .1, fresh-distinct (plan s h) (values ts) (w .2))))
 
   module _ (S : ℕ → Shape) where
     -- What the reader reads at a place of a payload fits the payload.

@@ -26,7 +26,7 @@ use Rattle.value.specs.Reasons.{least, BitmapFault, cut, absent, OwnFaul
 use Rattle.value.specs.Reasons.{Due, Faulty, too-deep, own as own-fault, inner, repeated, RootDue, RootFault, bits as root-bits, field, surplus, short-tail}
 use Rattle.value.proofs.Bits.{bit-beyond}
 use Rattle.value.proofs.Fields.{lacking}
-use Rattle.value.proofs.Keys.{fresh-apart}
+use Rattle.value.proofs.Keys.{fresh-distinct}
 use Rattle.value.proofs.Root.{Unkeyed, present-unkeyed}
 use Rattle.value.proofs.Sound.{bitmap-reads, own-reads, OwnSpells, walk-reads, parse-reads}
 use Rattle.value.proofs.Stops.{Stops, ItemFault, walk-blames, met, met-none}
@@ -118,7 +118,7 @@ due S d s h u left {w} {x} {rest} starts room F q e = record {
   enough = subst (λ (l : List ℕ). least s * h ≤ length l) {y = q .y ++ (q .w ++ (x ++ rest))} (e ∙ rw (q .place, append-assoc)) room;
   planned = q .split;
   spelled = q .spelled;
-  apart = fresh-apart (q .before) (q .shown) (q .fresh);
+  distinct = fresh-distinct (q .before) (q .shown) (q .fresh);
   keys = refl;
 }
 

@@ -13,7 +13,7 @@ use Rattle.parse.proofs.Blames.{Blames, fine, blames}
 use Rattle.schema.specs.declared.Field.{Field}
 use Rattle.schema.specs.Table.{Table, Shape, unknown, scalar, text, array, map, struct, shape}
 use Rattle.schema.specs.Good.{GoodSchema}
-use Rattle.schema.proofs.Shapes.{known}
+use Rattle.schema.proofs.Shapes.{known-shape}
 use Rattle.value.specs.declared.Row.{Row}
 use Rattle.value.specs.Value.{Tree, rows, value}
 use Rattle.value.specs.Read.{onStruct, rootStruct, Reading, refusal, accepted, reading, read}
@@ -29,18 +29,18 @@ use Rattle.value.proofs.TwoTables.{plan-below}
 module _ (T : Table) (good : GoodSchema T) (t : ℕ) where
   pub good-blames : (fs : List Field) → shape T t ≡ struct fs → (c : Cursor) → Blames c (RootFault (shape T) fs) (rootStruct (shape T) t fs c)
   good-blames fs st c =
-      root-blames (shape T) (length (T .types)) (known T good) (λ t head. plan-below (length (T .types)) (shape T t) head (good-closed T good t)) t fs st c
+      root-blames (shape T) (length (T .types)) (known-shape T good) (λ t head. plan-below (length (T .types)) (shape T t) head (good-closed T good t)) t fs st c
 
   module _ (payload : List ℕ) (room : ℕ) where
     data Told : Reading → Type 0 where
-      shown : {rs : List Row} {place n due : ℕ} → Told (accepted rs place n due)
+      shown : {rs : List Row} {place n compared : ℕ} → Told (accepted rs place n compared)
       refuses-by : {n p : ℕ} → Reason (shape T) t payload room n p → Told (refusal n p)
 
     module _ (fs : List Field) (st : shape T t ≡ struct fs) (short : length payload ≤ 16384) where
-      fitting : (tree : Tree) (place n due : ℕ) (tail : List ℕ) (b : Bool) → leb (length (rows tree)) room ≡ b → RootSpells (shape T) fs (value tree) payload tail
-          → Told (cond b (accepted (rows tree) place n due) (refusal 30 0))
-      fitting tree place n due tail true e q = shown
-      fitting tree place n due tail false e q =
+      fitting : (tree : Tree) (place n compared : ℕ) (tail : List ℕ) (b : Bool) → leb (length (rows tree)) room ≡ b → RootSpells (shape T) fs (value tree) payload tail
+          → Told (cond b (accepted (rows tree) place n compared) (refusal 30 0))
+      fitting tree place n compared tail true e q = shown
+      fitting tree place n compared tail false e q =
           refuses-by (too-few-rows fs (value tree) tail st short q (omega (arith, sized tree, leb-false (length (rows tree)) room e)))
 
       judged : (m : Answer Tree) → Blames (cursorAt payload 0) (RootFault (shape T) fs) m

@@ -25,7 +25,7 @@ use Rattle.value.specs.Reasons.{Due, Faulty, too-deep, own as own-fault,
 use Rattle.value.proofs.Bits.{bit-beyond}
 use Rattle.value.proofs.Complete.{bitmap-complete, head-complete, takes, walk-complete, parse-complete}
 use Rattle.value.proofs.Fields.{lacks}
-use Rattle.value.proofs.Keys.{Fresh, apart-fresh}
+use Rattle.value.proofs.Keys.{Fresh, distinct-fresh}
 use Rattle.value.proofs.Root.{Unkeyed, present-unkeyed, unkeyed-fresh}
 use Rattle.value.proofs.Shapes.{Solid}
 use Rattle.value.proofs.Sound.{own-reads, walk-reads, parse-reads}
@@ -113,7 +113,7 @@ module _ (S : ℕ → Shape) (solid : (t : ℕ) → Solid (S t)) where
       let (o, c₁, e, (start, o-is, left)) = yields-end (head-complete (S t) (due .head) u (y ++ (w ++ (x ++ rest))) c (due .starts) l (due .enough)) in
       let stopped =
       walk-refused (Spells S d) (Faulty S d) (parse S d) (parse-reads S d) (parse-complete S solid d) parts-refused [] (due .before) i (due .after) (due .shown) y w x rest n c₁
-      (due .spelled) (apart-fresh (due .before) (due .shown) (due .apart)) f left in
+      (due .spelled) (distinct-fresh (due .before) (due .shown) (due .distinct)) f left in
       steps _ e (rw (o-is, due .planned) (stops _ (stopped ∙ ap (refused n) (beyond c c₁ u y w (x ++ rest) l left (arrives (own-reads (S t) c) e)))))
 
   parse-refused : (d t : ℕ) (u x rest : List ℕ) (n : ℕ) (c : Cursor) → Faulty S d t u x rest n → c .left ≡ u ++ (x ++ rest) → parse S d t c ≡ refused n (c .at + length u)

@@ -29,7 +29,7 @@ use Rattle.value.specs.SheetReasons.{NoRow, missing, other, BitsFault, o
 use Rattle.value.specs.SheetReasons.{RowDue, SheetFaulty, too-deep, no-row, own, inner, repeated, RootRowDue, SheetFault, no-row as no-root, bits as root-bits, miscounted, field, left-over}
 use Rattle.value.proofs.Bits.{bit-beyond}
 use Rattle.value.proofs.Fields.{lacking}
-use Rattle.value.proofs.Keys.{fresh-apart}
+use Rattle.value.proofs.Keys.{fresh-distinct}
 use Rattle.value.proofs.Reasons.{denied, unkeyed-at, some-left}
 use Rattle.value.proofs.Root.{Unkeyed, present-unkeyed}
 use Rattle.value.proofs.Shown.{next-reads, row-reads, bits-reads, says-reads, Says, show-sound, walk-shows}
@@ -150,7 +150,7 @@ module _ (S : ℕ → Shape) (B : List ℕ) where
           starts = starts;
           planned = q .split;
           fit = fit;
-          apart = rw e (fresh-apart (q .before) (q .shown) (q .fresh));
+          distinct = rw e (fresh-distinct (q .before) (q .shown) (q .fresh));
           keys = ap (keysOf (q .before)) e;
         }
 

@@ -25,7 +25,7 @@ use Rattle.value.specs.SheetReasons.{NoRow, missing, other, BitsFault, o
 use Rattle.value.specs.SheetReasons.{RowDue, SheetFaulty, too-deep, no-row, own, inner, repeated, RootRowDue, SheetFault, no-row as no-root, bits as root-bits, miscounted, field, left-over}
 use Rattle.value.proofs.Bits.{bit-beyond}
 use Rattle.value.proofs.Fields.{lacks}
-use Rattle.value.proofs.Keys.{apart-fresh}
+use Rattle.value.proofs.Keys.{distinct-fresh}
 use Rattle.value.proofs.Refused.{fields-fresh}
 use Rattle.value.proofs.RowFaults.{RowsShow, of-forest, show-reads}
 use Rattle.value.proofs.Shown.{row-complete, bits-complete, head-says, show-complete, show-sound, walk-shows, walk-shown}
@@ -93,7 +93,7 @@ module _ (S : ℕ → Shape) (B : List ℕ) where
   held-refused d t r ts w x rest i earlier n c parts-refused due f l =
       let stopped =
       walk-refused (RowsShow S B d) (SheetFaulty B S d) (show S B d) (show-reads S B d) (show-accepts d) parts-refused [] (due .before) i (due .after) (values ts) (rowsAll ts) w x rest n
-      (record { left = rowsAll ts ++ (w ++ (x ++ rest)); at = c .at + 1 }) (of-forest S B d (due .before) ts (due .fit)) (apart-fresh (due .before) (values ts) (due .apart)) f refl in
+      (record { left = rowsAll ts ++ (w ++ (x ++ rest)); at = c .at + 1 }) (of-forest S B d (due .before) ts (due .fit)) (distinct-fresh (due .before) (values ts) (due .distinct)) f refl in
       steps _ (row-complete t r _ c (due .of-type) l)
       (steps _ (head-says B (c .at) (S t) (r .place) (r .length) (r .count) (due .head) _ (due .starts))
       (rw (due .planned) (stops _ (stopped ∙ ap (refused n) (omega arith)))))

@@ -49,7 +49,7 @@ module _ (more : List ℕ) where
         enough = simp length-append (omega (arith, simp length-append at room));
         planned = due .planned;
         spelled = due .spelled;
-        apart = due .apart;
+        distinct = due .distinct;
         keys = due .keys;
       }
 

@@ -14,7 +14,7 @@ use Rattle.parse.proofs.Blames.{Blames, fine, blames}
 use Rattle.schema.specs.declared.Field.{Field}
 use Rattle.schema.specs.Table.{Table, Shape, unknown, scalar, text, array, map, struct, shape}
 use Rattle.schema.specs.Good.{GoodSchema}
-use Rattle.schema.proofs.Shapes.{known}
+use Rattle.schema.proofs.Shapes.{known-shape}
 use Rattle.value.specs.declared.Row.{Row}
 use Rattle.value.specs.Value.{Tree, Value, value}
 use Rattle.value.specs.Read.{onStruct}
@@ -32,7 +32,7 @@ use Rattle.value.proofs.Writing.{sheet-shows}
 module _ (T : Table) (good : GoodSchema T) (t : ℕ) (rs : List Row) (B : List ℕ) (room : ℕ) where
   good-blames : (fs : List Field) → shape T t ≡ struct fs → (c : CursorOf Row) → Blames c (SheetFault B (shape T) t fs) (showRoot (shape T) B t fs c)
   good-blames fs st c =
-      sheet-blames (shape T) B (length (T .types)) (known T good) (λ t head. plan-below (length (T .types)) (shape T t) head (good-closed T good t)) t fs st c
+      sheet-blames (shape T) B (length (T .types)) (known-shape T good) (λ t head. plan-below (length (T .types)) (shape T t) head (good-closed T good t)) t fs st c
 
   data Told : Writing → Type 0 where
     wrote : {out : List ℕ} → Told (written out)

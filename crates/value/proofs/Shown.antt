@@ -16,7 +16,7 @@ use Rattle.value.specs.Value.{Tree, tip, branch, Forest, stop, plus, row
 use Rattle.value.specs.Read.{Item, Own, plain, parts, plan, walk}
 use Rattle.value.specs.Write.{RowReader, nextRow, rowDue, bitsAt, says, held, show, showRoot}
 use Rattle.value.specs.Fits.{LeafFits, BitsFit, HeadFits, AllFit, WholeFits, Fits, RootFits}
-use Rattle.value.proofs.Keys.{Fresh, fresh-apart, apart-fresh}
+use Rattle.value.proofs.Keys.{Fresh, fresh-distinct, distinct-fresh}
 use Rattle.value.proofs.Sound.{asked}
 use Rattle.value.proofs.Complete.{asks}
 use Rattle.value.proofs.Root.{struct-fresh}
@@ -81,7 +81,7 @@ module _ (P : ℕ → Tree → Type 0) (p : ℕ → RowReader Tree) (pP : (t : �
   unfolding rows
   held-shows B s t r (plain x) h q c = stay (refl, (h, q))
   held-shows B s t r (parts _ head) h q c =
-      reads-then (walk-shows [] (plan s head) c) (λ ts c′ u w. stay (rw (append-nil, w .0), (h, q, w .1, fresh-apart (plan s head) (values ts) (w .2))))
+      reads-then (walk-shows [] (plan s head) c) (λ ts c′ u w. stay (rw (append-nil, w .0), (h, q, w .1, fresh-distinct (plan s head) (values ts) (w .2))))
 
 module _ (S : ℕ → Shape) (B : List ℕ) where
   pub show-sound : (d t : ℕ) (c : CursorOf Row) → Reads c (λ tree u. (u ≡ rows tree) × Fits S B d t tree) (show S B d t c)
@@ -147,7 +147,7 @@ module _ (P : ℕ → Tree → Type 0) (p : ℕ → RowReader Tree)
         goes _ (row-complete t r rest c (q .0) l) (goes _ (leaf-says B k s _ _ _ x _ (q .1)) (gives (refl, refl)))
     whole-shown B k s t (branch r h ts) rest c q l =
         goes _ (row-complete t r (rowsAll ts ++ rest) c (q .0) l) (goes _ (head-says B k s _ _ _ h _ (q .1))
-        (yields-then (walk-shown [] (plan s h) ts rest _ (q .2) (apart-fresh (plan s h) (values ts) (q .3)) refl) (λ ys c″ w. gives (rw (w .0), w .1))))
+        (yields-then (walk-shown [] (plan s h) ts rest _ (q .2) (distinct-fresh (plan s h) (values ts) (q .3)) refl) (λ ys c″ w. gives (rw (w .0), w .1))))
 
 module _ (S : ℕ → Shape) (B : List ℕ) where
   pub show-complete : (d t : ℕ) (tree : Tree) (rest : List Row) (c : CursorOf Row) → Fits S B d t tree → c .left ≡ rows tree ++ rest → Yields (AtEnd tree rest) (show S B d t c)

@@ -14,7 +14,7 @@ use Rattle.schema.specs.Table.{Shape, unknown, scalar, text, array, map, struct
 use Rattle.value.specs.Value.{Tree, Value, value, values}
 use Rattle.value.specs.Read.{Item, Own, plain, parts, plan, bitmap, own, walk, wholeValue, parse}
 use Rattle.value.specs.Spell.{LeafSpells, BitmapSpells, HeadSpells, AllSpell, WholeSpells, Spells}
-use Rattle.value.proofs.Keys.{Fresh, fresh-apart}
+use Rattle.value.proofs.Keys.{Fresh, fresh-distinct}
 
 pub bitmap-reads : (fs : List Field) (c : Cursor) → Reads c (BitmapSpells fs) (bitmap fs c)
 unfolding bitmap
@@ -57,7 +57,7 @@ module _ (P : ℕ → Value → List ℕ → Type 0) (p : ℕ → Reader Tree) (
   unfolding value
   whole-reads t s (plain x) u q c = stay (rw append-nil q)
   whole-reads t s (parts start h) u q c =
-      reads-then (walk-reads [] (plan s h) c) (λ ts c′ u′ r. stay (u, u′, rw append-nil, q, r .0, fresh-apart (plan s h) (values ts) (r .1)))
+      reads-then (walk-reads [] (plan s h) c) (λ ts c′ u′ r. stay (u, u′, rw append-nil, q, r .0, fresh-distinct (plan s h) (values ts) (r .1)))
 
 module _ (S : ℕ → Shape) where
   pub parse-reads : (d t : ℕ) (c : Cursor) → Reads c (λ tree u. Spells S d t (value tree) u) (parse S d t c)

@@ -17,7 +17,7 @@ use Rattle.schema.specs.declared.Field.{Field}
 use Rattle.schema.specs.Table.{Table, array, map, struct, shape, bitmapBytes}
 use Rattle.value.specs.declared.Row.{Row}
 use Rattle.value.specs.Value.{Tree, branch, Forest, Value, node, Values, value, values, content, depth}
-use Rattle.value.specs.Comparisons.{due, mapDue, comparisons, rowsDue, pairsAmong}
+use Rattle.value.specs.Comparisons.{keyComparisons, mapComparisons, comparisons, rowsComparisons, pairsAmong}
 use Rattle.value.specs.Read.{Item, plainItem, present, plan, requiredSet, rootBits, knownBits, unknownBits, parse, rootStruct, refusal, accepted, read}
 use Rattle.value.specs.Spell.{BitmapSpells, AllSpell, keysOf, Spells, TailFits, RootSpells, Differ, KeysDiffer, MapsSmall, encode}
 use Rattle.schema.specs.Check.{noField}
@@ -84,11 +84,11 @@ map-items k v n = (items.map-length k v n, λ i d h. (items.map-key k v n i d h,
 -- ---- key comparisons
 
 -- Those of n keys are the pairs of an earlier key and a later one.
-pub due-pairs : (n : ℕ) → due n ≡ pairsAmong n
-due-pairs = compared.due-pairs
+pub comparisons-pairs : (n : ℕ) → keyComparisons n ≡ pairsAmong n
+comparisons-pairs = compared.comparisons-pairs
 
-pub due-half : (n : ℕ) → 2 * due n ≡ n * (n - 1)
-due-half = compared.due-half
+pub comparisons-half : (n : ℕ) → 2 * keyComparisons n ≡ n * (n - 1)
+comparisons-half = compared.comparisons-half
 
 module _ (T : Table) (good : GoodSchema T) (t : ℕ) where
   solid : (t : ℕ) → Solid (shape T t)
@@ -133,9 +133,9 @@ module _ (T : Table) (good : GoodSchema T) (t : ℕ) where
   round-trip d v u rest at b q = read-iff-spelled d v rest _ .1 (encode (shape T) v t, refl, encoded (shape T) d t v u b q)
 
   -- A composite's own comparisons are those of each later one of its keys with each earlier one.
-  pub own-due : (d h : ℕ) (vs : Values) (u : List ℕ) → Spells (shape T) d t (node h vs) u
-      → mapDue (shape T t) h ≡ pairsAmong (length (keysOf (plan (shape T t) h) vs))
-  own-due d h vs u q = compared.own-due (shape T) d t h vs u q
+  pub own-comparisons : (d h : ℕ) (vs : Values) (u : List ℕ) → Spells (shape T) d t (node h vs) u
+      → mapComparisons (shape T t) h ≡ pairsAmong (length (keysOf (plan (shape T t) h) vs))
+  own-comparisons d h vs u q = compared.own-comparisons (shape T) d t h vs u q
 
   -- ---- maps, by their pairs
 
@@ -227,13 +227,13 @@ module _ (T : Table) (good : GoodSchema T) (t : ℕ) where
       let a = accepts (shape T) t payload room rs place n c e in
       let q = seen-end (root-sound (shape T) t (a .fs) (cursorAt payload 0)) (a .reads) in
       let b = compared.root-bound (shape T) solid t (a .fs) (a .is-struct) (value (a .tree)) payload (a .end .left) q in
-      omega (arith, b, a .has-due, a .short)
+      omega (arith, b, a .has-compared, a .short)
 
-  pub comparisons-counted : (payload : List ℕ) (room : ℕ) (rs : List Row) (place n c : ℕ) → read T t payload room ≡ accepted rs place n c → c ≡ rowsDue (shape T) rs
+  pub comparisons-counted : (payload : List ℕ) (room : ℕ) (rs : List Row) (place n c : ℕ) → read T t payload room ≡ accepted rs place n c → c ≡ rowsComparisons (shape T) rs
   unfolding read
   comparisons-counted payload room rs place n c e =
       let a = accepts (shape T) t payload room rs place n c e in
-      sym (a .has-due) ∙ compared.read-due payload (shape T) t (a .fs) (a .is-struct) (a .tree) (a .end) (a .reads) ∙ ap (rowsDue (shape T)) (a .has-rows)
+      sym (a .has-compared) ∙ compared.read-comparisons payload (shape T) t (a .fs) (a .is-struct) (a .tree) (a .end) (a .reads) ∙ ap (rowsComparisons (shape T)) (a .has-rows)
 
   module _ (fs : List Field) (st : shape T t ≡ struct fs) where
     -- The reader accepts, with rows that show v, exactly the payloads that spell v within the limits; the tail is what follows the known fields.
@@ -262,7 +262,7 @@ module _ (T : Table) (good : GoodSchema T) (t : ℕ) where
         let a = accepts (shape T) t payload room rs place n c e in
         let f : a .fs ≡ fs = cc (a .is-struct, st) in
         let s = root-in (shape T) t (a .fs) payload (a .tree) (a .end) (a .reads) .0 in
-        let r : ReadAs (shape T) t fs payload (read T t payload room) (value (a .tree)) place n = (rs, e ∙ ap (accepted rs place n) (sym (a .has-due)), rw (f, a .has-rows) at s) in
+        let r : ReadAs (shape T) t fs payload (read T t payload room) (value (a .tree)) place n = (rs, e ∙ ap (accepted rs place n) (sym (a .has-compared)), rw (f, a .has-rows) at s) in
         let (z, q, _, _, l, _) = accepted-iff-spelled payload room (value (a .tree)) place n .0 r in
         let t = root-tail (shape T) fs (value (a .tree)) payload z q in
         (λ none. omega (arith, t .0), λ none. sym l ∙ t .1 none)
@@ -289,8 +289,8 @@ module _ (T : Table) (good : GoodSchema T) (t : ℕ) where
     shown-small = maps.shown-small (shape T) t fs st
 
     -- The comparisons due in a value that a sheet shows are those that its rows count.
-    pub shown-due : (B : List ℕ) (rs : List Row) (v : Value) → Shows (shape T) B t fs rs v → comparisons (shape T) v t ≡ rowsDue (shape T) rs
-    shown-due = compared.shown-due (shape T) t fs st
+    pub shown-comparisons : (B : List ℕ) (rs : List Row) (v : Value) → Shows (shape T) B t fs rs v → comparisons (shape T) v t ≡ rowsComparisons (shape T) rs
+    shown-comparisons = compared.shown-comparisons (shape T) t fs st
 
     -- Rows that tell the same types, counts, contents and known bits, over whatever bytes, show the same value.
     pub told-once : (B B′ : List ℕ) (v v′ : Value) (rs rs′ : List Row) → Shows (shape T) B t fs rs v → Shows (shape T) B′ t fs rs′ v′
@@ -347,7 +347,7 @@ module _ (T : Table) (good : GoodSchema T) (t : ℕ) where
   read-then-write payload room rs place n c b e room′ l =
       let a = accepts (shape T) t payload room rs place n c e in
       let s = subst (λ (x : List Row). Shows (shape T) payload t (a .fs) x (value (a .tree))) (a .has-rows) (root-in (shape T) t (a .fs) payload (a .tree) (a .end) (a .reads) .0) in
-      let (z, q, _, _, tail, _) = accepted-iff-spelled (a .fs) (a .is-struct) payload room (value (a .tree)) place n .0 (rs, e ∙ ap (accepted rs place n) (sym (a .has-due)), s) in
+      let (z, q, _, _, tail, _) = accepted-iff-spelled (a .fs) (a .is-struct) payload room (value (a .tree)) place n .0 (rs, e ∙ ap (accepted rs place n) (sym (a .has-compared)), s) in
       let w = spelled-written (shape T) solid t (a .fs) (a .is-struct) payload z (value (a .tree)) b q (a .short) rs s room′ l in (
         a .fs,
         value (a .tree),

@@ -49,11 +49,11 @@ DelimitedTree S t payload tree place n =
     × (length payload ≤ 16384)
 
 -- The rows are those of such a tree, the key comparisons due are its value's, and there is room for the rows.
-abbrev pub Delimited : (ℕ → Shape) → (t : ℕ) → (payload : List ℕ) (room : ℕ) → List Row → (place n due : ℕ) → Type 0
-Delimited S t payload room rs place n due =
+abbrev pub Delimited : (ℕ → Shape) → (t : ℕ) → (payload : List ℕ) (room : ℕ) → List Row → (place n compared : ℕ) → Type 0
+Delimited S t payload room rs place n compared =
     (tree : Tree) × DelimitedTree S t payload tree place n
     × (rows tree ≡ rs)
-    × (comparisons S (value tree) t ≡ due)
+    × (comparisons S (value tree) t ≡ compared)
     × (length rs ≤ room)
 
 -- The sheet shows a value; what is written is its encoding, and that is a payload and fits into the room.
@@ -71,9 +71,9 @@ Writes S t rs B room out =
 abbrev pub ByOld : (S S′ : ℕ → Shape) (t : ℕ) (fs gs : List Field) (payload : List ℕ) (room : ℕ) → Value → Reading → (first : Option ℕ) → Type 0
 ByOld S S′ t fs gs payload room v answer (some p) = answer ≡ refusal 26 p
 ByOld S S′ t fs gs payload room v answer none =
-    (rs : List Row) × (known : List ℕ) × (added : List ℕ)
-    × (payload ≡ known ++ added)
+    (rs : List Row) × (front : List ℕ) × (added : List ℕ)
+    × (payload ≡ front ++ added)
     × AllSpell (Spells S′ 15) (addedItems fs gs v) (addedValues fs v) added
     × (rootCarries fs v ≡ false → added ≡ [])
     × Shows S payload t fs rs (without S v t)
-    × (answer ≡ cond (leb (length rs) room) (accepted rs (length known) (length added) (comparisons S (without S v t) t)) (refusal 30 0))
+    × (answer ≡ cond (leb (length rs) room) (accepted rs (length front) (length added) (comparisons S (without S v t) t)) (refusal 30 0))

@@ -9,25 +9,25 @@ use Rattle.value.specs.Value.{Value, leaf, node, Values, none, some}
 use Rattle.value.specs.Plan.{Item, plan}
 
 -- The comparisons of n keys: none for the first, one for the second, and so on.
-unfoldable pub due : ℕ → ℕ
-due zero = 0
-due (suc n) = n + due n
+unfoldable pub keyComparisons : ℕ → ℕ
+keyComparisons zero = 0
+keyComparisons (suc n) = n + keyComparisons n
 
 -- The comparisons of a composite's own keys: a map has as many keys as pairs, no other composite has any.
-abbrev pub mapDue : Shape → (head : ℕ) → ℕ
-mapDue (map _ _) n = due n
-mapDue (array _) n = 0
-mapDue (struct _) m = 0
-mapDue unknown h = 0
-mapDue (scalar _) h = 0
-mapDue (text _) h = 0
+abbrev pub mapComparisons : Shape → (head : ℕ) → ℕ
+mapComparisons (map _ _) n = keyComparisons n
+mapComparisons (array _) n = 0
+mapComparisons (struct _) m = 0
+mapComparisons unknown h = 0
+mapComparisons (scalar _) h = 0
+mapComparisons (text _) h = 0
 
 module _ (S : ℕ → Shape) where
   -- The comparisons in a value of type t, over all the maps in it.
   unfoldable mutual
     pub comparisons : Value → (t : ℕ) → ℕ
     comparisons (leaf x) t = 0
-    comparisons (node h vs) t = mapDue (S t) h + comparisonsAll vs (plan (S t) h)
+    comparisons (node h vs) t = mapComparisons (S t) h + comparisonsAll vs (plan (S t) h)
 
     pub comparisonsAll : Values → List Item → ℕ
     comparisonsAll none is = 0
@@ -35,9 +35,9 @@ module _ (S : ℕ → Shape) where
     comparisonsAll (some v vs) (i ∷ is) = comparisons v (i .type) + comparisonsAll vs is
 
   -- The same from rows: those of a map's type count its pairs.
-  unfoldable pub rowsDue : List Row → ℕ
-  rowsDue [] = 0
-  rowsDue (r ∷ rs) = mapDue (S (r .ty)) (r .count) + rowsDue rs
+  unfoldable pub rowsComparisons : List Row → ℕ
+  rowsComparisons [] = 0
+  rowsComparisons (r ∷ rs) = mapComparisons (S (r .ty)) (r .count) + rowsComparisons rs
 
 -- ---- the same by counting
 

@@ -12,7 +12,7 @@ use Rattle.schema.specs.Table.{Shape, unknown, scalar, text, array, map, struct
 use Rattle.value.specs.declared.Row.{Row}
 use Rattle.value.specs.Value.{Tree, tip, branch, Forest, stop, plus, rows, Value, value, values}
 use Rattle.value.specs.Read.{Item, plan, rowCount, requiredSet, knownBits}
-use Rattle.value.specs.Spell.{keysOf, Apart}
+use Rattle.value.specs.Spell.{keysOf, Distinct}
 
 -- ---- a tree fits bytes: each of its rows names its own content
 
@@ -49,7 +49,7 @@ AllFit P (i ∷ is) (plus t ts) = P (i .type) t × AllFit P is ts
 abbrev pub WholeFits : (ℕ → Tree → Type 0) → List ℕ → Shape → ℕ → Tree → Type 0
 WholeFits P B s t (tip r x) = (r .ty ≡ t) × LeafFits B s (r .place) (r .length) (r .count) x
 WholeFits P B s t (branch r h ts) =
-    (r .ty ≡ t) × HeadFits B s (r .place) (r .count) h × AllFit P (plan s h) ts × Apart (keysOf (plan s h) (values ts))
+    (r .ty ≡ t) × HeadFits B s (r .place) (r .count) h × AllFit P (plan s h) ts × Distinct (keysOf (plan s h) (values ts))
 
 -- The tree, of type t, fits the bytes, with d levels of depth allowed.
 abbrev pub Fits : (ℕ → Shape) → List ℕ → (d t : ℕ) → Tree → Type 0

@@ -15,7 +15,7 @@ use Rattle.schema.specs.Check.{noField}
 use Rattle.value.specs.Value.{Value, Values, content, size}
 use Rattle.value.specs.Plan.{Item, plan}
 use Rattle.value.specs.Read.{knownBits, unknownBits}
-use Rattle.value.specs.Spell.{BitmapSpells, HeadSpells, AllSpell, keysOf, Apart, Spells, RootSpells, nth}
+use Rattle.value.specs.Spell.{BitmapSpells, HeadSpells, AllSpell, keysOf, Distinct, Spells, RootSpells, nth}
 
 -- ---- own bytes
 
@@ -66,7 +66,7 @@ pub record Due (S : ℕ → Shape) (d : ℕ) (s : Shape) (u y left : List ℕ) (
   pub enough : least s * head ≤ length (y ++ left)
   pub planned : plan s head ≡ before ++ (i ∷ after)
   pub spelled : AllSpell (Spells S d) before shown y
-  pub apart : Apart (keysOf before shown)
+  pub distinct : Distinct (keysOf before shown)
   pub keys : keysOf before shown ≡ earlier
 
 -- The content is one of the keys.

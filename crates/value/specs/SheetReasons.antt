@@ -14,7 +14,7 @@ use Rattle.value.specs.declared.Row.{Row}
 use Rattle.value.specs.Value.{Tree, Forest, rows, rowsAll, Value, value, values, content}
 use Rattle.value.specs.Plan.{Item, plan, rowCount}
 use Rattle.value.specs.Read.{knownBits}
-use Rattle.value.specs.Spell.{keysOf, Apart, encode}
+use Rattle.value.specs.Spell.{keysOf, Distinct, encode}
 use Rattle.value.specs.Fits.{BitsFit, HeadFits, AllFit, Fits, Shows}
 use Rattle.value.specs.Reasons.{Absent, Beyond, AmongKeys}
 
@@ -56,7 +56,7 @@ module _ (B : List ℕ) where
       pub starts : HeadFits B (S t) (r .place) (r .count) head
       pub planned : plan (S t) head ≡ before ++ (i ∷ after)
       pub fit : AllFit (Fits S B d) before ts
-      pub apart : Apart (keysOf before (values ts))
+      pub distinct : Distinct (keysOf before (values ts))
       pub keys : keysOf before (values ts) ≡ earlier
 
     -- The faulty rows x of a value of type t, with d levels of depth allowed, after the rows u of the same value and before the rows `rest`: no level is

@@ -50,14 +50,14 @@ keysOf (i ∷ is) none = []
 keysOf (i ∷ is) (some v vs) = withKey (i .key) (content v) (keysOf is vs)
 
 -- No two are equal.
-abbrev pub Apart : List (List ℕ) → Type 0
-Apart keys = (i j : ℕ) → i < j → j < length keys → getD keys i [] ≡ getD keys j [] → ⊥
+abbrev pub Distinct : List (List ℕ) → Type 0
+Distinct keys = (i j : ℕ) → i < j → j < length keys → getD keys i [] ≡ getD keys j [] → ⊥
 
 -- The bytes of a value of a shape, with the relation P for what it holds.
 abbrev pub WholeSpells : (ℕ → Value → List ℕ → Type 0) → Shape → Value → List ℕ → Type 0
 WholeSpells P s (leaf x) bs = LeafSpells s x bs
 WholeSpells P s (node h vs) bs =
-    (x : List ℕ) × (y : List ℕ) × (bs ≡ x ++ y) × HeadSpells s h x × AllSpell P (plan s h) vs y × Apart (keysOf (plan s h) vs)
+    (x : List ℕ) × (y : List ℕ) × (bs ≡ x ++ y) × HeadSpells s h x × AllSpell P (plan s h) vs y × Distinct (keysOf (plan s h) vs)
 
 -- The bytes spell the value, of type t, with d levels of depth allowed.
 abbrev pub Spells : (ℕ → Shape) → (d t : ℕ) → Value → List ℕ → Type 0

@@ -53,9 +53,9 @@ fn guess_of(sheet: &[u32]) -> Guess
 {
     let cells = sheet.len();
     let kept = most_for(cells);
-    if 4 <= cells {
+    if format::ROW_CELLS <= cells {
         let n = wide(sheet[2]);
-        if cells / 4 <= n {
+        if cells / format::ROW_CELLS <= n {
             if n <= limit::PAYLOAD {
                 return Guess { length: n, kept };
             }
@@ -165,7 +165,7 @@ fn write_empty(header: Header, sheet: &[u32], out: &mut [u8]) -> Writing
     requires { ⌜ header .kind ≤ 8 ⌝ }
     ensures { λ r. ⌜ outcome r (now (out .exit)) ≡ frameIn header (now (out .entry)) (emptyBy (rowsOf (now (sheet .entry)))) ⌝ }
 {
-    if sheet.len() < 4 {
+    if sheet.len() < format::ROW_CELLS {
         let place = payload_place(0);
         if out.len() < place {
             return Writing::Refused {

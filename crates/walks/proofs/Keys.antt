@@ -18,7 +18,7 @@ use Rattle.wire.proofs.Numbers.{one-at}
 use Rattle.schema.proofs.Bools.{or-false}
 use Rattle.value.specs.Read.{same, among}
 use Rattle.value.proofs.Keys.{same-not, lengths-differ}
-use Rattle.walks.specs.Keys.{digest, holds, whereIs, keyAt, keysIn, flagCell, Flagged, KeptAt, Kept}
+use Rattle.walks.specs.Keys.{digest, hasDigest, whereIs, keyAt, keysIn, flagCell, Flagged, KeptAt, Kept}
 
 -- ---- contents
 
@@ -67,37 +67,37 @@ module _ (B : List ℕ) (a n b m : ℕ) (ends : a + n ≤ length B) (ends′ : b
 pub digests-differ : (x y : List ℕ) → (digest y ≡ digest x → ⊥) → false ≡ same x y
 digests-differ x y h = sym (same-not x y (λ e. h (ap digest (sym e))))
 
-pub holds-first : (keys : List ℕ) (d : ℕ) → false ≡ holds keys 0 d
-unfolding holds
-holds-first keys d = refl
+pub has-digest-first : (keys : List ℕ) (d : ℕ) → false ≡ hasDigest keys 0 d
+unfolding hasDigest
+has-digest-first keys d = refl
 
-pub holds-step : (keys : List ℕ) (i d : ℕ) (found : Bool) → found ≡ holds keys i d → (found || eqb (getD keys i 0) d) ≡ holds keys (i + 1) d
-unfolding holds
-holds-step keys i d found e = let q : i + 1 ≡ suc i = omega arith in rw (q, e)
+pub has-digest-step : (keys : List ℕ) (i d : ℕ) (found : Bool) → found ≡ hasDigest keys i d → (found || eqb (getD keys i 0) d) ≡ hasDigest keys (i + 1) d
+unfolding hasDigest
+has-digest-step keys i d found e = let q : i + 1 ≡ suc i = omega arith in rw (q, e)
 
-pub holds-end : (keys : List ℕ) (i n d : ℕ) → i ≤ n → n ≤ i → holds keys i d ≡ holds keys n d
-holds-end keys i n d l h = let e : i ≡ n = omega arith in rw e
+pub has-digest-end : (keys : List ℕ) (i n d : ℕ) → i ≤ n → n ≤ i → hasDigest keys i d ≡ hasDigest keys n d
+has-digest-end keys i n d l h = let e : i ≡ n = omega arith in rw e
 
 -- ---- keys kept
 
 module _ (B keys x : List ℕ) where
   -- a content whose digest is not among theirs is not among them
-  pub unheld : (n : ℕ) → Kept B keys true n → holds keys n (digest x) ≡ false → false ≡ among x (keysIn B keys n)
-  unfolding holds keysIn
+  pub unheld : (n : ℕ) → Kept B keys true n → hasDigest keys n (digest x) ≡ false → false ≡ among x (keysIn B keys n)
+  unfolding hasDigest keysIn
   unheld zero all e = refl
   unheld (suc n) all e =
-      let w = or-false (holds keys n (digest x)) (eqb (getD keys n 0) (digest x)) e in
+      let w = or-false (hasDigest keys n (digest x)) (eqb (getD keys n 0) (digest x)) e in
       let d : false ≡ same x (keyAt B keys n) = digests-differ x (keyAt B keys n) (λ q. eqb-false (getD keys n 0) (digest x) (w .1) (all n (omega arith) .1 refl ∙ q)) in
       rw (sym d) (unheld n (λ j l. all j (omega arith)) (w .0))
 
   -- nor is one whose flag is not set
-  holds-none : (d m : ℕ) → ((j : ℕ) → j < m → getD keys j 0 ≡ d → ⊥) → holds keys m d ≡ false
-  unfolding holds
-  holds-none d zero other = refl
-  holds-none d (suc m) other = rw (holds-none d m (λ j k. other j (omega arith)), ne-eqb (getD keys m 0) d (other m (omega arith)))
+  has-digest-none : (d m : ℕ) → ((j : ℕ) → j < m → getD keys j 0 ≡ d → ⊥) → hasDigest keys m d ≡ false
+  unfolding hasDigest
+  has-digest-none d zero other = refl
+  has-digest-none d (suc m) other = rw (has-digest-none d m (λ j k. other j (omega arith)), ne-eqb (getD keys m 0) d (other m (omega arith)))
 
   unheld-unflagged : (n d : ℕ) → Kept B keys true n → d ≡ digest x → (Flagged keys d → ⊥) → false ≡ among x (keysIn B keys n)
-  unheld-unflagged n d all is clear = unheld n all (rw (← is) (holds-none d n (λ j l e. clear (subst (Flagged keys) e (all j l .2 refl)))))
+  unheld-unflagged n d all is clear = unheld n all (rw (← is) (has-digest-none d n (λ j l e. clear (subst (Flagged keys) e (all j l .2 refl)))))
 
   -- where nothing is judged, it is known not to be among them
   pub unheld-either : (judging : Bool) (n d : ℕ) → Kept B keys judging n → (judging ≡ true → d ≡ digest x) → (judging ≡ false → among x (keysIn B keys n) ≡ false)

@@ -111,10 +111,10 @@ module _ {word known : ℕ} (n : ℕ) (low : known ≡ word % 2 ^ n) where
 
 -- what is read of the bitmap of a struct with n fields: the known bits and their count, the number of unknown ones,
 -- and that there is none exactly where the word is below 2 ^ n
-pub bits-read : (fs : List Field) {n : ℕ} → length fs ≡ n → (B : List ℕ) (p : ℕ) → p + (n + 7) / 8 ≤ length B → Bytes B → {word known count unknown : ℕ}
-    → Present (span B p ((n + 7) / 8)) n word known count unknown
-    → (known ≡ knownBits fs word) × (count ≡ length (present fs known)) × (unknown ≡ unknownBits fs word) × (ltb word (2 ^ length fs) ≡ eqb unknown 0)
-bits-read fs {n} many B p inside all {word} {known} {count} {unknown} is =
+pub bits-read : (fs : List Field) {n : ℕ} → length fs ≡ n → (B : List ℕ) (p : ℕ) → p + (n + 7) / 8 ≤ length B → Bytes B → {word known ones unknown : ℕ}
+    → Present (span B p ((n + 7) / 8)) n word known ones unknown
+    → (known ≡ knownBits fs word) × (ones ≡ length (present fs known)) × (unknown ≡ unknownBits fs word) × (ltb word (2 ^ length fs) ≡ eqb unknown 0)
+bits-read fs {n} many B p inside all {word} {known} {ones} {unknown} is =
     let l = span B p ((n + 7) / 8) in
     let long = length-span B p ((n + 7) / 8) inside in
     let bytes : Bytes l = bytes-take ((n + 7) / 8) (drop p B) (bytes-drop B p all) in
@@ -125,7 +125,7 @@ bits-read fs {n} many B p inside all {word} {known} {count} {unknown} is =
     let low : known ≡ knownBits fs word = rw many (is .known-is) in
     let unk : unknown ≡ onesIn above (word / 2 ^ n) = is .unknown-is ∙ unknown-count l n bytes some ∙ rw (long, is .word-is) in (
       low,
-      is .count-is ∙ known-count l n bytes some ∙ rw (low, present-mod fs word, length-present fs word, many, is .word-is),
+      is .ones-are ∙ known-count l n bytes some ∙ rw (low, present-mod fs word, length-present fs word, many, is .word-is),
       rw many unk,
       rw (many, unk) (none-above above n word fits),
     )

@@ -24,9 +24,9 @@ unfoldable pub digest : List ℕ → ℕ
 digest x = cond (ltb (length x) 8) (lastWord x (length x)) (cond (isWord (wordOf x)) (wordOf x) (siphash x))
 
 -- Whether d is one of the first n digests.
-unfoldable pub holds : (keys : List ℕ) (n d : ℕ) → Bool
-holds keys zero d = false
-holds keys (suc n) d = holds keys n d || eqb (getD keys n 0) d
+unfoldable pub hasDigest : (keys : List ℕ) (n d : ℕ) → Bool
+hasDigest keys zero d = false
+hasDigest keys (suc n) d = hasDigest keys n d || eqb (getD keys n 0) d
 
 -- Key j's place and length, as one number.
 abbrev pub whereIs : List ℕ → ℕ → ℕ

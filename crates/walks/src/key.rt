@@ -1,5 +1,6 @@
 // The keys of a map, kept while its pairs are walked: their digests in the first half of a slice of numbers, where they stand in the second. The last
 // four cells of the first half have 256 flags, each for the digests of one remainder: a key whose flag is not set is new, and needs no search.
+use crate::siphash::WORD;
 use crate::siphash::hash;
 use crate::siphash::last_word;
 use wire::little::number;
@@ -10,7 +11,7 @@ ghost use Prim.Native.Nat.{ℕ, _+_, _/_, _≤_, _<_};
 ghost use lib.ListN.{length};
 ghost use Rattle.buffer.specs.Span.{span};
 ghost use Rattle.value.specs.Read.{same, among};
-ghost use Rattle.walks.specs.Keys.{wordOf, digest, holds, keyAt, keysIn, Flagged, KeptAt, Kept};
+ghost use Rattle.walks.specs.Keys.{wordOf, digest, hasDigest, keyAt, keysIn, Flagged, KeptAt, Kept};
 
 // Cells of flags in each half of the slice; those of the second are not used.
 pub const FLAG_CELLS: usize = 4;
@@ -18,13 +19,24 @@ pub const FLAG_CELLS: usize = 4;
 // The least digest of seven bytes.
 const SEVEN_BYTES: usize = 0x0700_0000_0000_0000;
 
+// The digests of one to seven bytes lie between these two.
+const BELOW_DIGESTS: usize = 0x00FF_FFFF_FFFF_FFFF;
+
+const ABOVE_DIGESTS: usize = 0x0800_0000_0000_0000;
+
+// Flags of a cell.
+const CELL_FLAGS: usize = 64;
+
+// 2^32: a key is kept as its place times this, and its length.
+const PLACE_WEIGHT: usize = 4294967296;
+
 // The number of the n bytes at a place where there are eight. For more it is a digest of fewer, so that they are hashed.
 fn word_at(s: &[u8], place: usize, n: usize) -> usize
     requires { ⌜ place + n ≤ length (now s) ⌝ }
     ensures { λ r. ⌜ r ≡ wordOf (span (now (s .entry)) place n) ⌝ }
 {
-    if n == 8 {
-        return number(s, place, 8) as usize;
+    if n == WORD {
+        return number(s, place, WORD) as usize;
     }
     SEVEN_BYTES
 }
@@ -38,12 +50,12 @@ fn digest_of(s: &[u8], place: usize, n: usize, judging: bool) -> usize
     if !judging {
         return 0;
     }
-    if n < 8 {
+    if n < WORD {
         return last_word(s, place, n);
     }
     // Tests that cannot be made of the top byte alone: those would make eight loads of one.
     let x = word_at(s, place, n);
-    if (x < 0x00FF_FFFF_FFFF_FFFF) | (0x0800_0000_0000_0000 < x) {
+    if (x < BELOW_DIGESTS) | (ABOVE_DIGESTS < x) {
         return x;
     }
     hash(s, place, n)
@@ -52,7 +64,7 @@ fn digest_of(s: &[u8], place: usize, n: usize, judging: bool) -> usize
 // Whether d is one of the first n digests. All are looked at: a loop without a way out compares several at a time.
 fn has_digest(keys: &[usize], n: usize, d: usize) -> bool
     requires { ⌜ n ≤ length (now keys) ⌝ }
-    ensures { λ r. ⌜ r ≡ holds (now (keys .entry)) n d ⌝ }
+    ensures { λ r. ⌜ r ≡ hasDigest (now (keys .entry)) n d ⌝ }
 {
     let mut found = false;
     let mut i = 0;
@@ -90,7 +102,7 @@ fn is_key(s: &[u8], keys: &[usize], j: usize, place: usize, n: usize, d: usize) 
         return false;
     }
     let x = keys[keys.len() / 2 + j];
-    is_same(s, place, n, x / 4294967296, x % 4294967296)
+    is_same(s, place, n, x / PLACE_WEIGHT, x % PLACE_WEIGHT)
 }
 
 // Whether the n bytes at a place, whose digest is d, are the content of one of the first held keys. A walk that does not judge knows that they are not.
@@ -153,12 +165,12 @@ pub fn is_repeated(
 {
     let half = keys.len() / 2;
     let d = digest_of(s, place, n, judging);
-    keys[half + i] = place * 4294967296 + n;
+    keys[half + i] = place * PLACE_WEIGHT + n;
     keys[i] = d;
-    let cell = half - FLAG_CELLS + d / 64 % FLAG_CELLS;
+    let cell = half - FLAG_CELLS + d / CELL_FLAGS % FLAG_CELLS;
     let flags = keys[cell];
-    if (flags >> (d % 64)) % 2 == 0 {
-        keys[cell] = flags | (1usize << (d % 64));
+    if (flags >> (d % CELL_FLAGS)) % 2 == 0 {
+        keys[cell] = flags | (1usize << (d % CELL_FLAGS));
         return false;
     }
     is_among(s, keys, i, place, n, d, judging)

@@ -44,22 +44,22 @@ pub front-more : (s : List ℕ) (at : ℕ) → at < length s
 unfolding frontVarUInt
 front-more s at h = rw (drop-cons s at 0, add-one)
 
--- ---- groups behind those that make up v, of which the first weighs w
+-- ---- a number whose low groups make up v, and of whose other groups the first weighs w
 
-abbrev pub behind : ℕ → ℕ → VarUInt → VarUInt
-behind v w (Number x next) = Number (v + w * x) next
-behind v w Cut = Cut
-behind v w Malformed = Malformed
+abbrev pub withLow : ℕ → ℕ → VarUInt → VarUInt
+withLow v w (Number x next) = Number (v + w * x) next
+withLow v w Cut = Cut
+withLow v w Malformed = Malformed
 
-pub behind-first : (g : ℕ) (r : VarUInt) → behind g 128 r ≡ before g r
-behind-first g (Number x next) = refl
-behind-first g Cut = refl
-behind-first g Malformed = refl
+pub with-low-first : (g : ℕ) (r : VarUInt) → withLow g 128 r ≡ before g r
+with-low-first g (Number x next) = refl
+with-low-first g Cut = refl
+with-low-first g Malformed = refl
 
-pub behind-more : (v w g : ℕ) (r : VarUInt) → behind (v + w * g) (w * 128) r ≡ behind v w (before g r)
-behind-more v w g (Number x next) = ap (λ (n : ℕ). Number n next) (omega arith)
-behind-more v w g Cut = refl
-behind-more v w g Malformed = refl
+pub with-low-more : (v w g : ℕ) (r : VarUInt) → withLow (v + w * g) (w * 128) r ≡ withLow v w (before g r)
+with-low-more v w g (Number x next) = ap (λ (n : ℕ). Number n next) (omega arith)
+with-low-more v w g Cut = refl
+with-low-more v w g Malformed = refl
 
 -- a group below n, of the weight w
 pub full : (n v w b : ℕ) → v < w → b < n → v + w * b < w * n

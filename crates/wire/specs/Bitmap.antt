@@ -22,9 +22,9 @@ total [] = 0
 total (b ∷ l) = b + total l
 
 -- What is read of the bitmap s of a struct with n known fields: all bits as a number, the known ones of it, how many of these are set, and how many beyond.
-pub record Present (s : List ℕ) (n word known count unknown : ℕ) : Type 0 where
+pub record Present (s : List ℕ) (n word known ones unknown : ℕ) : Type 0 where
   pub word-is : word ≡ little s
   pub known-is : known ≡ word % 2 ^ n
-  pub count-is : count ≡ total (take n (bitList s))
-  pub count-le : count ≤ n
+  pub ones-are : ones ≡ total (take n (bitList s))
+  pub ones-few : ones ≤ n
   pub unknown-is : unknown ≡ total (drop n (bitList s))

@@ -5,13 +5,18 @@ ghost use Prim.Native.Nat.{_+_, _/_, _%_, _^_, _≤_};
 ghost use lib.ListN.{length, take, drop};
 ghost use Rattle.wire.specs.Bitmap.{Present};
 
+// Bits of a byte, and the most of them that the last byte of a bitmap leaves over: n bits take (n + SPARE_BITS) / BYTE_BITS bytes.
+pub const BYTE_BITS: usize = 8;
+
+pub const SPARE_BITS: usize = 7;
+
 // What a struct's bitmap says of its fields.
 pub struct Presence {
     // The whole word, and the known fields' bits of it.
     pub bits: u64,
     pub known: u64,
     // How many of the known fields' bits are set, and how many bits above them.
-    pub count: u32,
+    pub ones: u32,
     pub unknown: u32,
 }
 
@@ -29,16 +34,16 @@ pub fn low_bits(x: u64, n: usize) -> u64
 // The bitmap of a struct of n fields, at a place.
 pub fn read(s: &[u8], at: usize, n: usize) -> Presence
     requires { ⌜ (n ≤ 64) × (at + (n + 7) / 8 ≤ length (now s)) ⌝ }
-    ensures { λ r. ⌜ Present (take ((n + 7) / 8) (drop at (now (s .entry)))) n (r .bits) (r .known) (r .count) (r .unknown) ⌝ }
+    ensures { λ r. ⌜ Present (take ((n + 7) / 8) (drop at (now (s .entry)))) n (r .bits) (r .known) (r .ones) (r .unknown) ⌝ }
 {
-    let bits = number(s, at, (n + 7) / 8);
+    let bits = number(s, at, (n + SPARE_BITS) / BYTE_BITS);
     let known = low_bits(bits, n);
-    let count = u64::count_ones(known);
+    let ones = u64::count_ones(known);
     let all = u64::count_ones(bits);
     Presence {
         bits,
         known,
-        count,
-        unknown: all - count,
+        ones,
+        unknown: all - ones,
     }
 }

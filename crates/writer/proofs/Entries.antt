@@ -92,11 +92,8 @@ payload-other s good ty cells B r is h =
 pub payload-struct : (s : List ℕ) → IsGood s → (ty : ℕ) (cells B : List ℕ) (r : TypeRow) → r ≡ rowAt (tableOf s) ty → {n : ℕ} → lengthOf (payloadBy s ty cells B) ≡ Written n → r .kind ≡ 16
 payload-struct s good ty cells B r is e = elim (ℕ-discrete (r .kind) 16) [
   | yes k ↦ k
-  | no k ↦ never (ap lengthOf (sym (payload-other s good ty cells B r is k)) ∙ e)
+  | no k ↦ let f = ap lengthOf (sym (payload-other s good ty cells B r is k)) ∙ e in differ cc
 ]
-  where
-    never : {A : Type 0} {n m q : ℕ} → Refused m q ≡ Written n → A
-    never e = differ cc
 
 -- what is refused stands nowhere
 pub front-refused : (memory after : List ℕ) {w : Writing} {n q : ℕ} → w ≡ refusal n q → Fronts w memory after

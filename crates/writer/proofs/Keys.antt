@@ -96,41 +96,46 @@ pub pair-first : (P : ℕ → RowReader Tree) (k v : ℕ) {n i : ℕ} (keys : Li
     → Accepted (walk P keys (pairs (n - i) k v) c) → Accepted (walk P keys (keyFirst k (plainItem v ∷ pairs (n - (i + 1)) k v)) c)
 pair-first P k v {n} {i} keys c some h = rw (pairs-some k v some) at h
 
-module _ (S : ℕ → Shape) {B cells out keys out′ keys′ : List ℕ} {i kind key row pos depth : ℕ} {judging : Bool} {r : Walk}
-    (put : KeyPut B cells out keys i kind key row pos depth judging r out′ keys′) (is : S key ≡ leafShape kind) (v : ℕ) {n : ℕ} (some : i < n) {end : Final}
-    (all : emitAll S (pairs (n - i) key v) (walk (show S B depth) (keysIn B keys i) (pairs (n - i) key v) (rowsAt cells row)) pos out ≡ end) where
-  -- after the key, its value and the others end as all do
-  pub pair-key : {r′ : Walk} → r ≡ r′ → pastKey S B cells keys′ i depth (plainItem v ∷ pairs (n - (i + 1)) key v) r′ out′ ≡ end
-  pair-key {r′} e =
-      let h : pastKey S B cells keys′ i depth (plainItem v ∷ pairs (n - (i + 1)) key v) r′ out′ ≡ _ = rw e at (put .same S is (plainItem v ∷ pairs (n - (i + 1)) key v)) in
-      h ∙ (rw (pairs-some key v some) at all)
+-- After key i, with the answer r for it: its value of type v and the pairs left of n end as all do.
+pub record AfterKey (S : ℕ → Shape) (B cells keys : List ℕ) (i key v n depth : ℕ) (judging : Bool) (r : Walk) (out : List ℕ) (end : Final) : Type 0 where
+  pub same : pastKey S B cells keys i depth (plainItem v ∷ pairs (n - (i + 1)) key v) r out ≡ end
+  pub within : KeyWithin B cells keys i depth judging r
 
-  module _ {row′ pos′ : ℕ} (e : r ≡ Past row′ pos′) where
-    pub pair-within : KeyWithin B cells keys′ i depth judging (Past row′ pos′)
-    pair-within = rw e at (put .within)
+pub after-key : (S : ℕ → Shape) {B cells out keys out′ keys′ : List ℕ} {i kind key row pos depth : ℕ} {judging : Bool} {r : Walk}
+    → KeyPut B cells out keys i kind key row pos depth judging r out′ keys′ → S key ≡ leafShape kind → (v : ℕ) {n : ℕ} → i < n → {end : Final}
+    → emitAll S (pairs (n - i) key v) (walk (show S B depth) (keysIn B keys i) (pairs (n - i) key v) (rowsAt cells row)) pos out ≡ end
+    → AfterKey S B cells keys′ i key v n depth judging r out′ end
+after-key S {i = i} {key = key} put is v {n} some all =
+    record { same = put .same S is (plainItem v ∷ pairs (n - (i + 1)) key v) ∙ (rw (pairs-some key v some) at all); within = put .within }
 
+module _ {S : ℕ → Shape} {B cells keys : List ℕ} {i key v n depth : ℕ} {judging : Bool} {r : Walk} {out : List ℕ} {end : Final}
+    (w : AfterKey S B cells keys i key v n depth judging r out end) where
+  pub key-was : {r′ : Walk} → r ≡ r′ → AfterKey S B cells keys i key v n depth judging r′ out end
+  key-was e = rw e at w
+
+  module _ {row pos : ℕ} (e : r ≡ Past row pos) where
     pub pair-accepted : (is₀ : List Item) (o₀ : AnswerOf Row Forest) (pos₀ : ℕ) (out₀ : List ℕ) → end ≡ emitAll S is₀ o₀ pos₀ out₀ → Accepted o₀
-        → Accepted (show S B depth v (rowsAt cells row′))
+        → Accepted (show S B depth v (rowsAt cells row))
     pair-accepted is₀ o₀ pos₀ out₀ q a =
         let rest = pairs (n - (i + 1)) key v in
-        let c = rowsAt cells row′ in
+        let c = rowsAt cells row in
         let P = show S B depth in
-        let keys = keysIn B keys′ (i + 1) in
-        item-accepted P keys refl c (shown-along S (plainItem v ∷ rest) is₀ (walk P keys (plainItem v ∷ rest) c) o₀ pos′ pos₀ out′ out₀ (pair-key e ∙ q) a)
+        let seen = keysIn B keys (i + 1) in
+        item-accepted P seen refl c (shown-along S (plainItem v ∷ rest) is₀ (walk P seen (plainItem v ∷ rest) c) o₀ pos pos₀ out out₀ (key-was e .same ∙ q) a)
 
-    pub pair-stop : {a q : ℕ} → stopped a q ≡ emit S v (show S B depth v (rowsAt cells row′)) pos′ out′ → stopped a q ≡ end
+    pub pair-stop : {a q : ℕ} → stopped a q ≡ emit S v (show S B depth v (rowsAt cells row)) pos out → stopped a q ≡ end
     unfolding emit emitAll
-    pair-stop h = item-stop (emitting S) (show S B depth) (keysIn B keys′ (i + 1)) refl (rowsAt cells row′) (emitted pos′ out′) _ h ∙ pair-key e
+    pair-stop h = item-stop (emitting S) (show S B depth) (keysIn B keys (i + 1)) refl (rowsAt cells row) (emitted pos out) _ h ∙ key-was e .same
 
     -- its value was written one way or the other
-    pub pair-past : length out′ ≤ 16384 → (at to : ℕ) (mid : List ℕ) → Came cells (emit S v (show S B depth v (rowsAt cells row′)) pos′ out′) out′ at to mid
-        → (emitAll S (pairs (n - (i + 1)) key v) (walk (show S B depth) (keysIn B keys′ (i + 1)) (pairs (n - (i + 1)) key v) (rowsAt cells at)) to mid ≡ end)
-        × (at ≤ length cells / 4) × (to ≤ 16385) × (length mid ≡ length out′)
+    pub pair-past : length out ≤ 16384 → (at to : ℕ) (mid : List ℕ) → Came cells (emit S v (show S B depth v (rowsAt cells row)) pos out) out at to mid
+        → (emitAll S (pairs (n - (i + 1)) key v) (walk (show S B depth) (keysIn B keys (i + 1)) (pairs (n - (i + 1)) key v) (rowsAt cells at)) to mid ≡ end)
+        × (at ≤ length cells / 4) × (to ≤ 16385) × (length mid ≡ length out)
     unfolding emit emitAll
     pair-past small at to mid came =
-        let w = came .walked in (
-          sym (item-past (emitting S) (show S B depth) (keysIn B keys′ (i + 1)) refl (rowsAt cells row′) (emitted pos′ out′) small (w .same)) ∙ pair-key e,
-          w .within .0,
-          w .within .1,
+        let v = came .walked in (
+          sym (item-past (emitting S) (show S B depth) (keysIn B keys (i + 1)) refl (rowsAt cells row) (emitted pos out) small (v .same)) ∙ key-was e .same,
+          v .within .0,
+          v .within .1,
           came .long,
         )

@@ -6,7 +6,7 @@ use Prim.Native.Nat.{ℕ, _+_, _-_, _*_, _/_, _≤_, _<_}
 use native.Mathlib.Omega.{arith}
 use native.Mathlib.Numerals.{add-one}
 use native.Mathlib.Decide.{decLt, ℕ-discrete}
-use borrow.Author.Tests.{le-leb, lt-leb, lt-ltb, le-ltb, eq-eqb, ne-eqb, eqb-true, leb-true}
+use borrow.Author.Tests.{le-leb, lt-leb, eq-eqb, ne-eqb, eqb-true, leb-true}
 use lib.Dec.{ltb, eqb}
 use lib.ListN.{length, getD}
 use Rattle.buffer.specs.Span.{span, inside}
@@ -18,7 +18,7 @@ use Rattle.schema.specs.Table.{width}
 use Rattle.schema.proofs.Bools.{and-left, and-right}
 use Rattle.value.specs.declared.Row.{Row}
 use Rattle.value.specs.Write.{nextRow, rowDue, says}
-use Rattle.value.proofs.Spans.{truth-byte}
+use Rattle.value.proofs.Spans.{scalar-untrue}
 use Rattle.value.proofs.Sheets.{rows-from, no-rows}
 use Rattle.walks.specs.Shape.{leafShape}
 use Rattle.walks.proofs.Tables.{leaf-scalar, leaf-text}
@@ -60,6 +60,14 @@ row-known cells k t a = elim (decLt k (length cells / 4)) [
   | no g ↦ let h : length cells / 4 ≤ k = omega arith in absurd (rw (← row-missing cells k t h .same) at a)
 ]
 
+-- a row that was found
+module _ {cells : List ℕ} {k t : ℕ} {due : Due} (found : DueRow cells k t due) {p n c : ℕ} (e : due ≡ Found p n c) where
+  pub due-in : DueIn cells k (Found p n c)
+  due-in = rw e at (found .within)
+
+  pub row-read : rowDue t (rowsAt cells k) ≡ seen (record { ty = t; place = p; length = n; count = c }) (rowsAt cells (k + 1))
+  row-read = sym (found .same) ∙ ap (dueAnswer cells k t) e
+
 -- ---- scalars, strings and bytes
 
 module _ (B : List ℕ) (kind p n c : ℕ) where
@@ -90,16 +98,10 @@ module _ (B : List ℕ) (kind p n c : ℕ) where
           pub one-byte : kind ≡ 1 → p < length B
           one-byte k = let e : n ≡ 1 = w ∙ ap width k in omega arith
 
-          pub scalar-truth : kind ≡ 1 → getD B p 0 ≤ 1 → (not (eqb kind 1) || ltb (little (span B p n)) 2) ≡ true
-          scalar-truth k h = rw (eq-eqb kind 1 k, truth-byte B kind p n w inside k) (lt-ltb (getD B p 0) 2 (omega arith))
-
-          pub scalar-other : (kind ≡ 1 → ⊥) → (not (eqb kind 1) || ltb (little (span B p n)) 2) ≡ true
-          scalar-other k = rw (ne-eqb kind 1 k)
-
           pub scalar-bad : kind ≡ 1 → 1 < getD B p 0 → Judged B kind p n c (VerdictRefused 22)
           unfolding andThen check
           scalar-bad k h =
-              let f : ltb (little (span B p n)) 2 ≡ false = rw (truth-byte B kind p n w inside k) (le-ltb (getD B p 0) 2 h) in
+              let f = scalar-untrue B kind p n w inside k h in
               record {
                 same = λ row cur. rw (leaf-scalar kind is, eq-eqb n (width kind) w, eq-eqb c 0 z, le-leb (p + n) (length B) inside, f, eq-eqb kind 1 k);
                 within = tt;
@@ -116,15 +118,9 @@ module _ (B : List ℕ) (kind p n c : ℕ) where
       text-outside h = record { same = λ k cur. rw (leaf-text kind is, eq-eqb c 0 z, lt-leb (p + n) (length B) h); within = tt }
 
       module _ (inside : p + n ≤ length B) where
-        text-fine : (not (eqb kind 12) || utf8 (span B p n)) ≡ true → Judged B kind p n c Fine
+        pub text-fine : (not (eqb kind 12) || utf8 (span B p n)) ≡ true → Judged B kind p n c Fine
         unfolding andThen check
         text-fine t = record { same = λ k cur. rw (leaf-text kind is, eq-eqb c 0 z, le-leb (p + n) (length B) inside, t); within = inside }
-
-        pub text-valid : kind ≡ 12 → utf8 (span B p n) ≡ true → Judged B kind p n c Fine
-        text-valid k e = text-fine (rw (eq-eqb kind 12 k) e)
-
-        pub text-plain : (kind ≡ 12 → ⊥) → Judged B kind p n c Fine
-        text-plain k = text-fine (rw (ne-eqb kind 12 k))
 
         pub text-bad : kind ≡ 12 → utf8 (span B p n) ≡ false → Judged B kind p n c (VerdictRefused 23)
         unfolding andThen check
@@ -166,26 +162,21 @@ module _ (cells B : List ℕ) (kind t k : ℕ) (d : Due) (due : DueRow cells k t
   leaf-missing e = record { same = rw (sym (due .same) ∙ ap (dueAnswer cells k t) e); within = tt }
 
   module _ (p n c : ℕ) (e : d ≡ Found p n c) where
-    due-in : DueIn cells k (Found p n c)
-    due-in = rw e at (due .within)
-
-    row-read : rowDue t (rowsAt cells k) ≡ seen (record { ty = t; place = p; length = n; count = c }) (rowsAt cells (k + 1))
-    row-read = sym (due .same) ∙ ap (dueAnswer cells k t) e
-
     pub row-small : (p < 4294967296) × (n < 4294967296)
-    row-small = (due-in .3, due-in .4)
+    row-small = let w = due-in due e in (w .3, w .4)
 
     row-says : rowSays B t (leafShape kind) (rowsAt cells k) ≡ says B k (leafShape kind) p n c (rowsAt cells (k + 1))
     unfolding rowSays andThen
-    row-says = rw row-read
+    row-says = rw (row-read due e)
 
     module _ (v : Verdict) (judged : Judged B kind p n c v) where
       pub leaf-fine : v ≡ Fine → LeafRow cells B kind t k (At p n)
       leaf-fine f =
           let w : VerdictIn (length B) p n Fine = rw f at (judged .within) in
+          let i = due-in due e in
           record {
             same = sym (row-says ∙ sym (judged .same k (rowsAt cells (k + 1))) ∙ ap (saidOf B p n k (rowsAt cells (k + 1))) f);
-            within = (due-in .0, due-in .1, due-in .2, w);
+            within = (i .0, i .1, i .2, w);
           }
 
       pub leaf-bad : (number : ℕ) → v ≡ VerdictRefused number → LeafRow cells B kind t k (LeafRefused number)

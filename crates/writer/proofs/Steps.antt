@@ -88,8 +88,8 @@ shown-along S is is′ o o′ pos pos′ l m e h = accepted-along (emitting S .a
 pub onward : {A A′ : Type 0} {s cells out out′ : List ℕ} {row row′ pos pos′ : ℕ} {judging : Bool} {o : AnswerOf Row A} {o′ : AnswerOf Row A′}
     → Ready s cells out row pos judging o → row′ ≤ length cells / 4 → pos′ ≤ 16385 → length out′ ≡ length out → (Accepted o → Accepted o′)
     → Ready s cells out′ row′ pos′ judging o′
-onward w inside behind long held =
-    record { good = w .good; inside = inside; behind = behind; small = rw long (w .small); judged = λ j. held (w .judged j) }
+onward w inside capped long held =
+    record { good = w .good; inside = inside; capped = capped; small = rw long (w .small); judged = λ j. held (w .judged j) }
 
 pub branch-bytes : (S : ℕ → Shape) (t : ℕ) (r : Row) (h : ℕ) (ts : Forest) → encode S (value (branch r h ts)) t ≡ headBytes (S t) h ++ encodeAll S (values ts) (plan (S t) h)
 unfolding encode value

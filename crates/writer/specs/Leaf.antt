@@ -1,16 +1,17 @@
 -- What the leaves of the writer answer: a row, a content, a bitmap.
 use mathlib.Core.Path.{_≡_}
+use mathlib.Core.Bool.{Bool, true, false}
 use mathlib.Core.List.{List}
 use Prim.Native.Nat.{ℕ, _+_, _*_, _/_, _^_, _≤_, _<_}
-use lib.Dec.{eqb, ltb}
+use lib.Dec.{eqb}
 use lib.ListN.{length, getD, drop}
 use Rattle.buffer.specs.Span.{span}
-use Rattle.parse.specs.Reader.{CursorOf, AnswerOf, refused, seen, _>>=_, at}
+use Rattle.parse.specs.Reader.{CursorOf, AnswerOf, refused, seen, _>>=_, _>>_, return, at, check}
 use Rattle.schema.specs.declared.Field.{Field}
-use Rattle.schema.specs.Table.{Shape}
+use Rattle.schema.specs.Table.{Shape, struct}
 use Rattle.value.specs.declared.Row.{Row}
 use Rattle.value.specs.Sheet.{rowsOf}
-use Rattle.value.specs.Read.{Own, plain, present, knownBits}
+use Rattle.value.specs.Read.{Own, plain, parts, rowCount, knownBits}
 use Rattle.value.specs.Write.{RowReader, rowDue, bitsAt, says}
 use Rattle.walks.specs.Shape.{leafShape}
 use Rattle.walks.specs.Required.{Requires}
@@ -85,21 +86,27 @@ pub record LeafRow (cells B : List ℕ) (kind t k : ℕ) (r : Leaf) : Type 0 whe
 
 -- ---- presence bits
 
-abbrev pub headOf : (k : ℕ) → CursorOf Row → Head → AnswerOf Row ℕ
-headOf k cur (Bits word known ones unknown) = seen word cur
+-- What row k of a struct with the fields fs says. One inside another value is judged as any value is; the root's unknown bits are left out.
+abbrev pub headSays : (inner : Bool) → (B : List ℕ) (k : ℕ) → List Field → (place count : ℕ) → RowReader Own
+headSays true B k fs p c = says B k (struct fs) p 0 c
+headSays false B k fs p c = do
+  m ← bitsAt B k fs p
+  check (eqb c (rowCount (struct fs) (knownBits fs m))) 50 k
+  return (parts 0 (knownBits fs m))
+
+abbrev pub headOf : (k : ℕ) → CursorOf Row → Head → AnswerOf Row Own
+headOf k cur (Bits known) = seen (parts 0 known) cur
 headOf k cur (HeadRefused number) = refused number k
 
--- The known bits and their count, and that there is no unknown one exactly where the word is below 2 ^ fields.
-abbrev pub HeadIn : List Field → Head → Type 0
-HeadIn fs (Bits word known ones unknown) =
-    (known ≡ knownBits fs word) × (ones ≡ length (present fs known)) × (ltb word (2 ^ length fs) ≡ eqb unknown 0)
-HeadIn fs (HeadRefused number) = Unit {0}
+abbrev pub HeadIn : (n : ℕ) → Head → Type 0
+HeadIn n (Bits known) = known < 2 ^ n
+HeadIn n (HeadRefused number) = Unit {0}
 
--- They are what the bitmap at place p says, whichever row it is of.
-pub record Headed (B : List ℕ) (fs : List Field) (p : ℕ) (r : Head) : Type 0 where
-  pub same : (k : ℕ) (cur : CursorOf Row) → headOf k cur r ≡ bitsAt B k fs p cur
-  pub within : HeadIn fs r
+-- It is what the row says, whichever row it is.
+abbrev pub Headed : (inner : Bool) → List ℕ → List Field → (place count : ℕ) → Head → Type 0
+Headed inner B fs p c r = (k : ℕ) (cur : CursorOf Row) → headOf k cur r ≡ headSays inner B k fs p c cur
 
 -- The same for whatever struct of n fields asks for these bits.
-abbrev pub HeadedBy : (B : List ℕ) (required n p : ℕ) → Head → Type 0
-HeadedBy B required n p r = (fs : List Field) → length fs ≡ n → Requires required fs → Headed B fs p r
+pub record HeadedBy (B : List ℕ) (required n p c : ℕ) (inner : Bool) (r : Head) : Type 0 where
+  pub same : (fs : List Field) → length fs ≡ n → Requires required fs → Headed inner B fs p c r
+  pub within : HeadIn n r

@@ -70,7 +70,7 @@ pub record Walked (cells : List ℕ) (end : Final) (r : Walk) (out : List ℕ) :
 pub record Ready {A : Type 0} (s cells out : List ℕ) (row pos : ℕ) (judging : Bool) (o : AnswerOf Row A) : Type 0 where
   pub good : IsGood s
   pub inside : row ≤ length cells / 4
-  pub behind : pos ≤ 16385
+  pub capped : pos ≤ 16385
   pub small : length out ≤ 16384
   pub judged : judging ≡ false → Accepted o
 
@@ -98,8 +98,8 @@ KeyWithin B cells keys i depth judging (Refused n q) = Unit {0}
 
 -- What is asked for a key of a kind, and what is told of it: the items from it on end as those after it do.
 pub record KeyReady (B cells out keys : List ℕ) (i kind key row pos depth : ℕ) (judging : Bool) : Type 0 where
-  pub room : i + 4 < length keys / 2
-  pub behind : pos ≤ 16385
+  pub keys-fit : i + 4 < length keys / 2
+  pub capped : pos ≤ 16385
   pub small : length out ≤ 16384
   pub kept : Kept B keys judging i
   pub judged : judging ≡ false → (S : ℕ → Shape) × (S key ≡ leafShape kind) × ((rest : List Item) × Accepted (keyIn S B cells keys i key row depth rest))

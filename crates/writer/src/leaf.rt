@@ -1,4 +1,5 @@
-// What one row says: its cells, the content of a scalar, string or bytes, and the presence bits of a struct.
+// What one row says: its cells, the content of a leaf, and the presence bits of a struct. A leaf is a value of a kind that holds no other: a scalar, a string or bytes.
+use constants::format;
 use constants::kind;
 use constants::refusal;
 use wire::bitmap;
@@ -33,17 +34,10 @@ pub enum Verdict {
     Refused { number: u32 },
 }
 
-// A bitmap's word, the known fields' bits of it and their count, and the number of unknown bits set; or the number of its fault.
+// The known fields' bits of a bitmap, or the number of a struct's first fault.
 pub enum Head {
-    Bits {
-        word: u64,
-        known: u64,
-        ones: usize,
-        unknown: usize,
-    },
-    Refused {
-        number: u32,
-    },
+    Bits { known: u64 },
+    Refused { number: u32 },
 }
 
 pub fn wide(x: u32) -> usize
@@ -56,10 +50,10 @@ pub fn wide(x: u32) -> usize
 pub fn row_due(sheet: &[u32], row: usize, ty: u32) -> Due
     ensures { λ r. ⌜ DueRow (now (sheet .entry)) row ty r ⌝ }
 {
-    if sheet.len() / 4 <= row {
+    if sheet.len() / format::ROW_CELLS <= row {
         return Due::Missing;
     }
-    let k = 4 * row;
+    let k = format::ROW_CELLS * row;
     if sheet[k] != ty {
         return Due::Missing;
     }
@@ -148,12 +142,20 @@ pub fn content(source: &[u8], kind: usize, place: usize, n: usize, count: usize)
     }
 }
 
-// The presence bytes at the place of a struct that has n fields, of which those with bits in `required` have to be there.
-pub fn presence(source: &[u8], required: u64, n: usize, place: usize) -> Head
-    requires { ⌜ (0 < n) × (n ≤ 64) × (place < 4294967296) ⌝ }
-    ensures { λ r. ⌜ HeadedBy (now (source .entry)) required n place r ⌝ }
+// A struct's row by its presence bytes: n fields, of which those with bits in `required` have to be there, and a count of the known ones.
+// The root's unknown bits are left out, an inner struct's are refused.
+pub fn struct_bits(
+    source: &[u8],
+    required: u64,
+    n: usize,
+    place: usize,
+    count: usize,
+    inner: bool,
+) -> Head
+    requires { ⌜ (n ≤ 64) × (place < 4294967296) ⌝ }
+    ensures { λ r. ⌜ HeadedBy (now (source .entry)) required n place count inner r ⌝ }
 {
-    let size = (n + 7) / 8;
+    let size = (n + bitmap::SPARE_BITS) / bitmap::BYTE_BITS;
     if source.len() < place + size {
         return Head::Refused {
             number: refusal::OUTSIDE,
@@ -165,15 +167,20 @@ pub fn presence(source: &[u8], required: u64, n: usize, place: usize) -> Head
             number: refusal::ABSENT_FIELD,
         };
     }
-    Head::Bits {
-        word: b.bits,
-        known: b.known,
-        ones: b.count as usize,
-        unknown: b.unknown as usize,
+    if inner & (b.bits != b.known) {
+        return Head::Refused {
+            number: refusal::SHEET,
+        };
     }
+    if count != b.ones as usize {
+        return Head::Refused {
+            number: refusal::SHEET,
+        };
+    }
+    Head::Bits { known: b.known }
 }
 
-// A content's place and length, or the number of the row's first fault.
+// Where a leaf's content stands and its length, or the number of the row's first fault.
 pub enum Leaf {
     At { place: usize, length: usize },
     Refused { number: u32 },
@@ -192,7 +199,7 @@ pub fn leaf_row(
     ensures { λ r. ⌜ LeafRow (now (sheet .entry)) (now (source .entry)) kind ty row r ⌝ }
 {
     if !judging {
-        let k = 4 * row;
+        let k = format::ROW_CELLS * row;
         return Leaf::At {
             place: wide(sheet[k + 1]),
             length: wide(sheet[k + 2]),

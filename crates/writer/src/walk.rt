@@ -4,11 +4,12 @@ use crate::leaf::Due;
 use crate::leaf::Head;
 use crate::leaf::Leaf;
 use crate::leaf::leaf_row;
-use crate::leaf::presence;
 use crate::leaf::row_due;
+use crate::leaf::struct_bits;
 use crate::put::put_bits;
 use crate::put::put_content;
 use crate::put::put_number;
+use constants::format;
 use constants::kind;
 use constants::limit;
 use constants::refusal;
@@ -21,6 +22,8 @@ use walks::key::FLAG_CELLS;
 use walks::key::is_repeated;
 use walks::required_of;
 use walks::zeros_in;
+use wire::bitmap::BYTE_BITS;
+use wire::bitmap::SPARE_BITS;
 ghost use mathlib.Core.Path.{_≡_};
 ghost use mathlib.Core.List.{[]};
 ghost use Prim.Native.Nat.{suc, _+_, _/_, _^_, _≤_, _<_};
@@ -86,8 +89,8 @@ fn write_composite(
     refused(refusal::SHEET, row)
 }
 
-// A leaf of a kind in a row.
-fn leaf(
+// A leaf, which is a scalar, a string or bytes, of a kind in a row.
+fn write_leaf(
     s: &[u8],
     sheet: &[u32],
     source: &[u8],
@@ -116,7 +119,7 @@ fn leaf(
 }
 
 // So many elements of an array from a row on, which are leaves of a kind: a loop without the cycle of walkers.
-fn leaves(
+fn write_leaves(
     s: &[u8],
     sheet: &[u32],
     source: &[u8],
@@ -140,7 +143,7 @@ fn leaves(
         if depth == 0 {
             return refused(refusal::TOO_DEEP, here);
         }
-        match leaf(s, sheet, source, out, kind, elem, here, to, depth, judging) {
+        match write_leaf(s, sheet, source, out, kind, elem, here, to, depth, judging) {
             Walk::Refused { number, place } => {
                 return Walk::Refused { number, place };
             }
@@ -213,7 +216,7 @@ fn write_elements(
     let t = known_row(s, ty as usize);
     let kind = t.kind as usize;
     if kind < ARRAY {
-        return leaves(
+        return write_leaves(
             s,
             sheet,
             source,
@@ -537,21 +540,10 @@ fn write_struct(
             place,
             length: _,
             count,
-        } => match presence(source, required, n, place) {
+        } => match struct_bits(source, required, n, place, count, true) {
             Head::Refused { number } => refused(number, row),
-            Head::Bits {
-                word,
-                known,
-                ones,
-                unknown: _,
-            } => {
-                if word != known {
-                    return refused(refusal::SHEET, row);
-                }
-                if count != ones {
-                    return refused(refusal::SHEET, row);
-                }
-                let next = put_bits(out, pos, (n + 7) / 8, known);
+            Head::Bits { known } => {
+                let next = put_bits(out, pos, (n + SPARE_BITS) / BYTE_BITS, known);
                 write_fields(
                     s,
                     sheet,
@@ -682,7 +674,7 @@ fn root_fields(
     ) {
         Walk::Refused { number, place } => Walk::Refused { number, place },
         Walk::Past { row, pos } => {
-            if row < sheet.len() / 4 {
+            if row < sheet.len() / format::ROW_CELLS {
                 return refused(refusal::SHEET, row);
             }
             Walk::Past { row, pos }
@@ -711,18 +703,17 @@ pub fn root(
             place,
             length: _,
             count,
-        } => match presence(source, required_of(s, layout_of(s), first, n), n, place) {
+        } => match struct_bits(
+            source,
+            required_of(s, layout_of(s), first, n),
+            n,
+            place,
+            count,
+            false,
+        ) {
             Head::Refused { number } => refused(number, 0),
-            Head::Bits {
-                word: _,
-                known,
-                ones,
-                unknown: _,
-            } => {
-                if count != ones {
-                    return refused(refusal::SHEET, 0);
-                }
-                let next = put_bits(out, 0, (n + 7) / 8, known);
+            Head::Bits { known } => {
+                let next = put_bits(out, 0, (n + SPARE_BITS) / BYTE_BITS, known);
                 root_fields(s, sheet, source, out, first, n, known, next, judging)
             }
         },

@@ -53,7 +53,7 @@ forward-sheet-spec =
     let type-row = c .before .before .before .before .before .type-row in
     let if1 = c .before .before .before .if1 in
     let is = shape-struct (tableOf (args .s .now)) (args .ty) _ (type-row .ensures) (if1 .left) in (
-      (record { good = asked; inside = omega arith; behind = omega arith; small = omega arith; judged = λ j. absurd (false≢true (sym j)) }, is),
+      (record { good = asked; inside = omega arith; capped = omega arith; small = omega arith; judged = λ j. absurd (false≢true (sym j)) }, is),
       struct-row (args .s .now) asked (args .ty) _ (type-row .ensures) (if1 .left),
     ))
     -- enum-known-number
@@ -174,7 +174,7 @@ forward-sheet-spec =
     (placed .result) _ (placed .ensures) many _ (unknown .ensures) _ (told .fault-of .ensures) (c .before .if2 .left) in
     let shown = entry-accepted (args .s .now) (args .ty) (args .sheet .now) (args .source .now) (args .tail-place) (args .tail-length) (args .out .now) fs is
     _ _ _ (walked .root .ensures) (walked .root .kept .1 .1 .1 .0) _ _ (judged .pos .given .1) in (
-      (record { good = asked; inside = omega arith; behind = omega arith; small = rw (length-take-le _ _ room) (omega (arith, short)); judged = λ j. shown }, is),
+      (record { good = asked; inside = omega arith; capped = omega arith; small = rw (length-take-le _ _ room) (omega (arith, short)); judged = λ j. shown }, is),
       there,
     ))
     -- add-keep

@@ -34,7 +34,7 @@ make-spec =
     let type-row = c .before .before .before .before .before .type-row in
     let if1 = c .before .before .before .if1 in (
       (
-        record { good = asked .0; inside = omega arith; behind = omega arith; small = asked .1; judged = λ j. absurd (false≢true (sym j)) },
+        record { good = asked .0; inside = omega arith; capped = omega arith; small = asked .1; judged = λ j. absurd (false≢true (sym j)) },
         shape-struct (tableOf (args .s .now)) (args .ty) _ (type-row .ensures) (if1 .left),
       ),
       struct-row (args .s .now) (asked .0) (args .ty) _ (type-row .ensures) (if1 .left),

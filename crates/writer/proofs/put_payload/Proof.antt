@@ -32,7 +32,7 @@ put-payload-spec =
         record {
           good = asked .0;
           inside = omega arith;
-          behind = omega arith;
+          capped = omega arith;
           small = payload-room (args .s .now) (args .ty) (args .sheet .now) (args .source .now) fs is (asked .1);
           judged = λ j. payload-accepted (args .s .now) (args .ty) (args .sheet .now) (args .source .now) fs is (asked .1);
         },

@@ -4,7 +4,7 @@ use Rattle.calls.proofs.Tally.is_full.Statement.{statement}
 use Rattle.calls.proofs.Tally.is_full.Tie as tie
 
 returns : tie.Need-returns
-returns c = rw (c .figure .ensures)
+returns c = rw (c .amount .ensures)
 
 pub is-full-spec : {M : Type 1} → statement M
 is-full-spec = tie.close (tie.spec (λ c κs. search needs) returns)

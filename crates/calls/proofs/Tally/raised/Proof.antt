@@ -6,13 +6,13 @@ use borrow.Author.Tests.{eqb-false}
 use borrow.Author.Needs.{needs}
 use Rattle.calls.specs.declared.Tally.{Tally}
 use Rattle.calls.specs.declared.Figure.{Figure}
-use Rattle.calls.specs.Counting.{figureIn, fullAt, raised}
+use Rattle.calls.specs.Counting.{amountIn, fullAt, raised}
 use Rattle.calls.proofs.Tally.raised.Statement.{statement}
 use Rattle.calls.proofs.Tally.raised.Tie as tie
 
 -- the figure met is not full
-has-room : (t : Tally) (f g : Figure) → fullAt t f ≡ false → f ≡ g → figureIn t g ≡ 4294967295 → ⊥
-has-room t f g e is = eqb-false (figureIn t g) 4294967295 (subst (λ (x : Figure). fullAt t x ≡ false) is e)
+has-room : (t : Tally) (f g : Figure) → fullAt t f ≡ false → f ≡ g → amountIn t g ≡ 4294967295 → ⊥
+has-room t f g e is = eqb-false (amountIn t g) 4294967295 (subst (λ (x : Figure). fullAt t x ≡ false) is e)
 
 add-next : tie.Need-add-next
 add-next c =

@@ -9,18 +9,18 @@ use lib.ListN.{length, replicate}
 use borrow.Author.Needs.{needs}
 use borrow.Author.Tests.{not-true}
 use Rattle.schema.proofs.Bools.{clash, and-right}
-use Rattle.calls.proofs.Distinct.{Apart, apart-none, apart-all, apart-here, apart-next}
+use Rattle.calls.proofs.Distinct.{DistinctFrom, distinct-none, distinct-all, distinct-here, distinct-next}
 use Rattle.calls.proofs.good.distinct_by_flags.Statement.{statement}
 use Rattle.calls.proofs.good.distinct_by_flags.Tie as tie
 
 abbrev Inv-loop : tie.InvT-loop
-Inv-loop ids mixing seen₀ searches₀ i₀ seen searches i = Apart ids mixing seen i × (searches + i ≤ length ids)
+Inv-loop ids mixing seen₀ searches₀ i₀ seen searches i = DistinctFrom ids mixing seen i × (searches + i ≤ length ids)
 
 abbrev μ-loop : tie.MeasureT-loop
 μ-loop ids mixing seen₀ searches₀ i₀ seen searches i = i
 
 loop-holds : tie.Need-loop-holds Inv-loop μ-loop
-loop-holds c = (apart-none (c .before .args .ids .now) _ (replicate 1024 false) refl, omega arith)
+loop-holds c = (distinct-none (c .before .args .ids .now) _ (replicate 1024 false) refl, omega arith)
 
 -- given up
 returns : tie.Need-returns Inv-loop μ-loop
@@ -33,23 +33,23 @@ returns-2 c =
     let flag = c .before .before .before .before in
     let turn = flag .before .before .before in
     let l = turn .loop in
-    let again = sym (c .before .holds-where .ensures) ∙ c .if3 .taken in
-    (λ e. apart-here (turn .before .before .args .ids .now) _ (l .seen) (l .i) (l .inv .0) (omega arith) (flag .flag-of .result) (flag .flag-of .ensures .0) again, λ m. refl)
+    let again = sym (c .before .contains-where .ensures) ∙ c .if3 .taken in
+    (λ e. distinct-here (turn .before .before .args .ids .now) _ (l .seen) (l .i) (l .inv .0) (omega arith) (flag .flag-of .result) (flag .flag-of .ensures .0) again, λ m. refl)
 
 loop-again : tie.Need-loop-again Inv-loop μ-loop
 loop-again c =
     let flag = c .before .before .before .before in
     let turn = flag .before .before .before in
     let l = turn .loop in
-    let again = sym (c .before .holds-where .ensures) ∙ c .if3 .left in (
-      apart-next (turn .before .before .args .ids .now) _ (l .seen) (l .i) (l .inv .0) (omega arith) (flag .flag-of .result) (flag .flag-of .ensures .0) again,
+    let again = sym (c .before .contains-where .ensures) ∙ c .if3 .left in (
+      distinct-next (turn .before .before .args .ids .now) _ (l .seen) (l .i) (l .inv .0) (omega arith) (flag .flag-of .result) (flag .flag-of .ensures .0) again,
       ⊎-elim (λ w. omega (arith, w .2)) (λ w. omega (arith, w .1)) (c .before .before .before .if1 .came),
     )
 
 returns-3 : tie.Need-returns-3 Inv-loop μ-loop
 returns-3 c =
     let l = c .before .loop in
-    (λ e. apart-all (c .before .before .before .args .ids .now) _ (l .seen) (l .i) (l .inv .0) (omega arith), λ m. refl)
+    (λ e. distinct-all (c .before .before .before .args .ids .now) _ (l .seen) (l .i) (l .inv .0) (omega arith), λ m. refl)
 
 pub distinct-by-flags-spec : {M : Type 1} → statement M
 distinct-by-flags-spec =

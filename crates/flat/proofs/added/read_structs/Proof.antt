@@ -1,20 +1,35 @@
 -- `flat::added::read_structs` meets its contract. The invariant: what is left of the elements gives the same end, whatever else is shown.
 use borrow.Author.Needs.{needs}
 use mathlib.Core.Path.{_≡_, refl, _∙_}
-use Prim.Native.Nat.{ℕ, suc, _-_}
+use Prim.Native.Nat.{ℕ, suc, _+_, _-_}
 use native.Mathlib.Omega.{arith}
 use Rattle.schema.specs.Table.{Shape}
+use Rattle.walks.specs.Shape.{shapeIn}
 use Rattle.flat.specs.Flat.{firstShape}
+use Rattle.flat.specs.Walk.{valueIn, told, Walked}
 use Rattle.flat.proofs.Turns.{described-own, Counting, counting-first, counting-own, counting-end, counting-below, counting-deep, counting-stop, counting-sum, counting-on, lifted}
 use Rattle.flat.proofs.added.read_structs.Statement.{statement}
 use Rattle.flat.proofs.added.read_structs.Tie as tie
 
 abbrev Inv-loop : tie.InvT-loop
 Inv-loop s p sheet₀ ty elem m n start depth row judging f left₀ here₀ below₀ sum₀ sheet left here below sum =
-    Counting (λ R. R elem ≡ firstShape s elem m) s p depth elem n start row sheet₀ left here sum below sheet
+    Counting (λ R. R elem ≡ firstShape s elem m) s p depth ty elem n start row judging sheet₀ left here sum below sheet
 
 abbrev μ-loop : tie.MeasureT-loop
 μ-loop s p sheet₀ ty elem m n start depth row judging f left₀ here₀ below₀ sum₀ sheet left here below sum = left
+
+-- After an element, which was read by what was prepared.
+walked : (c : tie.After-partial-struct Inv-loop μ-loop) →
+    let args = c .before .before .before .before .before .before .before .before .before .args in
+    let loop = c .before .before .before .before .loop in
+    (R : ℕ → Shape) → R (args .elem) ≡ firstShape (args .s .now) (args .elem) (args .m)
+    → Walked (args .p .now) (loop .here + 1) (told R (shapeIn (args .s .now)) (args .elem)) (valueIn (args .s .now) (args .p .now) (args .depth) (args .elem) (loop .here)) (loop .below)
+    (loop .sheet) (c .partial-struct .result) (c .partial-struct .last .1 .1 .1 .1 .0)
+walked c =
+    let args = c .before .before .before .before .before .before .before .before .before .args in
+    let same = c .before .before .before .before .before .prepared-of .ensures .same in
+    lifted (λ R. R (args .elem) ≡ firstShape (args .s .now) (args .elem) (args .m)) (args .s .now) (args .depth) (c .before .before .before .before .loop .here) same (c .before .before .if1 .left)
+    (λ R shown. c .partial-struct .ensures R (rw same shown))
 
 pub read-structs-spec : {M : Type 1} → statement M
 read-structs-spec =
@@ -27,31 +42,19 @@ read-structs-spec =
     -- add-below
     (λ c. let pre = c .before .before .before .before .pre in omega (arith, pre .0 .0 .small, pre .0 .0 .inside, pre .0 .0 .behind))
     -- loop-holds
-    (λ c.
-    let args = c .before .before .before .before .args in
-    let pre = c .before .before .before .before .pre in
-    counting-first (λ R. R (args .elem) ≡ firstShape (args .s .now) (args .elem) (args .m)) (λ t. firstShape (args .s .now) (args .elem) (args .m)) refl (args .ty) (pre .0 .0) _)
+    (λ c. let args = c .before .before .before .before .args in let pre = c .before .before .before .before .pre in counting-first (pre .0 .0) (λ t. firstShape (args .s .now) (args .elem) (args .m)) refl _)
     -- same-length
     (λ c. c .before .before .loop .inv .long)
     -- returns
-    (λ c.
-    let c2 = c .before .before in
-    let loop = c2 in
-    let args = loop .before .before .before .before .before .args in
-    let pre = loop .before .before .before .before .before .pre in
-    counting-deep (λ R. R (args .elem) ≡ firstShape (args .s .now) (args .elem) (args .m)) (λ t. firstShape (args .s .now) (args .elem) (args .m)) refl (args .ty) (pre .0 .0) (loop .loop .inv) (c .before .loop-test .taken)
-    (c .if1 .taken))
-    -- sub-part-struct
+    (λ c. counting-deep (c .before .before .loop .inv) (c .before .loop-test .taken) (c .if1 .taken))
+    -- sub-partial-struct
     (λ c. search needs)
-    -- part-struct-requires
+    -- partial-struct-requires
     (λ c κs.
-    let c2 = c .before .before in
-    let c3 = c2 .before in
-    let loop = c3 in
+    let loop = c .before .before .before in
     let args = loop .before .before .before .before .before .args in
     let pre = loop .before .before .before .before .before .pre in
-    let ready = counting-below (λ R. R (args .elem) ≡ firstShape (args .s .now) (args .elem) (args .m)) (λ t. firstShape (args .s .now) (args .elem) (args .m)) refl (args .ty) (pre .0 .0) (loop .loop .inv)
-    (c2 .loop-test .taken) (c .before .if1 .left) in
+    let ready = counting-below (loop .loop .inv) (c .before .before .loop-test .taken) (c .before .if1 .left) in
     let f = loop .before .prepared-of in
     let level : args .depth ≡ suc (args .depth - 1) = omega (arith, c .before .if1 .left) in (
       rw (f .ensures .same) ready,
@@ -63,70 +66,30 @@ read-structs-spec =
     -- enum-known-number
     (λ c. search needs)
     -- same-length-2
-    (λ c. c .before .before .before .before .before .part-struct .kept .1 .1 .1 .1 .0 ∙ c .before .before .before .before .before .before .before .before .before .loop .inv .long)
+    (λ c. c .before .before .before .before .before .partial-struct .kept .1 .1 .1 .1 .0 ∙ c .before .before .before .before .before .before .before .before .before .loop .inv .long)
     -- returns-2
     (λ c.
-    let c5 = c .before .before .before .before .before in
-    let c7 = c5 .before .before in
-    let c8 = c7 .before in
-    let c9 = c8 .before in
-    let loop = c9 in
-    let args = loop .before .before .before .before .before .args in
-    let pre = loop .before .before .before .before .before .pre in
-    let same = loop .before .prepared-of .ensures .same in
-    let Ok : (ℕ → Shape) → Type 0 = λ R. R (args .elem) ≡ firstShape (args .s .now) (args .elem) (args .m) in
-    let walked = lifted Ok (args .s .now) (args .depth) (loop .loop .here) same (c7 .if1 .left) (λ R shown. c5 .part-struct .ensures R (rw same shown)) in
-    counting-stop Ok (λ t. firstShape (args .s .now) (args .elem) (args .m)) refl (args .ty) (pre .0 .0) (loop .loop .inv) (c8 .loop-test .taken) walked (c .before .number .given .1))
+    let call = c .before .before .before .before .before in
+    counting-stop (call .before .before .before .before .loop .inv) (call .before .before .before .loop-test .taken) (walked call) (c .before .number .given .1))
     -- enum-known-due
     (λ c. search needs)
     -- add-sum
     (λ c.
-    let c5 = c .before .before .before .before .before in
-    let c7 = c5 .before .before in
-    let c8 = c7 .before in
-    let c9 = c8 .before in
-    let loop = c9 in
-    let args = loop .before .before .before .before .before .args in
-    let pre = loop .before .before .before .before .before .pre in
-    let same = loop .before .prepared-of .ensures .same in
-    let Ok : (ℕ → Shape) → Type 0 = λ R. R (args .elem) ≡ firstShape (args .s .now) (args .elem) (args .m) in
-    let walked = lifted Ok (args .s .now) (args .depth) (loop .loop .here) same (c7 .if1 .left) (λ R shown. c5 .part-struct .ensures R (rw same shown)) in
-    let most = counting-sum Ok (λ t. firstShape (args .s .now) (args .elem) (args .m)) refl (args .ty) (pre .0 .0) (loop .loop .inv) (c8 .loop-test .taken) walked (c .before .due .given .1) in
-    omega (arith, most))
+    let call = c .before .before .before .before .before in
+    let most = counting-sum (call .before .before .before .before .loop .inv) (call .before .before .before .loop-test .taken) (walked call) (c .before .due .given .1) in omega (arith, most))
     -- sub-left
     (λ c. search needs)
     -- loop-less
     (λ c. omega arith)
     -- loop-again
     (λ c.
-    let c5 = c .before .before .before .before .before in
-    let c7 = c5 .before .before in
-    let c8 = c7 .before in
-    let c9 = c8 .before in
-    let loop = c9 in
-    let args = loop .before .before .before .before .before .args in
-    let pre = loop .before .before .before .before .before .pre in
-    let same = loop .before .prepared-of .ensures .same in
-    let Ok : (ℕ → Shape) → Type 0 = λ R. R (args .elem) ≡ firstShape (args .s .now) (args .elem) (args .m) in
-    let walked = lifted Ok (args .s .now) (args .depth) (loop .loop .here) same (c7 .if1 .left) (λ R shown. c5 .part-struct .ensures R (rw same shown)) in
-    counting-on Ok (λ t. firstShape (args .s .now) (args .elem) (args .m)) refl (args .ty) (pre .0 .0) (loop .loop .inv) (c8 .loop-test .taken) walked (c .before .due .given .1) (c5 .part-struct .kept .1 .1 .1 .1 .0))
+    let call = c .before .before .before .before .before in
+    counting-on (call .before .before .before .before .loop .inv) (call .before .before .before .loop-test .taken) (walked call) (c .before .due .given .1) (call .partial-struct .kept .1 .1 .1 .1 .0))
     -- sub-put-row
     (λ c. omega (arith, c .before .before .loop .inv .forth))
     -- put-row-requires
-    (λ c κs.
-    let loop = c .before .before in
-    let args = loop .before .before .before .before .before .args in
-    let pre = loop .before .before .before .before .before .pre in
-    counting-own (λ R. R (args .elem) ≡ firstShape (args .s .now) (args .elem) (args .m)) (λ t. firstShape (args .s .now) (args .elem) (args .m)) refl (args .ty) (pre .0 .0) (loop .loop .inv) (pre .0 .2))
+    (λ c κs. let pre = c .before .before .before .before .before .before .before .pre in counting-own (c .before .before .loop .inv) (pre .0 .2))
     -- same-length-3
     (λ c. c .before .before .put-row .kept .0 ∙ c .before .before .before .before .before .loop .inv .long)
     -- returns-3
-    (λ c.
-    let c2 = c .before .before in
-    let c4 = c2 .before .before in
-    let c5 = c4 .before in
-    let loop = c5 in
-    let args = loop .before .before .before .before .before .args in
-    let pre = loop .before .before .before .before .before .pre in
-    counting-end (λ R. R (args .elem) ≡ firstShape (args .s .now) (args .elem) (args .m)) (λ t. firstShape (args .s .now) (args .elem) (args .m)) refl (args .ty) (pre .0 .0) (loop .loop .inv) (λ h. omega
-    (arith, c4 .loop-test .left, h)) (c2 .put-row .ensures)))
+    (λ c. counting-end (c .before .before .before .before .before .loop .inv) (λ h. omega (arith, c .before .before .before .before .loop-test .left, h)) (c .before .before .put-row .ensures)))

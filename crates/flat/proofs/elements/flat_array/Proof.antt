@@ -21,7 +21,7 @@ flat-array-spec =
     (λ c. search needs)
     -- enum-known-n
     (λ c. search needs)
-    -- leaves-requires
+    -- read-leaves-requires
     (λ c κs.
     let args = c .before .before .before .before .before .before .before .before .args in
     let pre = c .before .before .before .before .before .before .before .before .pre in
@@ -63,4 +63,4 @@ flat-array-spec =
     let read = c .before .before .before .before .before .before .before .read-count .ensures in
     let is-n = c .before .before .before .before .before .n .given .1 in
     λ R shown.
-    array-valued S (args .depth) (f .ty) (args .p .now) (args .at) (f .row .a) is _ read R (shown ∙ is) n start is-n _ (c .before .before .leaves .ensures R)))
+    array-valued S (args .depth) (f .ty) (args .p .now) (args .at) (f .row .a) is _ read R (shown ∙ is) n start is-n _ (c .before .before .read-leaves .ensures R)))

@@ -8,11 +8,11 @@ use Rattle.flat.proofs.elements.flat_fields.Statement.{statement}
 use Rattle.flat.proofs.elements.flat_fields.Tie as tie
 
 abbrev Inv-loop : tie.InvT-loop
-Inv-loop s f p sheet₀ known at start depth row judging i₀ bits₀ here₀ below₀ sheet i bits here below =
+Inv-loop s f p sheet₀ known place start depth row judging i₀ bits₀ here₀ below₀ sheet i bits here below =
     Going s p depth (f .row .a) (f .row .b) known start row sheet₀ i bits here below sheet
 
 abbrev μ-loop : tie.MeasureT-loop
-μ-loop s f p sheet₀ known at start depth row judging i₀ bits₀ here₀ below₀ sheet i bits here below = bits
+μ-loop s f p sheet₀ known place start depth row judging i₀ bits₀ here₀ below₀ sheet i bits here below = bits
 
 pub flat-fields-spec : {M : Type 1} → statement M
 flat-fields-spec =

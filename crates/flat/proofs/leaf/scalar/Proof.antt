@@ -3,7 +3,8 @@ use mathlib.Core.Logic.{⊎-elim}
 use Prim.Native.Nat.{_+_, _≤_}
 use native.Mathlib.Omega.{arith}
 use lib.ListN.{length}
-use Rattle.flat.proofs.Leaves.{scalar-cut, scalar-at, scalar-bad, scalar-truth, scalar-other}
+use Rattle.value.proofs.Spans.{scalar-truth, scalar-other}
+use Rattle.flat.proofs.Leaves.{scalar-cut, scalar-at, scalar-bad}
 use borrow.Author.Needs.{needs}
 use Rattle.flat.proofs.leaf.scalar.Statement.{statement}
 use Rattle.flat.proofs.leaf.scalar.Tie as tie
@@ -26,7 +27,12 @@ scalar-spec =
     (λ c. search needs)
     -- returns-3
     (λ c.
-    let room : c .before .before .before .before .args .at + c .before .before .width-of .result ≤ length (c .before .before .before .before .args .p .now) = omega arith in
-    scalar-at (c .before .before .before .before .args .p .now) (c .before .before .before .before .args .kind) (c .before .before .before .before .args .at) (c .before .before .width-of .result) (c .before .before .width-of .ensures .0) room
-    (⊎-elim (λ w. scalar-truth _ _ _ _ (c .before .before .width-of .ensures .0) room (w .0 .taken) (w .2 .left)) (λ w. scalar-other _ _ _ _ (c .before .before .width-of .ensures .0) room (w .left)) (c .if2 .came))
-    (c .before .before .width-of .ensures .1)))
+    let args = c .before .before .before .before .args in
+    let wide = c .before .before .width-of in
+    let room : args .at + wide .result ≤ length (args .p .now) = omega arith in
+    scalar-at (args .p .now) (args .kind) (args .at) (wide .result) (wide .ensures .0) room
+    (⊎-elim
+    (λ w. scalar-truth (args .p .now) (args .kind) (args .at) (wide .result) (wide .ensures .0) room (w .0 .taken) (w .2 .left))
+    (λ w. scalar-other (args .p .now) (args .kind) (args .at) (wide .result) (w .left))
+    (c .if2 .came))
+    (wide .ensures .1)))

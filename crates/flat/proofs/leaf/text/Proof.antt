@@ -4,7 +4,8 @@ use native.Mathlib.Omega.{arith}
 use borrow.Author.Tests.{not-true, not-false, eqb-true, eqb-false}
 use lib.Dec.{eqb}
 use Rattle.schema.proofs.Bools.{cases}
-use Rattle.flat.proofs.Leaves.{text-refused, text-in, text-known, text-bad, text-at, text-valid, text-plain}
+use Rattle.value.proofs.Spans.{text-valid, text-plain}
+use Rattle.flat.proofs.Leaves.{text-refused, text-in, text-known, text-bad, text-at}
 use borrow.Author.Needs.{needs}
 use Rattle.flat.proofs.leaf.text.Statement.{statement}
 use Rattle.flat.proofs.leaf.text.Tie as tie
@@ -39,9 +40,11 @@ text-spec =
     (λ c. text-refused _ (c .before .before .before .before .before .args .kind) _ _ (c .before .before .before .read-count .ensures) _ (c .before .number .given .1))
     -- returns-3
     (λ c.
-    let kind = c .before .before .before .before .before .before .before .args .kind in
-    let read = c .before .before .before .before .before .read-count .ensures in
-    let is = c .before .before .before .n .given .1 in
+    let args = c .before .before .before .before .before .before .before .args in
+    let kind = args .kind in
+    let at-n = c .before .before .before in
+    let n = at-n .n .given .0 .0 in
+    let start = at-n .n .given .0 .1 .0 in
     let good = c .before .is-of-kind .ensures .0 (not-false _ (c .if1 .left)) in
-    text-at _ kind _ _ read _ _ is
-    (⊎-elim (λ e. let k = eqb-true kind 12 e in text-valid _ kind _ _ read _ _ is k (good k)) (λ e. text-plain _ kind _ _ read _ _ is (eqb-false kind 12 e)) (cases (eqb kind 12)))))
+    text-at _ kind _ _ (c .before .before .before .before .before .read-count .ensures) _ _ (at-n .n .given .1)
+    (⊎-elim (λ e. text-valid (args .p .now) kind start n (good (eqb-true kind 12 e))) (λ e. text-plain (args .p .now) kind start n (eqb-false kind 12 e)) (cases (eqb kind 12)))))

@@ -35,7 +35,8 @@ leaf-map-spec =
     let c12 = c7 .before .before .before .before .before in
     let pre = c12 .pre in
     let few = c2 .if2 .left in
-    (counted-ready (pre .0 .0) (pre .0 .1) (c7 .if1 .left) (c6 .map-count .ensures) (c4 .n .given .1) few (pre .1 .0), λ j. omega (arith, few, pre .1 .1)))
+    let leaves = pre .1 .0 in
+    ((counted-ready (pre .0 .0) (pre .0 .1) (c7 .if1 .left) (c6 .map-count .ensures) (c4 .n .given .1) few (leaves .0) (leaves .1), λ j. omega (arith, few, pre .1 .1)), (leaves .2, leaves .3)))
     -- returns-3
     (λ c.
     let c3 = c .before .before .before in

@@ -1,10 +1,6 @@
 -- `flat::maps::next_key` meets its contract.
 use borrow.Author.Needs.{needs}
-use mathlib.Core.Path.{_≡_, refl, sym, _∙_}
-use mathlib.Core.Logic.{inl, inr, ⊎-elim}
-use mathlib.Core.Bool.{true}
-use native.Mathlib.Omega.{arith}
-use Rattle.schema.proofs.Bools.{cases, clash}
+use Rattle.flat.proofs.Pairs.{key-refused, key-forth, key-small, key-put, key-again, key-new}
 use Rattle.flat.proofs.maps.next_key.Statement.{statement}
 use Rattle.flat.proofs.maps.next_key.Tie as tie
 
@@ -19,42 +15,36 @@ next-key-spec =
     -- enum-known-from
     (λ c. search needs)
     -- sub-is-repeated
-    (λ c. let w = rw (c .before .before .from .given .1) at (c .before .before .before .before .content .ensures .within) in omega (arith, w))
+    (λ c. let span = c .before .before in key-forth (span .before .before .content .ensures) (span .from .given .1))
     -- is-repeated-requires
     (λ c κs.
-    let pre = c .before .before .before .before .before .before .before .before .pre in
-    let w = rw (c .before .before .from .given .1) at (c .before .before .before .before .content .ensures .within) in
-    (omega (arith, w, pre .0 .0), omega (arith, w, pre .0 .0), omega (arith, w), pre .1))
+    let span = c .before .before in
+    let pre = span .before .before .before .before .before .before .pre in
+    let w = key-small (span .before .before .content .ensures) (span .from .given .1) (pre .0 .0) in (w .0, w .1, w .2, pre .1))
     -- same-length
     (λ c. c .before .before .before .is-repeated .kept .1 .0)
     -- returns
     (λ c.
-    let c3 = c .before .before .before in
-    let c6 = c3 .before .before .before in
-    let c8 = c6 .before .before in
-    let c12 = c8 .before .before .before .before in
-    let said = c3 .is-repeated .ensures in
-    let j : c12 .args .judging ≡ true = ⊎-elim (λ e. e) (λ e. clash _ (c .if1 .taken) (said .0 e)) (cases (c12 .args .judging)) in
-    record { told = inr (refl, refl, j, (_, _, rw (c6 .from .given .1) at (c8 .content .ensures), sym (said .1 .0 j) ∙ c .if1 .taken)) })
+    let again = c .before .before .before in
+    let span = again .before .before .before in
+    key-again (span .before .before .content .ensures) (span .from .given .1) (again .is-repeated .ensures) (c .if1 .taken))
     -- sub-put-row
-    (λ c. let w = rw (c .before .before .before .before .before .before .before .from .given .1) at (c .before .before .before .before .before .before .before .before .before .content .ensures .within) in omega (arith, w))
+    (λ c. let span = c .before .before .before .before .before .before .before in key-forth (span .before .before .content .ensures) (span .from .given .1))
     -- put-row-requires
     (λ c κs.
-    let pre = c .before .before .before .before .before .before .before .before .before .before .before .before .before .pre .0 in
-    let w = rw (c .before .before .before .before .before .before .before .from .given .1) at (c .before .before .before .before .before .before .before .before .before .content .ensures .within) in
-    omega (arith, w, pre .0, pre .5))
+    let span = c .before .before .before .before .before .before .before in
+    let pre = span .before .before .before .before .before .before .pre .0 in
+    key-put (span .before .before .content .ensures) (span .from .given .1) (pre .0) (pre .5))
     -- returns-2
-    (λ c. record { told = inl (rw (c .before .place .given .1) at (c .before .before .before .content .ensures)) })
+    (λ c. key-refused (c .before .before .before .content .ensures) (c .before .place .given .1))
     -- same-length-2
     (λ c. c .before .before .put-row .kept .0)
     -- same-length-3
     (λ c. c .before .before .before .before .before .before .before .is-repeated .kept .1 .0)
     -- returns-3
     (λ c.
-    let c2 = c .before .before in
-    let c4 = c2 .before .before in
-    let c7 = c4 .before .before .before in
-    let c10 = c7 .before .before .before in
-    let c12 = c10 .before .before in
-    let said = c7 .is-repeated .ensures in
-    record { told = (rw (c10 .from .given .1) at (c12 .content .ensures), λ j. (sym (said .1 .0 j) ∙ c4 .if1 .left, said .1 .1 .0 j, said .1 .1 .1 j), c2 .put-row .ensures) }))
+    let put = c .before .before in
+    let new = put .before .before in
+    let again = new .before .before .before in
+    let span = again .before .before .before in
+    key-new (span .before .before .content .ensures) (span .from .given .1) (again .is-repeated .ensures) (new .if1 .left) (put .put-row .ensures)))

@@ -10,11 +10,11 @@ use Rattle.reader.proofs.beside.known_fields.Statement.{statement}
 use Rattle.reader.proofs.beside.known_fields.Tie as tie
 
 abbrev Inv-loop : tie.InvT-loop
-Inv-loop ours known₀ i₀ known i =
-    (length known ≡ 256) × (i ≤ 256) × KnowsBelow ours known i
+Inv-loop ours shown₀ i₀ shown i =
+    (length shown ≡ 256) × (i ≤ 256) × KnowsBelow ours shown i
 
 abbrev μ-loop : tie.MeasureT-loop
-μ-loop ours known₀ i₀ known i = 256 - i
+μ-loop ours shown₀ i₀ shown i = 256 - i
 
 pub known-fields-spec : {M : Type 1} → statement M
 known-fields-spec =
@@ -41,7 +41,7 @@ known-fields-spec =
       rw length-set (inv .0),
       omega (arith, c .before .before .loop-test .taken),
       knows-more (c .before .before .before .before .before .args .ours .now) (c .before .before .before .before .before .pre)
-          (c .before .before .before .loop .known) (c .before .before .before .loop .i) _ (omega (arith, inv .0, c .before .before .loop-test .taken)) is (inv .2),
+          (c .before .before .before .loop .shown) (c .before .before .before .loop .i) _ (omega (arith, inv .0, c .before .before .loop-test .taken)) is (inv .2),
     ))
     -- returns
-    (λ c. knows-all (c .before .before .before .args .ours .now) (c .before .before .before .pre) (c .before .loop .known) (c .before .loop .i) (c .before .loop .inv .0) (omega (arith, c .loop-test .left)) (c .before .loop .inv .2)))
+    (λ c. knows-all (c .before .before .before .args .ours .now) (c .before .before .before .pre) (c .before .loop .shown) (c .before .loop .i) (c .before .loop .inv .0) (omega (arith, c .loop-test .left)) (c .before .loop .inv .2)))

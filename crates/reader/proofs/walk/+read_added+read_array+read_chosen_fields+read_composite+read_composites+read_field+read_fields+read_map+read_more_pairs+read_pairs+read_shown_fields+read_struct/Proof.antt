@@ -1,36 +1,31 @@
 -- The proof of the cycle of walkers. A composite is given the depth of what it holds, so the measure is eight times the depth, and so much more as each walker calls others at
 -- the same depth: nothing for a field, one for a loop, two and more for what hands on to a loop, six for the choice between arrays, maps and structs.
 use borrow.Author.Needs.{needs}
-use mathlib.Core.Path.{_≡_, refl, sym, ap, _∙_}
-use mathlib.Core.Logic.{⊎-elim}
-use mathlib.Core.Bool.{true, false}
-use mathlib.Core.List.{List, [], _∷_}
+use mathlib.Core.Path.{_≡_, refl, ap, _∙_}
+use mathlib.Core.Logic.{inl, ⊎-elim}
+use mathlib.Core.List.{List}
 use Prim.Native.Nat.{ℕ, _+_, _-_, _*_, _≤_, _<_}
 use native.Mathlib.Omega.{arith}
-use lib.ListN.{length, replicate}
-use Rattle.schema.specs.Table.{unknown, array, map, struct, shape, rowAt}
+use lib.ListN.{length}
+use Rattle.schema.specs.Table.{Shape, unknown, array, map, shape}
 use Rattle.schema.specs.File.{tableOf}
+use Rattle.schema.specs.Check.{fieldRow}
 use Rattle.schema.proofs.Checks.{good-shaped, good-laid}
-use Rattle.value.specs.Read.{plainItem, pairs, among, walk, parse}
-use Rattle.flat.specs.Leaf.{part}
-use Rattle.flat.specs.Walk.{firstFields, told}
-use Rattle.flat.proofs.Steps.{aheadIn, renamed, was, as-refused, stop-at, composite-past, composite-stop, rest-accepted, as-told}
-use Rattle.flat.proofs.Steps.{parse-refused, own-accepted, parse-deep, leaf-failed, leaf-in, leaf-parsed, leaf-past}
-use Rattle.flat.proofs.Composites.{count-in, array-refused, map-refused, map-many}
-use Rattle.flat.proofs.Composites.{bitmap-accepted, struct-refused, head-in, struct-unknown, first-of, first-whole, first-part}
-use Rattle.flat.proofs.Composites.{element-past, element-stop, element-accepted, leftOver, Turned, field-stop, field-accepted, field-read, field-absent}
-use Rattle.flat.proofs.Composites.{pair-key-accepted, pair-key-stop, pair-new, pair-old, pair-again, pair-value-accepted, pair-value-stop, Paired, pair-turn}
-use Rattle.flat.proofs.Composites.{own-due, map-none, few-pairs, pairs-first}
-use Rattle.flat.proofs.Partials.{mine-count, fields-accepted, fields-stop, others-accepted, others-stop, others-past}
-use Rattle.flat.proofs.Turns.{flat-leaf, leaf-shown}
-use Rattle.walks.specs.Shape.{leafShape, fieldsFrom}
-use Rattle.walks.specs.Keys.{keysIn, Kept}
-use Rattle.walks.proofs.Keys.{keys-none}
-use Rattle.walks.proofs.Tables.{few-fields, field-row, array-row, struct-row, map-row, map-value, struct-type, shape-array, shape-map, shape-struct, shape-past, shape-leaf}
-use Rattle.walks.proofs.Presence.{present-end}
-use Rattle.walks.proofs.Items.{elements-none, pairs-none}
-use Rattle.walks.proofs.Walks.{deeper, deep}
-use Rattle.reader.proofs.Calls.{array-ready, array-few, array-held, map-ready, map-held, struct-ready, struct-shown, field-valued}
+use Rattle.value.specs.Read.{pairs}
+use Rattle.flat.specs.Leaf.{between}
+use Rattle.flat.specs.declared.Walk.{Walk}
+use Rattle.flat.specs.Walk.{told, valueIn, Walked, Valued}
+use Rattle.flat.proofs.Steps.{was, as-refused, parse-refused, parse-deep}
+use Rattle.flat.proofs.Composites.{own-comparisons, few-pairs}
+use Rattle.flat.proofs.Pairs.{Along, Midway, along-first, along-own, along-sum, along-end, along-deep, key-asked, key-room, key-failed, key-past, value-below, value-failed, value-sum, along-turn}
+use Rattle.flat.proofs.Turns.{flat-leaf, leaf-shown, Counting, counting-first, counting-own, counting-end, counting-below, counting-stop, counting-sum, counting-on, counting-deep}
+use Rattle.walks.specs.Shape.{shapeIn}
+use Rattle.walks.proofs.Tables.{few-fields, array-row, shape-array, shape-past}
+use Rattle.reader.proofs.Calls.{Entered, array-stop, array-few, array-entered, part-type, part-shown, leaf-pairs, map-shown, map-stop, map-long, map-put, map-bare, map-entered, map-kinds}
+use Rattle.reader.proofs.Calls.{By, pairs-ready, value-told}
+use Rattle.reader.proofs.Calls.{field-below, field-told}
+use Rattle.reader.proofs.Childless.{leaf-asked, leaf-refused, leaf-put, leaf-read, childless-ready, childless-valued}
+use Rattle.reader.specs.Childless.{ChildlessReady, ChildlessRead}
 use borrow.Fn.Kinds.{In}
 use borrow.Fn.PlainCycle.{Measures, is, falls, and}
 use Rattle.reader.proofs.walk.read_added.Reads as read-added
@@ -61,9 +56,7 @@ use Rattle.flat.proofs.added.is_partly_shown.Reads as is-partly-shown-reads
 use Rattle.flat.proofs.added.read_structs.Reads as read-structs-reads
 use Rattle.flat.proofs.elements.is_flat.Reads as is-flat-reads
 use Rattle.flat.proofs.elements.read_elements.Reads as read-elements-reads
-use Rattle.flat.proofs.keys.is_repeated.Reads as is-repeated-reads
 use Rattle.flat.proofs.leaf.content.Reads as content-reads
-use Rattle.flat.proofs.leaf.is_empty_map.Reads as is-empty-map-reads
 use Rattle.flat.proofs.leaf.map_count.Reads as map-count-reads
 use Rattle.flat.proofs.leaf.ones_in.Reads as ones-in-reads
 use Rattle.flat.proofs.leaf.presence.Reads as presence-reads
@@ -72,12 +65,15 @@ use Rattle.flat.proofs.leaf.shown_of.Reads as shown-of-reads
 use Rattle.flat.proofs.maps.holds_leaves.Reads as holds-leaves-reads
 use Rattle.flat.proofs.maps.read_maps.Reads as read-maps-reads
 use Rattle.flat.proofs.sheet.put_row.Reads as put-row-reads
+use Rattle.reader.proofs.pairs.needs_walker.Reads as needs-walker-reads
+use Rattle.reader.proofs.pairs.read_key.Reads as read-key-reads
+use Rattle.reader.proofs.pairs.read_childless.Reads as read-childless-reads
 use Rattle.schema.proofs.access.known_row.Reads as known-row-reads
 use Rattle.schema.proofs.access.type_row.Reads as type-row-reads
 use Rattle.schema.proofs.file.layout_of.Reads as layout-of-reads
 use Rattle.schema.proofs.rows.field_row.Reads as field-row-reads
 use Rattle.wire.proofs.bitmap.low_bits.Reads as low-bits-reads
-use Rattle.parse.specs.Reader.{cursorAt, Accepted}
+use Rattle.parse.specs.Reader.{cursorAt}
 use Rattle.reader.proofs.walk.+read_added+read_array+read_chosen_fields+read_composite+read_composites+read_field+read_fields+read_map+read_more_pairs+read_pairs+read_shown_fields+read_struct.Lts-read_added as read-added-lts
 use Rattle.reader.proofs.walk.+read_added+read_array+read_chosen_fields+read_composite+read_composites+read_field+read_fields+read_map+read_more_pairs+read_pairs+read_shown_fields+read_struct.Lts-read_array as read-array-lts
 use Rattle.reader.proofs.walk.+read_added+read_array+read_chosen_fields+read_composite+read_composites+read_field+read_fields+read_map+read_more_pairs+read_pairs+read_shown_fields+read_struct.Lts-read_chosen_fields as read-chosen-fields-lts
@@ -92,15 +88,17 @@ use Rattle.reader.proofs.walk.+read_added+read_array+read_chosen_fields
 use Rattle.reader.proofs.walk.+read_added+read_array+read_chosen_fields+read_composite+read_composites+read_field+read_fields+read_map+read_more_pairs+read_pairs+read_shown_fields+read_struct.Lts-read_struct as read-struct-lts
 use Rattle.reader.proofs.walk.+read_added+read_array+read_chosen_fields+read_composite+read_composites+read_field+read_fields+read_map+read_more_pairs+read_pairs+read_shown_fields+read_struct.{statement}
 use Rattle.reader.proofs.walk.+read_added+read_array+read_chosen_fields+read_composite+read_composites+read_field+read_fields+read_map+read_more_pairs+read_pairs+read_shown_fields+read_struct.Tie.{close}
+use Rattle.reader.proofs.Structs.{struct-asked, struct-stop, struct-other, struct-ready, struct-shown, type-few, all-shown, Passing, passing-first, passing-few, passing-absent, passing-kind, passing-ready, passing-stop, passing-sum}
+use Rattle.reader.proofs.Structs.{passing-read, passing-own, passing-forth, passing-end, Halved, ours-ready, ours-stop, added-ready, added-stop, added-in, added-past, others-ready, others-held}
 
 abbrev μ-read-added : Measures 3 read-added-kinds.ps ℕ
-μ-read-added κs a = 8 * a .1 .1 .1 .1 .1 .1 .1 .1 .1 .0 + 2
+μ-read-added κs a = 8 * a .1 .1 .1 .1 .1 .0 + 2
 
 abbrev μ-read-array : Measures 4 read-array-kinds.ps ℕ
 μ-read-array κs a = 8 * a .1 .1 .1 .1 .1 .1 .1 .0 + 5
 
 abbrev μ-read-chosen-fields : Measures 4 read-chosen-fields-kinds.ps ℕ
-μ-read-chosen-fields κs a = 8 * a .1 .1 .1 .1 .1 .1 .1 .1 .1 .1 .1 .0 + 4
+μ-read-chosen-fields κs a = 8 * a .1 .1 .1 .1 .1 .0 + 4
 
 abbrev μ-read-composite : Measures 4 read-composite-kinds.ps ℕ
 μ-read-composite κs a = 8 * a .1 .1 .1 .1 .1 .1 .1 .0 + 6
@@ -112,7 +110,7 @@ abbrev μ-read-field : Measures 4 read-field-kinds.ps ℕ
 μ-read-field κs a = 8 * a .1 .1 .1 .1 .1 .1 .1 .0
 
 abbrev μ-read-fields : Measures 4 read-fields-kinds.ps ℕ
-μ-read-fields κs a = 8 * a .1 .1 .1 .1 .1 .1 .1 .1 .1 .1 .1 .0 + 1
+μ-read-fields κs a = 8 * a .1 .1 .1 .1 .1 .0 + 1
 
 abbrev μ-read-map : Measures 4 read-map-kinds.ps ℕ
 μ-read-map κs a = 8 * a .1 .1 .1 .1 .1 .1 .1 .0 + 5
@@ -124,7 +122,7 @@ abbrev μ-read-pairs : Measures 5 read-pairs-kinds.ps ℕ
 μ-read-pairs κs a = 8 * a .1 .1 .1 .1 .1 .1 .1 .1 .1 .1 .0 + 1
 
 abbrev μ-read-shown-fields : Measures 4 read-shown-fields-kinds.ps ℕ
-μ-read-shown-fields κs a = 8 * a .1 .1 .1 .1 .1 .1 .1 .1 .1 .1 .1 .0 + 3
+μ-read-shown-fields κs a = 8 * a .1 .1 .1 .1 .1 .0 + 3
 
 abbrev μ-read-struct : Measures 4 read-struct-kinds.ps ℕ
 μ-read-struct κs a = 8 * a .1 .1 .1 .1 .1 .1 .1 .0 + 5
@@ -203,63 +201,59 @@ read-struct-below t = and 4 read-struct-kinds.ps (falls 4 read-struct-kinds.ps _
 
 abbrev read-composites-Inv-loop : read-composites-lts.InvT-loop
 read-composites-Inv-loop shown s p sheet₀ ty elem n start depth row judging t left₀ here₀ below₀ sum₀ sheet left here below sum =
-    (aheadIn shown s p depth [] (replicate left (plainItem elem)) here sum below sheet ≡ aheadIn shown s p depth [] (replicate n (plainItem elem)) start 0 (row + 1) sheet₀)
-    × (here ≤ length p) × (below ≤ here) × (sum + 16 * start ≤ 16 * here) × (length sheet ≡ length sheet₀)
+    Counting (By shown s) s p depth ty elem n start row judging sheet₀ left here sum below sheet
 
 abbrev read-composites-μ-loop : read-composites-lts.MeasureT-loop
 read-composites-μ-loop shown s p sheet₀ ty elem n start depth row judging t left₀ here₀ below₀ sum₀ sheet left here below sum = left
 
 abbrev read-fields-Inv-loop : read-fields-lts.InvT-loop
-read-fields-Inv-loop shown s p sheet₀ ty first n known count place start depth row judging l i₀ left₀ bits₀ here₀ below₀ sum₀ sheet i left bits here below sum =
-    (aheadIn shown s p depth [] (leftOver (tableOf s) i left bits) here sum below sheet ≡ aheadIn shown s p depth [] (leftOver (tableOf s) first n known) start 0 (row + 1) sheet₀)
-    × (here ≤ length p) × (below ≤ here) × (sum + 16 * start ≤ 16 * here) × (length sheet ≡ length sheet₀) × (i + left ≤ length (tableOf s .fields))
+read-fields-Inv-loop shown s p sheet₀ f depth row judging l i₀ left₀ bits₀ here₀ below₀ sum₀ sheet i left bits here below sum = Passing shown s p depth f row sheet₀ i left bits here sum below sheet
 
 abbrev read-fields-μ-loop : read-fields-lts.MeasureT-loop
-read-fields-μ-loop shown s p sheet₀ ty first n known count place start depth row judging l i₀ left₀ bits₀ here₀ below₀ sum₀ sheet i left bits here below sum = left
+read-fields-μ-loop shown s p sheet₀ f depth row judging l i₀ left₀ bits₀ here₀ below₀ sum₀ sheet i left bits here below sum = left
 
 abbrev read-pairs-Inv-loop : read-pairs-lts.InvT-loop
 read-pairs-Inv-loop shown s p sheet₀ keys₀ ty key val n start depth row judging k v i₀ here₀ below₀ sum₀ sheet keys i here below sum =
-    (seen : List (List ℕ))
-    × (aheadIn shown s p depth seen (pairs (n - i) key val) here sum below sheet ≡ aheadIn shown s p depth [] (pairs n key val) start 0 (row + 1) sheet₀)
-    × (here ≤ length p) × (below ≤ here) × (sum + 32 * i + 16 * start ≤ 16 * here) × (length sheet ≡ length sheet₀) × (i ≤ n)
-    × (length keys ≡ length keys₀) × (judging ≡ true → (seen ≡ keysIn p keys i) × Kept p keys true i)
+    Along (By shown s) s p depth ty key val n start row judging sheet₀ keys i here sum below sheet × (length keys ≡ length keys₀)
 
 abbrev read-pairs-μ-loop : read-pairs-lts.MeasureT-loop
 read-pairs-μ-loop shown s p sheet₀ keys₀ ty key val n start depth row judging k v i₀ here₀ below₀ sum₀ sheet keys i here below sum = n - i
 
 abbrev read-added-calls : ℕ → read-added-lts.Claims
-read-added-calls t = (low-bits-reads.Asked, low-bits-reads.Learnt, ones-in-reads.Asked, ones-in-reads.Learnt, read-fields-below t, read-fields.Post)
+read-added-calls t = (shown-of-reads.Asked, shown-of-reads.Learnt, low-bits-reads.Asked, low-bits-reads.Learnt, ones-in-reads.Asked, ones-in-reads.Learnt, read-fields-below t, read-fields.Post)
 
 read-added-spec : {M : Type 1} (t : ℕ) → read-added-lts.Closed (read-added-calls t) (read-added-at t) read-added.Post M
 read-added-spec t =
     read-added-lts.spec (read-added-calls t) (read-added-at t) read-added.Post
+    -- shown-of-requires
+    (λ c κs. c .before .before .pre .1 .1 .0)
     -- shr-low-bits
-    (λ c. let asked = c .before .before .pre .1 .1 in omega (arith, asked .0, asked .1))
+    (λ c. let asked = c .before .before .before .before .pre .1 .1 in omega (arith, asked .1, asked .2, c .before .shown-of .ensures))
     -- sub-low-bits
-    (λ c. omega (arith, c .before .before .pre .1 .1 .1))
+    (λ c. omega (arith, c .before .before .before .before .before .pre .1 .1 .2, c .before .before .shown-of .ensures))
     -- low-bits-requires
-    (λ c κs. omega (arith, c .before .before .pre .1 .1 .0))
+    (λ c κs. omega (arith, c .before .before .before .before .before .pre .1 .1 .1))
+    -- add-t15
+    (λ c. let asked = c .before .before .before .before .before .before .before .pre .1 .0 in omega (arith, few-fields _ (asked .ready .good), asked .in-table, c .before .before .before .before .shown-of .ensures))
+    -- sub-t16
+    (λ c. omega (arith, c .before .before .before .before .before .before .before .before .pre .1 .1 .2, c .before .before .before .before .before .shown-of .ensures))
+    -- ones-in-requires
+    (λ c κs. search needs)
     -- array-borrow-prefix-none
     (λ c. search needs)
     -- slice-aggregate-read-fields
     (λ c. search needs)
-    -- add-read-fields
-    (λ c. let asked = c .before .before .before .before .pre .1 in let h = few-fields _ (asked .0 .good) in omega (arith, h, asked .1 .2, asked .1 .1))
-    -- sub-read-fields
-    (λ c. omega (arith, c .before .before .before .before .pre .1 .1 .1))
-    -- ones-in-requires
-    (λ c κs. search needs)
     -- read-fields-requires
     (λ c κs.
-    let args = c .before .before .before .before .before .args in
-    let asked = c .before .before .before .before .before .pre in
-    let T = tableOf (args .s .now) in
-    let rest = c .before .before .low-bits in
-    let room : args .first + args .m + (args .n - args .m) ≤ length (T .fields) = omega (arith, asked .1 .1 .1, asked .1 .1 .2) in
-    let count = mine-count T (args .first + args .m) (args .n - args .m) (args .n - args .m) (omega arith) room _ (rest .result) (rest .ensures) in
-    (omega arith, (rw (rest .ensures) (asked .1 .0), (room, omega arith, c .ones-in .ensures .1, c .ones-in .ensures .0 ∙ count))))
+    let known = c .before .before .before .before .before .before .before in
+    let args = known .before .before .before .args in
+    (omega arith, others-ready (args .f) (args .shown .now) (known .shown-of .ensures) (args .at) (known .before .before .before .pre .1 .0) (c .before .before .before .before .low-bits .ensures) (c .before .ones-in .ensures)))
     -- returns
-    (λ c. (_, _, rw (c .before .before .before .before .low-bits .ensures) at (c .before .read-fields .ensures)))
+    (λ c.
+    let known = c .before .before .before .before .before .before .before .before .before in
+    let args = known .before .before .before .args in
+    let held = others-held (args .f) (args .shown .now) (known .shown-of .ensures) (args .at) (known .before .before .before .pre .1 .0) (c .before .before .before .before .before .before .low-bits .ensures) (c .before .read-fields .ensures) in
+    (_, _, held))
 
 abbrev read-array-calls : ℕ → read-array-lts.Claims
 read-array-calls t = (
@@ -285,6 +279,19 @@ read-array-calls t = (
   read-composites.Post,
 )
 
+-- After the row of the elements' type.
+entered : (t : ℕ) (c : read-array-lts.After-type-row (read-array-calls t) (read-array-at t) read-array.Post) →
+    let args = c .before .before .before .before .before .before .before .before .args in
+    let n = c .before .before .n .given .0 in
+    Entered (args .shown .now) (args .s .now) (args .p .now) (args .depth) (args .ty) (array (args .elem)) (args .at) (args .row) (n .0) (n .1 .0) (args .judging) × (n .0 ≤ 16384)
+entered t c =
+    let start = c .before .before .before .before .before .before .before .before in
+    let args = start .args in
+    let asked = start .pre .1 in
+    let read = c .before .before .before .before .read-count .ensures in
+    let n = c .before .before .n .given .1 in
+    (array-entered (args .depth) (args .ty) (asked .0) (asked .1) read (args .shown .now) n, array-few (args .depth) (args .ty) (asked .0) (asked .1) read (args .shown .now) n)
+
 read-array-spec : {M : Type 1} (t : ℕ) → read-array-lts.Closed (read-array-calls t) (read-array-at t) read-array.Post M
 read-array-spec t =
     read-array-lts.spec (read-array-calls t) (read-array-at t) read-array.Post
@@ -298,154 +305,78 @@ read-array-spec t =
     (λ c κs. c .before .before .before .before .before .before .before .pre .1 .0 .good)
     -- read-elements-requires
     (λ c κs.
-    let back = c .before .before .before .before .before .before in
-    let args = back .before .before .before .before .args in
-    let asked = back .before .before .before .before .pre in
-    let t = c .before .before .type-row in (
-      array-ready (args .depth) (args .ty) (asked .1 .0) (asked .1 .1) (back .read-count .ensures) (c .before .before .before .before .n .given .1),
-      flat-leaf _ (args .depth) (args .elem) (t .result) (t .ensures) (rw (t .ensures) (asked .1 .2)) (c .before .if1 .taken),
-      array-few (args .depth) (args .ty) (asked .1 .0) (asked .1 .1) (back .read-count .ensures) (c .before .before .before .before .n .given .1),
-    ))
+    let row = c .before .before in
+    let start = row .before .before .before .before .before .before .before .before in
+    let is = row .type-row .ensures in
+    (entered t row .0 .ready, flat-leaf _ (start .args .depth) (start .args .elem) (row .type-row .result) is (rw is (start .pre .1 .2)) (c .before .if1 .taken), entered t row .1))
     -- same-length
     (λ c. c .before .before .read-elements .kept .1 .1 .0)
     -- returns
     (λ c.
-    let back = c .before .before .before .before .before .before .before in
-    let args = back .before .before .before .before .before .before .args in
-    let asked = back .before .before .before .before .before .before .pre in
-    let T = tableOf (args .s .now) in
-    let S = shape T in
-    let R = firstFields (args .shown .now) S in
-    let t = c .before .before .before .before .before .type-row in
-    array-held (args .depth) (args .ty) (asked .1 .0) (asked .1 .1) (back .before .before .read-count .ensures) (back .n .given .1) (args .shown .now)
-    (c .before .before .read-elements .ensures R (leaf-shown (args .s .now) (args .depth) (args .elem) (t .result) (t .ensures) (rw (t .ensures) (asked .1 .2)) (c .before .before .before .before .if1 .taken) (args .shown .now))))
+    let row = c .before .before .before .before .before in
+    let start = row .before .before .before .before .before .before .before .before in
+    let args = start .args in
+    let is = row .type-row .ensures in
+    entered t row .0 .held
+    (c .before .before .read-elements .ensures _ (leaf-shown (args .s .now) (args .depth) (args .elem) (row .type-row .result) is (rw is (start .pre .1 .2)) (c .before .before .before .before .if1 .taken) (args .shown .now))))
     -- is-flat-requires
     (λ c κs. c .before .before .before .before .before .before .before .before .before .pre .1 .0 .good)
     -- read-elements-requires-2
-    (λ c κs.
-    let back = c .before .before .before .before .before .before in
-    let args = back .before .before .before .before .before .before .args in
-    let asked = back .before .before .before .before .before .before .pre in (
-      array-ready (args .depth) (args .ty) (asked .1 .0) (asked .1 .1) (back .before .before .read-count .ensures) (back .n .given .1),
-      c .before .before .is-flat .ensures (c .before .if2 .taken) .0,
-      array-few (args .depth) (args .ty) (asked .1 .0) (asked .1 .1) (back .before .before .read-count .ensures) (back .n .given .1),
-    ))
+    (λ c κs. let row = c .before .before .before .before in (entered t row .0 .ready, c .before .before .is-flat .ensures (c .before .if2 .taken) .0, entered t row .1))
     -- same-length-2
     (λ c. c .before .before .read-elements2 .kept .1 .1 .0)
     -- returns-2
-    (λ c.
-    let back = c .before .before .before .before .before .before .before .before .before in
-    let args = back .before .before .before .before .before .before .args in
-    let asked = back .before .before .before .before .before .before .pre in
-    let T = tableOf (args .s .now) in
-    let S = shape T in
-    array-held (args .depth) (args .ty) (asked .1 .0) (asked .1 .1) (back .before .before .read-count .ensures) (back .n .given .1) (args .shown .now)
-    (c .before .before .read-elements2 .ensures (firstFields (args .shown .now) S) (c .before .before .before .before .before .is-flat .ensures (c .before .before .before .before .if2 .taken) .1)))
+    (λ c. entered t (c .before .before .before .before .before .before .before) .0 .held (c .before .before .read-elements2 .ensures _ (c .before .before .before .before .before .is-flat .ensures (c .before .before .before .before .if2 .taken) .1)))
     -- is-partly-shown-requires
-    (λ c κs.
-    let back = c .before .before .before .before .before .before .before .before .before .before .before in
-    back .pre .1 .0 .good)
+    (λ c κs. c .before .before .before .before .before .before .before .before .before .before .before .pre .1 .0 .good)
     -- shown-of-requires
     (λ c κs.
-    let back = c .before .before .before .before .before .before .before .before .before .before .before .before .before in
-    let args = back .args in
-    let asked = back .pre in
-    let T = tableOf (args .s .now) in
-    let part = c .before .is-partly-shown .ensures (c .if3 .taken) in
-    struct-type (args .s .now) (asked .1 .0 .good) (args .elem) _ (shape-struct T (args .elem) (rowAt T (args .elem)) refl (part .1)) .1)
+    let start = c .before .before .before .before .before .before .before .before .before .before .before .before .before in
+    part-type (start .args .s .now) (start .args .elem) (start .pre .1 .0 .good) (c .before .is-partly-shown .ensures (c .if3 .taken) .1))
     -- read-structs-requires
     (λ c κs.
-    let back = c .before .before .before .before .before .before .before .before .before in
-    let args = back .before .before .before .before .before .before .args in
-    let asked = back .before .before .before .before .before .before .pre in
-    let part = c .before .before .before .is-partly-shown .ensures (c .before .before .if3 .taken) in (
-      (
-        array-ready (args .depth) (args .ty) (asked .1 .0) (asked .1 .1) (back .before .before .read-count .ensures) (back .n .given .1),
-        part .0,
-        array-few (args .depth) (args .ty) (asked .1 .0) (asked .1 .1) (back .before .before .read-count .ensures) (back .n .given .1),
-      ),
-      (part .1, rw (c .before .shown-of .ensures) (part .2)),
-    ))
+    let row = c .before .before .before .before .before .before .before in
+    let part = c .before .before .before .is-partly-shown .ensures (c .before .before .if3 .taken) in
+    ((entered t row .0 .ready, part .0, entered t row .1), (part .1, rw (c .before .shown-of .ensures) (part .2))))
     -- same-length-3
     (λ c. c .before .before .read-structs .kept .1 .1 .0)
     -- returns-3
     (λ c.
-    let back = c .before .before .before .before .before .before in
-    let args = back .before .before .before .before .before .before .before .before .before .before .before .before .args in
-    let asked = back .before .before .before .before .before .before .before .before .before .before .before .before .pre in
-    let T = tableOf (args .s .now) in
-    let S = shape T in
-    let part = back .is-partly-shown .ensures (c .before .before .before .before .before .if3 .taken) in
-    let row = rowAt T (args .elem) in
-    let is = shape-struct T (args .elem) row refl (part .1) in
-    let room = struct-row (args .s .now) (asked .1 .0 .good) (args .elem) row refl (part .1) .2 in
-    let m = c .before .before .before .before .shown-of in
-    let le : m .result ≤ row .b = omega (arith, m .ensures, part .2) in
-    array-held (args .depth) (args .ty) (asked .1 .0) (asked .1 .1) (back .before .before .before .before .before .before .before .before .read-count .ensures) (back .before .before .before .before .before .before .n .given .1) (args .shown .now)
-    (c .before .before .read-structs .ensures (firstFields (args .shown .now) S) (first-part (args .shown .now) S T (args .elem) (row .a) (row .b) is room (m .result) (m .ensures) le)))
+    let row = c .before .before .before .before .before .before .before .before .before .before in
+    let start = row .before .before .before .before .before .before .before .before in
+    let args = start .args in
+    let part = c .before .before .before .before .before .before .is-partly-shown .ensures (c .before .before .before .before .before .if3 .taken) in
+    let shown = part-shown (args .s .now) (args .elem) (start .pre .1 .0 .good) (part .1) (args .shown .now) (c .before .before .before .before .shown-of .ensures) (part .2) in
+    entered t row .0 .held (c .before .before .read-structs .ensures _ shown))
     -- holds-leaves-requires
-    (λ c κs.
-    let back = c .before .before .before .before .before .before .before .before .before .before .before .before .before in
-    back .pre .1 .0 .good)
+    (λ c κs. c .before .before .before .before .before .before .before .before .before .before .before .before .before .pre .1 .0 .good)
     -- read-maps-requires
     (λ c κs.
-    let back = c .before .before .before .before .before .before .before .before in
-    let args = back .before .before .before .before .before .before .before .before .args in
-    let asked = back .before .before .before .before .before .before .before .before .pre in
-    let T = tableOf (args .s .now) in
-    let t = back .type-row in
-    let good = asked .1 .0 .good in
+    let row = c .before .before .before .before .before .before .before .before in
+    let start = row .before .before .before .before .before .before .before .before in
     let leaves = c .before .before .holds-leaves .ensures (c .before .if4 .taken) in
-    let row = map-row (args .s .now) good (args .elem) _ (t .ensures) (leaves .0) in (
-      (
-        array-ready (args .depth) (args .ty) (asked .1 .0) (asked .1 .1) (back .before .before .before .before .read-count .ensures) (back .before .before .n .given .1),
-        shape-map T (args .elem) _ (t .ensures) (leaves .0),
-        array-few (args .depth) (args .ty) (asked .1 .0) (asked .1 .1) (back .before .before .before .before .read-count .ensures) (back .before .before .n .given .1),
-      ),
-      (row .0, row .1, map-value (args .s .now) good (args .elem) _ (t .ensures) (leaves .0), leaves .1),
-    ))
+    let pairs = leaf-pairs (start .args .s .now) (start .args .elem) (start .pre .1 .0 .good) (row .type-row .ensures) (leaves .0) (leaves .1) in
+    ((entered t row .0 .ready, pairs .0, entered t row .1), pairs .1))
     -- same-length-4
     (λ c. c .before .before .read-maps .kept .1 .1 .0)
     -- returns-4
     (λ c.
-    let back = c .before .before .before .before .before .before .before .before .before .before .before in
-    let args = back .before .before .before .before .before .before .before .before .args in
-    let asked = back .before .before .before .before .before .before .before .before .pre in
-    let T = tableOf (args .s .now) in
-    let S = shape T in
-    let is = shape-map T (args .elem) _ (back .type-row .ensures) (c .before .before .before .before .before .holds-leaves .ensures (c .before .before .before .before .if4 .taken) .0) in
-    array-held (args .depth) (args .ty) (asked .1 .0) (asked .1 .1) (back .before .before .before .before .read-count .ensures) (back .before .before .n .given .1) (args .shown .now)
-    (c .before .before .read-maps .ensures (firstFields (args .shown .now) S) (first-of (args .shown .now) S (args .elem) is ∙ sym is)))
+    let row = c .before .before .before .before .before .before .before .before .before .before .before in
+    let args = row .before .before .before .before .before .before .before .before .args in
+    let shown = map-shown (args .shown .now) (args .s .now) (args .elem) _ (row .type-row .ensures) (c .before .before .before .before .before .holds-leaves .ensures (c .before .before .before .before .if4 .taken) .0) in
+    entered t row .0 .held (c .before .before .read-maps .ensures _ shown))
     -- read-composites-requires
     (λ c κs.
-    let back = c .before .before .before .before .before .before .before in
-    let args = back .before .before .before .before .before .before .before .before .before .args in
-    let asked = back .before .before .before .before .before .before .before .before .before .pre in (
-      omega arith,
-      (
-        (
-          array-ready (args .depth) (args .ty) (asked .1 .0) (asked .1 .1) (back .before .before .before .before .before .read-count .ensures) (back .before .before .before .n .given .1),
-          array-few (args .depth) (args .ty) (asked .1 .0) (asked .1 .1) (back .before .before .before .before .before .read-count .ensures) (back .before .before .before .n .given .1),
-        ),
-        rw (← back .before .type-row .ensures) (back .if1 .left),
-      ),
-    ))
+    let row = c .before .before .before .before .before .before .before .before in
+    (omega (arith, row .before .before .before .before .before .before .before .before .pre .0), ((entered t row .0 .ready, entered t row .1), rw (← row .type-row .ensures) (c .before .before .before .before .before .before .before .if1 .left))))
     -- returns-5
     (λ c.
-    let back = c .before .before .before .before .before .before .before in
-    let args = back .args in
-    let asked = back .pre in
-    let T = tableOf (args .s .now) in
-    let S = shape T in
-    as-refused _ _ _ (array-refused S (args .depth) (args .ty) (args .p .now) (args .at) (args .elem) (asked .1 .1) _ (c .before .before .before .read-count .ensures) _ (c .before .number .given .1)))
+    let start = c .before .before .before .before .before .before .before in
+    array-stop (start .args .depth) (start .args .ty) (start .pre .1 .0) (start .pre .1 .1) (c .before .before .before .read-count .ensures) (start .args .shown .now) (c .before .number .given .1))
     -- same-length-5
     (λ c. c .before .before .read-composites .kept .1 .1 .1 .0)
     -- returns-6
-    (λ c.
-    let back = c .before .before .before .before .before .before .before .before .before .before .before .before .before in
-    let args = back .before .before .before .before .before .before .args in
-    let asked = back .before .before .before .before .before .before .pre in
-    array-held (args .depth) (args .ty) (asked .1 .0) (asked .1 .1) (back .before .before .read-count .ensures) (back .n .given .1) (args .shown .now) (c .before .before .read-composites .ensures))
+    (λ c. entered t (c .before .before .before .before .before .before .before .before .before .before .before) .0 .held (c .before .before .read-composites .ensures))
 
 abbrev read-chosen-fields-calls : ℕ → read-chosen-fields-lts.Claims
 read-chosen-fields-calls t = (shown-of-reads.Asked, shown-of-reads.Learnt, read-shown-fields-below t, read-shown-fields.Post, read-fields-below t, read-fields.Post)
@@ -454,33 +385,22 @@ read-chosen-fields-spec : {M : Type 1} (t : ℕ) → read-chosen-fields-lts.Clos
 read-chosen-fields-spec t =
     read-chosen-fields-lts.spec (read-chosen-fields-calls t) (read-chosen-fields-at t) read-chosen-fields.Post
     -- shown-of-requires
-    (λ c κs.
-    let args = c .before .before .before .args in
-    let asked = c .before .before .before .pre in
-    struct-type (args .s .now) (asked .1 .0 .good) (args .ty) _ (asked .1 .1 .0 .0) .1)
+    (λ c κs. let asked = c .before .before .before .pre .1 in type-few (asked .0) (asked .1))
     -- read-shown-fields-requires
-    (λ c κs.
-    let asked = c .before .before .before .before .before .before .pre in (omega arith, (asked .1 .0, (asked .1 .1 .0, (c .before .before .shown-of .ensures, c .before .if1 .taken)))))
+    (λ c κs. let asked = c .before .before .before .before .before .before .before .pre .1 in (omega arith, (asked .0, asked .1, omega (arith, c .before .if1 .taken, c .before .before .before .shown-of .ensures))))
     -- same-length
     (λ c. c .before .before .read-shown-fields .kept .1 .1 .1 .0)
     -- returns
     (λ c. c .before .before .read-shown-fields .ensures)
     -- read-fields-requires
-    (λ c κs.
-    let asked = c .before .before .before .before .before .before .pre .1 in (omega arith, (asked .0, (asked .1 .0 .2, asked .1 .0 .3, asked .1 .1 .0, asked .1 .1 .1))))
+    (λ c κs. let asked = c .before .before .before .before .before .before .before .pre .1 in (omega arith, (asked .0, asked .2)))
     -- same-length-2
     (λ c. c .before .before .read-fields .kept .1 .1 .1 .0)
     -- returns-2
     (λ c.
-    let back = c .before .before .before .before .before .before .before .before .before in
-    let args = back .args in
-    let asked = back .pre in
-    let T = tableOf (args .s .now) in
-    let S = shape T in
-    let is = asked .1 .1 .0 in
-    let shown = first-whole (args .shown .now) S T (args .ty) (args .first) (args .n) (is .0) (is .2) (omega (arith, c .before .before .before .before .before .shown-of .ensures, c .before .before .before .before .if1 .left)) in
-    as-told (firstFields (args .shown .now) S) S (parse S (args .depth)) (struct (fieldsFrom T (args .first) (args .n))) (args .ty) (args .place) _ _ (args .row) (args .sheet .now) shown (is .0)
-    (c .before .before .read-fields .ensures))
+    let known = c .before .before .before .before .before .before in
+    let asked = known .before .before .before .before .pre .1 in
+    all-shown (asked .0) (known .before .before .before .before .args .shown .now) (asked .1) (omega (arith, known .shown-of .ensures, c .before .before .before .before .if1 .left)) (c .before .before .read-fields .ensures))
 
 abbrev read-composite-calls : ℕ → read-composite-lts.Claims
 read-composite-calls t = (read-array-below t, read-array.Post, read-map-below t, read-map.Post, read-struct-below t, read-struct.Post)
@@ -525,6 +445,17 @@ read-composite-spec t =
 abbrev read-composites-calls : ℕ → read-composites-lts.Claims
 read-composites-calls t = (known-row-reads.Asked, known-row-reads.Learnt, read-composite-below t, read-composite.Post, put-row-reads.Asked, put-row-reads.Learnt)
 
+-- After an element.
+element-read : (t : ℕ) (c : read-composites-lts.After-read-composite (read-composites-calls t) (read-composites-at t) read-composites.Post read-composites-Inv-loop read-composites-μ-loop) →
+    let args = c .before .before .before .before .before .before .before .before .before .args in
+    let loop = c .before .before .before .before .loop in
+    (R : ℕ → Shape) → By (args .shown .now) (args .s .now) R
+    → Walked (args .p .now) (loop .here + 1) (told R (shapeIn (args .s .now)) (args .elem)) (valueIn (args .s .now) (args .p .now) (args .depth) (args .elem) (loop .here)) (loop .below)
+    (loop .sheet) (c .read-composite .result) (c .read-composite .last .1 .1 .1 .0)
+element-read t c =
+    let args = c .before .before .before .before .before .before .before .before .before .args in
+    value-told (args .shown .now) (args .s .now) (args .depth) (args .elem) _ (c .before .before .if1 .left) (c .read-composite .ensures) refl refl
+
 read-composites-spec : {M : Type 1} (t : ℕ) → read-composites-lts.Closed (read-composites-calls t) (read-composites-at t) read-composites.Post M
 read-composites-spec t =
     read-composites-lts.spec (read-composites-calls t) (read-composites-at t) read-composites.Post
@@ -533,138 +464,51 @@ read-composites-spec t =
     -- known-row-requires
     (λ c κs. let asked = c .before .before .before .pre .1 in (asked .0 .0 .good, omega (arith, asked .1)))
     -- add-below
-    (λ c. let pre = c .before .before .before .before .pre .1 .0 .0 in omega arith)
+    (λ c. let ready = c .before .before .before .before .pre .1 .0 .0 in omega (arith, ready .small, ready .inside, ready .behind))
     -- loop-holds
-    (λ c. let pre = c .before .before .before .before .pre .1 .0 .0 in (refl, pre .inside, pre .behind, omega arith, refl))
+    (λ c. counting-first (c .before .before .before .before .pre .1 .0 .0) _ refl _)
     -- same-length
-    (λ c. c .before .before .loop .inv .4)
+    (λ c. c .before .before .loop .inv .long)
     -- returns
-    (λ c.
-    let back = c .before .before .before .before .before .before .before in
-    let args = back .args in
-    let asked = back .pre in
-    let T = tableOf (args .s .now) in
-    let S = shape T in
-    let R = firstFields (args .shown .now) S in
-    let P = parse S (args .depth) in
-    let p = args .p .now in
-    let loop = c .before .before .loop in
-    let inv = loop .inv in
-    let here = cursorAt p (loop .here) in
-    composite-stop R S P (array (args .elem)) (args .ty) (args .start) (args .n) (cursorAt p (args .start)) (args .row) (args .sheet .now) p (args .start) _ _ _
-    (element-stop R S P (args .elem) (loop .left) (c .before .loop-test .taken) here (loop .sum) (loop .below) (loop .sheet) _ _
-    (stop-at (told R S (args .elem)) _ (loop .below) (loop .sheet) _ _ (parse-deep S (args .depth) (args .elem) here (c .if1 .taken))) ∙ inv .0))
+    (λ c. counting-deep (c .before .before .loop .inv) (c .before .loop-test .taken) (c .if1 .taken) _ refl)
     -- sub-read-composite
     (λ c. search needs)
     -- read-composite-requires
     (λ c κs.
-    let back = c .before .before .before .before .before .before .before .before in
-    let args = back .args in
-    let asked = back .pre in
-    let T = tableOf (args .s .now) in
-    let S = shape T in
-    let R = firstFields (args .shown .now) S in
-    let P = parse S (args .depth) in
-    let p = args .p .now in
-    let loop = c .before .before .before .loop in
-    let inv = loop .inv in
-    let here = cursorAt p (loop .here) in
-    let pre = asked .1 .0 .0 in
-    let items = replicate (loop .left) (plainItem (args .elem)) in (
-      omega arith,
-      (
-        record {
-          good = pre .good;
-          small = pre .small;
-          inside = inv .1;
-          behind = inv .2;
-          judged = λ j.
-              deeper (λ k. Accepted (parse S k (args .elem) here)) (args .depth) (c .before .if1 .left)
-              (element-accepted R S P (args .elem) (loop .left) (c .before .before .loop-test .taken) here (loop .sum) (loop .below) (loop .sheet)
-              (rest-accepted R S P (array (args .elem)) (args .ty) (args .start) (args .n) (cursorAt p (args .start)) (args .row) (args .sheet .now)
-              (walk P [] items here) items (loop .sum) (loop .below) (loop .sheet) (inv .0) (pre .judged j)));
-        },
-        c .before .before .before .before .known-row .ensures,
-        rw (c .before .before .before .before .known-row .ensures) (asked .1 .1),
-      ),
-    ))
+    let start = c .before .before .before .before .before .before .before .before in
+    let d0 = c .before .if1 .left in
+    let is = c .before .before .before .before .known-row .ensures in
+    (omega (arith, start .pre .0, d0), (counting-below (c .before .before .before .loop .inv) (c .before .before .loop-test .taken) d0, is, rw is (start .pre .1 .1))))
     -- enum-known-number
     (λ c. search needs)
     -- same-length-2
-    (λ c.
-    c .before .before .before .before .before .read-composite .kept .1 .1 .1 .0 ∙ c .before .before .before .before .before .before .before .before .before .loop .inv .4)
+    (λ c. let call = c .before .before .before .before .before in call .read-composite .kept .1 .1 .1 .0 ∙ call .before .before .before .before .loop .inv .long)
     -- returns-2
     (λ c.
-    let back = c .before .before .before .before .before .before .before in
-    let args = back .before .before .before .before .before .before .before .args in
-    let asked = back .before .before .before .before .before .before .before .pre in
-    let T = tableOf (args .s .now) in
-    let S = shape T in
-    let R = firstFields (args .shown .now) S in
-    let P = parse S (args .depth) in
-    let p = args .p .now in
-    let loop = back .before .before .loop in
-    let inv = loop .inv in
-    let here = cursorAt p (loop .here) in
-    let w = renamed (ap (λ (k : ℕ). parse S k (args .elem) here) (deep (args .depth) (back .if1 .left))) (was (c .before .before .before .before .before .read-composite .ensures) (c .before .number .given .1)) in
-    composite-stop R S P (array (args .elem)) (args .ty) (args .start) (args .n) (cursorAt p (args .start)) (args .row) (args .sheet .now) p (args .start) _ _ _
-    (element-stop R S P (args .elem) (loop .left) (back .before .loop-test .taken) here (loop .sum) (loop .below) (loop .sheet) _ _
-    (w .same) ∙ inv .0))
+    let call = c .before .before .before .before .before in
+    counting-stop (call .before .before .before .before .loop .inv) (call .before .before .before .loop-test .taken) (element-read t call) (c .before .number .given .1) _ refl)
     -- enum-known-due
     (λ c. search needs)
     -- add-sum
     (λ c.
-    let back = c .before .before .before .before .before .before .before .before .before in
-    let pre = back .before .before .before .before .before .pre .1 .0 .0 in
-    let inv = back .loop .inv in
-    let w = was (c .before .before .before .before .before .read-composite .ensures) (c .before .due .given .1) .within in omega (arith, inv .3, w .2, w .0, pre .small))
+    let call = c .before .before .before .before .before in
+    let most = counting-sum (call .before .before .before .before .loop .inv) (call .before .before .before .loop-test .taken) (element-read t call) (c .before .due .given .1) in omega (arith, most))
     -- sub-left
     (λ c. search needs)
     -- loop-less
     (λ c. omega arith)
     -- loop-again
     (λ c.
-    let back = c .before .before .before .before .before .before .before in
-    let args = back .before .before .before .before .before .before .before .args in
-    let asked = back .before .before .before .before .before .before .before .pre in
-    let T = tableOf (args .s .now) in
-    let S = shape T in
-    let R = firstFields (args .shown .now) S in
-    let P = parse S (args .depth) in
-    let p = args .p .now in
-    let loop = back .before .before .loop in
-    let inv = loop .inv in
-    let here = cursorAt p (loop .here) in
-    let w = renamed (ap (λ (k : ℕ). parse S k (args .elem) here) (deep (args .depth) (back .if1 .left))) (was (c .before .before .before .before .before .read-composite .ensures) (c .before .due .given .1)) in (
-      sym (element-past R S P (args .elem) (loop .left) (back .before .loop-test .taken) here (loop .sum) (loop .below) (loop .sheet) _ _ _ _ (w .same)) ∙ inv .0,
-      w .within .0,
-      w .within .1,
-      omega (arith, inv .3, w .within .2),
-      c .before .before .before .before .before .read-composite .kept .1 .1 .1 .0 ∙ inv .4,
-    ))
+    let call = c .before .before .before .before .before in
+    counting-on (call .before .before .before .before .loop .inv) (call .before .before .before .loop-test .taken) (element-read t call) (c .before .due .given .1) (call .read-composite .kept .1 .1 .1 .0))
     -- sub-put-row
-    (λ c. omega arith)
+    (λ c. omega (arith, c .before .before .loop .inv .forth))
     -- put-row-requires
-    (λ c κs.
-    let asked = c .before .before .before .before .before .before .before .pre .1 .0 in let pre = asked .0 in let inv = c .before .before .loop .inv in omega arith)
+    (λ c κs. counting-own (c .before .before .loop .inv) (c .before .before .before .before .before .before .before .pre .1 .0 .1))
     -- same-length-3
-    (λ c. c .before .before .put-row .kept .0 ∙ c .before .before .before .before .before .loop .inv .4)
+    (λ c. c .before .before .put-row .kept .0 ∙ c .before .before .before .before .before .loop .inv .long)
     -- returns-3
-    (λ c.
-    let back = c .before .before .before .before .before .before .before .before .before .before in
-    let args = back .args in
-    let asked = back .pre in
-    let T = tableOf (args .s .now) in
-    let S = shape T in
-    let R = firstFields (args .shown .now) S in
-    let P = parse S (args .depth) in
-    let p = args .p .now in
-    let loop = c .before .before .before .before .before .loop in
-    let inv = loop .inv in
-    let here = cursorAt p (loop .here) in
-    composite-past R S P (array (args .elem)) (args .ty) (args .start) (args .n) (cursorAt p (args .start)) (args .row) (args .sheet .now) p (args .start) (loop .here) (loop .sum) (loop .sum)
-    (loop .below) (loop .sheet) _ [] (replicate (loop .left) (plainItem (args .elem))) (elements-none (args .elem) (loop .left) (c .before .before .before .before .loop-test .left)) (inv .0)
-    (omega arith) (c .before .before .put-row .ensures) (inv .1) (inv .2) (inv .3))
+    (λ c. counting-end (c .before .before .before .before .before .loop .inv) (λ h. omega (arith, c .before .before .before .before .loop-test .left, h)) (c .before .before .put-row .ensures) _ refl)
 
 abbrev read-field-calls : ℕ → read-field-lts.Claims
 read-field-calls t = (
@@ -680,16 +524,46 @@ read-field-calls t = (
   put-row-reads.Learnt,
 )
 
+-- A field that is a scalar, a string or bytes: what is asked before it is read, and what its answer tells.
+abbrev Leaf : ℕ → Type 0
+Leaf t = read-field-lts.Else2 (read-field-calls t) (read-field-at t) read-field.Post
+
+leaf-ready : (t : ℕ) (c : Leaf t) → let args = c .before .before .before .before .before .before .before .before .args in ChildlessReady (args .p .now) (c .before .before .known-row .result) (args .at) (args .row) (args .judging)
+leaf-ready t c =
+    let start = c .before .before .before .before .before .before .before .before in
+    let args = start .args in
+    let field = c .before .before .before .field-row in
+    childless-ready (args .s .now) (args .depth - 1) (field .result .ty) (c .before .before .known-row .ensures) (rw (field .ensures) (start .pre .1 .2)) (inl (omega (arith, c .if2 .left)))
+    (field-below (args .s .now) (args .depth) (args .at) (field .ensures) (c .before .before .before .before .if1 .left) (start .pre .1 .0))
+
+leaf-told : (t : ℕ) (c : Leaf t) {l : List ℕ} {r : Walk} {m : List ℕ} →
+    let args = c .before .before .before .before .before .before .before .before .args in
+    ChildlessRead (args .p .now) (c .before .before .before .field-row .result .ty) (c .before .before .known-row .result) (args .at) (args .row) l r m
+    → Valued (args .shown .now) (args .s .now) (args .p .now) (args .depth) (fieldRow (tableOf (args .s .now)) (args .i) .ty) (args .at) (args .row) l r m
+leaf-told t c read =
+    let start = c .before .before .before .before .before .before .before .before in
+    let args = start .args in
+    let field = c .before .before .before .field-row in
+    field-told (args .s .now) (args .depth) (args .at) (field .ensures) (c .before .before .before .before .if1 .left) (args .shown .now)
+    (childless-valued (args .s .now) (args .depth - 1) (field .result .ty) (c .before .before .known-row .ensures) (rw (field .ensures) (start .pre .1 .2)) (inl (omega (arith, c .if2 .left)))
+    (args .shown .now) read)
+
+-- A field that is an array, a map or a struct.
+held-told : (t : ℕ) (c : read-field-lts.After-read-composite (read-field-calls t) (read-field-at t) read-field.Post) →
+    let args = c .before .before .before .before .before .before .before .before .before .before .args in
+    Valued (args .shown .now) (args .s .now) (args .p .now) (args .depth) (fieldRow (tableOf (args .s .now)) (args .i) .ty) (args .at) (args .row) (args .sheet .now)
+    (c .read-composite .result) (c .read-composite .last .1 .1 .1 .0)
+held-told t c =
+    let args = c .before .before .before .before .before .before .before .before .before .before .args in
+    field-told (args .s .now) (args .depth) (args .at) (c .before .before .before .before .before .field-row .ensures) (c .before .before .before .before .before .before .if1 .left) (args .shown .now) (c .read-composite .ensures)
+
 read-field-spec : {M : Type 1} (t : ℕ) → read-field-lts.Closed (read-field-calls t) (read-field-at t) read-field.Post M
 read-field-spec t =
     read-field-lts.spec (read-field-calls t) (read-field-at t) read-field.Post
     -- returns
     (λ c.
     let args = c .before .before .before .before .args in
-    let asked = c .before .before .before .before .pre in
-    let T = tableOf (args .s .now) in
-    let S = shape T in
-    as-refused _ _ _ (parse-deep S (args .depth) _ (cursorAt (args .p .now) (args .at)) (c .if1 .taken)))
+    as-refused _ _ _ (parse-deep (shapeIn (args .s .now)) (args .depth) _ (cursorAt (args .p .now) (args .at)) (c .if1 .taken)))
     -- field-row-requires
     (λ c κs. c .before .before .before .before .pre .1 .1)
     -- cast-known-row
@@ -700,29 +574,11 @@ read-field-spec t =
     (λ c. search needs)
     -- read-composite-requires
     (λ c κs.
-    let back = c .before .before .before .before .before .before .before .before .before in
-    let args = back .args in
-    let asked = back .pre in
-    let T = tableOf (args .s .now) in
-    let S = shape T in
-    let p = args .p .now in
-    let here = cursorAt p (args .at) in
-    let field = c .before .before .before .before .field-row in
-    let ty = field .result .ty in
-    let pre = asked .1 .0 in (
-      omega arith,
-      (
-        record {
-          good = pre .good;
-          small = pre .small;
-          inside = pre .inside;
-          behind = pre .behind;
-          judged = λ j. deeper (λ k. Accepted (parse S k ty here)) (args .depth) (c .before .before .before .before .before .if1 .left) (rw (field .ensures) (pre .judged j));
-        },
-        c .before .before .before .known-row .ensures,
-        c .before .if2 .taken,
-      ),
-    ))
+    let start = c .before .before .before .before .before .before .before .before .before in
+    let args = start .args in
+    let d0 = c .before .before .before .before .before .if1 .left in
+    let ready = field-below (args .s .now) (args .depth) (args .at) (c .before .before .before .before .field-row .ensures) d0 (start .pre .1 .0) in
+    (omega (arith, start .pre .0, d0), (ready, c .before .before .before .known-row .ensures, c .before .if2 .taken)))
     -- enum-known-number
     (λ c. search needs)
     -- enum-known-due
@@ -730,139 +586,41 @@ read-field-spec t =
     -- same-length
     (λ c. c .before .before .before .before .before .read-composite .kept .1 .1 .1 .0)
     -- returns-2
-    (λ c.
-    let back = c .before .before .before .before .before .before .before .before .before .before in
-    let args = back .before .before .before .before .before .args in
-    let asked = back .before .before .before .before .before .pre in
-    let T = tableOf (args .s .now) in
-    let S = shape T in
-    let p = args .p .now in
-    let here = cursorAt p (args .at) in
-    let field = back .field-row in
-    let ty = field .result .ty in
-    field-valued (args .shown .now) (args .s .now) p (args .depth) (args .at) (field .ensures)
-    (renamed (ap (λ (k : ℕ). parse S k ty here) (deep (args .depth) (back .before .if1 .left))) (was (c .before .before .before .before .before .read-composite .ensures) (c .before .number .given .1))))
+    (λ c. was (held-told t (c .before .before .before .before .before)) (c .before .number .given .1))
     -- same-length-2
     (λ c. c .before .before .before .before .before .read-composite .kept .1 .1 .1 .0)
     -- returns-3
-    (λ c.
-    let back = c .before .before .before .before .before .before .before .before .before .before in
-    let args = back .before .before .before .before .before .args in
-    let asked = back .before .before .before .before .before .pre in
-    let T = tableOf (args .s .now) in
-    let S = shape T in
-    let p = args .p .now in
-    let here = cursorAt p (args .at) in
-    let field = back .field-row in
-    let ty = field .result .ty in
-    field-valued (args .shown .now) (args .s .now) p (args .depth) (args .at) (field .ensures)
-    (renamed (ap (λ (k : ℕ). parse S k ty here) (deep (args .depth) (back .before .if1 .left))) (was (c .before .before .before .before .before .read-composite .ensures) (c .before .due .given .1))))
+    (λ c. was (held-told t (c .before .before .before .before .before)) (c .before .due .given .1))
     -- cast-content
     (λ c. search needs)
     -- content-requires
-    (λ c κs.
-    let back = c .before .before .before .before .before .before .before .before .before in
-    let args = back .args in
-    let asked = back .pre in
-    let T = tableOf (args .s .now) in
-    let S = shape T in
-    let p = args .p .now in
-    let here = cursorAt p (args .at) in
-    let field = c .before .before .before .before .field-row in
-    let ty = field .result .ty in
-    let t = c .before .before .before .known-row in
-    let kind = leafShape (t .result .kind) in
-    let other : 0 < t .result .kind = rw (t .ensures, field .ensures) (asked .1 .2) in
-    let is = shape-leaf T ty (t .result) (t .ensures) other (omega (arith, c .before .if2 .left)) in
-    let pre = asked .1 .0 in (
-      pre .small,
-      pre .inside,
-      other,
-      omega (arith, c .before .if2 .left),
-      λ j. own-accepted S (args .depth - 1) ty here kind is (deeper (λ k. Accepted (parse S k ty here)) (args .depth) (c .before .before .before .before .before .if1 .left) (rw (field .ensures) (pre .judged j))),
-    ))
+    (λ c κs. leaf-asked (leaf-ready t (c .before)) (c .before .before .before .before .field-row .result .ty) (c .before .if2 .left))
     -- enum-known-place
     (λ c. search needs)
     -- enum-known-from
     (λ c. search needs)
     -- sub-put-row
     (λ c.
-    let back = c .before .before .before .before .before .before in
-    let args = back .before .before .before .before .before .before .before .before .args in
-    let asked = back .before .before .before .before .before .before .before .before .pre in
-    let T = tableOf (args .s .now) in
-    let S = shape T in
-    let p = args .p .now in
-    let here = cursorAt p (args .at) in
-    let field = back .before .before .before .field-row in
-    let ty = field .result .ty in
-    let t = back .before .before .known-row in
-    let kind = leafShape (t .result .kind) in
-    let other : 0 < t .result .kind = rw (t .ensures, field .ensures) (asked .1 .2) in
-    let is = shape-leaf T ty (t .result) (t .ensures) other (omega (arith, back .if2 .left)) in
-    let span = c .before .before .from .given in
-    let i = leaf-in S (args .depth) ty kind is (back .before .before .before .before .if1 .left) p (args .at) _ (c .before .before .before .before .content .ensures) (span .0 .0) (span .0 .1 .0) (span .1) in
-    omega (arith, i .0))
+    let leaf = c .before .before .before .before .before .before in
+    leaf-put (leaf-ready t leaf) (leaf .before .before .before .field-row .result .ty) (leaf .if2 .left) (c .before .before .before .before .content .ensures) (c .before .before .from .given .1) .0)
     -- put-row-requires
     (λ c κs.
-    let back = c .before .before .before .before .before .before in
-    let args = back .before .before .before .before .before .before .before .before .args in
-    let asked = back .before .before .before .before .before .before .before .before .pre in
-    let T = tableOf (args .s .now) in
-    let S = shape T in
-    let p = args .p .now in
-    let here = cursorAt p (args .at) in
-    let field = back .before .before .before .field-row in
-    let ty = field .result .ty in
-    let t = back .before .before .known-row in
-    let kind = leafShape (t .result .kind) in
-    let other : 0 < t .result .kind = rw (t .ensures, field .ensures) (asked .1 .2) in
-    let is = shape-leaf T ty (t .result) (t .ensures) other (omega (arith, back .if2 .left)) in
-    let span = c .before .before .from .given in
-    let i = leaf-in S (args .depth) ty kind is (back .before .before .before .before .if1 .left) p (args .at) _ (c .before .before .before .before .content .ensures) (span .0 .0) (span .0 .1 .0) (span .1) in
-    let pre = asked .1 .0 in omega (arith, i, pre .inside, pre .behind, pre .small))
+    let leaf = c .before .before .before .before .before .before in
+    let w = leaf-put (leaf-ready t leaf) (leaf .before .before .before .field-row .result .ty) (leaf .if2 .left) (c .before .before .before .before .content .ensures) (c .before .before .from .given .1) in (w .1, w .2, w .3, w .4))
     -- add-t35
-    (λ c.
-    let back = c .before .before .before .before .before .before .before .before .before .before .before .before .before .before .before .before .before in
-    let pre = back .pre .1 .0 in omega (arith, pre .inside, pre .behind, pre .small))
+    (λ c. let ready = leaf-ready t (c .before .before .before .before .before .before .before .before .before) in omega (arith, ready .small, ready .inside, ready .behind))
     -- returns-4
     (λ c.
-    let back = c .before .before .before .before .before .before .before in
-    let args = back .before .before .before .before .before .before .args in
-    let asked = back .before .before .before .before .before .before .pre in
-    let T = tableOf (args .s .now) in
-    let S = shape T in
-    let p = args .p .now in
-    let here = cursorAt p (args .at) in
-    let field = back .before .field-row in
-    let ty = field .result .ty in
-    let t = back .known-row in
-    let kind = leafShape (t .result .kind) in
-    let other : 0 < t .result .kind = rw (t .ensures, field .ensures) (asked .1 .2) in
-    let is = shape-leaf T ty (t .result) (t .ensures) other (omega (arith, c .before .before .before .before .before .if2 .left)) in
-    field-valued (args .shown .now) (args .s .now) p (args .depth) (args .at) (field .ensures)
-    (as-refused _ _ _ (leaf-failed S (args .depth) ty kind is (back .before .before .if1 .left) p (args .at) _ (c .before .before .before .content .ensures) _ _ (c .before .place .given .1))))
+    let leaf = c .before .before .before .before .before in
+    leaf-told t leaf (leaf-refused (leaf-ready t leaf) (leaf .before .before .before .field-row .result .ty) (leaf .if2 .left) (c .before .before .before .content .ensures) (c .before .place .given .1)))
     -- same-length-3
     (λ c. c .before .before .put-row .kept .0)
     -- returns-5
     (λ c.
-    let back = c .before .before .before .before .before .before .before in
-    let args = back .before .before .before .before .before .before .before .before .before .before .args in
-    let asked = back .before .before .before .before .before .before .before .before .before .before .pre in
-    let T = tableOf (args .s .now) in
-    let S = shape T in
-    let p = args .p .now in
-    let here = cursorAt p (args .at) in
-    let field = back .before .before .before .before .before .field-row in
-    let ty = field .result .ty in
-    let t = back .before .before .before .before .known-row in
-    let kind = leafShape (t .result .kind) in
-    let other : 0 < t .result .kind = rw (t .ensures, field .ensures) (asked .1 .2) in
-    let is = shape-leaf T ty (t .result) (t .ensures) other (omega (arith, back .before .before .if2 .left)) in
-    let span = c .before .before .before .before .before .from .given in
-    field-valued (args .shown .now) (args .s .now) p (args .depth) (args .at) (field .ensures)
-    (leaf-past S (args .depth) ty kind is (back .before .before .before .before .before .before .if1 .left) p (args .at) _ (back .content .ensures) (span .0 .0) (span .0 .1 .0) (span .1)
-    (firstFields (args .shown .now) S) (args .row) (args .sheet .now) _ (asked .1 .0 .behind) (c .before .before .put-row .ensures)))
+    let leaf = c .before .before .before .before .before .before .before .before .before in
+    let span = c .before .before .before .before .before in
+    leaf-told t leaf
+    (leaf-read (leaf-ready t leaf) (leaf .before .before .before .field-row .result .ty) (leaf .if2 .left) (span .before .before .content .ensures) (span .from .given .1) (c .before .before .put-row .ensures)))
 
 abbrev read-fields-calls : ℕ → read-fields-lts.Claims
 read-fields-calls t = (layout-of-reads.Asked, layout-of-reads.Learnt, read-field-below t, read-field.Post, put-row-reads.Asked, put-row-reads.Learnt)
@@ -873,130 +631,74 @@ read-fields-spec t =
     read-fields-Inv-loop
     read-fields-μ-loop
     -- layout-of-requires
-    (λ c κs. good-shaped _ (c .before .before .before .pre .1 .0 .good))
+    (λ c κs. good-shaped _ (c .before .before .before .pre .1 .0 .ready .good))
     -- add-below
-    (λ c. search needs)
+    (λ c. let pre = c .before .before .before .before .pre .1 .0 .ready in omega (arith, pre .behind, pre .inside, pre .small))
     -- loop-holds
-    (λ c.
-    let pre = c .before .before .before .before .pre .1 .0 in (refl, pre .inside, pre .behind, omega arith, refl, c .before .before .before .before .pre .1 .1 .0))
+    (λ c. passing-first (c .before .before .before .before .pre .1 .0) (c .before .before .before .before .args .shown .now))
     -- read-field-requires
     (λ c κs.
-    let back = c .before .before .before .before .before .before .before .before in
-    let args = back .args in
-    let asked = back .pre in
-    let T = tableOf (args .s .now) in
-    let S = shape T in
-    let R = firstFields (args .shown .now) S in
-    let P = parse S (args .depth) in
-    let p = args .p .now in
-    let loop = c .before .before .before .loop in
-    let inv = loop .inv in
-    let here = cursorAt p (loop .here) in
-    let pre = asked .1 .0 in
+    let turn = c .before .before .before in
+    let asked = turn .before .before .before .before .before .pre .1 .0 in
     let some = c .before .before .loop-test .taken in
-    let items = leftOver T (loop .i) (loop .left) (loop .bits) in (
-      omega arith,
-      (
-        record {
-          good = pre .good;
-          small = pre .small;
-          inside = inv .1;
-          behind = inv .2;
-          judged = λ j.
-              field-accepted R S P p T (loop .i) (loop .left) (loop .bits) (loop .here) (loop .sum) (loop .below) (loop .sheet) some (inv .5) _ refl (c .before .if1 .taken)
-              (rest-accepted R S P (struct (fieldsFrom T (args .first) (args .n))) (args .ty) (args .place) (args .known) (cursorAt p (args .start)) (args .row) (args .sheet .now)
-              (walk P [] items here) items (loop .sum) (loop .below) (loop .sheet) (inv .0) (pre .judged j));
-        },
-        good-laid _ _ (pre .good) (c .before .before .before .before .layout-of .ensures),
-        field-row (args .s .now) (pre .good) (loop .i) (loop .left) some (inv .5) _ refl _ refl,
-      ),
-    ))
+    let inv = turn .loop .inv in
+    (omega arith, (passing-ready asked inv some (c .before .if1 .taken), good-laid _ _ (asked .ready .good) (turn .before .layout-of .ensures), passing-kind asked inv some)))
     -- enum-known-number
     (λ c. search needs)
     -- same-length
-    (λ c.
-    c .before .before .before .before .before .read-field .kept .1 .1 .1 .1 .0 ∙ c .before .before .before .before .before .before .before .before .before .loop .inv .4)
+    (λ c. c .before .before .before .before .before .read-field .kept .1 .1 .1 .1 .0 ∙ c .before .before .before .before .before .before .before .before .before .loop .inv .long)
     -- returns
     (λ c.
-    let back = c .before .before .before .before .before .before .before in
-    let args = back .before .before .before .before .before .before .before .args in
-    let asked = back .before .before .before .before .before .before .before .pre in
-    let T = tableOf (args .s .now) in
-    let S = shape T in
-    let R = firstFields (args .shown .now) S in
-    let P = parse S (args .depth) in
-    let p = args .p .now in
-    let loop = back .before .before .loop in
-    let inv = loop .inv in
-    let here = cursorAt p (loop .here) in
-    composite-stop R S P (struct (fieldsFrom T (args .first) (args .n))) (args .ty) (args .place) (args .known) (cursorAt p (args .start)) (args .row) (args .sheet .now) p (args .start) _ _ _
-    (field-stop R S P p T (loop .i) (loop .left) (loop .bits) (loop .here) (loop .sum) (loop .below) (loop .sheet) (back .before .loop-test .taken) (inv .5) _ refl (back .if1 .taken) _ _
-    (was (c .before .before .before .before .before .read-field .ensures) (c .before .number .given .1) .same) ∙ inv .0))
+    let call = c .before .before .before .before .before in
+    let turn = call .before .before .before .before in
+    passing-stop (turn .before .before .before .before .before .pre .1 .0) (turn .loop .inv) (call .before .before .before .loop-test .taken) (call .before .before .if1 .taken) (call .read-field .ensures) (c .before .number .given .1))
     -- enum-known-due
     (λ c. search needs)
     -- add-sum
     (λ c.
-    let back = c .before .before .before .before .before .before .before .before .before in
-    let pre = back .before .before .before .before .before .pre .1 .0 in
-    let inv = back .loop .inv in
-    let w = was (c .before .before .before .before .before .read-field .ensures) (c .before .due .given .1) .within in omega (arith, inv .3, w .2, w .0, pre .small))
+    let call = c .before .before .before .before .before in
+    let turn = call .before .before .before .before in
+    let sum = passing-sum (turn .before .before .before .before .before .pre .1 .0) (turn .loop .inv) (call .before .before .before .loop-test .taken) (call .before .before .if1 .taken) (call .read-field .ensures) (c .before .due .given .1) in
+    omega (arith, sum))
     -- add-i
-    (λ c.
-    let h = few-fields _ (c .before .before .before .before .before .before .before .pre .1 .0 .good) in let inv = c .before .before .loop .inv in omega arith)
+    (λ c. omega (arith, passing-few (c .before .before .before .before .before .before .before .pre .1 .0) (c .before .before .loop .inv)))
     -- sub-left
     (λ c. search needs)
     -- loop-less
     (λ c. omega arith)
     -- loop-again
     (λ c.
-    let back = c .before .before .before .before .before .before .before in
-    let args = back .args in
-    let asked = back .pre in
-    let T = tableOf (args .s .now) in
-    let S = shape T in
-    let R = firstFields (args .shown .now) S in
-    let P = parse S (args .depth) in
-    let p = args .p .now in
-    let loop = c .before .before .loop in
-    let inv = loop .inv in
-    let here = cursorAt p (loop .here) in
-    let joined = c .if1 in
+    let asked = c .before .before .before .before .before .before .before .pre .1 .0 in
+    let inv = c .before .before .loop .inv in
     let some = c .before .loop-test .taken in
-    let t : Turned R S P p T (loop .i) (loop .left) (loop .bits) (loop .here) (loop .sum) (loop .below) (loop .sheet) (joined .here) (joined .sum) (joined .below) (joined .sheet) =
     ⊎-elim
-    (λ w.
-    field-read R S P p T (loop .i) (loop .left) (loop .bits) (loop .here) (loop .sum) (loop .below) (loop .sheet) some (inv .5) _ refl (w .0 .taken) _ _ _ _
-    (was (w .2 .ensures) (w .6 .given .1))
-    _ _ _ _ (w .9) (w .11) (w .10) (w .8))
-    (λ w. field-absent R S P p T (loop .i) (loop .left) (loop .bits) (loop .here) (loop .sum) (loop .below) (loop .sheet) some (inv .5) (w .0 .left) (inv .1) (inv .2) _ _ _ _ (w .2) (w .4) (w .3) (w .1))
-    (joined .came) in
-    (sym (t .same) ∙ inv .0, t .inside, t .behind, omega (arith, inv .3, t .forth), t .long ∙ inv .4, omega arith))
+    (λ w. passing-read asked inv some (w .0 .taken) (w .2 .ensures) (w .6 .given .1) (w .9) (w .11) (w .10) (w .8))
+    (λ w. passing-absent asked inv some (w .0 .left) (w .2) (w .4) (w .3) (w .1))
+    (c .if1 .came))
     -- sub-put-row
-    (λ c. omega arith)
+    (λ c. passing-forth (c .before .before .before .before .before .before .before .before .pre .1 .0) (c .before .before .before .loop .inv))
     -- put-row-requires
-    (λ c κs. let pre = c .before .before .before .before .before .before .before .pre .1 .0 in let inv = c .before .before .loop .inv in omega arith)
+    (λ c κs. let asked = c .before .before .before .before .before .before .before .before .pre .1 in passing-own (asked .0) (c .before .before .before .loop .inv) (asked .1 .0))
     -- same-length-2
-    (λ c. c .before .before .put-row .kept .0 ∙ c .before .before .before .before .before .loop .inv .4)
+    (λ c. c .before .before .put-row .kept .0 ∙ c .before .before .before .before .before .before .loop .inv .long)
     -- returns-2
     (λ c.
-    let back = c .before .before .before .before .before .before .before .before .before .before in
-    let args = back .args in
-    let asked = back .pre in
-    let T = tableOf (args .s .now) in
-    let S = shape T in
-    let R = firstFields (args .shown .now) S in
-    let P = parse S (args .depth) in
-    let p = args .p .now in
-    let loop = c .before .before .before .before .before .loop in
-    let inv = loop .inv in
-    let here = cursorAt p (loop .here) in
-    composite-past R S P (struct (fieldsFrom T (args .first) (args .n))) (args .ty) (args .place) (args .known) (cursorAt p (args .start)) (args .row) (args .sheet .now)
-    p (args .start) (loop .here) (loop .sum) (loop .sum) (loop .below) (loop .sheet) _ [] (leftOver T (loop .i) (loop .left) (loop .bits))
-    (present-end T (loop .i) (loop .left) (c .before .before .before .before .loop-test .left) (loop .bits)) (inv .0)
-    (omega arith) (rw (← asked .1 .1 .3) (c .before .before .put-row .ensures)) (inv .1) (inv .2) (inv .3))
+    let turn = c .before .before .before .before .before .before in
+    let asked = turn .before .before .before .before .before .pre .1 in
+    passing-end (asked .0) (turn .loop .inv) (asked .1) (c .before .before .before .before .before .loop-test .left) (c .before .before .put-row .ensures))
 
 abbrev read-map-calls : ℕ → read-map-lts.Claims
 read-map-calls t = (map-count-reads.Asked, map-count-reads.Learnt, put-row-reads.Asked, put-row-reads.Learnt, read-pairs-below t, read-pairs.Post, read-more-pairs-below t, read-more-pairs.Post)
+
+-- After the count of a map of at most 64 pairs.
+opened : (t : ℕ) (c : read-map-lts.Else1 (read-map-calls t) (read-map-at t) read-map.Post) →
+    let args = c .before .before .before .before .before .before .before .before .args in
+    let n = c .before .before .n .given .0 in
+    Entered (args .shown .now) (args .s .now) (args .p .now) (args .depth) (args .ty) (map (args .t .a) (args .t .b)) (args .at) (args .row) (n .0) (n .1 .0) (args .judging)
+opened t c =
+    let start = c .before .before .before .before .before .before .before .before in
+    let args = start .args in
+    map-entered (args .depth) (args .ty) (start .pre .1) (c .before .before .before .before .map-count .ensures) (args .shown .now) (c .before .before .n .given .1) (c .if1 .left)
 
 read-map-spec : {M : Type 1} (t : ℕ) → read-map-lts.Closed (read-map-calls t) (read-map-at t) read-map.Post M
 read-map-spec t =
@@ -1009,117 +711,49 @@ read-map-spec t =
     (λ c. search needs)
     -- returns
     (λ c.
-    let back = c .before .before .before .before .before .before .before .before in
-    let args = back .args in
-    let asked = back .pre in
-    let T = tableOf (args .s .now) in
-    let S = shape T in
-    let p = args .p .now in
-    let kind = asked .1 .2 in
-    let is = shape-map T (args .ty) _ (asked .1 .1) kind in
-    as-refused _ _ _ (map-many S (args .depth) (args .ty) p (args .at) _ _ is _ (c .before .before .before .before .map-count .ensures) _ _ (c .before .before .n .given .1) (c .if1 .taken)))
+    let start = c .before .before .before .before .before .before .before .before in
+    map-long (start .args .depth) (start .args .ty) (start .pre .1) (c .before .before .before .before .map-count .ensures) (start .args .shown .now) (c .before .before .n .given .1) (c .if1 .taken))
     -- put-row-requires
     (λ c κs.
-    let back = c .before .before .before .before .before .before in
-    let args = back .before .before .before .before .args in
-    let asked = back .before .before .before .before .pre in
-    let T = tableOf (args .s .now) in
-    let S = shape T in
-    let pre = asked .1 .0 in
-    let w = count-in S (args .depth) (args .ty) (args .p .now) (args .at) 2 _ (back .map-count .ensures) _ _ (c .before .before .before .before .n .given .1) in omega (arith, w, pre .small, pre .inside, pre .behind))
+    let start = c .before .before .before .before .before .before .before .before .before .before in
+    let w = map-put (start .args .depth) (start .args .ty) (start .pre .1) (c .before .before .before .before .before .before .map-count .ensures) (start .args .shown .now) (c .before .before .before .before .n .given .1) in omega (arith, w))
     -- add-t21
-    (λ c.
-    let back = c .before .before .before .before .before .before .before .before .before .before .before .before .before in
-    let pre = back .pre .1 .0 in omega (arith, pre .small, pre .inside, pre .behind))
+    (λ c. let ready = c .before .before .before .before .before .before .before .before .before .before .before .before .before .pre .1 .0 in omega (arith, ready .small, ready .inside, ready .behind))
     -- same-length
     (λ c. c .before .before .put-row .kept .0)
     -- returns-2
     (λ c.
-    let back = c .before .before .before .before .before .before .before in
-    let args = back .before .before .before .before .before .before .args in
-    let asked = back .before .before .before .before .before .before .pre in
-    let T = tableOf (args .s .now) in
-    let S = shape T in
-    let p = args .p .now in
-    let kind = asked .1 .2 in
-    let is = shape-map T (args .ty) _ (asked .1 .1) kind in
-    map-none S (args .depth) (args .ty) p (args .at) _ _ is _ (back .before .before .map-count .ensures) _ _ (back .n .given .1) (c .before .before .before .before .if2 .taken) (firstFields (args .shown .now) S)
-    (first-of (args .shown .now) S (args .ty) is) (args .row) _ _ (asked .1 .0 .behind) (c .before .before .put-row .ensures))
+    let none = c .before .before .before .before in
+    let count = none .before .before .before .before .before in
+    let start = count .before .before .before .before in
+    let args = start .args in
+    map-bare (args .depth) (args .ty) (start .pre .1) (count .map-count .ensures) (args .shown .now) (none .before .before .before .n .given .1) (none .if2 .taken) (c .before .before .put-row .ensures))
     -- slice-aggregate-read-pairs
     (λ c. search needs)
     -- read-pairs-requires
     (λ c κs.
-    let back = c .before .before .before .before .before .before in
-    let args = back .before .before .before .before .before .before .args in
-    let asked = back .before .before .before .before .before .before .pre in
-    let T = tableOf (args .s .now) in
-    let S = shape T in
-    let p = args .p .now in
-    let kind = asked .1 .2 in
-    let is = shape-map T (args .ty) _ (asked .1 .1) kind in
-    let row = map-row (args .s .now) (asked .1 .0 .good) (args .ty) _ (asked .1 .1) kind in
-    let val = map-value (args .s .now) (asked .1 .0 .good) (args .ty) _ (asked .1 .1) kind in (
-      omega arith,
-      (
-        map-ready (args .depth) (args .ty) (asked .1 .0) is (back .before .before .map-count .ensures) (back .n .given .1) (c .before .before .before .before .if1 .left),
-        ((row .0, row .1, val, omega (arith, c .before .before .before .if2 .left), c .before .before .before .before .if1 .left), λ j. omega (arith, c .before .before .if3 .taken)),
-      ),
-    ))
+    let few = c .before .before .before .before in
+    let start = few .before .before .before .before .before .before .before .before in
+    let kinds = map-kinds (start .args .depth) (start .args .ty) (start .pre .1) (few .before .before .before .before .map-count .ensures) (start .args .shown .now) (few .before .before .n .given .1) (few .if1 .left) in
+    (omega (arith, start .pre .0), (opened t few .ready, (kinds (omega (arith, c .before .before .before .if2 .left)), λ j. omega (arith, c .before .before .if3 .taken)))))
     -- same-length-2
     (λ c. c .before .before .before .read-pairs .kept .1 .1 .1 .0)
     -- returns-3
-    (λ c.
-    let back = c .before .before .before .before .before .before .before .before in
-    let args = back .before .before .before .before .before .before .before .before .args in
-    let asked = back .before .before .before .before .before .before .before .before .pre in
-    let T = tableOf (args .s .now) in
-    let S = shape T in
-    let p = args .p .now in
-    let kind = asked .1 .2 in
-    let is = shape-map T (args .ty) _ (asked .1 .1) kind in
-    map-held (args .depth) (args .ty) (asked .1 .0) is (back .before .before .before .before .map-count .ensures) (back .before .before .n .given .1) (back .if1 .left) (args .shown .now) (c .before .before .before .read-pairs .ensures))
+    (λ c. opened t (c .before .before .before .before .before .before .before .before) .held (c .before .before .before .read-pairs .ensures))
     -- read-more-pairs-requires
     (λ c κs.
-    let back = c .before .before .before .before .before .before .before in
-    let args = back .before .before .before .before .args in
-    let asked = back .before .before .before .before .pre in
-    let T = tableOf (args .s .now) in
-    let S = shape T in
-    let p = args .p .now in
-    let kind = asked .1 .2 in
-    let is = shape-map T (args .ty) _ (asked .1 .1) kind in
-    let row = map-row (args .s .now) (asked .1 .0 .good) (args .ty) _ (asked .1 .1) kind in
-    let val = map-value (args .s .now) (asked .1 .0 .good) (args .ty) _ (asked .1 .1) kind in (
-      omega arith,
-      (
-        map-ready (args .depth) (args .ty) (asked .1 .0) is (back .map-count .ensures) (c .before .before .before .before .before .n .given .1) (c .before .before .before .if1 .left),
-        (row .0, row .1, val, omega (arith, c .before .before .if2 .left), c .before .before .before .if1 .left),
-      ),
-    ))
+    let few = c .before .before .before in
+    let start = few .before .before .before .before .before .before .before .before in
+    let kinds = map-kinds (start .args .depth) (start .args .ty) (start .pre .1) (few .before .before .before .before .map-count .ensures) (start .args .shown .now) (few .before .before .n .given .1) (few .if1 .left) in
+    (omega (arith, start .pre .0), (opened t few .ready, kinds (omega (arith, c .before .before .if2 .left)))))
     -- returns-4
     (λ c.
-    let back = c .before .before .before .before .before .before .before in
-    let args = back .args in
-    let asked = back .pre in
-    let T = tableOf (args .s .now) in
-    let S = shape T in
-    let p = args .p .now in
-    let kind = asked .1 .2 in
-    let is = shape-map T (args .ty) _ (asked .1 .1) kind in
-    as-refused _ _ _ (map-refused S (args .depth) (args .ty) p (args .at) _ _ is _ (c .before .before .before .map-count .ensures) _ (c .before .number .given .1)))
+    let start = c .before .before .before .before .before .before .before in
+    map-stop (start .args .depth) (start .args .ty) (start .pre .1) (c .before .before .before .map-count .ensures) (start .args .shown .now) (c .before .number .given .1))
     -- same-length-3
     (λ c. c .before .before .read-more-pairs .kept .1 .1 .1 .0)
     -- returns-5
-    (λ c.
-    let back = c .before .before .before .before .before .before in
-    let args = back .before .before .before .before .before .before .before .before .args in
-    let asked = back .before .before .before .before .before .before .before .before .pre in
-    let T = tableOf (args .s .now) in
-    let S = shape T in
-    let p = args .p .now in
-    let kind = asked .1 .2 in
-    let is = shape-map T (args .ty) _ (asked .1 .1) kind in
-    map-held (args .depth) (args .ty) (asked .1 .0) is (back .before .before .before .before .map-count .ensures) (back .before .before .n .given .1) (back .if1 .left) (args .shown .now) (c .before .before .read-more-pairs .ensures))
+    (λ c. opened t (c .before .before .before .before .before .before) .held (c .before .before .read-more-pairs .ensures))
 
 abbrev read-more-pairs-calls : ℕ → read-more-pairs-lts.Claims
 read-more-pairs-calls t = (read-pairs-below t, read-pairs.Post)
@@ -1149,17 +783,56 @@ abbrev read-pairs-calls : ℕ → read-pairs-lts.Claims
 read-pairs-calls t = (
   known-row-reads.Asked,
   known-row-reads.Learnt,
-  content-reads.Asked,
-  content-reads.Learnt,
-  is-repeated-reads.Asked,
-  is-repeated-reads.Learnt,
-  put-row-reads.Asked,
-  put-row-reads.Learnt,
-  is-empty-map-reads.Asked,
-  is-empty-map-reads.Learnt,
+  read-key-reads.Asked,
+  read-key-reads.Learnt,
+  needs-walker-reads.Asked,
+  needs-walker-reads.Learnt,
   read-composite-below t,
   read-composite.Post,
+  read-childless-reads.Asked,
+  read-childless-reads.Learnt,
+  put-row-reads.Asked,
+  put-row-reads.Learnt,
 )
+
+-- After a pair's key, and where the two ways to read its value meet.
+abbrev Keyed : ℕ → Type 0
+Keyed t = read-pairs-lts.After-known-told2 (read-pairs-calls t) (read-pairs-at t) read-pairs.Post read-pairs-Inv-loop read-pairs-μ-loop
+
+abbrev Valuing : ℕ → Type 0
+Valuing t = read-pairs-lts.Joined2 (read-pairs-calls t) (read-pairs-at t) read-pairs.Post read-pairs-Inv-loop read-pairs-μ-loop
+
+keyed : (t : ℕ) (c : Keyed t) →
+    let args = c .before .before .before .before .before .before .before .before .before .before .before .before .before .before .before .before .before .before .before .args in
+    let loop = c .before .before .before .before .before .before .before .before .before .before .before .before .loop in
+    let key = c .before .before .before .before .before .before .before .read-key in
+    Midway (By (args .shown .now) (args .s .now)) (args .s .now) (args .p .now) (args .depth) (args .ty) (args .key) (args .val) (args .n) (args .start) (args .row) (args .judging)
+    (args .sheet .now) (key .last .1 .1 .0) (loop .i) (c .before .to .given .0 .1 .0) (loop .sum) (loop .below + 1) (key .last .1 .0)
+keyed t c =
+    let key = c .before .before .before .before .before .before .before in
+    let test = key .before .before .before in
+    let loop = test .before .before in
+    key-past (loop .loop .inv .0) (test .before .loop-test .taken) (test .if1 .left) (loop .before .before .known-row .ensures) (key .read-key .ensures) (c .before .to .given .1)
+
+valuing : (t : ℕ) (c : Valuing t) →
+    let key = c .before .before in
+    let args = key .before .before .before .before .before .before .before .before .before .before .before .before .before .before .before .before .before .before .before .args in
+    let loop = key .before .before .before .before .before .before .before .before .before .before .before .before .loop in
+    let to = key .before .to .given .0 .1 .0 in
+    (R : ℕ → Shape) → By (args .shown .now) (args .s .now) R
+    → Walked (args .p .now) (to + 1) (told R (shapeIn (args .s .now)) (args .val)) (valueIn (args .s .now) (args .p .now) (args .depth) (args .val) to) (loop .below + 1)
+    (key .before .before .before .before .before .before .before .read-key .last .1 .0) (c .if2 .read) (c .if2 .sheet)
+valuing t c =
+    let key = c .before .before in
+    let start = key .before .before .before .before .before .before .before .before .before .before .before .before .before .before .before .before .before .before .before in
+    let args = start .args in
+    let v = key .before .before .before .before .before .before .before .before .before .before .before .before .before .known-row2 .ensures in
+    let d0 = key .before .before .before .before .before .before .before .before .before .before .if1 .left in
+    ⊎-elim (λ w. value-told (args .shown .now) (args .s .now) (args .depth) (args .val) _ d0 (w .2 .ensures) (w .5) (w .6))
+    (λ w.
+    let read = childless-valued (args .s .now) (args .depth - 1) (args .val) v (start .pre .1 .1 .0 .2) (c .before .needs-walker .ensures .1 (w .0 .left)) (args .shown .now) (w .2 .ensures) in
+    value-told (args .shown .now) (args .s .now) (args .depth) (args .val) _ d0 read (w .5) (w .6))
+    (c .if2 .came)
 
 read-pairs-spec : {M : Type 1} (t : ℕ) → read-pairs-lts.Closed (read-pairs-calls t) (read-pairs-at t) read-pairs.Post M
 read-pairs-spec t =
@@ -1171,721 +844,117 @@ read-pairs-spec t =
     -- known-row-requires-2
     (λ c κs. let asked = c .before .before .before .before .before .pre .1 in (asked .0 .good, asked .1 .0 .2))
     -- add-below
-    (λ c. let pre = c .before .before .before .before .before .before .pre .1 .0 in omega arith)
+    (λ c. let ready = c .before .before .before .before .before .before .pre .1 .0 in omega (arith, ready .small, ready .inside, ready .behind))
     -- loop-holds
-    (λ c.
-    let args = c .before .before .before .before .before .before .args in
-    let asked = c .before .before .before .before .before .before .pre in
-    let T = tableOf (args .s .now) in
-    let S = shape T in
-    let R = firstFields (args .shown .now) S in
-    let P = parse S (args .depth) in
-    let p = args .p .now in
-    let pre = asked .1 .0 in (
-      [],
-      pairs-first R S P (args .key) (args .val) (args .n) (cursorAt p (args .start)) _ _,
-      pre .inside,
-      pre .behind,
-      omega arith,
-      refl,
-      omega arith,
-      refl,
-      λ j. (sym (keys-none p _), λ i lt. absurd (omega arith)),
-    ))
+    (λ c. (along-first (pairs-ready (c .before .before .before .before .before .before .pre .1)) _ refl _ _, refl))
     -- same-length
-    (λ c. c .before .before .loop .inv .5)
+    (λ c. c .before .before .loop .inv .0 .long)
     -- same-length-2
-    (λ c. c .before .before .loop .inv .7)
+    (λ c. c .before .before .loop .inv .1)
     -- returns
-    (λ c.
-    let args = c .before .before .before .before .before .before .before .before .before .args in
-    let asked = c .before .before .before .before .before .before .before .before .before .pre in
-    let T = tableOf (args .s .now) in
-    let S = shape T in
-    let R = firstFields (args .shown .now) S in
-    let P = parse S (args .depth) in
-    let p = args .p .now in
-    let loop = c .before .before .loop in
-    let inv = loop .inv in
-    let here = cursorAt p (loop .here) in
-    let some = c .before .loop-test .taken in
-    composite-stop R S P (map (args .key) (args .val)) (args .ty) (args .start) (args .n) (cursorAt p (args .start)) (args .row) (args .sheet .now) p (args .start) _ _ _
-    (pair-key-stop R S P p (args .key) (args .val) (args .n) (loop .i) (inv .0) (loop .here) some (loop .sum) (loop .below) (loop .sheet) _ _ (parse-deep S (args .depth) (args .key) here (c .if1 .taken)) ∙ inv .1))
-    -- cast-content
-    (λ c. search needs)
-    -- content-requires
+    (λ c. let loop = c .before .before in along-deep (loop .loop .inv .0) (c .before .loop-test .taken) (c .if1 .taken) _ refl)
+    -- read-key-requires
     (λ c κs.
-    let args = c .before .before .before .before .before .before .before .before .before .before .args in
-    let asked = c .before .before .before .before .before .before .before .before .before .before .pre in
-    let T = tableOf (args .s .now) in
-    let S = shape T in
-    let R = firstFields (args .shown .now) S in
-    let P = parse S (args .depth) in
-    let p = args .p .now in
-    let loop = c .before .before .before .loop in
-    let inv = loop .inv in
-    let here = cursorAt p (loop .here) in
-    let some = c .before .before .loop-test .taken in
-    let d0 = c .before .if1 .left in
-    let k = c .before .before .before .before .before .known-row in
-    let kind = leafShape (k .result .kind) in
-    let is = shape-leaf T (args .key) (k .result) (k .ensures) (rw (k .ensures) (asked .1 .1 .0 .0)) (rw (k .ensures) (asked .1 .1 .0 .1)) in
-    let left : args .judging ≡ false → Accepted (walk P (inv .0) (pairs (args .n - loop .i) (args .key) (args .val)) here) =
-    λ j.
-    rest-accepted R S P (map (args .key) (args .val)) (args .ty) (args .start) (args .n) (cursorAt p (args .start)) (args .row) (args .sheet .now)
-    (walk P (inv .0) (pairs (args .n - loop .i) (args .key) (args .val)) here) (pairs (args .n - loop .i) (args .key) (args .val)) (loop .sum) (loop .below) (loop .sheet)
-    (inv .1) (asked .1 .0 .judged j) in (
-      asked .1 .0 .small,
-      inv .2,
-      rw (k .ensures) (asked .1 .1 .0 .0),
-      rw (k .ensures) (asked .1 .1 .0 .1),
-      λ j.
-          own-accepted S (args .depth - 1) (args .key) here kind is
-          (deeper (λ k. Accepted (parse S k (args .key) here)) (args .depth) d0 (pair-key-accepted R S P p (args .key) (args .val) (args .n) (loop .i) (inv .0) (loop .here) some (left j))),
-    ))
+    let loop = c .before .before .before .before in
+    let asked = loop .before .before .before .before .before .before .before .pre .1 in
+    let some = c .before .before .before .loop-test .taken in
+    let d0 = c .before .before .if1 .left in
+    let k = loop .before .before .known-row .ensures in
+    (key-asked (loop .loop .inv .0) some d0 k, key-room (loop .loop .inv .0) some d0 k (loop .loop .inv .1) (asked .1 .1)))
     -- enum-known-place
     (λ c. search needs)
     -- same-length-3
-    (λ c. c .before .before .before .before .before .before .before .loop .inv .5)
+    (λ c. let key = c .before .before .before .before .before .before .before in key .read-key .kept .1 .0 ∙ key .before .before .before .before .before .loop .inv .0 .long)
     -- same-length-4
-    (λ c. c .before .before .before .before .before .before .before .loop .inv .7)
+    (λ c. let key = c .before .before .before .before .before .before .before in key .read-key .kept .1 .1 .0 ∙ key .before .before .before .before .before .loop .inv .1)
     -- returns-2
     (λ c.
-    let back = c .before .before .before .before .before .before .before .before .before in
-    let args = back .before .before .before .before .before .args in
-    let asked = back .before .before .before .before .before .pre in
-    let T = tableOf (args .s .now) in
-    let S = shape T in
-    let R = firstFields (args .shown .now) S in
-    let P = parse S (args .depth) in
-    let p = args .p .now in
-    let loop = c .before .before .before .before .before .before .before .loop in
-    let inv = loop .inv in
-    let here = cursorAt p (loop .here) in
-    let some = c .before .before .before .before .before .before .loop-test .taken in
-    let d0 = c .before .before .before .before .before .if1 .left in
-    let k = back .known-row in
-    let kind = leafShape (k .result .kind) in
-    let is = shape-leaf T (args .key) (k .result) (k .ensures) (rw (k .ensures) (asked .1 .1 .0 .0)) (rw (k .ensures) (asked .1 .1 .0 .1)) in
-    let failed = leaf-failed S (args .depth) (args .key) kind is d0 p (loop .here) _ (c .before .before .before .content .ensures) _ _ (c .before .place .given .1) in
-    composite-stop R S P (map (args .key) (args .val)) (args .ty) (args .start) (args .n) (cursorAt p (args .start)) (args .row) (args .sheet .now) p (args .start) _ _ _
-    (pair-key-stop R S P p (args .key) (args .val) (args .n) (loop .i) (inv .0) (loop .here) some (loop .sum) (loop .below) (loop .sheet) _ _ failed ∙ inv .1))
-    -- enum-known-from
+    let key = c .before .before .before .before .before .before .before in
+    let test = key .before .before .before in
+    let loop = test .before .before in
+    key-failed (loop .loop .inv .0) (test .before .loop-test .taken) (test .if1 .left) (loop .before .before .known-row .ensures) (key .read-key .ensures) (c .before .place .given .1) _ refl)
+    -- enum-known-to
     (λ c. search needs)
-    -- sub-is-repeated
-    (λ c.
-    let back = c .before .before .before .before .before .before .before .before .before in
-    let args = back .before .before .before .before .before .before .args in
-    let asked = back .before .before .before .before .before .before .pre in
-    let T = tableOf (args .s .now) in
-    let S = shape T in
-    let p = args .p .now in
-    let loop = c .before .before .before .before .before .before .before .before .loop in
-    let some = c .before .before .before .before .before .before .before .loop-test .taken in
-    let d0 = c .before .before .before .before .before .before .if1 .left in
-    let k = back .before .known-row in
-    let kind = leafShape (k .result .kind) in
-    let is = shape-leaf T (args .key) (k .result) (k .ensures) (rw (k .ensures) (asked .1 .1 .0 .0)) (rw (k .ensures) (asked .1 .1 .0 .1)) in
-    let span = c .before .before .from in
-    let from = span .given .0 .0 in
-    let to = span .given .0 .1 .0 in
-    let i = leaf-in S (args .depth) (args .key) kind is d0 p (loop .here) _ (c .before .before .before .before .content .ensures) from to (span .given .1) in omega (arith, i .0))
-    -- is-repeated-requires
-    (λ c κs.
-    let back = c .before .before .before .before .before .before .before .before .before in
-    let args = back .before .before .before .before .before .before .args in
-    let asked = back .before .before .before .before .before .before .pre in
-    let T = tableOf (args .s .now) in
-    let S = shape T in
-    let p = args .p .now in
-    let loop = c .before .before .before .before .before .before .before .before .loop in
-    let inv = loop .inv in
-    let some = c .before .before .before .before .before .before .before .loop-test .taken in
-    let d0 = c .before .before .before .before .before .before .if1 .left in
-    let k = back .before .known-row in
-    let kind = leafShape (k .result .kind) in
-    let is = shape-leaf T (args .key) (k .result) (k .ensures) (rw (k .ensures) (asked .1 .1 .0 .0)) (rw (k .ensures) (asked .1 .1 .0 .1)) in
-    let span = c .before .before .from in
-    let from = span .given .0 .0 in
-    let to = span .given .0 .1 .0 in
-    let i = leaf-in S (args .depth) (args .key) kind is d0 p (loop .here) _ (c .before .before .before .before .content .ensures) from to (span .given .1) in
-    let small = asked .1 .0 .small in (
-      omega (arith, i .0, i .1, small),
-      omega (arith, i .0, i .1, small),
-      omega (arith, i .0, i .1),
-      λ j. (omega (arith, some, inv .7, asked .1 .1 .1 j), inv .8 j .1),
-    ))
-    -- same-length-5
-    (λ c. c .before .before .before .before .before .before .before .before .before .before .before .before .loop .inv .5)
-    -- same-length-6
-    (λ c. c .before .before .before .is-repeated .kept .1 .0 ∙ c .before .before .before .before .before .before .before .before .before .before .before .before .loop .inv .7)
-    -- returns-3
-    (λ c.
-    let back = c .before .before .before .before .before .before .before .before .before in
-    let farther = back .before .before .before .before .before .before .before .before .before in
-    let args = farther .before .args in
-    let asked = farther .before .pre in
-    let T = tableOf (args .s .now) in
-    let S = shape T in
-    let R = firstFields (args .shown .now) S in
-    let P = parse S (args .depth) in
-    let p = args .p .now in
-    let loop = back .before .before .before .loop in
-    let inv = loop .inv in
-    let here = cursorAt p (loop .here) in
-    let some = back .before .before .loop-test .taken in
-    let d0 = back .before .if1 .left in
-    let k = back .before .before .before .before .before .known-row in
-    let kind = leafShape (k .result .kind) in
-    let is = shape-leaf T (args .key) (k .result) (k .ensures) (rw (k .ensures) (asked .1 .1 .0 .0)) (rw (k .ensures) (asked .1 .1 .0 .1)) in
-    let span = c .before .before .before .before .before .before .from in
-    let from = span .given .0 .0 in
-    let to = span .given .0 .1 .0 in
-    let i = leaf-in S (args .depth) (args .key) kind is d0 p (loop .here) _ (c .before .before .before .before .before .before .before .before .content .ensures) from to (span .given .1) in
-    let read = leaf-parsed S (args .depth) (args .key) kind is d0 p (loop .here) _ (c .before .before .before .before .before .before .before .before .content .ensures) from to (span .given .1) in
-    let again = c .before .before .before .is-repeated .ensures in
-    let old =
-    pair-old R S P p (args .key) (args .val) (args .n) (loop .i) (inv .0) (loop .here) some from to read (args .judging) _ (again .0)
-    (λ j. again .1 .0 j ∙ ap (among (part p from to)) (sym (inv .8 j .0))) (c .if2 .taken) in
-    composite-stop R S P (map (args .key) (args .val)) (args .ty) (args .start) (args .n) (cursorAt p (args .start)) (args .row) (args .sheet .now) p (args .start) _ _ _
-    (pair-again R S P p (args .key) (args .val) (args .n) (loop .i) (inv .0) (loop .here) some from to read (loop .sum) (loop .below) (loop .sheet) old ∙ inv .1))
-    -- sub-put-row
-    (λ c.
-    let back = c .before .before .before .before .before .before .before .before .before in
-    let farther = back .before .before .before .before .before .before .before .before .before in
-    let args = farther .before .before .args in
-    let asked = farther .before .before .pre in
-    let T = tableOf (args .s .now) in
-    let S = shape T in
-    let p = args .p .now in
-    let loop = back .before .before .before .before .loop in
-    let some = back .before .before .before .loop-test .taken in
-    let d0 = back .before .before .if1 .left in
-    let k = back .before .before .before .before .before .before .known-row in
-    let kind = leafShape (k .result .kind) in
-    let is = shape-leaf T (args .key) (k .result) (k .ensures) (rw (k .ensures) (asked .1 .1 .0 .0)) (rw (k .ensures) (asked .1 .1 .0 .1)) in
-    let span = c .before .before .before .before .before .before .before .from in
-    let from = span .given .0 .0 in
-    let to = span .given .0 .1 .0 in
-    let i = leaf-in S (args .depth) (args .key) kind is d0 p (loop .here) _ (back .content .ensures) from to (span .given .1) in omega (arith, i .0))
-    -- put-row-requires
-    (λ c κs.
-    let back = c .before .before .before .before .before .before .before .before .before in
-    let farther = back .before .before .before .before .before .before .before .before .before in
-    let args = farther .before .before .args in
-    let asked = farther .before .before .pre in
-    let T = tableOf (args .s .now) in
-    let S = shape T in
-    let p = args .p .now in
-    let loop = back .before .before .before .before .loop in
-    let some = back .before .before .before .loop-test .taken in
-    let d0 = back .before .before .if1 .left in
-    let k = back .before .before .before .before .before .before .known-row in
-    let kind = leafShape (k .result .kind) in
-    let is = shape-leaf T (args .key) (k .result) (k .ensures) (rw (k .ensures) (asked .1 .1 .0 .0)) (rw (k .ensures) (asked .1 .1 .0 .1)) in
-    let span = c .before .before .before .before .before .before .before .from in
-    let from = span .given .0 .0 in
-    let to = span .given .0 .1 .0 in
-    let i = leaf-in S (args .depth) (args .key) kind is d0 p (loop .here) _ (back .content .ensures) from to (span .given .1) in
-    let small = asked .1 .0 .small in
-    let inv = loop .inv in omega (arith, i, inv .2, inv .3, small))
-    -- is-empty-map-requires
-    (λ c κs. tt)
-    -- add-put-row
-    (λ c.
-    let back = c .before .before .before .before .before .before .before .before .before .before .before in
-    let farther = back .before .before .before .before .before .before .before .before .before in
-    let pre = farther .before .before .before .before .before .before .before .before .pre .1 .0 in let inv = farther .before .loop .inv in omega (arith, inv .2, inv .3, pre .small))
-    -- add-put-row-2
-    (λ c.
-    let back = c .before .before .before .before .before .before .before .before .before .before .before in
-    let farther = back .before .before .before .before .before .before .before .before .before in
-    let args = farther .before .before .before .before .before .before .before .before .args in
-    let asked = farther .before .before .before .before .before .before .before .before .pre in
-    let T = tableOf (args .s .now) in
-    let S = shape T in
-    let p = args .p .now in
-    let loop = farther .before .loop in
-    let d0 = back .before .before .before .before .before .before .before .before .if1 .left in
-    let k = farther .before .before .before .known-row in
-    let kind = leafShape (k .result .kind) in
-    let is = shape-leaf T (args .key) (k .result) (k .ensures) (rw (k .ensures) (asked .1 .1 .0 .0)) (rw (k .ensures) (asked .1 .1 .0 .1)) in
-    let span = back .before .before .before .before .from in
-    let i = leaf-in S (args .depth) (args .key) kind is d0 p (loop .here) _ (back .before .before .before .before .before .before .content .ensures) (span .given .0 .0) (span .given .0 .1 .0) (span .given .1) in
-    let small = asked .1 .0 .small in omega (arith, i, small))
-    -- put-row-requires-2
-    (λ c κs.
-    let back = c .before .before .before .before .before .before .before .before .before .before .before in
-    let farther = back .before .before .before .before .before .before .before .before .before in
-    let args = farther .before .before .before .before .before .before .before .before .args in
-    let asked = farther .before .before .before .before .before .before .before .before .pre in
-    let T = tableOf (args .s .now) in
-    let S = shape T in
-    let p = args .p .now in
-    let loop = farther .before .loop in
-    let d0 = back .before .before .before .before .before .before .before .before .if1 .left in
-    let k = farther .before .before .before .known-row in
-    let kind = leafShape (k .result .kind) in
-    let is = shape-leaf T (args .key) (k .result) (k .ensures) (rw (k .ensures) (asked .1 .1 .0 .0)) (rw (k .ensures) (asked .1 .1 .0 .1)) in
-    let span = back .before .before .before .before .from in
-    let i = leaf-in S (args .depth) (args .key) kind is d0 p (loop .here) _ (back .before .before .before .before .before .before .content .ensures) (span .given .0 .0) (span .given .0 .1 .0) (span .given .1) in
-    let none = c .before .before .is-empty-map .ensures (c .before .if4 .taken) .1 .within .1 in
-    let small = asked .1 .0 .small in
-    let inv = loop .inv in omega (arith, i, none, inv .2, inv .3, small))
-    -- add-here
-    (λ c.
-    let back = c .before .before .before .before .before .before .before .before .before .before .before .before .before .before in
-    let farther = back .before .before .before .before .before .before .before .before .before in
-    let args = farther .before .before .before .before .before .before .before .before .args in
-    let asked = farther .before .before .before .before .before .before .before .before .pre in
-    let T = tableOf (args .s .now) in
-    let S = shape T in
-    let p = args .p .now in
-    let loop = farther .before .loop in
-    let d0 = back .before .before .before .before .before .before .before .before .if1 .left in
-    let k = farther .before .before .before .known-row in
-    let kind = leafShape (k .result .kind) in
-    let is = shape-leaf T (args .key) (k .result) (k .ensures) (rw (k .ensures) (asked .1 .1 .0 .0)) (rw (k .ensures) (asked .1 .1 .0 .1)) in
-    let span = back .before .before .before .before .from in
-    let i = leaf-in S (args .depth) (args .key) kind is d0 p (loop .here) _ (back .before .before .before .before .before .before .content .ensures) (span .given .0 .0) (span .given .0 .1 .0) (span .given .1) in
-    let small = asked .1 .0 .small in omega (arith, i, small))
     -- add-below-2
-    (λ c.
-    let back = c .before .before .before .before .before .before .before .before .before .before .before .before .before .before in
-    let farther = back .before .before .before .before .before .before .before .before .before in
-    let pre = farther .before .before .before .before .before .before .before .before .pre .1 .0 in let inv = farther .before .loop .inv in omega (arith, inv .2, inv .3, pre .small))
+    (λ c. let ready = keyed t c .ready in omega (arith, ready .small, ready .inside, ready .behind))
+    -- needs-walker-requires
+    (λ c κs. search needs)
     -- sub-read-composite
     (λ c. search needs)
-    -- add-read-composite
-    (λ c.
-    let back = c .before .before .before .before .before .before .before .before .before .before .before in
-    let farther = back .before .before .before .before .before .before .before .before .before in
-    let pre = farther .before .before .before .before .before .before .before .before .pre .1 .0 in let inv = farther .before .loop .inv in omega (arith, inv .2, inv .3, pre .small))
     -- read-composite-requires
     (λ c κs.
-    let back = c .before .before .before .before .before .before .before .before .before .before .before in
-    let farther = back .before .before .before .before .before .before .before .before .before in
-    let args = farther .before .before .before .before .before .before .before .before .args in
-    let asked = farther .before .before .before .before .before .before .before .before .pre in
-    let T = tableOf (args .s .now) in
-    let S = shape T in
-    let R = firstFields (args .shown .now) S in
-    let P = parse S (args .depth) in
-    let p = args .p .now in
-    let loop = farther .before .loop in
-    let inv = loop .inv in
-    let here = cursorAt p (loop .here) in
-    let some = farther .loop-test .taken in
-    let d0 = back .before .before .before .before .before .before .before .before .if1 .left in
-    let k = farther .before .before .before .known-row in
-    let kind = leafShape (k .result .kind) in
-    let is = shape-leaf T (args .key) (k .result) (k .ensures) (rw (k .ensures) (asked .1 .1 .0 .0)) (rw (k .ensures) (asked .1 .1 .0 .1)) in
-    let left : args .judging ≡ false → Accepted (walk P (inv .0) (pairs (args .n - loop .i) (args .key) (args .val)) here) =
-    λ j.
-    rest-accepted R S P (map (args .key) (args .val)) (args .ty) (args .start) (args .n) (cursorAt p (args .start)) (args .row) (args .sheet .now)
-    (walk P (inv .0) (pairs (args .n - loop .i) (args .key) (args .val)) here) (pairs (args .n - loop .i) (args .key) (args .val)) (loop .sum) (loop .below) (loop .sheet)
-    (inv .1) (asked .1 .0 .judged j) in
-    let span = back .before .before .before .before .from in
-    let from = span .given .0 .0 in
-    let to = span .given .0 .1 .0 in
-    let i = leaf-in S (args .depth) (args .key) kind is d0 p (loop .here) _ (back .before .before .before .before .before .before .content .ensures) from to (span .given .1) in
-    let read = leaf-parsed S (args .depth) (args .key) kind is d0 p (loop .here) _ (back .before .before .before .before .before .before .content .ensures) from to (span .given .1) in
-    let again = back .before .is-repeated .ensures in
-    let new =
-    pair-new R S P p (args .key) (args .val) (args .n) (loop .i) (inv .0) (loop .here) some from to read (args .judging) _ left
-    (λ j. again .1 .0 j ∙ ap (among (part p from to)) (sym (inv .8 j .0))) (c .before .before .before .before .before .before .before .before .before .if2 .left) in
-    let put = c .before .before .before .before .before .before .before .put-row in
-    let pre = asked .1 .0 in (
-      omega (arith, asked .0),
-      (
-        record {
-          good = pre .good;
-          small = pre .small;
-          inside = i .1;
-          behind = omega (arith, i, inv .3);
-          judged = λ j.
-              deeper (λ k. Accepted (parse S k (args .val) (cursorAt p to))) (args .depth) d0
-              (pair-value-accepted R S P p (args .key) (args .val) (args .n) (loop .i) (inv .0) (loop .here) some from to read new (loop .sum) (loop .below) (loop .sheet) _ (put .ensures) (left j));
-        },
-        farther .before .before .known-row2 .ensures,
-        c .before .before .before .if3 .taken,
-      ),
-    ))
-    -- enum-known-number
+    let key = c .before .before .before in
+    let start = key .before .before .before .before .before .before .before .before .before .before .before .before .before .before .before .before .before .before .before in
+    let v = key .before .before .before .before .before .before .before .before .before .before .before .before .before .known-row2 .ensures in
+    let d0 = key .before .before .before .before .before .before .before .before .before .before .if1 .left in
+    (omega (arith, start .pre .0, d0), (value-below (keyed t key) d0, v, c .before .before .needs-walker .ensures .0 (c .before .if2 .taken))))
+    -- read-childless-requires
+    (λ c κs.
+    let key = c .before .before .before in
+    let start = key .before .before .before .before .before .before .before .before .before .before .before .before .before .before .before .before .before .before .before in
+    let args = start .args in
+    let v = key .before .before .before .before .before .before .before .before .before .before .before .before .before .known-row2 .ensures in
+    let plain = c .before .before .needs-walker .ensures .1 (c .before .if2 .left) in
+    childless-ready (args .s .now) (args .depth - 1) (args .val) v (start .pre .1 .1 .0 .2) plain (value-below (keyed t key) (key .before .before .before .before .before .before .before .before .before .before .if1 .left)))
+    -- enum-known-read
     (λ c. search needs)
-    -- same-length-7
+    -- same-length-5
     (λ c.
-    let back = c .before .before .before .before .before .before .before .before .before .before .before in
-    let farther = back .before .before .before .before .before .before .before .before .before in
-    c .before .before .before .before .before .read-composite .kept .1 .1 .1 .0 ∙ back .before .before .put-row .kept .0 ∙ farther .before .before .before .before .before .before .before .loop .inv .5)
-    -- same-length-8
+    let joined = c .before .before .before in
+    let key = joined .before .before in
+    let same : length (joined .if2 .sheet) ≡ length (key .before .before .before .before .before .before .before .read-key .last .1 .0) =
+    ⊎-elim (λ w. ap length (w .5) ∙ w .2 .kept .1 .1 .1 .0) (λ w. ap length (w .5) ∙ w .2 .kept .1 .0) (joined .if2 .came) in
+    same ∙ keyed t key .long)
+    -- same-length-6
+    (λ c. let key = c .before .before .before .before .before .before .before .before .before .before .before .before in key .read-key .kept .1 .1 .0 ∙ key .before .before .before .before .before .loop .inv .1)
+    -- returns-3
     (λ c.
-    let back = c .before .before .before .before .before .before .before .before .before .before .before in
-    let farther = back .before .before .before .before .before .before .before .before .before in
-    back .before .before .before .before .before .before .before .is-repeated .kept .1 .0 ∙ farther .before .before .before .before .before .before .before .loop .inv .7)
-    -- returns-4
-    (λ c.
-    let back = c .before .before .before .before .before .before .before .before .before .before .before in
-    let farther = back .before .before .before .before .before .before .before .before .before in
-    let farthest = farther .before .before .before .before .before .before .before .before .before in
-    let args = farthest .before .before .before .before .before .args in
-    let asked = farthest .before .before .before .before .before .pre in
-    let T = tableOf (args .s .now) in
-    let S = shape T in
-    let R = firstFields (args .shown .now) S in
-    let P = parse S (args .depth) in
-    let p = args .p .now in
-    let loop = farther .before .before .before .before .before .before .before .loop in
-    let inv = loop .inv in
-    let here = cursorAt p (loop .here) in
-    let some = farther .before .before .before .before .before .before .loop-test .taken in
-    let d0 = farther .before .before .before .before .before .if1 .left in
-    let k = farthest .known-row in
-    let kind = leafShape (k .result .kind) in
-    let is = shape-leaf T (args .key) (k .result) (k .ensures) (rw (k .ensures) (asked .1 .1 .0 .0)) (rw (k .ensures) (asked .1 .1 .0 .1)) in
-    let left : args .judging ≡ false → Accepted (walk P (inv .0) (pairs (args .n - loop .i) (args .key) (args .val)) here) =
-    λ j.
-    rest-accepted R S P (map (args .key) (args .val)) (args .ty) (args .start) (args .n) (cursorAt p (args .start)) (args .row) (args .sheet .now)
-    (walk P (inv .0) (pairs (args .n - loop .i) (args .key) (args .val)) here) (pairs (args .n - loop .i) (args .key) (args .val)) (loop .sum) (loop .below) (loop .sheet)
-    (inv .1) (asked .1 .0 .judged j) in
-    let span = farther .before .from in
-    let from = span .given .0 .0 in
-    let to = span .given .0 .1 .0 in
-    let i = leaf-in S (args .depth) (args .key) kind is d0 p (loop .here) _ (farther .before .before .before .content .ensures) from to (span .given .1) in
-    let read = leaf-parsed S (args .depth) (args .key) kind is d0 p (loop .here) _ (farther .before .before .before .content .ensures) from to (span .given .1) in
-    let again = back .before .before .before .before .before .before .before .is-repeated .ensures in
-    let new =
-    pair-new R S P p (args .key) (args .val) (args .n) (loop .i) (inv .0) (loop .here) some from to read (args .judging) _ left
-    (λ j. again .1 .0 j ∙ ap (among (part p from to)) (sym (inv .8 j .0))) (back .before .before .before .before .if2 .left) in
-    let put = back .before .before .put-row in
-    let w =
-    renamed (ap (λ (k : ℕ). parse S k (args .val) (cursorAt p to)) (deep (args .depth) (farther .before .before .before .before .before .if1 .left)))
-    (was (c .before .before .before .before .before .read-composite .ensures) (c .before .number .given .1)) in
-    composite-stop R S P (map (args .key) (args .val)) (args .ty) (args .start) (args .n) (cursorAt p (args .start)) (args .row) (args .sheet .now) p (args .start) _ _ _
-    (pair-value-stop R S P p (args .key) (args .val) (args .n) (loop .i) (inv .0) (loop .here) some from to read new (loop .sum) (loop .below) (loop .sheet) _ (put .ensures) _ _ (w .same) ∙ inv .1))
-    -- enum-known-due
+    let key = c .before .before .before .before .before in
+    value-failed (keyed t key) (valuing t (c .before .before .before)) (c .before .read .given .1) _ refl)
+    -- enum-known-read-2
     (λ c. search needs)
     -- add-sum
     (λ c.
-    let back = c .before .before .before .before .before .before .before .before .before .before .before in
-    let farther = back .before .before .before .before .before .before .before .before .before in
-    let farthest = farther .before .before .before .before .before .before .before .before .before in
-    let args = farthest .before .before .before .before .before .args in
-    let asked = farthest .before .before .before .before .before .pre in
-    let T = tableOf (args .s .now) in
-    let S = shape T in
-    let p = args .p .now in
-    let loop = farther .before .before .before .before .before .before .before .loop in
-    let inv = loop .inv in
-    let some = farther .before .before .before .before .before .before .loop-test .taken in
-    let d0 = farther .before .before .before .before .before .if1 .left in
-    let k = farthest .known-row in
-    let kind = leafShape (k .result .kind) in
-    let is = shape-leaf T (args .key) (k .result) (k .ensures) (rw (k .ensures) (asked .1 .1 .0 .0)) (rw (k .ensures) (asked .1 .1 .0 .1)) in
-    let span = farther .before .from in
-    let from = span .given .0 .0 in
-    let to = span .given .0 .1 .0 in
-    let i = leaf-in S (args .depth) (args .key) kind is d0 p (loop .here) _ (farther .before .before .before .content .ensures) from to (span .given .1) in
-    let small = asked .1 .0 .small in
-    let w = was (c .before .before .before .before .before .read-composite .ensures) (c .before .due .given .1) .within in omega (arith, inv .4, i .2, w .2, w .0, small))
-    -- cast-content-2
-    (λ c. search needs)
-    -- content-requires-2
-    (λ c κs.
-    let back = c .before .before .before .before .before .before .before .before .before in
-    let farther = back .before .before .before .before .before .before .before .before .before in
-    let args = farther .before .before .before .before .before .before .before .before .args in
-    let asked = farther .before .before .before .before .before .before .before .before .pre in
-    let T = tableOf (args .s .now) in
-    let S = shape T in
-    let R = firstFields (args .shown .now) S in
-    let P = parse S (args .depth) in
-    let p = args .p .now in
-    let loop = farther .before .loop in
-    let inv = loop .inv in
-    let here = cursorAt p (loop .here) in
-    let some = farther .loop-test .taken in
-    let d0 = back .before .before .before .before .before .before .before .before .if1 .left in
-    let k = farther .before .before .before .known-row in
-    let kind = leafShape (k .result .kind) in
-    let is = shape-leaf T (args .key) (k .result) (k .ensures) (rw (k .ensures) (asked .1 .1 .0 .0)) (rw (k .ensures) (asked .1 .1 .0 .1)) in
-    let left : args .judging ≡ false → Accepted (walk P (inv .0) (pairs (args .n - loop .i) (args .key) (args .val)) here) =
-    λ j.
-    rest-accepted R S P (map (args .key) (args .val)) (args .ty) (args .start) (args .n) (cursorAt p (args .start)) (args .row) (args .sheet .now)
-    (walk P (inv .0) (pairs (args .n - loop .i) (args .key) (args .val)) here) (pairs (args .n - loop .i) (args .key) (args .val)) (loop .sum) (loop .below) (loop .sheet)
-    (inv .1) (asked .1 .0 .judged j) in
-    let span = back .before .before .before .before .from in
-    let from = span .given .0 .0 in
-    let to = span .given .0 .1 .0 in
-    let i = leaf-in S (args .depth) (args .key) kind is d0 p (loop .here) _ (back .before .before .before .before .before .before .content .ensures) from to (span .given .1) in
-    let read = leaf-parsed S (args .depth) (args .key) kind is d0 p (loop .here) _ (back .before .before .before .before .before .before .content .ensures) from to (span .given .1) in
-    let again = back .before .is-repeated .ensures in
-    let new =
-    pair-new R S P p (args .key) (args .val) (args .n) (loop .i) (inv .0) (loop .here) some from to read (args .judging) _ left
-    (λ j. again .1 .0 j ∙ ap (among (part p from to)) (sym (inv .8 j .0))) (c .before .before .before .before .before .before .before .if2 .left) in
-    let put = c .before .before .before .before .before .put-row in
-    let v = farther .before .before .known-row2 in
-    let vkind = leafShape (v .result .kind) in
-    let vis = shape-leaf T (args .val) (v .result) (v .ensures) (rw (v .ensures) (asked .1 .1 .0 .2)) (omega (arith, c .before .if3 .left)) in (
-      asked .1 .0 .small,
-      i .1,
-      rw (v .ensures) (asked .1 .1 .0 .2),
-      omega (arith, c .before .if3 .left),
-      λ j.
-          own-accepted S (args .depth - 1) (args .val) (cursorAt p to) vkind vis
-          (deeper (λ k. Accepted (parse S k (args .val) (cursorAt p to))) (args .depth) d0
-          (pair-value-accepted R S P p (args .key) (args .val) (args .n) (loop .i) (inv .0) (loop .here) some from to read new (loop .sum) (loop .below) (loop .sheet) _ (put .ensures) (left j))),
-    ))
-    -- enum-known-place-2
-    (λ c. search needs)
-    -- same-length-9
-    (λ c.
-    let back = c .before .before .before .before .before .before .before .before .before in
-    let farther = back .before .before .before .before .before .before .before .before .before in
-    back .put-row .kept .0 ∙ farther .before .before .before .before .before .loop .inv .5)
-    -- same-length-10
-    (λ c.
-    let back = c .before .before .before .before .before .before .before .before .before in
-    let farther = back .before .before .before .before .before .before .before .before .before in
-    back .before .before .before .before .before .is-repeated .kept .1 .0 ∙ farther .before .before .before .before .before .loop .inv .7)
-    -- returns-5
-    (λ c.
-    let back = c .before .before .before .before .before .before .before .before .before in
-    let farther = back .before .before .before .before .before .before .before .before .before in
-    let farthest = farther .before .before .before .before .before .before .before .before .before in
-    let args = farthest .before .before .before .args in
-    let asked = farthest .before .before .before .pre in
-    let T = tableOf (args .s .now) in
-    let S = shape T in
-    let R = firstFields (args .shown .now) S in
-    let P = parse S (args .depth) in
-    let p = args .p .now in
-    let loop = farther .before .before .before .before .before .loop in
-    let inv = loop .inv in
-    let here = cursorAt p (loop .here) in
-    let some = farther .before .before .before .before .loop-test .taken in
-    let d0 = farther .before .before .before .if1 .left in
-    let k = farther .before .before .before .before .before .before .before .known-row in
-    let kind = leafShape (k .result .kind) in
-    let is = shape-leaf T (args .key) (k .result) (k .ensures) (rw (k .ensures) (asked .1 .1 .0 .0)) (rw (k .ensures) (asked .1 .1 .0 .1)) in
-    let left : args .judging ≡ false → Accepted (walk P (inv .0) (pairs (args .n - loop .i) (args .key) (args .val)) here) =
-    λ j.
-    rest-accepted R S P (map (args .key) (args .val)) (args .ty) (args .start) (args .n) (cursorAt p (args .start)) (args .row) (args .sheet .now)
-    (walk P (inv .0) (pairs (args .n - loop .i) (args .key) (args .val)) here) (pairs (args .n - loop .i) (args .key) (args .val)) (loop .sum) (loop .below) (loop .sheet)
-    (inv .1) (asked .1 .0 .judged j) in
-    let span = back .before .before .before .before .before .before .before .before .from in
-    let from = span .given .0 .0 in
-    let to = span .given .0 .1 .0 in
-    let i = leaf-in S (args .depth) (args .key) kind is d0 p (loop .here) _ (farther .before .content .ensures) from to (span .given .1) in
-    let read = leaf-parsed S (args .depth) (args .key) kind is d0 p (loop .here) _ (farther .before .content .ensures) from to (span .given .1) in
-    let again = back .before .before .before .before .before .is-repeated .ensures in
-    let new =
-    pair-new R S P p (args .key) (args .val) (args .n) (loop .i) (inv .0) (loop .here) some from to read (args .judging) _ left
-    (λ j. again .1 .0 j ∙ ap (among (part p from to)) (sym (inv .8 j .0))) (back .before .before .if2 .left) in
-    let put = back .put-row in
-    let v = farther .before .before .before .before .before .before .known-row2 in
-    let vkind = leafShape (v .result .kind) in
-    let vis = shape-leaf T (args .val) (v .result) (v .ensures) (rw (v .ensures) (asked .1 .1 .0 .2)) (omega (arith, c .before .before .before .before .before .if3 .left)) in
-    let failed = leaf-failed S (args .depth) (args .val) vkind vis d0 p to _ (c .before .before .before .content2 .ensures) _ _ (c .before .place2 .given .1) in
-    composite-stop R S P (map (args .key) (args .val)) (args .ty) (args .start) (args .n) (cursorAt p (args .start)) (args .row) (args .sheet .now) p (args .start) _ _ _
-    (pair-value-stop R S P p (args .key) (args .val) (args .n) (loop .i) (inv .0) (loop .here) some from to read new (loop .sum) (loop .below) (loop .sheet) _ (put .ensures) _ _
-    (stop-at (told R S (args .val)) _ (loop .below + 1) _ _ _ failed) ∙ inv .1))
-    -- enum-known-from-2
-    (λ c. search needs)
-    -- add-put-row
-    (λ c.
-    let back = c .before .before .before .before .before .before .before .before .before in
-    let farther = back .before .before .before .before .before .before .before .before .before in
-    let farthest = farther .before .before .before .before .before .before .before .before .before in
-    let pre = farthest .before .before .before .before .pre .1 .0 in let inv = farther .before .before .before .before .before .before .loop .inv in omega (arith, inv .2, inv .3, pre .small))
-    -- sub-put-row-2
-    (λ c.
-    let back = c .before .before .before .before .before .before .before .before .before in
-    let farther = back .before .before .before .before .before .before .before .before .before in
-    let farthest = farther .before .before .before .before .before .before .before .before .before in
-    let args = farthest .before .before .before .before .args in
-    let asked = farthest .before .before .before .before .pre in
-    let T = tableOf (args .s .now) in
-    let S = shape T in
-    let p = args .p .now in
-    let loop = farther .before .before .before .before .before .before .loop in
-    let some = farther .before .before .before .before .before .loop-test .taken in
-    let d0 = farther .before .before .before .before .if1 .left in
-    let k = farther .before .before .before .before .before .before .before .before .known-row in
-    let kind = leafShape (k .result .kind) in
-    let is = shape-leaf T (args .key) (k .result) (k .ensures) (rw (k .ensures) (asked .1 .1 .0 .0)) (rw (k .ensures) (asked .1 .1 .0 .1)) in
-    let span = farther .from in
-    let from = span .given .0 .0 in
-    let to = span .given .0 .1 .0 in
-    let i = leaf-in S (args .depth) (args .key) kind is d0 p (loop .here) _ (farther .before .before .content .ensures) from to (span .given .1) in
-    let v = farther .before .before .before .before .before .before .before .known-row2 in
-    let vkind = leafShape (v .result .kind) in
-    let vis = shape-leaf T (args .val) (v .result) (v .ensures) (rw (v .ensures) (asked .1 .1 .0 .2)) (omega (arith, c .before .before .before .before .before .before .if3 .left)) in
-    let vspan = c .before .before .from2 in
-    let vi = leaf-in S (args .depth) (args .val) vkind vis d0 p to _ (c .before .before .before .before .content2 .ensures) (vspan .given .0 .0) (vspan .given .0 .1 .0) (vspan .given .1) in omega (arith, vi .0))
-    -- put-row-requires-2
-    (λ c κs.
-    let back = c .before .before .before .before .before .before .before .before .before in
-    let farther = back .before .before .before .before .before .before .before .before .before in
-    let farthest = farther .before .before .before .before .before .before .before .before .before in
-    let args = farthest .before .before .before .before .args in
-    let asked = farthest .before .before .before .before .pre in
-    let T = tableOf (args .s .now) in
-    let S = shape T in
-    let p = args .p .now in
-    let loop = farther .before .before .before .before .before .before .loop in
-    let some = farther .before .before .before .before .before .loop-test .taken in
-    let d0 = farther .before .before .before .before .if1 .left in
-    let k = farther .before .before .before .before .before .before .before .before .known-row in
-    let kind = leafShape (k .result .kind) in
-    let is = shape-leaf T (args .key) (k .result) (k .ensures) (rw (k .ensures) (asked .1 .1 .0 .0)) (rw (k .ensures) (asked .1 .1 .0 .1)) in
-    let span = farther .from in
-    let from = span .given .0 .0 in
-    let to = span .given .0 .1 .0 in
-    let i = leaf-in S (args .depth) (args .key) kind is d0 p (loop .here) _ (farther .before .before .content .ensures) from to (span .given .1) in
-    let v = farther .before .before .before .before .before .before .before .known-row2 in
-    let vkind = leafShape (v .result .kind) in
-    let vis = shape-leaf T (args .val) (v .result) (v .ensures) (rw (v .ensures) (asked .1 .1 .0 .2)) (omega (arith, c .before .before .before .before .before .before .if3 .left)) in
-    let vspan = c .before .before .from2 in
-    let vi = leaf-in S (args .depth) (args .val) vkind vis d0 p to _ (c .before .before .before .before .content2 .ensures) (vspan .given .0 .0) (vspan .given .0 .1 .0) (vspan .given .1) in
-    let small = asked .1 .0 .small in
-    let inv = loop .inv in omega (arith, i, vi, inv .2, inv .3, small))
-    -- add-below-2
-    (λ c.
-    let back = c .before .before .before .before .before .before .before .before .before in
-    let farther = back .before .before .before .before .before .before .before .before .before in
-    let farthest = farther .before .before .before .before .before .before .before .before .before in
-    let pre = farthest .before .before .before .before .before .before .before .pre .1 .0 in let inv = farthest .loop .inv in omega (arith, inv .2, inv .3, pre .small))
+    let key = c .before .before .before .before .before in
+    omega (arith, value-sum (keyed t key) (valuing t (c .before .before .before)) (c .before .read2 .given .1)))
     -- add-i
-    (λ c.
-    let back = c .before .before .before .before .before .before .before .before .before in
-    let farther = back .before .before .before .before .before .before .before .before .before in
-    omega (arith, back .before .before .before .before .before .before .before .before .loop-test .taken, farther .before .before .before .before .before .before .before .pre .1 .1 .0 .4))
+    (λ c. let test = c .before .before .before .before .before .before .before .before .before .before .before .before .before .before .before .before in omega (arith, test .loop-test .taken, test .before .loop .inv .0 .asked .most))
     -- loop-less
-    (λ c.
-    let back = c .before .before .before .before .before .before .before .before .before in
-    omega (arith, back .before .before .before .before .before .before .before .before .loop-test .taken))
+    (λ c. omega (arith, c .before .before .before .before .before .before .before .before .before .before .before .before .before .before .before .before .loop-test .taken))
     -- loop-again
     (λ c.
-    let back = c .before .before .before .before .before .before .before .before .before in
-    let farther = back .before .before .before .before .before .before .before .before .before in
-    let args = farther .before .before .before .before .before .before .before .args in
-    let asked = farther .before .before .before .before .before .before .before .pre in
-    let T = tableOf (args .s .now) in
-    let S = shape T in
-    let R = firstFields (args .shown .now) S in
-    let P = parse S (args .depth) in
-    let p = args .p .now in
-    let loop = farther .loop in
-    let inv = loop .inv in
-    let here = cursorAt p (loop .here) in
-    let some = back .before .before .before .before .before .before .before .before .loop-test .taken in
-    let d0 = back .before .before .before .before .before .before .before .if1 .left in
-    let k = farther .before .before .known-row in
-    let kind = leafShape (k .result .kind) in
-    let is = shape-leaf T (args .key) (k .result) (k .ensures) (rw (k .ensures) (asked .1 .1 .0 .0)) (rw (k .ensures) (asked .1 .1 .0 .1)) in
-    let left : args .judging ≡ false → Accepted (walk P (inv .0) (pairs (args .n - loop .i) (args .key) (args .val)) here) =
-    λ j.
-    rest-accepted R S P (map (args .key) (args .val)) (args .ty) (args .start) (args .n) (cursorAt p (args .start)) (args .row) (args .sheet .now)
-    (walk P (inv .0) (pairs (args .n - loop .i) (args .key) (args .val)) here) (pairs (args .n - loop .i) (args .key) (args .val)) (loop .sum) (loop .below) (loop .sheet)
-    (inv .1) (asked .1 .0 .judged j) in
-    let span = back .before .before .before .from in
-    let from = span .given .0 .0 in
-    let to = span .given .0 .1 .0 in
-    let i = leaf-in S (args .depth) (args .key) kind is d0 p (loop .here) _ (back .before .before .before .before .before .content .ensures) from to (span .given .1) in
-    let read = leaf-parsed S (args .depth) (args .key) kind is d0 p (loop .here) _ (back .before .before .before .before .before .content .ensures) from to (span .given .1) in
-    let again = back .is-repeated .ensures in
-    let new =
-    pair-new R S P p (args .key) (args .val) (args .n) (loop .i) (inv .0) (loop .here) some from to read (args .judging) _ left
-    (λ j. again .1 .0 j ∙ ap (among (part p from to)) (sym (inv .8 j .0))) (c .before .before .before .before .before .before .if2 .left) in
-    let put = c .before .before .before .before .put-row in
-    let joined = c .if3 in
-    let t : Paired R S P p (args .key) (args .val) (args .n) (loop .i) (inv .0) (loop .here) some from to read new (loop .sum) (loop .below) (loop .sheet) _ (put .ensures) (joined .here) (joined .sum) (joined .below) (joined .sheet) =
-    ⊎-elim
-    (λ w.
-    let v = farther .before .known-row2 in
-    let none = w .1 .ensures (w .2 .taken) in
-    let vis = shape-map T (args .val) (v .result) (v .ensures) (none .0) in
-    pair-turn R S P p (args .key) (args .val) (args .n) (loop .i) (inv .0) (loop .here) some from to read new (loop .sum) (loop .below) (loop .sheet) _ (put .ensures) _ _ _ _
-    (renamed (ap (λ (k : ℕ). parse S k (args .val) (cursorAt p to)) (deep (args .depth) d0))
-    (map-none S (args .depth - 1) (args .val) p to (v .result .a) (v .result .b) vis _ (none .1) 0 (to + 1) refl refl R (first-of (args .shown .now) S (args .val) vis)
-    (loop .below + 1) _ _ (omega (arith, i, inv .3)) (w .4 .ensures)))
-    _ _ _ _ (w .8) (omega (arith, w .10)) (omega (arith, w .9)) (w .7))
-    (⊎-elim
-    (λ w.
-    pair-turn R S P p (args .key) (args .val) (args .n) (loop .i) (inv .0) (loop .here) some from to read new (loop .sum) (loop .below) (loop .sheet) _ (put .ensures) _ _ _ _
-    (renamed (ap (λ (k : ℕ). parse S k (args .val) (cursorAt p to)) (deep (args .depth) d0)) (was (w .4 .ensures) (w .8 .given .1)))
-    _ _ _ _ (w .11) (w .13) (w .12) (w .10))
-    (λ w.
-    let v = farther .before .known-row2 in
-    let vis = shape-leaf T (args .val) (v .result) (v .ensures) (rw (v .ensures) (asked .1 .1 .0 .2)) (omega (arith, w .0 .left)) in
-    let vspan = w .4 .given in
-    pair-turn R S P p (args .key) (args .val) (args .n) (loop .i) (inv .0) (loop .here) some from to read new (loop .sum) (loop .below) (loop .sheet) _ (put .ensures) _ _ _ _
-    (leaf-past S (args .depth) (args .val) (leafShape (v .result .kind)) vis d0 p to _ (w .2 .ensures) (vspan .0 .0) (vspan .0 .1 .0) (vspan .1)
-    R (loop .below + 1) _ _ (omega (arith, i, inv .3)) (w .7 .ensures))
-    _ _ _ _ (w .11) (omega (arith, w .13)) (omega (arith, w .12)) (w .10)))
-    (joined .came) in (
-      part p from to ∷ inv .0,
-      sym (t .same) ∙ inv .1,
-      t .inside,
-      t .behind,
-      omega (arith, inv .4, i .2, t .forth),
-      t .long ∙ put .kept .0 ∙ inv .5,
-      omega (arith, some),
-      back .is-repeated .kept .1 .0 ∙ inv .7,
-      λ j. (ap (λ (ks : List (List ℕ)). part p from to ∷ ks) (inv .8 j .0) ∙ sym (again .1 .1 .0 j), again .1 .1 .1 j),
-    ))
-    -- sub-put-row-3
-    (λ c. omega (arith, c .before .before .loop .inv .4))
-    -- put-row-requires-3
-    (λ c κs.
-    let asked = c .before .before .before .before .before .before .before .before .before .pre .1 in
-    let pre = asked .0 in
-    let inv = c .before .before .loop .inv in
-    omega (arith, inv .2, inv .3, inv .4, pre .small, pre .behind, asked .1 .0 .4))
-    -- sub-t33
+    let key = c .before .before .before .before .before in
+    let kept = key .before .before .before .before .before .before .before .read-key .kept .1 .1 .0 in
+    (along-turn (keyed t key) (valuing t (c .before .before .before)) (c .before .read2 .given .1), kept ∙ key .before .before .before .before .before .before .before .before .before .before .before .before .loop .inv .1))
+    -- sub-put-row
+    (λ c. let loop = c .before .before in along-own (loop .loop .inv .0) .0)
+    -- put-row-requires
+    (λ c κs. let loop = c .before .before in let w = along-own (loop .loop .inv .0) in (w .1, w .2, w .3, w .4))
+    -- sub-t29
     (λ c. omega (arith, c .before .before .before .before .before .before .before .before .before .before .before .before .pre .1 .1 .0 .3))
-    -- mul-t60
-    (λ c. let h = few-pairs (c .before .before .before .before .before .before .before .before .before .before .before .before .args .n)
-    (c .before .before .before .before .before .before .before .before .before .before .before .before .pre .1 .1 .0 .4) in omega
-    (arith, h, c .before .before .before .before .before .before .before .before .before .before .before .before .pre .1 .1 .0 .4))
-    -- cast-t62
-    (λ c. let h = few-pairs (c .before .before .before .before .before .before .before .before .before .before .before .before .args .n)
-    (c .before .before .before .before .before .before .before .before .before .before .before .before .pre .1 .1 .0 .4) in omega
-    (arith, h, c .before .before .before .before .before .before .before .before .before .before .before .before .pre .1 .1 .0 .4))
-    -- add-t63
+    -- mul-t46
+    (λ c. let most = c .before .before .before .before .before .loop .inv .0 .asked .most in omega (arith, few-pairs _ most, most))
+    -- cast-t48
+    (λ c. let most = c .before .before .before .before .before .loop .inv .0 .asked .most in omega (arith, few-pairs _ most, most))
+    -- add-t49
     (λ c.
-    let args = c .before .before .before .before .before .before .before .before .before .before .before .before .args in
-    let asked = c .before .before .before .before .before .before .before .before .before .before .before .before .pre in
-    let inv = c .before .before .before .before .before .loop .inv in
-    let h = few-pairs (args .n) (asked .1 .1 .0 .4) in omega (arith, h, inv .2, inv .4, inv .6, c .before .before .before .before .loop-test .left, asked .1 .0 .small, asked .1 .1 .0 .4))
-    -- same-length-11
-    (λ c. c .before .before .put-row4 .kept .0 ∙ c .before .before .before .before .before .loop .inv .5)
-    -- same-length-12
-    (λ c. c .before .before .before .before .before .loop .inv .7)
-    -- returns-6
+    let start = c .before .before .before .before .before .before .before .before .before .before .before .before in
+    let a = c .before .before .before .before .before .loop .inv .0 in
+    let w = along-sum a (omega (arith, c .before .before .before .before .loop-test .left)) in
+    omega (arith, w, own-comparisons (start .args .n), a .inside, a .asked .ready .small))
+    -- same-length-7
+    (λ c. c .before .before .put-row .kept .0 ∙ c .before .before .before .before .before .loop .inv .0 .long)
+    -- same-length-8
+    (λ c. c .before .before .before .before .before .loop .inv .1)
+    -- returns-4
     (λ c.
-    let args = c .before .before .before .before .before .before .before .before .before .before .before .before .args in
-    let asked = c .before .before .before .before .before .before .before .before .before .before .before .before .pre in
-    let T = tableOf (args .s .now) in
-    let S = shape T in
-    let R = firstFields (args .shown .now) S in
-    let P = parse S (args .depth) in
-    let p = args .p .now in
-    let loop = c .before .before .before .before .before .loop in
-    let inv = loop .inv in
-    let here = cursorAt p (loop .here) in
-    let n = args .n in
-    let end = c .before .before .before .before .loop-test .left in
-    let h = few-pairs n (asked .1 .1 .0 .4) in
-    let own = own-due n in
-    composite-past R S P (map (args .key) (args .val)) (args .ty) (args .start) n (cursorAt p (args .start)) (args .row) (args .sheet .now)
-    p (args .start) (loop .here) (loop .sum) _ (loop .below) (loop .sheet) _ (inv .0) (pairs (n - loop .i) (args .key) (args .val))
-    (pairs-none (args .key) (args .val) (n - loop .i) (omega (arith, end))) (inv .1)
-    (omega (arith, own)) (c .before .before .put-row4 .ensures) (inv .2) (inv .3) (omega (arith, h, inv .4, inv .6, end)))
+    let n = c .before .before .before .before .before .before .before .before .before .before .before .before .args .n in
+    along-end (c .before .before .before .before .before .loop .inv .0) (omega (arith, c .before .before .before .before .loop-test .left)) (c .before .before .put-row .ensures) (omega (arith, own-comparisons n)) _ refl)
 
 abbrev read-shown-fields-calls : ℕ → read-shown-fields-lts.Claims
 read-shown-fields-calls t = (
+  shown-of-reads.Asked,
+  shown-of-reads.Learnt,
   low-bits-reads.Asked,
   low-bits-reads.Learnt,
   ones-in-reads.Asked,
@@ -1898,164 +967,69 @@ read-shown-fields-calls t = (
   put-row-reads.Learnt,
 )
 
+halved : (t : ℕ) (c : read-shown-fields-lts.After-low-bits (read-shown-fields-calls t) (read-shown-fields-at t) read-shown-fields.Post)
+    → let a = c .before .before .before .before .before .args in
+    Halved (a .shown .now) (a .s .now) (a .p .now) (a .depth) (a .f) (a .row) (a .judging) (c .before .shown-of .result) (c .low-bits .result)
+halved t c =
+    let asked = c .before .before .before .before .before .pre .1 in
+    record { asked = asked .0; typed = asked .1; few = asked .2; same = c .before .shown-of .ensures; bits = c .low-bits .ensures }
+
 read-shown-fields-spec : {M : Type 1} (t : ℕ) → read-shown-fields-lts.Closed (read-shown-fields-calls t) (read-shown-fields-at t) read-shown-fields.Post M
 read-shown-fields-spec t =
     read-shown-fields-lts.spec (read-shown-fields-calls t) (read-shown-fields-at t) read-shown-fields.Post
+    -- shown-of-requires
+    (λ c κs. let asked = c .before .before .before .pre .1 in type-few (asked .0) (asked .1))
     -- low-bits-requires
-    (λ c κs. omega (arith, c .before .before .before .pre .1 .1 .0 .1, c .before .before .before .pre .1 .1 .1 .1))
+    (λ c κs. let asked = c .before .before .before .before .pre .1 in omega (arith, asked .1 .1, asked .2, c .shown-of .ensures))
     -- ones-in-requires
     (λ c κs. search needs)
     -- read-fields-requires
-    (λ c κs.
-    let back = c .before .before .before .before .before .before in
-    let args = back .args in
-    let asked = back .pre in
-    let T = tableOf (args .s .now) in
-    let S = shape T in
-    let R = firstFields (args .shown .now) S in
-    let P = parse S (args .depth) in
-    let p = args .p .now in
-    let place = asked .1 .1 .0 in
-    let le : args .m ≤ args .n = omega (arith, asked .1 .1 .1 .1) in
-    let mine = c .before .before .low-bits in
-    let pre = asked .1 .0 in
-    let count = mine-count T (args .first) (args .n) (args .m) le (place .2) (args .known) (mine .result) (mine .ensures) in (
-      omega arith,
-      (
-        record {
-          good = pre .good;
-          small = pre .small;
-          inside = pre .inside;
-          behind = pre .behind;
-          judged = λ j. fields-accepted T (args .first) (args .n) (args .m) le (place .2) R S P (args .ty) (args .place) (args .known) p
-              (args .start) (args .row) (args .sheet .now) (mine .result) (mine .ensures) (pre .judged j);
-        },
-        (omega (arith, le, place .2), place .3, c .before .ones-in .ensures .1, c .before .ones-in .ensures .0 ∙ count),
-      ),
-    ))
+    (λ c κs. (omega arith, ours-ready (halved t (c .before .before)) (c .before .ones-in .ensures)))
     -- enum-known-number
     (λ c. search needs)
     -- enum-known-sum
     (λ c. search needs)
     -- read-added-requires
-    (λ c κs.
-    let back = c .before .before .before .before .before .before .before .before in
-    let args = back .before .before .before .before .args in
-    let asked = back .before .before .before .before .pre in
-    let T = tableOf (args .s .now) in
-    let S = shape T in
-    let R = firstFields (args .shown .now) S in
-    let P = parse S (args .depth) in
-    let p = args .p .now in
-    let place = asked .1 .1 .0 in
-    let le : args .m ≤ args .n = omega (arith, asked .1 .1 .1 .1) in
-    let mine = back .low-bits in
-    let past = c .before .sum in
-    let w1 = was (c .before .before .before .before .before .read-fields .ensures) (past .given .1) in
-    let sum = past .given .0 .0 in
-    let here = past .given .0 .1 .0 in
-    let below = past .given .0 .1 .1 .0 in
-    let pre = asked .1 .0 in (
-      omega arith,
-      (
-        record {
-          good = pre .good;
-          small = pre .small;
-          inside = w1 .within .0;
-          behind = omega (arith, pre .behind, w1 .within .2);
-          judged = λ j. others-accepted T (args .first) (args .n) (args .m) le (place .2) R S P (args .ty) (args .place) (args .known) p (args .start) (args .row) (args .sheet .now)
-              (mine .result) (mine .ensures) sum here below _ w1 _ refl (pre .judged j);
-        },
-        (place .1, asked .1 .1 .1 .1, place .2),
-      ),
-    ))
+    (λ c κs. (omega arith, added-ready (halved t (c .before .before .before .before .before .before .before .before)) (c .before .before .before .before .before .read-fields .ensures) (c .before .sum .given .1)))
     -- enum-known-number-2
     (λ c. search needs)
     -- enum-known-due
     (λ c. search needs)
     -- sub-put-row
     (λ c.
-    let back = c .before .before .before .before .before .before in
-    let w1 = was (back .before .before .before .before .read-fields .ensures) (back .sum .given .1) .within in
-    let w2 = was (c .before .before .before .before .read-added .ensures .2) (c .before .before .due .given .1) .within in
-    omega (arith, w1 .2, w2 .2, back .before .before .before .before .before .before .before .before .before .before .before .pre .1 .1 .0 .3))
+    let added = c .before .before .before .before .before in
+    let fields = added .before .before .before .before .before .before in
+    added-in (halved t (fields .before .before .before)) (fields .read-fields .ensures) (added .before .before .sum .given .1) (added .read-added .ensures .2) (c .before .before .before .due .given .1) .0)
     -- put-row-requires
     (λ c κs.
-    let back = c .before .before .before .before .before .before in
-    let w1 = was (back .before .before .before .before .read-fields .ensures) (back .sum .given .1) .within in
-    let w2 = was (c .before .before .before .before .read-added .ensures .2) (c .before .before .due .given .1) .within in
-    let asked = back .before .before .before .before .before .before .before .before .before .before .before .pre .1 in
-    let pre = asked .0 in
-    omega (arith, w2 .0, pre .small, pre .inside, pre .behind, asked .1 .0 .3, back .before .before .before .before .before .before .ones-in .ensures .1))
-    -- add-t36
+    let added = c .before .before .before .before .before in
+    let fields = added .before .before .before .before .before .before in
+    let within = added-in (halved t (fields .before .before .before)) (fields .read-fields .ensures) (added .before .before .sum .given .1) (added .read-added .ensures .2) (c .before .before .before .due .given .1) in
+    omega (arith, within, fields .before .before .ones-in .ensures .1))
+    -- add-t32
     (λ c.
-    let back = c .before .before .before .before .before .before .before in
-    let w1 = was (back .before .before .before .before .before .before .read-fields .ensures) (back .before .before .sum .given .1) .within in
-    let w2 = was (back .read-added .ensures .2) (c .before .before .before .before .before .due .given .1) .within in
-    omega (arith, back .before .before .before .before .before .before .before .before .before .before .before .before .before .pre .1 .0 .small, w1 .2, w2 .2, w2 .0))
+    let added = c .before .before .before .before .before .before .before .before in
+    let fields = added .before .before .before .before .before .before in
+    let within = added-in (halved t (fields .before .before .before)) (fields .read-fields .ensures) (added .before .before .sum .given .1) (added .read-added .ensures .2) (c .before .before .before .before .before .before .due .given .1) in
+    omega (arith, within .3))
     -- same-length
     (λ c. c .before .before .before .before .before .read-fields .kept .1 .1 .1 .0)
     -- returns
-    (λ c.
-    let back = c .before .before .before .before .before .before .before .before in
-    let args = back .before .before .before .before .args in
-    let asked = back .before .before .before .before .pre in
-    let T = tableOf (args .s .now) in
-    let S = shape T in
-    let R = firstFields (args .shown .now) S in
-    let P = parse S (args .depth) in
-    let p = args .p .now in
-    let place = asked .1 .1 .0 in
-    let le : args .m ≤ args .n = omega (arith, asked .1 .1 .1 .1) in
-    let mine = back .low-bits in
-    fields-stop T (args .first) (args .n) (args .m) le (place .2) R S P (args .ty) (args .place) (args .known) p (args .start) (args .row) (args .sheet .now) (mine .result) (mine .ensures) _ _ _
-    (was (c .before .before .before .before .before .read-fields .ensures) (c .before .number .given .1)))
+    (λ c. ours-stop (halved t (c .before .before .before .before .before .before .before .before)) (c .before .before .before .before .before .read-fields .ensures) (c .before .number .given .1))
     -- same-length-2
     (λ c. search needs)
     -- returns-2
     (λ c.
-    let back = c .before .before .before .before .before .before .before .before .before in
-    let args = back .before .before .before .before .before .before .before .args in
-    let asked = back .before .before .before .before .before .before .before .pre in
-    let T = tableOf (args .s .now) in
-    let S = shape T in
-    let R = firstFields (args .shown .now) S in
-    let P = parse S (args .depth) in
-    let p = args .p .now in
-    let place = asked .1 .1 .0 in
-    let le : args .m ≤ args .n = omega (arith, asked .1 .1 .1 .1) in
-    let mine = back .before .before .before .low-bits in
-    let past = c .before .before .before .before .before .sum in
-    let w1 = was (back .read-fields .ensures) (past .given .1) in
-    let sum = past .given .0 .0 in
-    let here = past .given .0 .1 .0 in
-    let below = past .given .0 .1 .1 .0 in
-    others-stop T (args .first) (args .n) (args .m) le (place .2) R S P (args .ty) (args .place) (args .known) p (args .start) (args .row) (args .sheet .now)
-    (mine .result) (mine .ensures) sum here below _ w1 _ refl _ _ _ _ _ (was (c .before .before .before .read-added .ensures .2) (c .before .number2 .given .1)))
+    let fields = c .before .before .before .before .before .before .before .before .before in
+    added-stop (halved t (fields .before .before .before)) (fields .read-fields .ensures) (c .before .before .before .before .before .sum .given .1) (c .before .before .before .read-added .ensures .2) (c .before .number2 .given .1))
     -- same-length-3
     (λ c. search needs)
     -- returns-3
     (λ c.
-    let back = c .before .before .before .before .before .before .before in
-    let args = back .before .before .before .before .before .before .before .before .before .before .before .before .before .args in
-    let asked = back .before .before .before .before .before .before .before .before .before .before .before .before .before .pre in
-    let T = tableOf (args .s .now) in
-    let S = shape T in
-    let R = firstFields (args .shown .now) S in
-    let P = parse S (args .depth) in
-    let p = args .p .now in
-    let place = asked .1 .1 .0 in
-    let le : args .m ≤ args .n = omega (arith, asked .1 .1 .1 .1) in
-    let mine = back .before .before .before .before .before .before .before .before .before .low-bits in
-    let past = back .before .before .sum in
-    let w1 = was (back .before .before .before .before .before .before .read-fields .ensures) (past .given .1) in
-    let sum = past .given .0 .0 in
-    let here = past .given .0 .1 .0 in
-    let below = past .given .0 .1 .1 .0 in
-    let shown = first-part (args .shown .now) S T (args .ty) (args .first) (args .n) (place .0) (place .2) (args .m) (asked .1 .1 .1 .0) le in
-    others-past T (args .first) (args .n) (args .m) le (place .2) R S P (args .ty) (args .place) (args .known) p (args .start) (args .row) (args .sheet .now)
-    (mine .result) (mine .ensures) sum here below _ w1 _ refl shown (place .0) _ _ _ _ _ _
-    (was (back .read-added .ensures .2) (c .before .before .before .before .before .due .given .1)) (rw (back .before .before .before .before .before .before .before .before .ones-in .ensures .0) at (c .before .before .put-row .ensures)))
+    let added = c .before .before .before .before .before .before .before .before in
+    let fields = added .before .before .before .before .before .before in
+    added-past (halved t (fields .before .before .before)) (fields .read-fields .ensures) (added .before .before .sum .given .1) (added .read-added .ensures .2) (c .before .before .before .before .before .before .due .given .1)
+    (fields .before .before .ones-in .ensures .0) (c .before .before .put-row .ensures))
 
 abbrev read-struct-calls : ℕ → read-struct-lts.Claims
 read-struct-calls t = (presence-reads.Asked, presence-reads.Learnt, read-chosen-fields-below t, read-chosen-fields.Post)
@@ -2069,73 +1043,40 @@ read-struct-spec t =
     (λ c. search needs)
     -- presence-requires
     (λ c κs.
-    let args = c .before .before .before .before .before .args in
-    let asked = c .before .before .before .before .before .pre in
-    let T = tableOf (args .s .now) in
-    let S = shape T in
-    let p = args .p .now in
-    let kind = asked .1 .2 in
-    let is = shape-struct T (args .ty) _ (asked .1 .1) kind in
-    let n = struct-row (args .s .now) (asked .1 .0 .good) (args .ty) _ (asked .1 .1) kind in
-    let pre = asked .1 .0 in
-    (pre .good, n .0, n .1, n .2, pre .inside, λ j. bitmap-accepted S (args .depth) (args .ty) p (args .at) _ is (pre .judged j)))
+    let start = c .before .before .before .before .before in
+    let asked = start .pre .1 in
+    struct-asked (start .args .depth) (start .args .ty) (asked .0) (asked .1) (asked .2))
     -- enum-known-number
     (λ c. search needs)
     -- enum-known-known
     (λ c. search needs)
     -- returns
     (λ c.
-    let back = c .before .before .before .before .before .before .before .before .before .before in
-    let args = back .args in
-    let asked = back .pre in
-    let T = tableOf (args .s .now) in
-    let S = shape T in
-    let p = args .p .now in
-    let kind = asked .1 .2 in
-    let is = shape-struct T (args .ty) _ (asked .1 .1) kind in
-    as-refused _ _ _ (struct-unknown S (args .depth) (args .ty) p (args .at) _ is _ (c .before .before .before .before .presence .ensures) _ _ _ _ _ (c .before .before .known .given .1) (c .if1 .taken)))
+    let start = c .before .before .before .before .before .before .before .before .before .before in
+    let args = start .args in
+    let asked = start .pre .1 in
+    struct-other (args .depth) (args .ty) (asked .0) (asked .1) (asked .2) (c .before .before .before .before .presence .ensures) (c .before .before .known .given .1) (c .if1 .taken) (args .shown .now))
     -- read-chosen-fields-requires
     (λ c κs.
-    let back = c .before .before .before .before .before .before .before .before .before .before .before in
-    let args = back .args in
-    let asked = back .pre in
-    let T = tableOf (args .s .now) in
-    let S = shape T in
-    let p = args .p .now in
-    let kind = asked .1 .2 in
-    let is = shape-struct T (args .ty) _ (asked .1 .1) kind in
-    let n = struct-row (args .s .now) (asked .1 .0 .good) (args .ty) _ (asked .1 .1) kind in
-    let h = head-in S (args .depth) (args .ty) p (args .at) _ is _ (c .before .before .before .before .before .presence .ensures) _ _ _ _ _ (c .before .before .before .known .given .1) in (
-      omega arith,
-      (
-        struct-ready (args .depth) (args .ty) (asked .1 .0) is (c .before .before .before .before .before .presence .ensures) (c .before .before .before .known .given .1) (c .before .if1 .left),
-        ((is, n .1, n .2, omega (arith, h .4)), (h .6, h .1)),
-      ),
-    ))
+    let start = c .before .before .before .before .before .before .before .before .before .before .before in
+    let args = start .args in
+    let asked = start .pre .1 in
+    (omega arith, struct-ready (args .depth) (args .ty) (asked .0) (asked .1) (asked .2) (c .before .before .before .before .before .presence .ensures) (c .before .before .before .known .given .1) (c .before .if1 .left)))
     -- returns-2
     (λ c.
-    let back = c .before .before .before .before .before .before .before .before .before in
-    let args = back .args in
-    let asked = back .pre in
-    let T = tableOf (args .s .now) in
-    let S = shape T in
-    let p = args .p .now in
-    let kind = asked .1 .2 in
-    let is = shape-struct T (args .ty) _ (asked .1 .1) kind in
-    as-refused _ _ _ (struct-refused S (args .depth) (args .ty) p (args .at) _ is _ (c .before .before .before .presence .ensures) _ (c .before .number .given .1)))
+    let start = c .before .before .before .before .before .before .before .before .before in
+    let args = start .args in
+    let asked = start .pre .1 in
+    struct-stop (args .depth) (args .ty) (asked .0) (asked .1) (asked .2) (c .before .before .before .presence .ensures) (c .before .number .given .1) (args .shown .now))
     -- same-length
     (λ c. c .before .before .read-chosen-fields .kept .1 .1 .1 .0)
     -- returns-3
     (λ c.
-    let back = c .before .before .before .before .before .before in
-    let args = back .before .before .before .before .before .before .before .before .args in
-    let asked = back .before .before .before .before .before .before .before .before .pre in
-    let T = tableOf (args .s .now) in
-    let S = shape T in
-    let p = args .p .now in
-    let kind = asked .1 .2 in
-    let is = shape-struct T (args .ty) _ (asked .1 .1) kind in
-    struct-shown (args .depth) (args .ty) (asked .1 .0) is (back .before .before .presence .ensures) (back .known .given .1) (c .before .before .before .before .if1 .left) (args .shown .now) (c .before .before .read-chosen-fields .ensures))
+    let head = c .before .before .before .before .before .before .before .before in
+    let args = head .before .before .before .before .before .before .args in
+    let asked = head .before .before .before .before .before .before .pre .1 in
+    struct-shown (args .depth) (args .ty) (asked .0) (asked .1) (asked .2) (head .presence .ensures) (c .before .before .before .before .before .before .known .given .1) (c .before .before .before .before .if1 .left) (args .shown .now)
+    (c .before .before .read-chosen-fields .ensures))
 
 pub +read-added+read-array+read-chosen-fields+read-composite+read-composites+read-field+read-fields+read-map+read-more-pairs+read-pairs+read-shown-fields+read-struct-spec : {M : Type 1} → statement M
 +read-added+read-array+read-chosen-fields+read-composite+read-composites+read-field+read-fields+read-map+read-more-pairs+read-pairs+read-shown-fields+read-struct-spec =

@@ -41,13 +41,18 @@ root-spec =
     let pre = asked .0 in
     let h = root-in S (args .ty) fs p _ read _ _ _ _ _ (bits .given .1) in (
       record {
-        good = pre .good;
-        small = pre .small;
-        inside = h .5;
-        behind = omega (arith, h .4);
-        judged = λ j. root-fields S (args .ty) fs p _ read _ _ _ _ _ (bits .given .1) (pre .judged j);
+        ready = record {
+          good = pre .good;
+          small = pre .small;
+          inside = h .5;
+          behind = omega (arith, h .4);
+          judged = λ j. root-fields S (args .ty) fs p _ read _ _ _ _ _ (bits .given .1) (pre .judged j);
+        };
+        in-table = asked .1 .3;
+        forth = omega arith;
       },
-      ((asked .1 .0, asked .1 .2, asked .1 .3, omega arith), (h .6, h .1)),
+      (asked .1 .0, asked .1 .2),
+      (h .6, h .1),
     ))
     -- enum-known-number-2
     (λ c. search needs)

@@ -14,13 +14,13 @@ use Rattle.schema.specs.Check.{goodMethod}
 use Rattle.schema.proofs.Bools.{clash, and-right}
 use Rattle.schema.proofs.Checks.{firstBad, methods-whole}
 use Rattle.schema.proofs.Lowest.{lowest-none, bad-here, bad-next}
-use Rattle.schema.proofs.Flags.{Flagged, flag-below, flagged-none, flagged-next, many-judged}
+use Rattle.schema.proofs.Flags.{MethodsFlagged, flag-below, flagged-none, flagged-next, many-judged}
 use Rattle.schema.proofs.check.bad_by_flags.Statement.{statement}
 use Rattle.schema.proofs.check.bad_by_flags.Tie as tie
 
 abbrev Inv-loop : tie.InvT-loop
 Inv-loop s l mixing seen₀ searches₀ i₀ seen searches i =
-    (i ≤ l .methods) × (firstBad (tableOf s) 0 (l .methods) ≡ firstBad (tableOf s) i (l .methods - i)) × Flagged (tableOf s) mixing seen i × (searches ≤ i)
+    (i ≤ l .methods) × (firstBad (tableOf s) 0 (l .methods) ≡ firstBad (tableOf s) i (l .methods - i)) × MethodsFlagged (tableOf s) mixing seen i × (searches ≤ i)
 
 abbrev μ-loop : tie.MeasureT-loop
 μ-loop s l mixing seen₀ searches₀ i₀ seen searches i = l .methods - i

@@ -3,13 +3,13 @@ use borrow.Author.Needs.{needs}
 use mathlib.Core.Path.{_≡_, _∙_}
 use Prim.Native.Nat.{_-_, _≤_}
 use native.Mathlib.Omega.{arith}
-use Rattle.walks.specs.Keys.{holds}
-use Rattle.walks.proofs.Keys.{holds-first, holds-step, holds-end}
+use Rattle.walks.specs.Keys.{hasDigest}
+use Rattle.walks.proofs.Keys.{has-digest-first, has-digest-step, has-digest-end}
 use Rattle.walks.proofs.key.has_digest.Statement.{statement}
 use Rattle.walks.proofs.key.has_digest.Tie as tie
 
 abbrev Inv-loop : tie.InvT-loop
-Inv-loop keys n d found₀ i₀ found i = (found ≡ holds keys i d) × (i ≤ n)
+Inv-loop keys n d found₀ i₀ found i = (found ≡ hasDigest keys i d) × (i ≤ n)
 
 abbrev μ-loop : tie.MeasureT-loop
 μ-loop keys n d found₀ i₀ found i = n - i
@@ -21,7 +21,7 @@ has-digest-spec =
     Inv-loop
     μ-loop
     -- loop-holds
-    (λ c. (holds-first (c .args .keys .now) (c .args .d), omega arith))
+    (λ c. (has-digest-first (c .args .keys .now) (c .args .d), omega arith))
     -- mul-found
     (λ c. search needs)
     -- shared-slice-read-found
@@ -31,6 +31,6 @@ has-digest-spec =
     -- loop-less
     (λ c. omega (arith, c .before .loop-test .taken))
     -- loop-again
-    (λ c. (holds-step (c .before .before .before .args .keys .now) (c .before .before .loop .i) (c .before .before .before .args .d) (c .before .before .loop .found) (c .before .before .loop .inv .0), omega (arith, c .before .loop-test .taken)))
+    (λ c. (has-digest-step (c .before .before .before .args .keys .now) (c .before .before .loop .i) (c .before .before .before .args .d) (c .before .before .loop .found) (c .before .before .loop .inv .0), omega (arith, c .before .loop-test .taken)))
     -- returns
-    (λ c. c .before .loop .inv .0 ∙ holds-end (c .before .before .args .keys .now) (c .before .loop .i) (c .before .before .args .n) (c .before .before .args .d) (c .before .loop .inv .1) (c .loop-test .left)))
+    (λ c. c .before .loop .inv .0 ∙ has-digest-end (c .before .before .args .keys .now) (c .before .loop .i) (c .before .before .args .n) (c .before .before .args .d) (c .before .loop .inv .1) (c .loop-test .left)))

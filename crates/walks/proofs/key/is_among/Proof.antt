@@ -6,7 +6,7 @@ use native.Mathlib.Omega.{arith}
 use borrow.Author.Tests.{not-true, not-false}
 use Rattle.buffer.specs.Span.{span}
 use Rattle.value.specs.Read.{among}
-use Rattle.walks.specs.Keys.{holds, keysIn, Kept}
+use Rattle.walks.specs.Keys.{hasDigest, keysIn, Kept}
 use Rattle.walks.proofs.Keys.{unheld, kept-found, kept-other, kept-none}
 use Rattle.walks.proofs.key.is_among.Statement.{statement}
 use Rattle.walks.proofs.key.is_among.Tie as tie
@@ -35,7 +35,7 @@ is-among-spec =
     let judged = not-false _ (c .before .before .if1 .left) in
     let all = subst (λ (b : Bool). Kept (args .s .now) (args .keys .now) b (args .held)) judged (asked .0 .2) in
     unheld (args .s .now) (args .keys .now) _ (args .held) all
-    (subst (λ (k : ℕ). holds (args .keys .now) (args .held) k ≡ false) (asked .1 .0 judged) (sym (c .before .has-digest .ensures) ∙ not-true _ (c .if2 .taken))))
+    (subst (λ (k : ℕ). hasDigest (args .keys .now) (args .held) k ≡ false) (asked .1 .0 judged) (sym (c .before .has-digest .ensures) ∙ not-true _ (c .if2 .taken))))
     -- loop-holds
     (λ c. (refl, omega arith))
     -- sub-j

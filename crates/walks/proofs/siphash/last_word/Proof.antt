@@ -13,4 +13,4 @@ last-word-spec =
     -- number-requires
     (λ c κs. search needs)
     -- returns
-    (λ c. let args = c .before .before .args in last-made (span (args .s .now) (args .at) (args .n % 8)) (args .n) _ (c .number .ensures)))
+    (λ c. let args = c .before .before .args in last-made (span (args .s .now) (args .place) (args .n % 8)) (args .n) _ (c .number .ensures)))

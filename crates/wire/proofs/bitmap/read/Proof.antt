@@ -32,8 +32,8 @@ returns c =
     record {
       word-is = is;
       known-is = low;
-      count-is = ap ones low ∙ ones-low (a .n) x ∙ ap (onesIn (a .n)) is ∙ sym (known-count l (a .n) bytes room);
-      count-le = rw low (ones-le (a .n) (x % 2 ^ a .n) (mod-lt x (pow-pos (a .n))));
+      ones-are = ap ones low ∙ ones-low (a .n) x ∙ ap (onesIn (a .n)) is ∙ sym (known-count l (a .n) bytes room);
+      ones-few = rw low (ones-le (a .n) (x % 2 ^ a .n) (mod-lt x (pow-pos (a .n))));
       unknown-is = omega (arith, ones-split x (a .n), ap ones low, high);
     }
 

@@ -10,7 +10,7 @@ use lib.ListN.{length, drop}
 use Rattle.wire.specs.declared.varuint.VarUInt.{VarUInt}
 use Rattle.wire.specs.declared.varuint.VarUInt.the-variants.{Cut}
 use Rattle.wire.specs.Varuint.{before, groups}
-use Rattle.wire.proofs.Varuints.{behind, behind-first, behind-more, full, groups-cut, last-bad, last-good, one-group, tenth-group, tenth-above, more-groups}
+use Rattle.wire.proofs.Varuints.{withLow, with-low-first, with-low-more, full, groups-cut, last-bad, last-good, one-group, tenth-group, tenth-above, more-groups}
 use Rattle.wire.proofs.varuint.read_more.Statement.{statement}
 use Rattle.wire.proofs.varuint.read_more.Tie as tie
 
@@ -18,7 +18,7 @@ abbrev Inv-loop : tie.InvT-loop
 Inv-loop s at first value₀ weight₀ i₀ left₀ value weight i left =
     ((0 < left) × (left ≤ 9))
     × ((value < weight) × (weight ≡ 128 ^ (10 - left)))
-    × (behind value weight (groups left (drop i s) i) ≡ before first (groups 9 (drop at s) at))
+    × (withLow value weight (groups left (drop i s) i) ≡ before first (groups 9 (drop at s) at))
 
 abbrev μ-loop : tie.MeasureT-loop
 μ-loop s at first value₀ weight₀ i₀ left₀ value weight i left = left
@@ -36,8 +36,8 @@ Read c r = let a = c .before .before .args in r ≡ before (a .first) (groups 9 
 
 -- from what is read at a place of the loop
 at : (c : tie.At-loop Inv-loop μ-loop) (r : VarUInt) → r ≡ groups (c .loop .left) (drop (c .loop .i) (c .before .before .args .s .now)) (c .loop .i)
-    → Read c (behind (c .loop .value) (c .loop .weight) r)
-at c r e = ap (behind (c .loop .value) (c .loop .weight)) e ∙ c .loop .inv .2
+    → Read c (withLow (c .loop .value) (c .loop .weight) r)
+at c r e = ap (withLow (c .loop .value) (c .loop .weight)) e ∙ c .loop .inv .2
 
 cut : (c : tie.At-loop Inv-loop μ-loop) → length (c .before .before .args .s .now) ≤ c .loop .i → Read c Cut
 cut c h =
@@ -46,7 +46,7 @@ cut c h =
     at c Cut (sym (ap (λ (k : ℕ). groups k (drop (c .loop .i) s) (c .loop .i)) one ∙ groups-cut (c .loop .left - 1) s (c .loop .i) h))
 
 loop-holds : tie.Need-loop-holds Inv-loop μ-loop
-loop-holds c = let a = c .before .args in (omega arith, (omega arith, refl), behind-first (a .first) (groups 9 (drop (a .at) (a .s .now)) (a .at)))
+loop-holds c = let a = c .before .args in (omega arith, (omega arith, refl), with-low-first (a .first) (groups 9 (drop (a .at) (a .s .now)) (a .at)))
 
 loop-again : tie.Need-loop-again Inv-loop μ-loop
 loop-again c =
@@ -56,7 +56,7 @@ loop-again c =
     let one : 10 - (l .loop .left - 1) ≡ suc (10 - l .loop .left) = omega arith in (
       omega arith,
       (full 128 (l .loop .value) (l .loop .weight) (w .result - 128) (l .loop .inv .1 .0) (omega arith), ap (λ (x : ℕ). x * 128) (l .loop .inv .1 .1) ∙ sym (ap (λ (k : ℕ). 128 ^ k) one ∙ pow-suc 128 (10 - l .loop .left))),
-      behind-more (l .loop .value) (l .loop .weight) (w .result - 128) (groups (l .loop .left - 1) (drop (l .loop .i + 1) (a .s .now)) (l .loop .i + 1))
+      with-low-more (l .loop .value) (l .loop .weight) (w .result - 128) (groups (l .loop .left - 1) (drop (l .loop .i + 1) (a .s .now)) (l .loop .i + 1))
           ∙ at l _ (more-groups (a .s .now) (l .loop .i) (w .result) (omega arith) (w .ensures .0) (l .loop .left) (omega arith) (omega arith)),
     )
 

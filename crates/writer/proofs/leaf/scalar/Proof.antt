@@ -1,6 +1,7 @@
 -- `writer::leaf::scalar` meets its contract.
 use mathlib.Core.Path.{sym, _∙_}
-use Rattle.writer.proofs.Leaves.{scalar-wide, scalar-counted, scalar-outside, scalar-fine, one-byte, scalar-truth, scalar-other, scalar-bad}
+use Rattle.value.proofs.Spans.{scalar-truth, scalar-other}
+use Rattle.writer.proofs.Leaves.{scalar-wide, scalar-counted, scalar-outside, scalar-fine, one-byte, scalar-bad}
 use borrow.Author.Needs.{needs}
 use Rattle.writer.proofs.leaf.scalar.Statement.{statement}
 use Rattle.writer.proofs.leaf.scalar.Tie as tie
@@ -52,8 +53,7 @@ scalar-spec =
     let if2 = c .before .before .before .before .if2 in
     let if3 = c .before .before .before .if3 in
     scalar-fine (args .source .now) (args .kind) (args .place) (args .n) (args .count) (asked .0) (if1 .left ∙ width-of .ensures) (if2 .left) (if3 .left)
-    (scalar-truth (args .source .now) (args .kind) (args .place) (args .n) (args .count) (asked .0) (if1 .left ∙ width-of .ensures) (if2 .left) (if3 .left) (c .before .before .if4 .taken)
-    (c .if5 .left)))
+    (scalar-truth (args .source .now) (args .kind) (args .place) (args .n) (if1 .left ∙ width-of .ensures) (if3 .left) (c .before .before .if4 .taken) (c .if5 .left)))
     -- returns-6
     (λ c.
     let args = c .before .before .before .before .before .before .args in
@@ -61,4 +61,4 @@ scalar-spec =
     let width-of = c .before .before .before .before .width-of in
     let if1 = c .before .before .before .if1 in
     scalar-fine (args .source .now) (args .kind) (args .place) (args .n) (args .count) (asked .0) (if1 .left ∙ width-of .ensures) (c .before .before .if2 .left) (c .before .if3 .left)
-    (scalar-other (args .source .now) (args .kind) (args .place) (args .n) (args .count) (asked .0) (if1 .left ∙ width-of .ensures) (c .before .before .if2 .left) (c .before .if3 .left) (c .if4 .left))))
+    (scalar-other (args .source .now) (args .kind) (args .place) (args .n) (c .if4 .left))))

@@ -4,7 +4,8 @@ use mathlib.Core.List.{List}
 use Prim.Native.Nat.{ℕ}
 use borrow.Author.Tests.{not-true, not-false}
 use Rattle.wire.specs.Utf8.{utf8}
-use Rattle.writer.proofs.Leaves.{text-counted, text-outside, text-valid, text-plain, text-bad}
+use Rattle.value.proofs.Spans.{text-valid, text-plain}
+use Rattle.writer.proofs.Leaves.{text-counted, text-outside, text-fine, text-bad}
 use borrow.Author.Needs.{needs}
 use Rattle.buffer.proofs.Spans.{slice-span}
 use Rattle.writer.proofs.leaf.text.Statement.{statement}
@@ -36,9 +37,11 @@ text-spec =
     (λ c.
     let args = c .before .before .before .before .before .before .args in
     let asked = c .before .before .before .before .before .before .pre in
-    text-valid (args .source .now) (args .kind) (args .place) (args .n) (args .count) (asked .0) (c .before .before .before .before .if1 .left) (c .before .before .before .if2 .left)
-    (c .before .before .if3 .taken) (sym (c .before .valid .ensures ∙ ap (λ (l : List ℕ). utf8 l) (slice-span (args .source .now) (args .place) (args .n))) ∙ not-false _ (c .if4 .left)))
+    text-fine (args .source .now) (args .kind) (args .place) (args .n) (args .count) (asked .0) (c .before .before .before .before .if1 .left) (c .before .before .before .if2 .left)
+    (text-valid (args .source .now) (args .kind) (args .place) (args .n)
+    (sym (c .before .valid .ensures ∙ ap (λ (l : List ℕ). utf8 l) (slice-span (args .source .now) (args .place) (args .n))) ∙ not-false _ (c .if4 .left))))
     -- returns-5
     (λ c.
     let args = c .before .before .before .before .args in
-    text-plain (args .source .now) (args .kind) (args .place) (args .n) (args .count) (c .before .before .before .before .pre .0) (c .before .before .if1 .left) (c .before .if2 .left) (c .if3 .left)))
+    text-fine (args .source .now) (args .kind) (args .place) (args .n) (args .count) (c .before .before .before .before .pre .0) (c .before .before .if1 .left) (c .before .if2 .left)
+    (text-plain (args .source .now) (args .kind) (args .place) (args .n) (c .if3 .left))))

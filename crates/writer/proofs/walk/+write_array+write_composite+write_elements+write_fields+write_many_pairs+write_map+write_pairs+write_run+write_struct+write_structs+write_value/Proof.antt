@@ -3,32 +3,35 @@
 use borrow.Author.Needs.{needs}
 use mathlib.Core.Path.{_≡_, refl, ap, _∙_}
 use mathlib.Core.Logic.{⊎-elim}
-use mathlib.Core.List.{[]}
+use mathlib.Core.Bool.{true}
+use mathlib.Core.List.{[], _∷_}
 use Prim.Native.Nat.{ℕ, suc, _+_, _-_, _*_, _/_, _≤_, _<_}
 use native.Mathlib.Omega.{arith}
 use lib.ListN.{length, replicate}
 use Rattle.schema.specs.declared.TypeRow.{TypeRow}
-use Rattle.schema.specs.Table.{rowAt, shape}
+use Rattle.schema.specs.Table.{rowAt, array, map, shape}
 use Rattle.schema.specs.File.{tableOf}
 use Rattle.schema.proofs.Checks.{good-shaped, good-laid}
 use Rattle.value.specs.Read.{plainItem, pairs, present, walk}
 use Rattle.value.specs.Write.{show}
-use Rattle.walks.specs.Shape.{fieldsFrom}
+use Rattle.walks.specs.Shape.{fieldsFrom, shapeIn, leafShape}
 use Rattle.walks.specs.Keys.{keysIn, Kept}
 use Rattle.walks.proofs.Keys.{keys-none}
 use Rattle.walks.proofs.Tables.{few-fields, struct-row, array-row, map-row, map-value, shape-array, shape-map, shape-struct, shape-past, shape-leaf}
 use Rattle.walks.proofs.Presence.{length-fields}
-use Rattle.walks.proofs.Masks.{bitsLeft, Standing, standing-first, standing-kind, standing-next, standing-shift, standing-less, standing-skip, standing-same, standing-end}
-use Rattle.walks.proofs.Items.{elements-none, pairs-none}
+use Rattle.walks.proofs.Masks.{bitsLeft, Standing, standing-first, standing-field, standing-kind, standing-next, standing-shift, standing-less, standing-skip, standing-same, standing-end}
+use Rattle.walks.proofs.Items.{elements-none, elements-some, item-accepted, pairs-none}
 use Rattle.writer.specs.Emit.{emitAll}
 use Rattle.writer.specs.Leaf.{rowsAt}
+use Rattle.writer.specs.Walk.{itemsEnd, MapRow}
 use Rattle.writer.proofs.Steps.{was, renamed, as-stopped, as-refused, shown-stopped, shown-refused, shown-along, onward, walk-done}
 use Rattle.writer.proofs.Steps.{show-deep, accepted-deeper, walked-deeper, items-deeper, items-shallower, leaf-accepted, show-unknown}
-use Rattle.writer.proofs.Heads.{head-fits}
-use Rattle.writer.proofs.Composites.{leaf-failed, leaf-in, leaf-past, row-absent, due-in, array-start, array-accepted, came-by}
-use Rattle.writer.proofs.Composites.{map-many, map-start, map-accepted, struct-fault, struct-unknown, struct-miscounted, struct-start, struct-accepted}
-use Rattle.writer.proofs.Composites.{element-past, element-stop, element-accepted, structs-held, one-accepted, one-end, field-stop, field-accepted, field-read, pairs-start}
-use Rattle.writer.proofs.Keys.{pair-first, pair-key, pair-within, pair-accepted, pair-stop, pair-past}
+use Rattle.writer.proofs.Leaves.{due-in}
+use Rattle.writer.proofs.Heads.{HeadRow, head-row, head-fits}
+use Rattle.writer.proofs.Composites.{leaf-failed, leaf-in, leaf-past, row-absent, came-by}
+use Rattle.writer.proofs.Composites.{PartsRow, parts-start, parts-accepted, array-found, map-many, map-found, struct-fault, struct-found, struct-start}
+use Rattle.writer.proofs.Composites.{next-past, next-stop, structs-held, one-accepted, one-end, pairs-start}
+use Rattle.writer.proofs.Keys.{AfterKey, after-key, key-was, pair-first, pair-accepted, pair-stop, pair-past}
 use borrow.Fn.Kinds.{In}
 use borrow.Fn.PlainCycle.{Measures, is, falls, and}
 use Rattle.writer.proofs.walk.write_array.Reads as write-array
@@ -70,12 +73,12 @@ use Rattle.schema.proofs.rows.field_row.Reads as field-row-reads
 use Rattle.walks.proofs.required_of.Reads as required-of-reads
 use Rattle.walks.proofs.zeros_in.Reads as zeros-in-reads
 use Rattle.writer.proofs.leaf.leaf_row.Reads as leaf-row-reads
-use Rattle.writer.proofs.leaf.presence.Reads as presence-reads
+use Rattle.writer.proofs.leaf.struct_bits.Reads as struct-bits-reads
 use Rattle.writer.proofs.leaf.row_due.Reads as row-due-reads
 use Rattle.writer.proofs.put.put_bits.Reads as put-bits-reads
 use Rattle.writer.proofs.put.put_content.Reads as put-content-reads
 use Rattle.writer.proofs.put.put_number.Reads as put-number-reads
-use Rattle.writer.proofs.walk.leaves.Reads as leaves-reads
+use Rattle.writer.proofs.walk.write_leaves.Reads as write-leaves-reads
 use Rattle.writer.proofs.walk.refused.Reads as refused-reads
 use Rattle.writer.proofs.walk.write_key.Reads as write-key-reads
 use Rattle.writer.proofs.walk.+write_array+write_composite+write_elements+write_fields+write_many_pairs+write_map+write_pairs+write_run+write_struct+write_structs+write_value.{statement}
@@ -210,8 +213,8 @@ abbrev write-elements-calls : ℕ → write-elements-lts.Claims
 write-elements-calls t = (
   known-row-reads.Asked,
   known-row-reads.Learnt,
-  leaves-reads.Asked,
-  leaves-reads.Learnt,
+  write-leaves-reads.Asked,
+  write-leaves-reads.Learnt,
   write-run-below t,
   write-run.Post,
   write-composite-below t,
@@ -292,8 +295,8 @@ write-struct-calls t = (
   row-due-reads.Learnt,
   refused-reads.Asked,
   refused-reads.Learnt,
-  presence-reads.Asked,
-  presence-reads.Learnt,
+  struct-bits-reads.Asked,
+  struct-bits-reads.Learnt,
   put-bits-reads.Asked,
   put-bits-reads.Learnt,
   write-fields-below t,
@@ -349,6 +352,12 @@ write-pairs-Inv-loop s sheet source out₀ keys₀ t n start pos depth judging k
 abbrev write-pairs-μ-loop : write-pairs-lts.MeasureT-loop
 write-pairs-μ-loop s sheet source out₀ keys₀ t n start pos depth judging k v i₀ at₀ to₀ out keys i at to = n - i
 
+-- an array's row, once it was found
+write-array-row : (t : ℕ) (c : write-array-lts.After-count (write-array-calls t) (write-array-at t) write-array.Post)
+    → let args = c .before .before .before .before .before .before .before .args in
+    PartsRow (shapeIn (args .s .now)) (args .source .now) (args .sheet .now) (args .row) (args .ty) (array (args .elem)) (c .count .given .0 .1 .1 .0)
+write-array-row t c = array-found (c .before .before .row-due .ensures) (c .count .given .1) _ _ (c .before .before .before .before .before .before .before .pre .1 .1)
+
 write-array-spec : {M : Type 1} (t : ℕ) → write-array-lts.Closed (write-array-calls t) (write-array-at t) write-array.Post M
 write-array-spec t =
     write-array-lts.spec (write-array-calls t) (write-array-at t) write-array.Post
@@ -361,24 +370,21 @@ write-array-spec t =
     -- enum-known-count
     (λ c. search needs)
     -- put-number-requires
-    (λ c κs. c .before .before .before .before .before .before .before .before .before .pre .1 .0 .behind)
+    (λ c κs. c .before .before .before .before .before .before .before .before .before .pre .1 .0 .capped)
     -- add-write-elements
     (λ c.
     let at-count = c .before .before .before .before .before .before in
-    let at-row-due = at-count .before .before in
-    let start = at-row-due .before .before .before .before .before in
-    let due = due-in (at-row-due .row-due .ensures) (at-count .count .given .1) in
-    omega (arith, due .0, start .good .1 .0))
+    omega (arith, write-array-row t at-count .inside, at-count .before .before .before .before .before .before .before .good .1 .0))
     -- write-elements-requires
     (λ c κs.
-    let asked = c .before .before .before .before .before .before .before .before .before .before .before .before .before .pre in
-    let row-due = c .before .before .before .before .before .before .before .before .row-due in
-    let counted = c .before .before .before .before .before .before .count .given .1 in
-    let put-number = c .before .before .before .put-number in
-    let due = due-in (row-due .ensures) counted in (
+    let at-put-number = c .before .before .before in
+    let at-count = at-put-number .before .before .before in
+    let asked = at-count .before .before .before .before .before .before .before .pre in
+    let put-number = at-put-number .put-number in
+    let row = write-array-row t at-count in (
       omega (arith, asked .0),
       (
-        onward (asked .1 .0) (omega (arith, due .0)) (put-number .ensures .capped) (put-number .kept .0) (array-accepted (row-due .ensures) counted _ _ _ (asked .1 .1)),
+        onward (asked .1 .0) (omega (arith, row .inside)) (put-number .ensures .capped) (put-number .kept .0) (parts-accepted row _),
         asked .1 .2,
       ),
     ))
@@ -391,10 +397,8 @@ write-array-spec t =
     let at-write-elements = c .before .before in
     let at-put-number = at-write-elements .before .before .before .before in
     let at-count = at-put-number .before .before .before in
-    let at-row-due = at-count .before .before in
-    let start = at-row-due .before .before .before .before .before in
-    let asked = start .pre in
-    renamed (array-start (at-row-due .row-due .ensures) (at-count .count .given .1) _ _ _ (asked .1 .1) (asked .1 .0 .small) (at-put-number .put-number .ensures)) (at-write-elements .write-elements .ensures))
+    let asked = at-count .before .before .before .before .before .before .before .pre in
+    renamed (parts-start (write-array-row t at-count) _ (asked .1 .0 .small) (at-put-number .put-number .ensures)) (at-write-elements .write-elements .ensures))
 
 write-composite-spec : {M : Type 1} (t : ℕ) → write-composite-lts.Closed (write-composite-calls t) (write-composite-at t) write-composite.Post M
 write-composite-spec t =
@@ -414,7 +418,7 @@ write-composite-spec t =
     let deep = c .before .before .if1 .left in (
       omega (arith, asked .0, deep),
       (
-        onward h (h .inside) (h .behind) refl (accepted-deeper _ _ deep _ _),
+        onward h (h .inside) (h .capped) refl (accepted-deeper _ _ deep _ _),
         shape-array (tableOf (args .s .now)) (args .ty) _ (asked .1 .1) kind,
         array-row (args .s .now) (h .good) (args .ty) _ (asked .1 .1) kind,
       ),
@@ -430,7 +434,7 @@ write-composite-spec t =
     let asked = c .before .before .before .before .before .before .before .before .pre in
     let h = asked .1 .0 in
     let deep = c .before .before .before .if1 .left in
-    (omega (arith, asked .0, deep), (onward h (h .inside) (h .behind) refl (accepted-deeper _ _ deep _ _), asked .1 .1, c .before .if3 .taken)))
+    (omega (arith, asked .0, deep), (onward h (h .inside) (h .capped) refl (accepted-deeper _ _ deep _ _), asked .1 .1, c .before .if3 .taken)))
     -- same-length-2
     (λ c. c .before .before .write-map .kept .1 .1 .1 .0)
     -- returns-3
@@ -439,7 +443,7 @@ write-composite-spec t =
     (λ c κs.
     let asked = c .before .before .before .before .before .before .before .before .before .pre in
     let h = asked .1 .0 in
-    (omega (arith, asked .0), (onward h (h .inside) (h .behind) refl (one-accepted _ _ _), asked .1 .1, c .before .if4 .taken, omega (arith, c .before .before .before .before .if1 .left))))
+    (omega (arith, asked .0), (onward h (h .inside) (h .capped) refl (one-accepted _ _ _), asked .1 .1, c .before .if4 .taken, omega (arith, c .before .before .before .before .if1 .left))))
     -- same-length-3
     (λ c. c .before .before .write-run .kept .1 .1 .1 .0)
     -- returns-4
@@ -462,15 +466,15 @@ write-elements-spec t =
     (λ c κs. (c .before .before .before .before .pre .1 .0 .good, c .before .before .before .before .pre .1 .1))
     -- cast-kind
     (λ c. search needs)
-    -- leaves-requires
+    -- write-leaves-requires
     (λ c κs.
     let asked = c .before .before .before .before .before .before .before .before .pre .1 in
     let row = c .before .before .before .known-row .ensures in
     (asked .0, (rw row (asked .1), ap (λ (r : TypeRow). r .kind) row, c .before .if1 .taken)))
     -- same-length
-    (λ c. c .before .before .leaves .kept .1 .1 .1 .0)
+    (λ c. c .before .before .write-leaves .kept .1 .1 .1 .0)
     -- returns
-    (λ c. c .before .before .leaves .ensures)
+    (λ c. c .before .before .write-leaves .ensures)
     -- write-run-requires
     (λ c κs.
     let at-if2 = c .before in
@@ -485,14 +489,14 @@ write-elements-spec t =
     -- returns-2
     (λ c. c .before .before .write-run .ensures)
     -- loop-holds
-    (λ c. let h = c .before .before .before .before .before .before .before .before .pre .1 .0 in (refl, h .inside, h .behind, refl))
+    (λ c. let h = c .before .before .before .before .before .before .before .before .pre .1 .0 in (refl, h .inside, h .capped, refl))
     -- write-composite-requires
     (λ c κs.
     let asked = c .before .before .before .before .before .before .before .before .before .before .before .pre in
     let inv = c .before .before .loop .inv in (
       omega (arith, asked .0),
       (
-        onward (asked .1 .0) (inv .1) (inv .2) (inv .3) (λ a. element-accepted _ _ (c .before .loop-test .taken) _ (shown-along _ _ _ _ _ _ _ _ _ (inv .0) a)),
+        onward (asked .1 .0) (inv .1) (inv .2) (inv .3) (λ a. item-accepted _ _ (elements-some _ _ (c .before .loop-test .taken)) _ (shown-along _ _ _ _ _ _ _ _ _ (inv .0) a)),
         c .before .before .before .before .before .before .known-row .ensures,
         omega (arith, c .before .before .before .before .if1 .left),
       ),
@@ -507,7 +511,7 @@ write-elements-spec t =
     let at-write-composite = at-number .before .before .before .before in
     let at-loop-test = at-write-composite .before .before in
     let at-loop = at-loop-test .before in
-    as-stopped (element-stop _ _ (at-loop-test .loop-test .taken) _ _ _ _ (was (at-write-composite .write-composite .ensures) (at-number .number .given .1) .same) ∙ at-loop .loop .inv .0))
+    as-stopped (next-stop _ _ (elements-some _ _ (at-loop-test .loop-test .taken)) _ _ _ (was (at-write-composite .write-composite .ensures) (at-number .number .given .1) .same) ∙ at-loop .loop .inv .0))
     -- enum-known-row
     (λ c. search needs)
     -- sub-left
@@ -520,13 +524,22 @@ write-elements-spec t =
     let loop = c .before .before .before .before .before .before .before .before .loop in
     let small : length (loop .out) ≤ 16384 = rw (loop .inv .3) (c .before .before .before .before .before .before .before .before .before .before .before .before .before .before .before .before .before .pre .1 .0 .small) in
     let w = was (composite .ensures) (c .before .row .given .1) in
-    (element-past _ _ (c .before .before .before .before .before .before .before .loop-test .taken) _ _ _ _ small (w .same) ∙ loop .inv .0, w .within .0, w .within .1, composite .kept .1 .1 .1 .0 ∙ loop .inv .3))
+    (next-past _ _ (elements-some _ _ (c .before .before .before .before .before .before .before .loop-test .taken)) _ _ _ small (w .same) ∙ loop .inv .0, w .within .0, w .within .1, composite .kept .1 .1 .1 .0 ∙ loop .inv .3))
     -- same-length-4
     (λ c. c .before .loop .inv .3)
     -- returns-4
     (λ c.
     let inv = c .before .loop .inv in
     walk-done _ _ _ (elements-none (c .before .before .before .before .before .before .before .before .before .before .args .ty) (c .before .loop .left) (c .loop-test .left)) (inv .0) (inv .1) (inv .2))
+
+-- a type below the arrays is that of a leaf
+write-value-leaf : (t : ℕ) (c : write-value-lts.Else1 (write-value-calls t) (write-value-at t) write-value.Post)
+    → let args = c .before .before .before .before .before .before .before .args in
+    shapeIn (args .s .now) (args .ty) ≡ leafShape (c .before .before .known-row .result .kind)
+write-value-leaf t c =
+    let start = c .before .before .before .before .before .before .before in
+    let row = c .before .before .known-row in
+    shape-leaf (tableOf (start .args .s .now)) (start .args .ty) (row .result) (row .ensures) (rw (row .ensures) (start .pre .1 .1)) (omega (arith, c .if1 .left))
 
 write-value-spec : {M : Type 1} (t : ℕ) → write-value-lts.Closed (write-value-calls t) (write-value-at t) write-value.Post M
 write-value-spec t =
@@ -549,12 +562,8 @@ write-value-spec t =
     (λ c. shown-refused _ _ _ _ (c .refused .ensures) (show-deep _ _ _ _ _ (c .before .if2 .taken)))
     -- leaf-row-requires
     (λ c κs.
-    let args = c .before .before .before .before .before .before .before .before .args in
     let asked = c .before .before .before .before .before .before .before .before .pre .1 in
-    let row = c .before .before .before .known-row in
-    let T = tableOf (args .s .now) in
-    let kind = shape-leaf T (args .ty) (row .result) (row .ensures) (rw (row .ensures) (asked .1)) (omega (arith, c .before .if1 .left)) in
-    λ j. leaf-accepted (shape T) _ (c .if2 .left) _ _ kind (asked .0 .judged j))
+    λ j. leaf-accepted _ _ (c .if2 .left) _ _ (write-value-leaf t (c .before)) (asked .0 .judged j))
     -- enum-known-number
     (λ c. search needs)
     -- refused-requires-2
@@ -565,7 +574,7 @@ write-value-spec t =
     (λ c κs.
     let asked = c .before .before .before .before .before .before .before .before .before .before .before .before .before .pre .1 .0 in
     let own = leaf-in (c .before .before .before .before .leaf-row .ensures) (c .before .before .place .given .1) in
-    (asked .behind, asked .small, own .3))
+    (asked .capped, asked .small, own .3))
     -- add-t24
     (λ c.
     let own = leaf-in (c .before .before .before .before .before .before .before .leaf-row .ensures) (c .before .before .before .before .before .place .given .1) in
@@ -575,14 +584,7 @@ write-value-spec t =
     let at-number = c .before .before in
     let at-leaf-row = at-number .before .before in
     let at-if2 = at-leaf-row .before in
-    let at-if1 = at-if2 .before in
-    let at-known-row = at-if1 .before .before in
-    let start = at-known-row .before .before .before .before .before in
-    let args = start .args in
-    let row = at-known-row .known-row in
-    let T = tableOf (args .s .now) in
-    let kind = shape-leaf T (args .ty) (row .result) (row .ensures) (rw (row .ensures) (start .pre .1 .1)) (omega (arith, at-if1 .if1 .left)) in
-    shown-refused _ _ _ _ (c .refused2 .ensures) (leaf-failed (at-leaf-row .leaf-row .ensures) (shape T) kind (at-if2 .if2 .left) (at-number .number .given .1)))
+    shown-refused _ _ _ _ (c .refused2 .ensures) (leaf-failed (at-leaf-row .leaf-row .ensures) _ (write-value-leaf t (at-if2 .before)) (at-if2 .if2 .left) (at-number .number .given .1)))
     -- same-length-2
     (λ c. c .before .before .put-content .kept .0)
     -- returns-4
@@ -591,14 +593,20 @@ write-value-spec t =
     let at-place = at-put-content .before .before .before in
     let at-leaf-row = at-place .before .before in
     let at-if2 = at-leaf-row .before in
-    let at-if1 = at-if2 .before in
-    let at-known-row = at-if1 .before .before in
-    let start = at-known-row .before .before .before .before .before in
-    let args = start .args in
-    let row = at-known-row .known-row in
+    leaf-past (at-leaf-row .leaf-row .ensures) _ (write-value-leaf t (at-if2 .before)) (at-if2 .if2 .left) (at-place .place .given .1) (at-put-content .put-content .ensures))
+
+-- the next of the fields left, once it was looked up
+write-fields-first : (t : ℕ) (c : write-fields-lts.After-field-row (write-fields-calls t) (write-fields-at t) write-fields.Post write-fields-Inv-loop write-fields-μ-loop)
+    → let loop = c .before .before .before .loop in
+    let args = c .before .before .before .before .before .before .before .before .before .args in
     let T = tableOf (args .s .now) in
-    let kind = shape-leaf T (args .ty) (row .result) (row .ensures) (rw (row .ensures) (start .pre .1 .1)) (omega (arith, at-if1 .if1 .left)) in
-    leaf-past (at-leaf-row .leaf-row .ensures) (shape T) kind (at-if2 .if2 .left) (at-place .place .given .1) (at-put-content .put-content .ensures))
+    bitsLeft T (args .first) (args .n) (loop .i) (loop .bits) ≡ plainItem (c .field-row .result .ty) ∷ bitsLeft T (args .first) (args .n) (loop .i + 1) (loop .bits / 2)
+write-fields-first t c =
+    let at-loop-test = c .before .before in
+    let loop = at-loop-test .before .loop in
+    let start = at-loop-test .before .before .before .before .before .before .before in
+    let some : 0 < loop .bits = omega (arith, at-loop-test .loop-test .taken) in
+    standing-field (loop .inv .4) some (tableOf (start .args .s .now)) (start .pre .1 .1 .2) (c .field-row .result) (c .field-row .ensures) (c .before .if1 .taken)
 
 write-fields-spec : {M : Type 1} (t : ℕ) → write-fields-lts.Closed (write-fields-calls t) (write-fields-at t) write-fields.Post M
 write-fields-spec t =
@@ -612,7 +620,7 @@ write-fields-spec t =
     let args = c .before .before .before .before .before .args in
     let asked = c .before .before .before .before .before .pre in
     let all : args .first + args .n - args .first ≡ args .n = omega arith in
-    (rw all, asked .1 .0 .inside, asked .1 .0 .behind, refl, standing-first (asked .1 .1 .0) (asked .1 .1 .1)))
+    (rw all, asked .1 .0 .inside, asked .1 .0 .capped, refl, standing-first (asked .1 .1 .0) (asked .1 .1 .1)))
     -- field-row-requires
     (λ c κs. good-laid _ _ (c .before .before .before .before .before .before .before .before .pre .1 .0 .good) (c .before .before .before .layout-of .ensures))
     -- write-value-requires
@@ -627,7 +635,7 @@ write-fields-spec t =
       omega (arith, asked .0),
       (
         onward (asked .1 .0) (inv .1) (inv .2) (inv .3)
-            (λ a. field-accepted _ (args .sheet .now) T (loop .here) (inv .4) some (asked .1 .1 .2) (f .ensures) (c .before .before .if1 .taken) (shown-along _ _ _ _ _ _ _ _ _ (inv .0) a)),
+            (λ a. item-accepted _ _ (write-fields-first t (c .before)) _ (shown-along _ _ _ _ _ _ _ _ _ (inv .0) a)),
         standing-kind (inv .4) some (args .s .now) (asked .1 .0 .good) (asked .1 .1 .2) (f .result) (f .ensures) (rowAt T (f .result .ty)) refl,
       ),
     ))
@@ -640,16 +648,8 @@ write-fields-spec t =
     let at-number = c .before in
     let at-write-value = at-number .before .before .before .before in
     let at-field-row = at-write-value .before .before in
-    let at-if1 = at-field-row .before in
-    let at-loop-test = at-if1 .before in
-    let at-loop = at-loop-test .before in
-    let start = at-loop .before .before .before .before .before .before in
-    let args = start .args in
-    let loop = at-loop .loop in
-    let some : 0 < loop .bits = omega (arith, at-loop-test .loop-test .taken) in
     let w = was (at-write-value .write-value .ensures) (at-number .number .given .1) in
-    as-stopped
-    (field-stop _ (args .sheet .now) (tableOf (args .s .now)) (loop .here) (loop .inv .4) some (start .pre .1 .1 .2) (at-field-row .field-row .ensures) (at-if1 .if1 .taken) _ _ _ (w .same) ∙ loop .inv .0))
+    as-stopped (next-stop _ _ (write-fields-first t at-field-row) _ _ _ (w .same) ∙ at-field-row .before .before .before .loop .inv .0))
     -- enum-known-row
     (λ c. search needs)
     -- add-i
@@ -665,21 +665,20 @@ write-fields-spec t =
     let at-row = c .before in
     let at-write-value = at-row .before .before .before .before in
     let at-field-row = at-write-value .before .before in
-    let at-if1 = at-field-row .before in
-    let at-loop-test = at-if1 .before in
+    let at-loop-test = at-field-row .before .before in
     let at-loop = at-loop-test .before in
-    let start = at-loop .before .before .before .before .before .before in
-    let args = start .args in
-    let asked = start .pre in
+    let asked = at-loop .before .before .before .before .before .before .pre in
     let loop = at-loop .loop in
     let inv = loop .inv in
     let value = at-write-value .write-value in
-    let some : 0 < loop .bits = omega (arith, at-loop-test .loop-test .taken) in
     let small : length (loop .out) ≤ 16384 = rw (inv .3) (asked .1 .0 .small) in
-    let turned =
-    field-read _ (args .sheet .now) (tableOf (args .s .now)) (loop .here) (inv .4) some (asked .1 .1 .2) (at-field-row .field-row .ensures) (at-if1 .if1 .taken) _ _ _ small
-    (was (value .ensures) (at-row .row .given .1)) (value .kept .1 .1 .1 .0) refl refl refl in
-    (turned .same ∙ inv .0, turned .inside, turned .behind, turned .long ∙ inv .3, standing-next (inv .4) some))
+    let w = was (value .ensures) (at-row .row .given .1) in (
+      next-past _ _ (write-fields-first t at-field-row) _ _ _ small (w .same) ∙ inv .0,
+      w .within .0,
+      w .within .1,
+      value .kept .1 .1 .1 .0 ∙ inv .3,
+      standing-next (inv .4) (omega (arith, at-loop-test .loop-test .taken)),
+    ))
     -- zeros-in-requires
     (λ c κs. tt)
     -- shr-bits
@@ -721,6 +720,23 @@ write-many-pairs-spec t =
     -- returns
     (λ c. c .before .before .before .write-pairs .ensures)
 
+-- a map's row, once it was found to be of few enough pairs
+write-map-row : (t : ℕ) (c : write-map-lts.Else1 (write-map-calls t) (write-map-at t) write-map.Post)
+    → let args = c .before .before .before .before .before .before .before .before .before .args in
+    PartsRow (shapeIn (args .s .now)) (args .source .now) (args .sheet .now) (args .row) (args .ty) (map (args .t .a) (args .t .b)) (c .before .before .n .given .0 .1 .1 .0)
+write-map-row t c =
+    let at-n = c .before .before in
+    let start = at-n .before .before .before .before .before .before .before in
+    let asked = start .pre .1 in
+    map-found (at-n .before .before .row-due .ensures) (at-n .n .given .1) _ _ (shape-map (tableOf (start .args .s .now)) (start .args .ty) _ (asked .1) (asked .2)) (c .if1 .left)
+
+-- the types of its keys and values
+write-map-types : (t : ℕ) (c : write-map-lts.Start (write-map-calls t) (write-map-at t) write-map.Post) → MapRow (c .args .s .now) (c .args .t)
+write-map-types t c =
+    let h = c .pre .1 in
+    let key = map-row (c .args .s .now) (h .0 .good) (c .args .ty) _ (h .1) (h .2) in
+    (key .0, key .1, map-value (c .args .s .now) (h .0 .good) (c .args .ty) _ (h .1) (h .2))
+
 write-map-spec : {M : Type 1} (t : ℕ) → write-map-lts.Closed (write-map-calls t) (write-map-at t) write-map.Post M
 write-map-spec t =
     write-map-lts.spec (write-map-calls t) (write-map-at t) write-map.Post
@@ -736,70 +752,44 @@ write-map-spec t =
     (λ c κs. search needs)
     -- returns
     (λ c.
-    let at-if1 = c .before in
-    let at-n = at-if1 .before .before in
-    let at-row-due = at-n .before .before in
-    let start = at-row-due .before .before .before .before .before in
-    let args = start .args in
+    let at-n = c .before .before .before in
+    let start = at-n .before .before .before .before .before .before .before in
     let asked = start .pre .1 in
-    let is = shape-map (tableOf (args .s .now)) (args .ty) _ (asked .1) (asked .2) in
-    shown-refused _ _ _ _ (c .refused2 .ensures) (map-many (at-row-due .row-due .ensures) (at-n .n .given .1) _ _ _ is (at-if1 .if1 .taken)))
+    let is = shape-map (tableOf (start .args .s .now)) (start .args .ty) _ (asked .1) (asked .2) in
+    shown-refused _ _ _ _ (c .refused2 .ensures) (map-many (at-n .before .before .row-due .ensures) (at-n .n .given .1) _ _ is (c .before .if1 .taken) _))
     -- put-number-requires
-    (λ c κs. c .before .before .before .before .before .before .before .before .before .before .pre .1 .0 .behind)
+    (λ c κs. c .before .before .before .before .before .before .before .before .before .before .pre .1 .0 .capped)
     -- add-t20
     (λ c.
-    let at-n = c .before .before .before .before .before .before .before in
-    let at-row-due = at-n .before .before in
-    let start = at-row-due .before .before .before .before .before in
-    let due = due-in (at-row-due .row-due .ensures) (at-n .n .given .1) in
-    omega (arith, due .0, start .good .1 .0))
+    let at-if1 = c .before .before .before .before .before in
+    omega (arith, write-map-row t at-if1 .inside, at-if1 .before .before .before .before .before .before .before .before .before .good .1 .0))
     -- same-length
     (λ c. c .before .before .before .put-number .kept .0)
     -- returns-2
     (λ c.
     let at-put-number = c .before .before .before in
     let at-if1 = at-put-number .before .before in
-    let at-n = at-if1 .before .before in
-    let at-row-due = at-n .before .before in
-    let start = at-row-due .before .before .before .before .before in
-    let args = start .args in
-    let asked = start .pre .1 in
-    let counted = at-n .n in
+    let start = at-if1 .before .before .before .before .before .before .before .before .before in
     let put-number = at-put-number .put-number in
-    let is = shape-map (tableOf (args .s .now)) (args .ty) _ (asked .1) (asked .2) in
-    let due = due-in (at-row-due .row-due .ensures) (counted .given .1) in
-    let start = map-start (at-row-due .row-due .ensures) (counted .given .1) _ _ _ is (at-if1 .if1 .left) (asked .0 .small) (put-number .ensures) in
-    walk-done _ _ _ (pairs-none (args .t .a) (args .t .b) (counted .given .0 .1 .1 .0) (omega (arith, c .if2 .taken))) start (omega (arith, due .0)) (put-number .ensures .capped))
+    let row = write-map-row t at-if1 in
+    let from = parts-start row _ (start .pre .1 .0 .small) (put-number .ensures) in
+    walk-done _ _ _ (pairs-none (start .args .t .a) (start .args .t .b) (at-if1 .before .before .n .given .0 .1 .1 .0) (omega (arith, c .if2 .taken))) from (omega (arith, row .inside)) (put-number .ensures .capped))
     -- add-write-many-pairs
     (λ c.
-    let at-n = c .before .before .before .before .before .before .before .before .before in
-    let at-row-due = at-n .before .before in
-    let start = at-row-due .before .before .before .before .before in
-    let due = due-in (at-row-due .row-due .ensures) (at-n .n .given .1) in
-    omega (arith, due .0, start .good .1 .0))
+    let at-if1 = c .before .before .before .before .before .before .before in
+    omega (arith, write-map-row t at-if1 .inside, at-if1 .before .before .before .before .before .before .before .before .before .good .1 .0))
     -- write-many-pairs-requires
     (λ c κs.
     let at-put-number = c .before .before .before .before .before in
     let at-if1 = at-put-number .before .before in
-    let at-n = at-if1 .before .before in
-    let at-row-due = at-n .before .before in
-    let start = at-row-due .before .before .before .before .before in
-    let args = start .args in
-    let asked = start .pre in
-    let h = asked .1 in
-    let s = args .s .now in
-    let row-due = at-row-due .row-due in
-    let counted = at-n .n .given .1 in
+    let start = at-if1 .before .before .before .before .before .before .before .before .before in
     let put-number = at-put-number .put-number in
-    let few = at-if1 .if1 .left in
-    let is = shape-map (tableOf s) (args .ty) _ (h .1) (h .2) in
-    let row = map-row s (h .0 .good) (args .ty) _ (h .1) (h .2) in
-    let due = due-in (row-due .ensures) counted in (
-      omega (arith, asked .0),
+    let row = write-map-row t at-if1 in (
+      omega (arith, start .pre .0),
       (
-        onward (h .0) (omega (arith, due .0)) (put-number .ensures .capped) (put-number .kept .0) (map-accepted (row-due .ensures) counted _ _ _ is few),
-        (row .0, row .1, map-value s (h .0 .good) (args .ty) _ (h .1) (h .2)),
-        few,
+        onward (start .pre .1 .0) (omega (arith, row .inside)) (put-number .ensures .capped) (put-number .kept .0) (parts-accepted row _),
+        write-map-types t start,
+        at-if1 .if1 .left,
       ),
     ))
     -- same-length-2
@@ -809,47 +799,28 @@ write-map-spec t =
     let at-write-many-pairs = c .before .before in
     let at-put-number = at-write-many-pairs .before .before .before .before .before .before in
     let at-if1 = at-put-number .before .before in
-    let at-n = at-if1 .before .before in
-    let at-row-due = at-n .before .before in
-    let start = at-row-due .before .before .before .before .before in
-    let args = start .args in
-    let asked = start .pre .1 in
-    let is = shape-map (tableOf (args .s .now)) (args .ty) _ (asked .1) (asked .2) in
-    renamed (map-start (at-row-due .row-due .ensures) (at-n .n .given .1) _ _ _ is (at-if1 .if1 .left) (asked .0 .small) (at-put-number .put-number .ensures)) (at-write-many-pairs .write-many-pairs .ensures))
+    let start = at-if1 .before .before .before .before .before .before .before .before .before in
+    renamed (parts-start (write-map-row t at-if1) _ (start .pre .1 .0 .small) (at-put-number .put-number .ensures)) (at-write-many-pairs .write-many-pairs .ensures))
     -- slice-aggregate-write-pairs
     (λ c. search needs)
     -- add-write-pairs
     (λ c.
-    let at-n = c .before .before .before .before .before .before .before .before .before .before in
-    let at-row-due = at-n .before .before in
-    let start = at-row-due .before .before .before .before .before in
-    let due = due-in (at-row-due .row-due .ensures) (at-n .n .given .1) in
-    omega (arith, due .0, start .good .1 .0))
+    let at-if1 = c .before .before .before .before .before .before .before .before in
+    omega (arith, write-map-row t at-if1 .inside, at-if1 .before .before .before .before .before .before .before .before .before .good .1 .0))
     -- write-pairs-requires
     (λ c κs.
     let at-if3 = c .before .before in
     let at-put-number = at-if3 .before .before .before .before in
     let at-if1 = at-put-number .before .before in
-    let at-n = at-if1 .before .before in
-    let at-row-due = at-n .before .before in
-    let start = at-row-due .before .before .before .before .before in
-    let args = start .args in
-    let asked = start .pre in
-    let h = asked .1 in
-    let s = args .s .now in
-    let row-due = at-row-due .row-due in
-    let counted = at-n .n .given .1 in
+    let start = at-if1 .before .before .before .before .before .before .before .before .before in
     let put-number = at-put-number .put-number in
-    let few = at-if1 .if1 .left in
-    let is = shape-map (tableOf s) (args .ty) _ (h .1) (h .2) in
-    let row = map-row s (h .0 .good) (args .ty) _ (h .1) (h .2) in
-    let due = due-in (row-due .ensures) counted in (
-      omega (arith, asked .0),
+    let row = write-map-row t at-if1 in (
+      omega (arith, start .pre .0),
       (
-        onward (h .0) (omega (arith, due .0)) (put-number .ensures .capped) (put-number .kept .0) (map-accepted (row-due .ensures) counted _ _ _ is few),
-        (row .0, row .1, map-value s (h .0 .good) (args .ty) _ (h .1) (h .2)),
+        onward (start .pre .1 .0) (omega (arith, row .inside)) (put-number .ensures .capped) (put-number .kept .0) (parts-accepted row _),
+        write-map-types t start,
         omega (arith, at-if3 .if3 .left),
-        few,
+        at-if1 .if1 .left,
       ),
     ))
     -- returns-4
@@ -861,13 +832,42 @@ write-map-spec t =
     let at-write-pairs = c .before .before .before in
     let at-put-number = at-write-pairs .before .before .before .before .before .before .before in
     let at-if1 = at-put-number .before .before in
-    let at-n = at-if1 .before .before in
-    let at-row-due = at-n .before .before in
-    let start = at-row-due .before .before .before .before .before in
-    let args = start .args in
-    let asked = start .pre .1 in
-    let is = shape-map (tableOf (args .s .now)) (args .ty) _ (asked .1) (asked .2) in
-    renamed (map-start (at-row-due .row-due .ensures) (at-n .n .given .1) _ _ _ is (at-if1 .if1 .left) (asked .0 .small) (at-put-number .put-number .ensures)) (at-write-pairs .write-pairs .ensures))
+    let start = at-if1 .before .before .before .before .before .before .before .before .before in
+    renamed (parts-start (write-map-row t at-if1) _ (start .pre .1 .0 .small) (at-put-number .put-number .ensures)) (at-write-pairs .write-pairs .ensures))
+
+-- the shapes of a map's keys, and of its values where they are leaves
+write-pairs-keys : (t : ℕ) (c : write-pairs-lts.After-known-row (write-pairs-calls t) (write-pairs-at t) write-pairs.Post write-pairs-Inv-loop write-pairs-μ-loop)
+    → let args = c .before .before .before .before .before .before .before .args in
+    shapeIn (args .s .now) (args .t .a) ≡ leafShape (c .known-row .result .kind)
+write-pairs-keys t c =
+    let start = c .before .before .before .before .before .before .before in
+    let types = start .pre .1 .1 in
+    let k = c .known-row in
+    shape-leaf (tableOf (start .args .s .now)) (start .args .t .a) (k .result) (k .ensures) (rw (k .ensures) (types .0)) (rw (k .ensures) (types .1))
+
+write-pairs-values : (t : ℕ) (c : write-pairs-lts.After-known-row2 (write-pairs-calls t) (write-pairs-at t) write-pairs.Post write-pairs-Inv-loop write-pairs-μ-loop)
+    → let args = c .before .before .before .before .before .before .before .before .before .before .args in
+    c .known-row2 .result .kind < 14 → shapeIn (args .s .now) (args .t .b) ≡ leafShape (c .known-row2 .result .kind)
+write-pairs-values t c below =
+    let start = c .before .before .before .before .before .before .before .before .before .before in
+    let v = c .known-row2 in
+    shape-leaf (tableOf (start .args .s .now)) (start .args .t .b) (v .result) (v .ensures) (rw (v .ensures) (start .pre .1 .1 .2)) below
+
+-- a turn of the loop, once its key was written
+write-pairs-turn : (t : ℕ) (c : write-pairs-lts.After-write-key (write-pairs-calls t) (write-pairs-at t) write-pairs.Post write-pairs-Inv-loop write-pairs-μ-loop)
+    → let at-loop = c .before .before .before .before in
+    let args = at-loop .before .before .before .before .before .before .before .before .before .before .before .args in
+    let end = itemsEnd (args .s .now) (args .source .now) (args .sheet .now) (args .depth) [] (pairs (args .n) (args .t .a) (args .t .b)) (args .start) (args .pos) (args .out .now) in
+    AfterKey (shapeIn (args .s .now)) (args .source .now) (args .sheet .now) (c .write-key .last .1 .1 .1 .0) (at-loop .loop .i) (args .t .a) (args .t .b) (args .n) (args .depth) (args .judging)
+    (c .write-key .result) (c .write-key .last .1 .1 .0) end
+write-pairs-turn t c =
+    let at-loop-test = c .before .before .before in
+    let at-loop = at-loop-test .before in
+    after-key _ (c .write-key .ensures) (write-pairs-keys t (at-loop .before .before .before .before)) _ (at-loop-test .loop-test .taken) (at-loop .loop .inv .0)
+
+write-pairs-out : (t : ℕ) (c : write-pairs-lts.After-write-key (write-pairs-calls t) (write-pairs-at t) write-pairs.Post write-pairs-Inv-loop write-pairs-μ-loop)
+    → length (c .write-key .last .1 .1 .0) ≡ length (c .before .before .before .before .before .before .before .before .before .before .before .before .before .before .before .args .out .now)
+write-pairs-out t c = c .write-key .kept .1 .1 .0 ∙ c .before .before .before .before .loop .inv .3
 
 write-pairs-spec : {M : Type 1} (t : ℕ) → write-pairs-lts.Closed (write-pairs-calls t) (write-pairs-at t) write-pairs.Post M
 write-pairs-spec t =
@@ -890,50 +890,35 @@ write-pairs-spec t =
     let h = c .before .before .before .before .before .before .before .before .before .before .pre .1 .0 in
     let B = args .source .now in
     let P = show (shape (tableOf (args .s .now))) B (args .depth) in
-    (pairs-start _ P _ _ (args .n) (rowsAt (args .sheet .now) (args .start)) _ _ (keys-none B _), h .inside, h .behind, refl, omega arith, refl, λ j l. absurd (omega arith)))
+    (pairs-start _ P _ _ (args .n) (rowsAt (args .sheet .now) (args .start)) _ _ (keys-none B _), h .inside, h .capped, refl, omega arith, refl, λ j l. absurd (omega arith)))
     -- write-key-requires
     (λ c κs.
     let at-loop-test = c .before .before in
     let at-loop = at-loop-test .before in
     let at-known-row = at-loop .before .before .before .before in
     let start = at-known-row .before .before .before .before .before .before .before in
-    let args = start .args in
     let h = start .pre .1 in
     let loop = at-loop .loop in
-    let k = at-known-row .known-row in
-    let T = tableOf (args .s .now) in
     let some = at-loop-test .loop-test .taken in
     record {
-      room = omega (arith, some, loop .inv .5, h .2);
-      behind = loop .inv .2;
+      keys-fit = omega (arith, some, loop .inv .5, h .2);
+      capped = loop .inv .2;
       small = rw (loop .inv .3) (h .0 .small);
       kept = loop .inv .6;
       judged = λ j. (
-        shape T,
-        shape-leaf T (args .t .a) (k .result) (k .ensures) (rw (k .ensures) (h .1 .0)) (rw (k .ensures) (h .1 .1)),
-        (_, pair-first _ _ (args .t .b) _ _ some (shown-along _ _ _ _ _ _ _ _ _ (loop .inv .0) (h .0 .judged j))),
+        shapeIn (start .args .s .now),
+        write-pairs-keys t at-known-row,
+        (_, pair-first _ _ (start .args .t .b) _ _ some (shown-along _ _ _ _ _ _ _ _ _ (loop .inv .0) (h .0 .judged j))),
       );
     })
     -- enum-known-number
     (λ c. search needs)
     -- same-length
-    (λ c. c .before .before .before .before .before .before .before .write-key .kept .1 .1 .0 ∙ c .before .before .before .before .before .before .before .before .before .before .before .loop .inv .3)
+    (λ c. write-pairs-out t (c .before .before .before .before .before .before .before))
     -- same-length-2
     (λ c. c .before .before .before .before .before .before .before .write-key .kept .1 .1 .1 .0 ∙ c .before .before .before .before .before .before .before .before .before .before .before .loop .inv .5)
     -- returns
-    (λ c.
-    let at-number = c .before in
-    let at-write-key = at-number .before .before .before .before .before .before in
-    let at-loop-test = at-write-key .before .before .before in
-    let at-loop = at-loop-test .before in
-    let at-known-row = at-loop .before .before .before .before in
-    let start = at-known-row .before .before .before .before .before .before .before in
-    let args = start .args in
-    let h = start .pre .1 in
-    let k = at-known-row .known-row in
-    let T = tableOf (args .s .now) in
-    let is = shape-leaf T (args .t .a) (k .result) (k .ensures) (rw (k .ensures) (h .1 .0)) (rw (k .ensures) (h .1 .1)) in
-    as-stopped (pair-key (shape T) (at-write-key .write-key .ensures) is (args .t .b) (at-loop-test .loop-test .taken) (at-loop .loop .inv .0) (at-number .number .given .1)))
+    (λ c. as-stopped (key-was (write-pairs-turn t (c .before .before .before .before .before .before .before)) (c .before .number .given .1) .same))
     -- enum-known-row
     (λ c. search needs)
     -- write-composite-requires
@@ -941,25 +926,14 @@ write-pairs-spec t =
     let at-if1 = c .before in
     let at-row = at-if1 .before .before .before in
     let at-write-key = at-row .before .before .before .before .before .before in
-    let at-loop-test = at-write-key .before .before .before in
-    let at-loop = at-loop-test .before in
-    let at-known-row2 = at-loop .before in
-    let at-known-row = at-known-row2 .before .before .before in
-    let start = at-known-row .before .before .before .before .before .before .before in
-    let args = start .args in
-    let asked = start .pre in
-    let h = asked .1 in
-    let loop = at-loop .loop in
-    let k = at-known-row .known-row in
-    let key = at-write-key .write-key in
+    let at-known-row2 = at-write-key .before .before .before .before .before in
+    let asked = at-known-row2 .before .before .before .before .before .before .before .before .before .before .pre in
+    let turn = write-pairs-turn t at-write-key in
     let past = at-row .row .given .1 in
-    let T = tableOf (args .s .now) in
-    let is = shape-leaf T (args .t .a) (k .result) (k .ensures) (rw (k .ensures) (h .1 .0)) (rw (k .ensures) (h .1 .1)) in
-    let some = at-loop-test .loop-test .taken in
-    let within = pair-within (shape T) (key .ensures) is (args .t .b) some (loop .inv .0) past in (
+    let within = key-was turn past .within in (
       omega (arith, asked .0),
       (
-        onward (h .0) (within .0) (within .1) (key .kept .1 .1 .0 ∙ loop .inv .3) (pair-accepted (shape T) (key .ensures) is (args .t .b) some (loop .inv .0) past _ _ _ _ refl),
+        onward (asked .1 .0) (within .0) (within .1) (write-pairs-out t at-write-key) (pair-accepted turn past _ _ _ _ refl),
         at-known-row2 .known-row2 .ensures,
         at-if1 .if1 .taken,
       ),
@@ -969,31 +943,19 @@ write-pairs-spec t =
     -- same-length-3
     (λ c.
     let at-write-composite = c .before .before .before .before .before in
-    let at-write-key = at-write-composite .before .before .before .before .before .before .before .before .before .before .before in
-    let at-loop = at-write-key .before .before .before .before in
-    at-write-composite .write-composite .kept .1 .1 .1 .0 ∙ at-write-key .write-key .kept .1 .1 .0 ∙ at-loop .loop .inv .3)
+    at-write-composite .write-composite .kept .1 .1 .1 .0 ∙ write-pairs-out t (at-write-composite .before .before .before .before .before .before .before .before .before .before .before))
     -- same-length-4
     (λ c.
     let at-write-key = c .before .before .before .before .before .before .before .before .before .before .before .before .before .before .before .before in
-    let at-loop = at-write-key .before .before .before .before in
-    at-write-key .write-key .kept .1 .1 .1 .0 ∙ at-loop .loop .inv .5)
+    at-write-key .write-key .kept .1 .1 .1 .0 ∙ at-write-key .before .before .before .before .loop .inv .5)
     -- returns-2
     (λ c.
     let at-number2 = c .before in
     let at-write-composite = at-number2 .before .before .before .before in
     let at-row = at-write-composite .before .before .before .before .before in
     let at-write-key = at-row .before .before .before .before .before .before in
-    let at-loop-test = at-write-key .before .before .before in
-    let at-loop = at-loop-test .before in
-    let at-known-row = at-loop .before .before .before .before in
-    let start = at-known-row .before .before .before .before .before .before .before in
-    let args = start .args in
-    let h = start .pre .1 in
-    let k = at-known-row .known-row in
-    let T = tableOf (args .s .now) in
-    let is = shape-leaf T (args .t .a) (k .result) (k .ensures) (rw (k .ensures) (h .1 .0)) (rw (k .ensures) (h .1 .1)) in
     let w = was (at-write-composite .write-composite .ensures) (at-number2 .number2 .given .1) in
-    as-stopped (pair-stop (shape T) (at-write-key .write-key .ensures) is (args .t .b) (at-loop-test .loop-test .taken) (at-loop .loop .inv .0) (at-row .row .given .1) (w .same)))
+    as-stopped (pair-stop (write-pairs-turn t at-write-key) (at-row .row .given .1) (w .same)))
     -- enum-known-row-2
     (λ c. search needs)
     -- cast-leaf-row
@@ -1003,38 +965,23 @@ write-pairs-spec t =
     let at-if1 = c .before in
     let at-row = at-if1 .before .before .before in
     let at-write-key = at-row .before .before .before .before .before .before in
-    let at-loop-test = at-write-key .before .before .before in
-    let at-loop = at-loop-test .before in
-    let at-known-row2 = at-loop .before in
-    let at-known-row = at-known-row2 .before .before .before in
-    let start = at-known-row .before .before .before .before .before .before .before in
-    let args = start .args in
-    let h = start .pre .1 in
-    let loop = at-loop .loop in
-    let k = at-known-row .known-row in
-    let v = at-known-row2 .known-row2 in
-    let key = at-write-key .write-key in
+    let at-known-row2 = at-write-key .before .before .before .before .before in
+    let asked = at-known-row2 .before .before .before .before .before .before .before .before .before .before .pre in
+    let turn = write-pairs-turn t at-write-key in
     let past = at-row .row .given .1 in
-    let T = tableOf (args .s .now) in
-    let is = shape-leaf T (args .t .a) (k .result) (k .ensures) (rw (k .ensures) (h .1 .0)) (rw (k .ensures) (h .1 .1)) in
-    let other = shape-leaf T (args .t .b) (v .result) (v .ensures) (rw (v .ensures) (h .1 .2)) (omega (arith, at-if1 .if1 .left)) in
-    let some = at-loop-test .loop-test .taken in
-    let within = pair-within (shape T) (key .ensures) is (args .t .b) some (loop .inv .0) past in
-    λ j. leaf-accepted (shape T) _ (omega (arith, within .2)) _ _ other (pair-accepted (shape T) (key .ensures) is (args .t .b) some (loop .inv .0) past _ _ _ _ refl (h .0 .judged j)))
+    let some = key-was turn past .within .2 in
+    let leaf = write-pairs-values t at-known-row2 (omega (arith, at-if1 .if1 .left)) in
+    λ j. leaf-accepted _ _ (omega (arith, some)) _ _ leaf (pair-accepted turn past _ _ _ _ refl (asked .1 .0 .judged j)))
     -- enum-known-number-3
     (λ c. search needs)
     -- refused-requires
     (λ c κs. search needs)
     -- same-length-5
-    (λ c.
-    let at-write-key = c .before .before .before .before .before .before .before .before .before .before .before .before .before .before .before in
-    let at-loop = at-write-key .before .before .before .before in
-    at-write-key .write-key .kept .1 .1 .0 ∙ at-loop .loop .inv .3)
+    (λ c. write-pairs-out t (c .before .before .before .before .before .before .before .before .before .before .before .before .before .before .before))
     -- same-length-6
     (λ c.
     let at-write-key = c .before .before .before .before .before .before .before .before .before .before .before .before .before .before .before in
-    let at-loop = at-write-key .before .before .before .before in
-    at-write-key .write-key .kept .1 .1 .1 .0 ∙ at-loop .loop .inv .5)
+    at-write-key .write-key .kept .1 .1 .1 .0 ∙ at-write-key .before .before .before .before .loop .inv .5)
     -- returns-3
     (λ c.
     let at-number3 = c .before .before in
@@ -1042,25 +989,12 @@ write-pairs-spec t =
     let at-if1 = at-leaf-row .before .before in
     let at-row = at-if1 .before .before .before in
     let at-write-key = at-row .before .before .before .before .before .before in
-    let at-loop-test = at-write-key .before .before .before in
-    let at-loop = at-loop-test .before in
-    let at-known-row2 = at-loop .before in
-    let at-known-row = at-known-row2 .before .before .before in
-    let start = at-known-row .before .before .before .before .before .before .before in
-    let args = start .args in
-    let h = start .pre .1 in
-    let loop = at-loop .loop in
-    let k = at-known-row .known-row in
-    let v = at-known-row2 .known-row2 in
-    let key = at-write-key .write-key in
+    let turn = write-pairs-turn t at-write-key in
     let past = at-row .row .given .1 in
-    let T = tableOf (args .s .now) in
-    let is = shape-leaf T (args .t .a) (k .result) (k .ensures) (rw (k .ensures) (h .1 .0)) (rw (k .ensures) (h .1 .1)) in
-    let other = shape-leaf T (args .t .b) (v .result) (v .ensures) (rw (v .ensures) (h .1 .2)) (omega (arith, at-if1 .if1 .left)) in
-    let some = at-loop-test .loop-test .taken in
-    let within = pair-within (shape T) (key .ensures) is (args .t .b) some (loop .inv .0) past in
-    let failed = leaf-failed (at-leaf-row .leaf-row .ensures) (shape T) other (omega (arith, within .2)) (at-number3 .number3 .given .1) in
-    as-refused (c .refused .ensures) (pair-stop (shape T) (key .ensures) is (args .t .b) some (loop .inv .0) past (shown-stopped _ _ _ _ failed)))
+    let some = key-was turn past .within .2 in
+    let leaf = write-pairs-values t (at-write-key .before .before .before .before .before) (omega (arith, at-if1 .if1 .left)) in
+    let failed = leaf-failed (at-leaf-row .leaf-row .ensures) _ leaf (omega (arith, some)) (at-number3 .number3 .given .1) in
+    as-refused (c .refused .ensures) (pair-stop turn past (shown-stopped _ _ _ _ failed)))
     -- enum-known-place
     (λ c. search needs)
     -- cast-put-content
@@ -1071,20 +1005,9 @@ write-pairs-spec t =
     let at-leaf-row = at-place .before .before in
     let at-row = at-leaf-row .before .before .before .before .before in
     let at-write-key = at-row .before .before .before .before .before .before in
-    let at-loop-test = at-write-key .before .before .before in
-    let at-loop = at-loop-test .before in
-    let at-known-row = at-loop .before .before .before .before in
-    let start = at-known-row .before .before .before .before .before .before .before in
-    let args = start .args in
-    let h = start .pre .1 in
-    let loop = at-loop .loop in
-    let k = at-known-row .known-row in
-    let key = at-write-key .write-key in
-    let T = tableOf (args .s .now) in
-    let is = shape-leaf T (args .t .a) (k .result) (k .ensures) (rw (k .ensures) (h .1 .0)) (rw (k .ensures) (h .1 .1)) in
-    let within = pair-within (shape T) (key .ensures) is (args .t .b) (at-loop-test .loop-test .taken) (loop .inv .0) (at-row .row .given .1) in
+    let start = at-write-key .before .before .before .before .before .before .before .before .before .before .before .before .before .before .before in
     let own = leaf-in (at-leaf-row .leaf-row .ensures) (at-place .place .given .1) in
-    (within .1, rw (key .kept .1 .1 .0 ∙ loop .inv .3) (h .0 .small), own .3))
+    (key-was (write-pairs-turn t at-write-key) (at-row .row .given .1) .within .1, rw (write-pairs-out t at-write-key) (start .pre .1 .0 .small), own .3))
     -- add-at
     (λ c.
     let at-place = c .before .before .before .before .before .before in
@@ -1105,31 +1028,21 @@ write-pairs-spec t =
     let at-write-key = at-row .before .before .before .before .before .before in
     let at-loop-test = at-write-key .before .before .before in
     let at-loop = at-loop-test .before in
-    let at-known-row2 = at-loop .before in
-    let at-known-row = at-known-row2 .before .before .before in
-    let start = at-known-row .before .before .before .before .before .before .before in
-    let args = start .args in
-    let h = start .pre .1 in
-    let loop = at-loop .loop in
-    let k = at-known-row .known-row in
-    let v = at-known-row2 .known-row2 in
-    let key = at-write-key .write-key in
+    let start = at-loop .before .before .before .before .before .before .before .before .before .before .before in
+    let turn = write-pairs-turn t at-write-key in
     let past = at-row .row .given .1 in
-    let T = tableOf (args .s .now) in
-    let is = shape-leaf T (args .t .a) (k .result) (k .ensures) (rw (k .ensures) (h .1 .0)) (rw (k .ensures) (h .1 .1)) in
-    let some = at-loop-test .loop-test .taken in
-    let within = pair-within (shape T) (key .ensures) is (args .t .b) some (loop .inv .0) past in
-    let long = key .kept .1 .1 .0 ∙ loop .inv .3 in
+    let within = key-was turn past .within in
+    let long = write-pairs-out t at-write-key in
     let joined = c .if1 in
     let turned =
-    pair-past (shape T) (key .ensures) is (args .t .b) some (loop .inv .0) past (rw long (h .0 .small)) (joined .at) (joined .to) (joined .out)
+    pair-past turn past (rw long (start .pre .1 .0 .small)) (joined .at) (joined .to) (joined .out)
     (⊎-elim
     (λ w. came-by (was (w .2 .ensures) (w .6 .given .1)) (w .2 .kept .1 .1 .1 .0) (w .9) (w .10) (w .8))
     (λ w.
-    let other = shape-leaf T (args .t .b) (v .result) (v .ensures) (rw (v .ensures) (h .1 .2)) (omega (arith, w .0 .left)) in
-    came-by (leaf-past (w .2 .ensures) (shape T) other (omega (arith, within .2)) (w .4 .given .1) (w .8 .ensures)) (w .8 .kept .0) (w .12) (w .13) (w .11))
+    let leaf = write-pairs-values t (at-loop .before) (omega (arith, w .0 .left)) in
+    came-by (leaf-past (w .2 .ensures) _ leaf (omega (arith, within .2)) (w .4 .given .1) (w .8 .ensures)) (w .8 .kept .0) (w .12) (w .13) (w .11))
     (joined .came)) in
-    (turned .0, turned .1, turned .2, turned .3 ∙ long, omega (arith, some), key .kept .1 .1 .1 .0 ∙ loop .inv .5, within .3))
+    (turned .0, turned .1, turned .2, turned .3 ∙ long, omega (arith, at-loop-test .loop-test .taken), at-write-key .write-key .kept .1 .1 .1 .0 ∙ at-loop .loop .inv .5, within .3))
     -- same-length-7
     (λ c. c .before .loop .inv .3)
     -- same-length-8
@@ -1158,7 +1071,7 @@ write-run-spec t =
       omega (arith, asked .0, h .3),
       (
         (
-          onward (h .0) (h .0 .inside) (h .0 .behind) refl (items-deeper _ _ (omega (arith, h .3)) _ _),
+          onward (h .0) (h .0 .inside) (h .0 .capped) refl (items-deeper _ _ (omega (arith, h .3)) _ _),
           shape-struct (tableOf s) (args .ty) _ (h .1) (h .2),
         ),
         struct-row s (h .0 .good) (args .ty) _ (h .1) (h .2),
@@ -1168,6 +1081,17 @@ write-run-spec t =
     (λ c. c .before .before .write-structs .kept .1 .1 .1 .0)
     -- returns
     (λ c. items-shallower _ _ (omega (arith, c .before .before .before .before .before .before .before .before .before .before .pre .1 .3)) _ _ _ _ (c .before .before .write-structs .ensures))
+
+-- a struct's row and its bits, once both were read
+write-struct-head : (t : ℕ) (c : write-struct-lts.After-struct-bits (write-struct-calls t) (write-struct-at t) write-struct.Post)
+    → let args = c .before .before .before .before .before .before .before .before .before .args in
+    HeadRow true (shapeIn (args .s .now)) (args .source .now) (args .sheet .now) (args .row) (args .ty) (args .n) (fieldsFrom (tableOf (args .s .now)) (args .first) (args .n)) (c .struct-bits .result)
+write-struct-head t c =
+    let at-row-due = c .before .before .before .before in
+    let start = at-row-due .before .before .before .before .before in
+    let asked = start .pre in
+    let h = asked .1 .1 in
+    head-row (at-row-due .row-due .ensures) (c .before .before .place .given .1) (c .struct-bits .ensures) (asked .1 .0 .1) (length-fields _ _ _ (h .2)) (h .3)
 
 write-struct-spec : {M : Type 1} (t : ℕ) → write-struct-lts.Closed (write-struct-calls t) (write-struct-at t) write-struct.Post M
 write-struct-spec t =
@@ -1180,157 +1104,62 @@ write-struct-spec t =
     (λ c κs. search needs)
     -- enum-known-place
     (λ c. search needs)
-    -- presence-requires
+    -- struct-bits-requires
     (λ c κs.
-    let h = c .before .before .before .before .before .before .before .before .pre .1 .1 in
-    let due = due-in (c .before .before .before .row-due .ensures) (c .before .place .given .1) in
-    (h .0, h .1, due .3))
+    let asked = c .before .before .before .before .before .before .before .before .pre in
+    (asked .1 .1 .1, due-in (c .before .before .before .row-due .ensures) (c .before .place .given .1) .3))
     -- enum-known-number
     (λ c. search needs)
     -- refused-requires-2
     (λ c κs. search needs)
-    -- enum-known-word
+    -- enum-known-known
     (λ c. search needs)
-    -- refused-requires-3
-    (λ c κs. search needs)
-    -- returns
-    (λ c.
-    let at-if1 = c .before in
-    let at-word = at-if1 .before .before in
-    let at-presence = at-word .before .before in
-    let at-place = at-presence .before .before in
-    let at-row-due = at-place .before .before in
-    let start = at-row-due .before .before .before .before .before in
-    let asked = start .pre in
-    let args = start .args in
-    let row-due = at-row-due .row-due in
-    let placed = at-place .place in
-    let presence = at-presence .presence in
-    let h = asked .1 .1 in
-    let T = tableOf (args .s .now) in
-    let headed = presence .ensures (fieldsFrom T (args .first) (args .n)) (length-fields T (args .first) (args .n) (h .2)) (h .3) in
-    shown-refused _ _ _ _ (c .refused3 .ensures) (struct-unknown (row-due .ensures) (placed .given .1) _ _ _ (asked .1 .0 .1) headed (at-word .word .given .1) (at-if1 .if1 .taken)))
-    -- refused-requires-4
-    (λ c κs. search needs)
-    -- returns-2
-    (λ c.
-    let at-if2 = c .before in
-    let at-if1 = at-if2 .before in
-    let at-word = at-if1 .before .before in
-    let at-presence = at-word .before .before in
-    let at-place = at-presence .before .before in
-    let at-row-due = at-place .before .before in
-    let start = at-row-due .before .before .before .before .before in
-    let asked = start .pre in
-    let args = start .args in
-    let row-due = at-row-due .row-due in
-    let placed = at-place .place in
-    let presence = at-presence .presence in
-    let h = asked .1 .1 in
-    let T = tableOf (args .s .now) in
-    let headed = presence .ensures (fieldsFrom T (args .first) (args .n)) (length-fields T (args .first) (args .n) (h .2)) (h .3) in
-    shown-refused _ _ _ _ (c .refused4 .ensures)
-    (struct-miscounted (row-due .ensures) (placed .given .1) _ _ _ (asked .1 .0 .1) headed (at-word .word .given .1) (at-if1 .if1 .left) (at-if2 .if2 .taken)))
     -- add-put-bits
     (λ c.
-    let asked = c .before .before .before .before .before .before .before .before .before .before .before .before .before .before .before .pre in
-    let h = asked .1 .1 in
-    omega (arith, h .1))
+    let asked = c .before .before .before .before .before .before .before .before .before .before .before .before .before .pre in
+    omega (arith, asked .1 .1 .1))
     -- put-bits-requires
     (λ c κs.
-    let asked = c .before .before .before .before .before .before .before .before .before .before .before .before .before .before .before .pre in
-    let h = asked .1 .1 in
-    (asked .1 .0 .0 .behind, omega (arith, h .1)))
+    let asked = c .before .before .before .before .before .before .before .before .before .before .before .before .before .pre in
+    (asked .1 .0 .0 .capped, omega (arith, asked .1 .1 .1)))
     -- add-write-fields
     (λ c.
-    let at-place = c .before .before .before .before .before .before .before .before .before .before .before .before in
-    let at-row-due = at-place .before .before in
-    let start = at-row-due .before .before .before .before .before in
-    let sound = start .good in
-    let row-due = at-row-due .row-due in
-    let placed = at-place .place in
-    let due = due-in (row-due .ensures) (placed .given .1) in
-    omega (arith, due .0, sound .1 .0))
+    let at-struct-bits = c .before .before .before .before .before .before .before .before in
+    let sound = at-struct-bits .before .before .before .before .before .before .before .before .before .good in
+    omega (arith, write-struct-head t at-struct-bits .inside, sound .1 .0))
     -- write-fields-requires
     (λ c κs.
     let at-put-bits = c .before .before .before in
-    let at-if2 = at-put-bits .before .before in
-    let at-if1 = at-if2 .before in
-    let at-word = at-if1 .before .before in
-    let at-presence = at-word .before .before in
-    let at-place = at-presence .before .before in
-    let at-row-due = at-place .before .before in
-    let start = at-row-due .before .before .before .before .before in
-    let asked = start .pre in
-    let args = start .args in
-    let row-due = at-row-due .row-due in
-    let placed = at-place .place in
-    let presence = at-presence .presence in
-    let bits = at-word .word in
-    let if1 = at-if1 .if1 in
-    let if2 = at-if2 .if2 in
-    let put-bits = at-put-bits .put-bits in
-    let due = due-in (row-due .ensures) (placed .given .1) in
+    let at-known = at-put-bits .before .before .before in
+    let at-struct-bits = at-known .before .before in
+    let asked = at-struct-bits .before .before .before .before .before .before .before .before .before .pre in
     let h = asked .1 .1 in
-    let T = tableOf (args .s .now) in
-    let long = length-fields T (args .first) (args .n) (h .2) in
-    let headed = presence .ensures (fieldsFrom T (args .first) (args .n)) long (h .3) in (
+    let put-bits = at-put-bits .put-bits in
+    let bits = at-known .known .given .1 in
+    let head = write-struct-head t at-struct-bits in (
       omega (arith, asked .0),
       (
-        onward (asked .1 .0 .0) (omega (arith, due .0)) (put-bits .ensures .capped) (put-bits .kept .0)
-            (struct-accepted (row-due .ensures) (placed .given .1) _ _ _ (asked .1 .0 .1) headed (bits .given .1) (if1 .left) (if2 .left)),
-        (h .1, head-fits headed long (bits .given .1), h .2),
+        onward (asked .1 .0 .0) (omega (arith, head .inside)) (put-bits .ensures .capped) (put-bits .kept .0) (parts-accepted (struct-found head bits) _),
+        (h .1, head-fits head bits, h .2),
       ),
     ))
-    -- returns-3
+    -- returns
     (λ c. shown-refused _ _ _ _ (c .refused .ensures) (row-absent (c .before .before .before .row-due .ensures) _ _ _ (c .before .enum-told .given .1)))
-    -- returns-4
+    -- returns-2
     (λ c.
     let at-number = c .before .before in
-    let at-presence = at-number .before .before in
-    let at-place = at-presence .before .before in
-    let at-row-due = at-place .before .before in
-    let start = at-row-due .before .before .before .before .before in
-    let asked = start .pre in
-    let args = start .args in
-    let row-due = at-row-due .row-due in
-    let placed = at-place .place in
-    let presence = at-presence .presence in
-    let h = asked .1 .1 in
-    let T = tableOf (args .s .now) in
-    let headed = presence .ensures (fieldsFrom T (args .first) (args .n)) (length-fields T (args .first) (args .n) (h .2)) (h .3) in
-    shown-refused _ _ _ _ (c .refused2 .ensures) (struct-fault (row-due .ensures) (placed .given .1) _ _ _ (asked .1 .0 .1) headed (at-number .number .given .1)))
+    shown-refused _ _ _ _ (c .refused2 .ensures) (struct-fault (write-struct-head t (at-number .before .before)) (at-number .number .given .1) _))
     -- same-length
-    (λ c.
-    let put-bits = c .before .before .before .before .before .before .put-bits in
-    c .before .before .write-fields .kept .1 .1 .1 .0 ∙ put-bits .kept .0)
-    -- returns-5
+    (λ c. c .before .before .write-fields .kept .1 .1 .1 .0 ∙ c .before .before .before .before .before .before .put-bits .kept .0)
+    -- returns-3
     (λ c.
     let at-write-fields = c .before .before in
     let at-put-bits = at-write-fields .before .before .before .before in
-    let at-if2 = at-put-bits .before .before in
-    let at-if1 = at-if2 .before in
-    let at-word = at-if1 .before .before in
-    let at-presence = at-word .before .before in
-    let at-place = at-presence .before .before in
-    let at-row-due = at-place .before .before in
-    let start = at-row-due .before .before .before .before .before in
-    let asked = start .pre in
-    let args = start .args in
-    let row-due = at-row-due .row-due in
-    let placed = at-place .place in
-    let presence = at-presence .presence in
-    let bits = at-word .word in
-    let if1 = at-if1 .if1 in
-    let if2 = at-if2 .if2 in
-    let put-bits = at-put-bits .put-bits in
-    let T = tableOf (args .s .now) in
-    let h = asked .1 .1 in
-    let long = length-fields T (args .first) (args .n) (h .2) in
-    let headed = presence .ensures (fieldsFrom T (args .first) (args .n)) long (h .3) in
-    renamed
-    (struct-start (row-due .ensures) (placed .given .1) _ _ _ (asked .1 .0 .1) headed (bits .given .1) (if1 .left) (if2 .left)
-    long (asked .1 .0 .0 .small) (put-bits .ensures)) (at-write-fields .write-fields .ensures))
+    let at-known = at-put-bits .before .before .before in
+    let at-struct-bits = at-known .before .before in
+    let asked = at-struct-bits .before .before .before .before .before .before .before .before .before .pre in
+    let start = struct-start (write-struct-head t at-struct-bits) (at-known .known .given .1) _ (asked .1 .0 .0 .small) (at-put-bits .put-bits .ensures) in
+    renamed start (at-write-fields .write-fields .ensures))
 
 write-structs-spec : {M : Type 1} (t : ℕ) → write-structs-lts.Closed (write-structs-calls t) (write-structs-at t) write-structs.Post M
 write-structs-spec t =
@@ -1348,7 +1177,7 @@ write-structs-spec t =
     (λ c.
     let asked = c .before .before .before .before .before .before .pre in
     let h = asked .1 .0 .0 in
-    (refl, h .inside, h .behind, refl))
+    (refl, h .inside, h .capped, refl))
     -- write-struct-requires
     (λ c κs.
     let args = c .before .before .before .before .before .before .before .before .before .args in
@@ -1358,7 +1187,7 @@ write-structs-spec t =
       omega (arith, asked .0),
       (
         (
-          onward (asked .1 .0 .0) (inv .1) (inv .2) (inv .3) (λ a. element-accepted _ _ (c .before .loop-test .taken) _ (shown-along _ _ _ _ _ _ _ _ _ (inv .0) a)),
+          onward (asked .1 .0 .0) (inv .1) (inv .2) (inv .3) (λ a. item-accepted _ _ (elements-some _ _ (c .before .loop-test .taken)) _ (shown-along _ _ _ _ _ _ _ _ _ (inv .0) a)),
           asked .1 .0 .1,
         ),
         (h .0, h .1, h .2, c .before .before .before .required-of .ensures),
@@ -1373,7 +1202,7 @@ write-structs-spec t =
     let structure = c .before .before .before .before .before .write-struct in
     let loop-test = c .before .before .before .before .before .before .before .loop-test in
     let inv = c .before .before .before .before .before .before .before .before .loop .inv in
-    as-stopped (element-stop _ _ (loop-test .taken) _ _ _ _ (was (structure .ensures) (c .before .number .given .1) .same) ∙ inv .0))
+    as-stopped (next-stop _ _ (elements-some _ _ (loop-test .taken)) _ _ _ (was (structure .ensures) (c .before .number .given .1) .same) ∙ inv .0))
     -- enum-known-row
     (λ c. search needs)
     -- sub-left
@@ -1388,7 +1217,7 @@ write-structs-spec t =
     let asked = c .before .before .before .before .before .before .before .before .before .before .before .before .before .before .before .pre in
     let small : length (loop .out) ≤ 16384 = rw (loop .inv .3) (asked .1 .0 .0 .small) in
     let w = was (structure .ensures) (c .before .row .given .1) in (
-      element-past _ _ (loop-test .taken) _ _ _ _ small (w .same) ∙ loop .inv .0,
+      next-past _ _ (elements-some _ _ (loop-test .taken)) _ _ _ small (w .same) ∙ loop .inv .0,
       w .within .0,
       w .within .1,
       structure .kept .1 .1 .1 .0 ∙ loop .inv .3,

@@ -37,7 +37,7 @@ write-key-spec =
     let read = at-leaf-row .leaf-row .ensures in
     let placed = at-place .place .given .1 in
     let own = leaf-in read placed in (
-      (pre .room, omega (arith, own .1, sheet (4 * row + 1)), omega (arith, own .2, sheet (4 * row + 2)), own .3, pre .kept),
+      (pre .keys-fit, omega (arith, own .1, sheet (4 * row + 1)), omega (arith, own .2, sheet (4 * row + 2)), own .3, pre .kept),
       λ j. key-once _ _ _ _ _ _ _ _ _ _ _ pre (at-if1 .if1 .left) j read placed,
     ))
     -- refused-requires-3
@@ -60,7 +60,7 @@ write-key-spec =
     let start = at-leaf-row .before .before .before .before .before .before in
     let pre = start .pre in
     let own = leaf-in (at-leaf-row .leaf-row .ensures) (at-place .place .given .1) in
-    (pre .behind, pre .small, own .3))
+    (pre .capped, pre .small, own .3))
     -- add-t24
     (λ c.
     let at-place = c .before .before .before .before .before .before .before .before .before .before in
