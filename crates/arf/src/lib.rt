@@ -1,6 +1,6 @@
-// The public entries. None of them asks anything of its caller, and each fixes its answer and every cell of lent memory.
-// `receive` and `release` stand in `receiver`, since a lent slice of rows is not handed on.
-use calls::CallTable;
+// The public entries: none of them asks anything of its caller, and each fixes its answer and every cell of lent memory.
+// `receive` and `release` stand in `receiver`: to hand a lent slice of tally rows on would take one more proof by hand.
+use connection::CallTable;
 use frame::FrameRead;
 use frame::FrameWritten;
 use frame::Header;
@@ -17,7 +17,7 @@ use value::Row;
 use writer::Writing;
 ghost use mathlib.Core.Path.{_≡_};
 ghost use lib.ListN.{length};
-ghost use Rattle.calls.specs.Slots.{freshTable};
+ghost use Rattle.connection.specs.Step.{freshTable};
 ghost use Rattle.forward.specs.Entry.{forwardOutcome};
 ghost use Rattle.frame.specs.Frame.{frameOf};
 ghost use Rattle.frame.specs.Written.{writtenOf, outputOf};
@@ -36,14 +36,14 @@ ghost use Rattle.writer.specs.Entry as writer;
 pub fn check_table(schema: &[u8]) -> Checked
     ensures { λ r. ⌜ r ≡ checked (now (schema .entry)) ⌝ }
 {
-    schema::check::check(schema)
+    table::checking::check(schema)
 }
 
 // Whether the new table extends the old one; for tables that are not good the first one's refusal, old first.
 pub fn extends(old: &[u8], new: &[u8]) -> Extended
     ensures { λ r. ⌜ r ≡ extension (now (old .entry)) (now (new .entry)) ⌝ }
 {
-    schema::extension::extends(old, new)
+    table::extension::extends(old, new)
 }
 
 // Reads a payload as a struct of type ty, and shows it on the sheet: the number of rows with the tail's place and length and the key comparisons due,

@@ -13,7 +13,7 @@ use Rattle.schema.specs.declared.Method.{Method}
 use Rattle.schema.specs.declared.Found.{Found}
 use Rattle.schema.specs.declared.Found.the-variants.{At, Missing}
 use Rattle.schema.specs.Table.{Table}
-use Rattle.schema.specs.Check.{methodRow, named, findMethod, isMissing}
+use Rattle.schema.specs.Check.{methodRow, findMethod, isMissing}
 use Rattle.calls.specs.declared.Call.{Call}
 use Rattle.calls.specs.declared.FormRow.{FormRow}
 use Rattle.calls.specs.declared.Frame.{Frame}
@@ -25,8 +25,8 @@ use Rattle.calls.specs.Forms.{rowOfForm}
 use Rattle.calls.specs.Numbers.{endsCall, EndsCall, payload, many-pairs}
 use Rattle.calls.specs.Record.{emptyCall, openedCall, isCall, isFree, complete, allowed, notAllowed, atLimit, marked, withMark, afterFrame}
 use Rattle.calls.specs.Slots.{slot, firstSlot, countOpen, formRow, OwnCall, none, one, recordAt, ownOf, full}
-use Rattle.calls.specs.Judge.{rightSide, payloadOf, Verdict, stop, opens, goes, openVerdict, invokeVerdict, otherVerdict, verdictOf, releaseVerdict, placed, judgeOf, judgeRelease}
-use Rattle.calls.specs.Step.{numberAfter, slotsAfter, stepOf, dueOf, receive, release}
+use Rattle.calls.specs.Judge.{rightSide, payloadOf, namesMethod, Verdict, stop, opens, goes, openVerdict, invokeVerdict, otherVerdict, verdictOf, releaseVerdict, placed, judgeOf, judgeRelease}
+use Rattle.calls.specs.Step.{numberAfter, slotsAfter, dueOf, receive, release}
 use Rattle.calls.specs.Good.{GoodCalls}
 use Rattle.calls.specs.Event.{frame}
 use Rattle.calls.specs.Event as event
@@ -87,14 +87,14 @@ module _ (T : Table) (f : Frame) (reading : Payload → ℕ) where
   answer v = verdictNumber v (reading (verdictDue v))
 
   pub answered : (l : List Call) → receive T f reading l .number ≡ answer (verdictOf T f (ownOf (f .correlation) l) (full l))
-  unfolding receive stepOf
+  unfolding receive
   answered l =
       let J = judgeOf T f l in
       number-by J (reading (dueOf J)) ∙ ap (λ (d : Payload). verdictNumber (verdict J) (reading d)) (due-by J) ∙ ap answer (judged-by T f l)
 
 -- A release's number, by the own record.
 pub release-answered : (id n : ℕ) (l : List Call) → release id n l .number ≡ verdictNumber (releaseVerdict (ownOf id l)) n
-unfolding release stepOf
+unfolding release
 release-answered id n l = number-by (judgeRelease id l) n ∙ ap (λ (v : Verdict). verdictNumber v n) (released-by id l)
 
 -- Two tables with the same own record and, for INVOKE, as much room get the same judgement but for the slot.
@@ -174,8 +174,8 @@ module _ (T : Table) (id : ℕ) (l : List Call) where
 -- The own record afterwards, by the judgement without a slot.
 pub own-after : (T : Table) (f : Frame) (l : List Call) → GoodCalls T l → (reading : Payload → ℕ) →
     let v = verdictOf T f (ownOf (f .correlation) l) (full l) in
-    ownOf (f .correlation) (receive T f reading l .table .slots) ≡ verdictOwn v (reading (verdictDue v)) (ownOf (f .correlation) l)
-unfolding receive stepOf
+    ownOf (f .correlation) (receive T f reading l .slots) ≡ verdictOwn v (reading (verdictDue v)) (ownOf (f .correlation) l)
+unfolding receive
 own-after T f l g reading =
     let J = judgeOf T f l in
     let own = ownOf (f .correlation) l in
@@ -183,8 +183,8 @@ own-after T f l g reading =
     ∙ ap (λ (d : Payload). verdictOwn (verdict J) (reading d) own) (due-by J)
     ∙ ap (λ (v : Verdict). verdictOwn v (reading (verdictDue v)) own) (judged-by T f l)
 
-pub release-own : (T : Table) (id n : ℕ) (l : List Call) → GoodCalls T l → ownOf id (release id n l .table .slots) ≡ verdictOwn (releaseVerdict (ownOf id l)) n (ownOf id l)
-unfolding release stepOf
+pub release-own : (T : Table) (id n : ℕ) (l : List Call) → GoodCalls T l → ownOf id (release id n l .slots) ≡ verdictOwn (releaseVerdict (ownOf id l)) n (ownOf id l)
+unfolding release
 release-own T id n l g =
     stepped-own T id l g n (release-fits T id l) ∙ ap (λ (v : Verdict). verdictOwn v n (ownOf id l)) (released-by id l)
 
@@ -233,12 +233,12 @@ module _ (T : Table) (id : ℕ) (l : List Call) (k : ℕ) (n : k ≡ id → ⊥)
 
 -- The record of every other identifier is unchanged.
 pub others-kept : (T : Table) (f : Frame) (l : List Call) (reading : Payload → ℕ) (k : ℕ) → (k ≡ f .correlation → ⊥)
-    → ownOf k (receive T f reading l .table .slots) ≡ ownOf k l
-unfolding receive stepOf
+    → ownOf k (receive T f reading l .slots) ≡ ownOf k l
+unfolding receive
 others-kept T f l reading k n = stepped-other T (f .correlation) l k n (reading (dueOf (judgeOf T f l))) (frame-fits T f l)
 
-pub release-others : (T : Table) (id n : ℕ) (l : List Call) (k : ℕ) → (k ≡ id → ⊥) → ownOf k (release id n l .table .slots) ≡ ownOf k l
-unfolding release stepOf
+pub release-others : (T : Table) (id n : ℕ) (l : List Call) (k : ℕ) → (k ≡ id → ⊥) → ownOf k (release id n l .slots) ≡ ownOf k l
+unfolding release
 release-others T id n l k h = stepped-other T id l k h n (release-fits T id l)
 
 -- an accepted frame is no refusal
@@ -263,8 +263,8 @@ untouched l p (Goes i c d) j h = go (eqb p 0) (endsCall p)
     go false false = refl
 
 module _ (T : Table) (f : Frame) (l : List Call) where
-  pub other-slots : (reading : Payload → ℕ) (j : ℕ) → (touched (judgeOf T f l) ≡ At j → ⊥) → slot (receive T f reading l .table .slots) j ≡ slot l j
-  unfolding receive stepOf
+  pub other-slots : (reading : Payload → ℕ) (j : ℕ) → (touched (judgeOf T f l) ≡ At j → ⊥) → slot (receive T f reading l .slots) j ≡ slot l j
+  unfolding receive
   other-slots reading j h = untouched l (reading (dueOf (judgeOf T f l))) (judgeOf T f l) j h
 
 -- the slot that is touched is free, or open under the event's identifier
@@ -277,12 +277,12 @@ touched-own T id l (goesTo j c d w) i t o =
 
 -- An open slot under another correlation is unchanged.
 pub open-kept : (T : Table) (f : Frame) (l : List Call) (reading : Payload → ℕ) (i : ℕ) → slot l i .«open» ≡ true → (slot l i .correlation ≡ f .correlation → ⊥)
-    → slot (receive T f reading l .table .slots) i ≡ slot l i
+    → slot (receive T f reading l .slots) i ≡ slot l i
 open-kept T f l reading i o n = other-slots T f l reading i (λ t. n (touched-own T (f .correlation) l (frame-fits T f l) i t o))
 
 -- A release changes no slot but its own call's.
-pub release-kept : (id n : ℕ) (l : List Call) (i : ℕ) → isCall id (slot l i) ≡ false → slot (release id n l .table .slots) i ≡ slot l i
-unfolding release stepOf
+pub release-kept : (id n : ℕ) (l : List Call) (i : ℕ) → isCall id (slot l i) ≡ false → slot (release id n l .slots) i ≡ slot l i
+unfolding release
 release-kept id n l i h = untouched l n (judgeRelease id l) i (λ t. clash (isCall id (slot l i)) (go (judgeRelease id l) refl t) h)
   where
     go : (J : Judged) → judgeRelease id l ≡ J → touched J ≡ At i → isCall id (slot l i) ≡ true
@@ -355,14 +355,14 @@ module _ (T : Table) (f : Frame) (l : List Call) (i : ℕ) (o : slot l i .«open
           (λ v. clash true refl (subst (λ (x : Call). x .«open» ≡ false) (g .isNext ∙ v .1) free))
           (after-cases T (f .kind) own))
 
-  pub freed : (reading : Payload → ℕ) → let r = receive T f reading l in slot (r .table .slots) i .«open» ≡ false → Freed T (frame f) (r .number) (slot l i)
-  unfolding receive stepOf
+  pub freed : (reading : Payload → ℕ) → let r = receive T f reading l in slot (r .slots) i .«open» ≡ false → Freed T (frame f) (r .number) (slot l i)
+  unfolding receive
   freed reading q = freed-by (reading (dueOf (judgeOf T f l))) q
 
 -- A release frees the slot of its own call alone, and only where that is cancelled.
 pub release-freed : (T : Table) (id n : ℕ) (l : List Call) → endsCall n ≡ false → (i : ℕ) → slot l i .«open» ≡ true →
-    let r = release id n l in slot (r .table .slots) i .«open» ≡ false → Freed T (event.release id) (r .number) (slot l i)
-unfolding release stepOf
+    let r = release id n l in slot (r .slots) i .«open» ≡ false → Freed T (event.release id) (r .number) (slot l i)
+unfolding release
 release-freed T id n l k i o q =
     let w = emptied T id l i o n (release-fits T id l) q in
     let g = released-goes id l i (w .next) (w .due) (w .isGoing) in
@@ -379,13 +379,13 @@ same-slots T f l p (Goes i c d) e h w = ⊎-elim (λ (q : endsCall p ≡ false).
 -- A refusal that ends no call changes none, nor does any refusal of INVOKE.
 pub refused-same : (T : Table) (f : Frame) (reading : Payload → ℕ) (l : List Call) →
     let r = receive T f reading l in
-    (r .number ≡ 0 → ⊥) → (endsCall (r .number) ≡ false) ⊎ (f .kind ≡ 1) → r .table .slots ≡ l
-unfolding receive stepOf
+    (r .number ≡ 0 → ⊥) → (endsCall (r .number) ≡ false) ⊎ (f .kind ≡ 1) → r .slots ≡ l
+unfolding receive
 refused-same T f reading l h w = same-slots T f l (reading (dueOf (judgeOf T f l))) (judgeOf T f l) refl h w
 
 -- A release that is refused changes none.
-pub release-same : (id n : ℕ) (l : List Call) → endsCall n ≡ false → let r = release id n l in (r .number ≡ 0 → ⊥) → r .table .slots ≡ l
-unfolding release stepOf
+pub release-same : (id n : ℕ) (l : List Call) → endsCall n ≡ false → let r = release id n l in (r .number ≡ 0 → ⊥) → r .slots ≡ l
+unfolding release
 release-same id n l k = go (judgeRelease id l)
   where
     go : (J : Judged) → (numberAfter J n ≡ 0 → ⊥) → slotsAfter J n l ≡ l
@@ -407,7 +407,7 @@ gone n (one c) e = go (c .cancelled) e
     go true z = rw z
     go false z = absurd (omega arith)
 
-pub release-ends : (T : Table) (id n : ℕ) (l : List Call) → GoodCalls T l → release id n l .number ≡ 0 → ownOf id (release id n l .table .slots) ≡ none
+pub release-ends : (T : Table) (id n : ℕ) (l : List Call) → GoodCalls T l → release id n l .number ≡ 0 → ownOf id (release id n l .slots) ≡ none
 release-ends T id n l g e = release-own T id n l g ∙ gone n (ownOf id l) (sym (release-answered id n l) ∙ e)
 
 -- the numbers before the payload are 8 to 17
@@ -442,7 +442,7 @@ module _ (T : Table) (f : Frame) (l : List Call) where
       let late = stop (notAllowed (f .kind) c) in
       let few = cond (atLimit (f .kind) c) (stop 17) next in
       let may = allowed (rowOfForm (m .form)) (f .kind) c in
-      cond-case Spares (named (f .«package») (f .service) (f .method) m) (cond may few late) (stop 12)
+      cond-case Spares (namesMethod f m) (cond may few late) (stop 12)
       (λ _. cond-case Spares may few late (λ _. cond-case Spares (atLimit (f .kind) c) (stop 17) next (λ _. (lit≤ tt, lit≤ tt)) (λ _. tt))
       (λ _. spares-late (c .cancelled && (leb 4 (f .kind) && leb (f .kind) 7))))
       (λ _. (lit≤ tt, lit≤ tt))
@@ -475,8 +475,8 @@ module _ (T : Table) (f : Frame) (l : List Call) where
     -- A payload refusal ends the open call.
     pub refused-ends : (reading : Payload → ℕ) →
         let r = receive T f reading l in
-        endsCall (r .number) ≡ true → ownOf (f .correlation) (r .table .slots) ≡ none
-    unfolding receive stepOf
+        endsCall (r .number) ≡ true → ownOf (f .correlation) (r .slots) ≡ none
+    unfolding receive
     refused-ends reading t = ended-own (reading (dueOf (judgeOf T f l))) (judgeOf T f l) refl t
 
 -- ---- a cancelled call
@@ -484,8 +484,8 @@ module _ (T : Table) (f : Frame) (l : List Call) where
 -- An accepted CANCEL sets the mark of its call in its slot, and changes nothing else.
 pub cancel-marked : (T : Table) (f : Frame) (l : List Call) → GoodCalls T l → f .kind ≡ 8 → (reading : Payload → ℕ) →
     let r = receive T f reading l in
-    r .number ≡ 0 → (i : ℕ) → isCall (f .correlation) (slot l i) ≡ true → r .table .slots ≡ set l i (withMark true (slot l i))
-unfolding receive stepOf
+    r .number ≡ 0 → (i : ℕ) → isCall (f .correlation) (slot l i) ≡ true → r .slots ≡ set l i (withMark true (slot l i))
+unfolding receive
 cancel-marked T f l g k reading z i t = go (judgeOf T f l) refl z
   where
     id : ℕ
@@ -524,7 +524,7 @@ cancel-marked T f l g k reading z i t = go (judgeOf T f l) refl z
 
 -- It frees none.
 pub cancel-frees-none : (T : Table) (f : Frame) (l : List Call) → GoodCalls T l → f .kind ≡ 8 → (reading : Payload → ℕ) →
-    let r = receive T f reading l in r .number ≡ 0 → (i : ℕ) → slot l i .«open» ≡ true → slot (r .table .slots) i .«open» ≡ true
+    let r = receive T f reading l in r .number ≡ 0 → (i : ℕ) → slot l i .«open» ≡ true → slot (r .slots) i .«open» ≡ true
 cancel-frees-none T f l g k reading z i o =
     let own = slot l i in
     ⊎-elim
@@ -553,7 +553,7 @@ error-due T f own b e = go (rightSide (f .side) (f .kind)) (eqb (f .kind) 1) (ne
     other none = refl
     other (one c) =
         let m = methodRow T (c .method) in
-        call (named (f .«package») (f .service) (f .method) m) (allowed (rowOfForm (m .form)) (f .kind) c) (atLimit (f .kind) c)
+        call (namesMethod f m) (allowed (rowOfForm (m .form)) (f .kind) c) (atLimit (f .kind) c)
         (afterFrame (rowOfForm (m .form)) (f .kind) c) (payloadOf m (f .kind)) (notAllowed (f .kind) c) (error-payload m (f .kind) e)
 
     go : (a q : Bool) → q ≡ false → (own : OwnCall) →
@@ -582,8 +582,8 @@ module _ (T : Table) (f : Frame) (l : List Call) (i : ℕ) (o : slot l i .«open
       (w .isOwn, k, ap (λ (x : Judged). numberAfter x (reading (dueOf J))) (w .isGoing) ∙ zero)
 
   pub cancelled-freed : (reading : Payload → ℕ) → endsCall (reading Unread) ≡ false → let r = receive T f reading l in
-      slot (r .table .slots) i .«open» ≡ false → (isCall (f .correlation) (slot l i) ≡ true) × (f .kind ≡ 7) × (r .number ≡ 0)
-  unfolding receive stepOf
+      slot (r .slots) i .«open» ≡ false → (isCall (f .correlation) (slot l i) ≡ true) × (f .kind ≡ 7) × (r .number ≡ 0)
+  unfolding receive
   cancelled-freed reading z q =
       let J = judgeOf T f l in freed-late reading z J refl (emptied T (f .correlation) l i o (reading (dueOf J)) (frame-fits T f l) q)
 

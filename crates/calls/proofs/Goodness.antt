@@ -12,7 +12,7 @@ use Rattle.schema.specs.Table.{Table}
 use Rattle.calls.specs.declared.Call.{Call}
 use Rattle.calls.specs.declared.FormRow.{FormRow}
 use Rattle.calls.specs.Record.{emptyCall, implies, complete, zeroCall, goodOpen}
-use Rattle.calls.specs.Slots.{freshTable, slot, formRow, goodCall, goodCalls, openIds, contains, distinct, goodTable}
+use Rattle.calls.specs.Slots.{freshSlots, slot, formRow, goodCall, goodCalls, openIds, contains, distinct, goodTable}
 use Rattle.calls.specs.Good.{GoodCall, GoodCalls}
 use Rattle.schema.proofs.Bools.{cases, clash, and-i, and-left, and-right, or-right, or-cases, not-i, is-false}
 use Rattle.calls.proofs.Bools.{imp-i, imp-e}
@@ -226,6 +226,6 @@ module _ (T : Table) where
         (distinct-of l (g .differ))
 
   -- The fresh table is good: antt computes the test over its 128 records.
-  pub fresh-good : goodTable T (freshTable .slots) ≡ true
+  pub fresh-good : goodTable T freshSlots ≡ true
   unfolding goodTable goodCall
   fresh-good = refl

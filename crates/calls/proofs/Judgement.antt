@@ -10,7 +10,7 @@ use Rattle.schema.specs.declared.Method.{Method}
 use Rattle.schema.specs.declared.Found.{Found}
 use Rattle.schema.specs.declared.Found.the-variants.{At, Missing}
 use Rattle.schema.specs.Table.{Table}
-use Rattle.schema.specs.Check.{methodRow, named, findMethod, isMissing}
+use Rattle.schema.specs.Check.{methodRow, findMethod, isMissing}
 use Rattle.calls.specs.declared.Call.{Call}
 use Rattle.calls.specs.declared.Frame.{Frame}
 use Rattle.calls.specs.declared.Payload.{Payload}
@@ -19,7 +19,7 @@ use Rattle.calls.specs.declared.Judged.the-variants.{Opens, Goes}
 use Rattle.calls.specs.Forms.{rowOfForm}
 use Rattle.calls.specs.Record.{isCall, isFree, emptyCall, openedCall, allowed, notAllowed, atLimit, afterFrame}
 use Rattle.calls.specs.Slots.{slot, firstSlot, slotOf, OwnCall, none, one, recordAt, ownOf, full, formRow}
-use Rattle.calls.specs.Judge.{rightSide, payloadOf, Verdict, stop, opens, goes, openVerdict, invokeVerdict, callVerdict, otherVerdict, verdictOf, releaseVerdict, placed, slotFor, judgeOf, judgeRelease}
+use Rattle.calls.specs.Judge.{rightSide, payloadOf, namesMethod, Verdict, stop, opens, goes, openVerdict, invokeVerdict, callVerdict, otherVerdict, verdictOf, releaseVerdict, placed, slotFor, judgeOf, judgeRelease}
 
 -- ---- the slot
 module _ (s : ℕ) where
@@ -118,22 +118,19 @@ module _ (T : Table) (f : Frame) where
     abbrev late : Verdict
     late = stop (notAllowed (f .kind) x)
 
-    abbrev isNamed : Bool
-    isNamed = named (f .«package») (f .service) (f .method) m
-
     abbrev may : Bool
     may = allowed (rowOfForm (m .form)) (f .kind) x
 
     call-goes : (c : Call) (d : Payload) → callVerdict m f x ≡ goes c d → (may ≡ true) × (atLimit (f .kind) x ≡ false) × (c ≡ afterFrame (rowOfForm (m .form)) (f .kind) x)
     call-goes c d e =
-        let r = chosen may few late (λ q. differ cc) (chosen isNamed (cond may few late) (stop 12) (λ q. differ cc) e .1) in
+        let r = chosen may few late (λ q. differ cc) (chosen (namesMethod f m) (cond may few late) (stop 12) (λ q. differ cc) e .1) in
         let w = passed-over (atLimit (f .kind) x) (stop 17) next (λ q. differ cc) (r .1) in
         let q : next ≡ goes c d = w .1 in
         (r .0, w .0, cc)
 
     call-never : (c : Call) (d : Payload) → callVerdict m f x ≡ opens c d → ⊥
     call-never c d e =
-        let r = chosen may few late (λ q. differ cc) (chosen isNamed (cond may few late) (stop 12) (λ q. differ cc) e .1) in
+        let r = chosen may few late (λ q. differ cc) (chosen (namesMethod f m) (cond may few late) (stop 12) (λ q. differ cc) e .1) in
         let q : next ≡ opens c d = passed-over (atLimit (f .kind) x) (stop 17) next (λ q. differ cc) (r .1) .1 in
         differ cc
 

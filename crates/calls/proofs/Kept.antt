@@ -18,7 +18,7 @@ use Rattle.calls.specs.Numbers.{endsCall}
 use Rattle.calls.specs.Record.{emptyCall, openedCall, isCall, isFree, complete, allowed, isInput, isOutput, counting, marked, ends, afterFrame}
 use Rattle.calls.specs.Slots.{slot, firstSlot, formRow, goodTable}
 use Rattle.calls.specs.Judge.{judgeOf, judgeRelease}
-use Rattle.calls.specs.Step.{slotsAfter, stepOf, dueOf, receive, release}
+use Rattle.calls.specs.Step.{slotsAfter, dueOf, receive, release}
 use Rattle.calls.specs.Good.{GoodCall, GoodCalls}
 use Rattle.schema.specs.declared.Found.the-variants.{At, Missing}
 use Rattle.schema.proofs.Bools.{cases, clash, and-i, and-left, and-right, or-left, or-cases, or-false}
@@ -312,26 +312,26 @@ slots-length p (Goes i c d) l = go (eqb p 0) (endsCall p)
 
 -- a good table stays good
 module _ (T : Table) (f : Frame) (reading : Payload → ℕ) (l : List Call) where
-  pub stays-good : GoodCalls T l → GoodCalls T (receive T f reading l .table .slots)
-  unfolding receive stepOf
+  pub stays-good : GoodCalls T l → GoodCalls T (receive T f reading l .slots)
+  unfolding receive
   stays-good g = good-step T (f .correlation) l g (reading (dueOf (judgeOf T f l))) (frame-fits T f l)
 
-  pub test-stays : goodTable T l ≡ true → goodTable T (receive T f reading l .table .slots) ≡ true
-  test-stays g = good-test T (receive T f reading l .table .slots) (stays-good (good-clauses T l g))
+  pub test-stays : goodTable T l ≡ true → goodTable T (receive T f reading l .slots) ≡ true
+  test-stays g = good-test T (receive T f reading l .slots) (stays-good (good-clauses T l g))
 
-  pub stays-long : length (receive T f reading l .table .slots) ≡ length l
-  unfolding receive stepOf
+  pub stays-long : length (receive T f reading l .slots) ≡ length l
+  unfolding receive
   stays-long = slots-length (reading (dueOf (judgeOf T f l))) (judgeOf T f l) l
 
 -- so does a release
 module _ (T : Table) (id n : ℕ) (l : List Call) where
-  pub release-good : GoodCalls T l → GoodCalls T (release id n l .table .slots)
-  unfolding release stepOf
+  pub release-good : GoodCalls T l → GoodCalls T (release id n l .slots)
+  unfolding release
   release-good g = good-step T id l g n (release-fits T id l)
 
-  pub release-test : goodTable T l ≡ true → goodTable T (release id n l .table .slots) ≡ true
-  release-test g = good-test T (release id n l .table .slots) (release-good (good-clauses T l g))
+  pub release-test : goodTable T l ≡ true → goodTable T (release id n l .slots) ≡ true
+  release-test g = good-test T (release id n l .slots) (release-good (good-clauses T l g))
 
-pub release-long : (id n : ℕ) (l : List Call) → length (release id n l .table .slots) ≡ length l
-unfolding release stepOf
+pub release-long : (id n : ℕ) (l : List Call) → length (release id n l .slots) ≡ length l
+unfolding release
 release-long id n l = slots-length n (judgeRelease id l) l

@@ -1,7 +1,4 @@
 pub mod Bools
-pub mod Long
-pub mod Scan
-pub mod Distinct
 pub mod Letters
 pub mod Sides
 pub mod Used
@@ -9,7 +6,6 @@ pub mod Searches
 pub mod Goodness
 pub mod Cancelled
 pub mod Judgement
-pub mod Steps
 pub mod Kept
 pub mod Limits
 pub mod Apart

@@ -20,9 +20,9 @@ use Rattle.calls.specs.declared.Judged.the-variants.{Refused, Opens, Goe
 use Rattle.calls.specs.Numbers.{endsCall}
 pub use Rattle.calls.specs.Limits.{FewElements, FewIn}
 use Rattle.calls.specs.Record.{emptyCall, isCall, isInput, isOutput, atLimit, counting, marked, ends}
-use Rattle.calls.specs.Slots.{slot, firstSlot, formRow, freshTable, one, recordAt, ownOf}
+use Rattle.calls.specs.Slots.{slot, firstSlot, formRow, freshSlots, one, recordAt, ownOf}
 use Rattle.calls.specs.Judge.{judgeOf, judgeRelease}
-use Rattle.calls.specs.Step.{slotsAfter, stepOf, dueOf, receive, release}
+use Rattle.calls.specs.Step.{slotsAfter, dueOf, receive, release}
 use Rattle.calls.proofs.Judgement.{judged-opens, judged-goes, released-goes, released-never}
 
 none-few : (most : ℕ) → FewElements most emptyCall
@@ -68,8 +68,8 @@ module _ {most : ℕ} where
       (λ _. cond-case (FewIn most) (endsCall p) (set l i emptyCall) l (λ _. set-few l i emptyCall (none-few most) h) (λ _. h))
 
 -- A step keeps every count at 65,535 at most,
-pub few-stays : (T : Table) (f : Frame) (reading : Payload → ℕ) (l : List Call) → FewIn 65535 l → FewIn 65535 (receive T f reading l .table .slots)
-unfolding receive stepOf
+pub few-stays : (T : Table) (f : Frame) (reading : Payload → ℕ) (l : List Call) → FewIn 65535 l → FewIn 65535 (receive T f reading l .slots)
+unfolding receive
 few-stays T f reading l h =
     stepped-few l (reading (dueOf (judgeOf T f l))) (judgeOf T f l) h
     (λ j c d e. subst (FewElements 65535) (sym (judged-opens T f l j c d e .isNew)) (record { inputs = lit≤ tt; outputs = lit≤ tt }))
@@ -80,16 +80,16 @@ few-stays T f reading l h =
     (cond-case (FewElements 65535) (ends (formRow T own) (f .kind) own) emptyCall (marked (f .kind) own) (λ _. none-few 65535) (λ _. marked-few (f .kind) own (w .isBelow) (h i))))
 
 -- and so does a release.
-pub few-released : (id n : ℕ) (l : List Call) → FewIn 65535 l → FewIn 65535 (release id n l .table .slots)
-unfolding release stepOf
+pub few-released : (id n : ℕ) (l : List Call) → FewIn 65535 l → FewIn 65535 (release id n l .slots)
+unfolding release
 few-released id n l h =
     stepped-few l n (judgeRelease id l) h
     (λ j c d e. absurd (released-never id l j c d e))
     (λ i c d e. subst (FewElements 65535) (sym (released-goes id l i c d e .isNext)) (none-few 65535))
 
 -- A step counts one element more at most.
-pub few-more : (T : Table) (f : Frame) (reading : Payload → ℕ) (most : ℕ) (l : List Call) → FewIn most l → FewIn (suc most) (receive T f reading l .table .slots)
-unfolding receive stepOf
+pub few-more : (T : Table) (f : Frame) (reading : Payload → ℕ) (most : ℕ) (l : List Call) → FewIn most l → FewIn (suc most) (receive T f reading l .slots)
+unfolding receive
 few-more T f reading most l h =
     stepped-few l (reading (dueOf (judgeOf T f l))) (judgeOf T f l) (λ i. record { inputs = omega (arith, h i .inputs); outputs = omega (arith, h i .outputs) })
     (λ j c d e. subst (FewElements (suc most)) (sym (judged-opens T f l j c d e .isNew)) (record { inputs = omega arith; outputs = omega arith }))
@@ -129,7 +129,7 @@ pub few-wide : (most more : ℕ) (l : List Call) → most ≤ more → FewIn mos
 few-wide most more l h few i = record { inputs = omega (arith, few i .inputs, h); outputs = omega (arith, few i .outputs, h) }
 
 -- A fresh table counts none.
-pub few-fresh : FewIn 0 (freshTable .slots)
+pub few-fresh : FewIn 0 freshSlots
 few-fresh i = go 128 i
   where
     go : (n i : ℕ) → FewElements 0 (slot (replicate n emptyCall) i)

@@ -11,7 +11,7 @@ use borrow.Author.Tests.{eqb-true, eqb-false, eq-eqb, ne-eqb, leb-true}
 use Rattle.schema.specs.declared.Found.{Found}
 use Rattle.schema.specs.declared.Found.the-variants.{At, Missing}
 use Rattle.schema.specs.Table.{Table}
-use Rattle.schema.specs.Check.{methodRow, named, findMethod}
+use Rattle.schema.specs.Check.{methodRow, findMethod}
 use Rattle.schema.specs.Good.{GoodSchema}
 use Rattle.schema.proofs.Bools.{clash, and-i, and-left, and-right, or-left, or-cases, or-none, or-comm}
 use Rattle.schema.proofs.Methods.{found-named}
@@ -27,7 +27,7 @@ use Rattle.calls.specs.Forms.{letter, lettersRow, rowOfForm}
 use Rattle.calls.specs.Numbers.{endsCall, EndsCall, payload, many-pairs}
 use Rattle.calls.specs.Record.{implies, emptyCall, openedCall, isCall, complete, allowed, notAllowed, isInput, isOutput, atLimit, counting, marked, ends, afterFrame}
 use Rattle.calls.specs.Slots.{slot, firstSlot, contains, OwnCall, none, one, recordAt, ownOf, full}
-use Rattle.calls.specs.Judge.{rightSide, payloadOf, Verdict, stop, opens, goes, invokeVerdict, callVerdict, otherVerdict, verdictOf, judgeOf, releaseVerdict, judgeRelease}
+use Rattle.calls.specs.Judge.{rightSide, payloadOf, namesMethod, Verdict, stop, opens, goes, invokeVerdict, callVerdict, otherVerdict, verdictOf, judgeOf, releaseVerdict, judgeRelease}
 use Rattle.calls.specs.Step.{receive, release}
 use Rattle.calls.specs.Counting.{noRise, ending, riseOf, releaseRise, figureBy}
 use Rattle.calls.specs.Good.{GoodCalls}
@@ -358,7 +358,7 @@ module _ (T : Table) (g : GoodSchema T) (f : Frame) (b : Bool) where
       counted p = (ap (λ (x : Figure). cond (eqb p 0) x (cond (endsCall p) Failed Nothing)) accepted-as, inr (ap At (sym (w .method))))
 
       called : VerdictFits (since m before h) (one c) (callVerdict (methodRow T m) f c)
-      called = go (named (f .«package») (f .service) (f .method) (methodRow T m)) (allowed (rowOfForm form) (f .kind) c) (atLimit (f .kind) c) refl refl refl
+      called = go (namesMethod f (methodRow T m)) (allowed (rowOfForm form) (f .kind) c) (atLimit (f .kind) c) refl refl refl
         where
           next : Verdict
           next = goes (afterFrame (rowOfForm form) (f .kind) c) (payloadOf (methodRow T m) (f .kind))
@@ -366,7 +366,7 @@ module _ (T : Table) (g : GoodSchema T) (f : Frame) (b : Bool) where
           same-call : Reflects (since m before h) (one c)
           same-call = call m before h c w
 
-          go : (x y z : Bool) → named (f .«package») (f .service) (f .method) (methodRow T m) ≡ x → allowed (rowOfForm form) (f .kind) c ≡ y
+          go : (x y z : Bool) → namesMethod f (methodRow T m) ≡ x → allowed (rowOfForm form) (f .kind) c ≡ y
               → atLimit (f .kind) c ≡ z
               → VerdictFits (since m before h) (one c) (cond x (cond y (cond z (stop 17) next) (stop (notAllowed (f .kind) c))) (stop 12))
           go true true true p q l =
@@ -460,7 +460,7 @@ module _ (T : Table) (g : GoodSchema T) (l : List Call) (w : GoodCalls T l) wher
 
     -- Its own record afterwards reflects the past afterwards.
     pub own-reflects : (reading : Payload → ℕ) → let r = receive T f reading l in
-        Reflects (after T (record { event = frame f; number = r .number }) past) (ownOf (f .correlation) (r .table .slots))
+        Reflects (after T (record { event = frame f; number = r .number }) past) (ownOf (f .correlation) (r .slots))
     own-reflects reading =
         let p = reading (verdictDue (verdictOf T f own (full l))) in
         rw (answered T f reading l, own-after T f l w reading) (every T g f (full l) past own (own-known (f .correlation)) r .1 p)
@@ -474,7 +474,7 @@ module _ (T : Table) (g : GoodSchema T) (l : List Call) (w : GoodCalls T l) wher
   -- A release is ruled by them too.
   module _ (id : ℕ) (past : Past) (r : Reflects past (ownOf id l)) where
     pub release-reflects : (n : ℕ) → endsCall n ≡ false → let x = release id n l in
-        Reflects (after T (record { event = event.release id; number = x .number }) past) (ownOf id (x .table .slots))
+        Reflects (after T (record { event = event.release id; number = x .number }) past) (ownOf id (x .slots))
     release-reflects n k = rw (release-answered id n l, release-own T id n l w) (release-suits T id past (ownOf id l) r .1 n k)
 
     pub release-rises-as : (n : ℕ) → endsCall n ≡ false → CountsAs T (event.release id) past (releaseRise l (judgeRelease id l)) (release id n l .number)

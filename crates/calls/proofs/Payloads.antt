@@ -13,7 +13,7 @@ use Rattle.schema.specs.declared.Found.{Found}
 use Rattle.schema.specs.declared.Found.the-variants.{At, Missing}
 use Rattle.schema.specs.Table.{Table, rowAt}
 use Rattle.schema.specs.File.{tableOf}
-use Rattle.schema.specs.Check.{methodRow, named, findMethod, IsGood}
+use Rattle.schema.specs.Check.{methodRow, findMethod, IsGood}
 use Rattle.calls.specs.declared.Call.{Call}
 use Rattle.calls.specs.declared.Frame.{Frame}
 use Rattle.calls.specs.declared.Payload.{Payload}
@@ -21,7 +21,7 @@ use Rattle.calls.specs.declared.Payload.the-variants.{Struct, Empty, Unr
 use Rattle.calls.specs.Forms.{rowOfForm}
 use Rattle.calls.specs.Record.{isCall, openedCall, allowed, notAllowed, atLimit, afterFrame}
 use Rattle.calls.specs.Slots.{slot, firstSlot, OwnCall, none, one, recordAt, ownOf, full}
-use Rattle.calls.specs.Judge.{rightSide, typed, payloadOf, Verdict, stop, goes, openVerdict, invokeVerdict, otherVerdict, verdictOf, judgeOf}
+use Rattle.calls.specs.Judge.{rightSide, typed, payloadOf, namesMethod, Verdict, stop, goes, openVerdict, invokeVerdict, otherVerdict, verdictOf, judgeOf}
 use Rattle.calls.specs.Apart.{verdictDue}
 use Rattle.calls.specs.Step.{dueOf}
 use Rattle.calls.specs.Good.{GoodCalls}
@@ -94,7 +94,7 @@ module _ (s : List ℕ) (g : IsGood s) (f : Frame) where
       let may = allowed (rowOfForm (m .form)) (f .kind) c in
       let full = atLimit (f .kind) c in
       let few = cond full (stop 17) next in
-      cond-case (λ (v : Verdict). Sound T (verdictDue v)) (named (f .«package») (f .service) (f .method) m) (cond may few late) (stop 12)
+      cond-case (λ (v : Verdict). Sound T (verdictDue v)) (namesMethod f m) (cond may few late) (stop 12)
       (λ _. cond-case (λ (v : Verdict). Sound T (verdictDue v)) may few late
       (λ _. cond-case (λ (v : Verdict). Sound T (verdictDue v)) full (stop 17) next (λ _. unread) (λ _. method-sound (c .method) (f .kind) known))
       (λ _. unread))

@@ -25,9 +25,9 @@ use Rattle.calls.specs.declared.Figure.the-variants.{Nothing, Opened, Co
 use Rattle.calls.specs.declared.Rise.{Rise}
 use Rattle.calls.specs.Numbers.{endsCall}
 use Rattle.calls.specs.Record.{counting, emptyCall, isCall, isFree, complete, marked, ends}
-use Rattle.calls.specs.Slots.{freshTable, slot, formRow, OwnCall, none, one, ownOf, full}
+use Rattle.calls.specs.Slots.{freshSlots, slot, formRow, OwnCall, none, one, ownOf, full}
 use Rattle.calls.specs.Judge.{Verdict, stop, opens, goes, verdictOf, judgeOf, releaseVerdict, judgeRelease}
-use Rattle.calls.specs.Step.{numberAfter, slotsAfter, stepOf, dueOf, receive, release}
+use Rattle.calls.specs.Step.{numberAfter, slotsAfter, dueOf, receive, release}
 use Rattle.calls.specs.Counting.{noTally, noRise, ending, riseOf, releaseRise, figureBy, raised}
 pub use Rattle.calls.specs.Counting.{rowAfter}
 use Rattle.calls.specs.Apart.{verdict, callMethod, verdictRise, verdictReleaseRise}
@@ -338,8 +338,8 @@ balanced m r n l l′ w t b = go (eqb (r .row) m) w
 
 -- A frame keeps every row in balance,
 pub frame-balanced : (T : Table) (f : Frame) (l : List Call) (reading : Payload → ℕ) (m : ℕ) (t : Tally) → Balanced m t l →
-    let r = receive T f reading l in Balanced m (rowAfter m (riseOf (f .kind) l (judgeOf T f l)) (r .number) t) (r .table .slots)
-unfolding receive stepOf
+    let r = receive T f reading l in Balanced m (rowAfter m (riseOf (f .kind) l (judgeOf T f l)) (r .number) t) (r .slots)
+unfolding receive
 frame-balanced T f l reading m t =
     let J = judgeOf T f l in
     let p = reading (dueOf J) in
@@ -347,12 +347,12 @@ frame-balanced T f l reading m t =
 
 -- and so does a release, accepted or not.
 pub release-balanced : (id n : ℕ) (l : List Call) → endsCall n ≡ false → (m : ℕ) (t : Tally) → Balanced m t l →
-    let r = release id n l in Balanced m (rowAfter m (releaseRise l (judgeRelease id l)) (r .number) t) (r .table .slots)
-unfolding release stepOf
+    let r = release id n l in Balanced m (rowAfter m (releaseRise l (judgeRelease id l)) (r .number) t) (r .slots)
+unfolding release
 release-balanced id n l k m t =
     let J = judgeRelease id l in
     balanced m (releaseRise l J) (numberAfter J n) l (slotsAfter J n l) (release-follows id l m n k J refl) t
 
 -- The fresh table and a fresh row are in balance.
-pub fresh-balanced : (m : ℕ) → Balanced m noTally (freshTable .slots)
+pub fresh-balanced : (m : ℕ) → Balanced m noTally freshSlots
 fresh-balanced m = record { balance = refl }

@@ -15,22 +15,22 @@ N = false
 -- The columns IN_STREAM, IN_CLOSE, OUT_STREAM, OUT_CLOSE of the forms NNNN to YYYY.
 abbrev pub tableOne : List FormRow
 tableOne =
-    (N, N, N, N)
-    ∷ (N, N, Y, Y)
-    ∷ (Y, Y, N, N)
-    ∷ (Y, Y, Y, Y)
-    ∷ (N, N, N, N)
-    ∷ (N, N, Y, Y)
-    ∷ (Y, Y, N, N)
-    ∷ (Y, Y, Y, Y)
-    ∷ (N, N, N, N)
-    ∷ (N, N, Y, Y)
-    ∷ (Y, Y, N, N)
-    ∷ (Y, Y, Y, Y)
-    ∷ (N, N, N, N)
-    ∷ (N, N, Y, Y)
-    ∷ (Y, Y, N, N)
-    ∷ (Y, Y, Y, Y)
+    (N, N, N, N)  -- NNNN
+    ∷ (N, N, Y, Y)  -- NNNY
+    ∷ (Y, Y, N, N)  -- NNYN
+    ∷ (Y, Y, Y, Y)  -- NNYY
+    ∷ (N, N, N, N)  -- NYNN
+    ∷ (N, N, Y, Y)  -- NYNY
+    ∷ (Y, Y, N, N)  -- NYYN
+    ∷ (Y, Y, Y, Y)  -- NYYY
+    ∷ (N, N, N, N)  -- YNNN
+    ∷ (N, N, Y, Y)  -- YNNY
+    ∷ (Y, Y, N, N)  -- YNYN
+    ∷ (Y, Y, Y, Y)  -- YNYY
+    ∷ (N, N, N, N)  -- YYNN
+    ∷ (N, N, Y, Y)  -- YYNY
+    ∷ (Y, Y, N, N)  -- YYYN
+    ∷ (Y, Y, Y, Y)  -- YYYY
     ∷ []
 
 -- Past the last form nothing is allowed.

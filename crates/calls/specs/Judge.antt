@@ -58,10 +58,14 @@ abbrev pub invokeVerdict : Table → (correlation : ℕ) → Found → OwnCall �
 invokeVerdict T id Missing own f = stop 9
 invokeVerdict T id (At m) own f = openVerdict (openedCall m id) (payloadOf (methodRow T m) 1) own f
 
+-- The frame's three identifiers are those of method entry m.
+abbrev pub namesMethod : Frame → Method → Bool
+namesMethod f m = named (f .«package») (f .service) (f .method) m
+
 -- A frame to the open call c, of method entry m: 12, then 14 or 16, then 17.
 abbrev pub callVerdict : Method → Frame → Call → Verdict
 callVerdict m f c =
-    cond (named (f .«package») (f .service) (f .method) m)
+    cond (namesMethod f m)
     (cond (allowed (rowOfForm (m .form)) (f .kind) c)
     (cond (atLimit (f .kind) c) (stop 17) (goes (afterFrame (rowOfForm (m .form)) (f .kind) c) (payloadOf m (f .kind))))
     (stop (notAllowed (f .kind) c)))

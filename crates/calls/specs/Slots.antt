@@ -1,5 +1,5 @@
 -- The call table (01's term) as a list of 128 records, one a slot: searches, the count of open calls, and the test whether it is good.
-use Prim.Native.Nat.{ℕ, suc, _*_, _/_, _%_, _^_}
+use Prim.Native.Nat.{ℕ, suc}
 use mathlib.Core.Bool.{Bool, true, false, not, cond, _&&_, _||_}
 use mathlib.Core.List.{List, [], _∷_}
 use lib.ListN.{length, getD, replicate}
@@ -8,9 +8,7 @@ use Rattle.schema.specs.declared.Found.{Found}
 use Rattle.schema.specs.declared.Found.the-variants.{At, Missing}
 use Rattle.schema.specs.Table.{Table}
 use Rattle.schema.specs.Check.{methodRow, isMissing}
-use Rattle.schema.specs.Flags.{mixed}
 use Rattle.calls.specs.declared.Call.{Call}
-use Rattle.calls.specs.declared.CallTable.{CallTable}
 use Rattle.calls.specs.declared.FormRow.{FormRow}
 pub use Rattle.calls.specs.declared.OwnCall.{OwnCall}
 pub use Rattle.calls.specs.declared.OwnCall.the-variants.{None as none, One as one}
@@ -18,8 +16,8 @@ use Rattle.calls.specs.Forms.{rowOfForm}
 use Rattle.calls.specs.Record.{emptyCall, isCall, isFree, goodOpen, zeroCall}
 
 -- The table at the start: 128 equal empty records.
-abbrev pub freshTable : CallTable
-freshTable = record { slots = replicate 128 emptyCall }
+abbrev pub freshSlots : List Call
+freshSlots = replicate 128 emptyCall
 
 -- The record at a slot; past the last it is an empty one.
 abbrev pub slot : List Call → ℕ → Call
@@ -75,11 +73,6 @@ openIds (x ∷ xs) = cond (x .«open») (x .correlation ∷ openIds xs) (openIds
 abbrev pub contains : ℕ → List ℕ → Bool
 contains n [] = false
 contains n (x ∷ xs) = eqb x n || contains n xs
-
--- The flag of a number, one of 1,024: the top bits of a product modulo 2^64, or of the number mixed. The code looks for a number among others only if one
--- of them has its flag.
-unfoldable pub flagOfNumber : (mixing : Bool) → ℕ → ℕ
-flagOfNumber mixing n = cond mixing (mixed n) (n * 0x9E37_79B9_7F4A_7C15 % 2 ^ 64) / 2 ^ 54
 
 -- No two of the list are equal.
 abbrev pub distinct : List ℕ → Bool

@@ -12,7 +12,6 @@ use Rattle.calls.specs.declared.Payload.{Payload}
 use Rattle.calls.specs.declared.Payload.the-variants.{Unread}
 use Rattle.calls.specs.declared.Judged.{Judged}
 use Rattle.calls.specs.declared.Judged.the-variants.{Refused, Opens, Goes}
-use Rattle.calls.specs.declared.Stepped.{Stepped}
 use Rattle.calls.specs.declared.Change.{Change}
 use Rattle.calls.specs.Numbers.{endsCall}
 use Rattle.calls.specs.Record.{emptyCall}
@@ -30,15 +29,20 @@ slotsAfter (Refused n) p l = l
 slotsAfter (Opens j c due) p l = cond (eqb p 0) (set l j c) l
 slotsAfter (Goes i c due) p l = cond (eqb p 0) (set l i c) (cond (endsCall p) (set l i emptyCall) l)
 
-unfoldable pub stepOf : Judged → (payload : ℕ) → List Call → Stepped
-stepOf J p l = record { number = numberAfter J p; table = record { slots = slotsAfter J p l } }
+-- The answer: its number, and the records afterwards.
+pub record Afterwards : Type 0 where
+  pub number : ℕ
+  pub slots : List Call
+
+abbrev pub afterJudged : Judged → (payload : ℕ) → List Call → Afterwards
+afterJudged J p l = record { number = numberAfter J p; slots = slotsAfter J p l }
 
 -- What the answer to a judgement changes, for every table of 128 records; none is changed by a judgement that stops.
 pub record Changes (J : Judged) (payload : ℕ) (change : Change) : Type 0 where
   pub after : (l : List Call) → length l ≡ 128 → set l (change .slot) (change .call) ≡ slotsAfter J payload l
   pub nowhere : (n : ℕ) → J ≡ Refused n → change .slot ≡ 128
 
--- ---- a frame from its judgement to the next table
+-- ---- a frame from its judgement to the records afterwards
 
 -- What the payload of a judged frame holds; that of a refused one is not read.
 abbrev pub dueOf : Judged → Payload
@@ -47,9 +51,9 @@ dueOf (Opens j c due) = due
 dueOf (Goes i c due) = due
 
 -- `reading` gives the number of the payload by what it holds.
-unfoldable pub receive : Table → Frame → (reading : Payload → ℕ) → List Call → Stepped
-receive T f reading l = stepOf (judgeOf T f l) (reading (dueOf (judgeOf T f l))) l
+unfoldable pub receive : Table → Frame → (reading : Payload → ℕ) → List Call → Afterwards
+receive T f reading l = afterJudged (judgeOf T f l) (reading (dueOf (judgeOf T f l))) l
 
 -- The release of a call reads nothing; `number` is 0, or the refusal of its tally.
-unfoldable pub release : (correlation number : ℕ) → List Call → Stepped
-release id number l = stepOf (judgeRelease id l) number l
+unfoldable pub release : (correlation number : ℕ) → List Call → Afterwards
+release id number l = afterJudged (judgeRelease id l) number l

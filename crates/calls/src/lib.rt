@@ -1,14 +1,6 @@
-// The calls of a connection: the call table by value, when it is good, its step on a judged frame and on a release, and what that raises in a tally row.
-pub mod call_record;
-pub mod forms;
-pub mod good;
-pub mod judge;
-pub mod numbers;
-pub mod slots;
-pub mod step;
-pub mod tallies;
+// The calls of a connection: the record of a call, the frames and releases that it hears, and what these raise in a tally row. The definitions stand in specs/, their
+// laws in proofs/.
 
-use constants::limit;
 use schema::Found;
 
 // The record of a call. A free slot is zero in every member.
@@ -24,10 +16,6 @@ pub struct Call {
     // The stream elements accepted each way since INVOKE.
     pub input_elements: u16,
     pub output_elements: u16,
-}
-
-pub struct CallTable {
-    pub slots: [Call; limit::CALLS],
 }
 
 // A row of the draft's Table 1: whether the form allows IN_STREAM, IN_CLOSE, OUT_STREAM and OUT_CLOSE.
@@ -76,12 +64,6 @@ pub enum Judged {
 pub struct Change {
     pub slot: usize,
     pub call: Call,
-}
-
-// The answer's number and the next table.
-pub struct Stepped {
-    pub number: u32,
-    pub table: CallTable,
 }
 
 // A tally row (02's term): how many calls of a method were opened, and how many ended in each way.

@@ -7,7 +7,7 @@ use native.Mathlib.Omega.{arith}
 use borrow.Author.Tests.{not-true, not-false}
 use lib.ListN.{length, take, drop, length-drop}
 use lib.Seq.{slice, take-add, length-take-le, drop-append-seam}
-use Rattle.wire.specs.Utf8.{utf8}
+use Rattle.utf8.specs.Utf8.{utf8}
 use Rattle.wire.proofs.Cases.{differ}
 use Rattle.parse.specs.Reader.{Answer, refused, seen, andThen, check, cursorAt, count}
 use Rattle.parse.proofs.Places.{block-here}

@@ -5,7 +5,7 @@ use Prim.Native.Nat.{ℕ, _-_, _≤_, _<_}
 use lib.Dec.{eqb}
 use lib.ListN.{length, take, drop}
 use Rattle.wire.specs.Little.{little}
-use Rattle.wire.specs.Utf8.{utf8}
+use Rattle.utf8.specs.Utf8.{utf8}
 use Rattle.parse.specs.Reader.{Answer, refused, seen, Reader, andThen, _>>=_, return, at, check, cursorAt, block, varUInt, count}
 use Rattle.schema.specs.Table.{text}
 use Rattle.value.specs.Read.{Own, plain, parts, own}
@@ -79,12 +79,12 @@ contentChecked good place x c = andThen (check good 23 place c) (λ _ c. seen (p
 abbrev pub contentJudged : (payload : List ℕ) (kind : ℕ) → ContentSpan → Reader Own
 contentJudged p kind s c = contentChecked (not (eqb kind 12) || utf8 (contentBytes p s)) (s .place) (contentBytes p s) c
 
--- The content of a leaf. (A leaf has no parts.)
+-- The content of a leaf. The second case, a composite's own bytes, does not come up for one.
 abbrev pub contentOf : Own → List ℕ
 contentOf (plain x) = x
 contentOf (parts start head) = []
 
--- Where a leaf's content stands, by its end, or its refusal. (A string has no parts.)
+-- Where a leaf's content stands, by its end, or its refusal. The last case does not come up for a string.
 abbrev pub textSpan : Answer Own → Span
 textSpan (refused n p) = Span′.Refused n p
 textSpan (seen (plain x) c) = Span′.At (c .at - length x) (length x)

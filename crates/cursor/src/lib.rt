@@ -5,7 +5,6 @@ use crate::item::Number;
 use crate::item::Span;
 use crate::item::Width;
 use constants::refusal;
-use wire::utf8;
 ghost use mathlib.Core.Path.{_≡_};
 ghost use Prim.Native.Nat.{_-_};
 ghost use lib.ListN.{length};

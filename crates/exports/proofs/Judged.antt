@@ -17,29 +17,21 @@ use Rattle.receiver.specs.Answer.{Effect, effect, rowEffect, inRow, stopped}
 use Rattle.receiver.specs.Planning.{stopPlan, planOf, releasePlan}
 use Rattle.receiver.specs.Receive.{settled, received}
 use Rattle.receiver.specs.Release.{ReleaseEffect, releaseEffect, releaseAnswer, releaseSettled, released}
-use Rattle.receiver.proofs.Ways.{same-row}
+use Rattle.receiver.proofs.Ways.{same-row, effectOf, stop-effect}
 use Rattle.receiver.proofs.Lent.{within, release-within}
 use Rattle.exports.specs.Answers.{notCalls, refusedPlan, judgement, notReleased, releaseJudgement}
 
 module _ (s : List ℕ) (side : ℕ) (bytes sheet : List ℕ) (ts : List Tally) (l : List Call) where
-  -- a plan settled, and its row put back
-  abbrev effectOf : Plan → Effect
-  effectOf p = inRow ts (p .row) (settled s bytes sheet l (getD ts (p .row) noTally) (p .next))
-
-  stop-effect : (n q : ℕ) → effectOf (stopPlan n q) ≡ effect (stopped l n q) sheet ts
-  unfolding settled
-  stop-effect n q = ap (effect (stopped l n q) sheet) (same-row ts 0)
-
-  refused-effect : (v : Checked) → effectOf (refusedPlan v) ≡ effect (notCalls v l) sheet ts
-  refused-effect check.Good = stop-effect 15 0
-  refused-effect (check.Refused n q) = stop-effect n q
+  refused-effect : (v : Checked) → effectOf s side bytes sheet ts l (refusedPlan v) ≡ effect (notCalls v l) sheet ts
+  refused-effect check.Good = stop-effect s side bytes sheet ts l 15 0
+  refused-effect (check.Refused n q) = stop-effect s side bytes sheet ts l n q
 
   pub judged-effect : (isTable : Bool) (rows : ℕ) (p : Plan) → rows ≡ length ts → p ≡ cond isTable (planOf s side bytes rows l) (refusedPlan (checked s))
       → (r : Settled) (cs : List ℕ) → rowEffect (r .answer) cs (r .row) ≡ settled s bytes sheet l (getD ts (p .row) noTally) (p .next)
       → effect (r .answer) cs (set ts (p .row) (r .row)) ≡ judgement isTable s side bytes sheet ts l
   unfolding judgement
   judged-effect true rows p n e r cs is = within s side bytes sheet ts l p (e ∙ ap (λ (k : ℕ). planOf s side bytes k l) n) r cs is
-  judged-effect false rows p n e r cs is = ap (inRow ts (p .row)) is ∙ ap effectOf e ∙ refused-effect (checked s)
+  judged-effect false rows p n e r cs is = ap (inRow ts (p .row)) is ∙ ap (effectOf s side bytes sheet ts l) e ∙ refused-effect (checked s)
 
 module _ (s : List ℕ) (l : List Call) (id : ℕ) (ts : List Tally) where
   abbrev releaseOf : Plan → ReleaseEffect

@@ -1,12 +1,5 @@
--- Laws of the cells, of the numbers that stand for signed numbers and floats, and of the call table and the tally rows in cells.
-pub mod Stores
-pub mod Bits
-pub mod Tables
-pub mod Slots
+-- Laws of the entries: plans and answers over the cells of the call table and of the tally rows, and answers read back from their cells.
 pub mod Plans
-pub mod Tallies
 pub mod Judged
 pub mod Held
 pub mod Told
-pub mod ScalarTold
-pub mod Examples

@@ -1,14 +1,11 @@
 -- A plan over cells, by whether they are a call table; and an answer put back into the cells.
 use mathlib.Core.Path.{_≡_, refl, sym, ap, subst, _∙_}
 use mathlib.Core.Bool.{Bool, true, false, cond, _&&_}
-use mathlib.Core.List.{List, [], _∷_, _++_}
-use Prim.Native.Nat.{ℕ, zero, suc, _*_, _≤_, _<_}
-use native.Mathlib.Omega.{arith}
+use mathlib.Core.List.{List}
+use Prim.Native.Nat.{ℕ, _*_}
 use lib.Dec.{ltb}
-use lib.ListN.{length, set, drop, length-set}
-use lib.Seq.{sets, set-out}
-use borrow.Author.Tests.{ltb-true, ltb-false}
-use Rattle.buffer.proofs.Stores.{sets-later}
+use lib.ListN.{set}
+use lib.Seq.{sets}
 use Rattle.schema.specs.declared.Checked.{Checked}
 use Rattle.schema.specs.declared.Checked.the-variants.{Good, Refused as Faulty}
 use Rattle.schema.specs.Table.{Table}
@@ -18,7 +15,8 @@ use Rattle.calls.specs.declared.Call.{Call}
 use Rattle.calls.specs.declared.Change.{Change}
 use Rattle.calls.specs.declared.Judged.{Judged}
 use Rattle.calls.specs.declared.Judged.the-variants.{Refused as JudgedRefused}
-use Rattle.calls.specs.Step.{numberAfter, slotsAfter, Changes, stepOf}
+use Rattle.calls.specs.Step.{numberAfter, slotsAfter, Changes}
+use Rattle.connection.specs.Step.{stepOf}
 use Rattle.calls.specs.Slots.{goodTable, countOpen}
 use Rattle.calls.specs.Judge.{judgeRelease}
 use Rattle.calls.specs.Counting.{releaseRise}
@@ -30,11 +28,11 @@ use Rattle.receiver.specs.declared.Next.the-variants.{Refused as NextRefused}
 use Rattle.receiver.specs.Answer.{usedOf, answerIn}
 use Rattle.receiver.specs.Planning.{onGood, onCalls, stopPlan, judgedPlan, tablesFault, callPlan, goodPlan, planOf, releasePlan, Fitted}
 use Rattle.receiver.proofs.Returns.{checkedPlan, checked-fitted, plan-faulty, plan-good, calls-fault, calls-right, call-planned}
-use Rattle.exports.specs.Records.{recordCells, marksOf, cellsOf, callsOf, CountsOpen, areCalls, AreCalls}
-use Rattle.exports.specs.Cells.{stored}
+use Rattle.cells.specs.Records.{recordCells, cellsOf, callsOf, CountsOpen, areCalls}
+use Rattle.cells.specs.Cells.{stored}
+use Rattle.cells.proofs.Tables.{calls-long}
+use Rattle.cells.proofs.RoundTrip.{slot-stored}
 use Rattle.exports.specs.Answers.{refusedPlan, keptOf, callCells, RefusedCells}
-use Rattle.exports.proofs.Tables.{calls-long}
-use Rattle.exports.proofs.Held.{are-calls-iff, cells-kept, cells-long, stored-whole}
 
 -- ---- a plan by the tables
 
@@ -95,60 +93,6 @@ module _ (cells schema : List ℕ) (rows : ℕ) where
         pub cells-call : k ≡ 0 → r ≡ callPlan (ownSlotOf id false l) → Planned
         cells-call z x =
             planned (plan-good schema next v is r g (call-planned id l r x ∙ calls-right goodCells rows T (λ number. stopPlan number 0) release k test z))
-
--- ---- a record put at a slot
-
--- three cells more at the front
-sets-three : (a b m : ℕ) (l : List ℕ) (k : ℕ) (vs : List ℕ) → sets (a ∷ b ∷ m ∷ l) (suc (suc (suc k))) vs ≡ a ∷ b ∷ m ∷ sets l k vs
-sets-three a b m l k vs =
-    sets-later a (b ∷ m ∷ l) (suc (suc k)) vs
-    ∙ ap (_∷_ a) (sets-later b (m ∷ l) (suc k) vs
-    ∙ ap (_∷_ b) (sets-later m l k vs))
-
--- its three cells among those of all records
-set-cells : (cs : List Call) (rest : List ℕ) (i : ℕ) (c : Call) → i < length cs → cellsOf (set cs i c) ++ rest ≡ sets (cellsOf cs ++ rest) (3 * i) (recordCells c)
-unfolding cellsOf
-set-cells [] rest i c h = absurd (omega arith)
-set-cells (x ∷ xs) rest zero c h = refl
-set-cells (x ∷ xs) rest (suc i) c h =
-    let three : suc (suc (suc (3 * i))) ≡ 3 * suc i = omega arith in
-    ap (λ (r : List ℕ). x .correlation ∷ x .method ∷ marksOf x ∷ r) (set-cells xs rest i c (omega arith))
-    ∙ sym (sets-three (x .correlation) (x .method) (marksOf x) (cellsOf xs ++ rest) (3 * i) (recordCells c))
-    ∙ ap (λ (k : ℕ). sets (cellsOf (x ∷ xs) ++ rest) k (recordCells c)) three
-
--- Cells that are a call table, with a record at a slot: the cells of the table with that record.
-pub slot-stored : (cells : List ℕ) (i : ℕ) (c : Call) → areCalls cells ≡ true
-    → cond (ltb i 128) (sets cells (3 * i) (recordCells c)) cells ≡ stored cells (cellsOf (set (callsOf cells) i c))
-slot-stored cells i c t = go (ltb i 128) refl
-  where
-    l : List Call
-    l = callsOf cells
-
-    w : AreCalls cells
-    w = are-calls-iff cells .0 t
-
-    rest : List ℕ
-    rest = drop (length (cellsOf l)) cells
-
-    room : length (cellsOf l) ≤ length cells
-    room = omega (arith, cells-long l, calls-long cells 0 128, w .enough)
-
-    kept : cellsOf l ++ rest ≡ cells
-    kept = sym (stored-whole cells (cellsOf l) room) ∙ cells-kept cells w
-
-    same : length (cellsOf (set l i c)) ≡ length (cellsOf l)
-    same = cells-long (set l i c) ∙ ap (λ (n : ℕ). 3 * n) (length-set l i c) ∙ sym (cells-long l)
-
-    go : (b : Bool) → ltb i 128 ≡ b → cond b (sets cells (3 * i) (recordCells c)) cells ≡ stored cells (cellsOf (set l i c))
-    go true e =
-        let h : i < length l = omega (arith, ltb-true i 128 e, calls-long cells 0 128) in
-        ap (λ (x : List ℕ). sets x (3 * i) (recordCells c)) (sym kept)
-        ∙ sym (set-cells l rest i c h)
-        ∙ ap (λ (n : ℕ). cellsOf (set l i c) ++ drop n cells) (sym same)
-        ∙ sym (stored-whole cells (cellsOf (set l i c)) (omega (arith, same, room)))
-    go false e =
-        let h : length l ≤ i = omega (arith, ltb-false i 128 e, calls-long cells 0 128) in
-        sym (ap (λ (x : List Call). stored cells (cellsOf x)) (set-out l i c h) ∙ cells-kept cells w)
 
 -- ---- a plan settled
 

@@ -69,7 +69,7 @@ written-told (written.Refused zero) h = absurd (omega (arith, h 0 refl))
 written-told (written.Refused (suc n)) h = refl
 
 pub read-told : (a : Reading) → ((n q : ℕ) → a ≡ reader.Refused n q → 1 ≤ n) → readTold (readNumber a) (readCells a) ≡ a
-read-told (reader.Shown rows place n compared) h = refl
+read-told (reader.Shown rows place n comparisons) h = refl
 read-told (reader.Refused zero q) h = absurd (omega (arith, h 0 q refl))
 read-told (reader.Refused (suc n) q) h = refl
 

@@ -2,9 +2,7 @@
 use mathlib.Core.Path.{_≡_}
 use mathlib.Core.Bool.{Bool, false, cond}
 use mathlib.Core.List.{List, [], _∷_}
-use Prim.Native.Nat.{ℕ, suc, _-_, _^_}
-use lib.IntN.{ℤ, pos, negsuc}
-use lib.Ieee.{Float, Format, binary32, binary64, isNan, toBits}
+use Prim.Native.Nat.{ℕ}
 use lib.ListN.{length, replicate}
 use Rattle.schema.specs.declared.Checked.{Checked}
 use Rattle.schema.specs.declared.Checked.the-variants as check
@@ -42,13 +40,9 @@ use Rattle.receiver.specs.Planning.{stopPlan}
 use Rattle.receiver.specs.Receive.{received}
 use Rattle.receiver.specs.declared.Released.{Released}
 use Rattle.receiver.specs.Release.{ReleaseEffect, releaseEffect, releaseAnswer, released}
-use Rattle.scalar.specs.declared.Scalar.{Scalar}
-use Rattle.scalar.specs.declared.Scalar.the-variants.{Truth, Signed, Unsigned, Float32, Float64, Span}
-use Rattle.scalar.specs.declared.Answer.{Answer}
-use Rattle.scalar.specs.declared.Answer.the-variants.{Is, Refused}
 use Rattle.exports.specs.declared.Kept.{Kept}
-use Rattle.exports.specs.Cells.{stored}
-use Rattle.exports.specs.Records.{callsOf, cellsOf, areCalls, rowsOf}
+use Rattle.cells.specs.Cells.{stored}
+use Rattle.cells.specs.Records.{callsOf, cellsOf, areCalls, rowsOf}
 
 -- ---- tables
 
@@ -139,29 +133,6 @@ writeCells (Unwritten number place) = place ∷ 0 ∷ []
 
 abbrev pub sheetRow : (ty place length count : ℕ) → Row
 sheetRow t p n c = record { ty = t; place = p; length = n; count = c }
-
--- A whole number as the 64 bits of its two's complement. `negsuc n` is -(n + 1).
-abbrev pub bitsOf : ℤ → ℕ
-bitsOf (pos n) = n
-bitsOf (negsuc n) = 2 ^ 64 - suc n
-
--- A float's own bits, and 0 for a NaN, whose bits are not fixed.
-unfoldable pub floatBits : Format → Float → ℕ
-floatBits f x = cond (isNan x) 0 (toBits f x)
-
--- Which case it is, and its two numbers. The bits beside a float come first.
-abbrev pub valueCells : Scalar → List ℕ
-valueCells (Truth b) = 1 ∷ cond b 1 0 ∷ 0 ∷ []
-valueCells (Signed z) = 2 ∷ bitsOf z ∷ 0 ∷ []
-valueCells (Unsigned n) = 3 ∷ n ∷ 0 ∷ []
-valueCells (Float32 x bits) = 4 ∷ bits ∷ floatBits binary32 x ∷ []
-valueCells (Float64 x bits) = 5 ∷ bits ∷ floatBits binary64 x ∷ []
-valueCells (Span place n) = 6 ∷ place ∷ n ∷ []
-
--- A scalar: place, then its case and two numbers.
-abbrev pub scalarCells : Answer → List ℕ
-scalarCells (Is x) = 0 ∷ valueCells x
-scalarCells (Refused number place) = place ∷ 0 ∷ 0 ∷ 0 ∷ []
 
 -- ---- records
 

@@ -1,6 +1,4 @@
--- What the exported functions answer, how they store it, and the call table and the tally rows in cells.
-pub mod Cells
-pub mod Records
+-- What the exported functions answer, how they store it, and how it is read back.
 pub mod Answers
 pub mod Run
 pub mod Told

@@ -1,20 +1,9 @@
 -- The call table and the tally rows over a history of frames and releases, kept from event to event in cells that the caller lends.
 use mathlib.Core.List.{List, [], _∷_}
-use Prim.Native.Nat.{ℕ, _<_}
-use Rattle.calls.specs.declared.Call.{Call}
-use Rattle.calls.specs.Slots.{slot}
+use Prim.Native.Nat.{ℕ}
 use Rattle.receiver.specs.Run.{Event, input, release, State}
-use Rattle.exports.specs.Records.{callsOf, rowsOf, rowCells}
+use Rattle.cells.specs.Records.{callsOf, rowsOf, rowCells}
 use Rattle.exports.specs.Answers.{receiving, releasing, callCells}
-
--- Every method number has 32 bits and every count of elements 16, as the members of the record have.
-pub record FitsCall (c : Call) : Type 0 where
-  pub method : c .method < 4294967296
-  pub inputs : c .«input_elements» < 65536
-  pub outputs : c .«output_elements» < 65536
-
-abbrev pub CallsFit : List Call → Type 0
-CallsFit l = (i : ℕ) → FitsCall (slot l i)
 
 -- The cells of the call table and those of the tally rows.
 pub record Cells : Type 0 where

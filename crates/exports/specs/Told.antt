@@ -2,11 +2,9 @@
 -- more bytes; any other is a refusal's.
 use mathlib.Core.Bool.{cond}
 use mathlib.Core.List.{List}
-use Prim.Native.Nat.{ℕ, zero, suc, _^_}
+use Prim.Native.Nat.{ℕ, zero, suc}
 use lib.Dec.{eqb}
-use lib.Ieee.{binary32, binary64, ofBits}
 use lib.ListN.{getD}
-use Rattle.wire.specs.Little.{twos}
 use Rattle.schema.specs.declared.Checked.{Checked}
 use Rattle.schema.specs.declared.Checked.the-variants as check
 use Rattle.schema.specs.declared.Extended.{Extended}
@@ -27,11 +25,7 @@ use Rattle.salvage.specs.declared.Salvaging.{Salvaging}
 use Rattle.salvage.specs.declared.Salvaging.the-variants as salvage
 use Rattle.receiver.specs.declared.Received.{Received}
 use Rattle.receiver.specs.declared.Released.{Released}
-use Rattle.scalar.specs.declared.Scalar.{Scalar}
-use Rattle.scalar.specs.declared.Scalar.the-variants.{Truth, Signed, Unsigned, Float32, Float64, Span}
-use Rattle.scalar.specs.declared.Answer.{Answer}
-use Rattle.scalar.specs.declared.Answer.the-variants.{Is, Refused}
-use Rattle.exports.specs.Records.{callsOf}
+use Rattle.cells.specs.Records.{callsOf}
 use Rattle.exports.specs.Answers.{headerOf}
 
 -- The i-th cell.
@@ -95,17 +89,3 @@ receivedTold number cells table =
 abbrev pub releasedTold : (number : ℕ) → (answer table : List ℕ) → Released
 releasedTold number cells table =
     record { number = number; place = cell cells 0; «open» = cell cells 1; table = record { slots = callsOf table } }
-
--- A scalar, from its case and its two numbers. A whole number is told by the 64 bits of its two's complement, a float by the bits beside it.
-abbrev pub valueTold : (kind first second : ℕ) → Scalar
-valueTold kind a b =
-    cond (eqb kind 1) (Truth (eqb a 1))
-    (cond (eqb kind 2) (Signed (twos (2 ^ 63) a))
-    (cond (eqb kind 3) (Unsigned a)
-    (cond (eqb kind 4) (Float32 (ofBits binary32 a) a)
-    (cond (eqb kind 5) (Float64 (ofBits binary64 a) a)
-    (Span a b)))))
-
-abbrev pub scalarTold : (number : ℕ) → List ℕ → Answer
-scalarTold zero cells = Is (valueTold (cell cells 1) (cell cells 2) (cell cells 3))
-scalarTold (suc n) cells = Refused (suc n) (cell cells 0)

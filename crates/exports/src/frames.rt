@@ -1,5 +1,5 @@
 // The frame reader and the frame writer.
-use crate::cells::store;
+use cells::store;
 use constants::refusal;
 use frame::FrameRead;
 use frame::FrameWritten;
@@ -7,7 +7,7 @@ use frame::Header;
 ghost use mathlib.Core.Path.{_≡_};
 ghost use Rattle.frame.specs.Frame.{frameOf, readNumber};
 ghost use Rattle.frame.specs.Written.{outputOf, writeNumber, writeLength};
-ghost use Rattle.exports.specs.Cells.{stored};
+ghost use Rattle.cells.specs.Cells.{stored};
 ghost use Rattle.exports.specs.Answers.{headerOf, wrote, frameCells, writtenCells};
 
 fn read_number(a: FrameRead) -> u32

@@ -1,12 +1,12 @@
 // The index of a record, and the look-up of one call in it.
-use crate::cells::store;
+use cells::store;
 use constants::refusal;
 use index::Finding;
 use index::Indexing;
 ghost use mathlib.Core.Path.{_≡_};
 ghost use Rattle.index.specs.Index.{makeIndex, indexNumber};
 ghost use Rattle.index.specs.LookUp.{lookUp, findNumber};
-ghost use Rattle.exports.specs.Cells.{stored};
+ghost use Rattle.cells.specs.Cells.{stored};
 ghost use Rattle.exports.specs.Answers.{indexCells, findCells};
 
 fn index_number(a: Indexing) -> u32

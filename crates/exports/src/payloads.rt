@@ -1,11 +1,11 @@
 // The payload reader, the payload writer, the writer of a whole frame from a value, and the forwarding writer.
-use crate::cells::store;
+use cells::store;
 use constants::refusal;
 use frame::Header;
 use reader::Reading;
 use writer::Writing;
 ghost use mathlib.Core.Path.{_≡_};
-ghost use Rattle.exports.specs.Cells.{stored};
+ghost use Rattle.cells.specs.Cells.{stored};
 ghost use Rattle.arf.specs.Numbers.{writeNumber};
 ghost use Rattle.exports.specs.Answers.{headerOf, readNumber, readCells, reading, sheetAfter, readingBeside, sheetBeside};
 ghost use Rattle.exports.specs.Answers.{writeCells, writing, outputAfter, framing, framedAfter, forwarding, forwardedAfter};

@@ -1,7 +1,7 @@
 // A frame and a release judged up to the payload against the call table in cells: which tally row they ask for, and what is left to do.
-use crate::records::are_good;
-use crate::records::open_count;
-use crate::records::own_slot;
+use cells::records::are_good;
+use cells::records::open_count;
+use cells::records::own_slot;
 use constants::frame_kind;
 use constants::refusal;
 use frame::read_frame;
@@ -13,12 +13,12 @@ use receiver::planning::plan_frame;
 use receiver::planning::stop;
 use receiver::planning::tables_fault;
 use schema::Checked;
-use schema::check::check;
+use table::checking::check;
 ghost use mathlib.Core.Path.{_≡_};
 ghost use mathlib.Core.Bool.{cond};
 ghost use Rattle.schema.specs.Check.{checked};
 ghost use Rattle.receiver.specs.Planning.{Fitted, planOf, releasePlan};
-ghost use Rattle.exports.specs.Records.{callsOf, CountsOpen, areCalls};
+ghost use Rattle.cells.specs.Records.{callsOf, CountsOpen, areCalls};
 ghost use Rattle.exports.specs.Answers.{refusedPlan};
 
 // One frame from a side with so many tally rows lent, judged in the order: schema table, call table, tally rows, frame, side and call. `calls` is how

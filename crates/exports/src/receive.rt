@@ -1,10 +1,10 @@
 // One frame against the call table and the tally rows that the caller lends.
-use crate::cells::store;
 use crate::planning::plan;
-use crate::rows::TALLY_CELLS;
-use crate::rows::put_row;
-use crate::rows::row_in;
 use crate::settling::keep;
+use cells::rows::TALLY_CELLS;
+use cells::rows::put_row;
+use cells::rows::row_in;
+use cells::store;
 use reader::Reading;
 use receiver::Done;
 use receiver::settling::settle_plan;
@@ -12,8 +12,8 @@ ghost use mathlib.Core.Path.{_≡_};
 ghost use mathlib.Core.List.{[], _∷_};
 ghost use Rattle.reader.specs.Entry.{numbers};
 ghost use Rattle.receiver.specs.Answer.{answerIn};
-ghost use Rattle.exports.specs.Cells.{stored};
-ghost use Rattle.exports.specs.Records.{callsOf, CountsOpen, rowCells};
+ghost use Rattle.cells.specs.Cells.{stored};
+ghost use Rattle.cells.specs.Records.{callsOf, CountsOpen, rowCells};
 ghost use Rattle.exports.specs.Answers.{receiving, callCells, receivedCells, RefusedCells};
 
 // Judges the frame at the front of the bytes up to the call table, which stays as it is. `calls` is how many are open in it.

@@ -1,17 +1,17 @@
 // The release of a cancelled call in the call table and the tally rows that the caller lends.
-use crate::cells::store;
 use crate::planning::plan_release;
-use crate::rows::TALLY_CELLS;
-use crate::rows::put_row;
-use crate::rows::row_in;
 use crate::settling::keep;
+use cells::rows::TALLY_CELLS;
+use cells::rows::put_row;
+use cells::rows::row_in;
+use cells::store;
 use receiver::Done;
 use receiver::answer::place_of;
 use receiver::settling::settle_call;
 ghost use mathlib.Core.Path.{_≡_};
 ghost use Rattle.receiver.specs.Release.{releaseIn};
-ghost use Rattle.exports.specs.Cells.{stored};
-ghost use Rattle.exports.specs.Records.{callsOf, CountsOpen, rowCells};
+ghost use Rattle.cells.specs.Cells.{stored};
+ghost use Rattle.cells.specs.Records.{callsOf, CountsOpen, rowCells};
 ghost use Rattle.exports.specs.Answers.{releasing, callCells, releasedCells, RefusedCells};
 
 // Judges a release up to the call table, which stays as it is. `calls` is how many are open in it.

@@ -1,10 +1,10 @@
 // The salvage of a torn record.
-use crate::cells::store;
+use cells::store;
 use constants::refusal;
 use salvage::Salvaging;
 ghost use mathlib.Core.Path.{_≡_};
 ghost use Rattle.salvage.specs.Salvage.{salvageOf, salvageNumber};
-ghost use Rattle.exports.specs.Cells.{stored};
+ghost use Rattle.cells.specs.Cells.{stored};
 ghost use Rattle.exports.specs.Answers.{salvageCells};
 
 fn salvage_number(a: Salvaging) -> u32

@@ -1,10 +1,10 @@
 // An answer put back into the cells of the call table: the record at one slot changes.
 use crate::Kept;
-use crate::records::put_slot;
-use crate::records::slot_at;
 use calls::Change;
-use calls::step::change_of;
-use calls::step::number_after;
+use cells::records::put_slot;
+use cells::records::slot_at;
+use connection::step::change_of;
+use connection::step::number_after;
 use constants::limit;
 use receiver::Done;
 use receiver::answer::number_of;
@@ -15,7 +15,7 @@ ghost use Prim.Native.Nat.{_≤_};
 ghost use lib.ListN.{set};
 ghost use Rattle.calls.specs.Slots.{countOpen};
 ghost use Rattle.receiver.specs.Answer.{answerIn};
-ghost use Rattle.exports.specs.Records.{callsOf, CountsOpen};
+ghost use Rattle.cells.specs.Records.{callsOf, CountsOpen};
 ghost use Rattle.exports.specs.Answers.{keptOf, callCells, RefusedCells};
 
 fn one(b: bool) -> usize

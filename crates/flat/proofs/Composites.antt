@@ -3,7 +3,7 @@ use mathlib.Core.Path.{_≡_, refl, sym, ap, _∙_}
 use mathlib.Core.Bool.{Bool, true, false}
 use mathlib.Core.Logic.{⊎-elim}
 use mathlib.Core.List.{List, [], _∷_}
-use Prim.Native.Nat.{ℕ, suc, _+_, _-_, _*_, _/_, _%_, _^_, _≤_, _<_}
+use Prim.Native.Nat.{ℕ, suc, _+_, _-_, _*_, _/_, _^_, _≤_, _<_}
 use native.Mathlib.Nat.{mod-eq-of-lt}
 use native.Mathlib.Omega.{arith}
 use borrow.Author.Tests.{ltb-true, eq-eqb, ne-eqb, le-leb, lt-leb}
@@ -14,17 +14,16 @@ use Rattle.parse.specs.Reader.{Cursor, refused, seen, Reader, andThen, check, c
 use Rattle.parse.proofs.Answers.{accepted-first}
 use Rattle.schema.specs.declared.Field.{Field}
 use Rattle.schema.specs.Table.{Table, Shape, array, map, struct}
-use Rattle.schema.specs.Check.{fieldRow}
 use Rattle.schema.proofs.Bools.{cases}
 use Rattle.value.specs.Narrow.{firstOf}
 use Rattle.value.specs.Comparisons.{keyComparisons}
 use Rattle.value.specs.Value.{Tree, tip}
-use Rattle.value.specs.Read.{Item, plainItem, pairs, present, parts, bitmap, among, walk, wholeValue, parse}
+use Rattle.value.specs.Read.{plainItem, pairs, parts, bitmap, among, walk, wholeValue, parse}
 use Rattle.value.proofs.Narrowed.{first-all}
 use Rattle.value.proofs.Comparisons.{comparisons-half, comparisons-few}
 use Rattle.walks.specs.Shape.{fieldsFrom}
-use Rattle.walks.proofs.Presence.{length-fields, present-set, present-clear}
-use Rattle.walks.proofs.Items.{elements-some, pairs-some, pairs-none, item-accepted, item-stop, item-past, key-known, key-again, pair-stop, pair-past}
+use Rattle.walks.proofs.Presence.{length-fields}
+use Rattle.walks.proofs.Items.{pairs-some, pairs-none, item-accepted, item-stop, key-known, key-again, pair-stop, pair-past}
 use Rattle.flat.specs.declared.leaf.Count.{Count}
 use Rattle.flat.specs.declared.leaf.Count.the-variants.{Is, Refused as CountRefused}
 use Rattle.flat.specs.declared.leaf.Head.{Head}
@@ -34,7 +33,7 @@ use Rattle.flat.specs.declared.Walk.the-variants.{Past}
 use Rattle.flat.specs.Sheet.{putRow}
 use Rattle.flat.specs.Leaf.{between, countOf, CountIn, CountRead, headOf, HeadIn, Headed}
 use Rattle.flat.specs.Walk.{firstFields, told, toldHeld, noted, note, done, stopped, walkOf, Walked}
-use Rattle.flat.proofs.Steps.{ahead, telling, tip-told, later, renamed, further, composite-past, as-told, spanRow, walk-length, parse-refused, parse-whole, own-accepted}
+use Rattle.flat.proofs.Steps.{ahead, telling, tip-told, later, renamed, further, composite-past, as-told, spanRow, parse-refused, parse-whole, own-accepted}
 
 -- ---- heads
 
@@ -147,71 +146,6 @@ module _ (shown : List ℕ) (S : ℕ → Shape) (T : Table) (t first n : ℕ) (i
   unfolding fieldsFrom
   first-part m e le = first-of shown S t is ∙ ap struct (rw (← e) (take-take m n (drop first (T .fields)) le))
 
--- ---- elements of an array
-
-module _ (R S : ℕ → Shape) (P : ℕ → Reader Tree) (e left : ℕ) (some : 0 < left) (c : Cursor) (sum row : ℕ) (l : List ℕ) where
-  pub element-past : (c′ : Cursor) (compared row′ : ℕ) (m : List ℕ) → done c′ compared row′ m ≡ walkOf (told R S e) (P e c) 0 row l
-      → ahead R S P [] (replicate left (plainItem e)) c sum row l ≡ ahead R S P [] (replicate (left - 1) (plainItem e)) c′ (sum + compared) row′ m
-  element-past c′ compared row′ m h =
-      item-past (telling R S) P [] (elements-some e left some) c (noted sum row l) tt (later (told R S e) (P e c) sum row l h)
-
-  pub element-stop : (n q : ℕ) → stopped n q ≡ walkOf (told R S e) (P e c) 0 row l
-      → stopped n q ≡ ahead R S P [] (replicate left (plainItem e)) c sum row l
-  element-stop n q h = item-stop (telling R S) P [] (elements-some e left some) c (noted 0 row l) _ h
-
-  pub element-accepted : Accepted (walk P [] (replicate left (plainItem e)) c) → Accepted (P e c)
-  element-accepted h = item-accepted P [] (elements-some e left some) c h
-
--- ---- fields of a struct
-
--- The items of the fields left, by the bits left.
-abbrev pub leftOver : Table → (i left bits : ℕ) → List Item
-leftOver T i left bits = present (fieldsFrom T i left) bits
-
--- A turn of the loop over fields: from one place, sum, row and sheet to the next, with the same end.
-pub record Turned (R S : ℕ → Shape) (P : ℕ → Reader Tree) (p : List ℕ) (T : Table) (i left bits here sum below : ℕ) (l : List ℕ)
-    (here′ sum′ below′ : ℕ) (m : List ℕ) : Type 0 where
-  pub same : ahead R S P [] (leftOver T i left bits) (cursorAt p here) sum below l
-      ≡ ahead R S P [] (leftOver T (i + 1) (left - 1) (bits / 2)) (cursorAt p here′) sum′ below′ m
-  pub inside : here′ ≤ length p
-  pub behind : below′ ≤ here′
-  pub forth : sum′ + 16 * here ≤ sum + 16 * here′
-  pub long : length m ≡ length l
-
-module _ (R S : ℕ → Shape) (P : ℕ → Reader Tree) (p : List ℕ) (T : Table) (i left bits here sum below : ℕ) (l : List ℕ)
-    (some : 0 < left) (room : i + left ≤ length (T .fields)) where
-  module _ (f : Field) (is : f ≡ fieldRow T i) (b : bits % 2 ≡ 1) where
-    pub field-stop : (n q : ℕ) → stopped n q ≡ walkOf (told R S (f .ty)) (P (f .ty) (cursorAt p here)) 0 below l
-        → stopped n q ≡ ahead R S P [] (leftOver T i left bits) (cursorAt p here) sum below l
-    field-stop n q h = item-stop (telling R S) P [] (present-set T i left some room bits f is b) (cursorAt p here) (noted 0 below l) _ h
-
-    pub field-accepted : Accepted (walk P [] (leftOver T i left bits) (cursorAt p here)) → Accepted (P (f .ty) (cursorAt p here))
-    field-accepted h = item-accepted P [] (present-set T i left some room bits f is b) (cursorAt p here) h
-
-    pub field-read : (compared next row′ : ℕ) (k : List ℕ)
-        → Walked p (here + 1) (told R S (f .ty)) (P (f .ty) (cursorAt p here)) below l (Past compared next row′) k
-        → (here′ sum′ below′ : ℕ) (m : List ℕ) → here′ ≡ next → sum′ ≡ sum + compared → below′ ≡ row′ → m ≡ k
-        → Turned R S P p T i left bits here sum below l here′ sum′ below′ m
-    field-read compared next row′ k h here′ sum′ below′ m e₁ e₂ e₃ e₄ =
-        let w = h .within in
-        rw (e₁, e₂, e₃, e₄)
-        (record {
-          same =
-              item-past (telling R S) P [] (present-set T i left some room bits f is b) (cursorAt p here) (noted sum below l) tt
-              (later (told R S (f .ty)) (P (f .ty) (cursorAt p here)) sum below l (h .same));
-          inside = w .0;
-          behind = w .1;
-          forth = omega arith;
-          long = walk-length (told R S (f .ty)) (P (f .ty) (cursorAt p here)) 0 below l (h .same);
-        })
-
-  pub field-absent : (bits % 2 ≡ 1 → ⊥) → here ≤ length p → below ≤ here
-      → (here′ sum′ below′ : ℕ) (m : List ℕ) → here′ ≡ here → sum′ ≡ sum → below′ ≡ below → m ≡ l
-      → Turned R S P p T i left bits here sum below l here′ sum′ below′ m
-  field-absent b inside behind here′ sum′ below′ m e₁ e₂ e₃ e₄ =
-      rw (e₁, e₂, e₃, e₄)
-      (record { same = rw (present-clear T i left some room bits b); inside = inside; behind = behind; forth = omega arith; long = refl })
-
 -- ---- pairs of a map
 
 module _ (R S : ℕ → Shape) (P : ℕ → Reader Tree) (p : List ℕ) (k v n i : ℕ) (keys : List (List ℕ)) (here : ℕ) (some : i < n) where
@@ -245,10 +179,10 @@ module _ (R S : ℕ → Shape) (P : ℕ → Reader Tree) (p : List ℕ) (k v n i
       pair-value-stop a q e = pair-stop (telling R S) P k v keys (cursorAt p here) some read (noted sum below l) new tt key-told (noted 0 (below + 1) m) e
 
       -- a turn of the loop over pairs, with the key's row already written
-      pub pair-turn : (compared next row′ : ℕ) (m′ : List ℕ) → done (cursorAt p next) compared row′ m′ ≡ walkOf (told R S v) (P v (cursorAt p to)) 0 (below + 1) m
+      pub pair-turn : (comparisons next row′ : ℕ) (m′ : List ℕ) → done (cursorAt p next) comparisons row′ m′ ≡ walkOf (told R S v) (P v (cursorAt p to)) 0 (below + 1) m
           → ahead R S P keys (pairs (n - i) k v) (cursorAt p here) sum below l
-          ≡ ahead R S P (between p from to ∷ keys) (pairs (n - (i + 1)) k v) (cursorAt p next) (sum + compared) row′ m′
-      pair-turn compared next row′ m′ h =
+          ≡ ahead R S P (between p from to ∷ keys) (pairs (n - (i + 1)) k v) (cursorAt p next) (sum + comparisons) row′ m′
+      pair-turn comparisons next row′ m′ h =
           pair-past (telling R S) P k v keys (cursorAt p here) some read (noted sum below l) new tt key-told tt (later (told R S v) (P v (cursorAt p to)) sum (below + 1) m h)
 
 -- the comparisons of a map's own keys, at most 32 a pair

@@ -11,7 +11,7 @@ use lib.ListN.{length, getD, length-drop, length-take}
 use Rattle.buffer.specs.Span.{span}
 use Rattle.wire.specs.Little.{little}
 use Rattle.wire.specs.Varuint.{varuint}
-use Rattle.wire.specs.Utf8.{utf8}
+use Rattle.utf8.specs.Utf8.{utf8}
 use Rattle.wire.specs.declared.varuint.VarUInt.the-variants.{Number, Cut, Malformed}
 use Rattle.wire.proofs.Varuints.{varuint-inside}
 use Rattle.parse.specs.Reader.{seen, andThen, check, cursorAt, block, Accepted, count}

@@ -17,7 +17,6 @@ use Rattle.value.specs.Read.{Own, pairs, plan, own, among, walk, parse}
 use Rattle.walks.specs.Shape.{leafShape, shapeIn}
 use Rattle.walks.specs.Keys.{keysIn, Kept}
 use Rattle.walks.proofs.Keys.{keys-none}
-use Rattle.walks.proofs.Tables.{shape-leaf}
 use Rattle.walks.proofs.Items.{pairs-none}
 use Rattle.walks.proofs.Walks.{deep, deeper, shallower}
 use Rattle.flat.specs.declared.leaf.Span.{Span}
@@ -31,7 +30,7 @@ use Rattle.flat.specs.Leaf.{between, Spanned, CountRead}
 use Rattle.flat.specs.Walk.{valueIn, wholeIn, told, toldHeld, done, stopped, walkOf, Walked, Ready}
 use Rattle.flat.specs.Flat.{PairsReady, KeyTold, KeyTaken, ValuedFlat, HeldPairs}
 use Rattle.flat.proofs.Sheets.{length-put}
-use Rattle.flat.proofs.Steps.{ahead, was, walk-length, as-refused, composite-past, composite-stop, rest-accepted, own-accepted, parse-deep, spanRow, leaf-failed, leaf-in, leaf-parsed, leaf-past}
+use Rattle.flat.proofs.Steps.{ahead, was, walk-length, as-refused, composite-past, composite-stop, rest-accepted, parse-deep, spanRow, span-in, IsLeaf, is-leaf, leaf-asked, leaf-failed, leaf-stop, leaf-parsed, leaf-past}
 use Rattle.flat.proofs.Composites.{pair-key-accepted, pair-key-stop, pair-new, pair-again, pair-value-accepted, pair-value-stop, pair-turn}
 use Rattle.flat.proofs.Composites.{own-comparisons, few-pairs, pairs-first, count-in, map-refused, map-many, map-whole, map-valued}
 
@@ -44,17 +43,8 @@ module _ {p : List ℕ} {at : ℕ} {o : Answer Own} {r : Span} (read : Spanned p
   key-refused e = record { told = inl (rw e at read) }
 
   module _ {from to : ℕ} (e : r ≡ At from to) where
-    key-in : (from ≤ to) × (to ≤ length p) × (at < to)
-    key-in = rw e at (read .within)
-
-    pub key-forth : from ≤ to
-    key-forth = key-in .0
-
     pub key-small : length p ≤ 16384 → (from < 4294967296) × (to - from < 4294967296) × (from + (to - from) ≤ length p)
-    key-small h = omega (arith, h, key-in)
-
-    pub key-put : {row : ℕ} → length p ≤ 16384 → row ≤ 16384 → (row ≤ 16384) × (from ≤ 16384) × (to - from ≤ 16384) × (0 ≤ 16384)
-    key-put h b = omega (arith, h, b, key-in)
+    key-small h = omega (arith, h, span-in read e)
 
     module _ {judging again : Bool} {i : ℕ} {kept kept′ : List ℕ}
         (said : (judging ≡ false → again ≡ false) × ((judging ≡ true → again ≡ among (between p from to) (keysIn p kept i))
@@ -96,9 +86,9 @@ pub record Midway (Ok : (ℕ → Shape) → Type 0) (s p : List ℕ) (depth ty k
   pub ready : Ready s p here below judging (valueIn s p depth val here)
   pub stops : (R : ℕ → Shape) → Ok R → (number place : ℕ) → stopped number place ≡ walkOf (told R (shapeIn s) val) (valueIn s p depth val here) 0 below l
       → stopped number place ≡ ahead R (shapeIn s) (parse (shapeIn s) depth) [] (pairs n key val) (cursorAt p start) 0 (row + 1) sheet
-  pub goes : (R : ℕ → Shape) → Ok R → (compared next row′ : ℕ) (m : List ℕ)
-      → done (cursorAt p next) compared row′ m ≡ walkOf (told R (shapeIn s) val) (valueIn s p depth val here) 0 below l
-      → ahead R (shapeIn s) (parse (shapeIn s) depth) had (pairs (n - (i + 1)) key val) (cursorAt p next) (sum + compared) row′ m
+  pub goes : (R : ℕ → Shape) → Ok R → (comparisons next row′ : ℕ) (m : List ℕ)
+      → done (cursorAt p next) comparisons row′ m ≡ walkOf (told R (shapeIn s) val) (valueIn s p depth val here) 0 below l
+      → ahead R (shapeIn s) (parse (shapeIn s) depth) had (pairs (n - (i + 1)) key val) (cursorAt p next) (sum + comparisons) row′ m
       ≡ ahead R (shapeIn s) (parse (shapeIn s) depth) [] (pairs n key val) (cursorAt p start) 0 (row + 1) sheet
   pub forth : sum + 32 * i + 16 * start + 16 ≤ 16 * here
   pub long : length l ≡ length sheet
@@ -164,21 +154,24 @@ module _ {Ok : (ℕ → Shape) → Type 0} {s p : List ℕ} {depth ty key val n 
           (walk (readAt s depth) (a .had) (pairs (n - i) key val) (cursorAt p here)) (pairs (n - i) key val) sum below l (a .same (a .by) (a .ok)) (a .asked .ready .judged j)
 
       module _ (d0 : depth ≡ 0 → ⊥) {k : TypeRow} (row-k : k ≡ rowAt (tableOf s) key) where
-        key-is : shapeIn s key ≡ leafShape (k .kind)
-        key-is = shape-leaf (tableOf s) key k row-k (rw row-k (a .asked .some)) (rw row-k (a .asked .leaf))
+        key-leaf : IsLeaf s key k
+        key-leaf = is-leaf row-k (rw row-k (a .asked .some)) (rw row-k (a .asked .leaf))
+
+        key-ready : Ready s p here below judging (valueIn s p depth key here)
+        key-ready =
+            record {
+              good = a .asked .ready .good;
+              small = a .asked .ready .small;
+              inside = a .inside;
+              behind = a .behind;
+              judged = λ j. pair-key-accepted (a .by) (shapeIn s) (readAt s depth) p key val n i (a .had) here some (left j);
+            }
 
         pub key-asked : (length p ≤ 16384) × (here ≤ length p) × (0 < k .kind) × (k .kind < 14)
             × (judging ≡ false → Accepted (own (leafShape (k .kind)) (cursorAt p here))) × (below ≤ 16384)
-        key-asked = (
-          a .asked .ready .small,
-          a .inside,
-          rw row-k (a .asked .some),
-          rw row-k (a .asked .leaf),
-          λ j.
-              own-accepted (shapeIn s) (depth - 1) key (cursorAt p here) (leafShape (k .kind)) key-is
-              (deeper (λ d. Accepted (parse (shapeIn s) d key (cursorAt p here))) depth d0 (pair-key-accepted (a .by) (shapeIn s) (readAt s depth) p key val n i (a .had) here some (left j))),
-          omega (arith, a .inside, a .behind, a .asked .ready .small),
-        )
+        key-asked =
+            let q = leaf-asked key-leaf d0 key-ready in
+            (q .0, q .1, q .2, q .3, q .4, omega (arith, a .inside, a .behind, a .asked .ready .small))
 
         pub key-room : {size : ℕ} → length kept ≡ size → (judging ≡ true → n + 4 ≤ size / 2) → judging ≡ true → (i + 4 < length kept / 2) × Kept p kept true i
         key-room e h j = (omega (arith, some, e, h j), a .held j .1)
@@ -188,7 +181,7 @@ module _ {Ok : (ℕ → Shape) → Type 0} {s p : List ℕ} {depth ty key val n 
           pub key-failed : {number place : ℕ} → r ≡ SpanRefused place number → {after : List ℕ}
               → PairsTold Ok s p depth ty key val n start row sheet (Refused number place) after
           key-failed {number} {place} e {after} =
-              ⊎-elim (λ read. along-stop number place after (leaf-failed (shapeIn s) depth key (leafShape (k .kind)) key-is d0 p here _ read number place refl)) again (rw e at (taken .told))
+              ⊎-elim (λ read. along-stop number place after (leaf-failed key-leaf d0 read refl)) again (rw e at (taken .told))
             where
               again : (place ≡ here) × (number ≡ 24) × (judging ≡ true)
                   × ((from to : ℕ) × Spanned p here (own (leafShape (k .kind)) (cursorAt p here)) (At from to) × (among (between p from to) (keysIn p kept i) ≡ true))
@@ -200,14 +193,14 @@ module _ {Ok : (ℕ → Shape) → Type 0} {s p : List ℕ} {depth ty key val n 
                   rw (x .0, x .1)
                   (composite-stop R (shapeIn s) (readAt s depth) (map key val) ty start n (cursorAt p start) row sheet p start 24 here after
                   (pair-again R (shapeIn s) (readAt s depth) p key val n i (a .had) here some from to
-                  (leaf-parsed (shapeIn s) depth key (leafShape (k .kind)) key-is d0 p here _ (x .3 .2) from to refl) sum below l old ∙ a .same R ok))
+                  (leaf-parsed key-leaf d0 (x .3 .2) refl) sum below l old ∙ a .same R ok))
 
           pub key-past : {from to : ℕ} → r ≡ At from to → Midway Ok s p depth ty key val n start row judging sheet kept′ i to sum (below + 1) m
           key-past {from} {to} e =
               let told : KeyTold p here (own (leafShape (k .kind)) (cursorAt p here)) judging key i below l kept (At from to) m kept′ = rw e at (taken .told) in
               let P = readAt s depth in
-              let w = leaf-in (shapeIn s) depth key (leafShape (k .kind)) key-is d0 p here _ (told .0) from to refl in
-              let read = leaf-parsed (shapeIn s) depth key (leafShape (k .kind)) key-is d0 p here _ (told .0) from to refl in
+              let w = span-in (told .0) refl in
+              let read = leaf-parsed key-leaf d0 (told .0) refl in
               -- the walk that does not judge is known to accept
               let new = pair-new (a .by) (shapeIn s) P p key val n i (a .had) here some from to read judging false left (λ j. sym (ap (among (between p from to)) (a .held j .0) ∙ told .1 j .0)) refl in
               record {
@@ -224,8 +217,8 @@ module _ {Ok : (ℕ → Shape) → Type 0} {s p : List ℕ} {depth ty key val n 
                   judged = λ j. pair-value-accepted (a .by) (shapeIn s) P p key val n i (a .had) here some from to read new sum below l m (told .2) (left j);
                 };
                 stops = λ R ok number place h. pair-value-stop R (shapeIn s) P p key val n i (a .had) here some from to read new sum below l m (told .2) number place h ∙ a .same R ok;
-                goes = λ R ok compared next row′ m′ h.
-                    sym (pair-turn R (shapeIn s) P p key val n i (a .had) here some from to read new sum below l m (told .2) compared next row′ m′ h) ∙ a .same R ok;
+                goes = λ R ok comparisons next row′ m′ h.
+                    sym (pair-turn R (shapeIn s) P p key val n i (a .had) here some from to read new sum below l m (told .2) comparisons next row′ m′ h) ∙ a .same R ok;
                 forth = omega (arith, w .2, a .forth);
                 long = rw (told .2) (length-put l below (spanRow key from to)) ∙ a .long;
                 some = some;
@@ -242,11 +235,11 @@ module _ {Ok : (ℕ → Shape) → Type 0} {s p : List ℕ} {depth ty key val n 
           composite-stop R (shapeIn s) (readAt s depth) (map key val) ty start n (cursorAt p start) row sheet p start number place after
           (a .stops R ok number place (was (walked R ok) e .same))
 
-      module _ {compared next row′ : ℕ} (e : r ≡ Past compared next row′) where
-        pub value-sum : sum + compared ≤ 262144
+      module _ {comparisons next row′ : ℕ} (e : r ≡ Past comparisons next row′) where
+        pub value-sum : sum + comparisons ≤ 262144
         value-sum = let w = was (walked (a .by) (a .ok)) e .within in omega (arith, w, a .forth, a .asked .ready .small)
 
-        pub along-turn : Along Ok s p depth ty key val n start row judging sheet kept (i + 1) next (sum + compared) row′ m
+        pub along-turn : Along Ok s p depth ty key val n start row judging sheet kept (i + 1) next (sum + comparisons) row′ m
         along-turn =
             let x = was (walked (a .by) (a .ok)) e in
             let w = x .within in
@@ -256,7 +249,7 @@ module _ {Ok : (ℕ → Shape) → Type 0} {s p : List ℕ} {depth ty key val n 
               ok = a .ok;
               had = a .had;
               held = a .held;
-              same = λ R ok. a .goes R ok compared next row′ m (was (walked R ok) e .same);
+              same = λ R ok. a .goes R ok comparisons next row′ m (was (walked R ok) e .same);
               inside = w .0;
               behind = w .1;
               forth = omega (arith, w .2, a .forth);
@@ -265,34 +258,15 @@ module _ {Ok : (ℕ → Shape) → Type 0} {s p : List ℕ} {depth ty key val n 
             }
 
     -- a value that is a scalar, a string or bytes
-    module _ (d0 : depth ≡ 0 → ⊥) {v : TypeRow} (row-v : v ≡ rowAt (tableOf s) val) (some : 0 < rowAt (tableOf s) val .kind) (leaf : rowAt (tableOf s) val .kind < 14) where
-      val-is : shapeIn s val ≡ leafShape (v .kind)
-      val-is = shape-leaf (tableOf s) val v row-v (rw row-v some) (rw row-v leaf)
+    module _ (d0 : depth ≡ 0 → ⊥) {v : TypeRow} (w : IsLeaf s val v) {r : Span} (read : Spanned p here (own (leafShape (v .kind)) (cursorAt p here)) r) where
+      pub leaf-stops : {number place : ℕ} → r ≡ SpanRefused place number → {after : List ℕ} → PairsTold Ok s p depth ty key val n start row sheet (Refused number place) after
+      leaf-stops e = value-failed {m = l} (λ R ok. leaf-stop w d0 read e R) refl
 
-      pub leaf-asked : (length p ≤ 16384) × (here ≤ length p) × (0 < v .kind) × (v .kind < 14) × (judging ≡ false → Accepted (own (leafShape (v .kind)) (cursorAt p here)))
-      leaf-asked = (
-        a .asked .ready .small,
-        a .ready .inside,
-        rw row-v some,
-        rw row-v leaf,
-        λ j. own-accepted (shapeIn s) (depth - 1) val (cursorAt p here) (leafShape (v .kind)) val-is (value-below d0 .judged j),
-      )
-
-      module _ {r : Span} (read : Spanned p here (own (leafShape (v .kind)) (cursorAt p here)) r) where
-        pub leaf-stop : {number place : ℕ} → r ≡ SpanRefused place number → {after : List ℕ} → PairsTold Ok s p depth ty key val n start row sheet (Refused number place) after
-        leaf-stop e = value-failed {m = l} (λ R ok. as-refused _ _ _ (leaf-failed (shapeIn s) depth val (leafShape (v .kind)) val-is d0 p here r read _ _ e)) refl
-
-        module _ {from to : ℕ} (e : r ≡ At from to) where
-          pub leaf-put : (from ≤ to) × (below ≤ 16384) × (from ≤ 16384) × (to - from ≤ 16384) × (0 ≤ 16384)
-          leaf-put =
-              let w = leaf-in (shapeIn s) depth val (leafShape (v .kind)) val-is d0 p here r read from to e in
-              omega (arith, w, a .ready .behind, a .ready .inside, a .asked .ready .small)
-
-          pub leaf-turn : {below′ : ℕ} → below′ ≡ below + 1 → {m : List ℕ} → m ≡ putRow l below (spanRow val from to)
-              → Along Ok s p depth ty key val n start row judging sheet kept (i + 1) to sum below′ m
-          leaf-turn up {m} put =
-              let z : sum ≡ sum + 0 = omega arith in
-              rw (up, z) (along-turn (λ R ok. leaf-past (shapeIn s) depth val (leafShape (v .kind)) val-is d0 p here r read from to e R below l m (a .ready .behind) put) refl)
+      pub leaf-turn : {from to : ℕ} → r ≡ At from to → {below′ : ℕ} → below′ ≡ below + 1 → {m : List ℕ} → m ≡ putRow l below (spanRow val from to)
+          → Along Ok s p depth ty key val n start row judging sheet kept (i + 1) to sum below′ m
+      leaf-turn e up put =
+          let z : sum ≡ sum + 0 = omega arith in
+          rw (up, z) (along-turn (λ R ok. leaf-past w d0 read e (a .ready .behind) put R) refl)
 
 -- ---- a map by its count
 

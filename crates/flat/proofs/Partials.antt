@@ -17,7 +17,8 @@ use Rattle.schema.specs.Table.{Table, Shape, struct}
 use Rattle.schema.specs.File.{tableOf}
 use Rattle.value.specs.Value as tree
 use Rattle.value.specs.Value.{Tree, branch, Forest, stop, plus, rows, rowsAll, values}
-use Rattle.value.specs.Comparisons.{comparisons, comparisonsAll}
+use Rattle.value.specs.Comparisons.{comparisonsAll}
+use Rattle.value.specs.Comparisons as due
 use Rattle.value.specs.Read.{Item, present, parts, walk, nodeRow, wholeValue, knownBits, parse}
 use Rattle.value.specs.Beside.{pruned, prunedAll}
 use Rattle.value.proofs.Bits.{present-append, present-mod, known-ones}
@@ -147,15 +148,15 @@ module _ (R S : ℕ → Shape) (P : ℕ → Reader Tree) (t place : ℕ) (fs gs 
 
           told-comparisons : (us vs : Forest) (end k : ℕ) → trees us ≡ length is
               → told R S t (branch (nodeRow t place end k) h (us ⧺ vs)) .comparisons ≡ toldAll R S is us .comparisons + toldAll R S js vs .comparisons
-          unfolding told toldAll tree.value values comparisons comparisonsAll
+          unfolding told toldAll tree.value values due.comparisons comparisonsAll
           told-comparisons us vs end k e = rw (read, present-append fs gs h) (omega (arith, comparisons-both S us vs (present fs h) (present gs (h / 2 ^ length fs)) e))
 
-          both-past : (compared next below₂ : ℕ) (k m₂ after : List ℕ)
-              → Walked p here (toldHeld R S 0 (present gs rest)) (added here rest) row k (Past compared next below₂) m₂
+          both-past : (comparisons next below₂ : ℕ) (k m₂ after : List ℕ)
+              → Walked p here (toldHeld R S 0 (present gs rest)) (added here rest) row k (Past comparisons next below₂) m₂
               → after ≡ putRow m₁ row (nodeRow t place next (length is))
-              → Walked p start (told R S t) all row l (Past (sum + compared) next below) after
+              → Walked p start (told R S t) all row l (Past (sum + comparisons) next below) after
           unfolding Gave goOn andThen withRow toldHeld putRows
-          both-past compared next below₂ k m₂ after v put =
+          both-past comparisons next below₂ k m₂ after v put =
               let us = gave .0 in
               let g = gave .1 in
               let i = w .within in
@@ -166,14 +167,14 @@ module _ (R S : ℕ → Shape) (P : ℕ → Reader Tree) (t place : ℕ) (fs gs 
               }
             where
               go : (o : Answer Forest)
-                  → done (cursorAt p next) compared below₂ m₂ ≡ walkOf (toldHeld R S 0 js) (andThen o (withRow here (length js) (knownBits gs (h / 2 ^ length fs)))) 0 row k
-                  → done (cursorAt p next) (sum + compared) below after
+                  → done (cursorAt p next) comparisons below₂ m₂ ≡ walkOf (toldHeld R S 0 js) (andThen o (withRow here (length js) (knownBits gs (h / 2 ^ length fs)))) 0 row k
+                  → done (cursorAt p next) (sum + comparisons) below after
                   ≡ walkOf (told R S t) (andThen (andThen o (λ vs c. seen (gave .0 ⧺ vs) c)) (withRow place (length (is ++ js)) h)) 0 row l
               go (seen vs c) e =
                   let us = gave .0 in
                   let g = gave .1 in
                   let f : cursorAt p next ≡ c = cc in
-                  let d : compared ≡ 0 + (0 + toldAll R S js vs .comparisons) = cc in
+                  let d : comparisons ≡ 0 + (0 + toldAll R S js vs .comparisons) = cc in
                   let size = walk-size P [] is (cursorAt p start) us (cursorAt p here) (g .0) in
                   rw (← f, told-rows us vs next (length (is ++ js)) size, told-comparisons us vs next (length (is ++ js)) size)
                   (done-eq refl (omega (arith, g .1)) (omega (arith, g .2)) (put ∙ ap (λ (x : List ℕ). putRow x row (nodeRow t place next (length is))) (g .3) ∙ put-twice _ row _ _))
@@ -237,14 +238,14 @@ module _ (T : Table) (first n m : ℕ) (le : m ≤ n) (room : first + n ≤ leng
         others-stop a q k m₂ after v =
             renamed all-split (added-stop R S P t place fs gs h p start row l mine mine-is sum here below m₁ w rest rest-known a q k m₂ after v)
 
-        others-past : R t ≡ struct fs → S t ≡ struct (fieldsFrom T first n) → (compared next below₂ : ℕ) (k m₂ after : List ℕ)
-            → Walked p here (toldHeld R S 0 (present gs rest)) (wholeValue P t (struct gs) (parts here rest) (cursorAt p here)) row k (Past compared next below₂) m₂
+        others-past : R t ≡ struct fs → S t ≡ struct (fieldsFrom T first n) → (comparisons next below₂ : ℕ) (k m₂ after : List ℕ)
+            → Walked p here (toldHeld R S 0 (present gs rest)) (wholeValue P t (struct gs) (parts here rest) (cursorAt p here)) row k (Past comparisons next below₂) m₂
             → after ≡ putRow m₁ row (nodeRow t place next (ones mine))
-            → Walked p start (told R S t) Whole row l (Past (sum + compared) next below) after
-        others-past shown read compared next below₂ k m₂ after v put =
+            → Walked p start (told R S t) Whole row l (Past (sum + comparisons) next below) after
+        others-past shown read comparisons next below₂ k m₂ after v put =
             let e : ones mine ≡ length (present fs h) = mine-count h mine is ∙ rw (mine-is, present-mod fs h) in
             renamed all-split
-            (both-past R S P t place fs gs h p start row l mine mine-is sum here below m₁ w rest rest-known shown (read ∙ ap struct split) compared next below₂ k m₂ after v (rw e at put))
+            (both-past R S P t place fs gs h p start row l mine mine-is sum here below m₁ w rest rest-known shown (read ∙ ap struct split) comparisons next below₂ k m₂ after v (rw e at put))
 
 -- ---- in code: the first m fields of a struct, then the others
 
@@ -316,13 +317,13 @@ module _ {s p : List ℕ} {depth ty first n m place known start row : ℕ} {judg
             → Walked p start (told R (shapeIn s) ty) (wholeIn s p depth ty (struct (fieldsFrom (tableOf s) first n)) place known start) row sheet (Refused number at) end
         rest-stop f = others-stop T first n m le (q .in-table) R S P ty place known p start row sheet mine is sum here below after (was walked e) rest refl _ _ cells cells′ _ (was more f)
 
-        module _ {compared next below′ : ℕ} (f : v ≡ Past compared next below′) where
-          pub rest-in : (place ≤ next) × (next ≤ 16384) × (row ≤ 16384) × (sum + compared ≤ 262144)
+        module _ {comparisons next below′ : ℕ} (f : v ≡ Past comparisons next below′) where
+          pub rest-in : (place ≤ next) × (next ≤ 16384) × (row ≤ 16384) × (sum + comparisons ≤ 262144)
           rest-in = let x = was more f .within in omega (arith, x, within, q .forth, q .ready .small, q .ready .inside, q .ready .behind)
 
           pub rest-past : R ty ≡ struct (fieldsFrom (tableOf s) first m) → shapeIn s ty ≡ struct (fieldsFrom (tableOf s) first n) → {count : ℕ} → count ≡ ones mine
               → {end : List ℕ} → end ≡ putRow after row (nodeRow ty place next count)
-              → Walked p start (told R (shapeIn s) ty) (wholeIn s p depth ty (struct (fieldsFrom (tableOf s) first n)) place known start) row sheet (Past (sum + compared) next below) end
+              → Walked p start (told R (shapeIn s) ty) (wholeIn s p depth ty (struct (fieldsFrom (tableOf s) first n)) place known start) row sheet (Past (sum + comparisons) next below) end
           rest-past shown read same put =
               others-past T first n m le (q .in-table) R S P ty place known p start row sheet mine is sum here below after (was walked e) rest refl shown read _ _ _ cells cells′ _ (was more f) (rw same at put)
 

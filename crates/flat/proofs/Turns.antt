@@ -1,25 +1,26 @@
 -- Laws of the loops over elements and fields that are scalars, strings or bytes: what is left gives the same end.
 use mathlib.Core.Path.{_≡_, refl, sym, ap, _∙_}
 use mathlib.Core.Bool.{Bool, true, false, cond}
-use mathlib.Core.List.{List, []}
+use mathlib.Core.List.{List, [], _∷_}
 use Prim.Native.Nat.{ℕ, suc, _+_, _-_, _*_, _/_, _%_, _^_, _≤_, _<_}
 use native.Mathlib.Omega.{arith}
 use native.Mathlib.Decide.{decLt}
 use lib.Count.{trailingZeros}
 use lib.Dec.{ltb}
-use lib.ListN.{length, getD, replicate}
+use lib.ListN.{length, getD}
 use Rattle.parse.specs.Reader.{cursorAt, Accepted}
 use Rattle.schema.specs.declared.Field.{Field}
 use Rattle.schema.specs.declared.TypeRow.{TypeRow}
-use Rattle.schema.specs.Table.{Shape, scalar, text, array, struct, rowAt, shape}
+use Rattle.schema.specs.Table.{Shape, scalar, text, array, struct, rowAt}
 use Rattle.schema.specs.File.{tableOf}
 use Rattle.schema.specs.Check.{fieldRow}
-use Rattle.value.specs.Read.{Item, plainItem, plan, own, walk, parse}
+use Rattle.value.specs.Comparisons.{mapComparisons}
+use Rattle.value.specs.Read.{Item, plainItem, present, plan, rowCount, own, walk, nodeRow, parse}
 use Rattle.value.specs.Narrow.{firstOf}
 use Rattle.walks.specs.Shape.{fieldsFrom, leafShape, shapeIn}
-use Rattle.walks.proofs.Masks.{Standing, standing-first, standing-some, standing-next, standing-field, standing-kind, standing-skip, standing-same, standing-end}
+use Rattle.walks.proofs.Masks.{bitsLeft, Standing, standing-first, standing-some, standing-next, standing-field, standing-kind, standing-skip, standing-same, standing-end}
 use Rattle.walks.proofs.Tables.{few-fields, shape-leaf, shape-array, shape-struct}
-use Rattle.walks.proofs.Items.{elements-none}
+use Rattle.walks.proofs.Items.{item-accepted, item-stop, item-past}
 use Rattle.walks.proofs.Walks.{deeper, shallower}
 use Rattle.flat.specs.declared.elements.Prepared.{Prepared}
 use Rattle.flat.specs.declared.leaf.Span.{Span}
@@ -28,11 +29,10 @@ use Rattle.flat.specs.declared.Walk.{Walk}
 use Rattle.flat.specs.declared.Walk.the-variants.{Past, Refused}
 use Rattle.flat.specs.Sheet.{putRow}
 use Rattle.flat.specs.Leaf.{Spanned}
-use Rattle.flat.specs.Walk.{valueIn, wholeIn, firstFields, told, toldHeld, Final, Walked, Ready}
+use Rattle.flat.specs.Walk.{valueIn, wholeIn, firstFields, told, toldHeld, noted, Final, Walked, Ready}
 use Rattle.flat.specs.Flat.{LeavesIn, IsFlat, Described, HeldFields, FieldsReady}
-use Rattle.flat.proofs.Sheets.{length-put}
-use Rattle.flat.proofs.Steps.{ahead, was, as-refused, parse-deep, stop-at, composite-past, composite-stop, rest-accepted, own-accepted, leaf-failed, leaf-in, leaf-past, spanRow}
-use Rattle.flat.proofs.Composites.{first-of, first-whole, element-past, element-stop, element-accepted, leftOver, field-stop, field-accepted, field-read}
+use Rattle.flat.proofs.Steps.{ahead, telling, was, later, walk-length, as-refused, parse-deep, composite-past, composite-stop, rest-accepted, spanRow, IsLeaf, is-leaf, leaf-asked, leaf-stop, leaf-past}
+use Rattle.flat.proofs.Composites.{first-of, first-whole}
 
 -- ---- types
 
@@ -108,238 +108,184 @@ module _ (s : List ℕ) (depth t : ℕ) (r : TypeRow) (is : r ≡ rowAt (tableOf
 pub described-own : (s : List ℕ) (ty : ℕ) (e : Prepared) → Described s ty e → Described s (e .ty) e
 described-own s ty e d = record { same = refl; laid = d .laid; is = d .is ∙ ap (rowAt (tableOf s)) (sym (d .same)); required = d .required }
 
--- ---- the fields of a struct
-
--- A field that is a scalar, a string or bytes.
-pub record LeafField (s : List ℕ) (f : Field) (r : TypeRow) : Type 0 where
-  pub some : 0 < r .kind
-  pub leaf : r .kind < 14
-  pub is : shape (tableOf s) (f .ty) ≡ leafShape (r .kind)
+-- ---- a loop over the items of a composite: elements of an array, fields of a struct
 
 -- The end of a walk over items, shown by the shapes R.
-abbrev pub aheadBy : (R : ℕ → Shape) (s p : List ℕ) (depth : ℕ) → List Item → (here compared row : ℕ) → List ℕ → Final
-aheadBy R s p depth is here compared row l = ahead R (shapeIn s) (parse (shapeIn s) depth) [] is (cursorAt p here) compared row l
+abbrev pub aheadBy : (R : ℕ → Shape) (s p : List ℕ) (depth : ℕ) → List Item → (here comparisons row : ℕ) → List ℕ → Final
+aheadBy R s p depth is here comparisons row l = ahead R (shapeIn s) (parse (shapeIn s) depth) [] is (cursorAt p here) comparisons row l
 
--- Where the loop over b fields from a on stands: at field i, with these bits left. The struct's own row is `row`.
-pub record Going (s p : List ℕ) (depth a b known start row : ℕ) (sheet : List ℕ) (i bits here below : ℕ) (l : List ℕ) : Type 0 where
-  pub same : (R : ℕ → Shape)
-      → aheadBy R s p depth (leftOver (tableOf s) i (a + b - i) bits) here 0 below l ≡ aheadBy R s p depth (leftOver (tableOf s) a b known) start 0 (row + 1) sheet
-  pub inside : here ≤ length p
-  pub behind : below ≤ here
-  pub forth : start ≤ here
-  pub long : length l ≡ length sheet
-  pub on : Standing a b i bits
-  pub count : below + length (leftOver (tableOf s) i (a + b - i) bits) ≡ row + 1 + length (leftOver (tableOf s) a b known)
+-- Whatever is shown.
+abbrev pub Any : (ℕ → Shape) → Type 0
+Any R = Unit {0}
 
-module _ {s p : List ℕ} {depth ty a b place known start row : ℕ} {judging : Bool} (q : FieldsReady s p depth ty a b place known start row judging) where
-  pub going-first : (sheet : List ℕ) → Going s p depth a b known start row sheet a known start (row + 1) sheet
-  going-first sheet =
-      let e : a + b - a ≡ b = omega arith in
-      record {
-        same = λ R. rw e;
-        inside = q .ready .inside;
-        behind = q .ready .behind;
-        forth = omega arith;
-        long = refl;
-        on = standing-first (q .few) (q .fits);
-        count = rw e;
-      }
-
-  module _ {sheet : List ℕ} {i bits here below : ℕ} {l : List ℕ} (g : Going s p depth a b known start row sheet i bits here below l) where
-    -- the numbers of fields and rows, and what is read of the next field
-    pub going-few : (i ≤ 2048) × (below ≤ 16384)
-    going-few = omega (arith, g .on .last, q .in-table, few-fields s (q .ready .good), g .inside, g .behind, q .ready .small)
-
-    module _ (bit : bits ≡ 0 → ⊥) where
-      some : 0 < bits
-      some = omega (arith, bit)
-
-      -- the zeros below the next bit are passed over
-      pub going-skip : {z : ℕ} → z ≡ trailingZeros 64 bits → Going s p depth a b known start row sheet (i + z) (bits / 2 ^ z) here below l
-      going-skip is =
-          let skip = standing-same (g .on) some is (tableOf s) in
-          record {
-            same = λ R. rw skip (g .same R);
-            inside = g .inside;
-            behind = g .behind;
-            forth = g .forth;
-            long = g .long;
-            on = standing-skip (g .on) some is;
-            count = rw skip (g .count);
-          }
-
-      module _ {f : Field} (is : f ≡ fieldRow (tableOf s) i) {r : TypeRow} (row-is : r ≡ rowAt (tableOf s) (f .ty)) (odd : bits % 2 ≡ 1) where
-        field : LeafField s f r
-        field =
-            let other = standing-kind (g .on) some s (q .ready .good) (q .in-table) f is r row-is in
-            let kind : rowAt (tableOf s) (fieldRow (tableOf s) i .ty) .kind < 14 = q .leaves i (g .on .first) (omega (arith, standing-some (g .on) some)) in
-            let leaf : r .kind < 14 = rw (row-is, is) kind in
-            record { some = other; leaf = leaf; is = shape-leaf (tableOf s) (f .ty) r row-is other leaf }
-
-        deep : depth ≡ 0 → ⊥
-        deep = omega (arith, q .deep)
-
-        accepted : judging ≡ false → Accepted (parse (shapeIn s) depth (f .ty) (cursorAt p here))
-        accepted j =
-            let S = shapeIn s in
-            let P = parse S depth in
-            let items = leftOver (tableOf s) i (a + b - i) bits in
-            field-accepted S S P p (tableOf s) i (a + b - i) bits here 0 below l (standing-some (g .on) some) (omega (arith, g .on .last)) f is odd
-            (rest-accepted S S P (struct (fieldsFrom (tableOf s) a b)) ty place known (cursorAt p start) row sheet (walk P [] items (cursorAt p here)) items 0 below l (g .same S) (q .ready .judged j))
-
-        pub going-asked : (length p ≤ 16384) × (here ≤ length p) × (0 < r .kind) × (r .kind < 14) × (judging ≡ false → Accepted (own (leafShape (r .kind)) (cursorAt p here)))
-        going-asked = (
-          q .ready .small,
-          g .inside,
-          field .some,
-          field .leaf,
-          λ j.
-              own-accepted (shapeIn s) (depth - 1) (f .ty) (cursorAt p here) (leafShape (r .kind)) (field .is)
-              (deeper (λ n. Accepted (parse (shapeIn s) n (f .ty) (cursorAt p here))) depth deep (accepted j)),
-        )
-
-        module _ {c : Span} (read : Spanned p here (own (leafShape (r .kind)) (cursorAt p here)) c) where
-          pub going-stop : {number at : ℕ} → c ≡ SpanRefused at number → {after : List ℕ} → HeldFields s p depth ty a b place known start row sheet (Refused number at) after
-          going-stop {number} {at} e {after} R =
-              let S = shapeIn s in
-              let P = parse S depth in
-              composite-stop R S P (struct (fieldsFrom (tableOf s) a b)) ty place known (cursorAt p start) row sheet p start number at after
-              (field-stop R S P p (tableOf s) i (a + b - i) bits here 0 below l (standing-some (g .on) some) (omega (arith, g .on .last)) f is odd number at
-              (stop-at (told R S (f .ty)) _ below l number at (leaf-failed S depth (f .ty) (leafShape (r .kind)) (field .is) deep p here c read number at e)) ∙ g .same R)
-
-          module _ {from to : ℕ} (e : c ≡ At from to) where
-            within : (from ≤ to) × (to ≤ length p) × (here < to)
-            within = leaf-in (shapeIn s) depth (f .ty) (leafShape (r .kind)) (field .is) deep p here c read from to e
-
-            pub going-put : (below ≤ 16384) × (from ≤ 16384) × (to - from ≤ 16384) × (0 ≤ 16384)
-            going-put = omega (arith, within, g .inside, g .behind, q .ready .small)
-
-            pub going-on : {m : List ℕ} → m ≡ putRow l below (spanRow (f .ty) from to) → Going s p depth a b known start row sheet (i + 1) (bits / 2) to (below + 1) m
-            going-on {m} put =
-                let S = shapeIn s in
-                let T = tableOf s in
-                let left = a + b - i in
-                let next : a + b - (i + 1) ≡ left - 1 = omega arith in
-                let w = within in
-                let more = ap length (standing-field (g .on) some T (q .in-table) f is odd) in
-                record {
-                  same = λ R.
-                      let x = leaf-past S depth (f .ty) (leafShape (r .kind)) (field .is) deep p here c read from to e R below l m (g .behind) put in
-                      let read = field-read R S (parse S depth) p T i left bits here 0 below l (standing-some (g .on) some) (omega (arith, g .on .last)) f is odd 0 to (below + 1) m x to 0 (below + 1) m refl refl refl refl in
-                      rw next (sym (read .same) ∙ g .same R);
-                  inside = w .1;
-                  behind = omega (arith, w .2, g .behind);
-                  forth = omega (arith, w .2, g .forth);
-                  long = rw put (length-put l below (spanRow (f .ty) from to)) ∙ g .long;
-                  on = standing-next (g .on) some;
-                  count = omega (arith, more, g .count);
-                }
-
-    -- no bit is left: the struct's own row has the number of rows written since
-    module _ (none : bits ≡ 0) where
-      none-left : leftOver (tableOf s) i (a + b - i) bits ≡ []
-      none-left = standing-end (tableOf s) a b i none
-
-      going-count : below ≡ row + 1 + length (leftOver (tableOf s) a b known)
-      going-count =
-          let n : length (leftOver (tableOf s) i (a + b - i) bits) ≡ 0 = rw none-left in
-          omega (arith, n, g .count)
-
-      pub going-rows : (place ≤ here) × (row + 1 ≤ below)
-      going-rows = omega (arith, going-count, g .forth, q .forth)
-
-      pub going-own : (row ≤ 16384) × (place ≤ 16384) × (here - place ≤ 16384) × (below - row - 1 ≤ 16384)
-      going-own = omega (arith, going-rows, g .inside, g .behind, q .ready .small)
-
-      pub going-end : {after : List ℕ} → after ≡ putRow l row (record { ty = ty; place = place; length = here - place; count = below - row - 1 })
-          → HeldFields s p depth ty a b place known start row sheet (Past 0 here below) after
-      going-end {after} put R =
-          let count : below - row - 1 ≡ length (leftOver (tableOf s) a b known) = omega (arith, going-count) in
-          composite-past R (shapeIn s) (parse (shapeIn s) depth) (struct (fieldsFrom (tableOf s) a b)) ty place known (cursorAt p start) row sheet
-          p start here 0 0 below l after [] (leftOver (tableOf s) i (a + b - i) bits) none-left (g .same R) refl (rw (← count) put) (g .inside) (g .behind)
-          (omega (arith, g .forth))
-
--- ---- the elements of an array
-
--- Where the loop over n elements stands, by whatever shapes it is shown of which Ok holds, as it does of some: so many are left. What was asked of the array is kept.
-pub record Counting (Ok : (ℕ → Shape) → Type 0) (s p : List ℕ) (depth ty elem n start row : ℕ) (judging : Bool) (sheet : List ℕ) (left here sum below : ℕ) (l : List ℕ) : Type 0 where
-  pub asked : Ready s p start (row + 1) judging (wholeIn s p depth ty (array elem) start n start)
+-- Where it stands, by whatever shapes it is shown of which Ok holds, as it does of some: what is left gives the same end. The composite's own row is `row`. What was asked of it is kept.
+pub record Reading (Ok : (ℕ → Shape) → Type 0) (s p : List ℕ) (depth ty : ℕ) (sh : Shape) (place head start row : ℕ) (judging : Bool) (sheet : List ℕ) (left : List Item) (here sum below : ℕ) (l : List ℕ) : Type 0 where
+  pub asked : Ready s p start (row + 1) judging (wholeIn s p depth ty sh place head start)
   pub by : ℕ → Shape
   pub ok : Ok by
-  pub same : (R : ℕ → Shape) → Ok R
-      → aheadBy R s p depth (replicate left (plainItem elem)) here sum below l ≡ aheadBy R s p depth (replicate n (plainItem elem)) start 0 (row + 1) sheet
+  pub same : (R : ℕ → Shape) → Ok R → aheadBy R s p depth left here sum below l ≡ aheadBy R s p depth (plan sh head) start 0 (row + 1) sheet
   pub inside : here ≤ length p
   pub behind : below ≤ here
   pub forth : sum + 16 * start ≤ 16 * here
   pub long : length l ≡ length sheet
 
--- What is answered of the array.
-abbrev Counted : (Ok : (ℕ → Shape) → Type 0) (s p : List ℕ) (depth ty elem n start row : ℕ) (sheet : List ℕ) → Walk → (after : List ℕ) → Type 0
-Counted Ok s p depth ty elem n start row sheet r after =
-    (R : ℕ → Shape) → Ok R → Walked p start (toldHeld R (shapeIn s) 0 (plan (array elem) n)) (wholeIn s p depth ty (array elem) start n start) row sheet r after
+-- What is answered of the composite.
+abbrev Answered : (Ok : (ℕ → Shape) → Type 0) (s p : List ℕ) (depth ty : ℕ) → Shape → (place head start row : ℕ) (sheet : List ℕ) → Walk → (after : List ℕ) → Type 0
+Answered Ok s p depth ty sh place head start row sheet r after =
+    (R : ℕ → Shape) → Ok R → Walked p start (toldHeld R (shapeIn s) (mapComparisons sh head) (plan sh head)) (wholeIn s p depth ty sh place head start) row sheet r after
 
-module _ {Ok : (ℕ → Shape) → Type 0} {s p : List ℕ} {depth ty elem n start row : ℕ} {judging : Bool} where
-  pub counting-first : Ready s p start (row + 1) judging (wholeIn s p depth ty (array elem) start n start) → (R : ℕ → Shape) → Ok R → (sheet : List ℕ)
-      → Counting Ok s p depth ty elem n start row judging sheet n start 0 (row + 1) sheet
-  counting-first q R ok sheet = record { asked = q; by = R; ok = ok; same = λ R shown. refl; inside = q .inside; behind = q .behind; forth = omega arith; long = refl }
+module _ {Ok : (ℕ → Shape) → Type 0} {s p : List ℕ} {depth ty : ℕ} {sh : Shape} {place head start row : ℕ} {judging : Bool} where
+  pub reading-first : Ready s p start (row + 1) judging (wholeIn s p depth ty sh place head start) → (R : ℕ → Shape) → Ok R → (sheet : List ℕ)
+      → Reading Ok s p depth ty sh place head start row judging sheet (plan sh head) start 0 (row + 1) sheet
+  reading-first q R ok sheet = record { asked = q; by = R; ok = ok; same = λ R shown. refl; inside = q .inside; behind = q .behind; forth = omega arith; long = refl }
 
-  module _ {sheet : List ℕ} {left here sum below : ℕ} {l : List ℕ} (g : Counting Ok s p depth ty elem n start row judging sheet left here sum below l) where
-    pub counting-own : n ≤ 16384 → (row ≤ 16384) × (start ≤ 16384) × (here - start ≤ 16384) × (n ≤ 16384)
-    counting-own few = let q = g .asked in omega (arith, q .small, q .inside, q .behind, g .inside, few)
+  module _ {sheet : List ℕ} {left : List Item} {here sum below : ℕ} {l : List ℕ} (g : Reading Ok s p depth ty sh place head start row judging sheet left here sum below l) where
+    -- no item is left, and the composite's own row is put
+    pub reading-own : place ≤ start → {n : ℕ} → n ≤ 16384 → (row ≤ 16384) × (place ≤ 16384) × (here - place ≤ 16384) × (n ≤ 16384)
+    reading-own back few = let q = g .asked in omega (arith, back, q .small, q .inside, q .behind, g .inside, few)
 
-    pub counting-end : (0 < left → ⊥) → {after : List ℕ} → after ≡ putRow l row (record { ty = ty; place = start; length = here - start; count = n })
-        → Counted Ok s p depth ty elem n start row sheet (Past sum here below) after
-    counting-end none {after} put R shown =
-        composite-past R (shapeIn s) (parse (shapeIn s) depth) (array elem) ty start n (cursorAt p start) row sheet p start here sum sum below l after [] (replicate left (plainItem elem))
-        (elements-none elem left (omega (arith, none))) (g .same R shown) (omega arith) put (g .inside) (g .behind) (g .forth)
+    pub reading-end : left ≡ [] → {after : List ℕ} → after ≡ putRow l row (nodeRow ty place here (rowCount sh head)) → {total : ℕ} → total ≡ mapComparisons sh head + sum
+        → total + 16 * start ≤ 16 * here → Answered Ok s p depth ty sh place head start row sheet (Past total here below) after
+    reading-end none {after} put {total} d f R shown =
+        composite-past R (shapeIn s) (parse (shapeIn s) depth) sh ty place head (cursorAt p start) row sheet p start here sum total below l after [] left
+        none (g .same R shown) d put (g .inside) (g .behind) f
 
-    module _ (some : 0 < left) where
-      pub counting-ready : Ready s p here below judging (valueIn s p depth elem here)
-      counting-ready =
+    module _ {e : ℕ} {rest : List Item} (first : left ≡ plainItem e ∷ rest) where
+      pub reading-ready : Ready s p here below judging (valueIn s p depth e here)
+      reading-ready =
           let S = shapeIn s in
           let P = parse S depth in
-          let items = replicate left (plainItem elem) in
           record {
             good = g .asked .good;
             small = g .asked .small;
             inside = g .inside;
             behind = g .behind;
             judged = λ j.
-                element-accepted (g .by) S P elem left some (cursorAt p here) sum below l
-                (rest-accepted (g .by) S P (array elem) ty start n (cursorAt p start) row sheet (walk P [] items (cursorAt p here)) items sum below l (g .same (g .by) (g .ok)) (g .asked .judged j));
+                item-accepted P [] first (cursorAt p here)
+                (rest-accepted (g .by) S P sh ty place head (cursorAt p start) row sheet (walk P [] left (cursorAt p here)) left sum below l (g .same (g .by) (g .ok)) (g .asked .judged j));
           }
 
       -- one level down, where there is one
-      pub counting-below : (depth ≡ 0 → ⊥) → Ready s p here below judging (valueIn s p (suc (depth - 1)) elem here)
-      counting-below d0 = deeper (λ d. Ready s p here below judging (valueIn s p d elem here)) depth d0 counting-ready
+      pub reading-below : (depth ≡ 0 → ⊥) → Ready s p here below judging (valueIn s p (suc (depth - 1)) e here)
+      reading-below d0 = deeper (λ d. Ready s p here below judging (valueIn s p d e here)) depth d0 reading-ready
 
-      module _ {r : Walk} {m : List ℕ} (walked : (R : ℕ → Shape) → Ok R → Walked p (here + 1) (told R (shapeIn s) elem) (valueIn s p depth elem here) below l r m) where
-        pub counting-stop : {number place : ℕ} → r ≡ Refused number place → {after : List ℕ} → Counted Ok s p depth ty elem n start row sheet (Refused number place) after
-        counting-stop {number} {place} e {after} R shown =
-            composite-stop R (shapeIn s) (parse (shapeIn s) depth) (array elem) ty start n (cursorAt p start) row sheet p start number place after
-            (element-stop R (shapeIn s) (parse (shapeIn s) depth) elem left some (cursorAt p here) sum below l number place (was (walked R shown) e .same) ∙ g .same R shown)
+      module _ {r : Walk} {m : List ℕ} (walked : (R : ℕ → Shape) → Ok R → Walked p (here + 1) (told R (shapeIn s) e) (valueIn s p depth e here) below l r m) where
+        pub reading-stop : {number at : ℕ} → r ≡ Refused number at → {after : List ℕ} → Answered Ok s p depth ty sh place head start row sheet (Refused number at) after
+        reading-stop {number} {at} h {after} R shown =
+            composite-stop R (shapeIn s) (parse (shapeIn s) depth) sh ty place head (cursorAt p start) row sheet p start number at after
+            (item-stop (telling R (shapeIn s)) (parse (shapeIn s) depth) [] first (cursorAt p here) (noted 0 below l) _ (was (walked R shown) h .same) ∙ g .same R shown)
 
-        module _ {compared next row′ : ℕ} (e : r ≡ Past compared next row′) where
-          pub counting-sum : sum + compared ≤ 262144
-          counting-sum = let w = was (walked (g .by) (g .ok)) e .within in omega (arith, w, g .forth, g .asked .small)
+        module _ {comparisons next row′ : ℕ} (h : r ≡ Past comparisons next row′) where
+          pub reading-sum : sum + comparisons ≤ 262144
+          reading-sum = let w = was (walked (g .by) (g .ok)) h .within in omega (arith, w, g .forth, g .asked .small)
 
-          pub counting-on : length m ≡ length l → Counting Ok s p depth ty elem n start row judging sheet (left - 1) next (sum + compared) row′ m
-          counting-on long =
-              let w = was (walked (g .by) (g .ok)) e .within in
+          pub reading-on : Reading Ok s p depth ty sh place head start row judging sheet rest next (sum + comparisons) row′ m
+          reading-on =
+              let S = shapeIn s in
+              let v = valueIn s p depth e here in
+              let x = was (walked (g .by) (g .ok)) h in
+              let w = x .within in
               record {
                 asked = g .asked;
                 by = g .by;
                 ok = g .ok;
                 same = λ R shown.
-                    sym (element-past R (shapeIn s) (parse (shapeIn s) depth) elem left some (cursorAt p here) sum below l (cursorAt p next) compared row′ m (was (walked R shown) e .same)) ∙ g .same R shown;
+                    sym (item-past (telling R S) (parse S depth) [] first (cursorAt p here) (noted sum below l) tt (later (told R S e) v sum below l (was (walked R shown) h .same))) ∙ g .same R shown;
                 inside = w .0;
                 behind = w .1;
                 forth = omega (arith, w .2, g .forth);
-                long = long ∙ g .long;
+                long = walk-length (told (g .by) S e) v 0 below l (x .same) ∙ g .long;
               }
 
-      pub counting-deep : depth ≡ 0 → {after : List ℕ} → Counted Ok s p depth ty elem n start row sheet (Refused 28 here) after
-      counting-deep none {after} = counting-stop {m = l} (λ R shown. as-refused _ _ _ (parse-deep (shapeIn s) depth elem (cursorAt p here) none)) refl
+      pub reading-deep : depth ≡ 0 → {after : List ℕ} → Answered Ok s p depth ty sh place head start row sheet (Refused 28 here) after
+      reading-deep none {after} = reading-stop {m = l} (λ R shown. as-refused _ _ _ (parse-deep (shapeIn s) depth e (cursorAt p here) none)) refl
+
+-- ---- the fields of a struct, all scalars, strings or bytes
+
+-- Where the loop over b fields from a on stands: at field i, with these bits left.
+pub record Going (s p : List ℕ) (depth ty a b place known start row : ℕ) (judging : Bool) (sheet : List ℕ) (i bits here below : ℕ) (l : List ℕ) : Type 0 where
+  pub asked : FieldsReady s p depth ty a b place known start row judging
+  pub at : Reading Any s p depth ty (struct (fieldsFrom (tableOf s) a b)) place known start row judging sheet (bitsLeft (tableOf s) a b i bits) here 0 below l
+  pub on : Standing a b i bits
+  pub count : below + length (bitsLeft (tableOf s) a b i bits) ≡ row + 1 + length (bitsLeft (tableOf s) a b a known)
+
+all-left : (a b : ℕ) → a + b - a ≡ b
+all-left a b = omega arith
+
+module _ {s p : List ℕ} {depth ty a b place known start row : ℕ} {judging : Bool} where
+  pub going-first : FieldsReady s p depth ty a b place known start row judging → (sheet : List ℕ) → Going s p depth ty a b place known start row judging sheet a known start (row + 1) sheet
+  going-first q sheet = record { asked = q; at = rw (all-left a b) (reading-first (q .ready) (shapeIn s) tt sheet); on = standing-first (q .few) (q .fits); count = refl }
+
+  module _ {sheet : List ℕ} {i bits here below : ℕ} {l : List ℕ} (g : Going s p depth ty a b place known start row judging sheet i bits here below l) where
+    -- the numbers of fields and rows
+    pub going-few : (i ≤ 2048) × (below ≤ 16384)
+    going-few = omega (arith, g .on .last, g .asked .in-table, few-fields s (g .asked .ready .good), g .at .inside, g .at .behind, g .asked .ready .small)
+
+    module _ (bit : bits ≡ 0 → ⊥) where
+      some : 0 < bits
+      some = omega (arith, bit)
+
+      -- the zeros below the next bit are passed over
+      pub going-skip : {z : ℕ} → z ≡ trailingZeros 64 bits → Going s p depth ty a b place known start row judging sheet (i + z) (bits / 2 ^ z) here below l
+      going-skip is =
+          let skip = standing-same (g .on) some is (tableOf s) in
+          record { asked = g .asked; at = rw skip (g .at); on = standing-skip (g .on) some is; count = rw skip (g .count) }
+
+      -- the next field
+      module _ {f : Field} (is : f ≡ fieldRow (tableOf s) i) {r : TypeRow} (row-is : r ≡ rowAt (tableOf s) (f .ty)) (odd : bits % 2 ≡ 1) where
+        field : IsLeaf s (f .ty) r
+        field =
+            let kind : rowAt (tableOf s) (fieldRow (tableOf s) i .ty) .kind < 14 = g .asked .leaves i (g .on .first) (omega (arith, standing-some (g .on) some)) in
+            is-leaf row-is (standing-kind (g .on) some s (g .asked .ready .good) (g .asked .in-table) f is r row-is) (rw (row-is, is) kind)
+
+        below-root : depth ≡ 0 → ⊥
+        below-root = omega (arith, g .asked .deep)
+
+        first : bitsLeft (tableOf s) a b i bits ≡ plainItem (f .ty) ∷ bitsLeft (tableOf s) a b (i + 1) (bits / 2)
+        first = standing-field (g .on) some (tableOf s) (g .asked .in-table) f is odd
+
+        pub going-asked : (length p ≤ 16384) × (here ≤ length p) × (0 < r .kind) × (r .kind < 14) × (judging ≡ false → Accepted (own (leafShape (r .kind)) (cursorAt p here)))
+        going-asked = leaf-asked field below-root (reading-ready (g .at) first)
+
+        module _ {c : Span} (read : Spanned p here (own (leafShape (r .kind)) (cursorAt p here)) c) where
+          pub going-stop : {number at : ℕ} → c ≡ SpanRefused at number → {after : List ℕ} → HeldFields s p depth ty a b place known start row sheet (Refused number at) after
+          going-stop e R = reading-stop (g .at) first {m = l} (λ R shown. leaf-stop field below-root read e R) refl R tt
+
+          pub going-on : {from to : ℕ} → c ≡ At from to → {m : List ℕ} → m ≡ putRow l below (spanRow (f .ty) from to)
+              → Going s p depth ty a b place known start row judging sheet (i + 1) (bits / 2) to (below + 1) m
+          going-on e put =
+              let more = ap length first in
+              record {
+                asked = g .asked;
+                at = reading-on (g .at) first (λ R shown. leaf-past field below-root read e (g .at .behind) put R) refl;
+                on = standing-next (g .on) some;
+                count = omega (arith, more, g .count);
+              }
+
+    -- no bit is left: the struct's own row has the number of rows written since
+    module _ (none : bits ≡ 0) where
+      none-left : bitsLeft (tableOf s) a b i bits ≡ []
+      none-left = standing-end (tableOf s) a b i none
+
+      going-count : below ≡ row + 1 + length (bitsLeft (tableOf s) a b a known)
+      going-count =
+          let n : length (bitsLeft (tableOf s) a b i bits) ≡ 0 = rw none-left in
+          omega (arith, n, g .count)
+
+      pub going-rows : (place ≤ here) × (row + 1 ≤ below)
+      going-rows = omega (arith, going-count, g .at .forth, g .asked .forth)
+
+      pub going-own : (row ≤ 16384) × (place ≤ 16384) × (here - place ≤ 16384) × (below - row - 1 ≤ 16384)
+      going-own = reading-own (g .at) (g .asked .forth) (omega (arith, g .at .inside, g .at .behind, g .asked .ready .small))
+
+      pub going-end : {after : List ℕ} → after ≡ putRow l row (record { ty = ty; place = place; length = here - place; count = below - row - 1 })
+          → HeldFields s p depth ty a b place known start row sheet (Past 0 here below) after
+      going-end put R =
+          let same = ap (λ (n : ℕ). length (present (fieldsFrom (tableOf s) a n) known)) (all-left a b) in
+          let count : below - row - 1 ≡ length (present (fieldsFrom (tableOf s) a b) known) = omega (arith, going-count, same) in
+          reading-end (g .at) none-left (rw (← count) put) refl (omega (arith, g .at .forth)) R tt
+
+-- ---- the elements of an array
 
 -- An element of a type that was prepared, read one level down.
 pub lifted : (Ok : (ℕ → Shape) → Type 0) (s : List ℕ) (depth here : ℕ) {p : List ℕ} {e elem below : ℕ} {l : List ℕ} {r : Walk} {m : List ℕ} → e ≡ elem → (depth ≡ 0 → ⊥)

@@ -10,7 +10,8 @@ use Rattle.schema.specs.Table.{Shape, struct}
 use Rattle.schema.specs.Check.{IsGood}
 use Rattle.value.specs.declared.Row.{Row}
 use Rattle.value.specs.Value.{Tree, tip, branch, Forest, rowsAll, value, values}
-use Rattle.value.specs.Comparisons.{mapComparisons, comparisons, comparisonsAll}
+use Rattle.value.specs.Comparisons.{mapComparisons, comparisonsAll}
+use Rattle.value.specs.Comparisons as due
 use Rattle.value.specs.Read.{Item, plan, parts, wholeValue, parse, rootStruct}
 use Rattle.value.specs.Beside.{prunedAll, shownRows}
 use Rattle.value.specs.Narrow.{firstOf}
@@ -44,7 +45,7 @@ pub record Told : Type 0 where
 module _ (R S : ℕ → Shape) where
   -- A tree of type t.
   unfoldable pub told : (t : ℕ) → Tree → Told
-  told t tree = record { rows = shownRows R t tree; comparisons = comparisons S (value tree) t }
+  told t tree = record { rows = shownRows R t tree; comparisons = due.comparisons S (value tree) t }
 
   -- What was read by a plan.
   unfoldable pub toldAll : List Item → Forest → Told
@@ -69,33 +70,33 @@ heldIn shown s sh head = toldHeld (firstFields shown (shapeIn s)) (shapeIn s) (m
 
 -- What a walk leaves: the comparisons due so far, the number of the next row, and the sheet.
 pub data Noted : Type 0 where
-  noted : (compared row : ℕ) → (sheet : List ℕ) → Noted
+  noted : (comparisons row : ℕ) → (sheet : List ℕ) → Noted
 
 -- What is told is put there: the comparisons added, the rows written from the next one on.
 abbrev pub note : Told → Noted → Noted
-note t (noted compared row sheet) = noted (compared + t .comparisons) (row + length (t .rows)) (putRows sheet row (t .rows))
+note t (noted comparisons row sheet) = noted (comparisons + t .comparisons) (row + length (t .rows)) (putRows sheet row (t .rows))
 
 -- Where a walk ends.
 abbrev pub Final : Type 0
 Final = FinalOf ℕ Noted
 
-abbrev pub done : Cursor → (compared row : ℕ) → (sheet : List ℕ) → Final
-done c compared row sheet = ended c (noted compared row sheet)
+abbrev pub done : Cursor → (comparisons row : ℕ) → (sheet : List ℕ) → Final
+done c comparisons row sheet = ended c (noted comparisons row sheet)
 
 -- The end of a walk that gives this answer, after so many comparisons, whose rows stand in the sheet from `row` on.
-abbrev pub walkOf : {A : Type 0} → (A → Told) → Answer A → (compared row : ℕ) → List ℕ → Final
-walkOf tell o compared row sheet = finalOf (λ a. note (tell a)) o (noted compared row sheet)
+abbrev pub walkOf : {A : Type 0} → (A → Told) → Answer A → (comparisons row : ℕ) → List ℕ → Final
+walkOf tell o comparisons row sheet = finalOf (λ a. note (tell a)) o (noted comparisons row sheet)
 
 -- A walker's answer over the payload p, with the sheet that it leaves. Of what a refusal leaves there nothing is said: the entry lends memory of its own,
 -- or puts back what stood there.
 abbrev pub endOf : List ℕ → Walk → List ℕ → Final
-endOf p (Past compared next row) sheet = done (cursorAt p next) compared row sheet
+endOf p (Past comparisons next row) sheet = done (cursorAt p next) comparisons row sheet
 endOf p (Refused n q) sheet = stopped n q
 
 -- Each value takes a byte at least, so the number of rows never overtakes the place. A map of n pairs has at most 32 n comparisons and takes
 -- 2 n bytes more than its count, so the comparisons never overtake 16 times the bytes after the first.
 abbrev pub Within : (size least : ℕ) → Walk → Type 0
-Within size least (Past compared next row) = (next ≤ size) × (row ≤ next) × (compared + 16 * least ≤ 16 * next)
+Within size least (Past comparisons next row) = (next ≤ size) × (row ≤ next) × (comparisons + 16 * least ≤ 16 * next)
 Within size least (Refused n q) = Unit {0}
 
 pub record Walked {A : Type 0} (p : List ℕ) (least : ℕ) (tell : A → Told) (o : Answer A) (row : ℕ) (sheet : List ℕ) (r : Walk) (after : List ℕ) : Type 0 where

@@ -29,14 +29,11 @@ use Rattle.value.specs.Fits.{RootFits, Shows}
 use Rattle.value.specs.Delimits.{RootDelimits}
 use Rattle.value.proofs.Shapes.{good-solid}
 use Rattle.value.proofs.Shown.{root-shown}
-use Rattle.value.proofs.Writing.{fitted-inv, sheet-shows}
+use Rattle.value.proofs.Writing.{not-written, fitted-inv, sheet-shows}
 use Rattle.value.proofs.Statements as value
 use Rattle.forward.specs.Forward.{rootPlace, rootBytes, rootUnknown, suits, spliced, withTail, forwarding, forward}
 use Rattle.forward.specs.Claims.{TailReason, by-rows, outside, unfit, whole-long, whole-tight, Passes, Forwards}
 use Rattle.forward.proofs.Laws.{suits-fits, fits-suits, unfit-suits, root-first, joined-length, joined-front, joined-spells, spelled-joined, spelled-fits}
-
-never : {A : Type 0} {n p : ℕ} {out : List ℕ} → refusal n p ≡ written out → A
-never e = differ cc
 
 module _ (T : Table) (t : ℕ) (rs : List Row) (B : List ℕ) (place n room : ℕ) where
   -- Only a sheet that shows a value is forwarded.
@@ -47,18 +44,18 @@ module _ (T : Table) (t : ℕ) (rs : List Row) (B : List ℕ) (place n room : �
     where
       inside-of : (fs : List Field) → shape T t ≡ struct fs → (m : AnswerOf Row Tree) → showRoot (shape T) B t fs (record { left = rs; at = 0 }) ≡ m
           → forwarding rs B place n room (shape T) t fs m ≡ written out → (fs : List Field) × (v : Value) × (shape T t ≡ struct fs) × Shows (shape T) B t fs rs v
-      inside-of fs st (refused _ _) k e = never e
+      inside-of fs st (refused _ _) k e = not-written e
       inside-of fs st (seen tree end) k e = (fs, value tree, st, sheet-shows (shape T) t fs rs B tree end k)
 
       go : (s : Shape) → shape T t ≡ s
           → onStruct s (refusal 46 0) (λ fs. forwarding rs B place n room (shape T) t fs (showRoot (shape T) B t fs (record { left = rs; at = 0 }))) ≡ written out
           → (fs : List Field) × (v : Value) × (shape T t ≡ struct fs) × Shows (shape T) B t fs rs v
       go (struct fs) st e = inside-of fs st (showRoot (shape T) B t fs (record { left = rs; at = 0 })) refl e
-      go unknown st e = never e
-      go (scalar _) st e = never e
-      go (text _) st e = never e
-      go (array _) st e = never e
-      go (map _ _) st e = never e
+      go unknown st e = not-written e
+      go (scalar _) st e = not-written e
+      go (text _) st e = not-written e
+      go (array _) st e = not-written e
+      go (map _ _) st e = not-written e
 
   -- What the plain writer refuses, but for 7 and 52, is refused alike.
   pub refused-alike : (room′ k q : ℕ) → write T t rs B room′ ≡ refusal k q → (k ≡ 7 → ⊥) → (k ≡ 52 → ⊥) → forward T t rs B place n room ≡ refusal k q
@@ -142,8 +139,8 @@ module _ (T : Table) (t : ℕ) (rs : List Row) (B : List ℕ) (place n room : �
     written-joined : (out : List ℕ) → forward T t rs B place n room ≡ written out
         → (place + n ≤ length B) × TailFits (rootUnknown fs rs B) (span B place n) × (whole ≡ out) × (length whole ≤ 16384) × (length whole ≤ room)
     written-joined out e =
-        let (a, e₁) = chosen (inside B place n) _ (refusal 51 0) (λ x. never x) (sym shown-forward ∙ e) in
-        let (b, e₂) = chosen (suits (rootUnknown fs rs B) n) _ (refusal 50 0) (λ x. never x) e₁ in
+        let (a, e₁) = chosen (inside B place n) _ (refusal 51 0) not-written (sym shown-forward ∙ e) in
+        let (b, e₂) = chosen (suits (rootUnknown fs rs B) n) _ (refusal 50 0) not-written e₁ in
         let (c, l, h) = fitted-inv room whole out e₂ in
         let within : place + n ≤ length B = leb-true _ _ a in
         (within, rw (length-span B place n within) (suits-fits (rootUnknown fs rs B) n b), c, l, h)
@@ -177,7 +174,7 @@ module _ (T : Table) (t : ℕ) (rs : List Row) (B : List ℕ) (place n room : �
               | no long ↦ let h : 16384 < length (encode (shape T) v t) + n = omega arith in listed-same (sym e ∙ too-long fs st v shows within fits h) (whole-long fs v st shows within fits h)
               | yes l ↦ elim (decLe (length (encode (shape T) v t) + n) room) [
                 | no tight ↦ let h : room < length (encode (shape T) v t) + n = omega arith in listed-same (sym e ∙ no-room fs st v shows within fits l h) (whole-tight fs v st shows within fits l h)
-                | yes r ↦ never (sym e ∙ forward-written fs st v shows within fits (omega (arith, w, l)) (omega (arith, w, r)))
+                | yes r ↦ not-written (sym e ∙ forward-written fs st v shows within fits (omega (arith, w, l)) (omega (arith, w, r)))
               ]
             ]
 

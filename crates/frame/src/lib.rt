@@ -1,4 +1,17 @@
 // Frames: the reader, which judges a field once it is whole, and the writer.
+pub mod layout;
+
+use crate::layout::CORRELATION_AT;
+use crate::layout::FLAGS_AT;
+use crate::layout::KIND_AT;
+use crate::layout::LONG;
+use crate::layout::MAGIC_2_AT;
+use crate::layout::MAGIC_AT;
+use crate::layout::METHOD_AT;
+use crate::layout::PACKAGE_AT;
+use crate::layout::SERVICE_AT;
+use crate::layout::VERSION_AT;
+use crate::layout::WORD;
 use buffer::copy;
 use constants::format;
 use constants::frame_kind;
@@ -31,6 +44,9 @@ const LAST_KIND: u32 = frame_kind::CANCEL as u32;
 
 // The longest payload.
 const LONGEST: u64 = limit::PAYLOAD as u64;
+
+// What the upper half of eight bytes counts: 2^32.
+const UPPER: u64 = 0x1_0000_0000;
 
 // A frame's header. The kind of a frame that was read is 1 to 8; the writer may be handed any number.
 pub struct Header {
@@ -89,7 +105,7 @@ fn long(s: &[u8], at: usize) -> u64
     requires { ⌜ at + 8 ≤ length (now s) ⌝ }
     ensures { λ r. ⌜ r ≡ numberAt (now (s .entry)) at 8 ⌝ }
 {
-    word(s, at) as u64 + 0x1_0000_0000 * (word(s, at + 4) as u64)
+    word(s, at) as u64 + UPPER * (word(s, at + WORD) as u64)
 }
 
 // The header, from the fields' places.
@@ -98,11 +114,11 @@ fn header_at(s: &[u8]) -> Header
     ensures { λ r. ⌜ r ≡ headerAt (now (s .entry)) ⌝ }
 {
     Header {
-        kind: byte(s, 3),
-        package: word(s, 5),
-        service: word(s, 9),
-        method: word(s, 13),
-        correlation: long(s, 17),
+        kind: byte(s, KIND_AT),
+        package: word(s, PACKAGE_AT),
+        service: word(s, SERVICE_AT),
+        method: word(s, METHOD_AT),
+        correlation: long(s, CORRELATION_AT),
     }
 }
 
@@ -137,28 +153,28 @@ fn judge_header(bytes: &[u8]) -> u32
     ensures { λ r. ⌜ (judged r (framePayload (length (now (bytes .entry))) (headerAt (now (bytes .entry))) (varuint (now (bytes .entry)) 25)) ≡ frameOf (now (bytes .entry))) × (r ≡ 0 → 25 ≤ length (now (bytes .entry))) ⌝ }
 {
     let n = bytes.len();
-    if n < 2 {
+    if n < VERSION_AT {
         return refusal::MORE;
     }
-    if !((bytes[0] == format::MAGIC) & (bytes[1] == format::MAGIC_2)) {
+    if !((bytes[MAGIC_AT] == format::MAGIC) & (bytes[MAGIC_2_AT] == format::MAGIC_2)) {
         return refusal::MAGIC;
     }
-    if n < 3 {
+    if n < KIND_AT {
         return refusal::MORE;
     }
-    if byte(bytes, 2) != VERSION {
+    if byte(bytes, VERSION_AT) != VERSION {
         return refusal::VERSION;
     }
-    if n < 4 {
+    if n < FLAGS_AT {
         return refusal::MORE;
     }
-    if !known_kind(byte(bytes, 3)) {
+    if !known_kind(byte(bytes, KIND_AT)) {
         return refusal::KIND;
     }
-    if n < 5 {
+    if n < PACKAGE_AT {
         return refusal::MORE;
     }
-    if byte(bytes, 4) != FLAGS {
+    if byte(bytes, FLAGS_AT) != FLAGS {
         return refusal::FLAGS;
     }
     if n < format::HEADER {
@@ -186,11 +202,11 @@ fn write_start(out: &mut [u8], kind: u32)
     requires { ⌜ (5 ≤ length (now out)) × (kind ≤ 8) ⌝ }
     ensures { λ _. ⌜ now (out .exit) ≡ written (now (out .entry)) 0 (0xAF ∷ 0x01 ∷ 0x01 ∷ kind ∷ 0x00 ∷ []) ⌝ }
 {
-    out[0] = format::MAGIC;
-    out[1] = format::MAGIC_2;
-    out[2] = format::VERSION;
-    out[3] = kind as u8;
-    out[4] = format::FLAGS;
+    out[MAGIC_AT] = format::MAGIC;
+    out[MAGIC_2_AT] = format::MAGIC_2;
+    out[VERSION_AT] = format::VERSION;
+    out[KIND_AT] = kind as u8;
+    out[FLAGS_AT] = format::FLAGS;
 }
 
 // The place of a payload of n bytes in its frame.
@@ -206,10 +222,10 @@ pub fn write_front(out: &mut [u8], header: Header, n: u64)
     ensures { λ _. ⌜ now (out .exit) ≡ written (now (out .entry)) 0 (frontBytes header n) ⌝ }
 {
     write_start(out, header.kind);
-    store(out, 5, 4, header.package as u64);
-    store(out, 9, 4, header.service as u64);
-    store(out, 13, 4, header.method as u64);
-    store(out, 17, 8, header.correlation);
+    store(out, PACKAGE_AT, WORD, header.package as u64);
+    store(out, SERVICE_AT, WORD, header.service as u64);
+    store(out, METHOD_AT, WORD, header.method as u64);
+    store(out, CORRELATION_AT, LONG, header.correlation);
     wire::varuint::write(out, format::HEADER, n);
 }
 

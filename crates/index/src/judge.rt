@@ -1,4 +1,5 @@
 // Bytes judged as an index.
+use crate::ROW;
 use constants::format;
 use constants::refusal;
 use wire::little::number;
@@ -10,10 +11,26 @@ ghost use Rattle.index.specs.Row.{isBefore, isRising};
 ghost use Rattle.index.specs.IsIndex.{rowAt, rowsIn, isShaped, isOrdered};
 ghost use Rattle.index.specs.LookUp.{stoppedNumber, looked};
 
-// Bytes of a row, and of the trailer.
-pub const ROW: usize = 16;
-
+// Bytes of the trailer.
 const TRAILER: usize = 16;
+
+// Bytes of a row's correlation, which stands first.
+pub const CORRELATION: usize = 8;
+
+// Where the place and the answer stand in a row.
+pub const PLACE_AT: usize = 8;
+
+pub const ANSWER_AT: usize = 12;
+
+// Where the place of the row after it stands.
+const NEXT_PLACE_AT: usize = ROW + PLACE_AT;
+
+// Where the number of rows, the record's length and the layout number stand in the trailer.
+const ROWS_AT: usize = 4;
+
+const LENGTH_AT: usize = 8;
+
+const LAYOUT_AT: usize = 12;
 
 // What follows `stopped`, and how many rows are looked at: none at a refusal.
 pub struct Judged {
@@ -32,8 +49,8 @@ fn is_shaped(index: &[u8]) -> bool
     let at = size - TRAILER;
     (size % ROW == 0)
         & ((u32_at(index, at) == 0)
-            & ((u32_at(index, at + 4) as usize == at / ROW)
-                & (u32_at(index, at + 12) == format::LAYOUT)))
+            & ((u32_at(index, at + ROWS_AT) as usize == at / ROW)
+                & (u32_at(index, at + LAYOUT_AT) == format::LAYOUT)))
 }
 
 // Whether the row at a place stands before the next.
@@ -41,9 +58,9 @@ fn is_before(index: &[u8], at: usize) -> bool
     requires { ⌜ at + 32 ≤ length (now index) ⌝ }
     ensures { λ r. ⌜ r ≡ isBefore (rowAt (drop at (now (index .entry)))) (rowAt (drop (at + 16) (now (index .entry)))) ⌝ }
 {
-    let a = number(index, at, 8);
-    let b = number(index, at + ROW, 8);
-    (a < b) | ((a == b) & (u32_at(index, at + 8) < u32_at(index, at + 24)))
+    let a = number(index, at, CORRELATION);
+    let b = number(index, at + ROW, CORRELATION);
+    (a < b) | ((a == b) & (u32_at(index, at + PLACE_AT) < u32_at(index, at + NEXT_PLACE_AT)))
 }
 
 // Whether the first n rows rise strictly.
@@ -87,8 +104,8 @@ pub fn judge(index: &[u8], size: usize) -> Judged
         return refused(refusal::INDEX);
     }
     let end = index.len() - TRAILER;
-    let rows = u32_at(index, end + 4) as usize;
-    if u32_at(index, end + 8) as usize != size {
+    let rows = u32_at(index, end + ROWS_AT) as usize;
+    if u32_at(index, end + LENGTH_AT) as usize != size {
         return refused(refusal::OTHER_RECORD);
     }
     Judged {

@@ -9,11 +9,14 @@ use crate::print::put_text;
 use constants::limit;
 use constants::refusal;
 use schema::Checked;
-use schema::check::check;
+use table::checking::check;
 ghost use mathlib.Core.Path.{_≡_};
 ghost use lib.ListN.{length};
 ghost use Rattle.index.specs.Index.{outcome, makeIndex};
 ghost use Rattle.index.specs.LookUp as look;
+
+// Bytes of a row of an index; the trailer is as long.
+pub const ROW: usize = 16;
 
 pub enum Indexing {
     // The length of the index.
@@ -29,7 +32,7 @@ pub enum Finding {
     Refused { number: u32 },
 }
 
-// Makes the index of a record at the start of the output. A refusal (the table's, 45, 52) leaves the output as it was, and past the index it is as it was, too.
+// Makes the index of a record at the start of the output. A refusal (the table's, 45, 52) leaves the output as it was; past the index it stays in any case.
 pub fn make_index(schema: &[u8], entries: &[u8], out: &mut [u8]) -> Indexing
     ensures { λ r. ⌜ outcome r (now (out .exit)) ≡ makeIndex (now (schema .entry)) (now (entries .entry)) (now (out .entry)) ⌝ }
 {

@@ -1,6 +1,9 @@
 // The text of a look-up.
+use crate::ROW;
+use crate::judge::ANSWER_AT;
+use crate::judge::CORRELATION;
 use crate::judge::Judged;
-use crate::judge::ROW;
+use crate::judge::PLACE_AT;
 use text::put_byte;
 use text::put_decimal;
 use text::put_field;
@@ -20,8 +23,8 @@ fn put_row(index: &[u8], at: usize, out: &mut [u8], pos: usize) -> usize
     ensures { λ r. ⌜ Added (now (out .entry)) pos (lineText (rowAt (drop at (now (index .entry))) .place) (rowAt (drop at (now (index .entry))) .answer)) r (now (out .exit)) ⌝ }
     ensures { λ r. ⌜ r ≤ pos + 42 ⌝ }
 {
-    let mut end = put_decimal(out, pos, u32_at(index, at + 8) as u64);
-    end = put_field(out, end, u32_at(index, at + 12) as u64);
+    let mut end = put_decimal(out, pos, u32_at(index, at + PLACE_AT) as u64);
+    end = put_field(out, end, u32_at(index, at + ANSWER_AT) as u64);
     put_byte(out, end, b'\n')
 }
 
@@ -35,7 +38,7 @@ fn put_rows(index: &[u8], n: usize, correlation: u64, out: &mut [u8], start: usi
     let mut i = 0;
     while i < n {
         let at = ROW * i;
-        let same = number(index, at, 8) == correlation;
+        let same = number(index, at, CORRELATION) == correlation;
         if same {
             pos = put_row(index, at, out, pos);
         }

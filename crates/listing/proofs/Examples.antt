@@ -7,7 +7,7 @@ use lib.ListN.{take, drop}
 use lib.Count.{onesIn}
 use Rattle.wire.specs.Little as little
 use Rattle.wire.specs.Varuint as varuint
-use Rattle.wire.specs.Utf8 as utf8
+use Rattle.utf8.specs.Utf8 as utf8
 use Rattle.parse.specs.Reader as answer
 use Rattle.schema.specs.Table as table
 use Rattle.schema.specs.File as file
@@ -18,7 +18,7 @@ use Rattle.calls.specs.Forms as forms
 use Rattle.calls.specs.Numbers as numbers
 use Rattle.calls.specs.Slots as slots
 use Rattle.calls.specs.Judge as judge
-use Rattle.calls.specs.Step as step
+use Rattle.connection.specs.Step as step
 use Rattle.calls.specs.Counting as counting
 use Rattle.value.specs.Value as value
 use Rattle.value.specs.Read as read

@@ -11,8 +11,8 @@ use Rattle.schema.proofs.Bools.{cases}
 use Rattle.frame.specs.declared.Header.{Header}
 use Rattle.frame.specs.Frame.{frameOf}
 use Rattle.calls.specs.declared.Call.{Call}
-use Rattle.calls.specs.declared.CallTable.{CallTable}
-use Rattle.calls.specs.Slots.{freshTable}
+use Rattle.connection.specs.declared.CallTable.{CallTable}
+use Rattle.connection.specs.Step.{freshTable}
 use Rattle.receiver.specs.declared.Received.{Received}
 use Rattle.text.specs.Text.{Added}
 use Rattle.text.proofs.Texts.{added-then}

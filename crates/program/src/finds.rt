@@ -2,7 +2,7 @@
 use crate::arguments::FIRST;
 use crate::arguments::SECOND;
 use crate::arguments::THIRD;
-use crate::print::MOST;
+use crate::blank;
 use crate::print::is_over;
 use crate::print::print;
 use index::Finding;
@@ -11,10 +11,10 @@ use words::number::Parsed;
 use words::number::number_of;
 
 // More than the longest text: 22 bytes for each of 8,191 rows, and 24.
-const TEXT: usize = 180300;
+pub const TEXT: usize = 180300;
 
 fn show(index: &[u8], record: &[u8], correlation: u64) {
-    let mut out = [0u8; TEXT];
+    let mut out = blank::found();
     match arf::look_up(index, record, correlation, &mut out) {
         Finding::Refused { number: _ } => {
             io::write_all(STDERR_FILENO, b"arf: the text is too long\n");
@@ -54,8 +54,8 @@ pub fn find() {
     if !whole {
         return;
     }
-    let mut index = [0u8; MOST];
-    let mut record = [0u8; MOST];
+    let mut index = blank::file();
+    let mut record = blank::file();
     let n = files::read(b"arf", FIRST, &mut index, &mut whole);
     let m = files::read(b"arf", SECOND, &mut record, &mut whole);
     if whole && !is_over(n, b"the index") && !is_over(m, b"the record") {

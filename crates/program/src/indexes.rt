@@ -2,17 +2,14 @@
 use crate::arguments::FIRST;
 use crate::arguments::SECOND;
 use crate::arguments::THIRD;
-use crate::print::LONGEST;
-use crate::print::MOST;
+use crate::blank;
 use crate::print::is_over;
 use crate::told;
 use index::Indexing;
+use index::ROW;
 
 // The most bytes of an index.
-const INDEX: usize = 38848;
-
-// Bytes of a row of it, and of its trailer.
-const ROW: usize = 16;
+pub const INDEX: usize = 38848;
 
 // Says how many entries an index of so many bytes covers: each has a row, and the trailer is as long.
 fn tell(length: usize) {
@@ -34,7 +31,7 @@ fn save(index: &[u8], whole: &mut bool) {
 
 // Makes, saves and tells.
 fn make(schema: &[u8], record: &[u8]) {
-    let mut out = [0u8; INDEX];
+    let mut out = blank::index();
     match arf::make_index(schema, record, &mut out) {
         Indexing::Refused { number, place } => told::refused(number, place),
         Indexing::Made { length } => {
@@ -49,8 +46,8 @@ fn make(schema: &[u8], record: &[u8]) {
 }
 
 pub fn index() {
-    let mut schema = [0u8; MOST];
-    let mut record = [0u8; LONGEST];
+    let mut schema = blank::file();
+    let mut record = blank::record();
     let mut whole = true;
     let n = files::read(b"arf", FIRST, &mut schema, &mut whole);
     let m = files::read(b"arf", SECOND, &mut record, &mut whole);

@@ -1,6 +1,7 @@
 // The program behind ./arf: its first argument is a verb, and the others are what that takes. It prints the verb's text on standard output, or on standard
 // error why it failed, and never both.
 mod arguments;
+mod blank;
 mod finds;
 mod indexes;
 mod list;

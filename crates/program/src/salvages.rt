@@ -1,18 +1,18 @@
 // The salvage of a torn record: salvage RECORD COPY SPANS. Writes the kept entries and the list of spans, two little-endian 32-bit numbers each, to two new
 // files, and says in words what was kept and left out.
 use crate::arguments::FIRST;
-use crate::print::LONGEST;
+use crate::blank;
 use crate::save;
 use crate::told;
 use salvage::Salvaging;
 
 // The most cells that a list needs.
-const CELLS: usize = 4682;
+pub const CELLS: usize = 4682;
 
 // Saves and tells what was kept of a record.
 fn keep(record: &[u8]) {
-    let mut copy = [0u8; LONGEST];
-    let mut spans = [0u32; CELLS];
+    let mut copy = blank::record();
+    let mut spans = blank::spans();
     match arf::salvage(record, &mut copy, &mut spans) {
         Salvaging::Refused { number } => told::refused(number, 0),
         Salvaging::Salvaged {
@@ -32,7 +32,7 @@ fn keep(record: &[u8]) {
 }
 
 pub fn salvage() {
-    let mut record = [0u8; LONGEST];
+    let mut record = blank::record();
     let mut whole = true;
     let n = files::read(b"arf", FIRST, &mut record, &mut whole);
     if whole {

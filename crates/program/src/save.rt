@@ -1,10 +1,8 @@
 // The two files of a salvage.
 use crate::arguments::SECOND;
 use crate::arguments::THIRD;
+use salvage::SPAN_CELLS;
 ghost use Rattle.io.specs.Counts.{Counts};
-
-// Cells of a span.
-const SPAN_CELLS: usize = 2;
 
 // The number of the cells of n spans at the front of the list; there are never more than the list has.
 pub fn front_cells(n: usize, spans: &[u32]) -> usize

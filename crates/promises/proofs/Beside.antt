@@ -220,29 +220,29 @@ module _ (ours theirs : List ℕ) (good : IsGood ours) (good′ : IsGood theirs)
     is : besideOutcome ours theirs ty payload sheet ≡ outcomeOf sheet answer
     is = beside-by ours theirs ty payload sheet good good′ widens
 
-    delimits : (rs : List Row) (place n compared : ℕ)
-        → (answer ≡ accepted rs place n compared) ↔ DelimitedBeside (shapes ours) (shapes theirs) ty payload (room sheet) rs place n compared
+    delimits : (rs : List Row) (place n comparisons : ℕ)
+        → (answer ≡ accepted rs place n comparisons) ↔ DelimitedBeside (shapes ours) (shapes theirs) ty payload (room sheet) rs place n comparisons
     delimits = value.rows-beside (tableOf ours) (tableOf theirs) (good-table ours good) (good-table theirs good′) widens ty fs st payload (room sheet)
 
-    from : (k place n compared : ℕ) (after : List ℕ) → besideOutcome ours theirs ty payload sheet ≡ outcome (Shown k place n compared) after
-        → (rs : List Row) × (answer ≡ accepted rs place n compared) × (length rs ≡ k) × (after ≡ shownIn sheet rs)
-    from k place n compared after e = accepted-from sheet answer k place n compared after (sym is ∙ e)
+    from : (k place n comparisons : ℕ) (after : List ℕ) → besideOutcome ours theirs ty payload sheet ≡ outcome (Shown k place n comparisons) after
+        → (rs : List Row) × (answer ≡ accepted rs place n comparisons) × (length rs ≡ k) × (after ≡ shownIn sheet rs)
+    from k place n comparisons after e = accepted-from sheet answer k place n comparisons after (sym is ∙ e)
 
     -- A payload is accepted exactly with the rows of a tree that fits it and delimits its bytes by theirs, without the added fields: rows keep type, place
     -- and length, a struct's count is that of the fields that ours knows and whose bits are set. Every cell of every row is so decided.
-    pub rows-beside : (k place n compared : ℕ) (after : List ℕ)
-        → (besideOutcome ours theirs ty payload sheet ≡ outcome (Shown k place n compared) after)
-        ↔ ((rs : List Row) × DelimitedBeside (shapes ours) (shapes theirs) ty payload (room sheet) rs place n compared × (length rs ≡ k) × (after ≡ shownIn sheet rs))
-    rows-beside k place n compared after = (
-      λ e. let (rs, a, l, o) = from k place n compared after e in (rs, delimits rs place n compared .0 a, l, o),
-      λ (rs, d, l, o). rw (o, ← l) (is ∙ ap (outcomeOf sheet) (delimits rs place n compared .1 d)),
+    pub rows-beside : (k place n comparisons : ℕ) (after : List ℕ)
+        → (besideOutcome ours theirs ty payload sheet ≡ outcome (Shown k place n comparisons) after)
+        ↔ ((rs : List Row) × DelimitedBeside (shapes ours) (shapes theirs) ty payload (room sheet) rs place n comparisons × (length rs ≡ k) × (after ≡ shownIn sheet rs))
+    rows-beside k place n comparisons after = (
+      λ e. let (rs, a, l, o) = from k place n comparisons after e in (rs, delimits rs place n comparisons .0 a, l, o),
+      λ (rs, d, l, o). rw (o, ← l) (is ∙ ap (outcomeOf sheet) (delimits rs place n comparisons .1 d)),
     )
 
     -- with k rows
-    shown-as : (w : Value) (place n compared : ℕ) (rs : List Row) (k : ℕ) → length rs ≡ k → size w ≡ k → answer ≡ accepted rs place n compared
-        → ShowsKnown (shapes ours) payload ty rs w → ReadsBeside ours theirs ty payload sheet w place n compared
-    shown-as w place n compared rs k l z e shows =
-        let (_, _, _, _, fits) = delimits rs place n compared .0 e in
+    shown-as : (w : Value) (place n comparisons : ℕ) (rs : List Row) (k : ℕ) → length rs ≡ k → size w ≡ k → answer ≡ accepted rs place n comparisons
+        → ShowsKnown (shapes ours) payload ty rs w → ReadsBeside ours theirs ty payload sheet w place n comparisons
+    shown-as w place n comparisons rs k l z e shows =
+        let (_, _, _, _, fits) = delimits rs place n comparisons .0 e in
         rw (z, ← l) (
           shownIn sheet rs,
           is ∙ ap (outcomeOf sheet) e,
@@ -251,56 +251,56 @@ module _ (ours theirs : List ℕ) (good : IsGood ours) (good′ : IsGood theirs)
           shown-rest sheet rs,
         )
 
-    reads-of : (w : Value) (place n compared : ℕ) → ShownAs (shapes ours) ty payload answer w place n compared → ReadsBeside ours theirs ty payload sheet w place n compared
-    reads-of w place n compared (rs, e, shows) = shown-as w place n compared rs (size w) (known-size (shapes ours) payload ty rs w shows) refl e shows
+    reads-of : (w : Value) (place n comparisons : ℕ) → ShownAs (shapes ours) ty payload answer w place n comparisons → ReadsBeside ours theirs ty payload sheet w place n comparisons
+    reads-of w place n comparisons (rs, e, shows) = shown-as w place n comparisons rs (size w) (known-size (shapes ours) payload ty rs w shows) refl e shows
 
-    of-reads : (w : Value) (place n compared : ℕ) → ReadsBeside ours theirs ty payload sheet w place n compared → ShownAs (shapes ours) ty payload answer w place n compared
-    of-reads w place n compared (after, e, shows, _, _) =
-        let (rs, a, l, o) = from (size w) place n compared after e in
+    of-reads : (w : Value) (place n comparisons : ℕ) → ReadsBeside ours theirs ty payload sheet w place n comparisons → ShownAs (shapes ours) ty payload answer w place n comparisons
+    of-reads w place n comparisons (after, e, shows, _, _) =
+        let (rs, a, l, o) = from (size w) place n comparisons after e in
         (rs, a, subst (λ (l : List Row). ShowsKnown (shapes ours) payload ty l w) (rows-back sheet rs (size w) after l o) shows)
 
     -- What is accepted the reader by theirs alone accepts too, given a row for each value, with the same tail and the same key comparisons due. The rows
     -- shown here are some of its rows, in their order, with type, place and length as there.
-    pub theirs-accepts : (k place n compared : ℕ) (after : List ℕ) → besideOutcome ours theirs ty payload sheet ≡ outcome (Shown k place n compared) after
+    pub theirs-accepts : (k place n comparisons : ℕ) (after : List ℕ) → besideOutcome ours theirs ty payload sheet ≡ outcome (Shown k place n comparisons) after
         → (k′ : ℕ) × ((sheet′ : List ℕ) → k′ ≤ room sheet′
-        → (after′ : List ℕ) × (readOutcome theirs ty payload sheet′ ≡ outcome (Shown k′ place n compared) after′) × SomeOf (firstRows k after) (firstRows k′ after′))
-    theirs-accepts k place n compared after e =
-        let (rs, a, l, o) = from k place n compared after e in
-        let (rs′, some, h) = value.theirs-accepts (tableOf ours) (tableOf theirs) (good-table ours good) (good-table theirs good′) widens ty fs st payload (room sheet) rs place n compared a in
+        → (after′ : List ℕ) × (readOutcome theirs ty payload sheet′ ≡ outcome (Shown k′ place n comparisons) after′) × SomeOf (firstRows k after) (firstRows k′ after′))
+    theirs-accepts k place n comparisons after e =
+        let (rs, a, l, o) = from k place n comparisons after e in
+        let (rs′, some, h) = value.theirs-accepts (tableOf ours) (tableOf theirs) (good-table ours good) (good-table theirs good′) widens ty fs st payload (room sheet) rs place n comparisons a in
         let same : firstRows k after ≡ rs = rows-back sheet rs k after l o in (
           length rs′,
           λ sheet′ f. (shownIn sheet′ rs′, read-by theirs ty payload sheet′ good′ ∙ ap (outcomeOf sheet′) (h (room sheet′) f), rw (same, shown-rows sheet′ rs′) some),
         )
 
     -- The comparisons are never above 258,048.
-    pub comparisons-within : (k place n compared : ℕ) (after : List ℕ) → besideOutcome ours theirs ty payload sheet ≡ outcome (Shown k place n compared) after → compared ≤ 258048
-    comparisons-within k place n compared after e =
-        let (rs, a, _, _) = from k place n compared after e in
-        value.comparisons-within (tableOf ours) (tableOf theirs) (good-table ours good) (good-table theirs good′) widens ty fs st payload (room sheet) rs place n compared a
+    pub comparisons-within : (k place n comparisons : ℕ) (after : List ℕ) → besideOutcome ours theirs ty payload sheet ≡ outcome (Shown k place n comparisons) after → comparisons ≤ 258048
+    comparisons-within k place n comparisons after e =
+        let (rs, a, _, _) = from k place n comparisons after e in
+        value.comparisons-within (tableOf ours) (tableOf theirs) (good-table ours good) (good-table theirs good′) widens ty fs st payload (room sheet) rs place n comparisons a
 
     module _ (fs′ : List Field) (st′ : shapes theirs ty ≡ struct fs′) where
-      abbrev shown-iff : (w : Value) (place n compared : ℕ) → ShownAs (shapes ours) ty payload answer w place n compared
-          ↔ ((v : Value) × (without (shapes ours) v ty ≡ w) × RightfulBeside (shapes ours) (shapes theirs) ty fs′ payload (room sheet) v place n compared)
+      abbrev shown-iff : (w : Value) (place n comparisons : ℕ) → ShownAs (shapes ours) ty payload answer w place n comparisons
+          ↔ ((v : Value) × (without (shapes ours) v ty ≡ w) × RightfulBeside (shapes ours) (shapes theirs) ty fs′ payload (room sheet) v place n comparisons)
       shown-iff = value.shown-iff-spelled (tableOf ours) (tableOf theirs) (good-table ours good) (good-table theirs good′) widens ty fs st fs′ st′ payload (room sheet)
 
       -- A payload is accepted and shown as w exactly when by theirs it spells, within the limits, a value that is w without its added fields. The tail is
       -- what follows the fields that theirs knows, and the key comparisons due are those of the whole value.
-      pub shown-iff-spelled : (w : Value) (place n compared : ℕ)
-          → ReadsBeside ours theirs ty payload sheet w place n compared
-          ↔ ((v : Value) × (without (shapes ours) v ty ≡ w) × RightfulBeside (shapes ours) (shapes theirs) ty fs′ payload (room sheet) v place n compared)
-      shown-iff-spelled w place n compared = (
-        λ r. shown-iff w place n compared .0 (of-reads w place n compared r),
-        λ q. reads-of w place n compared (shown-iff w place n compared .1 q),
+      pub shown-iff-spelled : (w : Value) (place n comparisons : ℕ)
+          → ReadsBeside ours theirs ty payload sheet w place n comparisons
+          ↔ ((v : Value) × (without (shapes ours) v ty ≡ w) × RightfulBeside (shapes ours) (shapes theirs) ty fs′ payload (room sheet) v place n comparisons)
+      shown-iff-spelled w place n comparisons = (
+        λ r. shown-iff w place n comparisons .0 (of-reads w place n comparisons r),
+        λ q. reads-of w place n comparisons (shown-iff w place n comparisons .1 q),
       )
 
       -- There is no tail exactly where the root sets no bit unknown to theirs.
-      pub tail-iff-unknown : (k place n compared : ℕ) (after : List ℕ) → besideOutcome ours theirs ty payload sheet ≡ outcome (Shown k place n compared) after
+      pub tail-iff-unknown : (k place n comparisons : ℕ) (after : List ℕ) → besideOutcome ours theirs ty payload sheet ≡ outcome (Shown k place n comparisons) after
           → (n ≡ 0) ↔ (unknownBits fs′ (rootBits fs′ payload) ≡ 0)
-      tail-iff-unknown k place n compared after e =
-          let (k′, h) = theirs-accepts k place n compared after e in
+      tail-iff-unknown k place n comparisons after e =
+          let (k′, h) = theirs-accepts k place n comparisons after e in
           let cells = replicate {A = ℕ} (4 * k′) 0 in
           let (after′, e′, _) = h cells (omega (arith, length-replicate {A = ℕ} (4 * k′) 0)) in
-          alone.tail-iff-unknown theirs ty fs′ st′ payload cells k′ place n compared after′ e′
+          alone.tail-iff-unknown theirs ty fs′ st′ payload cells k′ place n comparisons after′ e′
 
       -- A refusal is one that the reader by theirs alone gives with every sheet; or it is 30, for a payload that is otherwise right. So 26 is a bit unknown
       -- to theirs, and every refusal of a payload stands where theirs puts it, in added fields too.
@@ -333,19 +333,19 @@ module _ (ours theirs : List ℕ) (good : IsGood ours) (good′ : IsGood theirs)
 
       -- What is shown here and then accepted by the plain writer by ours, as just the rows shown over the payload, is read back by ours as the value with the
       -- same known fields and nothing else, and with no tail.
-      pub shown-then-written : (k place n compared : ℕ) (after : List ℕ) → besideOutcome ours theirs ty payload sheet ≡ outcome (Shown k place n compared) after
+      pub shown-then-written : (k place n comparisons : ℕ) (after : List ℕ) → besideOutcome ours theirs ty payload sheet ≡ outcome (Shown k place n comparisons) after
           → (out : List ℕ) (m : ℕ) (out′ : List ℕ) → fileOutcome ours ty (take (4 * k) after) payload out ≡ writer.outcome (Written m) out′
           → (sheet′ : List ℕ) → k ≤ room sheet′
-          → (v : Value) × RightfulBeside (shapes ours) (shapes theirs) ty fs′ payload (room sheet) v place n compared
+          → (v : Value) × RightfulBeside (shapes ours) (shapes theirs) ty fs′ payload (room sheet) v place n comparisons
           × ReadsAs ours ty fs (take m out′) sheet′ (without (shapes ours) v ty) m 0
-      shown-then-written k place n compared after e out m out′ w sheet′ h =
-          let (rs, a, k-is, after-is) = from k place n compared after e in
+      shown-then-written k place n comparisons after e out m out′ w sheet′ h =
+          let (rs, a, k-is, after-is) = from k place n comparisons after e in
           let same : firstRows k after ≡ rs = rows-back sheet rs k after k-is after-is in
           let few : length (take (4 * k) after) / 4 ≤ room sheet′ = omega (arith, length-rows (take (4 * k) after), ap length same, k-is, h) in
           let (hs, x, hs-is, shows, r) = read-back ours ty (take (4 * k) after) payload out m out′ w sheet′ few in
           let f : hs ≡ fs = cc in
           let known = shows-known (shapes ours) ty hs hs-is payload x (firstRows k after) shows in
-          let (v, u, q) = shown-iff x place n compared .0 (rs, a, subst (λ (l : List Row). ShowsKnown (shapes ours) payload ty l x) same known) in
+          let (v, u, q) = shown-iff x place n comparisons .0 (rs, a, subst (λ (l : List Row). ShowsKnown (shapes ours) payload ty l x) same known) in
           let r′ : ReadsAs ours ty fs (take m out′) sheet′ x m 0 = subst (λ (l : List Field). ReadsAs ours ty l (take m out′) sheet′ x m 0) f r in
           (v, q, subst (λ (y : Value). ReadsAs ours ty fs (take m out′) sheet′ y m 0) (sym u) r′)
 

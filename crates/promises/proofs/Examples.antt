@@ -8,7 +8,7 @@ use lib.Count.{onesIn}
 use lib.ListN.{length}
 use Rattle.wire.specs.Little as little
 use Rattle.wire.specs.Varuint as varuint
-use Rattle.wire.specs.Utf8 as utf8
+use Rattle.utf8.specs.Utf8 as utf8
 use Rattle.parse.specs.Reader as answer
 use Rattle.schema.specs.declared.Checked.the-variants.{Good}
 use Rattle.schema.specs.declared.Extended.the-variants.{Yes}
@@ -101,7 +101,7 @@ unfolding read.read
 roomier T t payload n rs p l c e m h =
     let a = accepts (table.shape T) t payload n rs p l c e in
     accepted-of (table.shape T) t payload m rs p l c
-    (record { fs = a .fs; tree = a .tree; end = a .end; is-struct = a .is-struct; reads = a .reads; has-rows = a .has-rows; has-place = a .has-place; has-length = a .has-length; has-compared = a .has-compared; short = a .short; fits = h })
+    (record { fs = a .fs; tree = a .tree; end = a .end; is-struct = a .is-struct; reads = a .reads; has-rows = a .has-rows; has-place = a .has-place; has-length = a .has-length; has-comparisons = a .has-comparisons; short = a .short; fits = h })
 
 module _ (sheet : List ℕ) where
   by-rows : (s : List ℕ) (T : Table) (t : ℕ) (payload : List ℕ) (a : Reading) → checked s ≡ Good → tableOf s ≡ T → read.read T t payload (room sheet) ≡ a

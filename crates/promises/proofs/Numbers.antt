@@ -69,12 +69,12 @@ module _ (ours theirs : List ℕ) (ty : ℕ) (payload sheet after : List ℕ) wh
 
   -- By good files, of which theirs extends ours but for the bitmaps, and for a struct of ours, 0 comes back with rows, tail and comparisons exactly for the
   -- rows of the tree that delimits the payload by theirs, without the added fields.
-  pub zero-iff-beside : IsGood ours → IsGood theirs → Widens (tableOf ours) (tableOf theirs) → (fs : List Field) → shapes ours ty ≡ struct fs → (k place n compared : ℕ)
-      → ((reading.numbers (reading.readingIn answered) ≡ record { number = 0; place = 0; rows = k; tailPlace = place; tailLength = n; comparisons = compared }) × (reading.sheetIn answered ≡ after))
-      ↔ ((rs : List Row) × DelimitedBeside (shapes ours) (shapes theirs) ty payload (reading.room sheet) rs place n compared × (length rs ≡ k) × (after ≡ shownIn sheet rs))
-  zero-iff-beside good good′ widens fs st k place n compared =
-      through (shown-told answered after (λ m q out e. omega (arith, refused-numbers ours theirs ty payload sheet m q out e)) k place n compared)
-      (rows-beside ours theirs good good′ widens ty fs st payload sheet k place n compared after)
+  pub zero-iff-beside : IsGood ours → IsGood theirs → Widens (tableOf ours) (tableOf theirs) → (fs : List Field) → shapes ours ty ≡ struct fs → (k place n comparisons : ℕ)
+      → ((reading.numbers (reading.readingIn answered) ≡ record { number = 0; place = 0; rows = k; tailPlace = place; tailLength = n; comparisons = comparisons }) × (reading.sheetIn answered ≡ after))
+      ↔ ((rs : List Row) × DelimitedBeside (shapes ours) (shapes theirs) ty payload (reading.room sheet) rs place n comparisons × (length rs ≡ k) × (after ≡ shownIn sheet rs))
+  zero-iff-beside good good′ widens fs st k place n comparisons =
+      through (shown-told answered after (λ m q out e. omega (arith, refused-numbers ours theirs ty payload sheet m q out e)) k place n comparisons)
+      (rows-beside ours theirs good good′ widens ty fs st payload sheet k place n comparisons after)
 
   -- Any other number comes back with a place only for a reason of the list, and leaves the sheet untouched.
   pub number-refused-beside : (n q : ℕ) → 0 < n

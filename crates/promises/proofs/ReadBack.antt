@@ -15,7 +15,6 @@ use Rattle.schema.specs.Check.{IsGood}
 use Rattle.schema.proofs.Goods.{good-table}
 use Rattle.value.specs.declared.Row.{Row}
 use Rattle.value.specs.Value.{Value}
-use Rattle.value.specs.Read.{rootBits, unknownBits}
 use Rattle.value.specs.Write.{written, write}
 use Rattle.value.specs.Sheet.{rowsOf}
 use Rattle.value.specs.Spell.{RootSpells}
@@ -28,7 +27,7 @@ use Rattle.reader.specs.Entry.{outcome, room, readOutcome}
 use Rattle.writer.specs.declared.Writing.the-variants.{Written, Refused}
 use Rattle.writer.specs.Entry as writer
 use Rattle.writer.specs.Entry.{fileOutcome}
-use Rattle.promises.specs.Claims.{shapes, firstRows, ReadsAs}
+use Rattle.promises.specs.Claims.{shapes, firstRows, ReadsAs, NoUnknownBits}
 use Rattle.promises.proofs.Refusals.{write-refused-iff}
 use Rattle.promises.proofs.Reading.{tail-iff-unknown}
 use Rattle.writer.proofs.Outcomes.{write-by, written-good, written-is}
@@ -131,7 +130,7 @@ read-then-write s ty payload sheet k place n c after b e out h sheet′ h′ =
 pub same-bytes : (s : List ℕ) (ty : ℕ) (fs : List Field) → shapes s ty ≡ struct fs
     → (payload sheet : List ℕ) (k place n c : ℕ) (after : List ℕ) → Bytes payload
     → readOutcome s ty payload sheet ≡ outcome (Shown k place n c) after
-    → unknownBits fs (rootBits fs payload) ≡ 0
+    → NoUnknownBits fs payload
     → (out : List ℕ) → length payload ≤ length out
     → (n ≡ 0) × (fileOutcome s ty (take (4 * k) after) payload out ≡ writer.outcome (Written (length payload)) (payload ++ drop (length payload) out))
 same-bytes s ty fs st payload sheet k place n c after b e known out h =

@@ -8,7 +8,7 @@ use Rattle.schema.specs.Check.{IsGood}
 use Rattle.schema.specs.Faults.{TableFault}
 use Rattle.schema.specs.Extend.{Widens}
 use Rattle.value.specs.Value.{Value, size}
-use Rattle.value.specs.Comparisons.{comparisons}
+use Rattle.value.specs.Comparisons as due
 use Rattle.value.specs.Fits.{ShowsKnown}
 use Rattle.value.specs.Added.{without}
 use Rattle.value.specs.Beside.{BesideReason}
@@ -24,9 +24,9 @@ Unextended ours theirs = IsGood ours × IsGood theirs × (Widens (tableOf ours) 
 module _ (ours theirs : List ℕ) (ty : ℕ) (payload : List ℕ) where
   -- The reader shows w, of type ty, in the first rows of the sheet, by ours and whatever further bits its structs have; the other cells are as they were.
   -- The tail is at a place, of n bytes, and so many key comparisons are due.
-  abbrev pub ReadsBeside : (sheet : List ℕ) → Value → (place n compared : ℕ) → Type 0
-  ReadsBeside sheet w place n compared =
-      (after : List ℕ) × (besideOutcome ours theirs ty payload sheet ≡ outcome (Shown (size w) place n compared) after)
+  abbrev pub ReadsBeside : (sheet : List ℕ) → Value → (place n comparisons : ℕ) → Type 0
+  ReadsBeside sheet w place n comparisons =
+      (after : List ℕ) × (besideOutcome ours theirs ty payload sheet ≡ outcome (Shown (size w) place n comparisons) after)
       × ShowsKnown (shapes ours) payload ty (firstRows (size w) after) w
       × (length after ≡ length sheet)
       × (drop (4 * size w) after ≡ drop (4 * size w) sheet)
@@ -36,7 +36,7 @@ module _ (ours theirs : List ℕ) (ty : ℕ) (payload : List ℕ) where
   abbrev pub NewBeside : (sheet : List ℕ) → Value → Type 0
   NewBeside sheet v =
       (size (without (shapes ours) v ty) ≤ room sheet
-      → ReadsBeside sheet (without (shapes ours) v ty) (length payload) 0 (comparisons (shapes theirs) v ty))
+      → ReadsBeside sheet (without (shapes ours) v ty) (length payload) 0 (due.comparisons (shapes theirs) v ty))
       × (room sheet < size (without (shapes ours) v ty) → besideOutcome ours theirs ty payload sheet ≡ outcome (Refused 30 0) sheet)
 
   -- The list of the refusals, with so many rows lent: 40 to 44 for ours, then for theirs; 47 where theirs does not extend ours, bitmaps aside; then those

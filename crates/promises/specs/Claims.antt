@@ -15,6 +15,7 @@ use Rattle.schema.specs.Faults.{TableFault}
 use Rattle.value.specs.declared.Row.{Row}
 use Rattle.value.specs.Value.{Tree, Value, value, size}
 use Rattle.value.specs.Comparisons.{comparisons}
+use Rattle.value.specs.Read.{rootBits, unknownBits}
 use Rattle.value.specs.Sheet.{rowsOf}
 use Rattle.value.specs.Spell.{AllSpell, Spells, RootSpells}
 use Rattle.value.specs.Fits.{RootFits, Shows}
@@ -66,6 +67,10 @@ WriteReason schema ty rs bytes space n q = TableFault schema n q ⊎ (IsGood sch
 -- The same for such rows with a tail of m bytes at a place of those bytes.
 abbrev pub ForwardReason : (schema : List ℕ) (ty : ℕ) → List Row → (bytes : List ℕ) (place m space number row : ℕ) → Type 0
 ForwardReason schema ty rs bytes place m space n q = TableFault schema n q ⊎ (IsGood schema × TailReason (shapes schema) ty rs bytes place m space n q)
+
+-- A payload of a root with the fields fs sets no bit beyond theirs.
+abbrev pub NoUnknownBits : List Field → (payload : List ℕ) → Type 0
+NoUnknownBits fs payload = unknownBits fs (rootBits fs payload) ≡ 0
 
 -- ---- an old file and a new one that extends it: a root of type ty has the fields fs in the old one and fs ++ gs in the new one
 

@@ -7,15 +7,19 @@ use native.Mathlib.Omega.{arith}
 use native.Mathlib.Decide.{decLt}
 use borrow.Author.Tests.{eqb-true, eq-eqb}
 use lib.Dec.{eqb}
-use lib.ListN.{length, getD, set, List·getD-eq-default}
+use lib.ListN.{length, getD, set, replicate, List·getD-eq-default}
 use lib.Seq.{getD-set-same, getD-set-other}
+use Rattle.wire.proofs.Cases.{zeros}
 use Rattle.parse.specs.Reader.{Answer, refused, seen}
+use Rattle.schema.specs.declared.Layout.{Layout}
 use Rattle.schema.specs.declared.TypeRow.{TypeRow}
 use Rattle.schema.specs.declared.Field.{Field}
 use Rattle.schema.specs.Table.{Shape, unknown, scalar, text, array, map, struct, rowAt}
-use Rattle.schema.specs.File.{tableOf}
+use Rattle.schema.specs.File.{layoutOf, tableOf}
 use Rattle.schema.specs.Check.{IsGood, noRow}
 use Rattle.schema.specs.Extend.{widened, Grows}
+use Rattle.schema.proofs.Checks.{good-laid}
+use Rattle.table.proofs.Files.{laid-types}
 use Rattle.schema.proofs.Goods.{good-table}
 use Rattle.schema.proofs.Shapes as shapes
 use Rattle.schema.proofs.Extending.{widens-iff, grows}
@@ -36,9 +40,13 @@ use Rattle.flat.specs.Walk.{firstFields}
 
 -- ---- the numbers of fields
 
--- Those of the types before i are there: a loop writes one after the other.
-abbrev pub KnowsBelow : (s shown : List ℕ) (i : ℕ) → Type 0
-KnowsBelow s shown i = (j : ℕ) → j < i → getD shown j 0 ≡ fieldsIn (shapeIn s j)
+-- Those of the types before i are there, and zeros after them: a loop writes one after the other.
+pub record KnowsBelow (s shown : List ℕ) (i : ℕ) : Type 0 where
+  pub there : (j : ℕ) → j < i → getD shown j 0 ≡ fieldsIn (shapeIn s j)
+  pub free : (j : ℕ) → i ≤ j → getD shown j 0 ≡ 0
+
+pub knows-none : (s : List ℕ) → KnowsBelow s (replicate 256 0) 0
+knows-none s = record { there = λ j l. absurd (omega arith); free = λ j l. zeros 256 j }
 
 module _ (s : List ℕ) (good : IsGood s) where
   -- by a type's row
@@ -60,30 +68,38 @@ module _ (s : List ℕ) (good : IsGood s) where
       go false e = other (shapeIn s t) (shapes.kind-of (tableOf s) (good-table s good) t) e
 
   -- a type past the table's has no fields
-  none-past : (t : ℕ) → 256 ≤ t → shapeIn s t ≡ unknown
+  none-past : (t : ℕ) → length (tableOf s .types) ≤ t → shapeIn s t ≡ unknown
   none-past t h =
-      let few = good-table s good .fewTypes in
-      let z : rowAt (tableOf s) t ≡ noRow = List·getD-eq-default (tableOf s .types) noRow (omega arith) in
+      let z : rowAt (tableOf s) t ≡ noRow = List·getD-eq-default (tableOf s .types) noRow h in
       shape-none (tableOf s) t noRow (sym z) refl
 
   pub knows-more : (shown : List ℕ) (i x : ℕ) → i < length shown → x ≡ fieldsIn (shapeIn s i) → KnowsBelow s shown i → KnowsBelow s (set shown i x) (i + 1)
-  knows-more shown i x h e k j l = elim (decLt j i) [
-    | yes lt ↦ getD-set-other shown i j x 0 (omega arith) ∙ k j lt
-    | no g ↦ let q : j ≡ i = omega arith in rw q (getD-set-same shown i x 0 h ∙ e)
+  knows-more shown i x h e k =
+      record {
+        there = λ j l. elim (decLt j i) [
+          | yes lt ↦ getD-set-other shown i j x 0 (omega arith) ∙ k .there j lt
+          | no g ↦ let q : j ≡ i = omega arith in rw q (getD-set-same shown i x 0 h ∙ e)
+        ];
+        free = λ j l. getD-set-other shown i j x 0 (omega arith) ∙ k .free j (omega arith);
+      }
+
+  pub knows-all : (shown : List ℕ) (i : ℕ) → length (tableOf s .types) ≤ i → KnowsBelow s shown i → Knows shown s
+  knows-all shown i h k t = elim (decLt t i) [
+    | yes lt ↦ k .there t lt
+    | no g ↦ k .free t (omega arith) ∙ rw (none-past t (omega arith))
   ]
 
-  pub knows-all : (shown : List ℕ) (i : ℕ) → length shown ≡ 256 → 256 ≤ i → KnowsBelow s shown i → Knows shown s
-  knows-all shown i long h k t = elim (decLt t 256) [
-    | yes lt ↦ k t (omega arith)
-    | no g ↦ List·getD-eq-default shown 0 (omega arith) ∙ rw (none-past t (omega arith))
-  ]
+  pub types-few : (l : Layout) → l ≡ layoutOf s → (l .types ≡ length (tableOf s .types)) × (l .types ≤ 256)
+  types-few l is =
+      let same = laid-types s l (good-laid s l good is) in
+      (same, omega (arith, same, good-table s good .fewTypes))
 
   -- 64 are all fields of any struct
   pub all-known : (shown : List ℕ) → ((t : ℕ) → t < 256 → getD shown t 0 ≡ 64) → (t : ℕ) → shapeIn s t ≡ firstFields shown (shapeIn s) t
   unfolding firstFields
   all-known shown k t = elim (decLt t 256) [
     | yes lt ↦ rw (k t lt) (sym (first-all 64 (shapeIn s t) (few _ _ (shapeIn s t) (shapes.within (tableOf s) (good-table s good) t))))
-    | no g ↦ rw (none-past t (omega arith))
+    | no g ↦ rw (none-past t (omega (arith, good-table s good .fewTypes)))
   ]
     where
       few : (n : ℕ) (key : ℕ → Shape) (sh : Shape) → shapes.Within n key sh → fieldsIn sh ≤ 64

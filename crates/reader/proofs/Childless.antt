@@ -20,7 +20,7 @@ use Rattle.flat.specs.declared.Walk.the-variants.{Past, Refused}
 use Rattle.flat.specs.Leaf.{Uncounted, Spanned}
 use Rattle.flat.specs.Sheet.{putRow}
 use Rattle.flat.specs.Walk.{firstFields, valueIn, Valued, Ready}
-use Rattle.flat.proofs.Steps.{as-refused, own-accepted, spanRow, leaf-failed, leaf-past}
+use Rattle.flat.proofs.Steps.{own-accepted, spanRow, is-leaf, leaf-stop, leaf-past}
 use Rattle.flat.proofs.Composites.{map-none}
 use Rattle.flat.proofs.Turns.{leaf-shown}
 use Rattle.reader.proofs.Calls.{map-shown}
@@ -28,7 +28,7 @@ use Rattle.reader.specs.Childless.{IsChildless, ChildlessReady, Childles
 
 -- ---- as it is read
 
-module _ {p : List ℕ} {t : TypeRow} {at row : ℕ} {judging : Bool} (q : ChildlessReady p t at row judging) (ty : ℕ) where
+module _ {p : List ℕ} {t : TypeRow} {at row : ℕ} {judging : Bool} (q : ChildlessReady p t at row judging) where
   -- a map without pairs
   module _ (many : 13 < t .kind) where
     none : (t .kind ≡ 15) × Uncounted p at (count 2 (cursorAt p at))
@@ -37,39 +37,28 @@ module _ {p : List ℕ} {t : TypeRow} {at row : ℕ} {judging : Bool} (q : Child
     pub none-put : (at < length p) × (row ≤ 16384) × (at + 1 ≤ 16384)
     none-put = let w = none .1 .within .1 in omega (arith, w, q .small, q .behind)
 
-    pub none-read : {l m : List ℕ} → m ≡ putRow l row (record { ty = ty; place = at + 1; length = 0; count = 0 }) → ChildlessRead p ty t at row l (Past 0 (at + 1) (row + 1)) m
-    none-read {l} {m} put =
+    pub none-read : {ty : ℕ} {l m : List ℕ} → m ≡ putRow l row (record { ty = ty; place = at + 1; length = 0; count = 0 }) → ChildlessRead p ty t at row l (Past 0 (at + 1) (row + 1)) m
+    none-read {ty} {l} {m} put =
         record {
           told = λ s depth is R shown.
               let map-is = shape-map (tableOf s) ty t is (none .0) in
               map-none (shapeIn s) depth ty p at (t .a) (t .b) map-is _ (none .1) 0 (at + 1) refl refl R (shown ∙ map-is) row l m (q .behind) put;
         }
 
+  -- a scalar, a string or bytes
   module _ (few : t .kind ≤ 13) where
     leaf : t .kind < 14
     leaf = omega (arith, few)
 
-    pub leaf-asked : (length p ≤ 16384) × (at ≤ length p) × (0 < t .kind) × (t .kind < 14) × (judging ≡ false → Accepted (own (leafShape (t .kind)) (cursorAt p at)))
-    leaf-asked = (q .small, q .inside, q .some, leaf, λ j. q .judged j leaf)
+    pub childless-asked : (length p ≤ 16384) × (at ≤ length p) × (0 < t .kind) × (t .kind < 14) × (judging ≡ false → Accepted (own (leafShape (t .kind)) (cursorAt p at)))
+    childless-asked = (q .small, q .inside, q .some, leaf, λ j. q .judged j leaf)
 
-    module _ {r : Span} (read : Spanned p at (own (leafShape (t .kind)) (cursorAt p at)) r) where
-      pub leaf-refused : {number place : ℕ} → r ≡ SpanRefused place number → {l m : List ℕ} → ChildlessRead p ty t at row l (Refused number place) m
-      leaf-refused e =
-          record {
-            told = λ s depth is R shown.
-                as-refused _ _ _ (leaf-failed (shapeIn s) (suc depth) ty (leafShape (t .kind)) (shape-leaf (tableOf s) ty t is (q .some) leaf) (λ z. absurd (omega arith)) p at r read _ _ e);
-          }
+    module _ {r : Span} (read : Spanned p at (own (leafShape (t .kind)) (cursorAt p at)) r) {ty : ℕ} {l m : List ℕ} where
+      pub childless-stop : {number place : ℕ} → r ≡ SpanRefused place number → ChildlessRead p ty t at row l (Refused number place) m
+      childless-stop e = record { told = λ s depth is R shown. leaf-stop (is-leaf is (q .some) leaf) (λ z. absurd (omega arith)) read e R }
 
-      module _ {from to : ℕ} (e : r ≡ At from to) where
-        pub leaf-put : (from ≤ to) × (row ≤ 16384) × (from ≤ 16384) × (to - from ≤ 16384) × (0 ≤ 16384)
-        leaf-put = let w = rw e at (read .within) in omega (arith, w, q .small, q .inside, q .behind)
-
-        pub leaf-read : {l m : List ℕ} → m ≡ putRow l row (spanRow ty from to) → ChildlessRead p ty t at row l (Past 0 to (row + 1)) m
-        leaf-read {l} {m} put =
-            record {
-              told = λ s depth is R shown.
-                  leaf-past (shapeIn s) (suc depth) ty (leafShape (t .kind)) (shape-leaf (tableOf s) ty t is (q .some) leaf) (λ z. absurd (omega arith)) p at r read from to e R row l m (q .behind) put;
-            }
+      pub childless-past : {from to : ℕ} → r ≡ At from to → m ≡ putRow l row (spanRow ty from to) → ChildlessRead p ty t at row l (Past 0 to (row + 1)) m
+      childless-past e put = record { told = λ s depth is R shown. leaf-past (is-leaf is (q .some) leaf) (λ z. absurd (omega arith)) read e (q .behind) put R }
 
 -- ---- as the walk over pairs asks for it, and takes its answer
 

@@ -66,14 +66,14 @@ module _ (shown s : List ℕ) (ty : ℕ) (p sheet : List ℕ) (r : TypeRow) (is 
         pub entry-refused : (n q : ℕ) → Walked p 1 tell root 0 few (Stop n q) m → outcome (Refused n q) sheet ≡ shownOutcome shown s ty p sheet
         entry-refused n q w = rw (← entry-root, refused-of w)
 
-        module _ (compared next row : ℕ) (w : Walked p 1 tell root 0 few (Past compared next row) m) where
+        module _ (comparisons next row : ℕ) (w : Walked p 1 tell root 0 few (Past comparisons next row) m) where
           read : (tree : Tree) × (root ≡ seen tree (cursorAt p next))
           read = read-of w
 
           abbrev told-rows : List Row
           told-rows = tell (read .0) .rows
 
-          same : done (cursorAt p next) compared row m ≡ walkOf tell (seen (read .0) (cursorAt p next)) 0 0 few
+          same : done (cursorAt p next) comparisons row m ≡ walkOf tell (seen (read .0) (cursorAt p next)) 0 0 few
           same = rw (read .1) at (w .same)
 
           rows-are : row ≡ length told-rows
@@ -97,17 +97,17 @@ module _ (shown s : List ℕ) (ty : ℕ) (p sheet : List ℕ) (r : TypeRow) (is 
 
           -- what stands in the sheet is told by the rows that were written into it
           told-in : (after : List ℕ) → row ≤ room sheet → after ≡ shownIn sheet told-rows
-              → outcome (Shown row next (length p - next) compared) after ≡ shownOutcome shown s ty p sheet
+              → outcome (Shown row next (length p - next) comparisons) after ≡ shownOutcome shown s ty p sheet
           unfolding told
           told-in after h after-is =
               let e = same in
-              let d : compared ≡ 0 + tell (read .0) .comparisons = cc in
-              let compared-is : tell (read .0) .comparisons ≡ compared = omega arith in
-              rw (← entry-root, read .1, le-leb (length told-rows) (room sheet) (omega (arith, rows-are)), length-drop, after-is, ← rows-are, compared-is)
+              let d : comparisons ≡ 0 + tell (read .0) .comparisons = cc in
+              let comparisons-is : tell (read .0) .comparisons ≡ comparisons = omega arith in
+              rw (← entry-root, read .1, le-leb (length told-rows) (room sheet) (omega (arith, rows-are)), length-drop, after-is, ← rows-are, comparisons-is)
 
           -- few rows, copied from the first walk's cells
           pub entry-copied : row ≤ room sheet → row ≤ room few
-              → outcome (Shown row next (length p - next) compared) (paste sheet 0 m (4 * row)) ≡ shownOutcome shown s ty p sheet
+              → outcome (Shown row next (length p - next) comparisons) (paste sheet 0 m (4 * row)) ≡ shownOutcome shown s ty p sheet
           entry-copied h g =
               let e = same in
               let put : m ≡ putRows few 0 told-rows = cc in
@@ -115,7 +115,7 @@ module _ (shown s : List ℕ) (ty : ℕ) (p sheet : List ℕ) (r : TypeRow) (is 
 
           -- what the second walk has written
           pub entry-shown : (v : Walk) (after : List ℕ) → row ≤ room sheet → Walked p 1 tell root 0 sheet v after
-              → outcome (Shown row next (length p - next) compared) after ≡ shownOutcome shown s ty p sheet
+              → outcome (Shown row next (length p - next) comparisons) after ≡ shownOutcome shown s ty p sheet
           entry-shown v after h again = told-in after h (go v (rw (read .1) at (again .same)) ∙ rows-shown sheet told-rows (omega (arith, rows-are)))
             where
               go : (v : Walk) → endOf p v after ≡ walkOf tell (seen (read .0) (cursorAt p next)) 0 0 sheet → after ≡ putRows sheet 0 told-rows
@@ -166,7 +166,7 @@ payload-within s good ty p sheet = go (value.read (tableOf s) ty p (room sheet))
   where
     go : (a : value.Reading) → value.read (tableOf s) ty p (room sheet) ≡ a → comparisonsIn (outcomeOf sheet a) ≤ 258048
     go (value.refusal n q) e = omega arith
-    go (value.accepted rs place n compared) e = comparisons-within (tableOf s) (good-table s good) ty p (room sheet) rs place n compared e
+    go (value.accepted rs place n comparisons) e = comparisons-within (tableOf s) (good-table s good) ty p (room sheet) rs place n comparisons e
 
 pub read-within : (s : List ℕ) (ty : ℕ) (p sheet : List ℕ) → comparisonsIn (readOutcome s ty p sheet) ≤ 258048
 unfolding readOutcome

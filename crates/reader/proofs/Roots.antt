@@ -77,14 +77,14 @@ module _ (t place n h u : ℕ) where
   regrouped (seen ts c) = refl
   regrouped (refused m q) = refl
 
-module _ (tell : Tree → Told) (p : List ℕ) (compared next row′ : ℕ) (l m : List ℕ) (u : ℕ) where
-  end-past : (o : Answer Tree) → done (cursorAt p next) compared row′ m ≡ walkOf tell o 0 0 l → rootEnding u (cursorAt p next) ≡ seen tt (cursorAt p next)
-      → done (cursorAt p next) compared row′ m ≡ walkOf tell (andThen o (afterFields u)) 0 0 l
+module _ (tell : Tree → Told) (p : List ℕ) (comparisons next row′ : ℕ) (l m : List ℕ) (u : ℕ) where
+  end-past : (o : Answer Tree) → done (cursorAt p next) comparisons row′ m ≡ walkOf tell o 0 0 l → rootEnding u (cursorAt p next) ≡ seen tt (cursorAt p next)
+      → done (cursorAt p next) comparisons row′ m ≡ walkOf tell (andThen o (afterFields u)) 0 0 l
   unfolding andThen afterFields
   end-past (seen tree c) e f = let k : cursorAt p next ≡ c = cc in rw (← k, f) (rw (← k) at e)
   end-past (refused a q) e f = differ cc
 
-  end-stop : (o : Answer Tree) → done (cursorAt p next) compared row′ m ≡ walkOf tell o 0 0 l → (a q : ℕ) → rootEnding u (cursorAt p next) ≡ refused a q
+  end-stop : (o : Answer Tree) → done (cursorAt p next) comparisons row′ m ≡ walkOf tell o 0 0 l → (a q : ℕ) → rootEnding u (cursorAt p next) ≡ refused a q
       → stopped a q ≡ walkOf tell (andThen o (afterFields u)) 0 0 l
   unfolding andThen afterFields
   end-stop (seen tree c) e a q f = let k : cursorAt p next ≡ c = cc in rw (← k, f)
@@ -133,11 +133,11 @@ module _ (S : ℕ → Shape) (t : ℕ) (fs : List Field) (p : List ℕ) where
         unfolding inner
         root-stop a q l m w = record { same = rw root-step (fields-stop tell l unknown a q inner (w .same)); within = tt }
 
-        module _ (compared next row′ : ℕ) (l m : List ℕ)
-            (w : Walked p start tell (wholeValue (parse S 15) t (struct fs) (parts 0 known) (cursorAt p start)) 0 l (Past compared next row′) m) where
-          pub root-end : {r : Walk} → Ended p compared next row′ unknown r → Walked p 1 tell (rootStruct S t fs (cursorAt p 0)) 0 l r m
+        module _ (comparisons next row′ : ℕ) (l m : List ℕ)
+            (w : Walked p start tell (wholeValue (parse S 15) t (struct fs) (parts 0 known) (cursorAt p start)) 0 l (Past comparisons next row′) m) where
+          pub root-end : {r : Walk} → Ended p comparisons next row′ unknown r → Walked p 1 tell (rootStruct S t fs (cursorAt p 0)) 0 l r m
           unfolding inner
-          root-end (faulty a e) = record { same = rw root-step (end-stop tell p compared next row′ l m unknown inner (w .same) a next e); within = tt }
+          root-end (faulty a e) = record { same = rw root-step (end-stop tell p comparisons next row′ l m unknown inner (w .same) a next e); within = tt }
           root-end (whole e) =
               let v = w .within in
-              record { same = rw root-step (end-past tell p compared next row′ l m unknown inner (w .same) e); within = (v .0, v .1, omega (arith, root-in .4)) }
+              record { same = rw root-step (end-past tell p comparisons next row′ l m unknown inner (w .same) e); within = (v .0, v .1, omega (arith, root-in .4)) }

@@ -1,8 +1,8 @@
 -- Laws of the walkers of a struct: its bitmap, where the loop over its fields stands, and its fields in two parts, those that are shown and the others.
-use mathlib.Core.Path.{_≡_, refl, sym, _∙_}
+use mathlib.Core.Path.{_≡_, refl, _∙_}
 use mathlib.Core.Bool.{Bool, false}
-use mathlib.Core.List.{List, []}
-use Prim.Native.Nat.{ℕ, suc, _+_, _-_, _*_, _/_, _%_, _^_, _≤_, _<_}
+use mathlib.Core.List.{List, _∷_}
+use Prim.Native.Nat.{ℕ, suc, _+_, _-_, _/_, _%_, _^_, _≤_, _<_}
 use native.Mathlib.Omega.{arith}
 use lib.Count.{ones}
 use lib.ListN.{length, getD}
@@ -13,9 +13,9 @@ use Rattle.schema.specs.Table.{Shape, struct, rowAt}
 use Rattle.schema.specs.File.{tableOf}
 use Rattle.schema.specs.Check.{IsGood, fieldRow}
 use Rattle.value.specs.Value.{Tree}
-use Rattle.value.specs.Read.{nodeRow, bitmap, walk, parse}
+use Rattle.value.specs.Read.{plainItem, present, nodeRow, bitmap, parse}
 use Rattle.walks.specs.Shape.{fieldsFrom, shapeIn}
-use Rattle.walks.proofs.Presence.{present-end}
+use Rattle.walks.proofs.Presence.{present-set, present-clear, present-end}
 use Rattle.walks.proofs.Tables.{few-fields, field-row, struct-row, struct-type, shape-struct}
 use Rattle.flat.specs.declared.leaf.Head.{Head}
 use Rattle.flat.specs.declared.leaf.Head.the-variants.{Bits, Refused as HeadRefused}
@@ -23,11 +23,12 @@ use Rattle.flat.specs.declared.Walk.{Walk}
 use Rattle.flat.specs.declared.Walk.the-variants.{Past, Refused}
 use Rattle.flat.specs.Leaf.{Headed}
 use Rattle.flat.specs.Sheet.{putRow}
-use Rattle.flat.specs.Walk.{firstFields, valueIn, wholeIn, Valued, Ready}
-use Rattle.flat.proofs.Steps.{aheadIn, was, as-refused, composite-past, composite-stop, rest-accepted, as-told}
+use Rattle.flat.specs.Walk.{firstFields, valueIn, Valued, Ready}
+use Rattle.flat.proofs.Steps.{as-refused, as-told}
 use Rattle.flat.proofs.Composites.{bitmap-accepted, struct-refused, head-in, struct-unknown, struct-whole, struct-valued, first-whole, first-part}
-use Rattle.flat.proofs.Composites.{leftOver, Turned, field-stop, field-accepted, field-read, field-absent}
+use Rattle.flat.proofs.Turns.{Reading, reading-first, reading-own, reading-end, reading-ready, reading-stop, reading-sum, reading-on}
 use Rattle.flat.proofs.Partials.{mine-count, PartAsked, part-first, part-room, part-count, part-stop, rest-asked, rest-stop, rest-in, rest-past}
+use Rattle.reader.proofs.Calls.{By}
 use Rattle.reader.specs.declared.walk.Fields.{Fields}
 use Rattle.reader.specs.Structs.{fieldsOf, OfType, OfCount, addedTo, ReadyFor, HeldBy, ShownBy}
 
@@ -97,88 +98,62 @@ type-few {s} {f = f} q typed = struct-type s (q .ready .good) (f .ty) _ (typed .
 -- ---- the loop over the fields f
 
 -- Where it stands: at field i, with so many left, by these bits.
-pub record Passing (known s p : List ℕ) (depth : ℕ) (f : Fields) (row : ℕ) (sheet : List ℕ) (i left bits here sum below : ℕ) (l : List ℕ) : Type 0 where
-  pub same : aheadIn known s p depth [] (leftOver (tableOf s) i left bits) here sum below l
-      ≡ aheadIn known s p depth [] (leftOver (tableOf s) (f .first) (f .n) (f .known)) (f .start) 0 (row + 1) sheet
-  pub inside : here ≤ length p
-  pub behind : below ≤ here
-  pub forth : sum + 16 * f .start ≤ 16 * here
-  pub long : length l ≡ length sheet
+pub record Passing (known s p : List ℕ) (depth : ℕ) (f : Fields) (row : ℕ) (judging : Bool) (sheet : List ℕ) (i left bits here sum below : ℕ) (l : List ℕ) : Type 0 where
+  pub asked : ReadyFor s p depth f row judging
+  pub at : Reading (By known s) s p depth (f .ty) (struct (fieldsOf s f)) (f .place) (f .known) (f .start) row judging sheet (present (fieldsFrom (tableOf s) i left) bits) here sum below l
   pub in-table : i + left ≤ length (tableOf s .fields)
 
-module _ {s p : List ℕ} {depth : ℕ} {f : Fields} {row : ℕ} {judging : Bool} (q : ReadyFor s p depth f row judging) where
-  pub passing-first : (known : List ℕ) {sheet : List ℕ} → Passing known s p depth f row sheet (f .first) (f .n) (f .known) (f .start) 0 (row + 1) sheet
-  passing-first known = record { same = refl; inside = q .ready .inside; behind = q .ready .behind; forth = omega arith; long = refl; in-table = q .in-table }
+module _ {s p : List ℕ} {depth : ℕ} {f : Fields} {row : ℕ} {judging : Bool} where
+  pub passing-first : ReadyFor s p depth f row judging → (known : List ℕ) {sheet : List ℕ} → Passing known s p depth f row judging sheet (f .first) (f .n) (f .known) (f .start) 0 (row + 1) sheet
+  passing-first q known = record { asked = q; at = reading-first (q .ready) _ refl _; in-table = q .in-table }
 
-  module _ {known sheet : List ℕ} {i left bits here sum below : ℕ} {l : List ℕ} (g : Passing known s p depth f row sheet i left bits here sum below l) where
+  module _ {known sheet : List ℕ} {i left bits here sum below : ℕ} {l : List ℕ} (g : Passing known s p depth f row judging sheet i left bits here sum below l) where
     pub passing-few : i + left ≤ 2048
-    passing-few = omega (arith, g .in-table, few-fields s (q .ready .good))
+    passing-few = omega (arith, g .in-table, few-fields s (g .asked .ready .good))
 
     module _ (some : 0 < left) where
-      turned : {here′ sum′ below′ : ℕ} {k : List ℕ} → Turned (showing known s) (shapeIn s) (reading s depth) p (tableOf s) i left bits here sum below l here′ sum′ below′ k
-          → Passing known s p depth f row sheet (i + 1) (left - 1) (bits / 2) here′ sum′ below′ k
-      turned t =
-          record {
-            same = sym (t .same) ∙ g .same;
-            inside = t .inside;
-            behind = t .behind;
-            forth = omega (arith, g .forth, t .forth);
-            long = t .long ∙ g .long;
-            in-table = omega (arith, g .in-table, some);
-          }
-
       pub passing-absent : (bits % 2 ≡ 1 → ⊥) → {here′ sum′ below′ : ℕ} {k : List ℕ} → here′ ≡ here → sum′ ≡ sum → below′ ≡ below → k ≡ l
-          → Passing known s p depth f row sheet (i + 1) (left - 1) (bits / 2) here′ sum′ below′ k
-      passing-absent none {here′} {sum′} {below′} {k} e₁ e₂ e₃ e₄ =
-          turned (field-absent (showing known s) (shapeIn s) (reading s depth) p (tableOf s) i left bits here sum below l some (g .in-table) none (g .inside) (g .behind) here′ sum′ below′ k e₁ e₂ e₃ e₄)
+          → Passing known s p depth f row judging sheet (i + 1) (left - 1) (bits / 2) here′ sum′ below′ k
+      passing-absent none e₁ e₂ e₃ e₄ =
+          rw (e₁, e₂, e₃, e₄)
+          (record { asked = g .asked; at = rw (present-clear (tableOf s) i left some (g .in-table) bits none) at (g .at); in-table = omega (arith, g .in-table, some) })
 
       pub passing-kind : 0 < rowAt (tableOf s) (fieldRow (tableOf s) i .ty) .kind
-      passing-kind = field-row s (q .ready .good) i left some (g .in-table) _ refl _ refl
+      passing-kind = field-row s (g .asked .ready .good) i left some (g .in-table) _ refl _ refl
 
       module _ (bit : bits % 2 ≡ 1) where
+        first : present (fieldsFrom (tableOf s) i left) bits ≡ plainItem (fieldRow (tableOf s) i .ty) ∷ present (fieldsFrom (tableOf s) (i + 1) (left - 1)) (bits / 2)
+        first = present-set (tableOf s) i left some (g .in-table) bits _ refl bit
+
         pub passing-ready : Ready s p here below judging (valueIn s p depth (fieldRow (tableOf s) i .ty) here)
-        passing-ready =
-            let items = leftOver (tableOf s) i left bits in
-            record {
-              good = q .ready .good;
-              small = q .ready .small;
-              inside = g .inside;
-              behind = g .behind;
-              judged = λ j.
-                  field-accepted (showing known s) (shapeIn s) (reading s depth) p (tableOf s) i left bits here sum below l some (g .in-table) _ refl bit
-                  (rest-accepted (showing known s) (shapeIn s) (reading s depth) (struct (fieldsOf s f)) (f .ty) (f .place) (f .known) (cursorAt p (f .start)) row sheet
-                  (walk (reading s depth) [] items (cursorAt p here)) items sum below l (g .same) (q .ready .judged j));
-            }
+        passing-ready = reading-ready (g .at) first
 
         module _ {r : Walk} {m : List ℕ} (w : Valued known s p depth (fieldRow (tableOf s) i .ty) here below l r m) where
           pub passing-stop : {number place : ℕ} → r ≡ Refused number place → {after : List ℕ} → HeldBy known s p depth f row sheet (Refused number place) after
-          passing-stop {number} {place} e {after} =
-              composite-stop (showing known s) (shapeIn s) (reading s depth) (struct (fieldsOf s f)) (f .ty) (f .place) (f .known) (cursorAt p (f .start)) row sheet p (f .start) number place after
-              (field-stop (showing known s) (shapeIn s) (reading s depth) p (tableOf s) i left bits here sum below l some (g .in-table) _ refl bit number place (was w e .same) ∙ g .same)
+          passing-stop e = reading-stop (g .at) first {m = m} (λ R shown. rw shown w) e (showing known s) refl
 
-          module _ {compared next row′ : ℕ} (e : r ≡ Past compared next row′) where
-            pub passing-sum : sum + compared ≤ 262144
-            passing-sum = let v = was w e .within in omega (arith, v, g .forth, q .ready .small)
+          module _ {comparisons next row′ : ℕ} (e : r ≡ Past comparisons next row′) where
+            pub passing-sum : sum + comparisons ≤ 262144
+            passing-sum = reading-sum (g .at) first {m = m} (λ R shown. rw shown w) e
 
-            pub passing-read : {here′ sum′ below′ : ℕ} {k : List ℕ} → here′ ≡ next → sum′ ≡ sum + compared → below′ ≡ row′ → k ≡ m
-                → Passing known s p depth f row sheet (i + 1) (left - 1) (bits / 2) here′ sum′ below′ k
-            passing-read {here′} {sum′} {below′} {k} e₁ e₂ e₃ e₄ =
-                turned (field-read (showing known s) (shapeIn s) (reading s depth) p (tableOf s) i left bits here sum below l some (g .in-table) _ refl bit compared next row′ m (was w e) here′ sum′ below′ k e₁ e₂ e₃ e₄)
+            pub passing-read : {here′ sum′ below′ : ℕ} {k : List ℕ} → here′ ≡ next → sum′ ≡ sum + comparisons → below′ ≡ row′ → k ≡ m
+                → Passing known s p depth f row judging sheet (i + 1) (left - 1) (bits / 2) here′ sum′ below′ k
+            passing-read e₁ e₂ e₃ e₄ =
+                rw (e₁, e₂, e₃, e₄)
+                (record { asked = g .asked; at = reading-on (g .at) first (λ R shown. rw shown w) e; in-table = omega (arith, g .in-table, some) })
 
     pub passing-own : f .ones ≤ 64 → (row ≤ 16384) × (f .place ≤ 16384) × (here - f .place ≤ 16384) × (f .ones ≤ 16384)
-    passing-own few = omega (arith, few, g .inside, g .behind, q .forth, q .ready .small, q .ready .inside, q .ready .behind)
+    passing-own few = reading-own (g .at) (g .asked .forth) (omega (arith, few))
 
     pub passing-forth : f .place ≤ here
-    passing-forth = omega (arith, q .forth, g .forth)
+    passing-forth = omega (arith, g .asked .forth, g .at .forth)
 
     pub passing-end : OfCount s f → left ≤ 0 → {after : List ℕ}
         → after ≡ putRow l row (record { ty = f .ty; place = f .place; length = here - f .place; count = f .ones })
         → HeldBy known s p depth f row sheet (Past sum here below) after
-    passing-end count none {after} put =
-        composite-past (showing known s) (shapeIn s) (reading s depth) (struct (fieldsOf s f)) (f .ty) (f .place) (f .known) (cursorAt p (f .start)) row sheet
-        p (f .start) here sum sum below l after [] (leftOver (tableOf s) i left bits) (present-end (tableOf s) i left none bits) (g .same)
-        (omega arith) (rw (← count .1) put) (g .inside) (g .behind) (g .forth)
+    passing-end count none put = reading-end (g .at) (present-end (tableOf s) i left none bits) (rw (← count .1) put) (omega arith) (g .at .forth) (showing known s) refl
 
+module _ {s p : List ℕ} {depth : ℕ} {f : Fields} {row : ℕ} {judging : Bool} (q : ReadyFor s p depth f row judging) where
   -- where all of them are shown, they are told as they are
   pub all-shown : (known : List ℕ) → OfType s f → f .n ≤ getD known (f .ty) 0 → {sheet after : List ℕ} {w : Walk}
       → HeldBy known s p depth f row sheet w after → ShownBy known s p depth f row sheet w after
@@ -229,12 +204,12 @@ module _ {known s p : List ℕ} {depth : ℕ} {f : Fields} {row : ℕ} {judging 
         pub added-stop : {number place : ℕ} → v ≡ Refused number place → {end : List ℕ} → ShownBy known s p depth f row sheet (Refused number place) end
         added-stop g = rest-stop halves (h .bits) (showing known s) walked e rest g
 
-        module _ {compared next below′ : ℕ} (g : v ≡ Past compared next below′) where
-          pub added-in : (f .place ≤ next) × (next ≤ 16384) × (row ≤ 16384) × (sum + compared ≤ 262144)
+        module _ {comparisons next below′ : ℕ} (g : v ≡ Past comparisons next below′) where
+          pub added-in : (f .place ≤ next) × (next ≤ 16384) × (row ≤ 16384) × (sum + comparisons ≤ 262144)
           added-in = rest-in halves (h .bits) (showing known s) walked e rest g
 
           pub added-past : {count : ℕ} → count ≡ ones mine → {end : List ℕ} → end ≡ putRow after row (nodeRow (f .ty) (f .place) next count)
-              → ShownBy known s p depth f row sheet (Past (sum + compared) next below) end
+              → ShownBy known s p depth f row sheet (Past (sum + comparisons) next below) end
           added-past same put =
               rest-past halves (h .bits) (showing known s) walked e rest g
               (first-part known (shapeIn s) (tableOf s) (f .ty) (f .first) (f .n) (h .typed .0) in-table m (h .same) le) (h .typed .0) same put

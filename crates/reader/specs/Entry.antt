@@ -24,7 +24,7 @@ sheetIn (outcome r sheet) = sheet
 -- A refusal leaves the sheet as it was; rows are written from the first on.
 abbrev pub outcomeOf : List ℕ → value.Reading → Outcome
 outcomeOf sheet (value.refusal n q) = outcome (Refused n q) sheet
-outcomeOf sheet (value.accepted rs place size compared) = outcome (Shown (length rs) place size compared) (shownIn sheet rs)
+outcomeOf sheet (value.accepted rs place size comparisons) = outcome (Shown (length rs) place size comparisons) (shownIn sheet rs)
 
 -- The whole rows that a sheet has.
 abbrev pub room : List ℕ → ℕ
@@ -57,7 +57,7 @@ pub record Numbers : Type 0 where
   pub comparisons : ℕ
 
 abbrev pub numbers : Reading → Numbers
-numbers (Shown rows place size compared) = record { number = 0; place = 0; rows = rows; tailPlace = place; tailLength = size; comparisons = compared }
+numbers (Shown rows place size comparisons) = record { number = 0; place = 0; rows = rows; tailPlace = place; tailLength = size; comparisons = comparisons }
 numbers (Refused n q) = record { number = n; place = q; rows = 0; tailPlace = 0; tailLength = 0; comparisons = 0 }
 
 -- The number of an outcome.

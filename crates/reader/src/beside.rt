@@ -6,9 +6,11 @@ use constants::limit;
 use constants::refusal;
 use schema::Checked;
 use schema::TypeRow;
-use schema::access::type_row;
-use schema::check::check;
-use schema::extension::is_widened;
+use table::access::type_row;
+use table::checking::check;
+use table::extension::is_widened;
+use table::file::layout_of;
+use table::rows::row;
 ghost use mathlib.Core.Path.{_≡_};
 ghost use mathlib.Core.Bool.{true, cond};
 ghost use Prim.Native.Nat.{_≤_};
@@ -35,11 +37,11 @@ fn known_fields(ours: &[u8]) -> [u8; limit::TYPES]
     requires { ⌜ IsGood (now ours) ⌝ }
     ensures { λ r. ⌜ Knows r (now (ours .entry)) ⌝ }
 {
+    let l = layout_of(ours);
     let mut shown = [0u8; limit::TYPES];
     let mut i = 0;
-    while i < limit::TYPES {
-        let t = type_row(ours, i);
-        shown[i] = fields_of(t);
+    while i < l.types {
+        shown[i] = fields_of(row(ours, l, i));
         i = i + 1;
     }
     shown

@@ -25,10 +25,10 @@ use flat::maps::read_maps;
 use flat::sheet::put_row;
 use schema::Layout;
 use schema::TypeRow;
-use schema::access::known_row;
-use schema::access::type_row;
-use schema::file::layout_of;
-use schema::rows::field_row;
+use table::access::known_row;
+use table::access::type_row;
+use table::file::layout_of;
+use table::rows::field_row;
 use value::MOST_PAIRS;
 use walks::key::FLAG_CELLS;
 use wire::bitmap::low_bits;
@@ -409,30 +409,12 @@ fn read_struct(
                 place: at,
                 start,
             };
-            read_chosen_fields(shown, s, p, sheet, f, depth, row, judging)
+            if shown_of(shown, ty) < n {
+                return read_shown_fields(shown, s, p, sheet, f, depth, row, judging);
+            }
+            read_fields(shown, s, p, sheet, f, depth, row, judging)
         }
     }
-}
-
-// The fields of a struct, all of them or those that are shown.
-fn read_chosen_fields(
-    shown: &[u8; limit::TYPES],
-    s: &[u8],
-    p: &[u8],
-    sheet: &mut [u32],
-    f: Fields,
-    depth: usize,
-    row: usize,
-    judging: bool,
-) -> Walk
-    requires { ⌜ ReadyFor (now s) (now p) depth f row judging × OfType (now s) f × OfCount (now s) f ⌝ }
-    ensures { λ r. ⌜ ShownBy (now (shown .entry)) (now (s .entry)) (now (p .entry)) depth f row (now (sheet .entry)) r (now (sheet .exit)) ⌝ }
-{
-    let m = shown_of(shown, f.ty);
-    if m < f.n {
-        return read_shown_fields(shown, s, p, sheet, f, depth, row, judging);
-    }
-    read_fields(shown, s, p, sheet, f, depth, row, judging)
 }
 
 // The fields of a struct, and its own row.
@@ -621,6 +603,24 @@ fn end_root(p: &[u8], due: u32, next: usize, row: usize, unknown: usize) -> Walk
     Walk::Past { due, next, row }
 }
 
+// The fields of the root, all of them or those that are shown. `read_struct` chooses for itself: a function with two callers would copy the fields once more.
+fn read_root_fields(
+    shown: &[u8; limit::TYPES],
+    s: &[u8],
+    p: &[u8],
+    sheet: &mut [u32],
+    f: Fields,
+    judging: bool,
+) -> Walk
+    requires { ⌜ ReadyFor (now s) (now p) 15 f 0 judging × OfType (now s) f × OfCount (now s) f ⌝ }
+    ensures { λ r. ⌜ ShownBy (now (shown .entry)) (now (s .entry)) (now (p .entry)) 15 f 0 (now (sheet .entry)) r (now (sheet .exit)) ⌝ }
+{
+    if shown_of(shown, f.ty) < f.n {
+        return read_shown_fields(shown, s, p, sheet, f, limit::BELOW_ROOT, 0, judging);
+    }
+    read_fields(shown, s, p, sheet, f, limit::BELOW_ROOT, 0, judging)
+}
+
 // The root, a struct of type ty that has n fields from the first on. What follows its known fields is the tail, which is not read.
 pub fn root(
     shown: &[u8; limit::TYPES],
@@ -654,7 +654,7 @@ pub fn root(
                 place: 0,
                 start,
             };
-            match read_chosen_fields(shown, s, p, sheet, f, limit::BELOW_ROOT, 0, judging) {
+            match read_root_fields(shown, s, p, sheet, f, judging) {
                 Walk::Refused { number, place } => Walk::Refused { number, place },
                 Walk::Past { due, next, row } => end_root(p, due, next, row, unknown),
             }

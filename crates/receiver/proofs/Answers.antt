@@ -30,7 +30,8 @@ use Rattle.calls.specs.declared.Figure.the-variants.{Nothing as NoFigure}
 use Rattle.calls.specs.Counting.{noTally, riseOf, figureBy, raised}
 use Rattle.calls.specs.Slots.{countOpen}
 use Rattle.calls.specs.Judge.{judgeOf}
-use Rattle.calls.specs.Step.{stepOf, dueOf}
+use Rattle.calls.specs.Step.{dueOf}
+use Rattle.connection.specs.Step.{stepOf}
 use Rattle.calls.proofs.Used.{uses-iff}
 use Rattle.calls.proofs.Apart.{error-unread}
 use Rattle.calls.proofs.Judgement.{judged-goes}

@@ -15,7 +15,8 @@ use Rattle.calls.specs.declared.Tally.{Tally}
 use Rattle.calls.specs.declared.Rise.{Rise}
 use Rattle.calls.specs.Slots.{ownOf, full}
 use Rattle.calls.specs.Judge.{judgeOf, Verdict, verdictOf}
-use Rattle.calls.specs.Step.{stepOf, dueOf}
+use Rattle.calls.specs.Step.{dueOf}
+use Rattle.connection.specs.Step.{stepOf}
 use Rattle.calls.specs.Counting.{noRise, riseOf}
 use Rattle.calls.specs.Apart.{verdict, verdictDue, verdictNumber, callMethod, verdictRise}
 use Rattle.calls.proofs.Goodness.{good-clauses, good-test}

@@ -22,8 +22,9 @@ use Rattle.calls.specs.declared.Figure.{Figure}
 use Rattle.calls.specs.declared.Figure.the-variants.{Nothing, Opened, Completed, Errored, Cancelled, Failed}
 use Rattle.calls.specs.declared.Rise.{Rise}
 use Rattle.calls.specs.Record.{counting}
-use Rattle.calls.specs.Slots.{freshTable, goodTable, ownOf}
-use Rattle.calls.specs.Step.{stepOf, dueOf}
+use Rattle.calls.specs.Slots.{goodTable, ownOf}
+use Rattle.calls.specs.Step.{dueOf}
+use Rattle.connection.specs.Step.{freshTable, stepOf}
 use Rattle.calls.specs.Counting.{noTally, figureBy, amountIn, fullAt}
 use Rattle.calls.specs.Event.{identifier}
 use Rattle.calls.specs.Order.{Heard, closed, pastOf}

@@ -18,7 +18,8 @@ use Rattle.calls.specs.declared.Rise.{Rise}
 use Rattle.calls.specs.Numbers.{endsCall}
 use Rattle.calls.specs.Slots.{goodTable}
 use Rattle.calls.specs.Judge.{judgeOf, judgeRelease}
-use Rattle.calls.specs.Step.{numberAfter, stepOf, dueOf, receive, release}
+use Rattle.calls.specs.Step.{numberAfter, dueOf, receive, release}
+use Rattle.connection.specs.Step.{stepOf}
 use Rattle.calls.specs.Counting.{noRise, releaseRise, figureBy, raised, rowAfter}
 use Rattle.calls.proofs.Goodness.{good-test}
 use Rattle.calls.proofs.Kept.{test-stays, stays-long, release-test, release-long}
@@ -47,7 +48,7 @@ by-number m r n p t e = ap (λ (f : Figure). cond (eqb (r .row) m) (raised t f) 
 module _ (s : List ℕ) (f : Frame) (payload : List ℕ) (size : ℕ) (sheet : List ℕ) (ts : List Tally) (l : List Call) where
   -- a whole frame is a step
   pub frame-holds : (P : ℕ → List Call → Type 0) → let r = receive (tableOf s) f (readingOf s f payload sheet ts l) l in
-      P (r .number) (r .table .slots) → P (frameEffect s f payload size sheet ts l .answer .number) (frameEffect s f payload size sheet ts l .answer .table .slots)
+      P (r .number) (r .slots) → P (frameEffect s f payload size sheet ts l .answer .number) (frameEffect s f payload size sheet ts l .answer .table .slots)
   unfolding frameEffect frameSettled receive stepOf
   frame-holds P h = h
 
@@ -80,7 +81,7 @@ module _ (s : List ℕ) (side : ℕ) (bytes sheet : List ℕ) (ts : List Tally) 
   -- What holds of the number, the records and the row of method m where the answer stops, and of every step of a frame at the front.
   pub answer-holds-row : (m : ℕ) (P : ℕ → List Call → Tally → Type 0) → ((n q : ℕ) → Stops s bytes l (length ts) n q → P n l (rowFor ts m))
       → ((f : Frame) → Front side bytes f → TablesReady s l (length ts) → (reading : Payload → ℕ) →
-      let r = receive (tableOf s) f reading l in P (r .number) (r .table .slots) (rowAfter m (frameRise s f l) (r .number) (rowFor ts m)))
+      let r = receive (tableOf s) f reading l in P (r .number) (r .slots) (rowAfter m (frameRise s f l) (r .number) (rowFor ts m)))
       → let a = received s side bytes sheet ts l in P (a .answer .number) (a .answer .table .slots) (rowFor (a .tallies) m)
   answer-holds-row m P stop step = go (ways s side bytes sheet ts l)
     where
@@ -96,7 +97,7 @@ module _ (s : List ℕ) (side : ℕ) (bytes sheet : List ℕ) (ts : List Tally) 
   -- The same of the number and the records.
   pub answer-holds : (P : ℕ → List Call → Type 0) → ((n q : ℕ) → Stops s bytes l (length ts) n q → P n l)
       → ((f : Frame) → Front side bytes f → IsGood s → goodTable (tableOf s) l ≡ true → (reading : Payload → ℕ) →
-      let r = receive (tableOf s) f reading l in P (r .number) (r .table .slots))
+      let r = receive (tableOf s) f reading l in P (r .number) (r .slots))
       → let a = received s side bytes sheet ts l in P (a .answer .number) (a .answer .table .slots)
   answer-holds P stop step =
       answer-holds-row 0 (λ n l′ _. P n l′) stop (λ f v w reading. step f v (w .schemaGood) (good-test (tableOf s) l (w .callsGood)) reading)
@@ -130,12 +131,12 @@ module _ (s : List ℕ) (l : List Call) (id : ℕ) (ts : List Tally) where
   releasing = releaseRise l (judgeRelease id l)
 
   release-number : (n : ℕ) → release id n l .number ≡ numberAfter (judgeRelease id l) n
-  unfolding release stepOf
+  unfolding release
   release-number n = refl
 
   -- What holds of the number, the records and the row of method m where it stops at a fault of the tables, and of every release that is judged.
   pub release-holds-row : (m : ℕ) (P : ℕ → List Call → Tally → Type 0) → ((n q : ℕ) → Unready s l (length ts) n q → P n l (rowFor ts m))
-      → (TablesReady s l (length ts) → (n : ℕ) → endsCall n ≡ false → let x = release id n l in P (x .number) (x .table .slots) (rowAfter m (releaseRise l (judgeRelease id l)) (x .number) (rowFor ts m)))
+      → (TablesReady s l (length ts) → (n : ℕ) → endsCall n ≡ false → let x = release id n l in P (x .number) (x .slots) (rowAfter m (releaseRise l (judgeRelease id l)) (x .number) (rowFor ts m)))
       → let a = released s l id ts in P (a .answer .number) (a .answer .table .slots) (rowFor (a .tallies) m)
   release-holds-row m P stop step = go (release-ways s l id ts)
     where
@@ -149,11 +150,11 @@ module _ (s : List ℕ) (l : List Call) (id : ℕ) (ts : List Tally) where
           ∙ by-number m releasing (numberAfter (judgeRelease id l) n) n (rowFor ts m) (release-figure l (judgeRelease id l) n)
           ∙ ap (λ (k : ℕ). rowAfter m releasing k (rowFor ts m)) (sym (release-number n)) in
           rw row
-          (told-holds (λ k l′. P k l′ (rowAfter m releasing (x .number) (rowFor ts m))) (x .number) 0 (x .table .slots) (step w n (number-spares s l id ts)))
+          (told-holds (λ k l′. P k l′ (rowAfter m releasing (x .number) (rowFor ts m))) (x .number) 0 (x .slots) (step w n (number-spares s l id ts)))
 
   -- The same of the number and the records.
   pub release-holds : (P : ℕ → List Call → Type 0) → ((n q : ℕ) → Unready s l (length ts) n q → P n l)
-      → (IsGood s → goodTable (tableOf s) l ≡ true → (n : ℕ) → endsCall n ≡ false → P (release id n l .number) (release id n l .table .slots))
+      → (IsGood s → goodTable (tableOf s) l ≡ true → (n : ℕ) → endsCall n ≡ false → P (release id n l .number) (release id n l .slots))
       → let a = released s l id ts in P (a .answer .number) (a .answer .table .slots)
   release-holds P stop step =
       release-holds-row 0 (λ n l′ _. P n l′) stop (λ w n k. step (w .schemaGood) (good-test (tableOf s) l (w .callsGood)) n k)

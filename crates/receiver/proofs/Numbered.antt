@@ -41,7 +41,8 @@ use Rattle.calls.specs.Slots.{ownOf, full}
 use Rattle.calls.specs.declared.OwnCall.{OwnCall}
 use Rattle.calls.specs.declared.OwnCall.the-variants.{None as none, One as one}
 use Rattle.calls.specs.Judge.{rightSide, payloadOf, releaseVerdict, judgeOf, judgeRelease, Verdict, stop, opens, goes, invokeVerdict, otherVerdict, verdictOf}
-use Rattle.calls.specs.Step.{stepOf, dueOf, release}
+use Rattle.calls.specs.Step.{dueOf, release}
+use Rattle.connection.specs.Step.{stepOf}
 use Rattle.calls.specs.Apart.{verdict, verdictNumber}
 use Rattle.calls.proofs.Used.{uses-iff}
 use Rattle.calls.proofs.Apart.{judged-by, release-answered}
@@ -307,7 +308,7 @@ release-listed s l id ts = go (release-ways s l id ts)
 
     go : {x : ReleaseEffect} → ReleaseWay s l id ts x → ReleaseNumber (x .answer .number) (x .answer .place)
     go (faulty w) = answer-listed l (unready-early s l (length ts) w) (unready-number s l (length ts) w)
-    go (releases w) = released-told (release id n l .table .slots) (release id n l .number) (rw (release-answered id n l) (judged-listed n listed-number (ownOf id l)))
+    go (releases w) = released-told (release id n l .slots) (release id n l .number) (rw (release-answered id n l) (judged-listed n listed-number (ownOf id l)))
 
 -- a release that is judged is 0, 11, 14 or 18
 abbrev JudgedNumber : ℕ → Type 0
@@ -338,7 +339,7 @@ release-stopped-iff s l id ts n q w = (λ (e, e′). go (release-ways s l id ts)
     go (releases r) e e′ =
         let m = releasedNumber s l id ts in
         let x = release id m l in
-        let number : x .number ≡ n = sym (release-told (x .table .slots) (x .number) 0 .0) ∙ e in
+        let number : x .number ≡ n = sym (release-told (x .slots) (x .number) 0 .0) ∙ e in
         absurd (apart (subst JudgedNumber (sym (release-answered id m l)) (judged-number m (released-number s l id ts) (ownOf id l))) number)
       where
         apart : {k : ℕ} → JudgedNumber k → k ≡ n → ⊥

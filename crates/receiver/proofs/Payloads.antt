@@ -55,7 +55,7 @@ pub record Both (sheet₁ sheet₂ : List ℕ) (o₁ o₂ : Outcome) : Type 0 wh
 module _ (sheet₁ sheet₂ : List ℕ) where
   both-of : (r : value.Reading) → Both sheet₁ sheet₂ (outcomeOf sheet₁ r) (outcomeOf sheet₂ r)
   both-of (value.refusal n q) = record { reading = refl; rows = []; count = refl; first = none-shown sheet₁; second = none-shown sheet₂ }
-  both-of (value.accepted rs place n compared) = record { reading = refl; rows = rs; count = refl; first = refl; second = refl }
+  both-of (value.accepted rs place n comparisons) = record { reading = refl; rows = rs; count = refl; first = refl; second = refl }
 
   both-bare : (r : Reading) → Bare r → Both sheet₁ sheet₂ (outcome r sheet₁) (outcome r sheet₂)
   both-bare r b = record { reading = refl; rows = []; count = b .rows; first = none-shown sheet₁; second = none-shown sheet₂ }
@@ -79,7 +79,7 @@ pub record Untouched (sheet : List ℕ) (o : Outcome) : Type 0 where
 
 refused-of : (sheet : List ℕ) (r : value.Reading) → (numberIn (outcomeOf sheet r) ≡ 0 → ⊥) → Untouched sheet (outcomeOf sheet r)
 refused-of sheet (value.refusal n q) h = record { bare = refused-bare n q; same = refl }
-refused-of sheet (value.accepted rs place n compared) h = absurd (h refl)
+refused-of sheet (value.accepted rs place n comparisons) h = absurd (h refl)
 
 pub refused-read : (s payload sheet : List ℕ) (d : Payload) → (numberIn (payloadRead s d payload sheet) ≡ 0 → ⊥) → Untouched sheet (payloadRead s d payload sheet)
 unfolding payloadRead payloadOutcome

@@ -74,7 +74,7 @@ own-kept (goes c d) own {n} e = rw (ne-eqb n 0 (early-zero e), early-spares e)
 
 -- a slot that a step opens is the lowest free one
 opened-by : (T : Table) (f : Frame) (l : List Call) (reading : Payload → ℕ) (i : ℕ) → slot l i .«open» ≡ false
-    → slot (receive T f reading l .table .slots) i .«open» ≡ true → (k : ℕ) → k < i → slot l k .«open» ≡ true
+    → slot (receive T f reading l .slots) i .«open» ≡ true → (k : ℕ) → k < i → slot l k .«open» ≡ true
 opened-by T f l reading i z o = go (judgeOf T f l) refl
   where
     kept : {A : Type 0} → (touched (judgeOf T f l) ≡ At i → ⊥) → A

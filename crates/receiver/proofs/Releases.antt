@@ -67,7 +67,7 @@ module _ (s : List ℕ) (l : List Call) (id : ℕ) (ts : List Tally) where
     where
       go : {x : ReleaseEffect} → ReleaseWay s l id ts x → x .answer .«open» ≡ countOpen (x .answer .table .slots)
       go (unready {n} {q} w) = counted n q l
-      go (releases w) = let x = release id (releasedNumber s l id ts) l in counted (x .number) 0 (x .table .slots)
+      go (releases w) = let x = release id (releasedNumber s l id ts) l in counted (x .number) 0 (x .slots)
 
   -- A refusal changes no call and no tally row.
   pub refused-kept : (number ≡ 0 → ⊥) → slots ≡ l
@@ -165,10 +165,10 @@ module _ (s : List ℕ) (id : ℕ) (l₁ l₂ : List Call) (ts₁ ts₂ : List T
       go (unready {n} {q} e) =
           told-reply n q l₁ ∙ sym (ap (λ (x : ReleaseEffect). releaseReply (x .answer)) (release-stops s l₂ id ts₂ (unready-too e)) ∙ told-reply n q l₂)
       go (releases w) =
-          told-reply (release id n₁ l₁ .number) 0 (release id n₁ l₁ .table .slots)
+          told-reply (release id n₁ l₁ .number) 0 (release id n₁ l₁ .slots)
           ∙ ap (λ (n : ℕ). reply n 0) numbers
           ∙ sym (ap (λ (x : ReleaseEffect). releaseReply (x .answer)) (release-judged s l₂ id ts₂ (ready-too w))
-          ∙ told-reply (release id n₂ l₂ .number) 0 (release id n₂ l₂ .table .slots))
+          ∙ told-reply (release id n₂ l₂ .number) 0 (release id n₂ l₂ .slots))
 
   pub same-own : ownOf id (released s l₁ id ts₁ .answer .table .slots) ≡ ownOf id (released s l₂ id ts₂ .answer .table .slots)
   same-own =

@@ -31,7 +31,8 @@ use Rattle.calls.specs.Numbers.{endsCall, usesFrame}
 use Rattle.calls.specs.declared.Judged.the-variants.{Refused as JudgedRefused}
 use Rattle.calls.specs.Slots.{goodTable, countOpen}
 use Rattle.calls.specs.Judge.{judgeRelease}
-use Rattle.calls.specs.Step.{stepOf, dueOf}
+use Rattle.calls.specs.Step.{dueOf}
+use Rattle.connection.specs.Step.{stepOf}
 use Rattle.calls.specs.Counting.{releaseRise, figureBy, fullAt, raised}
 use Rattle.calls.specs.OwnSlots.{ownSlotOf}
 use Rattle.calls.proofs.OwnSlots.{judged-by-slot, rise-by-slot, release-by-slot, release-rise-by-slot}
@@ -326,7 +327,7 @@ module _ (t : Tally) (next : Next) where
   pub release-told : (J : Judged) (r : Rise) (place end : ℕ) (reading : Reading) (n : ℕ) (f : Figure) (row : Tally) → next ≡ Settle J r place end
       → reading ≡ countedRead t r → n ≡ numbers reading .number → f ≡ figureBy r n → row ≡ raised t f
       → (l : List Call) → releaseIn (record { row = row; judged = J; reading = reading; size = 0 }) l ≡ releaseSettled l t next
-  unfolding releaseSettled
+  unfolding releaseSettled stepOf
   release-told J r place end reading n f row e is k g w l = rw (e, w, g, k, is) (go (fullAt t (figureBy r 0)))
     where
       told : Reading → SettledRelease

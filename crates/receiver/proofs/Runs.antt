@@ -26,16 +26,16 @@ use Rattle.calls.specs.declared.Tally.{Tally}
 use Rattle.calls.specs.declared.Figure.{Figure}
 use Rattle.calls.specs.declared.Figure.the-variants.{Nothing as NoFigure}
 use Rattle.calls.specs.declared.Rise.{Rise}
-use Rattle.calls.specs.declared.Stepped.{Stepped}
 use Rattle.calls.specs.declared.Judged.{Judged}
 use Rattle.calls.specs.declared.Judged.the-variants.{Refused as JudgedRefused, Opens, Goes}
 use Rattle.calls.specs.declared.Payload.the-variants.{Struct, Empty, Unread}
 use Rattle.calls.specs.Record.{emptyCall, isCall}
-use Rattle.calls.specs.Slots.{freshTable, slot, countOpen, goodTable, contains, ownOf, full}
+use Rattle.calls.specs.Slots.{slot, countOpen, goodTable, contains, ownOf, full}
 use Rattle.calls.specs.declared.OwnCall.{OwnCall}
 use Rattle.calls.specs.declared.OwnCall.the-variants.{None as none, One as one}
 use Rattle.calls.specs.Judge.{rightSide, judgeOf, judgeRelease, Verdict, stop, goes, releaseVerdict}
-use Rattle.calls.specs.Step.{stepOf, dueOf}
+use Rattle.calls.specs.Step.{Afterwards, dueOf}
+use Rattle.connection.specs.Step.{freshTable, stepOf}
 use Rattle.calls.specs.Counting.{noTally, noRise, riseOf, releaseRise, figureBy, fullAt, countedNumber}
 use Rattle.calls.specs.Good.{GoodCalls}
 use Rattle.calls.specs.Numbers as numbers
@@ -450,20 +450,20 @@ module _ (s : List ℕ) (g : IsGood s) (l : List Call) (ts : List Tally) (k : Go
   abbrev n₀ : ℕ
   n₀ = releasedNumber s l id ts
 
-  abbrev x₀ : Stepped
+  abbrev x₀ : Afterwards
   x₀ = calls-step.release id n₀ l
 
   pub judged-release : released s l id ts ≡ releaseJudged s l id ts
   judged-release = release-judged s l id ts (record { schemaGood = g; callsGood = k; rowsRight = rowed })
 
   pub number-told : released s l id ts .answer .number ≡ x₀ .number
-  number-told = ap (λ (a : ReleaseEffect). a .answer .number) judged-release ∙ told-number-of (x₀ .number) 0 (x₀ .table .slots)
+  number-told = ap (λ (a : ReleaseEffect). a .answer .number) judged-release ∙ told-number-of (x₀ .number) 0 (x₀ .slots)
 
   module _ (past : Past) (r : Reflects past (ownOf id l)) where
     own-released : let a = released s l id ts .answer in
         Reflects (after (tableOf s) (record { event = calls.release id; number = a .number }) past) (ownOf id (a .table .slots))
     own-released =
-        rw (judged-release, told-number-of (x₀ .number) 0 (x₀ .table .slots), told-slots (x₀ .number) 0 (x₀ .table .slots))
+        rw (judged-release, told-number-of (x₀ .number) 0 (x₀ .slots), told-slots (x₀ .number) 0 (x₀ .slots))
         (release-reflects (tableOf s) (good-table s g) l k id past r n₀ (number-spares s l id ts))
 
     release-rules : (n : ℕ) → (released s l id ts .answer .number ≡ n) ↔ ReleasedAs ts past n

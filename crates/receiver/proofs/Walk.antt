@@ -56,12 +56,12 @@ pub use denote.Triple.Walked.{Stays, stay-dropped, gave-slice, walkOf, goes-drop
 pub use denote.Exit.{yes}
 use Rattle.buffer.proofs.ByHand.{from-at, field-of}
 use Rattle.calls.specs.declared.Tally.{Tally}
-use Rattle.calls.specs.declared.CallTable.{CallTable}
+use Rattle.connection.specs.declared.CallTable.{CallTable}
 use Rattle.calls.specs.Counting.{noTally}
 use Rattle.calls.proofs.Tally as T
 use Rattle.calls.proofs.Tally.Laws as T′
-use Rattle.calls.proofs.CallTable as S
-use Rattle.calls.proofs.CallTable.Laws as S′
+use Rattle.connection.proofs.CallTable as S
+use Rattle.connection.proofs.CallTable.Laws as S′
 use Rattle.receiver.specs.declared.Plan.{Plan}
 use Rattle.receiver.proofs.Lent.{in-room}
 use Rattle.receiver.proofs.Plan as P

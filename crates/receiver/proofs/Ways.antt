@@ -126,10 +126,10 @@ module _ (s : List ℕ) (side : ℕ) (bytes sheet : List ℕ) (ts : List Tally) 
   k = length ts
 
   -- a plan settled among the rows
-  abbrev effectOf : Plan → Effect
+  abbrev pub effectOf : Plan → Effect
   effectOf plan = inRow ts (plan .row) (settled s bytes sheet l (getD ts (plan .row) noTally) (plan .next))
 
-  stop-effect : (n q : ℕ) → effectOf (stopPlan n q) ≡ effect (stopped l n q) sheet ts
+  pub stop-effect : (n q : ℕ) → effectOf (stopPlan n q) ≡ effect (stopped l n q) sheet ts
   unfolding settled
   stop-effect n q = ap (effect (stopped l n q) sheet) (same-row ts 0)
 

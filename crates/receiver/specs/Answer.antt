@@ -9,7 +9,7 @@ use Rattle.calls.specs.declared.Tally.{Tally}
 use Rattle.calls.specs.declared.Rise.{Rise}
 use Rattle.calls.specs.declared.Payload.{Payload}
 use Rattle.calls.specs.declared.Payload.the-variants.{Struct, Empty, Unread}
-use Rattle.calls.specs.declared.Stepped.{Stepped}
+use Rattle.connection.specs.declared.Stepped.{Stepped}
 use Rattle.calls.specs.Numbers.{usesFrame}
 use Rattle.calls.specs.Slots.{countOpen}
 use Rattle.calls.specs.Counting.{figureBy, fullAt}
@@ -17,7 +17,7 @@ use Rattle.reader.specs.declared.Reading.{Reading}
 use Rattle.reader.specs.declared.Reading.the-variants.{Shown, Refused}
 use Rattle.reader.specs.Entry.{Outcome, outcome, payloadOutcome, Numbers, numbers}
 pub use Rattle.reader.specs.Entry.{numberIn}
-use Rattle.calls.specs.Step.{stepOf}
+use Rattle.connection.specs.Step.{stepOf}
 use Rattle.receiver.specs.declared.Received.{Received}
 use Rattle.receiver.specs.declared.Done.{Done}
 

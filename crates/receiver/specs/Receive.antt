@@ -11,7 +11,8 @@ use Rattle.calls.specs.declared.Judged.{Judged}
 use Rattle.calls.specs.declared.Rise.{Rise}
 use Rattle.calls.specs.declared.Tally.{Tally}
 use Rattle.calls.specs.Judge.{judgeOf}
-use Rattle.calls.specs.Step.{stepOf, dueOf}
+use Rattle.calls.specs.Step.{dueOf}
+use Rattle.connection.specs.Step.{stepOf}
 use Rattle.calls.specs.Counting.{noTally, riseOf, figureBy, raised}
 use Rattle.reader.specs.Entry.{Outcome, readingIn, sheetIn}
 use Rattle.receiver.specs.declared.Received.{Received}

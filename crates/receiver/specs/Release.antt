@@ -5,9 +5,9 @@ use mathlib.Core.List.{List}
 use lib.ListN.{length, getD, set}
 use Rattle.calls.specs.declared.Call.{Call}
 use Rattle.calls.specs.declared.Tally.{Tally}
-use Rattle.calls.specs.declared.Stepped.{Stepped}
 use Rattle.calls.specs.Slots.{countOpen}
-use Rattle.calls.specs.Step.{stepOf}
+use Rattle.calls.specs.Step.{Afterwards, afterJudged}
+use Rattle.connection.specs.Step.{stepOf}
 use Rattle.calls.specs.Counting.{noTally, figureBy, raised, countedNumber}
 use Rattle.receiver.specs.declared.Next.{Next}
 use Rattle.receiver.specs.declared.Next.the-variants.{Refused, Settle}
@@ -29,8 +29,8 @@ releaseEffect a ts = record { answer = a; tallies = ts }
 unfoldable pub releaseAnswer : (number place : ℕ) → List Call → Released
 releaseAnswer number place l = record { number = number; place = place; «open» = countOpen l; table = record { slots = l } }
 
-abbrev pub steppedAnswer : Stepped → Released
-steppedAnswer x = releaseAnswer (x .number) 0 (x .table .slots)
+abbrev pub steppedAnswer : Afterwards → Released
+steppedAnswer x = releaseAnswer (x .number) 0 (x .slots)
 
 -- A plan settled up to the call table, as the row and the answer over the call table l.
 abbrev pub releaseIn : Done → List Call → SettledRelease
@@ -43,7 +43,7 @@ unfoldable pub releaseSettled : List Call → Tally → Next → SettledRelease
 releaseSettled l t (Refused number place) = record { row = t; answer = releaseAnswer number place l }
 releaseSettled l t (Settle J r place end) =
     let n = countedNumber t r 0 in
-    record { row = raised t (figureBy r n); answer = steppedAnswer (stepOf J n l) }
+    record { row = raised t (figureBy r n); answer = steppedAnswer (afterJudged J n l) }
 
 -- Any schema file, call table, correlation and tally rows.
 unfoldable pub released : (schema : List ℕ) → List Call → (correlation : ℕ) → List Tally → ReleaseEffect

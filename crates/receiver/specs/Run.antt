@@ -12,7 +12,8 @@ use Rattle.frame.specs.Frame.{frameOf}
 use Rattle.calls.specs.declared.Call.{Call}
 use Rattle.calls.specs.declared.Frame.{Frame}
 use Rattle.calls.specs.declared.Tally.{Tally}
-use Rattle.calls.specs.Slots.{freshTable, countOpen}
+use Rattle.calls.specs.Slots.{countOpen}
+use Rattle.connection.specs.Step.{freshTable}
 use Rattle.calls.specs.Counting.{noTally}
 use Rattle.calls.specs.Event as calls
 use Rattle.calls.specs.Order.{Past, Heard, pastOf}

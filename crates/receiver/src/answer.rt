@@ -2,10 +2,10 @@
 use crate::Done;
 use crate::Received;
 use crate::Released;
-use calls::CallTable;
 use calls::Judged;
 use calls::Payload;
-use calls::numbers::uses_frame;
+use connection::CallTable;
+use connection::numbers::uses_frame;
 use constants::refusal;
 use reader::Reading;
 ghost use mathlib.Core.Path.{_≡_};

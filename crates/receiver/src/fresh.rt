@@ -2,9 +2,9 @@
 use crate::FrameAnswer;
 use crate::planning::plan_good;
 use crate::settling::missed;
-use calls::CallTable;
+use connection::CallTable;
 use frame::read_frame;
-use schema::access::method_count;
+use table::access::method_count;
 ghost use mathlib.Core.Path.{_≡_};
 ghost use Rattle.schema.specs.Check.{IsGood};
 ghost use Rattle.frame.specs.Frame.{frameOf};

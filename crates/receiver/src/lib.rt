@@ -8,11 +8,11 @@ pub mod receive;
 pub mod release;
 pub mod settling;
 
-use calls::CallTable;
 use calls::Frame;
 use calls::Judged;
 use calls::Rise;
 use calls::Tally;
+use connection::CallTable;
 use frame::FrameRead;
 use reader::Reading;
 

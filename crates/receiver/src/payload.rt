@@ -2,6 +2,8 @@
 use calls::Payload;
 use calls::Rise;
 use calls::Tally;
+use connection::tallies::figure_by;
+use connection::tallies::is_full;
 use constants::refusal;
 use reader::Reading;
 use reader::judge_payload;
@@ -79,11 +81,11 @@ pub fn read_counted(
 {
     let accepted = rise.accepted;
     let refused = rise.refused;
-    if !(tally.is_full(accepted) | tally.is_full(refused)) {
+    if !(is_full(tally, accepted) | is_full(tally, refused)) {
         return read(schema, due, payload, sheet);
     }
-    let figure = rise.figure(number(schema, due, payload, sheet));
-    if tally.is_full(figure) {
+    let figure = figure_by(rise, number(schema, due, payload, sheet));
+    if is_full(tally, figure) {
         return Reading::Refused {
             number: refusal::TALLY_FULL,
             place: 0,

@@ -2,17 +2,21 @@
 use crate::Front;
 use crate::Next;
 use crate::Plan;
-use calls::CallTable;
 use calls::Frame;
 use calls::OwnSlot;
+use connection::CallTable;
+use connection::judge::judge_frame;
+use connection::judge::judge_release;
+use connection::tallies::release_rise;
+use connection::tallies::rise_of;
 use constants::frame_kind;
 use constants::refusal;
 use frame::FrameRead;
 use frame::Header;
 use frame::read_frame;
 use schema::Checked;
-use schema::access::method_count;
-use schema::check::check;
+use table::access::method_count;
+use table::checking::check;
 ghost use mathlib.Core.Path.{_≡_};
 ghost use Prim.Native.Nat.{_≤_};
 ghost use Rattle.schema.specs.File.{tableOf};
@@ -99,9 +103,9 @@ pub fn plan_frame(slot: OwnSlot, schema: &[u8], f: Frame, place: usize, end: usi
     requires { ⌜ IsGood (now schema) ⌝ }
     ensures { λ r. ⌜ r ≡ slotPlan (tableOf (now (schema .entry))) f slot place end ⌝ }
 {
-    let judged = slot.judge(schema, f);
+    let judged = judge_frame(slot, schema, f);
     let own = slot.own;
-    let rise = own.rise(f.kind, judged);
+    let rise = rise_of(own, f.kind, judged);
     Plan {
         row: rise.row,
         next: Next::Settle {
@@ -117,9 +121,9 @@ pub fn plan_frame(slot: OwnSlot, schema: &[u8], f: Frame, place: usize, end: usi
 pub fn plan_call(slot: OwnSlot) -> Plan
     ensures { λ r. ⌜ r ≡ callPlan slot ⌝ }
 {
-    let judged = slot.judge_release();
+    let judged = judge_release(slot);
     let own = slot.own;
-    let rise = own.release_rise(judged);
+    let rise = release_rise(own, judged);
     Plan {
         row: rise.row,
         next: Next::Settle {

@@ -3,8 +3,8 @@ use crate::Released;
 use crate::planning::plan_release;
 use crate::settling::missed_release;
 use crate::settling::settle_release;
-use calls::CallTable;
 use calls::Tally;
+use connection::CallTable;
 ghost use mathlib.Core.Path.{_≡_};
 ghost use Rattle.receiver.specs.Release.{releaseEffect, released};
 

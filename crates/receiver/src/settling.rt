@@ -12,11 +12,14 @@ use crate::answer::number_of;
 use crate::answer::release_answer;
 use crate::payload::nothing;
 use crate::payload::read_counted;
-use calls::CallTable;
 use calls::Judged;
 use calls::Rise;
 use calls::Tally;
-use calls::tallies::NO_TALLY;
+use connection::CallTable;
+use connection::tallies::NO_TALLY;
+use connection::tallies::figure_by;
+use connection::tallies::is_full;
+use connection::tallies::raised;
 use constants::refusal;
 use reader::Reading;
 ghost use mathlib.Core.Path.{_≡_};
@@ -58,7 +61,7 @@ fn settle_frame(
     ensures { λ r. ⌜ ((l : List Call) → rowEffect (answerIn r l) (now (sheet .exit)) (r .row) ≡ frameSettled (now (schema .entry)) judged rise (now (payload .entry)) size (now (sheet .entry)) tally l) ⌝ }
 {
     let reading = read_counted(schema, due_of(judged), payload, sheet, tally, rise);
-    let row = tally.raised(rise.figure(number_of(reading)));
+    let row = raised(tally, figure_by(rise, number_of(reading)));
     Done {
         row,
         judged,
@@ -89,7 +92,7 @@ pub fn settle_plan(plan: Plan, schema: &[u8], bytes: &[u8], sheet: &mut [u32], t
 fn counted(tally: Tally, rise: Rise) -> Reading
     ensures { λ r. ⌜ r ≡ countedRead tally rise ⌝ }
 {
-    if tally.is_full(rise.figure(refusal::ACCEPTED)) {
+    if is_full(tally, figure_by(rise, refusal::ACCEPTED)) {
         Reading::Refused {
             number: refusal::TALLY_FULL,
             place: 0,
@@ -114,7 +117,7 @@ pub fn settle_call(plan: Plan, tally: Tally) -> Done
             end: _,
         } => {
             let reading = counted(tally, rise);
-            let row = tally.raised(rise.figure(number_of(reading)));
+            let row = raised(tally, figure_by(rise, number_of(reading)));
             Done {
                 row,
                 judged,

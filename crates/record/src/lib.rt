@@ -4,6 +4,9 @@ use frame::FrameRead;
 ghost use mathlib.Core.Path.{_≡_};
 ghost use Rattle.record.specs.Entry.{isSide, entryLength};
 
+// Where the frame of an entry stands: behind the side byte.
+pub const FRAME_AT: usize = 1;
+
 // Whether the byte is C or S.
 fn is_side(byte: u8) -> bool
     ensures { λ r. ⌜ r ≡ isSide byte ⌝ }
@@ -21,12 +24,12 @@ pub fn entry_length(bytes: &[u8]) -> usize
     if !is_side(bytes[0]) {
         return 0;
     }
-    match frame::read_frame(&bytes[1..]) {
+    match frame::read_frame(&bytes[FRAME_AT..]) {
         FrameRead::Frame {
             header: _,
             place,
             length,
-        } => 1 + place + length,
+        } => FRAME_AT + place + length,
         FrameRead::More => 0,
         FrameRead::Refused(_) => 0,
     }

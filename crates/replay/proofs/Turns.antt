@@ -22,7 +22,7 @@ use Rattle.calls.specs.declared.Judged.the-variants.{Refused as JudgedRefused}
 use Rattle.calls.specs.declared.Tally.{Tally}
 use Rattle.calls.specs.Numbers.{usesFrame}
 use Rattle.calls.specs.Judge.{judgeOf, verdictOf}
-use Rattle.calls.specs.Step.{stepOf}
+use Rattle.connection.specs.Step.{stepOf}
 use Rattle.calls.proofs.Sides.{no-side}
 use Rattle.reader.specs.Entry.{room}
 use Rattle.receiver.specs.declared.Received.{Received}

@@ -10,7 +10,7 @@ use Rattle.frame.specs.declared.FrameRead.{FrameRead}
 use Rattle.frame.specs.Frame.{frameOf}
 use Rattle.frame.specs.Numbers.{numbers}
 use Rattle.calls.specs.declared.Call.{Call}
-use Rattle.calls.specs.Slots.{freshTable}
+use Rattle.connection.specs.Step.{freshTable}
 use Rattle.receiver.specs.declared.Received.{Received}
 use Rattle.receiver.specs.Fresh.{receivedFresh}
 

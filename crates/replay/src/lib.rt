@@ -1,5 +1,5 @@
 // The run of a record: one entry after the other from the fresh call table.
-use calls::CallTable;
+use connection::CallTable;
 use constants::refusal;
 use constants::side;
 use frame::FrameRead;

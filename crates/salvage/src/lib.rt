@@ -12,6 +12,9 @@ ghost use lib.Seq.{sets};
 ghost use Rattle.salvage.specs.Pieces.{piecesOf, copyOf, spansOf};
 ghost use Rattle.salvage.specs.Salvage.{measureOf, filled, outcome, roomForAny, roomFault, salvageOf};
 
+// Cells of a listed span: its place and its length.
+pub const SPAN_CELLS: usize = 2;
+
 pub enum Salvaging {
     // Entries kept, bytes copied, and spans listed.
     Salvaged {
@@ -102,9 +105,6 @@ fn put_pieces(torn: &[u8], copy: &mut [u8], spans: &mut [u32]) -> Measure
 const ENTRY: usize = 27;
 
 const SPAN_AND_ENTRY: usize = ENTRY + 1;
-
-// Cells of a listed span: its place and its length.
-const SPAN_CELLS: usize = 2;
 
 // Whether a copy and a list of these lengths have room for the pieces of any record of so many bytes.
 fn has_room(torn: usize, copy: usize, spans: usize) -> bool

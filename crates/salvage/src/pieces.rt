@@ -1,5 +1,6 @@
 // The first piece of what is left of a record.
 use constants::format;
+use frame::layout;
 use record::entry_length;
 ghost use mathlib.Core.Path.{_≡_};
 ghost use mathlib.Core.Bool.{not};
@@ -9,10 +10,15 @@ ghost use lib.ListN.{length, drop};
 ghost use Rattle.record.specs.Entry.{entryLength};
 ghost use Rattle.salvage.specs.Pieces.{spanLength, firstPiece, isKept, bytesIn, magicAfter, magicAmong};
 
+// Where the magic of a frame stands in an entry.
+const MAGIC_AT: usize = record::FRAME_AT + layout::MAGIC_AT;
+
+const MAGIC_2_AT: usize = record::FRAME_AT + layout::MAGIC_2_AT;
+
 // Places that are looked at together, and the bytes that this takes: the last magic ends two bytes further on.
 const BLOCK: usize = 32;
 
-const BLOCK_BYTES: usize = BLOCK + 2;
+const BLOCK_BYTES: usize = BLOCK + MAGIC_2_AT;
 
 // An entry that is kept, or a span that is left out.
 pub struct Piece {
@@ -25,7 +31,7 @@ fn has_magic(bytes: &[u8], at: usize) -> bool
     requires { ⌜ at + 3 ≤ length (now bytes) ⌝ }
     ensures { λ r. ⌜ r ≡ magicAfter (now (bytes .entry)) at ⌝ }
 {
-    (bytes[at + 1] == format::MAGIC) & (bytes[at + 2] == format::MAGIC_2)
+    (bytes[at + MAGIC_AT] == format::MAGIC) & (bytes[at + MAGIC_2_AT] == format::MAGIC_2)
 }
 
 // Whether it does after one of a block's places. All are looked at: a loop without a way out compares several at a time.

@@ -10,7 +10,7 @@ use lib.Dec.{ltb, eqb}
 use lib.ListN.{length, getD}
 use Rattle.buffer.specs.Span.{span, inside}
 use Rattle.wire.specs.Little.{little}
-use Rattle.wire.specs.Utf8.{utf8}
+use Rattle.utf8.specs.Utf8.{utf8}
 use Rattle.schema.specs.Table.{Table, Shape, unknown, scalar, text, array, map, struct, rowAt, shape, width}
 use Rattle.schema.specs.declared.Checked.the-variants as check
 use Rattle.schema.specs.File.{tableOf}

@@ -7,7 +7,7 @@ use lib.Ieee as ieee
 use lib.Ieee.{nan, inf}
 use lib.IntN.{pos, negsuc}
 use Rattle.wire.specs.Little as little
-use Rattle.wire.specs.Utf8 as utf8
+use Rattle.utf8.specs.Utf8 as utf8
 use Rattle.schema.specs.declared.TypeRow.{TypeRow}
 use Rattle.schema.specs.Table as table
 use Rattle.schema.specs.Table.{Table}

@@ -8,9 +8,9 @@ use borrow.Author.Tests.{eq-eqb, le-leb, eqb-true, leb-true, ltb-true}
 use lib.Dec.{leb}
 use lib.ListN.{length}
 use Rattle.buffer.specs.Span.{span}
-use Rattle.wire.specs.Utf8.{Utf8}
+use Rattle.utf8.specs.Utf8.{Utf8}
 use Rattle.wire.proofs.Cases.{cond-case}
-use Rattle.wire.proofs.Utf8s.{utf8-is}
+use Rattle.utf8.proofs.Utf8s.{utf8-is}
 use Rattle.parse.specs.Reader.{Cursor, refused, seen, cursorAt}
 use Rattle.parse.proofs.Answers.{Seen, nothing, seen-map, seen-end}
 use Rattle.schema.specs.declared.Field.{Field}

@@ -10,8 +10,8 @@ use lib.ListN.{length}
 use borrow.Author.Tests.{leb-true, leb-false, ltb-false, eqb-true, eqb-false, le-leb, lt-leb, le-ltb, eq-eqb, ne-eqb}
 use Rattle.buffer.specs.Span.{span, inside}
 use Rattle.wire.specs.Little.{little}
-use Rattle.wire.specs.Utf8.{utf8}
-use Rattle.wire.proofs.Utf8s.{utf8-is}
+use Rattle.utf8.specs.Utf8.{utf8}
+use Rattle.utf8.proofs.Utf8s.{utf8-is}
 use Rattle.parse.specs.Test.{test}
 use Rattle.schema.specs.declared.Checked.{Checked}
 use Rattle.schema.specs.declared.Checked.the-variants as check

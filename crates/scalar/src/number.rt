@@ -3,7 +3,7 @@ use crate::Scalar;
 use crate::float::float32;
 use crate::float::float64;
 use constants::kind;
-use schema::kind::width_of;
+use table::kind::width_of;
 use wire::little::number;
 use wire::little::signed;
 ghost use mathlib.Core.Path.{_≡_};
@@ -21,6 +21,9 @@ const UINT64: usize = kind::UINT64 as usize;
 
 const FLOAT32: usize = kind::FLOAT32 as usize;
 
+// Bits of a byte.
+const BYTE_BITS: usize = 8;
+
 // The value of a scalar kind at a place.
 pub fn value(s: &[u8], kind: usize, place: usize) -> Scalar
     requires { ⌜ (0 < kind) × (kind < 12) × (place + width kind ≤ length (now s)) ⌝ }
@@ -32,7 +35,7 @@ pub fn value(s: &[u8], kind: usize, place: usize) -> Scalar
         return Scalar::Truth(x == 1);
     }
     if kind <= INT64 {
-        return Scalar::Signed(signed(x, 1 << (8 * w - 1)));
+        return Scalar::Signed(signed(x, 1 << (BYTE_BITS * w - 1)));
     }
     if kind <= UINT64 {
         return Scalar::Unsigned(x);

@@ -11,7 +11,5 @@ pub mod Widths
 pub mod Numbers
 pub mod Shapes
 pub mod Methods
-pub mod Flags
-pub mod Products
 pub mod Extensions
 pub mod Extending

@@ -1,11 +1,5 @@
-// The schema table: a file of type rows, field entries, method entries and a trailer, all little-endian 32-bit numbers.
-pub mod access;
-pub mod check;
-pub mod extension;
-pub mod file;
-pub mod kind;
-pub mod product;
-pub mod rows;
+// The schema table: a file of type rows, field entries, method entries and a trailer, all little-endian 32-bit numbers. The definitions stand in specs/,
+// their laws in proofs/, and the code in the crate `table`.
 
 // A type row: the kind, and the two numbers that its kind uses.
 pub struct TypeRow {

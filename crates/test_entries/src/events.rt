@@ -5,16 +5,17 @@ use crate::output;
 use crate::sums;
 use crate::tables::MOST;
 use calls::Call;
-use calls::CallTable;
+use cells::rows::TALLY_CELLS;
+use cells::rows::put_row;
+use cells::rows::row_in;
+use connection::CallTable;
 use constants::limit;
-use exports::rows::put_row;
-use exports::rows::row_in;
 use receiver::planning::plan;
 use receiver::planning::plan_release;
 use receiver::settling::settle;
 use receiver::settling::settle_release;
 use schema::Checked;
-use schema::access::method_count;
+use table::access::method_count;
 ghost use Prim.Native.Nat.{_≤_};
 
 // The most events of a run or a history.
@@ -67,7 +68,7 @@ fn run_case(marked: bool) -> bool {
     }
     if whole {
         let rows = fresh_rows(&schema[..n]);
-        let m = input::within(&tallies, 5 * rows, &mut whole);
+        let m = input::within(&tallies, TALLY_CELLS * rows, &mut whole);
         run_events(
             &schema[..n],
             cells,
@@ -133,7 +134,7 @@ fn run_release(
 
 // Prints all but the sums. The tally rows stand in cells, as the entry for other languages has them; the plan and its settling are those of `arf::release`.
 fn released(table: CallTable, schema: &[u8], correlation: u64, tallies: &mut [u32]) -> Next {
-    let plan = plan_release(table, schema, correlation, tallies.len() / 5);
+    let plan = plan_release(table, schema, correlation, tallies.len() / TALLY_CELLS);
     let row = plan.row;
     let next = settle_release(table, plan, row_in(tallies, row));
     put_row(tallies, row, next.row);
@@ -179,7 +180,7 @@ fn answer(
     sheet: &mut [u32],
     tallies: &mut [u32],
 ) -> Next {
-    let plan = plan(table, schema, side, data, tallies.len() / 5);
+    let plan = plan(table, schema, side, data, tallies.len() / TALLY_CELLS);
     let row = plan.row;
     let old = row_in(tallies, row);
     let next = settle(table, plan, schema, data, sheet, old);

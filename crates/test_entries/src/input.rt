@@ -1,6 +1,10 @@
 // The numbers and byte strings of a case file, off standard input. Each reader answers 0 and clears `whole` where the file ends too soon.
+use cells::rows::TALLY_CELLS;
 use libc::STDIN_FILENO;
 ghost use Rattle.io.specs.Counts.{Counts};
+
+// How many numbers a byte has.
+const BYTE: u16 = 256;
 
 pub fn byte(whole: &mut bool) -> u8 {
     let mut b = [0u8; 1];
@@ -15,14 +19,14 @@ pub fn byte(whole: &mut bool) -> u8 {
 pub fn short(whole: &mut bool) -> u16 {
     let low = byte(whole) as u16;
     let high = byte(whole) as u16;
-    low + 256 * high
+    low + BYTE * high
 }
 
 // Four bytes, the least first.
 pub fn word(whole: &mut bool) -> u32 {
     let mut b = [0u8; 4];
     let n = io::read_full(STDIN_FILENO, &mut b);
-    if n < 4 {
+    if n < b.len() {
         *whole = false;
     }
     wire::little::u32_at(&b, 0)
@@ -32,10 +36,10 @@ pub fn word(whole: &mut bool) -> u32 {
 pub fn long(whole: &mut bool) -> u64 {
     let mut b = [0u8; 8];
     let n = io::read_full(STDIN_FILENO, &mut b);
-    if n < 8 {
+    if n < b.len() {
         *whole = false;
     }
-    wire::little::number(&b, 0, 8)
+    wire::little::number(&b, 0, b.len())
 }
 
 // A length and that many bytes, which it puts at the start of buf. A length that buf does not hold counts as a cut file.
@@ -99,7 +103,7 @@ pub fn rows(cells: &mut [u32], whole: &mut bool) -> usize
     ensures { λ r. ⌜ Counts r (now (cells .exit)) ⌝ }
 {
     let rows = word(whole) as usize;
-    let n = within(cells, 5 * rows, whole);
+    let n = within(cells, TALLY_CELLS * rows, whole);
     fill(&mut cells[..n], whole);
     n
 }

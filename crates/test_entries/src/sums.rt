@@ -4,11 +4,29 @@ use constants::limit;
 
 pub const START: u64 = 14695981039346656037;
 
-// The sum h times the prime 2^40 + 435, modulo 2^64.
+// The prime is 2^40 + 435.
+const PRIME_LOW: u64 = 435;
+
+const PRIME_HIGH: u64 = 1099511627776;
+
+// 2^24: what is above it the upper term puts past 2^64.
+const BELOW_HIGH: u64 = 16777216;
+
+// 2^32.
+const HALF: u64 = 4294967296;
+
+// How many numbers a byte has, and what the third and the fourth byte of a number count.
+const BYTE: u64 = 256;
+
+const THIRD_BYTE: u64 = 65536;
+
+const FOURTH_BYTE: u64 = 16777216;
+
+// The sum h times the prime, modulo 2^64.
 fn times(h: u64) -> u64 {
-    let high = (h / 4294967296 * 435) % 4294967296 * 4294967296;
-    let low = h % 4294967296 * 435;
-    let shifted = h % 16777216 * 1099511627776;
+    let high = (h / HALF * PRIME_LOW) % HALF * HALF;
+    let low = h % HALF * PRIME_LOW;
+    let shifted = h % BELOW_HIGH * PRIME_HIGH;
     std::num::wrapping_add_u64(shifted, std::num::wrapping_add_u64(high, low))
 }
 
@@ -20,14 +38,17 @@ fn add(h: u64, x: u64) -> u64 {
 // A number below 2^32 as its four little-endian bytes.
 fn add_word(h: u64, x: u64) -> u64 {
     add(
-        add(add(add(h, x % 256), x / 256 % 256), x / 65536 % 256),
-        x / 16777216 % 256,
+        add(
+            add(add(h, x % BYTE), x / BYTE % BYTE),
+            x / THIRD_BYTE % BYTE,
+        ),
+        x / FOURTH_BYTE % BYTE,
     )
 }
 
 // A number below 2^16 as its two little-endian bytes.
 fn add_short(h: u64, x: u64) -> u64 {
-    add(add(h, x % 256), x / 256 % 256)
+    add(add(h, x % BYTE), x / BYTE % BYTE)
 }
 
 fn add_mark(h: u64, mark: bool) -> u64 {
@@ -37,8 +58,8 @@ fn add_mark(h: u64, mark: bool) -> u64 {
 // A record of the call table, as it stands in a case.
 fn add_call(start: u64, call: calls::Call) -> u64 {
     let mut h = add_mark(start, call.open);
-    h = add_word(h, call.correlation % 4294967296);
-    h = add_word(h, call.correlation / 4294967296);
+    h = add_word(h, call.correlation % HALF);
+    h = add_word(h, call.correlation / HALF);
     h = add_word(h, call.method as u64);
     h = add_mark(h, call.responded);
     h = add_mark(h, call.input_closed);
@@ -48,7 +69,7 @@ fn add_call(start: u64, call: calls::Call) -> u64 {
     add_short(h, call.output_elements as u64)
 }
 
-pub fn of_calls(table: calls::CallTable) -> u64 {
+pub fn of_calls(table: connection::CallTable) -> u64 {
     let mut h = START;
     let mut i = 0;
     while i < limit::CALLS {

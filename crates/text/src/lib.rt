@@ -7,6 +7,11 @@ ghost use Rattle.text.specs.Decimal.{decimal};
 ghost use Rattle.text.specs.Page.{lineOf};
 ghost use Rattle.text.specs.Text.{Added, field};
 
+// The base of a decimal, and the code of its first digit.
+const BASE: u64 = 10;
+
+const ZERO: u64 = 48;
+
 pub fn put_byte(out: &mut [u8], pos: usize, b: u8) -> usize
     requires { ⌜ pos + 1 ≤ 18446744073709551615 ⌝ }
     ensures { λ r. ⌜ Added (now (out .entry)) pos (b ∷ []) r (now (out .exit)) ⌝ }
@@ -32,11 +37,11 @@ pub fn put_decimal(out: &mut [u8], pos: usize, n: u64) -> usize
     ensures { λ r. ⌜ Added (now (out .entry)) pos (decimal n) r (now (out .exit)) ⌝ }
     ensures { λ r. ⌜ r ≤ pos + 20 ⌝ }
 {
-    if n < 10 {
-        return put_byte(out, pos, (48 + n) as u8);
+    if n < BASE {
+        return put_byte(out, pos, (ZERO + n) as u8);
     }
-    let at = put_decimal(out, pos, n / 10);
-    put_byte(out, at, (48 + n % 10) as u8)
+    let at = put_decimal(out, pos, n / BASE);
+    put_byte(out, at, (ZERO + n % BASE) as u8)
 }
 
 // A blank and a number.

@@ -19,7 +19,7 @@ use Rattle.frame.specs.Written.{writtenOf, Accepted as frame-Accepted, ReadBack
 use Rattle.frame.specs.declared.FrameWritten.the-variants.{Written as frame-Written}
 use Rattle.calls.specs.Order.{Past, Ruling, Ruled, Releases, closed, Lawful, LawfulRecord}
 use Rattle.calls.specs.declared.Frame.{Frame as calls-Frame}
-use Rattle.calls.specs.Slots.{freshTable}
+use Rattle.connection.specs.Step.{freshTable}
 use Rattle.calls.specs.declared.Call.{Call}
 use Rattle.calls.specs.declared.Tally.{Tally}
 use Rattle.calls.specs.Good.{GoodCalls, GoodCall}

@@ -17,7 +17,7 @@ use Rattle.salvage.specs.Salvage.{salvageOf, salvageNumber}
 use Rattle.calls.specs.Numbers.{endsCall}
 use Rattle.calls.specs.declared.Tally.{Tally}
 use Rattle.calls.specs.declared.Call.{Call}
-use Rattle.calls.specs.Slots.{freshTable}
+use Rattle.connection.specs.Step.{freshTable}
 use Rattle.value.specs.declared.Row.{Row as value-Row}
 use Rattle.reader.specs.declared.Reading.{Reading}
 use Rattle.reader.specs.declared.Reading.the-variants.{Refused as reader-Refused}
@@ -35,21 +35,23 @@ use Rattle.receiver.specs.Run.{Event as receiver-Event, stateFrom}
 use Rattle.receiver.specs.Receive.{received}
 use Rattle.index.specs.Index.{makeIndex, indexNumber}
 use Rattle.index.specs.LookUp.{lookUp, findNumber}
-use Rattle.exports.specs.Told.{checkTold, extendTold, frameTold, writtenTold, salvageTold, indexTold, findTold, readTold, writeTold, receivedTold, releasedTold, scalarTold}
+use Rattle.cells.specs.Cells.{stored}
+use Rattle.cells.specs.Records.{areCalls, AreCalls, callsOf, CallsFit, rowsOf, rowCells, cellsOf}
+use Rattle.cells.specs.Scalars.{scalarCells, scalarTold}
+use Rattle.exports.specs.Told.{checkTold, extendTold, frameTold, writtenTold, salvageTold, indexTold, findTold, readTold, writeTold, receivedTold, releasedTold}
 use Rattle.exports.specs.Answers.{checkCells, extendCells, frameCells, writtenCells, salvageCells, indexCells, findCells, readNumber as reader-readNumber, readCells, writeCells, receiving}
-use Rattle.exports.specs.Answers.{receivedCells, callCells, releasing, releasedCells, scalarCells, notCalls, notReleased}
-use Rattle.exports.specs.Records.{areCalls, AreCalls, callsOf, rowsOf, rowCells, cellsOf}
-use Rattle.exports.specs.Run.{CallsFit, Cells, stateOf, runCells}
-use Rattle.exports.specs.Cells.{stored}
+use Rattle.exports.specs.Answers.{receivedCells, callCells, releasing, releasedCells, notCalls, notReleased}
+use Rattle.exports.specs.Run.{Cells, stateOf, runCells}
 use Rattle.words.specs.Number.{parsedOf}
 use Rattle.words.specs.declared.number.Parsed.the-variants.{Number}
 use Rattle.promises.proofs.Refusals as promises-Refusals
 use Rattle.promises.proofs.Beside as promises-Beside
 use Rattle.promises.proofs.Forwarding as promises-Forwarding
+use Rattle.cells.proofs.RoundTrip as cells-RoundTrip
+use Rattle.cells.proofs.ScalarTold as cells-ScalarTold
+use Rattle.cells.proofs.Tallies as cells-Tallies
 use Rattle.exports.proofs.Told as exports-Told
-use Rattle.exports.proofs.ScalarTold as exports-ScalarTold
 use Rattle.exports.proofs.Held as exports-Held
-use Rattle.exports.proofs.Tallies as exports-Tallies
 use Rattle.words.proofs.Numbers as words-Numbers
 
 -- `words::number::number_of`: the answer is `words/specs/Number.parsedOf` of the word.
@@ -141,15 +143,15 @@ release-entry = exports-Told.release-entry
 -- Those of a scalar, for bytes below 256.
 pub scalar-entry : (schema : List ℕ) (r : value-Row) (bytes : List ℕ) (h : (i : ℕ) → getD bytes i 0 < 256)
     → let a = scalarBy schema r bytes in scalarTold (scalarNumber a) (scalarCells a) ≡ a
-scalar-entry = exports-ScalarTold.scalar-entry
+scalar-entry = cells-ScalarTold.scalar-entry
 
 -- Cells are a call table exactly where there are 384 of them or more, each method number has 32 bits, and the marks with the elements have 37.
 
 -- The test passes exactly for the cells that are a call table.
 pub are-calls-iff : (cells : List ℕ) → (areCalls cells ≡ true) ↔ AreCalls cells
-are-calls-iff = exports-Held.are-calls-iff
+are-calls-iff = cells-RoundTrip.are-calls-iff
 
--- Computed: `exports/Examples.marks-alone`, `exports/Examples.marks-read`.
+-- Computed: `cells/Examples.marks-alone`, `cells/Examples.marks-read`.
 
 -- Any other cells are refused with 15, in 01's order, and stay as they are.
 
@@ -186,15 +188,15 @@ release-untouched = exports-Held.release-untouched
 
 -- As many rows as there are cells for come back.
 pub rows-back : (cells : List ℕ) (ts : List Tally) → length ts ≡ length cells / 5 → rowsOf (rowCells cells ts) ≡ ts
-rows-back = exports-Tallies.rows-back
+rows-back = cells-Tallies.rows-back
 
 -- Rows that are read and stored again leave the cells as they were.
 pub rows-same : (cells : List ℕ) → rowCells cells (rowsOf cells) ≡ cells
-rows-same = exports-Tallies.rows-same
+rows-same = cells-Tallies.rows-same
 
 -- There are as many rows as five cells each.
 pub rows-long : (cells : List ℕ) → length (rowsOf cells) ≡ length cells / 5
-rows-long = exports-Tallies.rows-long
+rows-long = cells-Tallies.rows-long
 
 -- The rows after a frame come back from the cells.
 pub rows-held : (cells schema : List ℕ) (side : ℕ) (bytes sheet tallies : List ℕ) →
@@ -208,18 +210,18 @@ pub left-rows-held : (cells schema : List ℕ) (id : ℕ) (tallies : List ℕ) �
     rowsOf leftRows ≡ reply .tallies
 left-rows-held = exports-Held.left-rows-held
 
--- Computed: `exports/Examples.rows-read`, `exports/Examples.rows-told`.
+-- Computed: `cells/Examples.rows-read`, `cells/Examples.rows-told`.
 
 -- A call table survives being stored in cells and read back, cells of 0 are the fresh table, and a history over lent cells is the history of
 -- `arf::receive` and `arf::release`.
 
 -- A call table survives being stored and read back, in as many cells as it needs.
 pub table-back : (cells : List ℕ) (l : List Call) → length l ≡ 128 → CallsFit l → 384 ≤ length cells → callsOf (stored cells (cellsOf l)) ≡ l
-table-back = exports-Held.table-back
+table-back = cells-RoundTrip.table-back
 
 -- Cells of 0 are the fresh table.
 pub zeros-fresh : (n : ℕ) → callsOf (replicate n 0) ≡ freshTable .slots
-zeros-fresh = exports-Held.zeros-fresh
+zeros-fresh = cells-RoundTrip.zeros-fresh
 
 -- A history over lent cells is the history over the table and the rows that they hold.
 pub run-held : (s : List ℕ) (start : Cells) (w : AreCalls (start .table))

@@ -67,10 +67,10 @@ reader-number-iff-refused = promises-Reading.number-iff-refused
 -- comparisons exactly for the rows of the tree that delimits the payload by theirs, without the added fields.
 pub zero-iff-beside : (ours theirs : List ℕ) (ty : ℕ) (payload sheet after : List ℕ) →
     let answered = besideOutcome ours theirs ty payload sheet in
-    IsGood ours → IsGood theirs → Widens (tableOf ours) (tableOf theirs) → (fs : List Field) → shapes ours ty ≡ struct fs → (k place n compared : ℕ)
-    → ((reader-numbers (readingIn answered) ≡ record { number = 0; place = 0; rows = k; tailPlace = place; tailLength = n; comparisons = compared })
+    IsGood ours → IsGood theirs → Widens (tableOf ours) (tableOf theirs) → (fs : List Field) → shapes ours ty ≡ struct fs → (k place n comparisons : ℕ)
+    → ((reader-numbers (readingIn answered) ≡ record { number = 0; place = 0; rows = k; tailPlace = place; tailLength = n; comparisons = comparisons })
     × (sheetIn answered ≡ after))
-    ↔ ((rs : List value-Row) × DelimitedBeside (shapes ours) (shapes theirs) ty payload (room sheet) rs place n compared × (length rs ≡ k)
+    ↔ ((rs : List value-Row) × DelimitedBeside (shapes ours) (shapes theirs) ty payload (room sheet) rs place n comparisons × (length rs ≡ k)
     × (after ≡ shownIn sheet rs))
 zero-iff-beside = promises-Numbers.zero-iff-beside
 

@@ -18,7 +18,8 @@ use Rattle.calls.specs.Judge.{rightSide, verdictOf, payloadOf, typed, judgeOf}
 use Rattle.calls.specs.declared.Tally.{Tally}
 use Rattle.calls.specs.declared.Call.{Call}
 use Rattle.calls.specs.declared.Frame.{Frame as calls-Frame}
-use Rattle.calls.specs.Slots.{ownOf, full, goodTable, freshTable, slot, countOpen}
+use Rattle.calls.specs.Slots.{ownOf, full, goodTable, slot, countOpen}
+use Rattle.connection.specs.Step.{freshTable}
 use Rattle.calls.specs.Apart.{verdictOwn, verdict, touched}
 use Rattle.calls.specs.declared.Payload.the-variants.{Empty, Unread}
 use Rattle.reader.specs.Entry.{room}

@@ -5,13 +5,13 @@ use Prim.Native.Nat.{ℕ}
 use mathlib.Core.Path.{_≡_}
 use lib.ListN.{take, length, drop}
 use mathlib.Core.Bool.{_&&_}
-use Rattle.wire.specs.declared.utf8.Range.{Range}
-use Rattle.wire.specs.Utf8.{run, matches, utf8}
+use Rattle.utf8.specs.declared.Range.{Range}
+use Rattle.utf8.specs.Utf8.{run, matches, utf8}
 use Rattle.calls.specs.declared.Tally.{Tally}
 use Rattle.calls.specs.declared.Call.{Call}
 use Rattle.calls.specs.Slots.{countOpen}
 use Rattle.receiver.specs.Receive.{received}
-use Rattle.wire.proofs.Utf8s as wire-Utf8s
+use Rattle.utf8.proofs.Utf8s as utf8-Utf8s
 use Rattle.receiver.proofs.Answers as receiver-Answers
 
 -- Fraud: "a reader refusing all (demand 2 accepts every rightful payload);"
@@ -43,6 +43,6 @@ open-counted = receiver-Answers.open-counted
 
 -- Bytes that follow a lead, for any number of bytes due: they match their ranges, and the rest is UTF-8.
 pub run-due : (gs : List Range) (s : List ℕ) → run gs s ≡ matches gs (take (length gs) s) && utf8 (drop (length gs) s)
-run-due = wire-Utf8s.run-due
+run-due = utf8-Utf8s.run-due
 
 -- Stated in other files: `Request07.utf8-encoded`, `Paper01Values.little-bytes`, `Paper01Sheet.content-once`.

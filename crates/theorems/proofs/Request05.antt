@@ -13,7 +13,8 @@ use Rattle.frame.specs.declared.Header.{Header}
 use Rattle.frame.specs.Frame.{frameOf}
 use Rattle.frame.specs.declared.FrameRead.the-variants.{Frame as frame-Frame}
 use Rattle.calls.specs.declared.Call.{Call}
-use Rattle.calls.specs.Slots.{ownOf, goodTable, freshTable}
+use Rattle.calls.specs.Slots.{ownOf, goodTable}
+use Rattle.connection.specs.Step.{freshTable}
 use Rattle.calls.specs.declared.OwnCall.the-variants.{One as one}
 use Rattle.calls.specs.Order.{pastOf, closed}
 use Rattle.calls.specs.Record.{isInput, isOutput}
@@ -75,14 +76,14 @@ fresh-few = receiver-Runs.fresh-few
 pub answer-holds-row : (s : List ℕ) (side : ℕ) (bytes sheet : List ℕ) (ts : List Tally) (l : List Call)
     (m : ℕ) (P : ℕ → List Call → Tally → Type 0) → ((n q : ℕ) → Stops s bytes l (length ts) n q → P n l (rowFor ts m))
     → ((f : calls-Frame) → Front side bytes f → TablesReady s l (length ts) → (reading : Payload → ℕ) →
-    let r = receive (tableOf s) f reading l in P (r .number) (r .table .slots) (rowAfter m (frameRise s f l) (r .number) (rowFor ts m)))
+    let r = receive (tableOf s) f reading l in P (r .number) (r .slots) (rowAfter m (frameRise s f l) (r .number) (rowFor ts m)))
     → let a = received s side bytes sheet ts l in P (a .answer .number) (a .answer .table .slots) (rowFor (a .tallies) m)
 answer-holds-row = receiver-Kept.answer-holds-row
 
 -- What holds of the number, the records and the row of method m where it stops at a fault of the tables, and of every release that is judged.
 pub release-holds-row : (s : List ℕ) (l : List Call) (id : ℕ) (ts : List Tally)
     (m : ℕ) (P : ℕ → List Call → Tally → Type 0) → ((n q : ℕ) → Unready s l (length ts) n q → P n l (rowFor ts m))
-    → (TablesReady s l (length ts) → (n : ℕ) → endsCall n ≡ false → let x = release id n l in P (x .number) (x .table .slots) (rowAfter m (releaseRise l (judgeRelease id l)) (x .number) (rowFor ts m)))
+    → (TablesReady s l (length ts) → (n : ℕ) → endsCall n ≡ false → let x = release id n l in P (x .number) (x .slots) (rowAfter m (releaseRise l (judgeRelease id l)) (x .number) (rowFor ts m)))
     → let a = released s l id ts in P (a .answer .number) (a .answer .table .slots) (rowFor (a .tallies) m)
 release-holds-row = receiver-Kept.release-holds-row
 

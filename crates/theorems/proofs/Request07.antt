@@ -8,37 +8,37 @@ use mathlib.Core.Logic.{_↔_}
 use lib.Dec.{T, eqb}
 use lib.ListN.{length, take, drop}
 use lib.Bits.{bitAnd}
-use Rattle.wire.specs.Utf8.{utf8, Split, rows, isChar, ascii, twoByteChars}
-use Rattle.wire.specs.declared.utf8.Row.{Row as wire-Row}
-use Rattle.wire.specs.Unicode.{Encoded}
+use Rattle.utf8.specs.Utf8.{utf8, Split, rows, isChar, ascii, twoByteChars}
+use Rattle.utf8.specs.declared.Row.{Row as utf8-Row}
+use Rattle.utf8.specs.Unicode.{Encoded}
 use Rattle.wire.specs.Little.{Bytes, little}
-use Rattle.wire.proofs.Asciis.{tops}
-use Rattle.wire.proofs.Pairs.{shapes as pair-shapes, carries}
-use Rattle.wire.proofs.Utf8s as wire-Utf8s
-use Rattle.wire.proofs.Unicodes as wire-Unicodes
-use Rattle.wire.proofs.Asciis as wire-Asciis
-use Rattle.wire.proofs.Pairs as wire-Pairs
+use Rattle.utf8.proofs.Asciis.{tops}
+use Rattle.utf8.proofs.Pairs.{shapes as pair-shapes, carries}
+use Rattle.utf8.proofs.Utf8s as utf8-Utf8s
+use Rattle.utf8.proofs.Unicodes as utf8-Unicodes
+use Rattle.utf8.proofs.Asciis as utf8-Asciis
+use Rattle.utf8.proofs.Pairs as utf8-Pairs
 
 -- "write it over a constant table of the nine rows of lead and following ranges printed there. To be shown: a string is accepted exactly when it
 -- splits into characters that each match a row, and in one way only. All answers stay."
--- By the contract of `wire::utf8::valid`, the answer is the test `utf8` over the constant table `wire/specs/Utf8.rows`.
+-- By the contract of `utf8::valid`, the answer is the test `utf8` over the constant table `utf8/specs/Utf8.rows`.
 
 -- A string is accepted exactly when it splits into characters that each match a row, and in one way only.
 pub accepted-once : (s : List ℕ) → (utf8 s ≡ true) ↔ ((cs : List (List ℕ)) × Split cs s × ((ds : List (List ℕ)) → Split ds s → ds ≡ cs))
-accepted-once = wire-Utf8s.accepted-once
+accepted-once = utf8-Utf8s.accepted-once
 
 -- Each character matches one row only.
-pub row-once : (c : List ℕ) (r q : wire-Row) → List·Memᴰ r rows → List·Memᴰ q rows → T (isChar r c) → T (isChar q c) → r ≡ q
-row-once = wire-Utf8s.row-once
+pub row-once : (c : List ℕ) (r q : utf8-Row) → List·Memᴰ r rows → List·Memᴰ q rows → T (isChar r c) → T (isChar q c) → r ≡ q
+row-once = utf8-Utf8s.row-once
 
 -- Bytes are UTF-8 exactly when they are scalar values, encoded.
 pub utf8-encoded : (s : List ℕ) → (utf8 s ≡ true) ↔ ((xs : List ℕ) × Encoded xs s)
-utf8-encoded = wire-Unicodes.utf8-encoded
+utf8-encoded = utf8-Unicodes.utf8-encoded
 
 -- Bytes at a place, n of them, judged as one number: no top bit is set exactly where each is a character of the row UTF8-1.
 pub tops-at : (n : ℕ) (s : List ℕ) (at x : ℕ) → Bytes s → at + n ≤ length s → x ≡ little (take n (drop at s)) → eqb (bitAnd x (tops n)) 0 ≡ ascii (take n (drop at s))
-tops-at = wire-Asciis.tops-at
+tops-at = utf8-Asciis.tops-at
 
 -- Pairs of bytes, n of them, judged as one number: they pass exactly where each is a character of the row UTF8-2.
 pub word-pairs : (n : ℕ) (s : List ℕ) → Bytes s → length s ≡ 2 * n → (pair-shapes n (little s) && carries n (little s)) ≡ twoByteChars s
-word-pairs = wire-Pairs.word-pairs
+word-pairs = utf8-Pairs.word-pairs

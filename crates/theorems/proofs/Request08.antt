@@ -48,9 +48,9 @@ use Rattle.promises.proofs.BesideExamples as promises-BesideExamples
 pub shown-iff-spelled : (ours theirs : List ℕ) (good : IsGood ours) (good′ : IsGood theirs) (widens : Widens (tableOf ours) (tableOf theirs)) (ty : ℕ)
     (fs : List Field) (st : shapes ours ty ≡ struct fs) (payload sheet : List ℕ) (fs′ : List Field)
     (st′ : shapes theirs ty ≡ struct fs′)
-    (w : Value) (place n compared : ℕ)
-    → ReadsBeside ours theirs ty payload sheet w place n compared
-    ↔ ((v : Value) × (without (shapes ours) v ty ≡ w) × RightfulBeside (shapes ours) (shapes theirs) ty fs′ payload (room sheet) v place n compared)
+    (w : Value) (place n comparisons : ℕ)
+    → ReadsBeside ours theirs ty payload sheet w place n comparisons
+    ↔ ((v : Value) × (without (shapes ours) v ty ≡ w) × RightfulBeside (shapes ours) (shapes theirs) ty fs′ payload (room sheet) v place n comparisons)
 shown-iff-spelled = promises-Beside.shown-iff-spelled
 
 -- A tree without the added fields has the value without them.
@@ -95,18 +95,18 @@ carrier-beside = promises-BesideExamples.carrier-beside
 -- and length, a struct's count is that of the fields that ours knows and whose bits are set. Every cell of every row is so decided.
 pub rows-beside : (ours theirs : List ℕ) (good : IsGood ours) (good′ : IsGood theirs) (widens : Widens (tableOf ours) (tableOf theirs)) (ty : ℕ)
     (fs : List Field) (st : shapes ours ty ≡ struct fs) (payload sheet : List ℕ)
-    (k place n compared : ℕ) (after : List ℕ)
-    → (besideOutcome ours theirs ty payload sheet ≡ reader-outcome (Shown k place n compared) after)
-    ↔ ((rs : List value-Row) × DelimitedBeside (shapes ours) (shapes theirs) ty payload (room sheet) rs place n compared × (length rs ≡ k) × (after ≡ shownIn sheet rs))
+    (k place n comparisons : ℕ) (after : List ℕ)
+    → (besideOutcome ours theirs ty payload sheet ≡ reader-outcome (Shown k place n comparisons) after)
+    ↔ ((rs : List value-Row) × DelimitedBeside (shapes ours) (shapes theirs) ty payload (room sheet) rs place n comparisons × (length rs ≡ k) × (after ≡ shownIn sheet rs))
 rows-beside = promises-Beside.rows-beside
 
 -- What is accepted the reader by theirs alone accepts too, given a row for each value, with the same tail and the same key comparisons due. The rows
 -- shown here are some of its rows, in their order, with type, place and length as there.
 pub theirs-accepts : (ours theirs : List ℕ) (good : IsGood ours) (good′ : IsGood theirs) (widens : Widens (tableOf ours) (tableOf theirs)) (ty : ℕ)
     (fs : List Field) (st : shapes ours ty ≡ struct fs) (payload sheet : List ℕ)
-    (k place n compared : ℕ) (after : List ℕ) → besideOutcome ours theirs ty payload sheet ≡ reader-outcome (Shown k place n compared) after
+    (k place n comparisons : ℕ) (after : List ℕ) → besideOutcome ours theirs ty payload sheet ≡ reader-outcome (Shown k place n comparisons) after
     → (k′ : ℕ) × ((sheet′ : List ℕ) → k′ ≤ room sheet′
-    → (after′ : List ℕ) × (readOutcome theirs ty payload sheet′ ≡ reader-outcome (Shown k′ place n compared) after′) × SomeOf (firstRows k after) (firstRows k′ after′))
+    → (after′ : List ℕ) × (readOutcome theirs ty payload sheet′ ≡ reader-outcome (Shown k′ place n comparisons) after′) × SomeOf (firstRows k after) (firstRows k′ after′))
 theirs-accepts = promises-Beside.theirs-accepts
 
 -- Rows that tell the same show the same value, whatever bits the structs have beyond those that the table knows.
@@ -156,10 +156,10 @@ grown-differs = promises-BesideExamples.grown-differs
 pub shown-then-written : (ours theirs : List ℕ) (good : IsGood ours) (good′ : IsGood theirs) (widens : Widens (tableOf ours) (tableOf theirs)) (ty : ℕ)
     (fs : List Field) (st : shapes ours ty ≡ struct fs) (payload sheet : List ℕ) (fs′ : List Field)
     (st′ : shapes theirs ty ≡ struct fs′)
-    (k place n compared : ℕ) (after : List ℕ) → besideOutcome ours theirs ty payload sheet ≡ reader-outcome (Shown k place n compared) after
+    (k place n comparisons : ℕ) (after : List ℕ) → besideOutcome ours theirs ty payload sheet ≡ reader-outcome (Shown k place n comparisons) after
     → (out : List ℕ) (m : ℕ) (out′ : List ℕ) → fileOutcome ours ty (take (4 * k) after) payload out ≡ writer-outcome (writer-Written m) out′
     → (sheet′ : List ℕ) → k ≤ room sheet′
-    → (v : Value) × RightfulBeside (shapes ours) (shapes theirs) ty fs′ payload (room sheet) v place n compared
+    → (v : Value) × RightfulBeside (shapes ours) (shapes theirs) ty fs′ payload (room sheet) v place n comparisons
     × ReadsAs ours ty fs (take m out′) sheet′ (without (shapes ours) v ty) m 0
 shown-then-written = promises-Beside.shown-then-written
 
@@ -239,7 +239,7 @@ no-struct-cases = promises-BesideExamples.no-struct-cases
 -- The comparisons are never above 258,048.
 pub comparisons-within : (ours theirs : List ℕ) (good : IsGood ours) (good′ : IsGood theirs) (widens : Widens (tableOf ours) (tableOf theirs)) (ty : ℕ)
     (fs : List Field) (st : shapes ours ty ≡ struct fs) (payload sheet : List ℕ)
-    (k place n compared : ℕ) (after : List ℕ) → besideOutcome ours theirs ty payload sheet ≡ reader-outcome (Shown k place n compared) after → compared ≤ 258048
+    (k place n comparisons : ℕ) (after : List ℕ) → besideOutcome ours theirs ty payload sheet ≡ reader-outcome (Shown k place n comparisons) after → comparisons ≤ 258048
 comparisons-within = promises-Beside.comparisons-within
 
 -- Computed: `value/Examples.beside-cases`.
@@ -252,7 +252,7 @@ comparisons-within = promises-Beside.comparisons-within
 pub tail-iff-unknown : (ours theirs : List ℕ) (good : IsGood ours) (good′ : IsGood theirs) (widens : Widens (tableOf ours) (tableOf theirs)) (ty : ℕ)
     (fs : List Field) (st : shapes ours ty ≡ struct fs) (payload sheet : List ℕ) (fs′ : List Field)
     (st′ : shapes theirs ty ≡ struct fs′)
-    (k place n compared : ℕ) (after : List ℕ) → besideOutcome ours theirs ty payload sheet ≡ reader-outcome (Shown k place n compared) after
+    (k place n comparisons : ℕ) (after : List ℕ) → besideOutcome ours theirs ty payload sheet ≡ reader-outcome (Shown k place n comparisons) after
     → (n ≡ 0) ↔ (unknownBits fs′ (rootBits fs′ payload) ≡ 0)
 tail-iff-unknown = promises-Beside.tail-iff-unknown
 

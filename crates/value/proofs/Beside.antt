@@ -18,7 +18,7 @@ use Rattle.schema.specs.Table.{Table, Shape, unknown, scalar, text, array, map,
 use Rattle.schema.specs.Good.{GoodSchema}
 use Rattle.value.specs.declared.Row.{Row}
 use Rattle.value.specs.Value.{Tree, rows, Value, value, size}
-use Rattle.value.specs.Comparisons.{comparisons}
+use Rattle.value.specs.Comparisons as due
 use Rattle.value.specs.Read.{onStruct, rootOf, rootStruct, refusal, accepted, readingAs, reading}
 use Rattle.value.specs.Spell.{RootSpells}
 use Rattle.value.specs.Fits.{Shows, ShowsKnown}
@@ -73,25 +73,25 @@ module _ (S S′ : ℕ → Shape) (n : ℕ) (x : Widening S S′ n) (t : ℕ) (l
     pub by-theirs : besideOf S S′ t room payload ≡ readingAs (shownRows S t) S′ t room (rootOf S′ t payload)
     by-theirs = rw st
 
-    beside-gives : (rs : List Row) (place k compared : ℕ) → besideOf S S′ t room payload ≡ accepted rs place k compared
-        → (tree : Tree) × Gives (shownRows S t) S′ t room (rootOf S′ t payload) rs place k compared tree
-    beside-gives rs place k compared e = accepted-gives (shownRows S t) S′ t room _ rs place k compared (sym by-theirs ∙ e)
+    beside-gives : (rs : List Row) (place k comparisons : ℕ) → besideOf S S′ t room payload ≡ accepted rs place k comparisons
+        → (tree : Tree) × Gives (shownRows S t) S′ t room (rootOf S′ t payload) rs place k comparisons tree
+    beside-gives rs place k comparisons e = accepted-gives (shownRows S t) S′ t room _ rs place k comparisons (sym by-theirs ∙ e)
 
-    gives-beside : (rs : List Row) (place k compared : ℕ) (tree : Tree) → Gives (shownRows S t) S′ t room (rootOf S′ t payload) rs place k compared tree
-        → besideOf S S′ t room payload ≡ accepted rs place k compared
-    gives-beside rs place k compared tree g = by-theirs ∙ gives-accepted (shownRows S t) S′ t room _ rs place k compared tree g
+    gives-beside : (rs : List Row) (place k comparisons : ℕ) (tree : Tree) → Gives (shownRows S t) S′ t room (rootOf S′ t payload) rs place k comparisons tree
+        → besideOf S S′ t room payload ≡ accepted rs place k comparisons
+    gives-beside rs place k comparisons tree g = by-theirs ∙ gives-accepted (shownRows S t) S′ t room _ rs place k comparisons tree g
 
-    pub beside-delimited : (rs : List Row) (place k compared : ℕ) → besideOf S S′ t room payload ≡ accepted rs place k compared
-        → DelimitedBeside S S′ t payload room rs place k compared
-    beside-delimited rs place k compared e =
-        let (tree, (end, m, r, p, q, d, f)) = beside-gives rs place k compared e in
+    pub beside-delimited : (rs : List Row) (place k comparisons : ℕ) → besideOf S S′ t room payload ≡ accepted rs place k comparisons
+        → DelimitedBeside S S′ t payload room rs place k comparisons
+    beside-delimited rs place k comparisons e =
+        let (tree, (end, m, r, p, q, d, f)) = beside-gives rs place k comparisons e in
         (tree, rw (p, q) at (read-tree S′ t payload tree end m), r, d, f)
 
-    pub delimited-beside : (rs : List Row) (place k compared : ℕ) → DelimitedBeside S S′ t payload room rs place k compared
-        → besideOf S S′ t room payload ≡ accepted rs place k compared
-    delimited-beside rs place k compared (tree, y, r, d, f) =
+    pub delimited-beside : (rs : List Row) (place k comparisons : ℕ) → DelimitedBeside S S′ t payload room rs place k comparisons
+        → besideOf S S′ t room payload ≡ accepted rs place k comparisons
+    delimited-beside rs place k comparisons (tree, y, r, d, f) =
         let (end, m, p, q) = tree-read S′ t payload (x .solid) tree place k y in
-        gives-beside rs place k compared tree (end, m, r, p, q, d, f)
+        gives-beside rs place k comparisons tree (end, m, r, p, q, d, f)
 
     module _ (fs′ : List Field) (st′ : S′ t ≡ struct fs′) where
       -- What is read: its parts, and the number of its rows.
@@ -115,22 +115,22 @@ module _ (S S′ : ℕ → Shape) (n : ℕ) (x : Widening S S′ n) (t : ℕ) (l
           let (tree, end, e, (u, z)) = yields-end (root-complete S′ t fs′ (x .solid) v tail (cursorAt payload 0) q) in
           (tree, end, root-of S′ t payload fs′ st′ short ∙ e, u, z)
 
-      pub rightful-beside : (place k compared : ℕ) (v : Value) → RightfulBeside S S′ t fs′ payload room v place k compared
-          → ShownAs S t payload (besideOf S S′ t room payload) (without S v t) place k compared
-      rightful-beside place k compared v (tail, q, short, f, h, p, d) =
+      pub rightful-beside : (place k comparisons : ℕ) (v : Value) → RightfulBeside S S′ t fs′ payload room v place k comparisons
+          → ShownAs S t payload (besideOf S S′ t room payload) (without S v t) place k comparisons
+      rightful-beside place k comparisons v (tail, q, short, f, h, p, d) =
           let (tree, end, m, u, z) = reads v tail q short in
           let (_, _, w, b) = parts tree end m in
           let i : length (end .left) ≡ k = ap length z ∙ h in
           let j : size (without S (value tree) t) ≤ room = rw u f in (
             shownRows S t tree,
-            gives-beside _ place k compared tree (end, m, refl, omega arith, i, rw u d, omega arith),
+            gives-beside _ place k comparisons tree (end, m, refl, omega arith, i, rw u d, omega arith),
             rw u at (shows tree end m),
           )
 
-      pub beside-rightful : (place k compared : ℕ) (w : Value) → ShownAs S t payload (besideOf S S′ t room payload) w place k compared
-          → (v : Value) × (without S v t ≡ w) × RightfulBeside S S′ t fs′ payload room v place k compared
-      beside-rightful place k compared w (rs, e, s) =
-          let (tree, (end, m, r, p, q, d, f)) = beside-gives rs place k compared e in
+      pub beside-rightful : (place k comparisons : ℕ) (w : Value) → ShownAs S t payload (besideOf S S′ t room payload) w place k comparisons
+          → (v : Value) × (without S v t ≡ w) × RightfulBeside S S′ t fs′ payload room v place k comparisons
+      beside-rightful place k comparisons w (rs, e, s) =
+          let (tree, (end, m, r, p, q, d, f)) = beside-gives rs place k comparisons e in
           let (y, short, h, b) = parts tree end m in
           let u : without S (value tree) t ≡ w = known-once S t payload payload _ w rs rs (rw r at (shows tree end m)) s refl in
           (value tree, u, (end .left, y, short, omega (arith, ap length r), q, omega arith, d))
@@ -140,7 +140,7 @@ module _ (S S′ : ℕ → Shape) (n : ℕ) (x : Widening S S′ n) (t : ℕ) (l
       refused-as n p e = go (rootOf S′ t payload) refl (sym by-theirs ∙ e)
         where
           fitting : (tree : Tree) (end : Cursor) (b : Bool) → rootOf S′ t payload ≡ seen tree end → leb (length (shownRows S t tree)) room ≡ b
-              → cond b (accepted (shownRows S t tree) (end .at) (length (end .left)) (comparisons S′ (value tree) t)) (refusal 30 0) ≡ refusal n p
+              → cond b (accepted (shownRows S t tree) (end .at) (length (end .left)) (due.comparisons S′ (value tree) t)) (refusal 30 0) ≡ refusal n p
               → (n ≡ 30) × (p ≡ 0) × TooFewRows S S′ t fs′ payload room
           fitting tree end true k q e = differ cc
           fitting tree end false k q e =
@@ -225,14 +225,14 @@ module _ (ours theirs : Table) (good′ : GoodSchema theirs) (n : ℕ) (x : Wide
 
 module _ (S S′ : ℕ → Shape) (n : ℕ) (x : Extension S S′ n) (t : ℕ) (l : t < n) (fs gs : List Field) (st : S t ≡ struct fs)
     (st′ : S′ t ≡ struct (fs ++ gs)) (payload : List ℕ) (room : ℕ) where
-  pub both-accept : (room′ : ℕ) (rs rs′ : List Row) (place place′ k k′ compared compared′ : ℕ) → reading S t room (rootOf S t payload) ≡ accepted rs place k compared
-      → besideOf S S′ t room′ payload ≡ accepted rs′ place′ k′ compared′
+  pub both-accept : (room′ : ℕ) (rs rs′ : List Row) (place place′ k k′ comparisons comparisons′ : ℕ) → reading S t room (rootOf S t payload) ≡ accepted rs place k comparisons
+      → besideOf S S′ t room′ payload ≡ accepted rs′ place′ k′ comparisons′
       → (rs′ ≡ rootLength place′ rs) × ((v : Value) × Shows S payload t fs rs v × ShowsKnown S payload t rs′ v)
-  both-accept room′ rs rs′ place place′ k k′ compared compared′ e e′ =
-      let a = accepts S t payload room rs place k compared e in
+  both-accept room′ rs rs′ place place′ k k′ comparisons comparisons′ e e′ =
+      let a = accepts S t payload room rs place k comparisons e in
       let f : a .fs ≡ fs = cc (a .is-struct) in
       let m : rootStruct S t fs (cursorAt payload 0) ≡ seen (a .tree) (a .end) = rw f at (a .reads) in
-      let (tree, (end, y, r, p, _, _, _)) = beside-gives S S′ n (x .wide) t l fs st payload room′ rs′ place′ k′ compared′ e′ in
+      let (tree, (end, y, r, p, _, _, _)) = beside-gives S S′ n (x .wide) t l fs st payload room′ rs′ place′ k′ comparisons′ e′ in
       let (fs″, st″, y′, _) = root-inv S′ t payload tree end y in
       let g : fs″ ≡ fs ++ gs = cc in
       let w = both-read S S′ n x t l fs gs st st′ payload room (a .tree) tree (a .end) end m (rw g at y′) in

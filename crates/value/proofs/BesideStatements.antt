@@ -14,7 +14,7 @@ use Rattle.schema.specs.Extend.{Widens, Extends}
 use Rattle.schema.proofs.Shapes.{shape-known}
 use Rattle.value.specs.declared.Row.{Row}
 use Rattle.value.specs.Value.{Tree, rows, Value, value, size}
-use Rattle.value.specs.Comparisons.{comparisons}
+use Rattle.value.specs.Comparisons as due
 use Rattle.value.specs.Read.{refusal, accepted, read}
 use Rattle.value.specs.Spell.{RootSpells}
 use Rattle.value.specs.Write.{written, write}
@@ -58,38 +58,38 @@ module _ (ours theirs : Table) (good : GoodSchema ours) (good′ : GoodSchema th
   gains = gained-fields (shape ours) (shape theirs) (length (ours .types)) x t l fs st
 
   -- A payload is accepted with exactly the rows of a tree that fits it and delimits its bytes by theirs, without the added fields: no cell is free.
-  pub rows-beside : (payload : List ℕ) (room : ℕ) (rs : List Row) (place n compared : ℕ)
-      → (readBeside ours theirs t payload room ≡ accepted rs place n compared) ↔ DelimitedBeside (shape ours) (shape theirs) t payload room rs place n compared
+  pub rows-beside : (payload : List ℕ) (room : ℕ) (rs : List Row) (place n comparisons : ℕ)
+      → (readBeside ours theirs t payload room ≡ accepted rs place n comparisons) ↔ DelimitedBeside (shape ours) (shape theirs) t payload room rs place n comparisons
   unfolding readBeside
-  rows-beside payload room rs place n compared = (
-    beside.beside-delimited (shape ours) (shape theirs) (length (ours .types)) x t l fs st payload room rs place n compared,
-    beside.delimited-beside (shape ours) (shape theirs) (length (ours .types)) x t l fs st payload room rs place n compared,
+  rows-beside payload room rs place n comparisons = (
+    beside.beside-delimited (shape ours) (shape theirs) (length (ours .types)) x t l fs st payload room rs place n comparisons,
+    beside.delimited-beside (shape ours) (shape theirs) (length (ours .types)) x t l fs st payload room rs place n comparisons,
   )
 
   -- What is accepted their own reader accepts, given room for its rows, with the same tail and the same key comparisons due. The rows shown here are some
   -- of its rows, with type, place and length as there.
-  pub theirs-accepts : (payload : List ℕ) (room : ℕ) (rs : List Row) (place n compared : ℕ) → readBeside ours theirs t payload room ≡ accepted rs place n compared
-      → (rs′ : List Row) × SomeOf rs rs′ × ((room′ : ℕ) → length rs′ ≤ room′ → read theirs t payload room′ ≡ accepted rs′ place n compared)
-  theirs-accepts payload room rs place n compared e =
-      let (tree, d, r, c, _) = rows-beside payload room rs place n compared .0 e in
-      (rows tree, rw r at (laws.pruned-rows (shape ours) tree t), λ room′ f. rows-delimit theirs good′ t payload room′ (rows tree) place n compared .1 (tree, d, refl, c, f))
+  pub theirs-accepts : (payload : List ℕ) (room : ℕ) (rs : List Row) (place n comparisons : ℕ) → readBeside ours theirs t payload room ≡ accepted rs place n comparisons
+      → (rs′ : List Row) × SomeOf rs rs′ × ((room′ : ℕ) → length rs′ ≤ room′ → read theirs t payload room′ ≡ accepted rs′ place n comparisons)
+  theirs-accepts payload room rs place n comparisons e =
+      let (tree, d, r, c, _) = rows-beside payload room rs place n comparisons .0 e in
+      (rows tree, rw r at (laws.pruned-rows (shape ours) tree t), λ room′ f. rows-delimit theirs good′ t payload room′ (rows tree) place n comparisons .1 (tree, d, refl, c, f))
 
   -- They are never above 258,048.
-  pub comparisons-within : (payload : List ℕ) (room : ℕ) (rs : List Row) (place n compared : ℕ) → readBeside ours theirs t payload room ≡ accepted rs place n compared
-      → compared ≤ 258048
-  comparisons-within payload room rs place n compared e =
-      let (rs′, _, h) = theirs-accepts payload room rs place n compared e in
-      statements.comparisons-within theirs good′ t payload (length rs′) rs′ place n compared (h (length rs′) (omega arith))
+  pub comparisons-within : (payload : List ℕ) (room : ℕ) (rs : List Row) (place n comparisons : ℕ) → readBeside ours theirs t payload room ≡ accepted rs place n comparisons
+      → comparisons ≤ 258048
+  comparisons-within payload room rs place n comparisons e =
+      let (rs′, _, h) = theirs-accepts payload room rs place n comparisons e in
+      statements.comparisons-within theirs good′ t payload (length rs′) rs′ place n comparisons (h (length rs′) (omega arith))
 
   module _ (fs′ : List Field) (st′ : shape theirs t ≡ struct fs′) where
     -- A payload is accepted, with rows that show w by ours, exactly where it spells by theirs, within the limits, a value that without its added fields is w.
-    pub shown-iff-spelled : (payload : List ℕ) (room : ℕ) (w : Value) (place n compared : ℕ)
-        → ShownAs (shape ours) t payload (readBeside ours theirs t payload room) w place n compared
-        ↔ ((v : Value) × (without (shape ours) v t ≡ w) × RightfulBeside (shape ours) (shape theirs) t fs′ payload room v place n compared)
+    pub shown-iff-spelled : (payload : List ℕ) (room : ℕ) (w : Value) (place n comparisons : ℕ)
+        → ShownAs (shape ours) t payload (readBeside ours theirs t payload room) w place n comparisons
+        ↔ ((v : Value) × (without (shape ours) v t ≡ w) × RightfulBeside (shape ours) (shape theirs) t fs′ payload room v place n comparisons)
     unfolding readBeside
-    shown-iff-spelled payload room w place n compared = (
-      beside.beside-rightful (shape ours) (shape theirs) (length (ours .types)) x t l fs st payload room fs′ st′ place n compared w,
-      λ (v, e, q). rw e at (beside.rightful-beside (shape ours) (shape theirs) (length (ours .types)) x t l fs st payload room fs′ st′ place n compared v q),
+    shown-iff-spelled payload room w place n comparisons = (
+      beside.beside-rightful (shape ours) (shape theirs) (length (ours .types)) x t l fs st payload room fs′ st′ place n comparisons w,
+      λ (v, e, q). rw e at (beside.rightful-beside (shape ours) (shape theirs) (length (ours .types)) x t l fs st payload room fs′ st′ place n comparisons v q),
     )
 
     -- A refusal is one that their reader gives, with any room; or it is 30, for a payload that is otherwise right.
@@ -105,14 +105,14 @@ module _ (ours theirs : Table) (good : GoodSchema ours) (good′ : GoodSchema th
     -- Every value that their rules allow is shown without its added fields, given room for the rows.
     pub new-shown : (payload : List ℕ) (room : ℕ) (v : Value) → RootSpells (shape theirs) fs′ v payload [] → length payload ≤ 16384
         → size (without (shape ours) v t) ≤ room
-        → ShownAs (shape ours) t payload (readBeside ours theirs t payload room) (without (shape ours) v t) (length payload) 0 (comparisons (shape theirs) v t)
+        → ShownAs (shape ours) t payload (readBeside ours theirs t payload room) (without (shape ours) v t) (length payload) 0 (due.comparisons (shape theirs) v t)
     new-shown payload room v q short f = shown-iff-spelled payload room _ (length payload) 0 _ .1 (v, refl, ([], q, short, f, refl, omega arith, refl))
 
     -- What their writer writes of a sheet is shown as the sheet's value without the added fields.
     pub written-shown : (rs : List Row) (B : List ℕ) (room : ℕ) (out : List ℕ) → write theirs t rs B room ≡ written out
         → (v : Value) × Shows (shape theirs) B t fs′ rs v
         × ((room′ : ℕ) → size (without (shape ours) v t) ≤ room′
-        → ShownAs (shape ours) t out (readBeside ours theirs t out room′) (without (shape ours) v t) (length out) 0 (comparisons (shape theirs) v t))
+        → ShownAs (shape ours) t out (readBeside ours theirs t out room′) (without (shape ours) v t) (length out) 0 (due.comparisons (shape theirs) v t))
     written-shown rs B room out e =
         let (fs″, v, st″, s, a) = read-back theirs good′ t rs B room out e (length rs) (omega arith) in
         let g : fs″ ≡ fs′ = cc in
@@ -120,15 +120,15 @@ module _ (ours theirs : Table) (good : GoodSchema ours) (good′ : GoodSchema th
         (v, rw g at s, λ room′ f. shown-iff-spelled out room′ _ (length out) 0 _ .1 (v, refl, (tail, q, short, f, h, p, refl)))
 
     -- What is shown here and accepted by our plain writer comes back with the same known fields, and those only.
-    pub shown-then-written : (payload : List ℕ) (room : ℕ) (rs : List Row) (place n compared : ℕ) → readBeside ours theirs t payload room ≡ accepted rs place n compared
+    pub shown-then-written : (payload : List ℕ) (room : ℕ) (rs : List Row) (place n comparisons : ℕ) → readBeside ours theirs t payload room ≡ accepted rs place n comparisons
         → (room′ : ℕ) (out : List ℕ) → write ours t rs payload room′ ≡ written out
-        → (v : Value) × RightfulBeside (shape ours) (shape theirs) t fs′ payload room v place n compared
+        → (v : Value) × RightfulBeside (shape ours) (shape theirs) t fs′ payload room v place n comparisons
         × ReadAs (shape ours) t fs out (read ours t out room) (without (shape ours) v t) (length out) 0
-    shown-then-written payload room rs place n compared e room′ out k =
-        let (_, _, _, _, f) = rows-beside payload room rs place n compared .0 e in
+    shown-then-written payload room rs place n comparisons e room′ out k =
+        let (_, _, _, _, f) = rows-beside payload room rs place n comparisons .0 e in
         let (fs″, w, st″, s, a) = read-back ours good t rs payload room′ out k room f in
         let g : fs″ ≡ fs = cc in
-        let (v, u, q) = shown-iff-spelled payload room w place n compared .0 (rs, e, telling.shows-known (shape ours) t fs″ st″ payload w rs s) in
+        let (v, u, q) = shown-iff-spelled payload room w place n comparisons .0 (rs, e, telling.shows-known (shape ours) t fs″ st″ payload w rs s) in
         (v, q, rw (g, ← u) at a)
 
 -- Every refusal is one of the list.
@@ -146,8 +146,8 @@ module _ (ours theirs : Table) (good : GoodSchema ours) (good′ : GoodSchema th
   l′ = shape-known ours good t (λ e. differ cc)
 
   -- Where the base reader accepts too, it shows the same value, by the same rows but for the root's length, which here reaches over the added fields.
-  pub both-accept : (room′ : ℕ) (rs rs′ : List Row) (place place′ n n′ compared compared′ : ℕ) → read ours t payload room ≡ accepted rs place n compared
-      → readBeside ours theirs t payload room′ ≡ accepted rs′ place′ n′ compared′
+  pub both-accept : (room′ : ℕ) (rs rs′ : List Row) (place place′ n n′ comparisons comparisons′ : ℕ) → read ours t payload room ≡ accepted rs place n comparisons
+      → readBeside ours theirs t payload room′ ≡ accepted rs′ place′ n′ comparisons′
       → (rs′ ≡ rootLength place′ rs) × ((v : Value) × Shows (shape ours) payload t fs rs v × ShowsKnown (shape ours) payload t rs′ v)
   unfolding read readBeside
   both-accept = beside.both-accept (shape ours) (shape theirs) (length (ours .types)) (good-extension ours theirs good good′ extends) t l′ fs gs st st′ payload room

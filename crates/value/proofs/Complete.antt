@@ -8,7 +8,7 @@ use lib.Dec.{eqb}
 use lib.ListN.{length, length-append, length-replicate}
 use borrow.Author.Tests.{lt-ltb, le-leb, eqb-true}
 use Rattle.wire.proofs.Varuints.{spelled-pos}
-use Rattle.wire.proofs.Utf8s.{utf8-is}
+use Rattle.utf8.proofs.Utf8s.{utf8-is}
 use Rattle.parse.specs.Reader.{Cursor, seen, Reader, andThen}
 use Rattle.parse.proofs.Answers.{Yields, gives, yields-then, goes, passes}
 use Rattle.parse.proofs.Pieces.{block-complete, count-complete}

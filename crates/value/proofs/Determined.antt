@@ -235,13 +235,13 @@ module _ (S : ℕ → Shape) (t : ℕ) (payload : List ℕ) where
       let w = determined S solid payload t fs read tree (end .at) place g f (root-delimits payload S t fs read end e) d in
       (end, root-of S t payload fs st short ∙ e ∙ ap (λ (x : Tree). seen x end) (w .0), w .1, omega (arith, root-in S t fs payload read end e .1, w .1))
 
-module _ (S : ℕ → Shape) (t : ℕ) (payload : List ℕ) (room : ℕ) (rs : List Row) (place n compared : ℕ) where
-  pub read-delimited : reading S t room (rootOf S t payload) ≡ accepted rs place n compared → Delimited S t payload room rs place n compared
+module _ (S : ℕ → Shape) (t : ℕ) (payload : List ℕ) (room : ℕ) (rs : List Row) (place n comparisons : ℕ) where
+  pub read-delimited : reading S t room (rootOf S t payload) ≡ accepted rs place n comparisons → Delimited S t payload room rs place n comparisons
   read-delimited e =
-      let (tree, (end, k, r, p, l, c, f)) = accepted-gives rows S t room _ rs place n compared e in
+      let (tree, (end, k, r, p, l, c, f)) = accepted-gives rows S t room _ rs place n comparisons e in
       (tree, rw (p, l) at (read-tree S t payload tree end k), r, c, f)
 
-  pub delimited-read : ((t : ℕ) → Solid (S t)) → Delimited S t payload room rs place n compared → reading S t room (rootOf S t payload) ≡ accepted rs place n compared
+  pub delimited-read : ((t : ℕ) → Solid (S t)) → Delimited S t payload room rs place n comparisons → reading S t room (rootOf S t payload) ≡ accepted rs place n comparisons
   delimited-read solid (tree, d, r, c, f) =
       let (end, k, p, l) = tree-read S t payload solid tree place n d in
-      gives-accepted rows S t room _ rs place n compared tree (end, k, r, p, l, c, f)
+      gives-accepted rows S t room _ rs place n comparisons tree (end, k, r, p, l, c, f)

@@ -6,7 +6,7 @@ use lib.Count.{onesIn}
 use lib.ListN.{replicate}
 use Rattle.wire.specs.Little as little
 use Rattle.wire.specs.Varuint as varuint
-use Rattle.wire.specs.Utf8 as utf8
+use Rattle.utf8.specs.Utf8 as utf8
 use Rattle.parse.specs.Reader as answer
 use Rattle.schema.specs.declared.TypeRow.{TypeRow}
 use Rattle.schema.specs.declared.Field.{Field}

@@ -19,7 +19,7 @@ use Rattle.schema.specs.Table.{Shape, struct, bitmapBytes}
 use Rattle.value.specs.declared.Row.{Row}
 use Rattle.value.specs.Beside.{pruned, prunedAll, rootLength}
 use Rattle.value.specs.Value.{Value, node, Values, none as empty, some as and, Tree, tip, branch, Forest, rows, rowsAll, value, values}
-use Rattle.value.specs.Comparisons.{comparisons}
+use Rattle.value.specs.Comparisons as due
 use Rattle.value.specs.Read.{Item, present, rootBits, rootOf, rootStruct, refusal, accepted, reading}
 use Rattle.value.specs.Spell.{AllSpell, Spells, RootSpells}
 use Rattle.value.proofs.Shapes.{FieldsBelow, Optional, Widening, Extension}
@@ -124,8 +124,8 @@ module _ (S S′ : ℕ → Shape) (n : ℕ) (x : Extension S S′ n) (t : ℕ) (
               λ f. no-added (Spells S′ 15) h (values vs) w f q,
               rw u at (i .0),
               as-root S t payload room fs st short ∙ ap (reading S t room) a
-                  ∙ ap₂ (λ (i : ℕ) (y : List ℕ). cond (leb (length rs) room) (accepted rs i (length y) (comparisons S (value (rootTree t fs 0 h us c′)) t)) (refusal 30 0)) m e′
-                  ∙ ap (λ (y : Value). cond (leb (length rs) room) (accepted rs (length known) (length w) (comparisons S y t)) (refusal 30 0)) u,
+                  ∙ ap₂ (λ (i : ℕ) (y : List ℕ). cond (leb (length rs) room) (accepted rs i (length y) (due.comparisons S (value (rootTree t fs 0 h us c′)) t)) (refusal 30 0)) m e′
+                  ∙ ap (λ (y : Value). cond (leb (length rs) room) (accepted rs (length known) (length w) (due.comparisons S y t)) (refusal 30 0)) u,
             )
 
     -- The old reader's answer for a value that the new rules allow, without unknown bits; the tree has its places.
@@ -146,7 +146,7 @@ module _ (S S′ : ℕ → Shape) (n : ℕ) (x : Extension S S′ n) (t : ℕ) (
     refused-iff v (some p′) a p = (λ e. cc, λ e. a ∙ cc)
     refused-iff v none (rs, known, added, k, q, z, s, a) p = (λ e. go (leb (length rs) room) (sym a ∙ e), λ e. differ cc)
       where
-        go : (b : Bool) → cond b (accepted rs (length known) (length added) (comparisons S (without S v t) t)) (refusal 30 0) ≡ refusal 26 p → none ≡ some p
+        go : (b : Bool) → cond b (accepted rs (length known) (length added) (due.comparisons S (without S v t) t)) (refusal 30 0) ≡ refusal 26 p → none ≡ some p
         go true e = differ cc
         go false e = absurd (let z : _≡_ {A = ℕ} 30 26 = cc in omega arith)
 
@@ -157,30 +157,42 @@ module _ (S S′ : ℕ → Shape) (n : ℕ) (x : Extension S S′ n) (t : ℕ) (
     roots-agree = root-agrees S S′ n x t fs gs below (gained .0) (gained .1) (cursorAt payload 0)
 
     -- And both count the same comparisons due in what the old one reads.
-    pub same-comparisons : (tree : Tree) (end : Cursor) → rootStruct S t fs (cursorAt payload 0) ≡ seen tree end → comparisons S′ (value tree) t ≡ comparisons S (value tree) t
+    pub same-comparisons : (tree : Tree) (end : Cursor) → rootStruct S t fs (cursorAt payload 0) ≡ seen tree end → due.comparisons S′ (value tree) t ≡ due.comparisons S (value tree) t
     same-comparisons tree end k =
         root-same S S′ n (x .wide) t l fs gs st st′ (value tree) payload (end .left) (seen-end (root-sound S t fs (cursorAt payload 0)) k)
 
     -- What the old reader accepts, with no added field's bit set, the new one accepts with the same rows, tail and comparisons; the rows show the same
     -- value.
-    pub old-by-new : (rs : List Row) (place k compared : ℕ) → reading S t room (rootOf S t payload) ≡ accepted rs place k compared → NoneAdded fs gs payload
-        → (reading S′ t room (rootOf S′ t payload) ≡ accepted rs place k compared)
+    pub old-by-new : (rs : List Row) (place k comparisons : ℕ) → reading S t room (rootOf S t payload) ≡ accepted rs place k comparisons → NoneAdded fs gs payload
+        → (reading S′ t room (rootOf S′ t payload) ≡ accepted rs place k comparisons)
         × ((v : Value) × Shows S payload t fs rs v × Shows S′ payload t (fs ++ gs) rs v)
-    old-by-new rs place k₀ compared e bare =
-        let a = accepts S t payload room rs place k₀ compared e in
+    old-by-new rs place k₀ comparisons e bare =
+        let a = accepts S t payload room rs place k₀ comparisons e in
         let f : a .fs ≡ fs = cc (a .is-struct) in
         let k : rootStruct S t fs (cursorAt payload 0) ≡ seen (a .tree) (a .end) = rw f at (a .reads) in
         let k′ = agrees-accepts (roots-agree bare) k in
         let d = same-comparisons (a .tree) (a .end) k in (
-          accepted-of S′ t payload room rs place k₀ compared
-              (record { fs = fs ++ gs; tree = a .tree; end = a .end; is-struct = st′; reads = k′; has-rows = a .has-rows; has-place = a .has-place; has-length = a .has-length; has-compared = d ∙ a .has-compared; short = a .short; fits = a .fits }),
+          accepted-of S′ t payload room rs place k₀ comparisons
+              (record {
+                fs = fs ++ gs;
+                tree = a .tree;
+                end = a .end;
+                is-struct = st′;
+                reads = k′;
+                has-rows = a .has-rows;
+                has-place = a .has-place;
+                has-length = a .has-length;
+                has-comparisons = d ∙ a .has-comparisons;
+                short = a .short;
+                fits = a .fits;
+              }),
           (value (a .tree), rw (a .has-rows) at (root-in S t fs payload (a .tree) (a .end) k .0), rw (a .has-rows) at (root-in S′ t (fs ++ gs) payload (a .tree) (a .end) k′ .0)),
         )
 
     -- No added field's bit is set where the old reader accepts without a tail.
-    pub none-added : (rs : List Row) (place compared : ℕ) → reading S t room (rootOf S t payload) ≡ accepted rs place 0 compared → NoneAdded fs gs payload
-    none-added rs place compared e =
-        let a = accepts S t payload room rs place 0 compared e in
+    pub none-added : (rs : List Row) (place comparisons : ℕ) → reading S t room (rootOf S t payload) ≡ accepted rs place 0 comparisons → NoneAdded fs gs payload
+    none-added rs place comparisons e =
+        let a = accepts S t payload room rs place 0 comparisons e in
         let f : a .fs ≡ fs = cc (a .is-struct) in
         let k : rootStruct S t fs (cursorAt payload 0) ≡ seen (a .tree) (a .end) = rw f at (a .reads) in
         seen-end (tailless S S′ n x t fs gs below (gained .0) (gained .1) (cursorAt payload 0)) k (a .has-length)

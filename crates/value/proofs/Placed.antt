@@ -5,7 +5,7 @@ use Prim.Native.Nat.{ℕ, zero, suc, _-_}
 use native.Mathlib.Omega.{arith}
 use lib.ListN.{length}
 use borrow.Author.Tests.{ltb-true, leb-true, not-true}
-use Rattle.wire.proofs.Utf8s.{utf8-is}
+use Rattle.utf8.proofs.Utf8s.{utf8-is}
 use Rattle.parse.specs.Reader.{Cursor, Reader}
 use Rattle.parse.proofs.Answers.{Seen, nothing, value as holds, seen-then, seen-after, seen-check}
 use Rattle.parse.proofs.Places.{On, block-placed, count-placed}

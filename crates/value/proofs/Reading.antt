@@ -14,7 +14,7 @@ use Rattle.schema.specs.declared.Field.{Field}
 use Rattle.schema.specs.Table.{Shape, unknown, scalar, text, array, map, struct}
 use Rattle.value.specs.declared.Row.{Row}
 use Rattle.value.specs.Value.{Tree, tip, branch, Forest, stop, plus, rows, rowsAll, Value, value, values, size, sizeAll}
-use Rattle.value.specs.Comparisons.{comparisons}
+use Rattle.value.specs.Comparisons as due
 use Rattle.value.specs.Read.{onStruct, rootOf, rootStruct, refusal, accepted, readingAs, reading}
 use Rattle.value.proofs.Shapes.{Solid}
 use Rattle.value.specs.Fits.{Shows}
@@ -39,26 +39,26 @@ never : {A : Type 0} {n p tp tl c : ℕ} {rs : List Row} → refusal n p ≡ acc
 never e = differ cc
 
 -- The rows, with the tail's place and length and the key comparisons due, are what is shown of the tree that was read, and there is room for them.
-abbrev pub Gives : (Tree → List Row) → (ℕ → Shape) → (t room : ℕ) → Answer Tree → List Row → (place n compared : ℕ) → Tree → Type 0
-Gives shown S t room m rs place n compared tree =
-    (end : Cursor) × (m ≡ seen tree end) × (shown tree ≡ rs) × (end .at ≡ place) × (length (end .left) ≡ n) × (comparisons S (value tree) t ≡ compared)
+abbrev pub Gives : (Tree → List Row) → (ℕ → Shape) → (t room : ℕ) → Answer Tree → List Row → (place n comparisons : ℕ) → Tree → Type 0
+Gives shown S t room m rs place n comparisons tree =
+    (end : Cursor) × (m ≡ seen tree end) × (shown tree ≡ rs) × (end .at ≡ place) × (length (end .left) ≡ n) × (due.comparisons S (value tree) t ≡ comparisons)
     × (length rs ≤ room)
 
 module _ (shown : Tree → List Row) (S : ℕ → Shape) (t room : ℕ) where
-  pub accepted-gives : (m : Answer Tree) (rs : List Row) (place n compared : ℕ) → readingAs shown S t room m ≡ accepted rs place n compared
-      → (tree : Tree) × Gives shown S t room m rs place n compared tree
-  accepted-gives (refused _ _) rs place n compared e = never e
-  accepted-gives (seen tree end) rs place n compared e = go (leb (length (shown tree)) room) refl e
+  pub accepted-gives : (m : Answer Tree) (rs : List Row) (place n comparisons : ℕ) → readingAs shown S t room m ≡ accepted rs place n comparisons
+      → (tree : Tree) × Gives shown S t room m rs place n comparisons tree
+  accepted-gives (refused _ _) rs place n comparisons e = never e
+  accepted-gives (seen tree end) rs place n comparisons e = go (leb (length (shown tree)) room) refl e
     where
       go : (b : Bool) → leb (length (shown tree)) room ≡ b
-          → cond b (accepted (shown tree) (end .at) (length (end .left)) (comparisons S (value tree) t)) (refusal 30 0) ≡ accepted rs place n compared
-          → (tree′ : Tree) × Gives shown S t room (seen tree end) rs place n compared tree′
+          → cond b (accepted (shown tree) (end .at) (length (end .left)) (due.comparisons S (value tree) t)) (refusal 30 0) ≡ accepted rs place n comparisons
+          → (tree′ : Tree) × Gives shown S t room (seen tree end) rs place n comparisons tree′
       go true q e = let k : shown tree ≡ rs = cc in (tree, (end, refl, k, cc, cc, cc, rw (← k) (leb-true _ _ q)))
       go false q e = never e
 
-  pub gives-accepted : (m : Answer Tree) (rs : List Row) (place n compared : ℕ) (tree : Tree) → Gives shown S t room m rs place n compared tree
-      → readingAs shown S t room m ≡ accepted rs place n compared
-  gives-accepted m rs place n compared tree (end, e, r, p, l, d, f) = let b : leb (length rs) room ≡ true = le-leb _ _ f in rw (e, r, b, p, l, d)
+  pub gives-accepted : (m : Answer Tree) (rs : List Row) (place n comparisons : ℕ) (tree : Tree) → Gives shown S t room m rs place n comparisons tree
+      → readingAs shown S t room m ≡ accepted rs place n comparisons
+  gives-accepted m rs place n comparisons tree (end, e, r, p, l, d, f) = let b : leb (length rs) room ≡ true = le-leb _ _ f in rw (e, r, b, p, l, d)
 
 module _ (S : ℕ → Shape) (t : ℕ) (payload : List ℕ) where
   -- A payload that is not too long is judged by the root reader.
@@ -92,7 +92,7 @@ module _ (S : ℕ → Shape) (t : ℕ) (payload : List ℕ) (room : ℕ) where
   as-root fs st l = ap (reading S t room) (root-of S t payload fs st l)
 
   -- What is accepted, with its tree and the cursor at its tail.
-  pub record Accepts (rs : List Row) (place n compared : ℕ) : Type 0 where
+  pub record Accepts (rs : List Row) (place n comparisons : ℕ) : Type 0 where
     pub fs : List Field
     pub tree : Tree
     pub end : Cursor
@@ -101,20 +101,20 @@ module _ (S : ℕ → Shape) (t : ℕ) (payload : List ℕ) (room : ℕ) where
     pub has-rows : rows tree ≡ rs
     pub has-place : end .at ≡ place
     pub has-length : length (end .left) ≡ n
-    pub has-compared : comparisons S (value tree) t ≡ compared
+    pub has-comparisons : due.comparisons S (value tree) t ≡ comparisons
     pub short : length payload ≤ 16384
     pub fits : length rs ≤ room
 
-  pub accepts : (rs : List Row) (place n compared : ℕ) → reading S t room (rootOf S t payload) ≡ accepted rs place n compared → Accepts rs place n compared
-  accepts rs place n compared e =
-      let (tree, (end, k, r, p, l, d, f)) = accepted-gives rows S t room (rootOf S t payload) rs place n compared e in
+  pub accepts : (rs : List Row) (place n comparisons : ℕ) → reading S t room (rootOf S t payload) ≡ accepted rs place n comparisons → Accepts rs place n comparisons
+  accepts rs place n comparisons e =
+      let (tree, (end, k, r, p, l, d, f)) = accepted-gives rows S t room (rootOf S t payload) rs place n comparisons e in
       let (fs, st, m, short) = root-inv S t payload tree end k in
-      record { fs = fs; tree = tree; end = end; is-struct = st; reads = m; has-rows = r; has-place = p; has-length = l; has-compared = d; short = short; fits = f }
+      record { fs = fs; tree = tree; end = end; is-struct = st; reads = m; has-rows = r; has-place = p; has-length = l; has-comparisons = d; short = short; fits = f }
 
-  pub accepted-of : (rs : List Row) (place n compared : ℕ) → Accepts rs place n compared → reading S t room (rootOf S t payload) ≡ accepted rs place n compared
-  accepted-of rs place n compared a =
-      gives-accepted rows S t room _ rs place n compared (a .tree)
-      (a .end, root-of S t payload (a .fs) (a .is-struct) (a .short) ∙ a .reads, a .has-rows, a .has-place, a .has-length, a .has-compared, a .fits)
+  pub accepted-of : (rs : List Row) (place n comparisons : ℕ) → Accepts rs place n comparisons → reading S t room (rootOf S t payload) ≡ accepted rs place n comparisons
+  accepted-of rs place n comparisons a =
+      gives-accepted rows S t room _ rs place n comparisons (a .tree)
+      (a .end, root-of S t payload (a .fs) (a .is-struct) (a .short) ∙ a .reads, a .has-rows, a .has-place, a .has-length, a .has-comparisons, a .fits)
 
 -- ---- values
 
@@ -150,7 +150,7 @@ module _ (S : ℕ → Shape) (t : ℕ) (fs : List Field) (st : S t ≡ struct fs
       let i : length (end .left) ≡ n = ap length z ∙ h in
       let r : length (rows tree) ≤ room = omega (arith, sized tree, ap size u) in (
         rows tree,
-        accepted-of S t payload room (rows tree) place n (comparisons S v t)
-            (record { fs = fs; tree = tree; end = end; is-struct = st; reads = e; has-rows = refl; has-place = omega (arith, w .1); has-length = i; has-compared = rw u; short = l; fits = r }),
+        accepted-of S t payload room (rows tree) place n (due.comparisons S v t)
+            (record { fs = fs; tree = tree; end = end; is-struct = st; reads = e; has-rows = refl; has-place = omega (arith, w .1); has-length = i; has-comparisons = rw u; short = l; fits = r }),
         rw u at (w .0),
       )

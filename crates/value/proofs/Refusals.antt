@@ -33,14 +33,14 @@ module _ (T : Table) (good : GoodSchema T) (t : ℕ) where
 
   module _ (payload : List ℕ) (room : ℕ) where
     data Told : Reading → Type 0 where
-      shown : {rs : List Row} {place n compared : ℕ} → Told (accepted rs place n compared)
+      shown : {rs : List Row} {place n comparisons : ℕ} → Told (accepted rs place n comparisons)
       refuses-by : {n p : ℕ} → Reason (shape T) t payload room n p → Told (refusal n p)
 
     module _ (fs : List Field) (st : shape T t ≡ struct fs) (short : length payload ≤ 16384) where
-      fitting : (tree : Tree) (place n compared : ℕ) (tail : List ℕ) (b : Bool) → leb (length (rows tree)) room ≡ b → RootSpells (shape T) fs (value tree) payload tail
-          → Told (cond b (accepted (rows tree) place n compared) (refusal 30 0))
-      fitting tree place n compared tail true e q = shown
-      fitting tree place n compared tail false e q =
+      fitting : (tree : Tree) (place n comparisons : ℕ) (tail : List ℕ) (b : Bool) → leb (length (rows tree)) room ≡ b → RootSpells (shape T) fs (value tree) payload tail
+          → Told (cond b (accepted (rows tree) place n comparisons) (refusal 30 0))
+      fitting tree place n comparisons tail true e q = shown
+      fitting tree place n comparisons tail false e q =
           refuses-by (too-few-rows fs (value tree) tail st short q (omega (arith, sized tree, leb-false (length (rows tree)) room e)))
 
       judged : (m : Answer Tree) → Blames (cursorAt payload 0) (RootFault (shape T) fs) m

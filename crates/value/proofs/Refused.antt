@@ -8,9 +8,9 @@ use native.Mathlib.Omega.{arith}
 use lib.ListN.{length, length-append}
 use borrow.Author.Tests.{lt-leb, le-ltb, ne-eqb}
 use Rattle.wire.specs.Little.{little}
-use Rattle.wire.specs.Utf8.{utf8}
+use Rattle.utf8.specs.Utf8.{utf8}
 use Rattle.wire.specs.Varuint.{Spelled}
-use Rattle.wire.proofs.Utf8s.{utf8-is}
+use Rattle.utf8.proofs.Utf8s.{utf8-is}
 use Rattle.parse.specs.Reader.{Cursor, refused, check, varUInt, count}
 use Rattle.parse.proofs.Answers.{yields-end, stops, steps, fails, arrives}
 use Rattle.parse.proofs.Pieces.{block-complete, count-complete, block-refused, var-cut, var-bad, count-refused}

@@ -11,8 +11,8 @@ use borrow.Author.Tests.{leb-true, leb-false, ltb-false, eqb-true, eqb-false}
 use Rattle.buffer.specs.Span.{span}
 use Rattle.buffer.proofs.Spans.{length-span}
 use Rattle.wire.specs.Little.{little}
-use Rattle.wire.specs.Utf8.{utf8}
-use Rattle.wire.proofs.Utf8s.{utf8-is}
+use Rattle.utf8.specs.Utf8.{utf8}
+use Rattle.utf8.proofs.Utf8s.{utf8-is}
 use Rattle.parse.specs.Reader.{CursorOf, refused}
 use Rattle.parse.proofs.Answers.{Reads, reads-map}
 use Rattle.parse.proofs.Blames.{Blames, fine, blames, blames-then, blames-check, blames-on, blames-map}

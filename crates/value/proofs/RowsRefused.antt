@@ -9,8 +9,8 @@ use lib.Dec.{eqb}
 use lib.ListN.{length, length-append}
 use borrow.Author.Tests.{le-leb, lt-leb, le-ltb, eq-eqb, ne-eqb}
 use Rattle.wire.specs.Little.{little}
-use Rattle.wire.specs.Utf8.{utf8}
-use Rattle.wire.proofs.Utf8s.{utf8-is}
+use Rattle.utf8.specs.Utf8.{utf8}
+use Rattle.utf8.proofs.Utf8s.{utf8-is}
 use Rattle.parse.specs.Reader.{CursorOf, refused, seen, andThen, check}
 use Rattle.parse.proofs.Answers.{passes, Yields, gives, yields-end, stops, steps, fails, arrives}
 use Rattle.schema.specs.declared.Field.{Field}

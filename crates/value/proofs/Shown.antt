@@ -6,7 +6,7 @@ use Prim.Native.Nat.{ℕ, zero, suc, _+_}
 use lib.ListN.{length}
 use borrow.Author.Tests.{ltb-true, lt-ltb, leb-true, le-leb, eqb-true, eq-eqb, not-true}
 use Rattle.wire.proofs.Cases.{nothing-left}
-use Rattle.wire.proofs.Utf8s.{utf8-is}
+use Rattle.utf8.proofs.Utf8s.{utf8-is}
 use Rattle.parse.specs.Reader.{CursorOf, seen, andThen}
 use Rattle.parse.proofs.Answers.{Seen, value as holds, seen-then, seen-check, Reads, not-ok, ok, stay, reads-then, reads-check, Yields, gives, yields-then, goes, passes}
 use Rattle.schema.specs.declared.Field.{Field}

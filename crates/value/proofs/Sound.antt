@@ -5,7 +5,7 @@ use mathlib.Core.Bool.{Bool, true, not, _||_}
 use Prim.Native.Nat.{ℕ, zero, suc, _+_, _-_}
 use lib.Dec.{eqb}
 use borrow.Author.Tests.{ltb-true, leb-true, not-true, eq-eqb}
-use Rattle.wire.proofs.Utf8s.{utf8-is}
+use Rattle.utf8.proofs.Utf8s.{utf8-is}
 use Rattle.parse.specs.Reader.{Cursor, Reader}
 use Rattle.parse.proofs.Answers.{Reads, not-ok, stay, reads-then, reads-check}
 use Rattle.parse.proofs.Pieces.{block-reads, count-reads}

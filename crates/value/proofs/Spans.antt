@@ -9,7 +9,7 @@ use lib.Dec.{ltb, eqb}
 use lib.ListN.{length, getD}
 use Rattle.buffer.specs.Span.{span}
 use Rattle.wire.specs.Little.{little}
-use Rattle.wire.specs.Utf8.{utf8}
+use Rattle.utf8.specs.Utf8.{utf8}
 use Rattle.wire.proofs.Numbers.{little-one}
 use Rattle.schema.specs.Table.{width}
 use Rattle.schema.proofs.Bools.{or-right}

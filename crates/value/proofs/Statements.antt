@@ -43,7 +43,7 @@ use Rattle.value.proofs.Encode.{spelled-encoding, encoded, root-encodin
 use Rattle.value.proofs.Root.{root-sound, root-complete, root-tail}
 use Rattle.value.proofs.Pairs as pairs
 use Rattle.value.proofs.Maps as maps
-use Rattle.value.proofs.Comparisons as compared
+use Rattle.value.proofs.Comparisons as comparing
 use Rattle.value.proofs.Telling as telling
 use Rattle.value.proofs.Ignored.{ignored}
 use Rattle.value.proofs.Reading.{root-in, read-rightful, rightful-read, accepts}
@@ -85,10 +85,10 @@ map-items k v n = (items.map-length k v n, λ i d h. (items.map-key k v n i d h,
 
 -- Those of n keys are the pairs of an earlier key and a later one.
 pub comparisons-pairs : (n : ℕ) → keyComparisons n ≡ pairsAmong n
-comparisons-pairs = compared.comparisons-pairs
+comparisons-pairs = comparing.comparisons-pairs
 
 pub comparisons-half : (n : ℕ) → 2 * keyComparisons n ≡ n * (n - 1)
-comparisons-half = compared.comparisons-half
+comparisons-half = comparing.comparisons-half
 
 module _ (T : Table) (good : GoodSchema T) (t : ℕ) where
   solid : (t : ℕ) → Solid (shape T t)
@@ -135,7 +135,7 @@ module _ (T : Table) (good : GoodSchema T) (t : ℕ) where
   -- A composite's own comparisons are those of each later one of its keys with each earlier one.
   pub own-comparisons : (d h : ℕ) (vs : Values) (u : List ℕ) → Spells (shape T) d t (node h vs) u
       → mapComparisons (shape T t) h ≡ pairsAmong (length (keysOf (plan (shape T t) h) vs))
-  own-comparisons d h vs u q = compared.own-comparisons (shape T) d t h vs u q
+  own-comparisons d h vs u q = comparing.own-comparisons (shape T) d t h vs u q
 
   -- ---- maps, by their pairs
 
@@ -226,14 +226,14 @@ module _ (T : Table) (good : GoodSchema T) (t : ℕ) where
   comparisons-within payload room rs place n c e =
       let a = accepts (shape T) t payload room rs place n c e in
       let q = seen-end (root-sound (shape T) t (a .fs) (cursorAt payload 0)) (a .reads) in
-      let b = compared.root-bound (shape T) solid t (a .fs) (a .is-struct) (value (a .tree)) payload (a .end .left) q in
-      omega (arith, b, a .has-compared, a .short)
+      let b = comparing.root-bound (shape T) solid t (a .fs) (a .is-struct) (value (a .tree)) payload (a .end .left) q in
+      omega (arith, b, a .has-comparisons, a .short)
 
   pub comparisons-counted : (payload : List ℕ) (room : ℕ) (rs : List Row) (place n c : ℕ) → read T t payload room ≡ accepted rs place n c → c ≡ rowsComparisons (shape T) rs
   unfolding read
   comparisons-counted payload room rs place n c e =
       let a = accepts (shape T) t payload room rs place n c e in
-      sym (a .has-compared) ∙ compared.read-comparisons payload (shape T) t (a .fs) (a .is-struct) (a .tree) (a .end) (a .reads) ∙ ap (rowsComparisons (shape T)) (a .has-rows)
+      sym (a .has-comparisons) ∙ comparing.read-comparisons payload (shape T) t (a .fs) (a .is-struct) (a .tree) (a .end) (a .reads) ∙ ap (rowsComparisons (shape T)) (a .has-rows)
 
   module _ (fs : List Field) (st : shape T t ≡ struct fs) where
     -- The reader accepts, with rows that show v, exactly the payloads that spell v within the limits; the tail is what follows the known fields.
@@ -262,7 +262,7 @@ module _ (T : Table) (good : GoodSchema T) (t : ℕ) where
         let a = accepts (shape T) t payload room rs place n c e in
         let f : a .fs ≡ fs = cc (a .is-struct, st) in
         let s = root-in (shape T) t (a .fs) payload (a .tree) (a .end) (a .reads) .0 in
-        let r : ReadAs (shape T) t fs payload (read T t payload room) (value (a .tree)) place n = (rs, e ∙ ap (accepted rs place n) (sym (a .has-compared)), rw (f, a .has-rows) at s) in
+        let r : ReadAs (shape T) t fs payload (read T t payload room) (value (a .tree)) place n = (rs, e ∙ ap (accepted rs place n) (sym (a .has-comparisons)), rw (f, a .has-rows) at s) in
         let (z, q, _, _, l, _) = accepted-iff-spelled payload room (value (a .tree)) place n .0 r in
         let t = root-tail (shape T) fs (value (a .tree)) payload z q in
         (λ none. omega (arith, t .0), λ none. sym l ∙ t .1 none)
@@ -290,7 +290,7 @@ module _ (T : Table) (good : GoodSchema T) (t : ℕ) where
 
     -- The comparisons due in a value that a sheet shows are those that its rows count.
     pub shown-comparisons : (B : List ℕ) (rs : List Row) (v : Value) → Shows (shape T) B t fs rs v → comparisons (shape T) v t ≡ rowsComparisons (shape T) rs
-    shown-comparisons = compared.shown-comparisons (shape T) t fs st
+    shown-comparisons = comparing.shown-comparisons (shape T) t fs st
 
     -- Rows that tell the same types, counts, contents and known bits, over whatever bytes, show the same value.
     pub told-once : (B B′ : List ℕ) (v v′ : Value) (rs rs′ : List Row) → Shows (shape T) B t fs rs v → Shows (shape T) B′ t fs rs′ v′
@@ -347,7 +347,7 @@ module _ (T : Table) (good : GoodSchema T) (t : ℕ) where
   read-then-write payload room rs place n c b e room′ l =
       let a = accepts (shape T) t payload room rs place n c e in
       let s = subst (λ (x : List Row). Shows (shape T) payload t (a .fs) x (value (a .tree))) (a .has-rows) (root-in (shape T) t (a .fs) payload (a .tree) (a .end) (a .reads) .0) in
-      let (z, q, _, _, tail, _) = accepted-iff-spelled (a .fs) (a .is-struct) payload room (value (a .tree)) place n .0 (rs, e ∙ ap (accepted rs place n) (sym (a .has-compared)), s) in
+      let (z, q, _, _, tail, _) = accepted-iff-spelled (a .fs) (a .is-struct) payload room (value (a .tree)) place n .0 (rs, e ∙ ap (accepted rs place n) (sym (a .has-comparisons)), s) in
       let w = spelled-written (shape T) solid t (a .fs) (a .is-struct) payload z (value (a .tree)) b q (a .short) rs s room′ l in (
         a .fs,
         value (a .tree),

@@ -26,8 +26,9 @@ use Rattle.value.proofs.Encode.{root-short, root-encoding}
 use Rattle.value.proofs.Written.{root-written}
 use Rattle.value.proofs.Reading.{sized, rightful-read}
 
-never : {A : Type 0} {n p : ℕ} {out : List ℕ} → refusal n p ≡ written out → A
-never e = differ cc
+-- a refusal is nothing written
+pub not-written : {A : Type 0} {n p : ℕ} {out : List ℕ} → refusal n p ≡ written out → A
+not-written e = differ cc
 
 pub fitted-inv : (room : ℕ) (out out′ : List ℕ) → fitted room out ≡ written out′ → (out ≡ out′) × (length out ≤ 16384) × (length out ≤ room)
 fitted-inv room out out′ e = go (leb (length out) 16384) (leb (length out) room) refl refl e
@@ -35,8 +36,8 @@ fitted-inv room out out′ e = go (leb (length out) 16384) (leb (length out) roo
     go : (a b : Bool) → leb (length out) 16384 ≡ a → leb (length out) room ≡ b → cond a (cond b (written out) (refusal 52 0)) (refusal 7 0) ≡ written out′
         → (out ≡ out′) × (length out ≤ 16384) × (length out ≤ room)
     go true true p q e = (cc, leb-true _ _ p, leb-true _ _ q)
-    go true false p q e = never e
-    go false b p q e = never e
+    go true false p q e = not-written e
+    go false b p q e = not-written e
 
 whole-sheet : (rs u l q : List Row) → rs ≡ u ++ l → l ≡ [] → u ≡ q → q ≡ rs
 whole-sheet rs u l q a b c = cc (append-nil q)
@@ -54,18 +55,18 @@ module _ (S : ℕ → Shape) (t : ℕ) (rs : List Row) (B : List ℕ) (room : �
   written-shown e = go (S t) refl e
     where
       inside : (fs : List Field) → S t ≡ struct fs → (m : AnswerOf Row Tree) → showRoot S B t fs (record { left = rs; at = 0 }) ≡ m → writing S t room m ≡ written out → Writes S t rs B room out
-      inside fs st (refused n p) k e = never e
+      inside fs st (refused n p) k e = not-written e
       inside fs st (seen tree end) k e =
           let f = fitted-inv room _ out e in
           (fs, value tree, st, sheet-shows S t fs rs B tree end k, sym (f .0), rw (← f .0) (f .1), rw (← f .0) (f .2))
 
       go : (s : Shape) → S t ≡ s → writing S t room (onStruct s (refused 46 0) (λ fs. showRoot S B t fs (record { left = rs; at = 0 }))) ≡ written out → Writes S t rs B room out
       go (struct fs) st e = inside fs st _ refl e
-      go unknown st e = never e
-      go (scalar _) st e = never e
-      go (text _) st e = never e
-      go (array _) st e = never e
-      go (map _ _) st e = never e
+      go unknown st e = not-written e
+      go (scalar _) st e = not-written e
+      go (text _) st e = not-written e
+      go (array _) st e = not-written e
+      go (map _ _) st e = not-written e
 
   pub shown-written : Writes S t rs B room out → writing S t room (sheetRoot S t rs B) ≡ written out
   shown-written (fs, v, st, (tree, r, f, k), o, l, l′) =

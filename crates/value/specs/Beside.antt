@@ -7,7 +7,7 @@ use Rattle.schema.specs.declared.Field.{Field}
 use Rattle.schema.specs.Table.{Table, Shape, struct, shape}
 use Rattle.value.specs.declared.Row.{Row}
 use Rattle.value.specs.Value.{Tree, tip, branch, Forest, stop, plus, rows, Value, value, size}
-use Rattle.value.specs.Comparisons.{comparisons}
+use Rattle.value.specs.Comparisons as due
 use Rattle.value.specs.Read.{Item, plan, rowCount, onStruct, rootOf, Reading, refusal, accepted, readingAs}
 use Rattle.value.specs.Spell.{RootSpells}
 use Rattle.value.specs.Fits.{ShowsKnown}
@@ -44,14 +44,14 @@ readBeside ours theirs t payload room = besideOf (shape ours) (shape theirs) t r
 
 -- The payload spells v by theirs, a root with the fields fs′, within the limits, and there is room for what ours knows of v. The tail is at a place, of n
 -- bytes; the key comparisons due are those of v, added fields too.
-abbrev pub RightfulBeside : (S S′ : ℕ → Shape) (t : ℕ) (fs′ : List Field) (payload : List ℕ) (room : ℕ) → Value → (place n compared : ℕ) → Type 0
-RightfulBeside S S′ t fs′ payload room v place n compared =
+abbrev pub RightfulBeside : (S S′ : ℕ → Shape) (t : ℕ) (fs′ : List Field) (payload : List ℕ) (room : ℕ) → Value → (place n comparisons : ℕ) → Type 0
+RightfulBeside S S′ t fs′ payload room v place n comparisons =
     (tail : List ℕ) × RootSpells S′ fs′ v payload tail
     × (length payload ≤ 16384)
     × (size (without S v t) ≤ room)
     × (length tail ≡ n)
     × (place + n ≡ length payload)
-    × (comparisons S′ v t ≡ compared)
+    × (due.comparisons S′ v t ≡ comparisons)
 
 -- The payload spells a value by theirs, within the limits, of which ours knows more than there is room for.
 abbrev pub TooFewRows : (S S′ : ℕ → Shape) (t : ℕ) (fs′ : List Field) (payload : List ℕ) (room : ℕ) → Type 0
@@ -68,16 +68,16 @@ pub data BesideReason (S S′ : ℕ → Shape) (t : ℕ) (payload : List ℕ) (r
   too-few-rows : (fs′ : List Field) → S′ t ≡ struct fs′ → TooFewRows S S′ t fs′ payload room → BesideReason S S′ t payload room 30 0
 
 -- The answer accepts the payload with rows that show w by ours.
-abbrev pub ShownAs : (S : ℕ → Shape) (t : ℕ) (payload : List ℕ) → Reading → Value → (place n compared : ℕ) → Type 0
-ShownAs S t payload answer w place n compared = (rs : List Row) × (answer ≡ accepted rs place n compared) × ShowsKnown S payload t rs w
+abbrev pub ShownAs : (S : ℕ → Shape) (t : ℕ) (payload : List ℕ) → Reading → Value → (place n comparisons : ℕ) → Type 0
+ShownAs S t payload answer w place n comparisons = (rs : List Row) × (answer ≡ accepted rs place n comparisons) × ShowsKnown S payload t rs w
 
 -- The rows are those of a tree that fits and delimits the payload by theirs, without its added fields, and there is room for them. The key comparisons due
 -- are those of the whole tree.
-abbrev pub DelimitedBeside : (S S′ : ℕ → Shape) (t : ℕ) (payload : List ℕ) (room : ℕ) → List Row → (place n compared : ℕ) → Type 0
-DelimitedBeside S S′ t payload room rs place n compared =
+abbrev pub DelimitedBeside : (S S′ : ℕ → Shape) (t : ℕ) (payload : List ℕ) (room : ℕ) → List Row → (place n comparisons : ℕ) → Type 0
+DelimitedBeside S S′ t payload room rs place n comparisons =
     (tree : Tree) × DelimitedTree S′ t payload tree place n
     × (shownRows S t tree ≡ rs)
-    × (comparisons S′ (value tree) t ≡ compared)
+    × (due.comparisons S′ (value tree) t ≡ comparisons)
     × (length rs ≤ room)
 
 -- The rows rs are some of rs′ and in their order, with type, place and length as there.

@@ -10,7 +10,7 @@ use Rattle.schema.specs.declared.Field.{Field}
 use Rattle.schema.specs.Table.{Shape, struct}
 use Rattle.value.specs.declared.Row.{Row}
 use Rattle.value.specs.Value.{Tree, rows, Value, value, size}
-use Rattle.value.specs.Comparisons.{comparisons}
+use Rattle.value.specs.Comparisons as due
 use Rattle.value.specs.Read.{Reading, refusal, accepted}
 use Rattle.value.specs.Spell.{AllSpell, Spells, RootSpells, encode}
 use Rattle.value.specs.Fits.{RootFits, Shows}
@@ -35,7 +35,7 @@ module _ (S : ℕ → Shape) (t : ℕ) (fs : List Field) where
 
   -- The answer accepts the payload with rows that show v, and the key comparisons due are those of v.
   abbrev pub ReadAs : (payload : List ℕ) → Reading → Value → (place n : ℕ) → Type 0
-  ReadAs payload answer v place n = (rs : List Row) × (answer ≡ accepted rs place n (comparisons S v t)) × Shows S payload t fs rs v
+  ReadAs payload answer v place n = (rs : List Row) × (answer ≡ accepted rs place n (due.comparisons S v t)) × Shows S payload t fs rs v
 
 -- The tree, of type t, fits the payload, which is within the limit. The place and length of each row delimit the bytes of its value, the root's up to
 -- a tail of n bytes at a place.
@@ -49,11 +49,11 @@ DelimitedTree S t payload tree place n =
     × (length payload ≤ 16384)
 
 -- The rows are those of such a tree, the key comparisons due are its value's, and there is room for the rows.
-abbrev pub Delimited : (ℕ → Shape) → (t : ℕ) → (payload : List ℕ) (room : ℕ) → List Row → (place n compared : ℕ) → Type 0
-Delimited S t payload room rs place n compared =
+abbrev pub Delimited : (ℕ → Shape) → (t : ℕ) → (payload : List ℕ) (room : ℕ) → List Row → (place n comparisons : ℕ) → Type 0
+Delimited S t payload room rs place n comparisons =
     (tree : Tree) × DelimitedTree S t payload tree place n
     × (rows tree ≡ rs)
-    × (comparisons S (value tree) t ≡ compared)
+    × (due.comparisons S (value tree) t ≡ comparisons)
     × (length rs ≤ room)
 
 -- The sheet shows a value; what is written is its encoding, and that is a payload and fits into the room.
@@ -76,4 +76,4 @@ ByOld S S′ t fs gs payload room v answer none =
     × AllSpell (Spells S′ 15) (addedItems fs gs v) (addedValues fs v) added
     × (rootCarries fs v ≡ false → added ≡ [])
     × Shows S payload t fs rs (without S v t)
-    × (answer ≡ cond (leb (length rs) room) (accepted rs (length front) (length added) (comparisons S (without S v t) t)) (refusal 30 0))
+    × (answer ≡ cond (leb (length rs) room) (accepted rs (length front) (length added) (due.comparisons S (without S v t) t)) (refusal 30 0))

@@ -6,7 +6,7 @@ use Prim.Native.Nat.{ℕ, zero, suc, _+_, _^_, _≤_, _<_}
 use lib.ListN.{length}
 use Rattle.buffer.specs.Span.{span, SpanIs}
 use Rattle.wire.specs.Little.{little}
-use Rattle.wire.specs.Utf8.{Utf8}
+use Rattle.utf8.specs.Utf8.{Utf8}
 use Rattle.schema.specs.declared.Field.{Field}
 use Rattle.schema.specs.Table.{Shape, unknown, scalar, text, array, map, struct, width, bitmapBytes}
 use Rattle.value.specs.declared.Row.{Row}

@@ -6,7 +6,7 @@ use lib.Dec.{leb, ltb, eqb}
 use lib.Count.{onesIn}
 use lib.ListN.{length, take}
 use Rattle.wire.specs.Little.{little}
-use Rattle.wire.specs.Utf8.{utf8}
+use Rattle.utf8.specs.Utf8.{utf8}
 use Rattle.parse.specs.Reader.{Answer, refused, seen, Reader, ReaderOf, _>>=_, _>>_, return, at, refuse, check, cursorAt, block, count}
 use Rattle.schema.specs.declared.Field.{Field}
 use Rattle.schema.specs.Table.{Table, Shape, unknown, scalar, text, array, map, struct, shape, width, bitmapBytes}

@@ -7,7 +7,7 @@ use Prim.Native.Nat.{ℕ, suc, _*_, _/_, _%_, _^_, _≤_, _<_}
 use lib.ListN.{length, getD}
 use Rattle.wire.specs.Varuint.{Spelled, Completed}
 use Rattle.wire.specs.Little.{little}
-use Rattle.wire.specs.Utf8.{Utf8}
+use Rattle.utf8.specs.Utf8.{Utf8}
 use Rattle.parse.specs.Reader.{MalformedBytes}
 use Rattle.schema.specs.declared.Field.{Field}
 use Rattle.schema.specs.Table.{Shape, unknown, scalar, text, array, map, struct, width, bitmapBytes}

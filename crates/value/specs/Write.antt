@@ -6,7 +6,7 @@ use lib.Dec.{leb, ltb, eqb}
 use lib.ListN.{length}
 use Rattle.buffer.specs.Span.{span, inside}
 use Rattle.wire.specs.Little.{little}
-use Rattle.wire.specs.Utf8.{utf8}
+use Rattle.utf8.specs.Utf8.{utf8}
 use Rattle.parse.specs.Reader.{AnswerOf, ReaderOf, refused, seen, _>>=_, _>>_, return, at, refuse, check}
 use Rattle.parse.specs.Test.{test}
 use Rattle.schema.specs.declared.Field.{Field}

@@ -7,7 +7,7 @@ use lib.Dec.{eqb}
 use lib.ListN.{length}
 use Rattle.wire.specs.Little as little
 use Rattle.wire.specs.Varuint as varuint
-use Rattle.wire.specs.Utf8 as utf8
+use Rattle.utf8.specs.Utf8 as utf8
 use Rattle.parse.specs.Reader as answer
 use Rattle.schema.specs.Table as table
 use Rattle.schema.specs.File.{cell, shaped, layoutOf}

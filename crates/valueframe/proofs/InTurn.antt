@@ -25,6 +25,7 @@ use Rattle.frame.proofs.Tests.{known-bounds, bounds-known}
 use Rattle.frame.proofs.ReadBack.{written-iff, refused-iff}
 use Rattle.value.specs.Sheet.{rowsOf}
 use Rattle.value.specs.Write.{Writing, refusal, written, write}
+use Rattle.value.proofs.Writing.{not-written}
 use Rattle.writer.specs.declared.Writing.the-variants.{Written, Refused}
 use Rattle.writer.specs.Entry.{outcome, outcomeOf, payloadBy, lengthOf, withinRoom}
 use Rattle.writer.proofs.Entries.{room-last, payload-small, payload-other}
@@ -83,16 +84,13 @@ module _ (s : List ℕ) (ty : ℕ) (cells B mid : List ℕ) where
       let (bs, w, _, front, _) = written-is s ty cells B mid n mid′ e in
       let by : payloadBy s ty cells B ≡ written bs = within-written (length mid) (payloadBy s ty cells B) bs (sym (room-last s ty cells B (length mid)) ∙ w) .0 in
       let good = written-good s ty cells B mid n mid′ e in
-      payload-value s ty cells B (λ t. never (sym (no-type good t) ∙ by)) ∙ by ∙ ap written (sym front)
-    where
-      never : {bs : List ℕ} → refusal 46 0 ≡ written bs → ⊥
-      never e = differ cc
+      payload-value s ty cells B (λ t. not-written (sym (no-type good t) ∙ by)) ∙ by ∙ ap written (sym front)
 
   payload-of : IsGood s → 16384 ≤ length mid → (p : List ℕ) → payloadFor s ty cells B ≡ written p → Payload s ty cells B mid p
   payload-of good room p e = elim (ℕ-discrete ty 4294967295) [
     | yes t ↦ elim (decLt (length cells) 4) [
       | yes l ↦ subst (Payload s ty cells B mid) (same (sym (payload-empty s ty cells B t l) ∙ e)) (none good t l)
-      | no l ↦ never (sym (payload-surplus s ty cells B t (omega arith)) ∙ e)
+      | no l ↦ not-written (sym (payload-surplus s ty cells B t (omega arith)) ∙ e)
     ]
     | no some ↦
         let by : payloadBy s ty cells B ≡ written p = sym (payload-value s ty cells B some) ∙ e in
@@ -102,9 +100,6 @@ module _ (s : List ℕ) (ty : ℕ) (cells B mid : List ℕ) where
     where
       same : {x y : List ℕ} → written x ≡ written y → x ≡ y
       same e = cc
-
-      never : {A : Type 0} {n q : ℕ} → refusal n q ≡ written p → A
-      never e = differ cc
 
 -- ---- the frame
 
@@ -184,16 +179,13 @@ module _ (h : Header) (s : List ℕ) (ty : ℕ) (cells B out : List ℕ) where
         refused : {n q : ℕ} → knownKind (h .kind) ≡ true → payloadFor s ty cells B ≡ refusal n q → Because n q
         refused {n} {q} k is = elim (ℕ-discrete ty 4294967295) [
           | yes t ↦ elim (decLt (length cells) 4) [
-            | yes l ↦ never (sym (payload-empty s ty cells B t l) ∙ is)
+            | yes l ↦ not-written (sym is ∙ payload-empty s ty cells B t l)
             | no l ↦ moved (surplus good (known-bounds (h .kind) k .0) (known-bounds (h .kind) k .1) t (omega arith)) (sym (payload-surplus s ty cells B t (omega arith)) ∙ is)
           ]
           | no some ↦
               let by = enough s ty cells B mid room ∙ sym (payload-value s ty cells B some) ∙ is in
               value (known-bounds (h .kind) k .0) (known-bounds (h .kind) k .1) some n q (write-by s ty cells B mid good ∙ ap (outcomeOf mid) by)
         ]
-          where
-            never : {A : Type 0} {p : List ℕ} → written p ≡ refusal n q → A
-            never e = differ cc
 
         unknown : knownKind (h .kind) ≡ false → (1 ≤ h .kind) × (h .kind ≤ 8) → ⊥
         unknown k (low, high) = let bad = sym k ∙ bounds-known (h .kind) low high in differ cc

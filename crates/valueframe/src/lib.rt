@@ -7,7 +7,7 @@ use frame::known_kind;
 use frame::payload_place;
 use frame::write_front;
 use schema::Checked;
-use schema::check::check;
+use table::checking::check;
 use writer::FEW_CELLS;
 use writer::SHORT;
 use writer::Writing;

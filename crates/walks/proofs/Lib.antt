@@ -6,3 +6,4 @@ pub mod Digests
 pub mod Keys
 pub mod Examples
 pub mod Masks
+pub mod Cycles

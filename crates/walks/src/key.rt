@@ -30,7 +30,8 @@ const CELL_FLAGS: usize = 64;
 // 2^32: a key is kept as its place times this, and its length.
 const PLACE_WEIGHT: usize = 4294967296;
 
-// The number of the n bytes at a place where there are eight. For more it is a digest of fewer, so that they are hashed.
+// The number of the n bytes at a place where n is eight. For more bytes it is the least digest of seven, which `digest_of` does not take for theirs: it hashes
+// them.
 fn word_at(s: &[u8], place: usize, n: usize) -> usize
     requires { ⌜ place + n ≤ length (now s) ⌝ }
     ensures { λ r. ⌜ r ≡ wordOf (span (now (s .entry)) place n) ⌝ }
@@ -53,7 +54,7 @@ fn digest_of(s: &[u8], place: usize, n: usize, judging: bool) -> usize
     if n < WORD {
         return last_word(s, place, n);
     }
-    // Tests that cannot be made of the top byte alone: those would make eight loads of one.
+    // The two bounds are hashed as well: by a test of the top byte alone the compiler would load the eight bytes one by one.
     let x = word_at(s, place, n);
     if (x < BELOW_DIGESTS) | (ABOVE_DIGESTS < x) {
         return x;

@@ -3,7 +3,7 @@ pub mod key;
 pub mod siphash;
 
 use schema::Layout;
-use schema::rows::field_row;
+use table::rows::field_row;
 ghost use mathlib.Core.Path.{_≡_};
 ghost use mathlib.Core.Bool.{true, false};
 ghost use Prim.Native.Nat.{_+_, _≤_};
@@ -27,7 +27,7 @@ pub fn is_complete(s: &[u8], first: usize, n: usize, word: u64, judging: bool) -
     let mut left = n;
     let mut bits = word;
     while 0 < left {
-        let f = schema::access::field(s, i);
+        let f = table::access::field(s, i);
         if !((f.optional == 1) | (bits % 2 == 1)) {
             return false;
         }

@@ -1,10 +1,6 @@
 pub mod Numbers
 pub mod Varuints
-pub mod Utf8s
 pub mod Bitmaps
 pub mod Examples
 pub mod Cases
-pub mod Unicodes
-pub mod Asciis
-pub mod Pairs
 pub mod Table

@@ -8,7 +8,10 @@ ghost use Rattle.wire.specs.Bitmap.{Present};
 // Bits of a byte, and the most of them that the last byte of a bitmap leaves over: n bits take (n + SPARE_BITS) / BYTE_BITS bytes.
 pub const BYTE_BITS: usize = 8;
 
-pub const SPARE_BITS: usize = 7;
+pub const SPARE_BITS: usize = BYTE_BITS - 1;
+
+// Bits of a word, which is a `u64`.
+const WORD_BITS: usize = 64;
 
 // What a struct's bitmap says of its fields.
 pub struct Presence {
@@ -25,7 +28,7 @@ pub fn low_bits(x: u64, n: usize) -> u64
     requires { ⌜ n ≤ 64 ⌝ }
     ensures { λ r. ⌜ r ≡ x % 2 ^ n ⌝ }
 {
-    if n == 64 {
+    if n == WORD_BITS {
         return x;
     }
     x & ((1 << n) - 1)

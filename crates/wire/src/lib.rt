@@ -1,5 +1,4 @@
-// What frames and payloads are made of: VarUInts, little-endian numbers, UTF-8 and presence bitmaps.
+// What frames and payloads are made of: VarUInts, little-endian numbers and presence bitmaps.
 pub mod bitmap;
 pub mod little;
-pub mod utf8;
 pub mod varuint;

@@ -5,6 +5,12 @@ ghost use lib.ListN.{length, take, drop};
 ghost use Rattle.buffer.specs.Store.{written};
 ghost use Rattle.wire.specs.Little.{little, twos, bytes};
 
+// A byte is below BASE and weighs BASE times what the byte before it weighs.
+const BASE: u64 = 256;
+
+// The same as `u32`.
+const BASE_32: u32 = BASE as u32;
+
 // A byte as a number of 64 bits, which is below 256.
 pub fn wide(x: u8) -> u64
     ensures { λ r. ⌜ (r ≡ x) × (r < 256) ⌝ }
@@ -21,7 +27,7 @@ pub fn number(s: &[u8], at: usize, n: usize) -> u64
     let mut i = n;
     while 0 < i {
         i -= 1;
-        r = r * 256 + wide(s[at + i]);
+        r = r * BASE + wide(s[at + i]);
     }
     r
 }
@@ -30,7 +36,7 @@ pub fn number(s: &[u8], at: usize, n: usize) -> u64
 fn join(a: u8, b: u8, c: u8, d: u8) -> u32
     ensures { λ r. ⌜ r ≡ a + 256 * (b + 256 * (c + 256 * d)) ⌝ }
 {
-    a as u32 + 256 * (b as u32 + 256 * (c as u32 + 256 * (d as u32)))
+    a as u32 + BASE_32 * (b as u32 + BASE_32 * (c as u32 + BASE_32 * (d as u32)))
 }
 
 // The number in the four bytes from at: `number` at this width, without a loop.
@@ -61,8 +67,8 @@ pub fn store(d: &mut [u8], at: usize, n: usize, x: u64)
     let mut y = x;
     let mut i = 0;
     while i < n {
-        d[at + i] = (y % 256) as u8;
-        y = y / 256;
+        d[at + i] = (y % BASE) as u8;
+        y = y / BASE;
         i += 1;
     }
 }

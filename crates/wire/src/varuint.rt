@@ -7,6 +7,19 @@ ghost use lib.ListN.{length, drop};
 ghost use Rattle.buffer.specs.Store.{written};
 ghost use Rattle.wire.specs.Varuint.{before, groups, varuint, varuintBytes};
 
+// The top bit, which is set on all bytes but the last.
+const CONTINUATION: u64 = 128;
+
+// A group has seven bits, so that it is below BASE and weighs BASE times what the group before it weighs.
+const BASE: u64 = 128;
+
+const MOST_GROUPS: usize = 10;
+
+const AFTER_FIRST: usize = MOST_GROUPS - 1;
+
+// The tenth group is below it: nine groups have 63 of the 64 bits.
+const TENTH_LIMIT: u64 = 2;
+
 // What stands at a place.
 pub enum VarUInt {
     Number { value: u64, next: usize },
@@ -22,15 +35,15 @@ fn read_more(s: &[u8], at: usize, first: u64) -> VarUInt
     ensures { λ r. ⌜ r ≡ before first (groups 9 (drop at (now (s .entry))) at) ⌝ }
 {
     let mut value = first;
-    let mut weight: u64 = 128;
+    let mut weight = BASE;
     let mut i = at;
-    let mut left: usize = 9;
+    let mut left = AFTER_FIRST;
     while 1 < left {
         if s.len() <= i {
             return VarUInt::Cut;
         }
         let b = wide(s[i]);
-        if b < 128 {
+        if b < CONTINUATION {
             if b == 0 {
                 return VarUInt::Malformed;
             }
@@ -39,8 +52,8 @@ fn read_more(s: &[u8], at: usize, first: u64) -> VarUInt
                 next: i + 1,
             };
         }
-        value += weight * (b - 128);
-        weight *= 128;
+        value += weight * (b - CONTINUATION);
+        weight *= BASE;
         i += 1;
         left -= 1;
     }
@@ -48,7 +61,7 @@ fn read_more(s: &[u8], at: usize, first: u64) -> VarUInt
         return VarUInt::Cut;
     }
     let b = wide(s[i]);
-    if b < 2 {
+    if b < TENTH_LIMIT {
         if b == 0 {
             return VarUInt::Malformed;
         }
@@ -68,13 +81,13 @@ pub fn read(s: &[u8], at: usize) -> VarUInt
         return VarUInt::Cut;
     }
     let b = wide(s[at]);
-    if b < 128 {
+    if b < CONTINUATION {
         return VarUInt::Number {
             value: b,
             next: at + 1,
         };
     }
-    read_more(s, at + 1, b - 128)
+    read_more(s, at + 1, b - CONTINUATION)
 }
 
 // The VarUInt of x into d from at on; the place after it.
@@ -84,9 +97,9 @@ pub fn write(d: &mut [u8], at: usize, x: u64) -> usize
 {
     let mut y = x;
     let mut i = at;
-    while 128 <= y {
-        d[i] = (y % 128 + 128) as u8;
-        y = y / 128;
+    while BASE <= y {
+        d[i] = (y % BASE + CONTINUATION) as u8;
+        y = y / BASE;
         i += 1;
     }
     d[i] = y as u8;
@@ -99,8 +112,8 @@ pub fn size(x: u64) -> usize
 {
     let mut y = x;
     let mut n = 1;
-    while 128 <= y {
-        y = y / 128;
+    while BASE <= y {
+        y = y / BASE;
         n += 1;
     }
     n

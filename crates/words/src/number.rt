@@ -2,6 +2,12 @@
 ghost use mathlib.Core.Path.{_≡_};
 ghost use Rattle.words.specs.Number.{isDigit as digitTest, parsedOf};
 
+// The base of a decimal.
+const BASE: u64 = 10;
+
+// The greatest number of 64 bits.
+const GREATEST: u64 = 18446744073709551615;
+
 pub enum Parsed {
     Number(u64),
     Nothing,
@@ -10,7 +16,7 @@ pub enum Parsed {
 fn is_digit(b: u8) -> bool
     ensures { λ r. ⌜ r ≡ digitTest b ⌝ }
 {
-    (48 <= b) & (b <= 57)
+    (b'0' <= b) & (b <= b'9')
 }
 
 // The number that a word stands for, of at most 64 bits; none where it is empty or another byte than a digit is in it.
@@ -27,11 +33,11 @@ pub fn number_of(word: &[u8]) -> Parsed
         if !is_digit(b) {
             return Parsed::Nothing;
         }
-        let digit = (b - 48) as u64;
-        if (18446744073709551615 - digit) / 10 < n {
+        let digit = (b - b'0') as u64;
+        if (GREATEST - digit) / BASE < n {
             return Parsed::Nothing;
         }
-        n = 10 * n + digit;
+        n = BASE * n + digit;
         i += 1;
     }
     Parsed::Number(n)

@@ -22,7 +22,7 @@ pub fn put_check(schema: &[u8], out: &mut [u8]) -> usize
     if limit::FILE < schema.len() {
         return put_refusal(out, 0, refusal::FILE_TOO_LONG, 0);
     }
-    match schema::check::check(schema) {
+    match table::checking::check(schema) {
         Checked::Good => put_word(out, 0, b"good\n"),
         Checked::Refused { number, place } => put_refusal(out, 0, number, place),
     }
@@ -33,7 +33,7 @@ fn put_which(old: &[u8], out: &mut [u8]) -> usize
     ensures { λ r. ⌜ Added (now (out .entry)) 0 (whichOf (checked (now (old .entry)))) r (now (out .exit)) ⌝ }
     ensures { λ r. ⌜ r ≡ 4 ⌝ }
 {
-    match schema::check::check(old) {
+    match table::checking::check(old) {
         Checked::Good => put_word(out, 0, b"new "),
         Checked::Refused {
             number: _,
@@ -55,7 +55,7 @@ pub fn put_extends(old: &[u8], new: &[u8], out: &mut [u8]) -> usize
         let at = put_word(out, 0, b"new ");
         return put_refusal(out, at, refusal::FILE_TOO_LONG, 0);
     }
-    match schema::extension::extends(old, new) {
+    match table::extension::extends(old, new) {
         Extended::Yes => put_word(out, 0, b"yes\n"),
         Extended::No => put_word(out, 0, b"no\n"),
         Extended::Refused { number, place } => {

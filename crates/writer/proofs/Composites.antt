@@ -1,6 +1,6 @@
 -- Laws of the walkers: a value of each shape by its row, and the turns of the loops over what it holds.
 use mathlib.Core.Path.{_≡_, refl, sym, ap, _∙_}
-use mathlib.Core.Bool.{true, false, _&&_}
+use mathlib.Core.Bool.{Bool, true, false, _&&_}
 use mathlib.Core.List.{List, [], _∷_, append-nil}
 use Prim.Native.Nat.{ℕ, suc, _+_, _-_, _/_, _≤_, _<_}
 use native.Mathlib.Omega.{arith}
@@ -20,8 +20,8 @@ use Rattle.value.specs.Value.{Tree, tip, branch, Forest, stop, plus, value, val
 use Rattle.value.specs.Read.{Item, parts, plainItem, pairs, plan, present, walk}
 use Rattle.value.specs.Spell.{leafBytes, headBytes, encode, encodeAll}
 use Rattle.value.specs.Write.{RowReader, rowDue, says, show}
-use Rattle.walks.specs.Shape.{leafShape}
-use Rattle.walks.proofs.Items.{item-stop, item-past}
+use Rattle.walks.specs.Shape.{leafShape, shapeIn}
+use Rattle.walks.proofs.Items.{item-accepted, item-stop, item-past}
 use Rattle.walks.proofs.Walks.{deep}
 use Rattle.writer.specs.declared.leaf.Due.{Due}
 use Rattle.writer.specs.declared.leaf.Due.the-variants.{Found, Missing}
@@ -29,13 +29,14 @@ use Rattle.writer.specs.declared.leaf.Leaf.{Leaf}
 use Rattle.writer.specs.declared.leaf.Leaf.the-variants.{At, Refused as LeafRefused}
 use Rattle.writer.specs.declared.leaf.Head.{Head}
 use Rattle.writer.specs.declared.leaf.Head.the-variants.{Bits, Refused as HeadRefused}
-use Rattle.writer.specs.declared.walk.Walk.the-variants.{Past}
-use Rattle.writer.specs.Emit.{cap, PutAt, emitted, Final, done, stopped, emit, emitAll}
+use Rattle.writer.specs.declared.walk.Walk.{Walk}
+use Rattle.writer.specs.declared.walk.Walk.the-variants.{Past, Refused}
+use Rattle.writer.specs.Emit.{cap, PutAt, emitted, Final, emit, emitAll}
 use Rattle.writer.specs.Leaf.{rowsAt, dueAnswer, DueRow, leafOf, LeafIn, LeafRow, headOf}
-use Rattle.writer.specs.Walk.{Walked}
+use Rattle.writer.specs.Walk.{valueIn, itemsIn, valueEnd, itemsEnd, Walked, Ready}
 use Rattle.writer.proofs.Leaves.{due-in, row-read}
 use Rattle.writer.proofs.Heads.{HeadRow}
-use Rattle.writer.proofs.Steps.{ahead, done-put, emitting, branch-bytes, tip-bytes, show-refused, show-bad, show-parts, leaf-shown, leaf-refused}
+use Rattle.writer.proofs.Steps.{ahead, was, as-refused, shown-along, walk-done, done-put, emitting, branch-bytes, tip-bytes, show-refused, show-bad, show-parts, leaf-shown, leaf-refused}
 
 -- ---- a leaf
 
@@ -142,17 +143,52 @@ module _ {S : ℕ → Shape} {B cells : List ℕ} {row t n : ℕ} {fs : List Fie
         → ahead S (show S B d) [] (present fs known) (rowsAt cells (row + 1)) next mid ≡ emit S t (show S B (suc d) t (rowsAt cells row)) pos out
     struct-start d l put = parts-start struct-found d l (rw (w .many) put)
 
--- ---- one item, an element of an array or a field of a struct, and those after it
+-- ---- a loop over items: elements of an array, fields of a struct, pairs of a map
 
-module _ (S : ℕ → Shape) (P : ℕ → RowReader Tree) {is rest : List Item} {e : ℕ} (first : is ≡ plainItem e ∷ rest) (c : CursorOf Row) (pos : ℕ) (out : List ℕ) where
-  pub next-stop : {n q : ℕ} → stopped n q ≡ emit S e (P e c) pos out → stopped n q ≡ ahead S P [] is c pos out
-  unfolding emit emitAll
-  next-stop h = item-stop (emitting S) P [] first c (emitted pos out) _ h
+-- Where it stands: the items left, from a row on, end as all of them do. What was asked of all is kept.
+pub record Writing (s B cells : List ℕ) (depth : ℕ) (all : List Item) (start pos₀ : ℕ) (judging : Bool) (out₀ : List ℕ) (keys : List (List ℕ)) (left : List Item) (row pos : ℕ) (out : List ℕ) : Type 0 where
+  pub asked : Ready s cells out₀ start pos₀ judging (itemsIn s B cells depth [] all start)
+  pub same : itemsEnd s B cells depth keys left row pos out ≡ itemsEnd s B cells depth [] all start pos₀ out₀
+  pub inside : row ≤ length cells / 4
+  pub capped : pos ≤ 16385
+  pub long : length out ≡ length out₀
 
-  pub next-past : length out ≤ 16384 → {c′ : CursorOf Row} {next : ℕ} {mid : List ℕ} → done c′ next mid ≡ emit S e (P e c) pos out
-      → ahead S P [] rest c′ next mid ≡ ahead S P [] is c pos out
-  unfolding emit emitAll
-  next-past l h = sym (item-past (emitting S) P [] first c (emitted pos out) l h)
+module _ {s B cells : List ℕ} {depth : ℕ} {all : List Item} {start pos₀ : ℕ} {judging : Bool} {out₀ : List ℕ} where
+  pub writing-first : Ready s cells out₀ start pos₀ judging (itemsIn s B cells depth [] all start) → Writing s B cells depth all start pos₀ judging out₀ [] all start pos₀ out₀
+  writing-first q = record { asked = q; same = refl; inside = q .inside; capped = q .capped; long = refl }
+
+  module _ {keys : List (List ℕ)} {left : List Item} {row pos : ℕ} {out : List ℕ} (g : Writing s B cells depth all start pos₀ judging out₀ keys left row pos out) where
+    pub writing-small : length out ≤ 16384
+    writing-small = rw (g .long) (g .asked .small)
+
+    pub writing-known : judging ≡ false → Accepted (itemsIn s B cells depth keys left row)
+    writing-known j = shown-along _ _ _ _ _ _ _ _ _ (g .same) (g .asked .judged j)
+
+    -- no item is left
+    pub writing-done : left ≡ [] → Walked cells (itemsEnd s B cells depth [] all start pos₀ out₀) (Past row pos) out
+    writing-done none = walk-done _ _ _ none (g .same) (g .inside) (g .capped)
+
+    -- an element or a field, and those after it
+    module _ {e : ℕ} {rest : List Item} (first : left ≡ plainItem e ∷ rest) where
+      pub writing-ready : Ready s cells out row pos judging (valueIn s B cells depth e row)
+      writing-ready = record { good = g .asked .good; inside = g .inside; capped = g .capped; small = writing-small; judged = λ j. item-accepted _ _ first _ (writing-known j) }
+
+      module _ {r : Walk} {mid : List ℕ} (w : Walked cells (valueEnd s B cells depth e row pos out) r mid) where
+        pub writing-stop : {n q : ℕ} → r ≡ Refused n q → {r′ : Walk} {after : List ℕ} → r′ ≡ Refused n q → Walked cells (itemsEnd s B cells depth [] all start pos₀ out₀) r′ after
+        unfolding emit emitAll
+        writing-stop h h′ = as-refused h′ (item-stop (emitting (shapeIn s)) (show (shapeIn s) B depth) keys first (rowsAt cells row) (emitted pos out) _ (was w h .same) ∙ g .same)
+
+        pub writing-on : {next to : ℕ} → r ≡ Past next to → length mid ≡ length out → Writing s B cells depth all start pos₀ judging out₀ keys rest next to mid
+        unfolding emit emitAll
+        writing-on h long =
+            let v = was w h in
+            record {
+              asked = g .asked;
+              same = sym (item-past (emitting (shapeIn s)) (show (shapeIn s) B depth) keys first (rowsAt cells row) (emitted pos out) writing-small (v .same)) ∙ g .same;
+              inside = v .within .0;
+              capped = v .within .1;
+              long = long ∙ g .long;
+            }
 
 -- structs that the depth allows
 pub structs-held : (kind depth : ℕ) → (eqb kind 16 && ltb 0 depth) ≡ true → (kind ≡ 16) × (0 < depth)
@@ -192,8 +228,3 @@ pub record Came (cells : List ℕ) (end : Final) (before : List ℕ) (here to : 
 pub came-by : {cells : List ℕ} {end : Final} {before : List ℕ} {row next : ℕ} {out : List ℕ} → Walked cells end (Past row next) out → length out ≡ length before
     → {here to : ℕ} {out′ : List ℕ} → here ≡ row → to ≡ next → out′ ≡ out → Came cells end before here to out′
 came-by w k e₁ e₂ e₃ = rw (e₁, e₂, e₃) (record { walked = w; long = k })
-
--- the loop over pairs starts with no key
-pub pairs-start : (S : ℕ → Shape) (P : ℕ → RowReader Tree) (k v n : ℕ) {keys : List (List ℕ)} (c : CursorOf Row) (to : ℕ) (out : List ℕ) → keys ≡ []
-    → ahead S P keys (pairs (n - 0) k v) c to out ≡ ahead S P [] (pairs n k v) c to out
-pairs-start S P k v n c to out e = let q : n - 0 ≡ n = omega arith in rw (e, q)

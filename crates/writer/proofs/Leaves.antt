@@ -11,7 +11,7 @@ use lib.Dec.{ltb, eqb}
 use lib.ListN.{length, getD}
 use Rattle.buffer.specs.Span.{span, inside}
 use Rattle.wire.specs.Little.{little}
-use Rattle.wire.specs.Utf8.{utf8}
+use Rattle.utf8.specs.Utf8.{utf8}
 use Rattle.parse.specs.Reader.{CursorOf, seen, andThen, check, Accepted}
 use Rattle.parse.proofs.Answers.{accepted-first, accepted-check}
 use Rattle.schema.specs.Table.{width}

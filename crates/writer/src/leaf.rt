@@ -3,7 +3,6 @@ use constants::format;
 use constants::kind;
 use constants::refusal;
 use wire::bitmap;
-use wire::utf8;
 ghost use mathlib.Core.Path.{_≡_};
 ghost use mathlib.Core.Bool.{false};
 ghost use Prim.Native.Nat.{_+_, _*_, _/_, _≤_, _<_};
@@ -72,7 +71,7 @@ fn width_of(kind: usize) -> usize
     if kind == 0 {
         return 0;
     }
-    schema::kind::width_of(kind)
+    table::kind::width_of(kind)
 }
 
 // A scalar by its row.

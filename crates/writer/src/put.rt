@@ -15,6 +15,12 @@ ghost use Rattle.walks.specs.Shape.{leafShape};
 // One byte more than a payload may have: what is longer counts as this.
 const OVER: usize = limit::PAYLOAD + 1;
 
+// What the seven bits of a byte of a VarUInt count up to; the eighth says that another byte follows.
+const GROUP: u64 = 128;
+
+// How many numbers a byte has.
+const BYTE: u64 = 256;
+
 // Kinds as `usize`.
 const STRING: usize = kind::STRING as usize;
 
@@ -33,9 +39,9 @@ pub fn put_number(out: &mut [u8], pos: usize, x: u64) -> usize
 {
     let mut y = x;
     let mut at = pos;
-    while 128 <= y {
-        put_byte(out, at, (y % 128 + 128) as u8);
-        y = y / 128;
+    while GROUP <= y {
+        put_byte(out, at, (y % GROUP + GROUP) as u8);
+        y = y / GROUP;
         at = at + 1;
     }
     put_byte(out, at, y as u8);
@@ -50,8 +56,8 @@ pub fn put_bits(out: &mut [u8], pos: usize, n: usize, x: u64) -> usize
     let mut y = x;
     let mut i = 0;
     while i < n {
-        put_byte(out, pos + i, (y % 256) as u8);
-        y = y / 256;
+        put_byte(out, pos + i, (y % BYTE) as u8);
+        y = y / BYTE;
         i = i + 1;
     }
     further(pos, n)

@@ -197,8 +197,8 @@ impl Lines {
         Ok(())
     }
 
-    /// Inputs that are chosen against what the library looks by: flags of
-    /// methods, of keys and of correlations.
+    /// Inputs chosen so that the flags are alike by which the library looks for
+    /// equal methods, keys and correlations.
     fn chosen(&self) -> Done {
         let table = &Table::new(CHOSEN);
         let one_flag = samples::table_of_one_flag(256);

@@ -82,9 +82,9 @@ fn mixed(x: u64) -> u64 {
 }
 
 /// A good table whose methods' identifiers are chosen against the flags by
-/// which the library looks for a method with the same identifiers: those of
-/// their sums are so few that it gives them up, and those of their mixed numbers
-/// are one. `fast` takes its first slots from the same numbers.
+/// which the library looks for two methods with the same identifiers. Its first
+/// kind of flag has so few values here that it is abandoned, and the second, of
+/// mixed numbers, one alone; `fast` takes its first slots from the same numbers.
 pub fn table_of_one_flag(methods: usize) -> Vec<u8> {
     let names = 1u64 + (2 << 32);
     let (sum, seed) = (names.wrapping_mul(0x369D_EA0F_31A5_3F85), mixed(names));

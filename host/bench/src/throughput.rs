@@ -42,11 +42,10 @@ fn compare<'a>(schema: &'a [u8], frames: &[(u8, Vec<u8>)]) -> Result<Connections
     Ok(sides)
 }
 
-/// The numbers of an entry's line, and how many bytes its frame used.
+/// The numbers of an entry's line, of which the answer has number, place and
+/// rows; and how many bytes its frame used.
 struct Entry {
-    answer: u32,
-    place: usize,
-    rows: usize,
+    answer: (u32, usize, usize),
     open: usize,
     used: usize,
 }
@@ -65,16 +64,12 @@ fn list(record: &[u8], mut receive: impl FnMut(u8, &[u8]) -> Entry) -> String {
         }) else {
             break;
         };
-        let (
-            side,
-            Entry {
-                answer,
-                place,
-                rows,
-                open,
-                used,
-            },
-        ) = (*side as char, entry);
+        let side = *side as char;
+        let Entry {
+            answer: (answer, place, rows),
+            open,
+            used,
+        } = entry;
         writeln!(
             text,
             "{number} {side} {kind} {call} {answer} {place} {rows} {open}"
@@ -95,18 +90,15 @@ fn list_by_library(schema: &[u8], record: &[u8], sheet: &mut [u32]) -> String {
     let mut tallies = vec![arf::Tally::ZERO; methods.len()];
     list(record, |side, bytes| {
         let received = table.receive(schema, side, bytes, sheet, &mut tallies);
-        let (answer, place, rows) = match received.outcome {
+        let answer = match received.outcome {
             arf::Outcome::Accepted(reading) => (0, 0, reading.rows),
             arf::Outcome::More => (1, 0, 0),
             arf::Outcome::Refused(refusal) => (refusal.number, refusal.place, 0),
         };
-        let (open, used) = (received.open, received.used);
         Entry {
             answer,
-            place,
-            rows,
-            open,
-            used,
+            open: received.open,
+            used: received.used,
         }
     })
 }
@@ -116,18 +108,15 @@ fn list_by_fast(schema: &[u8], record: &[u8], sheet: &mut [u32], methods: usize)
     let mut tallies = vec![fast::Tally::default(); methods];
     list(record, |side, bytes| {
         let received = table.receive(schema, side, bytes, sheet, &mut tallies);
-        let (answer, place, rows) = match received.outcome {
+        let answer = match received.outcome {
             fast::Outcome::Accepted(reading) => (0, 0, reading.rows),
             fast::Outcome::More => (1, 0, 0),
             fast::Outcome::Refused(refusal) => (refusal.number, refusal.place, 0),
         };
-        let (open, used) = (received.open, received.used);
         Entry {
             answer,
-            place,
-            rows,
-            open,
-            used,
+            open: received.open,
+            used: received.used,
         }
     })
 }

@@ -139,7 +139,7 @@ const GOOD: u32 = {
 struct Seen {
     open: usize,
     free: usize,
-    /// The index is by numbers mixed.
+    /// The index goes by mixed correlations.
     mixing: bool,
     index: [u8; 512],
 }
@@ -152,15 +152,15 @@ enum Looked {
         free: usize,
     },
     Bad,
-    /// Given up: so many correlations lie in a place of the index that is taken.
-    Crowded,
+    /// Given up: too many places of the index were taken already.
+    ManyCollisions,
 }
 
-/// As many places may be passed over before the numbers are mixed.
-const CROWDED: usize = 256;
+/// So many taken places may be passed over before the numbers are mixed.
+const MOST_PASSED: usize = 256;
 
-/// The first place of a correlation in the index: top bits of the number whose
-/// top bits are the library's flag.
+/// The first place of a correlation in the index: the top nine bits of a number,
+/// of which the library takes the top ten for its flag.
 #[inline(always)]
 fn hash(correlation: u64, mixing: bool) -> usize {
     let number = match mixing {
@@ -259,8 +259,8 @@ impl CallTable {
                     return Looked::Bad;
                 };
                 passed += steps;
-                if !MIXING && passed > CROWDED {
-                    return Looked::Crowded;
+                if !MIXING && passed > MOST_PASSED {
+                    return Looked::ManyCollisions;
                 }
                 at += steps;
             }
@@ -320,7 +320,7 @@ impl CallTable {
         let table = check(schema, &mut scratch.info)?;
         let mut index = [0; 512];
         let mut looked = self.look::<false>(&table, &mut index);
-        let mixing = matches!(looked, Looked::Crowded);
+        let mixing = matches!(looked, Looked::ManyCollisions);
         if mixing {
             looked = self.look_mixing(&table, &mut index);
         }

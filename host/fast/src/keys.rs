@@ -73,7 +73,8 @@ impl Keys {
         self.spans.clear();
     }
 
-    /// A map of at most n keys begins; of a scalar's width, or 0.
+    /// A map of at most n keys begins: scalars of a width, or strings or bytes,
+    /// for which it is 0.
     #[inline(always)]
     pub fn begin(&mut self, n: usize, width: u8) -> Set {
         debug_assert!(n <= MAX_PAIRS);

@@ -7,7 +7,7 @@
 //! measured against this crate.
 
 #![forbid(unsafe_code)]
-// The forms that were measured.
+// The forms that clippy would write instead were not measured.
 #![allow(clippy::int_plus_one, clippy::manual_div_ceil)]
 
 mod bytes;

@@ -132,6 +132,12 @@ fn formed(types: &[[u8; 12]], row: &[u8; 32]) -> bool {
     good
 }
 
+/// The presence bits of the fields that are not optional.
+pub fn required_bits(fields: &[[u8; 8]]) -> u64 {
+    let bits = fields.iter().enumerate();
+    bits.fold(0, |bits, (i, field)| bits | u64::from(field[4] ^ 1) << i)
+}
+
 #[inline(always)]
 fn ids(row: &[u8; 32]) -> (u64, u32) {
     (u64_at(row, 0), u32_at(row, 8))
@@ -157,11 +163,11 @@ fn check_many(methods: &[[u8; 32]], types: &[[u8; 12]]) -> Result<(), Refusal> {
         .unwrap_or(Ok(()))
 }
 
-/// As many slots may be passed over before the numbers are mixed.
-const CROWDED: usize = 512;
+/// So many taken slots may be passed over before the numbers are mixed.
+const MOST_PASSED: usize = 512;
 
-/// Looks for the same identifiers by a table of slots; none where so many lie
-/// in a slot that is taken that it was given up. With mixed numbers it is not.
+/// Looks for the same identifiers by a hash table. None where it was given up,
+/// since too many slots were taken already; with mixed numbers it never is.
 #[inline(always)]
 fn check_hashed<const MIXING: bool>(
     methods: &[[u8; 32]],
@@ -185,7 +191,7 @@ fn check_hashed<const MIXING: bool>(
                 return Some(refuse(44, i));
             }
             passed += 1;
-            if !MIXING && passed == CROWDED {
+            if !MIXING && passed == MOST_PASSED {
                 return None;
             }
             at += 1;
@@ -194,8 +200,8 @@ fn check_hashed<const MIXING: bool>(
     Some(Ok(()))
 }
 
-/// The number whose top bits are the slot: the library's, whose flags are more
-/// of these bits.
+/// The number whose top ten bits are the first slot; the library takes its top
+/// twelve for the flag.
 #[inline(always)]
 fn number_of<const MIXING: bool>((names, method): (u64, u32)) -> u64 {
     if MIXING {

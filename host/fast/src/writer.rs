@@ -3,7 +3,7 @@
 use crate::bytes::{chunk, number, store};
 use crate::keys::Keys;
 use crate::scratch::{with, Scratch};
-use crate::table::{check, Info};
+use crate::table::{check, required_bits, Info};
 use crate::{utf8, Refusal, LEVELS, MAX_PAIRS, MAX_PAYLOAD};
 
 pub fn write(
@@ -179,13 +179,7 @@ impl<'a> Walk<'a> {
 
     #[inline(never)]
     fn find_required(&mut self, ty: u8, t: Info) -> u64 {
-        let mut bits = 0;
-        for (i, f) in self.fields[t.a as usize..][..t.fields as usize]
-            .iter()
-            .enumerate()
-        {
-            bits |= ((f[4] ^ 1) as u64) << i;
-        }
+        let bits = required_bits(&self.fields[t.a as usize..][..t.fields as usize]);
         self.required[ty as usize] = bits;
         self.info[ty as usize].ready = true;
         bits

@@ -4,7 +4,7 @@ mod common;
 
 use std::collections::BTreeMap;
 
-use common::{table_t, BYTE, CELL, NO_TYPE};
+use common::{read_into, table_t, BYTE, CELL, NO_TYPE};
 use reference::cases::{BesideCase, Case};
 use reference::generate::relay::relay;
 use reference::generate::rng::Rng;
@@ -17,31 +17,17 @@ use Reason::*;
 /// Rows, tail place, tail length and comparisons.
 type Shown = (Vec<[u32; 4]>, usize, usize, usize);
 
-/// Reads with exactly enough rows and some odd cells, and checks that nothing
-/// else is touched and that one row less is too few.
+/// Reads with more rows than any value of this payload has, and some odd cells.
 fn shown(ours: &[u8], theirs: &[u8], root: u32, payload: &[u8]) -> Result<Shown, Refusal> {
-    let mut sheet = vec![CELL; 4 * payload.len() + 7];
-    let reading = match read_beside(ours, theirs, root, payload, &mut sheet) {
-        Ok(reading) => reading,
-        Err(refusal) => {
-            assert!(sheet.iter().all(|&cell| cell == CELL));
-            return Err(refusal);
-        }
-    };
-    let (used, rest) = sheet.split_at(4 * reading.rows);
-    assert!(rest.iter().all(|&cell| cell == CELL));
-    let mut small = vec![CELL; 4 * reading.rows - 1];
-    let answer = read_beside(ours, theirs, root, payload, &mut small);
-    assert_eq!(answer, Err(SheetTooSmall.at(0)));
-    assert!(small.iter().all(|&cell| cell == CELL));
+    let (rows, reading) = read_into(4 * payload.len() + 7, |sheet| {
+        read_beside(ours, theirs, root, payload, sheet)
+    })?;
     let Reading {
         tail_place,
         tail_length,
         comparisons,
         ..
     } = reading;
-    assert!(comparisons <= MAX_COMPARISONS);
-    let rows = used.as_chunks::<4>().0.to_vec();
     Ok((rows, tail_place, tail_length, comparisons))
 }
 

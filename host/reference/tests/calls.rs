@@ -2,13 +2,11 @@
 
 mod common;
 
-use common::{table_t, CELL, NO_TYPE};
+use common::{table_t, written, CELL, NO_TYPE};
 use reference::calls::{Form, FORMS};
 use reference::frame::Kind;
 use reference::generate::table::Table;
-use reference::{
-    tallies, write_frame, Call, CallTable, Header, Outcome, Reading, Reason, Received,
-};
+use reference::{tallies, Call, CallTable, Header, Outcome, Reading, Reason, Received};
 use Reason::*;
 
 /// A table with a method 0, 0, form for each of the sixteen forms. Types 2 and
@@ -41,10 +39,7 @@ fn frame(kind: Kind, identifiers: [u32; 3], correlation: u64, payload: &[u8]) ->
         identifiers,
         correlation,
     };
-    let mut out = vec![0; payload.len() + 30];
-    let length = write_frame(&header, payload, &mut out).unwrap();
-    out.truncate(length);
-    out
+    written(&header, payload)
 }
 
 /// A connection under the table of all forms.

@@ -3,7 +3,7 @@
 
 mod common;
 
-use common::{table_t, CELL, NO_TYPE};
+use common::{all_forms, table_t, written, CELL};
 use reference::cases::{Case, Event};
 use reference::frame::Kind;
 use reference::generate::table::Table;
@@ -13,31 +13,13 @@ use reference::{
     Reason, Refusal, Schema,
 };
 
-/// A table with a method 0, 0, form for each of the sixteen forms; all values
-/// are a struct of one byte.
-fn all_forms() -> Vec<u8> {
-    let method = |form: u32| {
-        let side = |bit: u32| if form & bit != 0 { 1 } else { NO_TYPE };
-        [0, 0, form, form, side(8), side(4), side(2), side(1)]
-    };
-    Table {
-        types: vec![[6, 0, 0], [16, 0, 1]],
-        fields: vec![[0, 0]],
-        methods: (0..16).map(method).collect(),
-    }
-    .bytes()
-}
-
 fn frame(kind: Kind, form: u32, correlation: u64, payload: &[u8]) -> Vec<u8> {
     let header = Header {
         kind: kind as u32,
         identifiers: [0, 0, form],
         correlation,
     };
-    let mut out = vec![0; payload.len() + 30];
-    let length = write_frame(&header, payload, &mut out).unwrap();
-    out.truncate(length);
-    out
+    written(&header, payload)
 }
 
 /// A right payload for a kind of a form.

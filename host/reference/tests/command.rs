@@ -6,6 +6,8 @@ use std::io::Write;
 use std::path::PathBuf;
 use std::process::{Command, Output, Stdio};
 
+use common::LISTING;
+
 fn reference(arguments: &[&str], input: &[u8]) -> Output {
     let mut child = Command::new(env!("CARGO_BIN_EXE_reference"))
         .args(arguments)
@@ -108,15 +110,7 @@ fn listings_of_a_file_of_cases() {
     assert_eq!(cases.stdout, again.stdout);
     let listings = reference(&["list-all"], &cases.stdout);
     let text = String::from_utf8(listings.stdout).unwrap();
-    let worked = "frame side kind call answer place rows open
-1 C 1 9 0 0 2 1
-2 S 6 9 0 0 4 0
-3 S 6 9 11 0 0 0
-4 C 1 10 0 0 2 1
-5 S 6 10 26 2 0 0
-stopped 0 left 0
-";
-    assert!(text.contains(worked));
+    assert!(text.contains(LISTING));
     let maps = "frame side kind call answer place rows open
 1 C 1 1 31 1 0 0
 2 C 2 1 11 0 0 0

@@ -2,10 +2,9 @@
 
 mod common;
 
-use common::{read_rows, refusal, table_t, T_BYTES};
+use common::{read_rows, refusal, table_t, LISTING, P1, P1_ROWS, T_BYTES};
 use reference::{list, read, write, write_frame, Header, Reason};
 
-const P1: &[u8] = &[0x01, 0x02, 0x03, 0x07, 0x02, 0x6F, 0x6B, 0x01, 0x00];
 const P5: &[u8] = &[0x01, 0x02, 0x05, 0x00, 0x05, 0x01, 0x07];
 
 #[test]
@@ -23,16 +22,7 @@ fn table_t_has_its_length_and_trailer() {
 #[test]
 fn p1_to_p10() {
     let rows = |payload: &[u8]| read_rows(&table_t(), 4, payload);
-    let p1 = [
-        [4, 0, 9, 1],
-        [3, 2, 7, 2],
-        [2, 2, 5, 2],
-        [0, 3, 1, 0],
-        [1, 5, 2, 0],
-        [2, 7, 2, 1],
-        [0, 8, 1, 0],
-    ];
-    assert_eq!(rows(P1), Ok((p1.to_vec(), 9, 0)));
+    assert_eq!(rows(P1), Ok((P1_ROWS.to_vec(), 9, 0)));
     let p2 = vec![[4, 0, 2, 1], [3, 2, 0, 0]];
     assert_eq!(rows(&[1, 0]), Ok((p2, 2, 0)));
     assert_eq!(rows(&[]), refusal(Reason::ExceedsRemaining, 0));
@@ -89,19 +79,9 @@ fn example_record() -> Vec<u8> {
 
 const HEADING: &str = "frame side kind call answer place rows open\n";
 
-const EXAMPLE: &str = "\
-frame side kind call answer place rows open
-1 C 1 9 0 0 2 1
-2 S 6 9 0 0 4 0
-3 S 6 9 11 0 0 0
-4 C 1 10 0 0 2 1
-5 S 6 10 26 2 0 0
-stopped 0 left 0
-";
-
 #[test]
 fn the_listing() {
-    assert_eq!(list(&table_t(), &example_record()), EXAMPLE);
+    assert_eq!(list(&table_t(), &example_record()), LISTING);
 }
 
 #[test]

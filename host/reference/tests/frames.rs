@@ -2,7 +2,7 @@
 
 mod common;
 
-use common::BYTE;
+use common::{written, BYTE};
 use reference::frame::Kind;
 use reference::{read_frame, write_frame, Frame, FrameAnswer, Header, Reason};
 
@@ -15,10 +15,7 @@ fn header(kind: u32) -> Header {
 }
 
 fn frame(kind: u32, payload: &[u8]) -> Vec<u8> {
-    let mut out = vec![0; payload.len() + 30];
-    let length = write_frame(&header(kind), payload, &mut out).unwrap();
-    out.truncate(length);
-    out
+    written(&header(kind), payload)
 }
 
 #[test]

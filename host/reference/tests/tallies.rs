@@ -4,31 +4,15 @@ mod common;
 
 use std::collections::BTreeMap;
 
-use common::{CELL, NO_TYPE};
+use common::{all_forms, written, CELL};
 use reference::cases::{Case, Event};
 use reference::frame::Kind;
 use reference::generate::table::Table;
 use reference::generate::Generator;
 use reference::tallies::{fresh, Figure};
 use reference::{
-    read_frame, write_frame, Call, CallTable, FrameAnswer, Header, Outcome, Reason, Received,
-    Schema, Tally,
+    read_frame, Call, CallTable, FrameAnswer, Header, Outcome, Reason, Received, Schema, Tally,
 };
-
-/// A table with a method 0, 0, form for each of the sixteen forms; all values
-/// are a struct of one byte.
-fn all_forms() -> Vec<u8> {
-    let method = |form: u32| {
-        let side = |bit: u32| if form & bit != 0 { 1 } else { NO_TYPE };
-        [0, 0, form, form, side(8), side(4), side(2), side(1)]
-    };
-    Table {
-        types: vec![[6, 0, 0], [16, 0, 1]],
-        fields: vec![[0, 0]],
-        methods: (0..16).map(method).collect(),
-    }
-    .bytes()
-}
 
 fn frame(kind: Kind, form: u32, payload: &[u8]) -> Vec<u8> {
     let header = Header {
@@ -36,10 +20,7 @@ fn frame(kind: Kind, form: u32, payload: &[u8]) -> Vec<u8> {
         identifiers: [0, 0, form],
         correlation: 9,
     };
-    let mut out = vec![0; payload.len() + 30];
-    let length = write_frame(&header, payload, &mut out).unwrap();
-    out.truncate(length);
-    out
+    written(&header, payload)
 }
 
 /// A connection under the table of all forms, with figures that tell the rows

@@ -2,8 +2,8 @@
 
 use super::damage::Damage;
 use super::deep::{deep_table, deep_value};
+use super::extensions::old_table;
 use super::maps::{fullest, give_pairs, maps_of_maps, Pairs};
-use super::pair::old_table;
 use super::payload::{add_held, payload_of, value_of};
 use super::reading::no_struct;
 use super::rng::Rng;

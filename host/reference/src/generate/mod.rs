@@ -1,43 +1,43 @@
 //! Makes case files: directed cases for every answer of every entry.
 //!
-//! Each code has a wheel of makers. A maker aims at one answer or one sort of
-//! input; the wheel turns evenly, so every sort keeps its share.
+//! Each code has sorts of case, which take turns by their shares. A sort aims at
+//! one answer, or makes one kind of input.
 
 mod besides;
 pub mod carrier;
 mod damage;
 mod deep;
+mod extensions;
 mod fault;
 mod forwards;
 mod frames;
 mod histories;
-mod holes;
 mod indexes;
 pub mod large;
 mod line;
 pub mod listings;
 mod maps;
-mod pair;
 mod payload;
 mod reading;
 pub mod relay;
 pub mod rng;
 mod runs;
+mod salvages;
 mod scalars;
 mod sheet;
+mod sorts;
 pub mod table;
 mod value;
 mod value_frames;
-mod wheels;
 
 use crate::cases::Case;
 use rng::Rng;
-use wheels::{ACROSS, CODES, LATER_CODES};
+use sorts::{ACROSS, CODES, LATER_CODES};
 
 /// Makes one case.
 type Maker = fn(&mut Rng) -> Case;
 
-/// One sort of case: its places on the wheel, the answer it must give, if any,
+/// One sort of case: its share of the turns, the answer it must give, if any,
 /// and its maker.
 struct Sort {
     share: usize,
@@ -64,16 +64,16 @@ const fn aim(share: usize, number: u32, make: Maker) -> Sort {
 }
 
 /// The sorts of one code.
-type Wheel = &'static [Sort];
+type Sorts = &'static [Sort];
 
-/// A code, how often it comes up among all, and its wheel.
-type Code = (u8, usize, Wheel);
+/// A code, how often it comes up among all, and its sorts.
+type Code = (u8, usize, Sorts);
 
 /// A code with a random stream of its own, so that its cases do not depend on
 /// which other codes there are.
 struct Stream {
     share: usize,
-    wheel: Wheel,
+    sorts: Sorts,
     rng: Rng,
     turn: usize,
 }
@@ -119,7 +119,7 @@ impl Generator {
     /// The same with large cases among them, as the random comparison has them.
     pub fn compared(seed: u64, codes: &[u8]) -> Self {
         Generator {
-            large: Large::new(seed, codes, large::COMPARED),
+            large: Large::new(seed, codes, large::ONE_LARGE_IN),
             ..Generator::new(seed, codes)
         }
     }
@@ -167,11 +167,11 @@ impl Generator {
     fn first_case(&mut self) -> Option<Case> {
         let total: usize = self.codes.iter().map(|(_, share, _)| share).sum();
         let mut place = self.rng.below(total);
-        for &(code, share, wheel) in &self.codes {
+        for &(code, share, sorts) in &self.codes {
             if place < share {
                 let turn = self.turns[code as usize];
                 self.turns[code as usize] += 1;
-                return Some(spin(wheel, turn).case(&mut self.rng));
+                return Some(sort_at(sorts, turn).case(&mut self.rng));
             }
             place -= share;
         }
@@ -181,13 +181,13 @@ impl Generator {
 
 impl Large {
     fn new(seed: u64, codes: &[u8], one_in: usize) -> Self {
-        let wanted = |(code, _): &&(u8, Wheel)| codes.is_empty() || codes.contains(code);
-        let wheels = large::CODES.iter().filter(wanted);
+        let wanted = |(code, _): &&(u8, Sorts)| codes.is_empty() || codes.contains(code);
+        let sorts = large::CODES.iter().filter(wanted);
         Large {
             one_in,
             // Not the stream of the code's other cases.
-            streams: wheels
-                .map(|&(code, wheel)| Stream::new(seed.wrapping_add(1 << 40), &(code, 1, wheel)))
+            streams: sorts
+                .map(|&(code, sorts)| Stream::new(seed.wrapping_add(1 << 40), &(code, 1, sorts)))
                 .collect(),
             turn: 0,
         }
@@ -202,10 +202,10 @@ impl Large {
 }
 
 impl Stream {
-    fn new(seed: u64, &(code, share, wheel): &Code) -> Self {
+    fn new(seed: u64, &(code, share, sorts): &Code) -> Self {
         Stream {
             share,
-            wheel,
+            sorts,
             rng: Rng::new(seed ^ u64::from(code) << 56),
             turn: 0,
         }
@@ -214,7 +214,7 @@ impl Stream {
     fn case(&mut self) -> Case {
         let turn = self.turn;
         self.turn += 1;
-        spin(self.wheel, turn).case(&mut self.rng)
+        sort_at(self.sorts, turn).case(&mut self.rng)
     }
 }
 
@@ -235,33 +235,33 @@ impl Sort {
     }
 }
 
-/// The sort at a turn. Steps of about three fifths spread the places of a sort
-/// over the wheel.
-fn spin(wheel: Wheel, turn: usize) -> &'static Sort {
-    let total: usize = wheel.iter().map(|sort| sort.share).sum();
+/// The sort at a turn. Steps of about three fifths spread the turns of a sort
+/// among those of the others.
+fn sort_at(sorts: Sorts, turn: usize) -> &'static Sort {
+    let total: usize = sorts.iter().map(|sort| sort.share).sum();
     let step = (total * 3 / 5..=total).find(|&step| coprime(step, total));
     let mut place = turn * step.unwrap_or(1) % total;
-    for sort in wheel {
+    for sort in sorts {
         if place < sort.share {
             return sort;
         }
         place -= sort.share;
     }
-    &wheel[0]
+    &sorts[0]
 }
 
-/// A case of any sort of a wheel, or of those that aim at a number.
-fn draw(rng: &mut Rng, wheel: Wheel, number: Option<u32>) -> Case {
+/// A case of any of the sorts, or of those that aim at a number.
+fn draw(rng: &mut Rng, sorts: Sorts, number: Option<u32>) -> Case {
     let aims = |sort: &&Sort| number.is_none() || sort.aim == number;
-    let total = wheel.iter().filter(aims).map(|sort| sort.share).sum();
+    let total = sorts.iter().filter(aims).map(|sort| sort.share).sum();
     let mut place = rng.below(total);
-    for sort in wheel.iter().filter(aims) {
+    for sort in sorts.iter().filter(aims) {
         if place < sort.share {
             return sort.case(rng);
         }
         place -= sort.share;
     }
-    wheel[0].case(rng)
+    sorts[0].case(rng)
 }
 
 fn coprime(a: usize, b: usize) -> bool {

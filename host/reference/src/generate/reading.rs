@@ -2,8 +2,8 @@
 
 use super::damage::{repeated_late_key, Damage};
 use super::deep::{deep_table, deep_value};
+use super::extensions::{extended, old_table};
 use super::maps::{fullest, map_value, maps_of_maps, Pairs};
-use super::pair::{extended, old_table};
 use super::payload::{payload_of, sample, sample_holding};
 use super::rng::Rng;
 use super::table::{Table, ARRAY, MAP, STRING, STRUCT};

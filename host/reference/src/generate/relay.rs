@@ -1,7 +1,7 @@
 //! What passes a relay: payloads of a new writer between two new tables, read
 //! in the middle by an old one.
 
-use super::pair::{extended, old_table};
+use super::extensions::{extended, old_table};
 use super::payload::payload_of;
 use super::rng::Rng;
 use super::value::Types;

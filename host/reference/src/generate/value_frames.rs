@@ -3,8 +3,8 @@
 use super::frames::{random_header, random_kind_fault};
 use super::rng::Rng;
 use super::sheet::sized;
+use super::sorts::writer_sheet;
 use super::table::good_table;
-use super::wheels::writer_sheet;
 use crate::cases::{Case, ValueFrameCase, WriteCase};
 use crate::frame::{frame_length, Header};
 use crate::schema::NO_TYPE;

@@ -4,7 +4,7 @@
 
 use reference::generate::table::Table;
 use reference::schema::Type;
-use reference::{read, Reason, Refusal, Schema, MAX_COMPARISONS};
+use reference::{read, write_frame, Header, Reading, Reason, Refusal, Schema, MAX_COMPARISONS};
 
 /// What stands in every cell and byte that must stay untouched.
 pub const CELL: u32 = 0xA5A5_A5A5;
@@ -24,6 +24,40 @@ pub fn table_t() -> Vec<u8> {
     }
     .bytes()
 }
+
+/// A table with a method 0, 0, form for each of the sixteen forms; all values
+/// are a struct of one byte.
+pub fn all_forms() -> Vec<u8> {
+    let method = |form: u32| {
+        let side = |bit: u32| if form & bit != 0 { 1 } else { NO_TYPE };
+        [0, 0, form, form, side(8), side(4), side(2), side(1)]
+    };
+    Table {
+        types: vec![[6, 0, 0], [16, 0, 1]],
+        fields: vec![[0, 0]],
+        methods: (0..16).map(method).collect(),
+    }
+    .bytes()
+}
+
+/// The bytes of a frame.
+pub fn written(header: &Header, payload: &[u8]) -> Vec<u8> {
+    let mut out = vec![0; payload.len() + 30];
+    let length = write_frame(header, payload, &mut out).unwrap();
+    out.truncate(length);
+    out
+}
+
+/// The listing of the worked examples.
+pub const LISTING: &str = "\
+frame side kind call answer place rows open
+1 C 1 9 0 0 2 1
+2 S 6 9 0 0 4 0
+3 S 6 9 11 0 0 0
+4 C 1 10 0 0 2 1
+5 S 6 10 26 2 0 0
+stopped 0 left 0
+";
 
 /// Payload P1 of type 4 of table T, and its rows.
 pub const P1: &[u8] = &[1, 2, 3, 7, 2, b'o', b'k', 1, 0];
@@ -56,12 +90,15 @@ pub fn comparisons(schema: &[u8], rows: &[[u32; 4]]) -> usize {
         .sum()
 }
 
-/// Reads with a sheet of exactly enough rows and some odd cells, and checks
-/// that nothing else is touched, that one row less is too few, and that the
-/// comparisons are those of the maps shown.
-pub fn read_rows(schema: &[u8], type_number: u32, payload: &[u8]) -> Rows {
-    let mut sheet = vec![CELL; 4 * 16_400];
-    let reading = match read(schema, type_number, payload, &mut sheet) {
+/// Reads into a sheet of so many cells, and checks that nothing but the rows is
+/// touched, that one row less is too few, and that the comparisons are within
+/// their limit: the rows, and the reading.
+pub fn read_into(
+    cells: usize,
+    read: impl Fn(&mut [u32]) -> Result<Reading, Refusal>,
+) -> Result<(Vec<[u32; 4]>, Reading), Refusal> {
+    let mut sheet = vec![CELL; cells];
+    let reading = match read(&mut sheet) {
         Ok(reading) => reading,
         Err(refusal) => {
             assert!(sheet.iter().all(|&cell| cell == CELL));
@@ -71,11 +108,18 @@ pub fn read_rows(schema: &[u8], type_number: u32, payload: &[u8]) -> Rows {
     let (used, rest) = sheet.split_at(4 * reading.rows);
     assert!(rest.iter().all(|&cell| cell == CELL));
     let mut small = vec![CELL; 4 * reading.rows - 1];
-    let answer = read(schema, type_number, payload, &mut small);
-    assert_eq!(answer, Err(Reason::SheetTooSmall.at(0)));
+    assert_eq!(read(&mut small), Err(Reason::SheetTooSmall.at(0)));
     assert!(small.iter().all(|&cell| cell == CELL));
-    let rows = used.as_chunks::<4>().0.to_vec();
-    assert_eq!(reading.comparisons, comparisons(schema, &rows));
     assert!(reading.comparisons <= MAX_COMPARISONS);
+    Ok((used.as_chunks::<4>().0.to_vec(), reading))
+}
+
+/// Reads as [`read_into`] does, and checks that the comparisons are those of the
+/// maps shown.
+pub fn read_rows(schema: &[u8], type_number: u32, payload: &[u8]) -> Rows {
+    let (rows, reading) = read_into(4 * 16_400, |sheet| {
+        read(schema, type_number, payload, sheet)
+    })?;
+    assert_eq!(reading.comparisons, comparisons(schema, &rows));
     Ok((rows, reading.tail_place, reading.tail_length))
 }

@@ -2,7 +2,7 @@
 use borrow.Author.Needs.{needs}
 use Rattle.frame.specs.Frame.{readNumber}
 use Rattle.exports.specs.Answers.{frameCells}
-use Rattle.exports.proofs.Stores.{told}
+use Rattle.cells.proofs.Stores.{told}
 use Rattle.exports.proofs.frames.arf_read_frame.Statement.{statement}
 use Rattle.exports.proofs.frames.arf_read_frame.Tie as tie
 

@@ -6,7 +6,7 @@ use borrow.Author.Needs.{needs}
 use Rattle.frame.specs.declared.FrameWritten.{FrameWritten}
 use Rattle.frame.specs.Written.{writeNumber, outputOf}
 use Rattle.exports.specs.Answers.{headerOf, writtenCells}
-use Rattle.exports.proofs.Stores.{told}
+use Rattle.cells.proofs.Stores.{told}
 use Rattle.exports.proofs.frames.arf_write_frame.Statement.{statement}
 use Rattle.exports.proofs.frames.arf_write_frame.Tie as tie
 

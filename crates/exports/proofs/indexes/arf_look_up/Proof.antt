@@ -3,7 +3,7 @@ use mathlib.Core.Path.{ap}
 use borrow.Author.Needs.{needs}
 use Rattle.index.specs.LookUp.{Outcome, findNumber}
 use Rattle.exports.specs.Answers.{findCells}
-use Rattle.exports.proofs.Stores.{told}
+use Rattle.cells.proofs.Stores.{told}
 use Rattle.exports.proofs.indexes.arf_look_up.Statement.{statement}
 use Rattle.exports.proofs.indexes.arf_look_up.Tie as tie
 

@@ -3,7 +3,7 @@ use mathlib.Core.Path.{ap}
 use borrow.Author.Needs.{needs}
 use Rattle.index.specs.Index.{Outcome, indexNumber}
 use Rattle.exports.specs.Answers.{indexCells}
-use Rattle.exports.proofs.Stores.{told}
+use Rattle.cells.proofs.Stores.{told}
 use Rattle.exports.proofs.indexes.arf_make_index.Statement.{statement}
 use Rattle.exports.proofs.indexes.arf_make_index.Tie as tie
 

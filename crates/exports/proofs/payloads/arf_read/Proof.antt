@@ -3,7 +3,7 @@ use mathlib.Core.Path.{ap}
 use borrow.Author.Needs.{needs}
 use Rattle.reader.specs.Entry.{readingIn, sheetIn}
 use Rattle.exports.specs.Answers.{readNumber, readCells}
-use Rattle.exports.proofs.Stores.{told}
+use Rattle.cells.proofs.Stores.{told}
 use Rattle.exports.proofs.payloads.arf_read.Statement.{statement}
 use Rattle.exports.proofs.payloads.arf_read.Tie as tie
 

@@ -3,7 +3,7 @@ use mathlib.Core.Path.{ap}
 use borrow.Author.Needs.{needs}
 use Rattle.arf.specs.Numbers.{writeNumber}
 use Rattle.exports.specs.Answers.{writingOf, outputOf, writeCells}
-use Rattle.exports.proofs.Stores.{told}
+use Rattle.cells.proofs.Stores.{told}
 use Rattle.exports.proofs.payloads.arf_write.Statement.{statement}
 use Rattle.exports.proofs.payloads.arf_write.Tie as tie
 

@@ -7,7 +7,7 @@ use Rattle.schema.specs.File.{tableOf}
 use Rattle.calls.specs.declared.OwnSlot.{OwnSlot}
 use Rattle.receiver.specs.Planning.{frontOf, slotPlan, goodPlan}
 use Rattle.receiver.proofs.Returns.{plan-faulty, plan-good, good-stop, good-whole}
-use Rattle.exports.specs.Records.{callsOf}
+use Rattle.cells.specs.Records.{callsOf}
 use Rattle.exports.proofs.Plans.{goodCells, cells-plan}
 use Rattle.exports.proofs.planning.plan.Statement.{statement}
 use Rattle.exports.proofs.planning.plan.Tie as tie

@@ -7,7 +7,7 @@ use borrow.Author.Needs.{needs}
 use Rattle.reader.specs.Entry.{numbers}
 use Rattle.receiver.specs.declared.Received.{Received}
 use Rattle.exports.specs.declared.Kept.{Kept}
-use Rattle.exports.specs.Cells.{stored}
+use Rattle.cells.specs.Cells.{stored}
 use Rattle.exports.specs.Answers.{keptOf, callCells, receivedCells}
 use Rattle.exports.proofs.receive.arf_receive.Statement.{statement}
 use Rattle.exports.proofs.receive.arf_receive.Tie as tie

@@ -7,8 +7,8 @@ use Rattle.calls.specs.declared.Tally.{Tally}
 use Rattle.receiver.specs.declared.Settled.{Settled}
 use Rattle.receiver.specs.Answer.{Effect, answerIn}
 use Rattle.receiver.specs.Receive.{settled}
-use Rattle.exports.specs.Records.{callsOf, areCalls, rowsOf, rowCells}
-use Rattle.exports.proofs.Tallies.{rows-long}
+use Rattle.cells.specs.Records.{callsOf, areCalls, rowsOf, rowCells}
+use Rattle.cells.proofs.Tallies.{rows-long}
 use Rattle.exports.proofs.Judged.{judged-effect}
 use Rattle.exports.proofs.Plans.{refused-stops}
 use Rattle.exports.proofs.receive.judge.Statement.{statement}

@@ -7,7 +7,7 @@ use borrow.Author.Needs.{needs}
 use Rattle.receiver.specs.declared.Released.{Released}
 use Rattle.receiver.specs.Release.{releaseAnswer}
 use Rattle.exports.specs.declared.Kept.{Kept}
-use Rattle.exports.specs.Cells.{stored}
+use Rattle.cells.specs.Cells.{stored}
 use Rattle.exports.specs.Answers.{callCells, releasedCells}
 use Rattle.exports.proofs.release.arf_release.Statement.{statement}
 use Rattle.exports.proofs.release.arf_release.Tie as tie

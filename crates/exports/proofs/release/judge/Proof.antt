@@ -5,8 +5,8 @@ use borrow.Author.Needs.{needs}
 use Rattle.schema.specs.Check.{checked}
 use Rattle.calls.specs.declared.Tally.{Tally}
 use Rattle.receiver.specs.Release.{ReleaseEffect, releaseIn, releaseSettled}
-use Rattle.exports.specs.Records.{callsOf, areCalls, rowsOf, rowCells}
-use Rattle.exports.proofs.Tallies.{rows-long}
+use Rattle.cells.specs.Records.{callsOf, areCalls, rowsOf, rowCells}
+use Rattle.cells.proofs.Tallies.{rows-long}
 use Rattle.exports.proofs.Judged.{judged-release}
 use Rattle.exports.proofs.Plans.{refused-stops}
 use Rattle.exports.proofs.release.judge.Statement.{statement}

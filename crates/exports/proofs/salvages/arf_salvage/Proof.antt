@@ -3,7 +3,7 @@ use mathlib.Core.Path.{ap}
 use borrow.Author.Needs.{needs}
 use Rattle.salvage.specs.Salvage.{Outcome, salvageNumber}
 use Rattle.exports.specs.Answers.{salvageCells}
-use Rattle.exports.proofs.Stores.{told}
+use Rattle.cells.proofs.Stores.{told}
 use Rattle.exports.proofs.salvages.arf_salvage.Statement.{statement}
 use Rattle.exports.proofs.salvages.arf_salvage.Tie as tie
 

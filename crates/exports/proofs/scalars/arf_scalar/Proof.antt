@@ -1,8 +1,8 @@
 -- `exports::scalars::arf_scalar` meets its contract.
 use borrow.Author.Needs.{needs}
 use Rattle.scalar.specs.Scalar.{scalarNumber}
-use Rattle.exports.specs.Answers.{scalarCells}
-use Rattle.exports.proofs.Stores.{told}
+use Rattle.cells.specs.Scalars.{scalarCells}
+use Rattle.cells.proofs.Stores.{told}
 use Rattle.exports.proofs.scalars.arf_scalar.Statement.{statement}
 use Rattle.exports.proofs.scalars.arf_scalar.Tie as tie
 

@@ -6,8 +6,8 @@ use lib.ListN.{set}
 use denote.Ref.{now}
 use borrow.Author.Needs.{needs}
 use Rattle.calls.specs.Slots.{countOpen}
-use Rattle.exports.specs.Records.{callsOf}
-use Rattle.exports.proofs.Slots.{open-set, open-same}
+use Rattle.cells.specs.Records.{callsOf}
+use Rattle.cells.proofs.Slots.{open-set, open-same}
 use Rattle.exports.proofs.settling.open_after.Statement.{statement}
 use Rattle.exports.proofs.settling.open_after.Tie as tie
 

@@ -11,8 +11,8 @@ use Rattle.flat.proofs.added.partial_fields.Tie as tie
 ended : (c : tie.After-due) →
     let args = c .before .before .before .before .before .before .before .before .before .before .before .before .before .before .args in
     let sum = c .before .before .before .before .sum .given .0 in
-    let compared = c .due .given .0 in
-    (args .place ≤ compared .1 .0) × (compared .1 .0 ≤ 16384) × (args .row ≤ 16384) × (sum .0 + compared .0 ≤ 262144)
+    let comparisons = c .due .given .0 in
+    (args .place ≤ comparisons .1 .0) × (comparisons .1 .0 ≤ 16384) × (args .row ≤ 16384) × (sum .0 + comparisons .0 ≤ 262144)
 ended c =
     let first = c .before .before .before .before .before .before .before .before in
     let pre = first .before .before .before .before .before .before .pre in
@@ -68,11 +68,11 @@ partial-fields-spec =
     (λ c. search needs)
     -- returns-3
     (λ c.
-    let compared = c .before .before .before .before .before .before in
-    let first = compared .before .before .before .before .before .before .before .before in
+    let others = c .before .before .before .before .before .before in
+    let first = others .before .before .before .before .before .before .before .before in
     let pre = first .before .before .before .before .before .before .pre in
     let mine = first .before .before .low-bits .ensures in
-    let more = compared .before .before .added-fields .ensures .2 in
+    let more = others .before .before .added-fields .ensures .2 in
     λ R shown.
-    rest-past (part-asked (pre .0) (pre .2)) mine R (first .leaf-fields .ensures R) (compared .before .before .before .before .sum .given .1) (more R) (compared .due .given .1) shown (pre .3)
+    rest-past (part-asked (pre .0) (pre .2)) mine R (first .leaf-fields .ensures R) (others .before .before .before .before .sum .given .1) (more R) (others .due .given .1) shown (pre .3)
     (c .before .before .before .ones-in .ensures .0) (c .before .before .put-row .ensures)))

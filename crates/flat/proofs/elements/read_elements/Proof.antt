@@ -3,16 +3,19 @@ use borrow.Author.Needs.{needs}
 use mathlib.Core.Path.{_≡_, refl, _∙_}
 use Prim.Native.Nat.{ℕ, suc, _+_, _-_}
 use native.Mathlib.Omega.{arith}
-use Rattle.schema.specs.Table.{Shape}
+use lib.ListN.{replicate}
+use Rattle.value.specs.Read.{plainItem}
+use Rattle.schema.specs.Table.{Shape, array}
 use Rattle.walks.specs.Shape.{shapeIn}
 use Rattle.flat.specs.Walk.{valueIn, told, Walked}
-use Rattle.flat.proofs.Turns.{described-own, Counting, counting-first, counting-own, counting-end, counting-below, counting-deep, counting-stop, counting-sum, counting-on, lifted}
+use Rattle.flat.proofs.Turns.{described-own, lifted, Reading, reading-below, reading-deep, reading-end, reading-first, reading-on, reading-own, reading-stop, reading-sum}
+use Rattle.walks.proofs.Items.{elements-none, elements-some}
 use Rattle.flat.proofs.elements.read_elements.Statement.{statement}
 use Rattle.flat.proofs.elements.read_elements.Tie as tie
 
 abbrev Inv-loop : tie.InvT-loop
 Inv-loop s p sheet₀ ty elem n start depth row judging f left₀ here₀ below₀ sum₀ sheet left here below sum =
-    Counting (λ R. R elem ≡ shapeIn s elem) s p depth ty elem n start row judging sheet₀ left here sum below sheet
+    Reading (λ R. R elem ≡ shapeIn s elem) s p depth ty (array elem) start n start row judging sheet₀ (replicate left (plainItem elem)) here sum below sheet
 
 abbrev μ-loop : tie.MeasureT-loop
 μ-loop s p sheet₀ ty elem n start depth row judging f left₀ here₀ below₀ sum₀ sheet left here below sum = left
@@ -40,11 +43,11 @@ read-elements-spec =
     -- add-below
     (λ c. let pre = c .before .before .before .before .pre in omega (arith, pre .0 .small, pre .0 .inside, pre .0 .behind))
     -- loop-holds
-    (λ c. let args = c .before .before .before .before .args in let pre = c .before .before .before .before .pre in counting-first (pre .0) (shapeIn (args .s .now)) refl _)
+    (λ c. let args = c .before .before .before .before .args in let pre = c .before .before .before .before .pre in reading-first (pre .0) (shapeIn (args .s .now)) refl _)
     -- same-length
     (λ c. c .before .before .loop .inv .long)
     -- returns
-    (λ c. counting-deep (c .before .before .loop .inv) (c .before .loop-test .taken) (c .if1 .taken))
+    (λ c. reading-deep (c .before .before .loop .inv) (elements-some _ _ (c .before .loop-test .taken)) (c .if1 .taken))
     -- sub-element
     (λ c. search needs)
     -- element-requires
@@ -52,7 +55,7 @@ read-elements-spec =
     let loop = c .before .before .before in
     let args = loop .before .before .before .before .before .args in
     let pre = loop .before .before .before .before .before .pre in
-    let ready = counting-below (loop .loop .inv) (c .before .before .loop-test .taken) (c .before .if1 .left) in
+    let ready = reading-below (loop .loop .inv) (elements-some _ _ (c .before .before .loop-test .taken)) (c .before .if1 .left) in
     let f = loop .before .prepared-of in
     let level : args .depth ≡ suc (args .depth - 1) = omega (arith, c .before .if1 .left) in (
       rw (f .ensures .same) ready,
@@ -66,13 +69,13 @@ read-elements-spec =
     -- returns-2
     (λ c.
     let call = c .before .before .before .before .before in
-    counting-stop (call .before .before .before .before .loop .inv) (call .before .before .before .loop-test .taken) (walked call) (c .before .number .given .1))
+    reading-stop (call .before .before .before .before .loop .inv) (elements-some _ _ (call .before .before .before .loop-test .taken)) (walked call) (c .before .number .given .1))
     -- enum-known-due
     (λ c. search needs)
     -- add-sum
     (λ c.
     let call = c .before .before .before .before .before in
-    let most = counting-sum (call .before .before .before .before .loop .inv) (call .before .before .before .loop-test .taken) (walked call) (c .before .due .given .1) in omega (arith, most))
+    let most = reading-sum (call .before .before .before .before .loop .inv) (elements-some _ _ (call .before .before .before .loop-test .taken)) (walked call) (c .before .due .given .1) in omega (arith, most))
     -- sub-left
     (λ c. search needs)
     -- loop-less
@@ -80,12 +83,14 @@ read-elements-spec =
     -- loop-again
     (λ c.
     let call = c .before .before .before .before .before in
-    counting-on (call .before .before .before .before .loop .inv) (call .before .before .before .loop-test .taken) (walked call) (c .before .due .given .1) (call .element .kept .1 .1 .1 .0))
+    reading-on (call .before .before .before .before .loop .inv) (elements-some _ _ (call .before .before .before .loop-test .taken)) (walked call) (c .before .due .given .1))
     -- sub-put-row
     (λ c. omega (arith, c .before .before .loop .inv .forth))
     -- put-row-requires
-    (λ c κs. let pre = c .before .before .before .before .before .before .before .pre in counting-own (c .before .before .loop .inv) (pre .2))
+    (λ c κs. let pre = c .before .before .before .before .before .before .before .pre in reading-own (c .before .before .loop .inv) (omega arith) (pre .2))
     -- same-length-3
     (λ c. c .before .before .put-row .kept .0 ∙ c .before .before .before .before .before .loop .inv .long)
     -- returns-3
-    (λ c. counting-end (c .before .before .before .before .before .loop .inv) (λ h. omega (arith, c .before .before .before .before .loop-test .left, h)) (c .before .before .put-row .ensures)))
+    (λ c.
+    let inv = c .before .before .before .before .before .loop .inv in
+    reading-end inv (elements-none _ _ (c .before .before .before .before .loop-test .left)) (c .before .before .put-row .ensures) (omega arith) (inv .forth)))

@@ -3,7 +3,7 @@ use mathlib.Core.Path.{sym, ap, _∙_}
 use mathlib.Core.Bool.{false≢true}
 use mathlib.Core.List.{List}
 use Prim.Native.Nat.{ℕ}
-use Rattle.wire.specs.Utf8.{utf8}
+use Rattle.utf8.specs.Utf8.{utf8}
 use borrow.Author.Needs.{needs}
 use Rattle.buffer.proofs.Spans.{slice-span}
 use Rattle.flat.proofs.leaf.is_of_kind.Statement.{statement}

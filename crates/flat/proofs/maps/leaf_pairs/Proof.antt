@@ -2,18 +2,15 @@
 -- judged those behind are kept.
 use borrow.Author.Needs.{needs}
 use mathlib.Core.Path.{_≡_, refl, _∙_}
-use Prim.Native.Nat.{ℕ, _+_, _-_}
+use Prim.Native.Nat.{_+_, _-_}
 use native.Mathlib.Omega.{arith}
 use lib.ListN.{length}
-use Rattle.schema.specs.Table.{Shape}
 use Rattle.walks.specs.Shape.{shapeIn}
-use Rattle.flat.proofs.Pairs.{Along, Midway, along-first, along-own, along-end, along-deep, key-asked, key-room, key-failed, key-past, leaf-asked, leaf-stop, leaf-put, leaf-turn}
+use Rattle.flat.proofs.Pairs.{Along, Midway, along-first, along-own, along-end, along-deep, key-asked, key-room, key-failed, key-past, leaf-stops, leaf-turn}
+use Rattle.flat.proofs.Steps.{span-in, span-put, IsLeaf, is-leaf, leaf-asked}
+use Rattle.flat.proofs.Turns.{Any}
 use Rattle.flat.proofs.maps.leaf_pairs.Statement.{statement}
 use Rattle.flat.proofs.maps.leaf_pairs.Tie as tie
-
--- Whatever is shown.
-abbrev Any : (ℕ → Shape) → Type 0
-Any R = Unit {0}
 
 abbrev Inv-loop : tie.InvT-loop
 Inv-loop s p sheet₀ keys₀ ty key val n start depth row judging k v i₀ here₀ below₀ sheet keys i here below =
@@ -34,6 +31,13 @@ keyed c =
     let test = next .before .before .before in
     let loop = test .before .before in
     key-past (loop .loop .inv .0) (test .before .loop-test .taken) (test .if1 .left) (loop .before .before .before .before .known-row .ensures) (next .next-key .ensures) (c .before .to .given .1)
+
+-- The type of the values.
+leaf : (c : tie.After-known-row2 Inv-loop μ-loop) → let args = c .before .before .before .before .before .before .before .args in IsLeaf (args .s .now) (args .val) (c .known-row2 .result)
+leaf c =
+    let pre = c .before .before .before .before .before .before .before .pre .1 in
+    let is = c .known-row2 .ensures in
+    is-leaf is (rw is (pre .0)) (rw is (pre .1))
 
 pub leaf-pairs-spec : {M : Type 1} → statement M
 leaf-pairs-spec =
@@ -88,8 +92,7 @@ leaf-pairs-spec =
     (λ c κs.
     let test = c .before .before .before .before .before .before .before .before .before .before in
     let loop = test .before .before in
-    let leaf = loop .before .before .before .before .before .before .before .before .before .pre .1 in
-    leaf-asked (keyed c) (test .if1 .left) (loop .before .before .known-row2 .ensures) (leaf .0) (leaf .1))
+    leaf-asked (leaf (loop .before .before)) (test .if1 .left) (keyed c .ready))
     -- enum-known-place-2
     (λ c. search needs)
     -- same-length-5
@@ -106,8 +109,7 @@ leaf-pairs-spec =
     let key = read .before in
     let test = key .before .before .before .before .before .before .before .before .before .before in
     let loop = test .before .before in
-    let leaf = loop .before .before .before .before .before .before .before .before .before .pre .1 in
-    λ R. leaf-stop (keyed key) (test .if1 .left) (loop .before .before .known-row2 .ensures) (leaf .0) (leaf .1) (read .content .ensures) (c .before .place2 .given .1) R tt)
+    λ R. leaf-stops (keyed key) (test .if1 .left) (leaf (loop .before .before)) (read .content .ensures) (c .before .place2 .given .1) R tt)
     -- enum-known-from
     (λ c. search needs)
     -- add-put-row
@@ -115,16 +117,12 @@ leaf-pairs-spec =
     let loop = c .before .before .before .before .before .before .before .before .before .before .before .before .before .before .before .before .before in
     let a = loop .loop .inv .0 in omega (arith, a .inside, a .behind, a .asked .ready .small))
     -- sub-put-row
-    (λ c. let w = rw (c .before .before .from .given .1) at (c .before .before .before .before .content .ensures .within) in omega (arith, w))
+    (λ c. span-in (c .before .before .before .before .content .ensures) (c .before .before .from .given .1) .0)
     -- put-row-requires
     (λ c κs.
-    let span = c .before .before in
-    let read = span .before .before in
-    let key = read .before in
-    let test = key .before .before .before .before .before .before .before .before .before .before in
-    let loop = test .before .before in
-    let leaf = loop .before .before .before .before .before .before .before .before .before .pre .1 in
-    let w = leaf-put (keyed key) (test .if1 .left) (loop .before .before .known-row2 .ensures) (leaf .0) (leaf .1) (read .content .ensures) (span .from .given .1) in (w .1, w .2, w .3, w .4))
+    let read = c .before .before .before .before in
+    let ready = keyed (read .before) .ready in
+    span-put (read .content .ensures) (c .before .before .from .given .1) (ready .small) (omega (arith, ready .small, ready .inside, ready .behind)))
     -- add-below-2
     (λ c.
     let loop = c .before .before .before .before .before .before .before .before .before .before .before .before .before .before .before .before .before .before .before .before in
@@ -142,9 +140,8 @@ leaf-pairs-spec =
     let read = span .before .before in
     let key = read .before in
     let test = key .before .before .before .before .before .before .before .before .before .before in
-    let loop = test .before .before in
-    let leaf = loop .before .before .before .before .before .before .before .before .before .pre .1 in (
-      leaf-turn (keyed key) (test .if1 .left) (loop .before .before .known-row2 .ensures) (leaf .0) (leaf .1) (read .content .ensures) (span .from .given .1) (omega arith) (put .put-row .ensures),
+    let loop = test .before .before in (
+      leaf-turn (keyed key) (test .if1 .left) (leaf (loop .before .before)) (read .content .ensures) (span .from .given .1) (omega arith) (put .put-row .ensures),
       key .before .before .before .before .before .before .before .next-key .kept .1 .1 .0 ∙ loop .loop .inv .1,
     ))
     -- sub-put-row-2

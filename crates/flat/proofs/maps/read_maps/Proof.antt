@@ -2,15 +2,18 @@
 use borrow.Author.Needs.{needs}
 use mathlib.Core.Path.{_≡_, refl, sym, _∙_}
 use native.Mathlib.Omega.{arith}
-use lib.ListN.{length}
+use lib.ListN.{length, replicate}
+use Rattle.schema.specs.Table.{array}
+use Rattle.value.specs.Read.{plainItem}
 use Rattle.walks.specs.Shape.{shapeIn}
-use Rattle.flat.proofs.Turns.{Counting, counting-first, counting-own, counting-end, counting-ready, counting-stop, counting-sum, counting-on}
+use Rattle.flat.proofs.Turns.{Reading, reading-end, reading-first, reading-on, reading-own, reading-ready, reading-stop, reading-sum}
+use Rattle.walks.proofs.Items.{elements-none, elements-some}
 use Rattle.flat.proofs.maps.read_maps.Statement.{statement}
 use Rattle.flat.proofs.maps.read_maps.Tie as tie
 
 abbrev Inv-loop : tie.InvT-loop
 Inv-loop s p sheet₀ ty elem key val n start depth row judging keys₀ left₀ here₀ below₀ sum₀ sheet keys left here below sum =
-    Counting (λ R. R elem ≡ shapeIn s elem) s p depth ty elem n start row judging sheet₀ left here sum below sheet × (length keys ≡ 136)
+    Reading (λ R. R elem ≡ shapeIn s elem) s p depth ty (array elem) start n start row judging sheet₀ (replicate left (plainItem elem)) here sum below sheet × (length keys ≡ 136)
 
 abbrev μ-loop : tie.MeasureT-loop
 μ-loop s p sheet₀ ty elem key val n start depth row judging keys₀ left₀ here₀ below₀ sum₀ sheet keys left here below sum = left
@@ -24,7 +27,7 @@ read-maps-spec =
     -- add-below
     (λ c. let pre = c .before .before .before .pre .0 .0 in omega (arith, pre .small, pre .inside, pre .behind))
     -- loop-holds
-    (λ c. let start = c .before .before .before in (counting-first (start .pre .0 .0) (shapeIn (start .args .s .now)) refl _, refl))
+    (λ c. let start = c .before .before .before in (reading-first (start .pre .0 .0) (shapeIn (start .args .s .now)) refl _, refl))
     -- slice-aggregate-clear-flags
     (λ c. sym (c .before .before .loop .inv .1))
     -- clear-flags-requires
@@ -36,7 +39,7 @@ read-maps-spec =
     let clear = c .before .before .before in
     let loop = clear .before .before .before in
     let pre = loop .before .before .before .before .pre in
-    ((counting-ready (loop .loop .inv .0) (clear .before .before .loop-test .taken), pre .0 .1), (pre .1, omega (arith, clear .clear-flags .kept .0, loop .loop .inv .1))))
+    ((reading-ready (loop .loop .inv .0) (elements-some _ _ (clear .before .before .loop-test .taken)), pre .0 .1), (pre .1, omega (arith, clear .clear-flags .kept .0, loop .loop .inv .1))))
     -- enum-known-number
     (λ c. search needs)
     -- same-length
@@ -44,14 +47,14 @@ read-maps-spec =
     -- returns
     (λ c.
     let call = c .before .before .before .before .before .before in
-    counting-stop (call .before .before .before .before .before .before .before .loop .inv .0) (call .before .before .before .before .before .before .loop-test .taken) (call .leaf-map .ensures) (c .before .number .given .1))
+    reading-stop (call .before .before .before .before .before .before .before .loop .inv .0) (elements-some _ _ (call .before .before .before .before .before .before .loop-test .taken)) (call .leaf-map .ensures) (c .before .number .given .1))
     -- enum-known-due
     (λ c. search needs)
     -- add-sum
     (λ c.
     let call = c .before .before .before .before .before .before in
-    let most = counting-sum (call .before .before .before .before .before .before .before .loop .inv .0) (call .before .before .before .before .before .before .loop-test .taken) (call .leaf-map .ensures) (c .before .due .given .1) in
-    omega (arith, most))
+    let test = call .before .before .before .before .before .before in
+    omega (arith, reading-sum (test .before .loop .inv .0) (elements-some _ _ (test .loop-test .taken)) (call .leaf-map .ensures) (c .before .due .given .1)))
     -- sub-left
     (λ c. search needs)
     -- loop-less
@@ -61,14 +64,16 @@ read-maps-spec =
     let call = c .before .before .before .before .before .before in
     let clear = call .before .before .before .before in
     let loop = clear .before .before .before in (
-      counting-on (loop .loop .inv .0) (clear .before .before .loop-test .taken) (call .leaf-map .ensures) (c .before .due .given .1) (call .leaf-map .kept .1 .1 .0),
+      reading-on (loop .loop .inv .0) (elements-some _ _ (clear .before .before .loop-test .taken)) (call .leaf-map .ensures) (c .before .due .given .1),
       call .leaf-map .kept .1 .1 .1 .0 ∙ clear .clear-flags .kept .0 ∙ loop .loop .inv .1,
     ))
     -- sub-put-row
     (λ c. omega (arith, c .before .before .loop .inv .0 .forth))
     -- put-row-requires
-    (λ c κs. counting-own (c .before .before .loop .inv .0) (c .before .before .before .before .before .before .pre .0 .2))
+    (λ c κs. reading-own (c .before .before .loop .inv .0) (omega arith) (c .before .before .before .before .before .before .pre .0 .2))
     -- same-length-2
     (λ c. c .before .before .put-row .kept .0 ∙ c .before .before .before .before .before .loop .inv .0 .long)
     -- returns-2
-    (λ c. counting-end (c .before .before .before .before .before .loop .inv .0) (λ h. omega (arith, c .before .before .before .before .loop-test .left, h)) (c .before .before .put-row .ensures)))
+    (λ c.
+    let inv = c .before .before .before .before .before .loop .inv .0 in
+    reading-end inv (elements-none _ _ (c .before .before .before .before .loop-test .left)) (c .before .before .put-row .ensures) (omega arith) (inv .forth)))

@@ -1,6 +1,7 @@
 -- `reader::pairs::read_key` meets its contract.
 use borrow.Author.Needs.{needs}
-use Rattle.flat.proofs.Pairs.{key-refused, key-forth, key-small, key-put, key-again, key-new}
+use Rattle.flat.proofs.Steps.{span-in, span-put}
+use Rattle.flat.proofs.Pairs.{key-refused, key-small, key-again, key-new}
 use Rattle.reader.proofs.pairs.read_key.Statement.{statement}
 use Rattle.reader.proofs.pairs.read_key.Tie as tie
 
@@ -17,7 +18,7 @@ read-key-spec =
     -- enum-known-from
     (λ c. search needs)
     -- sub-is-repeated
-    (λ c. let span = c .before .before in key-forth (span .before .before .content .ensures) (span .from .given .1))
+    (λ c. let span = c .before .before in span-in (span .before .before .content .ensures) (span .from .given .1) .0)
     -- is-repeated-requires
     (λ c κs.
     let span = c .before .before in
@@ -31,12 +32,12 @@ read-key-spec =
     let span = again .before .before .before in
     key-again (span .before .before .content .ensures) (span .from .given .1) (again .is-repeated .ensures) (c .if1 .taken))
     -- sub-put-row
-    (λ c. let span = c .before .before .before .before .before .before .before in key-forth (span .before .before .content .ensures) (span .from .given .1))
+    (λ c. let span = c .before .before .before .before .before .before .before in span-in (span .before .before .content .ensures) (span .from .given .1) .0)
     -- put-row-requires
     (λ c κs.
     let span = c .before .before .before .before .before .before .before in
     let pre = span .before .before .before .before .before .before .before .pre .0 in
-    key-put (span .before .before .content .ensures) (span .from .given .1) (pre .0) (pre .5))
+    span-put (span .before .before .content .ensures) (span .from .given .1) (pre .0) (pre .5))
     -- returns-2
     (λ c. key-refused (c .before .before .before .content .ensures) (c .before .place .given .1))
     -- same-length-2

@@ -28,7 +28,7 @@ root-spec =
     (λ c. search needs)
     -- enum-known-known
     (λ c. search needs)
-    -- read-chosen-fields-requires
+    -- read-root-fields-requires
     (λ c κs.
     let args = c .before .before .before .before .before .before .before .before .args in
     let asked = c .before .before .before .before .before .before .before .before .pre in
@@ -59,7 +59,7 @@ root-spec =
     -- enum-known-due
     (λ c. search needs)
     -- end-root-requires
-    (λ c κs. was (c .before .before .before .before .before .read-chosen-fields .ensures) (c .before .due .given .1) .within .0)
+    (λ c κs. was (c .before .before .before .before .before .read-root-fields .ensures) (c .before .due .given .1) .within .0)
     -- returns
     (λ c.
     let args = c .before .before .before .before .before .before .before .args in
@@ -69,7 +69,7 @@ root-spec =
     let p = args .p .now in
     as-refused _ _ _ (root-refused S (args .ty) (fieldsFrom T (args .first) (args .n)) p _ (c .before .before .before .presence .ensures) _ (c .before .number .given .1)))
     -- same-length
-    (λ c. c .before .before .before .before .before .read-chosen-fields .kept .1 .1 .1 .0)
+    (λ c. c .before .before .before .before .before .read-root-fields .kept .1 .1 .1 .0)
     -- returns-2
     (λ c.
     let back = c .before .before .before .before .before .before .before .before .before in
@@ -82,9 +82,9 @@ root-spec =
     let tell = toldIn (args .shown .now) (args .s .now) (args .ty) in
     let read = back .before .presence .ensures in
     root-stop S (args .ty) fs p _ read _ _ _ _ _ (c .before .before .before .before .before .before .before .before .known .given .1) tell _ _ _ _
-    (was (c .before .before .before .before .before .read-chosen-fields .ensures) (c .before .number2 .given .1)))
+    (was (c .before .before .before .before .before .read-root-fields .ensures) (c .before .number2 .given .1)))
     -- same-length-2
-    (λ c. c .before .before .before .before .before .before .read-chosen-fields .kept .1 .1 .1 .0)
+    (λ c. c .before .before .before .before .before .before .read-root-fields .kept .1 .1 .1 .0)
     -- returns-3
     (λ c.
     let fields = c .before .before .before .before .before .before in
@@ -94,4 +94,4 @@ root-spec =
     let T = tableOf (args .s .now) in
     let tell = toldIn (args .shown .now) (args .s .now) (args .ty) in
     root-end (shape T) (args .ty) (fieldsFrom T (args .first) (args .n)) (args .p .now) _ (head .before .before .presence .ensures) _ _ _ _ _ (head .known .given .1) tell _ _ _ _ _
-    (was (fields .read-chosen-fields .ensures) (c .before .before .due .given .1)) (c .end-root .ensures)))
+    (was (fields .read-root-fields .ensures) (c .before .before .due .given .1)) (c .end-root .ensures)))

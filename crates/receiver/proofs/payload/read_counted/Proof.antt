@@ -29,7 +29,7 @@ returns-2 c =
     let a = number .before .before .before .before .before .before .before .before .args in
     let o = payloadRead (now (a .schema)) (a .due) (now (a .payload)) (now (a .sheet)) in
     let is : fullAt (a .tally) (figureBy (a .rise) (numberIn o)) ≡ true =
-    sym (full .is-full3 .ensures ∙ ap (fullAt (a .tally)) (figure .figure .ensures ∙ ap (figureBy (a .rise)) (number .number .ensures))) ∙ c .if2 .taken in
+    sym (full .is-full3 .ensures ∙ ap (fullAt (a .tally)) (figure .figure-by .ensures ∙ ap (figureBy (a .rise)) (number .number .ensures))) ∙ c .if2 .taken in
     tallied-full (a .tally) (a .rise) (now (a .sheet)) o is
 
 returns-3 : tie.Need-returns-3
@@ -41,7 +41,7 @@ returns-3 c =
     let a = number .before .before .before .before .before .before .before .before .args in
     let o = payloadRead (now (a .schema)) (a .due) (now (a .payload)) (now (a .sheet)) in
     let is : fullAt (a .tally) (figureBy (a .rise) (numberIn o)) ≡ false =
-    sym (full .is-full3 .ensures ∙ ap (fullAt (a .tally)) (figure .figure .ensures ∙ ap (figureBy (a .rise)) (number .number .ensures))) ∙ test .if2 .left in
+    sym (full .is-full3 .ensures ∙ ap (fullAt (a .tally)) (figure .figure-by .ensures ∙ ap (figureBy (a .rise)) (number .number .ensures))) ∙ test .if2 .left in
     c .before .before .read2 .ensures ∙ tallied-not (a .tally) (a .rise) (now (a .sheet)) o is
 
 pub read-counted-spec : {M : Type 1} → statement M

@@ -10,8 +10,8 @@ use Rattle.receiver.proofs.planning.plan_frame.Tie as tie
 returns : tie.Need-returns
 returns c =
     let a = c .before .before .before .args in
-    let j = c .before .judge .ensures in
-    let k = c .rise .ensures ∙ ap (λ (J : Judged). verdictRise (a .f .kind) (a .slot .own) (verdict J)) j in
+    let j = c .before .judge-frame .ensures in
+    let k = c .rise-of .ensures ∙ ap (λ (J : Judged). verdictRise (a .f .kind) (a .slot .own) (verdict J)) j in
     λ i. judgedPlan (j i) (k i) (a .place) (a .end)
 
 pub plan-frame-spec : {M : Type 1} → statement M

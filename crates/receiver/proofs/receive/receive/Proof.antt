@@ -7,7 +7,7 @@ use denote.Struct.Declared.{shape}
 use denote.Struct.Laws as LL
 use denote.Struct.Struct.{layout}
 use Rattle.calls.specs.declared.Tally.{Tally}
-use Rattle.calls.specs.declared.CallTable.{CallTable}
+use Rattle.connection.specs.declared.CallTable.{CallTable}
 use Rattle.calls.specs.Counting.{noTally}
 use Rattle.receiver.specs.declared.Plan.{Plan}
 use Rattle.receiver.specs.declared.Received.{Received}
@@ -24,8 +24,8 @@ use Rattle.receiver.proofs.Walk.{agg, FmC, Is, uint-makes, uint-vals, u
 use Rattle.receiver.proofs.Walk.{Stays, stay-dropped, gave-slice, walkOf, goes-dropped, goes-gave-slice, yes}
 use Rattle.calls.proofs.Tally as T
 use Rattle.calls.proofs.Tally.Laws as T′
-use Rattle.calls.proofs.CallTable as S
-use Rattle.calls.proofs.CallTable.Laws as S′
+use Rattle.connection.proofs.CallTable as S
+use Rattle.connection.proofs.CallTable.Laws as S′
 use Rattle.receiver.proofs.Plan as P
 use Rattle.receiver.proofs.Plan.Laws as P′
 use Rattle.receiver.proofs.Received as An

@@ -5,7 +5,7 @@ use denote.Struct.Declared.{shape}
 use denote.Struct.Laws as LL
 use denote.Struct.Struct.{layout}
 use Rattle.calls.specs.declared.Tally.{Tally}
-use Rattle.calls.specs.declared.CallTable.{CallTable}
+use Rattle.connection.specs.declared.CallTable.{CallTable}
 use Rattle.calls.specs.Counting.{noTally}
 use Rattle.receiver.specs.declared.Plan.{Plan}
 use Rattle.receiver.specs.declared.Released.{Released}
@@ -20,8 +20,8 @@ use Rattle.receiver.proofs.Walk.{Is, uint-makes, uint-vals, uint-tells,
 use Rattle.receiver.proofs.Walk.{goes-dropped, goes-gave-slice, yes}
 use Rattle.calls.proofs.Tally as T
 use Rattle.calls.proofs.Tally.Laws as T′
-use Rattle.calls.proofs.CallTable as S
-use Rattle.calls.proofs.CallTable.Laws as S′
+use Rattle.connection.proofs.CallTable as S
+use Rattle.connection.proofs.CallTable.Laws as S′
 use Rattle.receiver.proofs.Plan as P
 use Rattle.receiver.proofs.Plan.Laws as P′
 use Rattle.receiver.proofs.Released as An

@@ -10,8 +10,8 @@ raised-requires c κs =
     let counted = number .before in
     let left = counted .before .before in
     let a = left .before .before .args in
-    release-room (a .tally) (left .left2 .given .0 .1 .0) (counted .counted .result) (number .number-of .result) (c .figure .result)
-    (counted .counted .ensures) (number .number-of .ensures) (c .figure .ensures)
+    release-room (a .tally) (left .left2 .given .0 .1 .0) (counted .counted .result) (number .number-of .result) (c .figure-by .result)
+    (counted .counted .ensures) (number .number-of .ensures) (c .figure-by .ensures)
 
 returns : tie.Need-returns
 returns c =
@@ -31,7 +31,7 @@ returns-2 c =
     let a = left .before .before .args in
     let h = left .left2 .given in (
       release-told (a .tally) (a .plan .next) (h .0 .0) (h .0 .1 .0) (h .0 .1 .1 .0) (h .0 .1 .1 .1 .0) (counted .counted .result) (number .number-of .result)
-          (figure .figure .result) (c .raised .result) (h .1) (counted .counted .ensures) (number .number-of .ensures) (figure .figure .ensures) (c .raised .ensures),
+          (figure .figure-by .result) (c .raised .result) (h .1) (counted .counted .ensures) (number .number-of .ensures) (figure .figure-by .ensures) (c .raised .ensures),
       settle-stops (a .tally) (a .plan .next) (h .0 .0) (h .0 .1 .0) (h .0 .1 .1 .0) (h .0 .1 .1 .1 .0) (h .1) _,
     )
 

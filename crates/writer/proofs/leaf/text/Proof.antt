@@ -3,7 +3,7 @@ use mathlib.Core.Path.{sym, ap, _∙_}
 use mathlib.Core.List.{List}
 use Prim.Native.Nat.{ℕ}
 use borrow.Author.Tests.{not-true, not-false}
-use Rattle.wire.specs.Utf8.{utf8}
+use Rattle.utf8.specs.Utf8.{utf8}
 use Rattle.value.proofs.Spans.{text-valid, text-plain}
 use Rattle.writer.proofs.Leaves.{text-counted, text-outside, text-fine, text-bad}
 use borrow.Author.Needs.{needs}

@@ -1,0 +1,5 @@
+pub mod Utf8s
+pub mod Unicodes
+pub mod Asciis
+pub mod Pairs
+pub mod Examples
