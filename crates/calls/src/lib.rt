@@ -1,5 +1,5 @@
-// The calls of a connection: the record of a call, the frames and releases that it hears, and what these raise in a tally row. The definitions stand in specs/, their
-// laws in proofs/.
+// The calls of a connection: the record of a call, what frames and releases do to it, and what these raise in a tally row. The definitions stand in specs/,
+// their laws in proofs/, and the code in the crate `connection`.
 
 use schema::Found;
 

@@ -11,7 +11,7 @@ use lib.Dec.{eqb}
 use borrow.Author.Tests.{eqb-true}
 use Rattle.calls.specs.Slots.{contains, distinct}
 use Rattle.connection.specs.Flags.{flagOfNumber}
-use Rattle.schema.specs.Flags.{mixed}
+use Rattle.table.specs.Flags.{mixed}
 use Rattle.schema.proofs.Bools.{clash}
 use Rattle.table.proofs.Flags.{set-kept}
 use Rattle.table.proofs.Products.{top-below}

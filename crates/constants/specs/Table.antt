@@ -1,16 +1,16 @@
 -- The numbers of the papers by the names that they have in code. Each stands here once more as a numeral, beside the paper's words, and the constants of
--- src/ are held against it: `numbers` says that each has this number.
+-- src/ are held against it: `papers` says that each has this number.
 use Prim.Native.Nat.{ℕ}
-use Rattle.constants.specs.declared.numbers.FrameNumbers.{FrameNumbers}
-use Rattle.constants.specs.declared.numbers.CallNumbers.{CallNumbers}
-use Rattle.constants.specs.declared.numbers.ValueNumbers.{ValueNumbers}
-use Rattle.constants.specs.declared.numbers.SchemaNumbers.{SchemaNumbers}
-use Rattle.constants.specs.declared.numbers.OutputNumbers.{OutputNumbers}
-use Rattle.constants.specs.declared.numbers.TypeKindNumbers.{TypeKindNumbers}
-use Rattle.constants.specs.declared.numbers.FrameKindNumbers.{FrameKindNumbers}
-use Rattle.constants.specs.declared.numbers.SideBytes.{SideBytes}
-use Rattle.constants.specs.declared.numbers.FixedNumbers.{FixedNumbers}
-use Rattle.constants.specs.declared.numbers.LimitNumbers.{LimitNumbers}
+use Rattle.constants.specs.declared.papers.FrameNumbers.{FrameNumbers}
+use Rattle.constants.specs.declared.papers.CallNumbers.{CallNumbers}
+use Rattle.constants.specs.declared.papers.ValueNumbers.{ValueNumbers}
+use Rattle.constants.specs.declared.papers.SchemaNumbers.{SchemaNumbers}
+use Rattle.constants.specs.declared.papers.OutputNumbers.{OutputNumbers}
+use Rattle.constants.specs.declared.papers.TypeKindNumbers.{TypeKindNumbers}
+use Rattle.constants.specs.declared.papers.FrameKindNumbers.{FrameKindNumbers}
+use Rattle.constants.specs.declared.papers.SideBytes.{SideBytes}
+use Rattle.constants.specs.declared.papers.FixedNumbers.{FixedNumbers}
+use Rattle.constants.specs.declared.papers.LimitNumbers.{LimitNumbers}
 
 -- Numbers that come back for a frame's bytes (01).
 abbrev pub frames : FrameNumbers

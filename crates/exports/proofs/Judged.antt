@@ -13,7 +13,7 @@ use Rattle.calls.specs.Counting.{noTally}
 use Rattle.receiver.specs.declared.Plan.{Plan}
 use Rattle.receiver.specs.declared.Settled.{Settled}
 use Rattle.receiver.specs.declared.SettledRelease.{SettledRelease}
-use Rattle.receiver.specs.Answer.{Effect, effect, rowEffect, inRow, stopped}
+use Rattle.receiver.specs.Answer.{effect, rowEffect, inRow}
 use Rattle.receiver.specs.Planning.{stopPlan, planOf, releasePlan}
 use Rattle.receiver.specs.Receive.{settled, received}
 use Rattle.receiver.specs.Release.{ReleaseEffect, releaseEffect, releaseAnswer, releaseSettled, released}

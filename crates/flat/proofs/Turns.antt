@@ -119,7 +119,7 @@ abbrev pub Any : (ℕ → Shape) → Type 0
 Any R = Unit {0}
 
 -- Where it stands, by whatever shapes it is shown of which Ok holds, as it does of some: what is left gives the same end. The composite's own row is `row`. What was asked of it is kept.
-pub record Reading (Ok : (ℕ → Shape) → Type 0) (s p : List ℕ) (depth ty : ℕ) (sh : Shape) (place head start row : ℕ) (judging : Bool) (sheet : List ℕ) (left : List Item) (here sum below : ℕ) (l : List ℕ) : Type 0 where
+pub record ReadingItems (Ok : (ℕ → Shape) → Type 0) (s p : List ℕ) (depth ty : ℕ) (sh : Shape) (place head start row : ℕ) (judging : Bool) (sheet : List ℕ) (left : List Item) (here sum below : ℕ) (l : List ℕ) : Type 0 where
   pub asked : Ready s p start (row + 1) judging (wholeIn s p depth ty sh place head start)
   pub by : ℕ → Shape
   pub ok : Ok by
@@ -136,10 +136,10 @@ Answered Ok s p depth ty sh place head start row sheet r after =
 
 module _ {Ok : (ℕ → Shape) → Type 0} {s p : List ℕ} {depth ty : ℕ} {sh : Shape} {place head start row : ℕ} {judging : Bool} where
   pub reading-first : Ready s p start (row + 1) judging (wholeIn s p depth ty sh place head start) → (R : ℕ → Shape) → Ok R → (sheet : List ℕ)
-      → Reading Ok s p depth ty sh place head start row judging sheet (plan sh head) start 0 (row + 1) sheet
+      → ReadingItems Ok s p depth ty sh place head start row judging sheet (plan sh head) start 0 (row + 1) sheet
   reading-first q R ok sheet = record { asked = q; by = R; ok = ok; same = λ R shown. refl; inside = q .inside; behind = q .behind; forth = omega arith; long = refl }
 
-  module _ {sheet : List ℕ} {left : List Item} {here sum below : ℕ} {l : List ℕ} (g : Reading Ok s p depth ty sh place head start row judging sheet left here sum below l) where
+  module _ {sheet : List ℕ} {left : List Item} {here sum below : ℕ} {l : List ℕ} (g : ReadingItems Ok s p depth ty sh place head start row judging sheet left here sum below l) where
     -- no item is left, and the composite's own row is put
     pub reading-own : place ≤ start → {n : ℕ} → n ≤ 16384 → (row ≤ 16384) × (place ≤ 16384) × (here - place ≤ 16384) × (n ≤ 16384)
     reading-own back few = let q = g .asked in omega (arith, back, q .small, q .inside, q .behind, g .inside, few)
@@ -179,7 +179,7 @@ module _ {Ok : (ℕ → Shape) → Type 0} {s p : List ℕ} {depth ty : ℕ} {sh
           pub reading-sum : sum + comparisons ≤ 262144
           reading-sum = let w = was (walked (g .by) (g .ok)) h .within in omega (arith, w, g .forth, g .asked .small)
 
-          pub reading-on : Reading Ok s p depth ty sh place head start row judging sheet rest next (sum + comparisons) row′ m
+          pub reading-on : ReadingItems Ok s p depth ty sh place head start row judging sheet rest next (sum + comparisons) row′ m
           reading-on =
               let S = shapeIn s in
               let v = valueIn s p depth e here in
@@ -205,7 +205,7 @@ module _ {Ok : (ℕ → Shape) → Type 0} {s p : List ℕ} {depth ty : ℕ} {sh
 -- Where the loop over b fields from a on stands: at field i, with these bits left.
 pub record Going (s p : List ℕ) (depth ty a b place known start row : ℕ) (judging : Bool) (sheet : List ℕ) (i bits here below : ℕ) (l : List ℕ) : Type 0 where
   pub asked : FieldsReady s p depth ty a b place known start row judging
-  pub at : Reading Any s p depth ty (struct (fieldsFrom (tableOf s) a b)) place known start row judging sheet (bitsLeft (tableOf s) a b i bits) here 0 below l
+  pub at : ReadingItems Any s p depth ty (struct (fieldsFrom (tableOf s) a b)) place known start row judging sheet (bitsLeft (tableOf s) a b i bits) here 0 below l
   pub on : Standing a b i bits
   pub count : below + length (bitsLeft (tableOf s) a b i bits) ≡ row + 1 + length (bitsLeft (tableOf s) a b a known)
 

@@ -18,6 +18,6 @@ pub const METHOD_AT: usize = 13;
 pub const CORRELATION_AT: usize = 17;
 
 // The bytes of a package's, a service's or a method's number, and of a correlation.
-pub const WORD: usize = 4;
+pub const IDENTIFIER_BYTES: usize = 4;
 
-pub const LONG: usize = 8;
+pub const CORRELATION_BYTES: usize = 8;

@@ -2,16 +2,16 @@
 pub mod layout;
 
 use crate::layout::CORRELATION_AT;
+use crate::layout::CORRELATION_BYTES;
 use crate::layout::FLAGS_AT;
+use crate::layout::IDENTIFIER_BYTES;
 use crate::layout::KIND_AT;
-use crate::layout::LONG;
 use crate::layout::MAGIC_2_AT;
 use crate::layout::MAGIC_AT;
 use crate::layout::METHOD_AT;
 use crate::layout::PACKAGE_AT;
 use crate::layout::SERVICE_AT;
 use crate::layout::VERSION_AT;
-use crate::layout::WORD;
 use buffer::copy;
 use constants::format;
 use constants::frame_kind;
@@ -45,7 +45,9 @@ const LAST_KIND: u32 = frame_kind::CANCEL as u32;
 // The longest payload.
 const LONGEST: u64 = limit::PAYLOAD as u64;
 
-// What the upper half of eight bytes counts: 2^32.
+// Where the upper half of eight bytes stands, and what it counts: 2^32.
+const UPPER_AT: usize = 4;
+
 const UPPER: u64 = 0x1_0000_0000;
 
 // A frame's header. The kind of a frame that was read is 1 to 8; the writer may be handed any number.
@@ -105,7 +107,7 @@ fn long(s: &[u8], at: usize) -> u64
     requires { ⌜ at + 8 ≤ length (now s) ⌝ }
     ensures { λ r. ⌜ r ≡ numberAt (now (s .entry)) at 8 ⌝ }
 {
-    word(s, at) as u64 + UPPER * (word(s, at + WORD) as u64)
+    word(s, at) as u64 + UPPER * (word(s, at + UPPER_AT) as u64)
 }
 
 // The header, from the fields' places.
@@ -222,10 +224,10 @@ pub fn write_front(out: &mut [u8], header: Header, n: u64)
     ensures { λ _. ⌜ now (out .exit) ≡ written (now (out .entry)) 0 (frontBytes header n) ⌝ }
 {
     write_start(out, header.kind);
-    store(out, PACKAGE_AT, WORD, header.package as u64);
-    store(out, SERVICE_AT, WORD, header.service as u64);
-    store(out, METHOD_AT, WORD, header.method as u64);
-    store(out, CORRELATION_AT, LONG, header.correlation);
+    store(out, PACKAGE_AT, IDENTIFIER_BYTES, header.package as u64);
+    store(out, SERVICE_AT, IDENTIFIER_BYTES, header.service as u64);
+    store(out, METHOD_AT, IDENTIFIER_BYTES, header.method as u64);
+    store(out, CORRELATION_AT, CORRELATION_BYTES, header.correlation);
     wire::varuint::write(out, format::HEADER, n);
 }
 

@@ -1,7 +1,7 @@
 // The index of a record: a row for each entry that its listing prints, by correlation and then place; and the look-up of one call in an index.
-mod cells;
 mod judge;
 mod make;
+mod order;
 mod print;
 
 use crate::judge::judge;

@@ -26,7 +26,7 @@ use Rattle.flat.specs.Sheet.{putRow}
 use Rattle.flat.specs.Walk.{firstFields, valueIn, Valued, Ready}
 use Rattle.flat.proofs.Steps.{as-refused, as-told}
 use Rattle.flat.proofs.Composites.{bitmap-accepted, struct-refused, head-in, struct-unknown, struct-whole, struct-valued, first-whole, first-part}
-use Rattle.flat.proofs.Turns.{Reading, reading-first, reading-own, reading-end, reading-ready, reading-stop, reading-sum, reading-on}
+use Rattle.flat.proofs.Turns.{ReadingItems, reading-first, reading-own, reading-end, reading-ready, reading-stop, reading-sum, reading-on}
 use Rattle.flat.proofs.Partials.{mine-count, PartAsked, part-first, part-room, part-count, part-stop, rest-asked, rest-stop, rest-in, rest-past}
 use Rattle.reader.proofs.Calls.{By}
 use Rattle.reader.specs.declared.walk.Fields.{Fields}
@@ -100,7 +100,7 @@ type-few {s} {f = f} q typed = struct-type s (q .ready .good) (f .ty) _ (typed .
 -- Where it stands: at field i, with so many left, by these bits.
 pub record Passing (known s p : List ℕ) (depth : ℕ) (f : Fields) (row : ℕ) (judging : Bool) (sheet : List ℕ) (i left bits here sum below : ℕ) (l : List ℕ) : Type 0 where
   pub asked : ReadyFor s p depth f row judging
-  pub at : Reading (By known s) s p depth (f .ty) (struct (fieldsOf s f)) (f .place) (f .known) (f .start) row judging sheet (present (fieldsFrom (tableOf s) i left) bits) here sum below l
+  pub at : ReadingItems (By known s) s p depth (f .ty) (struct (fieldsOf s f)) (f .place) (f .known) (f .start) row judging sheet (present (fieldsFrom (tableOf s) i left) bits) here sum below l
   pub in-table : i + left ≤ length (tableOf s .fields)
 
 module _ {s p : List ℕ} {depth : ℕ} {f : Fields} {row : ℕ} {judging : Bool} where

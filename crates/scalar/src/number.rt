@@ -4,6 +4,7 @@ use crate::float::float32;
 use crate::float::float64;
 use constants::kind;
 use table::kind::width_of;
+use wire::bitmap::BYTE_BITS;
 use wire::little::number;
 use wire::little::signed;
 ghost use mathlib.Core.Path.{_≡_};
@@ -20,9 +21,6 @@ const INT64: usize = kind::INT64 as usize;
 const UINT64: usize = kind::UINT64 as usize;
 
 const FLOAT32: usize = kind::FLOAT32 as usize;
-
-// Bits of a byte.
-const BYTE_BITS: usize = 8;
 
 // The value of a scalar kind at a place.
 pub fn value(s: &[u8], kind: usize, place: usize) -> Scalar

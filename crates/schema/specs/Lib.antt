@@ -2,7 +2,6 @@
 pub mod Table
 pub mod File
 pub mod Check
-pub mod Flags
 pub mod Numbered
 pub mod Good
 pub mod Faults

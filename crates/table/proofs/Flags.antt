@@ -14,7 +14,7 @@ use Rattle.schema.specs.declared.Method.{Method}
 use Rattle.schema.specs.declared.Found.the-variants.{Missing}
 use Rattle.schema.specs.Table.{Table}
 use Rattle.schema.specs.Check.{methodRow, formed, findAmong, isMissing, goodMethod}
-use Rattle.schema.specs.Flags.{mixed, flagOf}
+use Rattle.table.specs.Flags.{mixed, flagOf}
 use Rattle.schema.proofs.Bools.{cases, clash, is-false}
 use Rattle.schema.proofs.Lowest.{below-none}
 use Rattle.table.proofs.Checks.{method-judged}

@@ -22,7 +22,7 @@ ghost use mathlib.Core.Path.{_≡_};
 ghost use mathlib.Core.Bool.{true, false, not, _||_};
 ghost use Rattle.schema.specs.File.{Laid, tableOf};
 ghost use Rattle.schema.specs.Check.{plainRow, arrayRow, mapRow, structRow, goodRow, goodField, letterFits, formed, findAmong, isMissing, goodMethod, goodEntry, badEntry, badMethod, checkedTable, checked};
-ghost use Rattle.schema.specs.Flags.{flagOf};
+ghost use Rattle.table.specs.Flags.{flagOf};
 
 fn is_plain(r: TypeRow) -> bool
     ensures { λ x. ⌜ x ≡ plainRow r ⌝ }

@@ -2,7 +2,7 @@
 use std::num::wrapping_add_u64;
 ghost use mathlib.Core.Path.{_≡_};
 ghost use Prim.Native.Nat.{_*_, _%_, _^_};
-ghost use Rattle.schema.specs.Flags.{mixed};
+ghost use Rattle.table.specs.Flags.{mixed};
 
 // 2^32 and its exponent: the halves of a number are its quotient by it and the remainder.
 pub const HALF: u64 = 4294967296;

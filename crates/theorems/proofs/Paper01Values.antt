@@ -91,7 +91,7 @@ signed-is = scalar-Twos.signed-is
 
 -- "Strings are UTF-8 by RFC 3629: no surrogate, no longer form than needed, nothing above 10FFFF."
 
--- Computed: `wire/Examples.texts-hold`, `wire/Examples.refused`.
+-- Computed: `utf8/Examples.texts-hold`, `utf8/Examples.refused`.
 
 -- Stated in other files: `Request07.accepted-once`, `Request07.row-once`, `Request07.utf8-encoded`.
 

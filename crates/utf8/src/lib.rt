@@ -188,7 +188,7 @@ const SEVENTH: usize = 6 * WORD;
 
 const EIGHTH: usize = 7 * WORD;
 
-// The same by blocks, for long strings.
+// Past characters of one byte by blocks, for long strings.
 fn skip_blocks(s: &[u8], from: usize, to: usize) -> usize
     requires { ⌜ (from ≤ to) × (to ≤ length (now s)) ⌝ }
     ensures { λ r. ⌜ ((from ≤ r) × (r ≤ to)) × (utf8 (slice r to (now (s .entry))) ≡ utf8 (slice from to (now (s .entry)))) ⌝ }

@@ -17,7 +17,7 @@ use Rattle.schema.specs.Table.{Shape, array, map, struct, bitmapBytes}
 use Rattle.schema.proofs.Bools.{and-left, and-right}
 use Rattle.value.specs.declared.Row.{Row}
 use Rattle.value.specs.Value.{Tree, tip, branch, Forest, stop, plus, value, values}
-use Rattle.value.specs.Read.{Item, parts, plainItem, pairs, plan, present, walk}
+use Rattle.value.specs.Read.{Item, parts, plainItem, plan, present, walk}
 use Rattle.value.specs.Spell.{leafBytes, headBytes, encode, encodeAll}
 use Rattle.value.specs.Write.{RowReader, rowDue, says, show}
 use Rattle.walks.specs.Shape.{leafShape, shapeIn}
@@ -146,7 +146,7 @@ module _ {S : ℕ → Shape} {B cells : List ℕ} {row t n : ℕ} {fs : List Fie
 -- ---- a loop over items: elements of an array, fields of a struct, pairs of a map
 
 -- Where it stands: the items left, from a row on, end as all of them do. What was asked of all is kept.
-pub record Writing (s B cells : List ℕ) (depth : ℕ) (all : List Item) (start pos₀ : ℕ) (judging : Bool) (out₀ : List ℕ) (keys : List (List ℕ)) (left : List Item) (row pos : ℕ) (out : List ℕ) : Type 0 where
+pub record WritingItems (s B cells : List ℕ) (depth : ℕ) (all : List Item) (start pos₀ : ℕ) (judging : Bool) (out₀ : List ℕ) (keys : List (List ℕ)) (left : List Item) (row pos : ℕ) (out : List ℕ) : Type 0 where
   pub asked : Ready s cells out₀ start pos₀ judging (itemsIn s B cells depth [] all start)
   pub same : itemsEnd s B cells depth keys left row pos out ≡ itemsEnd s B cells depth [] all start pos₀ out₀
   pub inside : row ≤ length cells / 4
@@ -154,10 +154,10 @@ pub record Writing (s B cells : List ℕ) (depth : ℕ) (all : List Item) (start
   pub long : length out ≡ length out₀
 
 module _ {s B cells : List ℕ} {depth : ℕ} {all : List Item} {start pos₀ : ℕ} {judging : Bool} {out₀ : List ℕ} where
-  pub writing-first : Ready s cells out₀ start pos₀ judging (itemsIn s B cells depth [] all start) → Writing s B cells depth all start pos₀ judging out₀ [] all start pos₀ out₀
+  pub writing-first : Ready s cells out₀ start pos₀ judging (itemsIn s B cells depth [] all start) → WritingItems s B cells depth all start pos₀ judging out₀ [] all start pos₀ out₀
   writing-first q = record { asked = q; same = refl; inside = q .inside; capped = q .capped; long = refl }
 
-  module _ {keys : List (List ℕ)} {left : List Item} {row pos : ℕ} {out : List ℕ} (g : Writing s B cells depth all start pos₀ judging out₀ keys left row pos out) where
+  module _ {keys : List (List ℕ)} {left : List Item} {row pos : ℕ} {out : List ℕ} (g : WritingItems s B cells depth all start pos₀ judging out₀ keys left row pos out) where
     pub writing-small : length out ≤ 16384
     writing-small = rw (g .long) (g .asked .small)
 
@@ -178,7 +178,7 @@ module _ {s B cells : List ℕ} {depth : ℕ} {all : List Item} {start pos₀ : 
         unfolding emit emitAll
         writing-stop h h′ = as-refused h′ (item-stop (emitting (shapeIn s)) (show (shapeIn s) B depth) keys first (rowsAt cells row) (emitted pos out) _ (was w h .same) ∙ g .same)
 
-        pub writing-on : {next to : ℕ} → r ≡ Past next to → length mid ≡ length out → Writing s B cells depth all start pos₀ judging out₀ keys rest next to mid
+        pub writing-on : {next to : ℕ} → r ≡ Past next to → length mid ≡ length out → WritingItems s B cells depth all start pos₀ judging out₀ keys rest next to mid
         unfolding emit emitAll
         writing-on h long =
             let v = was w h in

@@ -8,14 +8,14 @@ use Rattle.value.specs.Read.{plainItem}
 use Rattle.schema.specs.Table.{Shape, array}
 use Rattle.walks.specs.Shape.{shapeIn}
 use Rattle.flat.specs.Walk.{valueIn, told, Walked}
-use Rattle.flat.proofs.Turns.{described-own, lifted, Reading, reading-below, reading-deep, reading-end, reading-first, reading-on, reading-own, reading-stop, reading-sum}
+use Rattle.flat.proofs.Turns.{described-own, lifted, ReadingItems, reading-below, reading-deep, reading-end, reading-first, reading-on, reading-own, reading-stop, reading-sum}
 use Rattle.walks.proofs.Items.{elements-none, elements-some}
 use Rattle.flat.proofs.elements.read_elements.Statement.{statement}
 use Rattle.flat.proofs.elements.read_elements.Tie as tie
 
 abbrev Inv-loop : tie.InvT-loop
 Inv-loop s p sheet₀ ty elem n start depth row judging f left₀ here₀ below₀ sum₀ sheet left here below sum =
-    Reading (λ R. R elem ≡ shapeIn s elem) s p depth ty (array elem) start n start row judging sheet₀ (replicate left (plainItem elem)) here sum below sheet
+    ReadingItems (λ R. R elem ≡ shapeIn s elem) s p depth ty (array elem) start n start row judging sheet₀ (replicate left (plainItem elem)) here sum below sheet
 
 abbrev μ-loop : tie.MeasureT-loop
 μ-loop s p sheet₀ ty elem n start depth row judging f left₀ here₀ below₀ sum₀ sheet left here below sum = left

@@ -7,13 +7,13 @@ use Rattle.schema.specs.Table.{array}
 use Rattle.value.specs.Read.{plainItem}
 use Rattle.walks.specs.Shape.{shapeIn}
 use Rattle.flat.proofs.Steps.{span-in, span-put, IsLeaf, is-leaf, leaf-asked, leaf-stop, leaf-past}
-use Rattle.flat.proofs.Turns.{Any, Reading, reading-deep, reading-end, reading-first, reading-on, reading-own, reading-ready, reading-stop}
+use Rattle.flat.proofs.Turns.{Any, ReadingItems, reading-deep, reading-end, reading-first, reading-on, reading-own, reading-ready, reading-stop}
 use Rattle.walks.proofs.Items.{elements-none, elements-some}
 use Rattle.flat.proofs.elements.read_leaves.Statement.{statement}
 use Rattle.flat.proofs.elements.read_leaves.Tie as tie
 
 abbrev Inv-loop : tie.InvT-loop
-Inv-loop s p sheet₀ ty elem n start depth row judging kind left₀ here₀ below₀ sheet left here below = Reading Any s p depth ty (array elem) start n start row judging sheet₀ (replicate left (plainItem elem)) here 0 below sheet
+Inv-loop s p sheet₀ ty elem n start depth row judging kind left₀ here₀ below₀ sheet left here below = ReadingItems Any s p depth ty (array elem) start n start row judging sheet₀ (replicate left (plainItem elem)) here 0 below sheet
 
 abbrev μ-loop : tie.MeasureT-loop
 μ-loop s p sheet₀ ty elem n start depth row judging kind left₀ here₀ below₀ sheet left here below = left

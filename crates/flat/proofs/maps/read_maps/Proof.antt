@@ -6,14 +6,14 @@ use lib.ListN.{length, replicate}
 use Rattle.schema.specs.Table.{array}
 use Rattle.value.specs.Read.{plainItem}
 use Rattle.walks.specs.Shape.{shapeIn}
-use Rattle.flat.proofs.Turns.{Reading, reading-end, reading-first, reading-on, reading-own, reading-ready, reading-stop, reading-sum}
+use Rattle.flat.proofs.Turns.{ReadingItems, reading-end, reading-first, reading-on, reading-own, reading-ready, reading-stop, reading-sum}
 use Rattle.walks.proofs.Items.{elements-none, elements-some}
 use Rattle.flat.proofs.maps.read_maps.Statement.{statement}
 use Rattle.flat.proofs.maps.read_maps.Tie as tie
 
 abbrev Inv-loop : tie.InvT-loop
 Inv-loop s p sheet₀ ty elem key val n start depth row judging keys₀ left₀ here₀ below₀ sum₀ sheet keys left here below sum =
-    Reading (λ R. R elem ≡ shapeIn s elem) s p depth ty (array elem) start n start row judging sheet₀ (replicate left (plainItem elem)) here sum below sheet × (length keys ≡ 136)
+    ReadingItems (λ R. R elem ≡ shapeIn s elem) s p depth ty (array elem) start n start row judging sheet₀ (replicate left (plainItem elem)) here sum below sheet × (length keys ≡ 136)
 
 abbrev μ-loop : tie.MeasureT-loop
 μ-loop s p sheet₀ ty elem key val n start depth row judging keys₀ left₀ here₀ below₀ sum₀ sheet keys left here below sum = left

@@ -18,7 +18,7 @@ use Rattle.flat.specs.Walk.{told, valueIn, Walked, Valued}
 use Rattle.flat.proofs.Steps.{was, as-refused, parse-refused, parse-deep, span-in, span-put}
 use Rattle.flat.proofs.Composites.{own-comparisons, few-pairs}
 use Rattle.flat.proofs.Pairs.{Along, Midway, along-first, along-own, along-sum, along-end, along-deep, key-asked, key-room, key-failed, key-past, value-below, value-failed, value-sum, along-turn}
-use Rattle.flat.proofs.Turns.{flat-leaf, leaf-shown, Reading, reading-below, reading-deep, reading-end, reading-first, reading-on, reading-own, reading-stop, reading-sum}
+use Rattle.flat.proofs.Turns.{flat-leaf, leaf-shown, ReadingItems, reading-below, reading-deep, reading-end, reading-first, reading-on, reading-own, reading-stop, reading-sum}
 use Rattle.walks.proofs.Items.{elements-none, elements-some}
 use Rattle.walks.specs.Shape.{shapeIn}
 use Rattle.walks.proofs.Tables.{few-fields, array-row, shape-array, shape-past}
@@ -114,7 +114,7 @@ read-struct-member = record { n = 4; ps = read-struct.Kinds.ps; μ = λ κs a. 8
 
 abbrev read-composites-Inv-loop : read-composites-lts.InvT-loop
 read-composites-Inv-loop shown s p sheet₀ ty elem n start depth row judging t left₀ here₀ below₀ sum₀ sheet left here below sum =
-    Reading (By shown s) s p depth ty (array elem) start n start row judging sheet₀ (replicate left (plainItem elem)) here sum below sheet
+    ReadingItems (By shown s) s p depth ty (array elem) start n start row judging sheet₀ (replicate left (plainItem elem)) here sum below sheet
 
 abbrev read-composites-μ-loop : read-composites-lts.MeasureT-loop
 read-composites-μ-loop shown s p sheet₀ ty elem n start depth row judging t left₀ here₀ below₀ sum₀ sheet left here below sum = left

@@ -2,7 +2,7 @@
 use mathlib.Core.Path.{ap, _∙_}
 use Prim.Native.Nat.{ℕ, _+_, _/_, _%_, _^_}
 use borrow.Author.Needs.{needs}
-use Rattle.schema.specs.Flags.{mixed, flagOf}
+use Rattle.table.specs.Flags.{mixed, flagOf}
 use Rattle.table.proofs.checking.flag_of.Statement.{statement}
 use Rattle.table.proofs.checking.flag_of.Tie as tie
 

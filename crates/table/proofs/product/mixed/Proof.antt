@@ -3,7 +3,7 @@ use mathlib.Core.Path.{ap, _∙_}
 use Prim.Native.Nat.{ℕ, _*_, _/_, _%_, _^_}
 use borrow.Author.Needs.{needs}
 use lib.Bits.{bitXor}
-use Rattle.schema.specs.Flags.{mixed}
+use Rattle.table.specs.Flags.{mixed}
 use Rattle.table.proofs.product.mixed.Statement.{statement}
 use Rattle.table.proofs.product.mixed.Tie as tie
 

@@ -27,7 +27,7 @@ use Rattle.writer.proofs.Leaves.{due-in}
 use Rattle.writer.proofs.Heads.{HeadRow, head-row, head-fits}
 use Rattle.writer.proofs.Composites.{leaf-failed, leaf-in, leaf-past, row-absent, came-by}
 use Rattle.writer.proofs.Composites.{PartsRow, parts-start, parts-accepted, array-found, map-many, map-found, struct-fault, struct-found, struct-start}
-use Rattle.writer.proofs.Composites.{Writing, writing-first, writing-small, writing-known, writing-done, writing-ready, writing-stop, writing-on, structs-held, one-accepted, one-end}
+use Rattle.writer.proofs.Composites.{WritingItems, writing-first, writing-small, writing-known, writing-done, writing-ready, writing-stop, writing-on, structs-held, one-accepted, one-end}
 use Rattle.writer.proofs.Keys.{AfterKey, after-key, key-was, pair-first, pair-accepted, pair-stop, pair-past}
 use Rattle.walks.proofs.Cycles.{Member, at-measure, below-measure}
 use Rattle.writer.proofs.walk
@@ -238,28 +238,28 @@ write-structs-calls t = (
 
 abbrev write-elements-Inv-loop : write-elements-lts.InvT-loop
 write-elements-Inv-loop s sheet source out₀ ty n start pos depth judging t kind left₀ here₀ to₀ out left here to =
-    Writing s source sheet depth (replicate n (plainItem ty)) start pos judging out₀ [] (replicate left (plainItem ty)) here to out
+    WritingItems s source sheet depth (replicate n (plainItem ty)) start pos judging out₀ [] (replicate left (plainItem ty)) here to out
 
 abbrev write-elements-μ-loop : write-elements-lts.MeasureT-loop
 write-elements-μ-loop s sheet source out₀ ty n start pos depth judging t kind left₀ here₀ to₀ out left here to = left
 
 abbrev write-fields-Inv-loop : write-fields-lts.InvT-loop
 write-fields-Inv-loop s sheet source out₀ first n known start pos depth judging l i₀ bits₀ here₀ to₀ out i bits here to =
-    Writing s source sheet depth (present (fieldsFrom (tableOf s) first n) known) start pos judging out₀ [] (bitsLeft (tableOf s) first n i bits) here to out × Standing first n i bits
+    WritingItems s source sheet depth (present (fieldsFrom (tableOf s) first n) known) start pos judging out₀ [] (bitsLeft (tableOf s) first n i bits) here to out × Standing first n i bits
 
 abbrev write-fields-μ-loop : write-fields-lts.MeasureT-loop
 write-fields-μ-loop s sheet source out₀ first n known start pos depth judging l i₀ bits₀ here₀ to₀ out i bits here to = bits
 
 abbrev write-structs-Inv-loop : write-structs-lts.InvT-loop
 write-structs-Inv-loop s sheet source out₀ ty first n count start pos depth judging required left₀ here₀ to₀ out left here to =
-    Writing s source sheet (suc depth) (replicate count (plainItem ty)) start pos judging out₀ [] (replicate left (plainItem ty)) here to out
+    WritingItems s source sheet (suc depth) (replicate count (plainItem ty)) start pos judging out₀ [] (replicate left (plainItem ty)) here to out
 
 abbrev write-structs-μ-loop : write-structs-lts.MeasureT-loop
 write-structs-μ-loop s sheet source out₀ ty first n count start pos depth judging required left₀ here₀ to₀ out left here to = left
 
 abbrev write-pairs-Inv-loop : write-pairs-lts.InvT-loop
 write-pairs-Inv-loop s sheet source out₀ keys₀ t n start pos depth judging k v i₀ at₀ to₀ out keys i at to =
-    Writing s source sheet depth (pairs n (t .a) (t .b)) start pos judging out₀ (keysIn source keys i) (pairs (n - i) (t .a) (t .b)) at to out
+    WritingItems s source sheet depth (pairs n (t .a) (t .b)) start pos judging out₀ (keysIn source keys i) (pairs (n - i) (t .a) (t .b)) at to out
     × (i ≤ n) × (length keys ≡ length keys₀) × Kept source keys judging i
 
 abbrev write-pairs-μ-loop : write-pairs-lts.MeasureT-loop

@@ -7,13 +7,13 @@ use lib.ListN.{replicate}
 use Rattle.value.specs.Read.{plainItem}
 use Rattle.walks.proofs.Items.{elements-none, elements-some}
 use Rattle.writer.proofs.Steps.{shown-refused, show-deep}
-use Rattle.writer.proofs.Composites.{Writing, writing-first, writing-done, writing-ready, writing-stop, writing-on}
+use Rattle.writer.proofs.Composites.{WritingItems, writing-first, writing-done, writing-ready, writing-stop, writing-on}
 use Rattle.writer.proofs.walk.write_leaves.Statement.{statement}
 use Rattle.writer.proofs.walk.write_leaves.Tie as tie
 
 abbrev Inv-loop : tie.InvT-loop
 Inv-loop s sheet source out₀ kind elem n start pos depth judging left₀ here₀ to₀ out left here to =
-    Writing s source sheet depth (replicate n (plainItem elem)) start pos judging out₀ [] (replicate left (plainItem elem)) here to out
+    WritingItems s source sheet depth (replicate n (plainItem elem)) start pos judging out₀ [] (replicate left (plainItem elem)) here to out
 
 abbrev μ-loop : tie.MeasureT-loop
 μ-loop s sheet source out₀ kind elem n start pos depth judging left₀ here₀ to₀ out left here to = left

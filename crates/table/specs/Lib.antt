@@ -1,0 +1,2 @@
+-- The flags by which equal entries are found.
+pub mod Flags
