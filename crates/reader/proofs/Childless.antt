@@ -15,8 +15,6 @@ use Rattle.walks.specs.Shape.{leafShape, shapeIn}
 use Rattle.walks.proofs.Tables.{shape-leaf, shape-map}
 use Rattle.flat.specs.declared.leaf.Span.{Span}
 use Rattle.flat.specs.declared.leaf.Span.the-variants.{At, Refused as SpanRefused}
-use Rattle.flat.specs.declared.Walk.{Walk}
-use Rattle.flat.specs.declared.Walk.the-variants.{Past, Refused}
 use Rattle.flat.specs.Leaf.{Uncounted, Spanned}
 use Rattle.flat.specs.Sheet.{putRow}
 use Rattle.flat.specs.Walk.{firstFields, valueIn, Valued, Ready}
@@ -24,7 +22,7 @@ use Rattle.flat.proofs.Steps.{own-accepted, spanRow, is-leaf, leaf-stop, leaf-p
 use Rattle.flat.proofs.Composites.{map-none}
 use Rattle.flat.proofs.Turns.{leaf-shown}
 use Rattle.reader.proofs.Calls.{map-shown}
-use Rattle.reader.specs.Childless.{IsChildless, ChildlessReady, ChildlessRead}
+use Rattle.reader.specs.Childless.{IsChildless, ChildlessReady, ChildlessRead, walkOfSpan}
 
 -- ---- as it is read
 
@@ -37,7 +35,7 @@ module _ {p : List ℕ} {t : TypeRow} {at row : ℕ} {judging : Bool} (q : Child
     pub none-put : (at < length p) × (row ≤ 16384) × (at + 1 ≤ 16384)
     none-put = let w = none .1 .within .1 in omega (arith, w, q .small, q .behind)
 
-    pub none-read : {ty : ℕ} {l m : List ℕ} → m ≡ putRow l row (record { ty = ty; place = at + 1; length = 0; count = 0 }) → ChildlessRead p ty t at row l (Past 0 (at + 1) (row + 1)) m
+    pub none-read : {ty : ℕ} {l m : List ℕ} → m ≡ putRow l row (record { ty = ty; place = at + 1; length = 0; count = 0 }) → ChildlessRead p ty t at row l (At (at + 1) (at + 1)) m
     none-read {ty} {l} {m} put =
         record {
           told = λ s depth is R shown.
@@ -54,10 +52,10 @@ module _ {p : List ℕ} {t : TypeRow} {at row : ℕ} {judging : Bool} (q : Child
     childless-asked = (q .small, q .inside, q .some, leaf, λ j. q .judged j leaf)
 
     module _ {r : Span} (read : Spanned p at (own (leafShape (t .kind)) (cursorAt p at)) r) {ty : ℕ} {l m : List ℕ} where
-      pub childless-stop : {number place : ℕ} → r ≡ SpanRefused place number → ChildlessRead p ty t at row l (Refused number place) m
+      pub childless-stop : {number place : ℕ} → r ≡ SpanRefused place number → ChildlessRead p ty t at row l (SpanRefused place number) m
       childless-stop e = record { told = λ s depth is R shown. leaf-stop (is-leaf is (q .some) leaf) (λ z. absurd (omega arith)) read e R }
 
-      pub childless-past : {from to : ℕ} → r ≡ At from to → m ≡ putRow l row (spanRow ty from to) → ChildlessRead p ty t at row l (Past 0 to (row + 1)) m
+      pub childless-past : {from to : ℕ} → r ≡ At from to → m ≡ putRow l row (spanRow ty from to) → ChildlessRead p ty t at row l (At from to) m
       childless-past e put = record { told = λ s depth is R shown. leaf-past (is-leaf is (q .some) leaf) (λ z. absurd (omega arith)) read e (q .behind) put R }
 
 -- ---- as the walk over pairs asks for it, and takes its answer
@@ -80,5 +78,5 @@ module _ (s : List ℕ) (depth ty : ℕ) {p : List ℕ} {at : ℕ} {t : TypeRow}
       ⊎-elim (λ leaf. leaf-shown s 0 ty t is (rw is some) leaf known)
       (λ x. map-shown known s ty t is (x .0)) plain
 
-  pub childless-valued : (known : List ℕ) {row : ℕ} {l : List ℕ} {r : Walk} {m : List ℕ} → ChildlessRead p ty t at row l r m → Valued known s p (suc depth) ty at row l r m
+  pub childless-valued : (known : List ℕ) {row : ℕ} {l : List ℕ} {r : Span} {m : List ℕ} → ChildlessRead p ty t at row l r m → Valued known s p (suc depth) ty at row l (walkOfSpan row r) m
   childless-valued known read = read .told s depth is (firstFields known (shapeIn s)) (childless-shown known)

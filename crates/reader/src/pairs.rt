@@ -1,4 +1,5 @@
-// What the walk over a map's pairs does outside the cycle: the next key, and values that no walker is called for. Each has one call site, and is inlined there.
+// What the walk over a map's pairs does outside the cycle: the next key, values that no walker is called for, and the refusal of what stands too deep.
+// Each has one call site, and is inlined there.
 use constants::kind;
 use constants::refusal;
 use flat::Walk;
@@ -16,6 +17,7 @@ ghost use Rattle.parse.specs.Reader.{cursorAt, Accepted};
 ghost use Rattle.value.specs.Read.{own};
 ghost use Rattle.walks.specs.Shape.{leafShape};
 ghost use Rattle.walks.specs.Keys.{Kept};
+ghost use Rattle.flat.specs.declared.Walk.the-variants.{Refused};
 ghost use Rattle.flat.specs.Flat.{KeyTaken};
 ghost use Rattle.reader.specs.Childless.{IsChildless, ChildlessReady, ChildlessRead};
 
@@ -69,27 +71,32 @@ pub fn read_childless(
     at: usize,
     row: usize,
     judging: bool,
-) -> Walk
+) -> Span
     requires { ⌜ ChildlessReady (now p) t at row judging ⌝ }
     ensures { λ r. ⌜ ChildlessRead (now (p .entry)) ty t at row (now (sheet .entry)) r (now (sheet .exit)) ⌝ }
 {
     if kind::BYTES < t.kind {
         put_row(sheet, row, ty, at + 1, 0, 0);
-        return Walk::Past {
-            due: 0,
-            next: at + 1,
-            row: row + 1,
+        return Span::At {
+            from: at + 1,
+            to: at + 1,
         };
     }
     match content(p, t.kind as usize, at, judging) {
-        Span::Refused { number, place } => Walk::Refused { number, place },
+        Span::Refused { number, place } => Span::Refused { number, place },
         Span::At { from, to } => {
             put_row(sheet, row, ty, from, to - from, 0);
-            Walk::Past {
-                due: 0,
-                next: to,
-                row: row + 1,
-            }
+            Span::At { from, to }
         }
+    }
+}
+
+// The refusal of a value that would stand at depth 17.
+pub fn too_deep(place: usize) -> Walk
+    ensures { λ r. ⌜ r ≡ Refused 28 place ⌝ }
+{
+    Walk::Refused {
+        number: refusal::TOO_DEEP,
+        place,
     }
 }

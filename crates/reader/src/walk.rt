@@ -3,6 +3,7 @@
 use crate::pairs::needs_walker;
 use crate::pairs::read_childless;
 use crate::pairs::read_key;
+use crate::pairs::too_deep;
 use constants::kind;
 use constants::limit;
 use constants::refusal;
@@ -322,28 +323,28 @@ fn read_pairs(
     let mut sum: u32 = 0;
     while i < n {
         if depth == 0 {
-            return Walk::Refused {
-                number: refusal::TOO_DEEP,
-                place: here,
-            };
+            return too_deep(here);
         }
         match read_key(p, sheet, keys, key, k, i, here, below, judging) {
             Span::Refused { number, place } => return Walk::Refused { number, place },
             Span::At { from: _, to } => here = to,
         }
         below = below + 1;
-        let read = if needs_walker(p, v, here) {
-            read_composite(shown, s, p, sheet, val, v, here, depth - 1, below, judging)
-        } else {
-            read_childless(p, sheet, val, v, here, below, judging)
-        };
-        match read {
-            Walk::Refused { number, place } => return Walk::Refused { number, place },
-            Walk::Past { due, next, row } => {
-                here = next;
-                below = row;
-                sum = sum + due;
+        if needs_walker(p, v, here) {
+            match read_composite(shown, s, p, sheet, val, v, here, depth - 1, below, judging) {
+                Walk::Refused { number, place } => return Walk::Refused { number, place },
+                Walk::Past { due, next, row } => {
+                    here = next;
+                    below = row;
+                    sum = sum + due;
+                }
             }
+        } else {
+            match read_childless(p, sheet, val, v, here, below, judging) {
+                Span::Refused { number, place } => return Walk::Refused { number, place },
+                Span::At { from: _, to } => here = to,
+            }
+            below = below + 1;
         }
         i = i + 1;
     }

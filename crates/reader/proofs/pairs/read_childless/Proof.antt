@@ -36,8 +36,6 @@ read-childless-spec =
     (λ c κs.
     let pre = c .before .before .before .before .before .before .before .before .before .before .pre in
     span-put (c .before .before .before .before .content .ensures) (c .before .before .from .given .1) (pre .small) (omega (arith, pre .small, pre .inside, pre .behind)))
-    -- add-t24
-    (λ c. let pre = c .before .before .before .before .before .before .before .before .before .before .before .before .before .pre in omega (arith, pre .small, pre .inside, pre .behind))
     -- returns-2
     (λ c. let read = c .before .before .before in childless-stop (read .before .before .before .before .before .before .pre) (read .before .before .if1 .left) (read .content .ensures) (c .before .place .given .1))
     -- same-length-2

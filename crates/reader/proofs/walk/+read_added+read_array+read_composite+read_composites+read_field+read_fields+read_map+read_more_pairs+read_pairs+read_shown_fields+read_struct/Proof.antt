@@ -13,7 +13,7 @@ use Rattle.schema.specs.Check.{fieldRow}
 use Rattle.schema.proofs.Checks.{good-shaped, good-laid}
 use Rattle.value.specs.Read.{pairs, plainItem}
 use Rattle.flat.specs.Leaf.{between}
-use Rattle.flat.specs.declared.Walk.{Walk}
+use Rattle.flat.specs.declared.leaf.Span.{Span}
 use Rattle.flat.specs.Walk.{told, valueIn, Walked, Valued}
 use Rattle.flat.proofs.Steps.{was, as-refused, parse-refused, parse-deep, span-in, span-put}
 use Rattle.flat.proofs.Composites.{own-comparisons, few-pairs}
@@ -26,7 +26,7 @@ use Rattle.reader.proofs.Calls.{Entered, array-stop, array-few, array-e
 use Rattle.reader.proofs.Calls.{By, pairs-ready, value-told}
 use Rattle.reader.proofs.Calls.{field-below, field-told}
 use Rattle.reader.proofs.Childless.{childless-asked, childless-stop, childless-past, childless-ready, childless-valued}
-use Rattle.reader.specs.Childless.{ChildlessReady, ChildlessRead}
+use Rattle.reader.specs.Childless.{ChildlessReady, ChildlessRead, walkOfSpan}
 use Rattle.walks.proofs.Cycles.{Member, at-measure, below-measure}
 use Rattle.reader.proofs.walk
 use walk.read_added as read-added
@@ -56,6 +56,7 @@ use Rattle.flat.proofs.sheet.put_row.Reads as put-row-reads
 use Rattle.reader.proofs.pairs.needs_walker.Reads as needs-walker-reads
 use Rattle.reader.proofs.pairs.read_key.Reads as read-key-reads
 use Rattle.reader.proofs.pairs.read_childless.Reads as read-childless-reads
+use Rattle.reader.proofs.pairs.too_deep.Reads as too-deep-reads
 use Rattle.table.proofs.access.known_row.Reads as known-row-reads
 use Rattle.table.proofs.access.type_row.Reads as type-row-reads
 use Rattle.table.proofs.file.layout_of.Reads as layout-of-reads
@@ -427,10 +428,10 @@ leaf-ready t c =
     childless-ready (args .s .now) (args .depth - 1) (field .result .ty) (c .before .before .known-row .ensures) (rw (field .ensures) (start .pre .1 .2)) (inl (omega (arith, c .if2 .left)))
     (field-below (args .s .now) (args .depth) (args .at) (field .ensures) (c .before .before .before .before .if1 .left) (start .pre .1 .0))
 
-leaf-told : (t : ℕ) (c : Leaf t) {l : List ℕ} {r : Walk} {m : List ℕ} →
+leaf-told : (t : ℕ) (c : Leaf t) {l : List ℕ} {r : Span} {m : List ℕ} →
     let args = c .before .before .before .before .before .before .before .before .args in
     ChildlessRead (args .p .now) (c .before .before .before .field-row .result .ty) (c .before .before .known-row .result) (args .at) (args .row) l r m
-    → Valued (args .shown .now) (args .s .now) (args .p .now) (args .depth) (fieldRow (tableOf (args .s .now)) (args .i) .ty) (args .at) (args .row) l r m
+    → Valued (args .shown .now) (args .s .now) (args .p .now) (args .depth) (fieldRow (tableOf (args .s .now)) (args .i) .ty) (args .at) (args .row) l (walkOfSpan (args .row) r) m
 leaf-told t c read =
     let start = c .before .before .before .before .before .before .before .before in
     let args = start .args in
@@ -666,6 +667,8 @@ abbrev read-pairs-calls : ℕ → read-pairs-lts.Claims
 read-pairs-calls t = (
   known-row-reads.Asked,
   known-row-reads.Learnt,
+  too-deep-reads.Asked,
+  too-deep-reads.Learnt,
   read-key-reads.Asked,
   read-key-reads.Learnt,
   needs-walker-reads.Asked,
@@ -678,12 +681,15 @@ read-pairs-calls t = (
   put-row-reads.Learnt,
 )
 
--- After a pair's key, and where the two ways to read its value meet.
+-- After a pair's key, and after its value by either way to read it.
 abbrev Keyed : ℕ → Type 0
 Keyed t = read-pairs-lts.After-known-told2 (read-pairs-calls t) (at-measure read-pairs-member t) read-pairs.Reads.Post read-pairs-Inv-loop read-pairs-μ-loop
 
-abbrev Valuing : ℕ → Type 0
-Valuing t = read-pairs-lts.Joined2 (read-pairs-calls t) (at-measure read-pairs-member t) read-pairs.Reads.Post read-pairs-Inv-loop read-pairs-μ-loop
+abbrev Walker : ℕ → Type 0
+Walker t = read-pairs-lts.After-read-composite (read-pairs-calls t) (at-measure read-pairs-member t) read-pairs.Reads.Post read-pairs-Inv-loop read-pairs-μ-loop
+
+abbrev Childless : ℕ → Type 0
+Childless t = read-pairs-lts.After-read-childless (read-pairs-calls t) (at-measure read-pairs-member t) read-pairs.Reads.Post read-pairs-Inv-loop read-pairs-μ-loop
 
 keyed : (t : ℕ) (c : Keyed t) →
     let args = c .before .before .before .before .before .before .before .before .before .before .before .before .before .before .before .before .before .before .before .args in
@@ -697,25 +703,35 @@ keyed t c =
     let loop = test .before .before in
     key-past (loop .loop .inv .0) (test .before .loop-test .taken) (test .if1 .left) (loop .before .before .known-row .ensures) (key .read-key .ensures) (c .before .to .given .1)
 
-valuing : (t : ℕ) (c : Valuing t) →
-    let key = c .before .before in
+walked : (t : ℕ) (c : Walker t) →
+    let key = c .before .before .before .before in
     let args = key .before .before .before .before .before .before .before .before .before .before .before .before .before .before .before .before .before .before .before .args in
     let loop = key .before .before .before .before .before .before .before .before .before .before .before .before .loop in
     let to = key .before .to .given .0 .1 .0 in
     (R : ℕ → Shape) → By (args .shown .now) (args .s .now) R
     → Walked (args .p .now) (to + 1) (told R (shapeIn (args .s .now)) (args .val)) (valueIn (args .s .now) (args .p .now) (args .depth) (args .val) to) (loop .below + 1)
-    (key .before .before .before .before .before .before .before .read-key .last .1 .0) (c .if2 .read) (c .if2 .sheet)
-valuing t c =
-    let key = c .before .before in
+    (key .before .before .before .before .before .before .before .read-key .last .1 .0) (c .read-composite .result) (c .read-composite .last .1 .1 .1 .0)
+walked t c =
+    let key = c .before .before .before .before in
+    let args = key .before .before .before .before .before .before .before .before .before .before .before .before .before .before .before .before .before .before .before .args in
+    value-told (args .shown .now) (args .s .now) (args .depth) (args .val) _ (key .before .before .before .before .before .before .before .before .before .before .if1 .left) (c .read-composite .ensures) refl refl
+
+childless : (t : ℕ) (c : Childless t) →
+    let key = c .before .before .before .before in
+    let args = key .before .before .before .before .before .before .before .before .before .before .before .before .before .before .before .before .before .before .before .args in
+    let loop = key .before .before .before .before .before .before .before .before .before .before .before .before .loop in
+    let to = key .before .to .given .0 .1 .0 in
+    (R : ℕ → Shape) → By (args .shown .now) (args .s .now) R
+    → Walked (args .p .now) (to + 1) (told R (shapeIn (args .s .now)) (args .val)) (valueIn (args .s .now) (args .p .now) (args .depth) (args .val) to) (loop .below + 1)
+    (key .before .before .before .before .before .before .before .read-key .last .1 .0) (walkOfSpan (loop .below + 1) (c .read-childless .result)) (c .read-childless .last .1 .0)
+childless t c =
+    let key = c .before .before .before .before in
     let start = key .before .before .before .before .before .before .before .before .before .before .before .before .before .before .before .before .before .before .before in
     let args = start .args in
     let v = key .before .before .before .before .before .before .before .before .before .before .before .before .before .known-row2 .ensures in
-    let d0 = key .before .before .before .before .before .before .before .before .before .before .if1 .left in
-    ⊎-elim (λ w. value-told (args .shown .now) (args .s .now) (args .depth) (args .val) _ d0 (w .2 .ensures) (w .5) (w .6))
-    (λ w.
-    let read = childless-valued (args .s .now) (args .depth - 1) (args .val) v (start .pre .1 .1 .0 .2) (c .before .needs-walker .ensures .1 (w .0 .left)) (args .shown .now) (w .2 .ensures) in
-    value-told (args .shown .now) (args .s .now) (args .depth) (args .val) _ d0 read (w .5) (w .6))
-    (c .if2 .came)
+    let plain = c .before .before .before .needs-walker .ensures .1 (c .before .before .if2 .left) in
+    let read = childless-valued (args .s .now) (args .depth - 1) (args .val) v (start .pre .1 .1 .0 .2) plain (args .shown .now) (c .read-childless .ensures) in
+    value-told (args .shown .now) (args .s .now) (args .depth) (args .val) _ (key .before .before .before .before .before .before .before .before .before .before .if1 .left) read refl refl
 
 read-pairs-spec : {M : Type 1} (t : ℕ) → read-pairs-lts.Closed (read-pairs-calls t) (at-measure read-pairs-member t) read-pairs.Reads.Post M
 read-pairs-spec t =
@@ -730,12 +746,14 @@ read-pairs-spec t =
     (λ c. let ready = c .before .before .before .before .before .before .pre .1 .0 in omega (arith, ready .small, ready .inside, ready .behind))
     -- loop-holds
     (λ c. (along-first (pairs-ready (c .before .before .before .before .before .before .pre .1)) _ refl _ _, refl))
+    -- too-deep-requires
+    (λ c κs. search needs)
     -- same-length
-    (λ c. c .before .before .loop .inv .0 .long)
+    (λ c. c .before .before .before .loop .inv .0 .long)
     -- same-length-2
-    (λ c. c .before .before .loop .inv .1)
+    (λ c. c .before .before .before .loop .inv .1)
     -- returns
-    (λ c. let loop = c .before .before in along-deep (loop .loop .inv .0) (c .before .loop-test .taken) (c .if1 .taken) _ refl)
+    (λ c. rw (c .too-deep .ensures) (along-deep (c .before .before .before .loop .inv .0) (c .before .before .loop-test .taken) (c .before .if1 .taken) _ refl))
     -- read-key-requires
     (λ c κs.
     let loop = c .before .before .before .before in
@@ -771,6 +789,18 @@ read-pairs-spec t =
     let v = key .before .before .before .before .before .before .before .before .before .before .before .before .before .known-row2 .ensures in
     let d0 = key .before .before .before .before .before .before .before .before .before .before .if1 .left in
     (omega (arith, start .pre .0, d0), (value-below (keyed t key) d0, v, c .before .before .needs-walker .ensures .0 (c .before .if2 .taken))))
+    -- enum-known-number
+    (λ c. search needs)
+    -- same-length-5
+    (λ c. let read = c .before .before .before .before .before in read .read-composite .kept .1 .1 .1 .0 ∙ keyed t (read .before .before .before .before) .long)
+    -- same-length-6
+    (λ c. let key = c .before .before .before .before .before .before .before .before .before .before .before .before .before .before .before .before in key .read-key .kept .1 .1 .0 ∙ key .before .before .before .before .before .loop .inv .1)
+    -- returns-3
+    (λ c. let read = c .before .before .before .before .before in value-failed (keyed t (read .before .before .before .before)) (walked t read) (c .before .number .given .1) _ refl)
+    -- enum-known-due
+    (λ c. search needs)
+    -- add-sum
+    (λ c. let read = c .before .before .before .before .before in omega (arith, value-sum (keyed t (read .before .before .before .before)) (walked t read) (c .before .due .given .1)))
     -- read-childless-requires
     (λ c κs.
     let key = c .before .before .before in
@@ -779,57 +809,60 @@ read-pairs-spec t =
     let v = key .before .before .before .before .before .before .before .before .before .before .before .before .before .known-row2 .ensures in
     let plain = c .before .before .needs-walker .ensures .1 (c .before .if2 .left) in
     childless-ready (args .s .now) (args .depth - 1) (args .val) v (start .pre .1 .1 .0 .2) plain (value-below (keyed t key) (key .before .before .before .before .before .before .before .before .before .before .if1 .left)))
-    -- enum-known-read
+    -- enum-known-place-2
     (λ c. search needs)
-    -- same-length-5
+    -- same-length-7
+    (λ c. let read = c .before .before .before .before .before in read .read-childless .kept .1 .0 ∙ keyed t (read .before .before .before .before) .long)
+    -- same-length-8
+    (λ c. let key = c .before .before .before .before .before .before .before .before .before .before .before .before .before .before .before .before in key .read-key .kept .1 .1 .0 ∙ key .before .before .before .before .before .loop .inv .1)
+    -- returns-4
     (λ c.
-    let joined = c .before .before .before in
-    let key = joined .before .before in
-    let same : length (joined .if2 .sheet) ≡ length (key .before .before .before .before .before .before .before .read-key .last .1 .0) =
-    ⊎-elim (λ w. ap length (w .5) ∙ w .2 .kept .1 .1 .1 .0) (λ w. ap length (w .5) ∙ w .2 .kept .1 .0) (joined .if2 .came) in
-    same ∙ keyed t key .long)
-    -- same-length-6
-    (λ c. let key = c .before .before .before .before .before .before .before .before .before .before .before .before in key .read-key .kept .1 .1 .0 ∙ key .before .before .before .before .before .loop .inv .1)
-    -- returns-3
-    (λ c.
-    let key = c .before .before .before .before .before in
-    value-failed (keyed t key) (valuing t (c .before .before .before)) (c .before .read .given .1) _ refl)
-    -- enum-known-read-2
+    let read = c .before .before .before .before .before in
+    value-failed (keyed t (read .before .before .before .before)) (childless t read) (ap (walkOfSpan _) (c .before .place2 .given .1)) _ refl)
+    -- enum-known-to-2
     (λ c. search needs)
-    -- add-sum
-    (λ c.
-    let key = c .before .before .before .before .before in
-    omega (arith, value-sum (keyed t key) (valuing t (c .before .before .before)) (c .before .read2 .given .1)))
+    -- add-below-3
+    (λ c. let ready = keyed t (c .before .before .before .before .before .before .before .before .before) .ready in omega (arith, ready .small, ready .inside, ready .behind))
     -- add-i
-    (λ c. let test = c .before .before .before .before .before .before .before .before .before .before .before .before .before .before .before .before in omega (arith, test .loop-test .taken, test .before .loop .inv .0 .asked .most))
+    (λ c. let test = c .before .before .before .before .before .before .before .before .before .before .before .before .before in omega (arith, test .loop-test .taken, test .before .loop .inv .0 .asked .most))
     -- loop-less
-    (λ c. omega (arith, c .before .before .before .before .before .before .before .before .before .before .before .before .before .before .before .before .loop-test .taken))
+    (λ c. omega (arith, c .before .before .before .before .before .before .before .before .before .before .before .before .before .loop-test .taken))
     -- loop-again
     (λ c.
-    let key = c .before .before .before .before .before in
-    let kept = key .before .before .before .before .before .before .before .read-key .kept .1 .1 .0 in
-    (along-turn (keyed t key) (valuing t (c .before .before .before)) (c .before .read2 .given .1), kept ∙ key .before .before .before .before .before .before .before .before .before .before .before .before .loop .inv .1))
+    let key = c .before .before in
+    let loop = key .before .before .before .before .before .before .before .before .before .before .before .before .loop in (
+      ⊎-elim
+          (λ w.
+          let read : Walker t = record { before = record { before = record { before = c .before; if2 = w .0 }; read-composite-arg = w .1 }; read-composite = w .2 } in
+          rw (w .8, w .9, w .10, w .11) (along-turn (keyed t key) (walked t read) (w .6 .given .1)))
+          (λ w.
+          let read : Childless t = record { before = record { before = record { before = c .before; if2 = w .0 }; read-childless-arg = w .1 }; read-childless = w .2 } in
+          let none : loop .sum ≡ loop .sum + 0 = omega arith in
+          rw (w .8, w .9, w .10, w .11 ∙ none) (along-turn (keyed t key) (childless t read) (ap (walkOfSpan _) (w .6 .given .1))))
+          (c .if2 .came),
+      key .before .before .before .before .before .before .before .read-key .kept .1 .1 .0 ∙ loop .inv .1,
+    ))
     -- sub-put-row
     (λ c. let loop = c .before .before in along-own (loop .loop .inv .0) .0)
     -- put-row-requires
     (λ c κs. let loop = c .before .before in let w = along-own (loop .loop .inv .0) in (w .1, w .2, w .3, w .4))
-    -- sub-t29
+    -- sub-t31
     (λ c. omega (arith, c .before .before .before .before .before .before .before .before .before .before .before .before .pre .1 .1 .0 .3))
-    -- mul-t46
+    -- mul-t49
     (λ c. let most = c .before .before .before .before .before .loop .inv .0 .asked .most in omega (arith, few-pairs _ most, most))
-    -- cast-t48
+    -- cast-t51
     (λ c. let most = c .before .before .before .before .before .loop .inv .0 .asked .most in omega (arith, few-pairs _ most, most))
-    -- add-t49
+    -- add-t52
     (λ c.
     let start = c .before .before .before .before .before .before .before .before .before .before .before .before in
     let a = c .before .before .before .before .before .loop .inv .0 in
     let w = along-sum a (omega (arith, c .before .before .before .before .loop-test .left)) in
     omega (arith, w, own-comparisons (start .args .n), a .inside, a .asked .ready .small))
-    -- same-length-7
+    -- same-length-9
     (λ c. c .before .before .put-row .kept .0 ∙ c .before .before .before .before .before .loop .inv .0 .long)
-    -- same-length-8
+    -- same-length-10
     (λ c. c .before .before .before .before .before .loop .inv .1)
-    -- returns-4
+    -- returns-5
     (λ c.
     let n = c .before .before .before .before .before .before .before .before .before .before .before .before .args .n in
     along-end (c .before .before .before .before .before .loop .inv .0) (omega (arith, c .before .before .before .before .loop-test .left)) (c .before .before .put-row .ensures) (omega (arith, own-comparisons n)) _ refl)
