@@ -1,4 +1,6 @@
 // Lent slices: bytes put and copied into them, and spans of them. The laws that every store's proof cites stand in proofs/.
+#![tactic(auto)]
+
 ghost use Rattle.std.specs.Prelude.{◌≡◌, [], ◌∷◌, ◌+◌, ◌≤◌, ◌<◌, length};
 ghost use Rattle.buffer.specs.Span.{span};
 ghost use Rattle.buffer.specs.Store.{put, written};

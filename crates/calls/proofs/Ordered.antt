@@ -295,6 +295,8 @@ module _ (T : Table) (g : GoodSchema T) (f : Frame) (b : Bool) where
       λ p. stays 10 (lit≤ tt) (lit≤ tt) (call m x h c w),
       λ p. nowhere 10 (lit≤ tt) (lit≤ tt) (since m x h),
     )
+    invoked closed (one c) r (At n) e = elim r [ ]
+    invoked (since m x h) none r (At n) e = elim r [ ]
 
   -- the others
   module _ (s : right ≡ true) (n : f.kind ≡ 1 → ⊥) where
@@ -403,6 +405,8 @@ module _ (T : Table) (g : GoodSchema T) (f : Frame) (b : Bool) where
     other closed none known nothing = (not_open s n, λ p. stays 11 (lit≤ tt) (lit≤ tt) nothing, λ p. nowhere 11 (lit≤ tt) (lit≤ tt) closed)
     other (since m x h) (one c) known (call _ _ _ _ w) =
         subst (λ (k : ℕ). VerdictFits (since m x h) (one c) (call_verdict (method_row T k) f c)) (sym w.method) (called m (rw w.method at known) x h c w)
+    other closed (one c) known r = elim r [ ]
+    other (since m x h) none known r = elim r [ ]
 
   every : (past : Past) (own : OwnCall) → Known T own → Reflects past own → VerdictFits past own (verdict_of T f own b)
   unfolding verdict_of
@@ -439,6 +443,8 @@ module _ (T : Table) (id : ℕ) where
       cond-case (Suits T id (since m b h) (one c)) c.cancelled (goes empty_call Unread) (stop 14)
       (λ t. (released m b h (sym w.is_cancelled ∙ t), released-one m b h c w, λ p n. (rw n, inr (ap At (sym w.method)))))
       (λ t. (not_cancelled m b h (sym w.is_cancelled ∙ t), λ p n. call m b h c w, λ p n. (refl, inl refl)))
+  release-suits closed (one c) r = elim r [ ]
+  release-suits (since m b h) none r = elim r [ ]
 
 -- ---- under good tables
 module _ (T : Table) (g : GoodSchema T) (l : List Call) (w : GoodCalls T l) where

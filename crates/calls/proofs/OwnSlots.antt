@@ -15,7 +15,7 @@ use Rattle.calls.specs.declared.Judged.{Judged}
 use Rattle.calls.specs.declared.OwnSlot.{OwnSlot}
 use Rattle.calls.specs.Record.{is_call, is_free}
 use Rattle.calls.specs.Slots.{first_slot, slot_of, OwnCall, own_of, full}
-use Rattle.calls.specs.Judge.{Verdict, verdict_of, release_verdict, placed, judge_of, judge_release}
+use Rattle.calls.specs.Judge.{verdict_of, release_verdict, placed, judge_of, judge_release}
 use Rattle.calls.specs.Counting.{rise_of, release_rise}
 use Rattle.calls.specs.Apart.{verdict, verdict_rise, verdict_release_rise}
 use Rattle.calls.specs.OwnSlots.{own_slot_of, judged_at}

@@ -1,10 +1,11 @@
 // The calls of a connection: the record of a call, what frames and releases do to it, and what these raise in a tally row. The definitions stand in specs/,
 // their laws in proofs/, and the code in the crate `connection`.
+#![tactic(auto)]
 
 use schema::Found;
 
 // The record of a call. A free slot is zero in every member.
-#[derive(Drop)]
+#[derive(Clone, Copy)]
 pub struct Call {
     pub correlation: u64,
     pub method: u32,
@@ -20,11 +21,11 @@ pub struct Call {
 }
 
 // A row of the draft's Table 1: whether the form allows IN_STREAM, IN_CLOSE, OUT_STREAM and OUT_CLOSE.
-#[derive(Drop)]
+#[derive(Clone, Copy)]
 pub struct FormRow(pub bool, pub bool, pub bool, pub bool);
 
 // What a step sees of a whole frame, and the side that it came from.
-#[derive(Drop)]
+#[derive(Clone, Copy)]
 pub struct Frame {
     pub side: u8,
     pub kind: u8,
@@ -35,7 +36,7 @@ pub struct Frame {
 }
 
 // What a frame's payload holds: a value of a struct type, nothing, or bytes that are not read.
-#[derive(Drop)]
+#[derive(Clone, Copy)]
 pub enum Payload {
     Struct(u32),
     Empty,
@@ -43,21 +44,21 @@ pub enum Payload {
 }
 
 // The record of a call, or none.
-#[derive(Drop)]
+#[derive(Clone, Copy)]
 pub enum OwnCall {
     None,
     One(Call),
 }
 
 // What a judgement sees of the call table: the record of its own call, and the slot that it changes, if there is one.
-#[derive(Drop)]
+#[derive(Clone, Copy)]
 pub struct OwnSlot {
     pub own: OwnCall,
     pub slot: Found,
 }
 
 // A frame judged before its payload is read; or a release, which reads nothing.
-#[derive(Drop)]
+#[derive(Clone, Copy)]
 pub enum Judged {
     // It is refused with this number.
     Refused(u32),
@@ -68,14 +69,14 @@ pub enum Judged {
 }
 
 // The record that an answer puts at a slot; there is no slot 128.
-#[derive(Drop)]
+#[derive(Clone, Copy)]
 pub struct Change {
     pub slot: usize,
     pub call: Call,
 }
 
 // A tally row (02's term): how many calls of a method were opened, and how many ended in each way.
-#[derive(Drop)]
+#[derive(Clone, Copy)]
 pub struct Tally {
     pub opened: u32,
     pub completed: u32,
@@ -85,7 +86,7 @@ pub struct Tally {
 }
 
 // A figure of a tally row, or none.
-#[derive(Drop)]
+#[derive(Clone, Copy)]
 pub enum Figure {
     Nothing,
     Opened,
@@ -96,7 +97,7 @@ pub enum Figure {
 }
 
 // What a judged frame or release raises: in the row of this method, once it is accepted, and where its payload is refused.
-#[derive(Drop)]
+#[derive(Clone, Copy)]
 pub struct Rise {
     pub row: usize,
     pub accepted: Figure,

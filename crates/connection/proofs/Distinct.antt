@@ -3,7 +3,7 @@
 use mathlib.Core.Path.{◌≡◌, refl, sym, ◌∙◌, ap, subst}
 use mathlib.Core.Bool.{Bool, true, false, not, ◌&&◌, ◌||◌}
 use mathlib.Core.List.{List, [], ◌∷◌}
-use Prim.Native.Nat.{ℕ, zero, suc, ◌-◌, ◌*◌, ◌/◌, ◌%◌, ◌^◌, ◌<◌, ◌≤◌}
+use Prim.Native.Nat.{ℕ, zero, suc, ◌-◌, ◌<◌, ◌≤◌}
 use native.Mathlib.Omega.{arith}
 use lib.ListN.{length, get_or, take, drop, set, length-set, length-drop, drop_of_length-le}
 use lib.Seq.{take_all, drop-nil, drop-cons, get_or-set_same}
@@ -102,7 +102,7 @@ module _ (l : List ℕ) (b : Bool) (seen : List Bool) (i : ℕ) (a : DistinctFro
       let w : flag_of_number b x < length seen = omega (arith, a.wide, flag-below b x) in
       record {
         differ = rw (before, sym again-contains ∙ t) a.differ;
-        seen_bits = rw (before, e) (get_or-set_same seen (flag_of_number b x) true false w, seen-kept b seen (flag_of_number b x) (drop i l) a.seen_bits);
+        seen_bits = rw before (subst (λ (j : ℕ). Seen b (set seen j true) (x ∷ drop i l)) (sym e) (get_or-set_same seen (flag_of_number b x) true false w, seen-kept b seen (flag_of_number b x) (drop i l) a.seen_bits));
         within = omega (arith, a.within);
         wide = length-set seen k true ∙ a.wide;
       }

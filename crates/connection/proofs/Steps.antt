@@ -15,7 +15,7 @@ use Rattle.calls.specs.declared.Judged.TheVariants.{Refused, Opens, Goes}
 use Rattle.calls.specs.declared.Change.{Change}
 use Rattle.calls.specs.Numbers.{ends_call}
 use Rattle.calls.specs.Record.{empty_call}
-use Rattle.calls.specs.Step.{slots_after, Changes}
+use Rattle.calls.specs.Step.{Changes}
 
 opens-stop : {A : Type 0} {i n : ℕ} {c : Call} {d : Payload} → Opens i c d ≡ Refused n → A
 opens-stop e = differ cc

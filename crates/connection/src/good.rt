@@ -56,7 +56,7 @@ const FLAGS: usize = 1024;
 const MOST_SEARCHES: usize = 16;
 
 // Whether no two of a slice are equal, unless the search was abandoned, since many flags were taken.
-#[derive(Drop)]
+#[derive(Clone, Copy)]
 struct Sought {
     abandoned: bool,
     distinct: bool,

@@ -1,4 +1,6 @@
 // The call table of a connection, by value: when it is good, its step on a judged frame and on a release, and what that raises in a tally row.
+#![tactic(auto)]
+
 pub mod call_record;
 pub mod forms;
 pub mod good;
@@ -11,13 +13,13 @@ pub mod tallies;
 use calls::Call;
 use constants::limit;
 
-#[derive(Drop)]
+#[derive(Clone, Copy)]
 pub struct CallTable {
     pub slots: [Call; limit::CALLS],
 }
 
 // The answer's number and the next table.
-#[derive(Drop)]
+#[derive(Clone, Copy)]
 pub struct Stepped {
     pub number: u32,
     pub table: CallTable,

@@ -1,6 +1,5 @@
 -- The numbers of the papers by the names that they have in code. Each stands here once more as a numeral, beside the paper's words, and the constants of
 -- src/ are held against it: `papers` says that each has this number.
-use Rattle.std.specs.Prelude.{ℕ}
 use Rattle.constants.specs.declared.papers.FrameNumbers.{FrameNumbers}
 use Rattle.constants.specs.declared.papers.CallNumbers.{CallNumbers}
 use Rattle.constants.specs.declared.papers.ValueNumbers.{ValueNumbers}

@@ -1,5 +1,7 @@
 // Names for the numbers of the papers; definitions keep the numerals.
 // Where the two meet, in `papers` and specs/Table.antt, each number stands beside the paper's words.
+#![tactic(auto)]
+
 pub mod format;
 pub mod frame_kind;
 pub mod kind;

@@ -4,7 +4,7 @@ ghost use Rattle.constants.specs.Table.{frames, calls, values, schemas, outputs,
 
 use crate::{format, frame_kind, kind, limit, refusal, side};
 
-#[derive(Drop)]
+#[derive(Clone, Copy)]
 pub struct FrameNumbers {
     pub accepted: u32,
     pub more: u32,
@@ -17,7 +17,7 @@ pub struct FrameNumbers {
     pub wrong_side: u32,
 }
 
-#[derive(Drop)]
+#[derive(Clone, Copy)]
 pub struct CallNumbers {
     pub unknown_method: u32,
     pub call_open: u32,
@@ -32,7 +32,7 @@ pub struct CallNumbers {
     pub tally_rows: u32,
 }
 
-#[derive(Drop)]
+#[derive(Clone, Copy)]
 pub struct ValueNumbers {
     pub cut: u32,
     pub varuint: u32,
@@ -48,7 +48,7 @@ pub struct ValueNumbers {
     pub map_too_long: u32,
 }
 
-#[derive(Drop)]
+#[derive(Clone, Copy)]
 pub struct SchemaNumbers {
     pub schema_shape: u32,
     pub too_many_rows: u32,
@@ -60,7 +60,7 @@ pub struct SchemaNumbers {
     pub no_extension: u32,
 }
 
-#[derive(Drop)]
+#[derive(Clone, Copy)]
 pub struct OutputNumbers {
     pub sheet: u32,
     pub outside: u32,
@@ -70,7 +70,7 @@ pub struct OutputNumbers {
     pub other_record: u32,
 }
 
-#[derive(Drop)]
+#[derive(Clone, Copy)]
 pub struct TypeKindNumbers {
     pub bool: u32,
     pub int8: u32,
@@ -90,7 +90,7 @@ pub struct TypeKindNumbers {
     pub structure: u32,
 }
 
-#[derive(Drop)]
+#[derive(Clone, Copy)]
 pub struct FrameKindNumbers {
     pub invoke: u8,
     pub in_stream: u8,
@@ -102,13 +102,13 @@ pub struct FrameKindNumbers {
     pub cancel: u8,
 }
 
-#[derive(Drop)]
+#[derive(Clone, Copy)]
 pub struct SideBytes {
     pub client: u8,
     pub server: u8,
 }
 
-#[derive(Drop)]
+#[derive(Clone, Copy)]
 pub struct FixedNumbers {
     pub magic: u8,
     pub magic_2: u8,
@@ -120,7 +120,7 @@ pub struct FixedNumbers {
     pub row_cells: usize,
 }
 
-#[derive(Drop)]
+#[derive(Clone, Copy)]
 pub struct LimitNumbers {
     pub payload: usize,
     pub depth: usize,

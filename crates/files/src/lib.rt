@@ -1,79 +1,152 @@
-// Files that a program's arguments name. Each function says on standard error why it fails, after the program's name, and then clears `whole`.
-ghost use Rattle.io.specs.Counts.{IsPrefixLen};
+// Files that a program's arguments name.
+#![tactic(auto)]
 
-use libc::STDERR_FILENO;
+ghost use Rattle.std.specs.Prelude.{◌≡◌, ◌<◌, ◌≤◌, length, take, IfOk, IfErr, OnErr};
+ghost use Rattle.std.specs.Io.{ReadsAtMost};
+ghost use Rattle.std.specs.Io.KnownBytes.{Consumes, IsAtEnd};
+ghost use Rattle.files.specs.Failures.{IsNameError, IsReadError, GivesFront};
 
-// Says what failed and why the last call of the system did.
-pub fn fail(program: &[u8], what: &[u8]) {
-    io::write_all(STDERR_FILENO, program);
-    io::write_all(STDERR_FILENO, b": ");
-    os::fail(what);
+use std::alloc::{AllocError, Allocator};
+use std::env::FillError;
+use std::fs::{File, OpenFile};
+use std::io::{Read, Write};
+use std::rt::{Env, Files};
+use std::{fs, io};
+
+// The most bytes of a file's name.
+pub const NAME: usize = 4096;
+
+// The system's numbers for an argument that is missing, for a name that is too long, and for bytes that are no text.
+const MISSING: i32 = 22;
+
+const TOO_LONG: i32 = 36;
+
+const NO_TEXT: i32 = 84;
+
+// Why a file was not read or made.
+#[derive(Clone, Copy, Debug)]
+pub enum FileError {
+    // An argument is no file's name.
+    Name(io::Error),
+    // The system refused a call on the file that an argument names.
+    File { argument: usize, error: io::Error },
+}
+
+// Says what failed and why, after the program's name.
+pub fn fail<R: Alloc>(
+    rt: &R,
+    out: &impl Print,
+    program: &[u8],
+    what: &[u8],
+    error: io::Error,
+) -> io::Result<()> {
+    let reason = reason(rt.alloc(), error)?;
+    out.write_all(program)?;
+    out.write_all(b": ")?;
+    out.write_all(what)?;
+    println!(out; ": {reason}")
+}
+
+// The system's words for an error, without its number.
+fn reason<A: Allocator + Clone>(alloc: A, error: io::Error) -> Result<String<A>, AllocError> {
+    let whole = error.to_string(alloc.clone()?)?;
+    match whole.split_once(" (os error ") {
+        Some((words, _)) => String::from_str(alloc, words),
+        None => Ok(whole),
+    }
+}
+
+// Says which file failed and why, after the program's name.
+pub fn tell<R: Alloc + Env>(
+    rt: &R,
+    out: &impl Print,
+    program: &[u8],
+    failure: FileError,
+) -> io::Result<()> {
+    match failure {
+        FileError::Name(error) => fail(rt, out, program, b"a file's name", error),
+        FileError::File { argument, error } => {
+            let mut path = buffer();
+            match name(rt, argument, &mut path) {
+                Ok(length) => fail(rt, out, program, &path[..length], error),
+                Err(_) => fail(rt, out, program, b"a file", error),
+            }
+        }
+    }
+}
+
+// Room for a file's name.
+pub fn buffer() -> [u8; NAME] {
+    [0; NAME]
+}
+
+fn name_error(error: FillError) -> FileError
+    ensures { IsNameError result }
+{
+    let number = match error {
+        FillError::NotPresent => MISSING,
+        FillError::TooLong => TOO_LONG,
+    };
+    FileError::Name(io::Error::from_raw_os_error(number))
 }
 
 // Puts the name that argument i gives at the start of path, and answers its length.
-pub fn name(program: &[u8], i: usize, path: &mut [u8], whole: &mut bool) -> usize
-    ensures { IsPrefixLen result path.new }
+pub fn name(env: &impl Env, i: usize, path: &mut [u8]) -> Result<usize, FileError>
+    ensures in_bounds { ReadsAtMost result path.new }
+    ensures len { length path.new ≡ length path.old }
+    ensures error { IfErr result IsNameError }
 {
-    let length = os::arg(i, path);
-    if os::errno() != 0 {
-        fail(program, b"a file's name");
-        *whole = false;
-    }
-    length
+    env.arg(i, path).map_err(name_error)
 }
 
-// Reads once, and answers how many bytes it has put at the start of buf.
-fn read_once(program: &[u8], fd: i32, path: &[u8], buf: &mut [u8], whole: &mut bool) -> usize
-    ensures { IsPrefixLen result buf.new }
-{
-    let got = libc::read(fd, buf);
-    if got < 0 {
-        fail(program, path);
-        *whole = false;
-    }
-    io::count(got, buf)
+// A file's name as text, which std wants.
+fn text(path: &[u8]) -> io::Result<&str> {
+    str::from_utf8(path).map_err(|_| io::Error::from_raw_os_error(NO_TEXT))
 }
 
 // Fills buf from a file, as far as the file has bytes, and answers how many it has put there.
-fn fill(program: &[u8], fd: i32, path: &[u8], buf: &mut [u8], whole: &mut bool) -> usize
-    ensures { IsPrefixLen result buf.new }
+fn fill<R: Read>(file: &mut R, buf: &mut [u8]) -> io::Result<usize>
+    ensures in_bounds { ReadsAtMost result buf.new }
+    ensures bytes { IfOk result (λ n. Consumes (R.remaining file.old) (R.remaining file.new) (take n buf.new)) }
+    ensures end { IfOk result (λ n. n < length buf.new → IsAtEnd (R.remaining file.new)) }
+    ensures len { length buf.new ≡ length buf.old }
+    ensures error { OnErr result (GivesFront (R.remaining file.old) (R.remaining file.new) buf.new) }
 {
     let mut n = 0;
     while n < buf.len() {
-        let more = read_once(program, fd, path, &mut buf[n..], whole);
+        let more = file.read(&mut buf[n..])?;
         if more == 0 {
-            return n;
+            break;
         }
         n += more;
     }
-    n
+    Ok(n)
+}
+
+// Puts the bytes of a file at the start of buf, as far as it holds them, and answers how many these are.
+fn read_path(files: &impl Files, path: &[u8], buf: &mut [u8]) -> io::Result<usize>
+    ensures in_bounds { ReadsAtMost result buf.new }
+    ensures len { length buf.new ≡ length buf.old }
+{
+    let mut file = fs::open(files, text(path)?)?;
+    fill(&mut file, buf)
 }
 
 // Puts the bytes of the file that argument i names at the start of buf, as far as it holds them, and answers how many these are.
-pub fn read(program: &[u8], i: usize, buf: &mut [u8], whole: &mut bool) -> usize
-    ensures { IsPrefixLen result buf.new }
+pub fn read<R: Env + Files>(rt: &R, i: usize, buf: &mut [u8]) -> Result<usize, FileError>
+    ensures in_bounds { ReadsAtMost result buf.new }
+    ensures len { length buf.new ≡ length buf.old }
+    ensures error { IfErr result (IsReadError i) }
 {
-    let mut path = io::buffer();
-    let mut named = true;
-    let length = name(program, i, &mut path, &mut named);
-    if !named {
-        *whole = false;
-        return 0;
-    }
-    let fd = os::open_read(&path[..length]);
-    if fd < 0 {
-        fail(program, &path[..length]);
-        *whole = false;
-        return 0;
-    }
-    let n = fill(program, fd, &path[..length], buf, whole);
-    libc::close(fd);
-    n
+    let mut path = buffer();
+    let length = name(rt, i, &mut path)?;
+    read_path(rt, &path[..length], buf).map_err(|error| FileError::File { argument: i, error })
 }
 
 // The number n of bytes at the front of buf; there are never more than buf has.
 pub fn front(n: usize, buf: &[u8]) -> usize
-    ensures { IsPrefixLen result buf.now }
+    ensures in_bounds { result ≤ length buf.now }
+    ensures taken { result ≡ length (take result buf.now) }
 {
     if buf.len() < n {
         return 0;
@@ -81,49 +154,39 @@ pub fn front(n: usize, buf: &[u8]) -> usize
     n
 }
 
-// Makes a file, which may not be there yet, and answers a descriptor that is open for writing.
-pub fn create(program: &[u8], path: &[u8], whole: &mut bool) -> i32 {
-    let fd = os::create(path);
-    if fd < 0 {
-        fail(program, path);
-        *whole = false;
-    }
-    fd
+// Makes a file, which may not be there yet, and opens it for writing.
+pub fn create<R: Files>(files: &R, path: &[u8]) -> io::Result<R::File> {
+    File::create_new(files, text(path)?)
 }
 
-// Writes the bytes at the end of a file that was made, while all went well before.
-pub fn put(program: &[u8], fd: i32, path: &[u8], bytes: &[u8], whole: &mut bool) {
-    if *whole {
-        if !io::write_all(fd, bytes) {
-            fail(program, path);
-            *whole = false;
-        }
-    }
+// Writes the bytes at the end of a file that was made.
+pub fn put(file: &mut impl Write, bytes: &[u8]) -> io::Result<()> {
+    file.write_all(bytes)
 }
 
-// Brings a file that was made to the disk and closes it, while all went well before.
-pub fn finish(program: &[u8], fd: i32, path: &[u8], whole: &mut bool) {
-    if *whole {
-        if libc::fsync(fd) < 0 {
-            fail(program, path);
-            *whole = false;
-        }
-    }
-    if libc::close(fd) < 0 {
-        fail(program, path);
-        *whole = false;
-    }
+// Brings a file that was made to the disk and closes it.
+pub fn finish<F: OpenFile + Drop>(file: F) -> io::Result<()> {
+    file.sync_all()
+}
+
+// Takes a file away again.
+pub fn remove(files: &impl Files, path: &[u8]) -> io::Result<()> {
+    fs::remove_file(files, text(path)?)
+}
+
+// Writes all bytes of a file that was made, and closes it.
+fn put_all<F: Write + OpenFile + Drop>(mut file: F, bytes: &[u8]) -> io::Result<()> {
+    put(&mut file, bytes)?;
+    finish(file)
 }
 
 // Writes the bytes to a new file, which is taken away again where that fails.
-pub fn save(program: &[u8], path: &[u8], bytes: &[u8], whole: &mut bool) {
-    let fd = create(program, path, whole);
-    if fd < 0 {
-        return;
+pub fn save(files: &impl Files, path: &[u8], bytes: &[u8]) -> io::Result<()> {
+    let file = create(files, path)?;
+    let written = put_all(file, bytes);
+    if written.is_err() {
+        // The file's failure counts, and not this one's.
+        let _ = remove(files, path);
     }
-    put(program, fd, path, bytes, whole);
-    finish(program, fd, path, whole);
-    if !*whole {
-        os::unlink(path);
-    }
+    written
 }

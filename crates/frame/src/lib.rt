@@ -1,4 +1,6 @@
 // Frames: the reader, which judges a field once it is whole, and the writer.
+#![tactic(auto)]
+
 pub mod layout;
 
 ghost use Rattle.std.specs.Prelude.{◌≡◌, [], ◌∷◌, ◌+◌, ◌≤◌, length};
@@ -38,7 +40,7 @@ const UPPER_AT: usize = 4;
 const UPPER: u64 = 0x1_0000_0000;
 
 // A frame's header. The kind of a frame that was read is 1 to 8; the writer may be handed any number.
-#[derive(Drop)]
+#[derive(Clone, Copy)]
 pub struct Header {
     pub kind: u32,
     pub package: u32,
@@ -47,7 +49,7 @@ pub struct Header {
     pub correlation: u64,
 }
 
-#[derive(Drop)]
+#[derive(Clone, Copy)]
 pub enum FrameRead {
     // More bytes are needed.
     More,
@@ -61,7 +63,7 @@ pub enum FrameRead {
     Refused(u32),
 }
 
-#[derive(Drop)]
+#[derive(Clone, Copy)]
 pub enum FrameWritten {
     // The frame's length.
     Written(usize),

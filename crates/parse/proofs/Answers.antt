@@ -136,14 +136,14 @@ accepted-check false n p c f h = absurd h
 module _ {E A B C : Type 0} (m : AnswerOf E A) (f : A → ReaderOf E B) (g : A → ReaderOf E C) where
   pub accepted-alike : Accepted (and_then m f) → ((a : A) (c : CursorOf E) → Accepted (f a c) → Accepted (g a c)) → Accepted (and_then m g)
   unfolding and_then
-  accepted-alike = elim m [
+  accepted-alike = elim m as (λ m. Accepted (and_then m f) → ((a : A) (c : CursorOf E) → Accepted (f a c) → Accepted (g a c)) → Accepted (and_then m g)) [
     | refused n p ↦ λ a h. a
     | seen a c ↦ λ b h. h a c b
   ]
 
   pub refused-alike : {n p : ℕ} → and_then m f ≡ refused n p → ((a : A) (c : CursorOf E) → f a c ≡ refused n p → g a c ≡ refused n p) → and_then m g ≡ refused n p
   unfolding and_then
-  refused-alike = elim m [
+  refused-alike {n} {p} = elim m as (λ m. and_then m f ≡ refused n p → ((a : A) (c : CursorOf E) → f a c ≡ refused n p → g a c ≡ refused n p) → and_then m g ≡ refused n p) [
     | refused n p ↦ λ e h. cc
     | seen a c ↦ λ e h. h a c e
   ]

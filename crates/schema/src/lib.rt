@@ -1,8 +1,9 @@
 // The schema table: a file of type rows, field entries, method entries and a trailer, all little-endian 32-bit numbers. The definitions stand in specs/,
 // their laws in proofs/, and the code in the crate `table`.
+#![tactic(auto)]
 
 // A type row: the kind, and the two numbers that its kind uses.
-#[derive(Drop)]
+#[derive(Clone, Copy)]
 pub struct TypeRow {
     pub kind: u32,
     pub a: u32,
@@ -10,14 +11,14 @@ pub struct TypeRow {
 }
 
 // A field entry: its type number, and 1 where the field is optional, else 0.
-#[derive(Drop)]
+#[derive(Clone, Copy)]
 pub struct Field {
     pub ty: u32,
     pub optional: u32,
 }
 
 // A method entry: three identifiers, the form, and the types of input, output, input stream and output stream.
-#[derive(Drop)]
+#[derive(Clone, Copy)]
 pub struct Method {
     pub package: u32,
     pub service: u32,
@@ -30,7 +31,7 @@ pub struct Method {
 }
 
 // Where the sections of a file lie: how many entries each has, and where fields and methods start. Types start at 0.
-#[derive(Drop)]
+#[derive(Clone, Copy)]
 pub struct Layout {
     pub types: usize,
     pub fields: usize,
@@ -40,21 +41,21 @@ pub struct Layout {
 }
 
 // The number of an entry, or none.
-#[derive(Drop)]
+#[derive(Clone, Copy)]
 pub enum Found {
     At(usize),
     Missing,
 }
 
 // The verdict on a file: good, or the refusal's number and place.
-#[derive(Drop)]
+#[derive(Clone, Copy)]
 pub enum Checked {
     Good,
     Refused { number: u32, place: usize },
 }
 
 // Whether one table extends another: yes, no, or the refusal of the first that is not good, the old one first.
-#[derive(Drop)]
+#[derive(Clone, Copy)]
 pub enum Extended {
     Yes,
     No,

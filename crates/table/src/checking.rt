@@ -171,7 +171,7 @@ const MOST_SEARCHES: usize = 16;
 const FEW_METHODS: usize = 12;
 
 // The lowest method at fault, unless the search was abandoned, since many flags were taken.
-#[derive(Drop)]
+#[derive(Clone, Copy)]
 struct Sought {
     abandoned: bool,
     bad: Found,

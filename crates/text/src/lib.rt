@@ -1,4 +1,6 @@
 // Bytes put into a buffer one after the other, each where the buffer has a place for it. Every function answers the place after them.
+#![tactic(auto)]
+
 ghost use Rattle.std.specs.Prelude.{◌≡◌, [], ◌∷◌, ◌+◌, ◌≤◌, length, drop};
 ghost use Rattle.text.specs.Decimal.{decimal};
 ghost use Rattle.text.specs.Page.{line_of};

@@ -1,4 +1,6 @@
 // UTF-8 by RFC 3629, over the table of its section 4.
+#![tactic(auto)]
+
 ghost use Rattle.std.specs.Prelude.{◌≡◌, false, ◌+◌, ◌<◌, ◌≤◌, length, take, drop};
 ghost use mathlib.Core.List.{[], ◌∷◌, Memᴰ};
 ghost use Rattle.std.proofs.Math.Seq.{slice};
@@ -7,11 +9,11 @@ ghost use Rattle.utf8.specs.Utf8.{rows, row_at, In, is_char, lead_of, next, utf8
 use wire::little::number;
 
 // A range of bytes: the lowest and the highest.
-#[derive(Drop)]
+#[derive(Clone, Copy)]
 pub struct Range(pub u8, pub u8);
 
 // A row of the table: how many bytes a character has, and the range of each, the lead byte's first. EMPTY stands for a byte that it has not.
-#[derive(Drop)]
+#[derive(Clone, Copy)]
 pub struct Row(pub u8, pub Range, pub Range, pub Range, pub Range);
 
 // UTF8-tail = %x80-BF

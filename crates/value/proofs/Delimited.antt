@@ -13,8 +13,8 @@ use Rattle.parse.proofs.Answers.{Seen, nothing, value as holds, seen-then, seen-
 use Rattle.parse.proofs.Places.{On, stays_on}
 use Rattle.schema.specs.declared.Field.{Field}
 use Rattle.schema.specs.Table.{Shape, unknown, scalar, text, array, map, struct, bitmap_bytes}
-use Rattle.value.specs.Value.{Tree, tip, branch, Forest, value, values}
-use Rattle.value.specs.Read.{Item, Own, plain, parts, plan, row_count, leaf_row, node_row, own, walk, whole_value, parse, root_struct}
+use Rattle.value.specs.Value.{Tree, tip, branch, Forest, value, values, content}
+use Rattle.value.specs.Read.{Item, Own, plain, parts, plan, row_count, leaf_row, node_row, own, with_key, walk, whole_value, parse, root_struct}
 use Rattle.value.specs.Spell.{LeafSpells, HeadSpells, AllSpell, Spells, RootSpells}
 use Rattle.value.specs.Fits.{LeafFits}
 use Rattle.value.specs.Delimits.{AllStand, NodeSpan, first_at, Delimits, RootDelimits}
@@ -99,7 +99,7 @@ module _ (B : List ℕ) where
       walk-stands keys [] c on = holds (on, refl)
       walk-stands keys (i ∷ is) c on =
           seen-after (p_p i.type c on) (λ t c₁ w. seen-check _ _ _ _ _ (λ e.
-          seen-after (walk-stands _ is c₁ w.0) (λ ts c₂ w'. holds (w'.0, (c₁.at, w.1, w'.1)))))
+          seen-after (walk-stands (with_key i.key (content (value t)) keys) is c₁ w.0) (λ ts c₂ w'. holds (w'.0, (c₁.at, w.1, w'.1)))))
 
   module _ (S : ℕ → Shape) where
     -- The items of a plan from a cursor: where they stand, and what their bytes spell.

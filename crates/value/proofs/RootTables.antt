@@ -75,7 +75,7 @@ unfolding walk Step
 walk-size p keys [] c ts c'' e = let f : ts ≡ stop = cc in rw f
 walk-size p keys (i ∷ is) c ts c'' e =
     let w = walk_step p keys i is c ts c'' e in
-    rw w.7 (ap suc (walk-size p _ is w.2 w.3 c'' w.6))
+    rw w.7 (ap suc (walk-size p (with_key i.key (content (value w.0)) keys) is w.2 w.3 c'' w.6))
 
 -- ---- the tail
 

@@ -136,7 +136,7 @@ module _ {E : Type 0} (P : ℕ → Value → List E → Type 0) (F : ℕ → (u 
           let two = not-false _ e in
           blames [] u c'.left l (omega arith)
           (at_once keys i is [] u c'.left 24 (inr (value tree, refl, refl, and_left _ _ two, q, and_right i.key _ two))))
-          (λ e. blames-map (blames-on u l k (walk-blames _ is c' b.1) (λ u' x rest n _ s. one_more keys i is (value tree) u u' x rest n q (not-true _ e) s)) (λ _ _. fine)))
+          (λ e. blames-map (blames-on u l k (walk-blames (with_key i.key (content (value tree)) keys) is c' b.1) (λ u' x rest n _ s. one_more keys i is (value tree) u u' x rest n q (not-true _ e) s)) (λ _ _. fine)))
 
   -- What has an item at fault is refused.
   module _ (p : ℕ → ReaderOf E Tree) (p_r : (t : ℕ) (c : CursorOf E) → Reads c (λ tree u. P t (value tree) u) (p t c))

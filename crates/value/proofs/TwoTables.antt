@@ -13,8 +13,8 @@ use Rattle.parse.specs.Reader.{Cursor, Answer, refused, seen, Reader, and_then, 
 use Rattle.parse.proofs.Answers.{Seen, nothing, value, seen-then, check_true}
 use Rattle.schema.specs.declared.Field.{Field}
 use Rattle.schema.specs.Table.{Shape, unknown, scalar, text, array, map, struct, bitmap_bytes}
-use Rattle.value.specs.Value.{Tree, Forest}
-use Rattle.value.specs.Read.{Item, Own, plain, parts, plain_item, pairs, present, plan, bitmap, own, walk, whole_value, parse}
+use Rattle.value.specs.Value.{Tree, Forest, value as value_of, content}
+use Rattle.value.specs.Read.{Item, Own, plain, parts, plain_item, pairs, present, plan, bitmap, own, with_key, walk, whole_value, parse}
 use Rattle.schema.specs.Extend.{Grows, same, gains, SameBytes}
 use Rattle.value.proofs.Shapes.{FieldsBelow, Closed, Optional, Extension}
 use Rattle.value.specs.Added.{carries, ReachedNode, reached, reached_all, first_added}
@@ -174,7 +174,7 @@ module _ (S : ℕ → Shape) (n : ℕ) (p q : ℕ → Reader Tree) (pq : (t : �
   walk-follows keys [] b c = both refl
   walk-follows keys (i ∷ is) b c =
       then-follows (pq i.type b.0 c)
-      (λ t c' e. then_same _ (λ _ c''. then-follows (walk-follows _ is b.1 c'')
+      (λ t c' e. then_same _ (λ _ c''. then-follows (walk-follows (with_key i.key (content (value_of t)) keys) is b.1 c'')
       (λ ts c''' e'. both (rw (first-append, e, e')))
       (λ x ts c''' e'. kept (rw (first-append, e, e')))))
       (λ x t c' e. from_then _ (λ _ c''. from_then _ (λ ts c'''. kept (rw (first-append, e)))))

@@ -1,9 +1,10 @@
 // Values: what a payload's bytes and a sheet's rows mean. The definitions stand in specs/, their laws in proofs/.
+#![tactic(auto)]
 
 use constants::limit;
 
 // A row of a sheet (01's term): the type, place, length and count of one value.
-#[derive(Drop)]
+#[derive(Clone, Copy)]
 pub struct Row {
     pub ty: u32,
     pub place: u32,

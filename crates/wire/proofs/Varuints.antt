@@ -245,7 +245,7 @@ spare_more k b s h (n, bs, rest, e, g, z) =
 
 above_more : (k b : ℕ) (s : List ℕ) → 128 ≤ b → Above k s → Above (suc k) (b ∷ s)
 unfolding Above
-above_more k b s h (l, m, a) = (omega arith, λ i. elim i [ zero ↦ λ _. h | suc i ↦ λ e. m i (omega arith) ], a)
+above_more k b s h (l, m, a) = (omega arith, λ i. elim i as (λ j. j < suc k → 128 ≤ get_or (b ∷ s) j 0) [ zero ↦ λ _. h | suc i ↦ λ e. m i (omega arith) ], a)
 
 abbrev BadEnd : ℕ → List ℕ → Type 0
 BadEnd k s = SpareEnd k s ⊎ Above k s

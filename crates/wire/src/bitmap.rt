@@ -13,7 +13,7 @@ pub const SPARE_BITS: usize = BYTE_BITS - 1;
 const WORD_BITS: usize = 64;
 
 // What a struct's bitmap says of its fields.
-#[derive(Drop)]
+#[derive(Clone, Copy)]
 pub struct Presence {
     // The whole word, and the known fields' bits of it.
     pub bits: u64,

@@ -20,7 +20,7 @@ const AFTER_FIRST: usize = MOST_GROUPS - 1;
 const TENTH_LIMIT: u64 = 2;
 
 // What stands at a place.
-#[derive(Drop)]
+#[derive(Clone, Copy)]
 pub enum VarUInt {
     Number { value: u64, next: usize },
     // The bytes end before the last group.

@@ -1,4 +1,6 @@
 // The texts of the program's verbs but list and find, in a lent buffer; and a number in decimal, read.
+#![tactic(auto)]
+
 mod lines;
 mod made;
 pub mod number;

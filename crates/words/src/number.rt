@@ -8,7 +8,7 @@ const BASE: u64 = 10;
 // The greatest number of 64 bits.
 const GREATEST: u64 = 18446744073709551615;
 
-#[derive(Drop)]
+#[derive(Clone, Copy)]
 pub enum Parsed {
     Number(u64),
     Nothing,

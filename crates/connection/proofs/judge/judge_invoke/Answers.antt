@@ -1,0 +1,27 @@
+-- `judge::judge_invoke` meets its contract. A method's number fits, since a good table has few.
+use mathlib.Core.Path.{sym, ◌∙◌}
+use native.Mathlib.Omega.{arith}
+use Rattle.schema.specs.File.{table_of}
+use Rattle.schema.proofs.Goods.{good-table}
+use Rattle.schema.proofs.Methods.{found-named}
+use Rattle.connection.proofs.judge.judge_invoke.Goals as goal
+
+pub overflow_cast-m : goal.overflow_cast-m
+overflow_cast-m c =
+    let s = c.args.s.now in
+    let f = c.args.f in
+    let named = sym c.find_method.ensures ∙ c.in-At.is in
+    omega (arith, (good-table s c.requires).few_methods, (found-named (table_of s) f.«package» f.service f.method c.in-At.m named).0)
+
+pub returns-in-Missing : goal.returns-in-Missing
+returns-in-Missing c = rw (sym c.find_method.ensures ∙ c.in-Missing.is)
+
+pub returns-in-At : goal.returns-in-At
+returns-in-At c =
+    rw (
+      sym c.find_method.ensures ∙ c.in-At.is,
+      c.judge_opening.ensures,
+      c.opened.ensures,
+      c.payload_of-payload.ensures,
+      c.method.ensures,
+    )

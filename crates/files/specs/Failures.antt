@@ -1,0 +1,26 @@
+-- Which errors the functions of files answer, and what an error leaves of a reader.
+use Rattle.std.specs.Prelude.{ℕ, List, length, take, pos, ◌≡◌, ◌≤◌, ◌⊎◌, Some}
+use Rattle.std.specs.IoError.{raw_os_error}
+use Rattle.std.specs.Io.KnownBytes.{Consumes}
+use Rattle.std.specs.declared.option.Option.{Option}
+use Rattle.std.specs.declared.io.Error.{Error}
+use Rattle.files.specs.declared.FileError.{FileError}
+use Rattle.files.specs.declared.FileError.TheVariants.{Name, File}
+
+-- the system's number 22 for an argument that is missing, and 36 for a name that is too long
+abbrev pub IsNumberOfName : Error → Type 0
+IsNumberOfName e = (raw_os_error e ≡ Some (pos 22)) ⊎ (raw_os_error e ≡ Some (pos 36))
+
+-- an argument is no file's name, and nothing else
+abbrev pub IsNameError : FileError → Type 0
+IsNameError (Name e) = IsNumberOfName e
+IsNameError (File argument e) = ⊥
+
+-- argument i is no file's name, or the system refused a call on the file that it names
+abbrev pub IsReadError : ℕ → FileError → Type 0
+IsReadError i (Name e) = IsNumberOfName e
+IsReadError i (File argument e) = argument ≡ i
+
+-- a reader gave the bytes that stand at the front of buf, and no others
+abbrev pub GivesFront : Option (List ℕ) → Option (List ℕ) → List ℕ → Type 0
+GivesFront old new buf = (n : ℕ) × (n ≤ length buf) × Consumes old new (take n buf)

@@ -1,0 +1,78 @@
+-- `frame::judge_header` meets its contract: field by field, what is left to be judged gives the answer to the whole.
+use mathlib.Core.Path.{◌≡◌, sym, ap, ◌∙◌}
+use mathlib.Core.Bool.{true}
+use mathlib.Core.List.{List}
+use Prim.Native.Nat.{ℕ, ◌≤◌}
+use native.Mathlib.Omega.{arith}
+use borrow.Author.Tests.{le-leb, lt-leb, eq-eqb, ne_eqb}
+use lib.ListN.{length}
+use Rattle.frame.specs.Frame.{is_magic, known_kind, frame_of}
+use Rattle.frame.specs.Places.{number_at}
+use Rattle.frame.proofs.Places.{short, wrong, passed, from_length, from_flags, from_kind, from_version, by-places}
+use Rattle.frame.proofs.judge_header.Goals as goal
+
+magic : (s : List ℕ) → 2 ≤ length s → is_magic s ≡ true → frame_of s ≡ from_version s
+magic s l m = by-places s ∙ passed s 2 _ 2 _ l m
+
+version : (s : List ℕ) → 3 ≤ length s → is_magic s ≡ true → number_at s 2 1 ≡ 1 → frame_of s ≡ from_kind s
+version s l m v = magic s (omega arith) m ∙ passed s 3 _ 3 _ l (eq-eqb _ _ v)
+
+kind : (s : List ℕ) → 4 ≤ length s → is_magic s ≡ true → number_at s 2 1 ≡ 1 → known_kind (number_at s 3 1) ≡ true → frame_of s ≡ from_flags s
+kind s l m v k = version s (omega arith) m v ∙ passed s 4 _ 4 _ l k
+
+flags : (s : List ℕ) → 5 ≤ length s → is_magic s ≡ true → number_at s 2 1 ≡ 1 → known_kind (number_at s 3 1) ≡ true → number_at s 4 1 ≡ 0
+    → frame_of s ≡ from_length s
+flags s l m v k f = kind s (omega arith) m v k ∙ passed s 5 _ 5 _ l (eq-eqb _ _ f)
+
+pub returns-then-n-lt-VERSION_AT : goal.returns-then-n-lt-VERSION_AT
+returns-then-n-lt-VERSION_AT c = (sym (by-places _ ∙ short _ 2 _ 2 _ c.if-n-lt-VERSION_AT.true), λ e. absurd (omega arith))
+
+pub returns-then-not-bytes : goal.returns-then-not-bytes
+returns-then-not-bytes c = (sym (by-places _ ∙ wrong _ 2 _ 2 _ c.if-n-lt-VERSION_AT.false c.if-not-bytes.true), λ e. absurd (omega arith))
+
+pub returns-then-n-lt-KIND_AT : goal.returns-then-n-lt-KIND_AT
+returns-then-n-lt-KIND_AT c =
+    (sym (magic _ c.if-n-lt-VERSION_AT.false c.if-not-bytes.false ∙ short _ 3 _ 3 _ c.if-n-lt-KIND_AT.true), λ e. absurd (omega arith))
+
+pub returns-then-byte-ne-VERSION : goal.returns-then-byte-ne-VERSION
+returns-then-byte-ne-VERSION c =
+    let wrong_one = ne_eqb _ _ (λ e. c.if-byte-ne-VERSION.true (c.byte.ensures ∙ e)) in
+    (sym (magic _ c.if-n-lt-VERSION_AT.false c.if-not-bytes.false ∙ wrong _ 3 _ 3 _ c.if-n-lt-KIND_AT.false wrong_one), λ e. absurd (omega arith))
+
+pub returns-then-n-lt-FLAGS_AT : goal.returns-then-n-lt-FLAGS_AT
+returns-then-n-lt-FLAGS_AT c =
+    let v = sym c.byte.ensures ∙ c.if-byte-ne-VERSION.false in
+    (sym (version _ c.if-n-lt-KIND_AT.false c.if-not-bytes.false v ∙ short _ 4 _ 4 _ c.if-n-lt-FLAGS_AT.true), λ e. absurd (omega arith))
+
+pub returns-then-not-known_kind : goal.returns-then-not-known_kind
+returns-then-not-known_kind c =
+    let v = sym c.byte.ensures ∙ c.if-byte-ne-VERSION.false in
+    let none = ap known_kind (sym c.byte-2.ensures) ∙ sym c.known_kind.ensures ∙ c.if-not-known_kind.true in
+    (sym (version _ c.if-n-lt-KIND_AT.false c.if-not-bytes.false v ∙ wrong _ 4 _ 4 _ c.if-n-lt-FLAGS_AT.false none), λ e. absurd (omega arith))
+
+pub returns-then-n-lt-PACKAGE_AT : goal.returns-then-n-lt-PACKAGE_AT
+returns-then-n-lt-PACKAGE_AT c =
+    let v = sym c.byte.ensures ∙ c.if-byte-ne-VERSION.false in
+    let k = ap known_kind (sym c.byte-2.ensures) ∙ sym c.known_kind.ensures ∙ c.if-not-known_kind.false in
+    (sym (kind _ c.if-n-lt-FLAGS_AT.false c.if-not-bytes.false v k ∙ short _ 5 _ 5 _ c.if-n-lt-PACKAGE_AT.true), λ e. absurd (omega arith))
+
+pub returns-then-byte-ne-FLAGS : goal.returns-then-byte-ne-FLAGS
+returns-then-byte-ne-FLAGS c =
+    let v = sym c.byte.ensures ∙ c.if-byte-ne-VERSION.false in
+    let k = ap known_kind (sym c.byte-2.ensures) ∙ sym c.known_kind.ensures ∙ c.if-not-known_kind.false in
+    let wrong_one = ne_eqb _ _ (λ e. c.if-byte-ne-FLAGS.true (c.byte-3.ensures ∙ e)) in
+    (sym (kind _ c.if-n-lt-FLAGS_AT.false c.if-not-bytes.false v k ∙ wrong _ 5 _ 5 _ c.if-n-lt-PACKAGE_AT.false wrong_one), λ e. absurd (omega arith))
+
+pub returns-then-n-lt-HEADER : goal.returns-then-n-lt-HEADER
+returns-then-n-lt-HEADER c =
+    let v = sym c.byte.ensures ∙ c.if-byte-ne-VERSION.false in
+    let k = ap known_kind (sym c.byte-2.ensures) ∙ sym c.known_kind.ensures ∙ c.if-not-known_kind.false in
+    let f = sym c.byte-3.ensures ∙ c.if-byte-ne-FLAGS.false in
+    (sym (flags _ c.if-n-lt-PACKAGE_AT.false c.if-not-bytes.false v k f ∙ rw (lt-leb 25 _ c.if-n-lt-HEADER.true)), λ e. absurd (omega arith))
+
+pub returns : goal.returns
+returns c =
+    let v = sym c.byte.ensures ∙ c.if-byte-ne-VERSION.false in
+    let k = ap known_kind (sym c.byte-2.ensures) ∙ sym c.known_kind.ensures ∙ c.if-not-known_kind.false in
+    let f = sym c.byte-3.ensures ∙ c.if-byte-ne-FLAGS.false in
+    (sym (flags _ c.if-n-lt-PACKAGE_AT.false c.if-not-bytes.false v k f ∙ rw (le-leb 25 _ c.if-n-lt-HEADER.false)), λ e. omega arith)

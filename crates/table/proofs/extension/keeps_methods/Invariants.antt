@@ -1,0 +1,15 @@
+-- `table::extension::keeps_methods` meets its contract. The invariant: what is left gives the same answer.
+use Rattle.std.proofs.Common.{◌≡◌, ℕ, ◌-◌, ◌≤◌, Bool, not, List}
+use Rattle.schema.specs.File.{table_of}
+use Rattle.schema.specs.Check.{lowest, method_row}
+use Rattle.schema.specs.Extend.{method_kept}
+use Rattle.table.proofs.extension.keeps_methods.Given as goal
+
+abbrev pub test : List ℕ → List ℕ → ℕ → Bool
+test old new i = method_kept (table_of new) (method_row (table_of old) i)
+
+abbrev pub invariant-loop-i : goal.invariant-loop-i
+invariant-loop-i l = (l.i ≤ l.n) × (lowest (λ j. not (test l.old l.new j)) 0 l.n ≡ lowest (λ j. not (test l.old l.new j)) l.i (l.n - l.i))
+
+abbrev pub decreases-loop-i : goal.decreases-loop-i
+decreases-loop-i l = l.n - l.i

@@ -1,0 +1,5 @@
+use Rattle.text.proofs.+put_decimal.Given as goal
+
+-- Each call has a digit less to put.
+abbrev pub decreases-put_decimal : goal.decreases-put_decimal
+decreases-put_decimal l = l.n

@@ -1,0 +1,12 @@
+-- `utf8::skip_row` meets its contract: what is passed are characters of the row.
+use mathlib.Core.Path.{◌≡◌}
+use Prim.Native.Nat.{◌-◌, ◌≤◌}
+use lib.Seq.{slice}
+use Rattle.utf8.specs.Utf8.{utf8}
+use Rattle.utf8.proofs.skip_row.Given as goal
+
+abbrev pub invariant-loop-i : goal.invariant-loop-i
+invariant-loop-i l = ((l.from ≤ l.i) × (l.i ≤ l.to)) × (utf8 (slice l.i l.to l.s) ≡ utf8 (slice l.from l.to l.s))
+
+abbrev pub decreases-loop-i : goal.decreases-loop-i
+decreases-loop-i l = l.to - l.i

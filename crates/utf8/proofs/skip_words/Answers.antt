@@ -1,0 +1,24 @@
+-- `utf8::skip_words` meets its contract: each word passed is ASCII.
+use mathlib.Core.Path.{refl, ◌∙◌}
+use Prim.Native.Nat.{◌+◌}
+use native.Mathlib.Omega.{arith}
+use Rattle.utf8.proofs.Asciis.{word-pass}
+use mathlib.Core.Bool.{not}
+use mathlib.Core.Path.{ap}
+use Rattle.utf8.proofs.skip_words.Goals as goal
+
+pub loop-i-preserved : goal.loop-i-preserved
+loop-i-preserved c =
+    let l = c in
+    let a = l.args in
+    let w = c.ascii_word in
+    (omega arith, word-pass a.s.now l.loop-i.i (l.loop-i.i + 8) a.to w.result refl (omega arith) w.ensures (ap not c.if-not-ascii_word.false) ∙ l.loop-i.invariant.1)
+
+pub loop-i-init : goal.loop-i-init
+loop-i-init c = (omega arith, refl)
+
+pub returns-then-not-ascii_word : goal.returns-then-not-ascii_word
+returns-then-not-ascii_word c = c.loop-i.invariant
+
+pub returns : goal.returns
+returns c = c.loop-i.invariant
