@@ -1,4 +1,6 @@
 // Call records, tally rows and scalars in lent cells of numbers, for programs in other languages.
+#![tactic(auto)]
+
 pub mod records;
 pub mod rows;
 pub mod scalars;

@@ -1,6 +1,3 @@
-mod Held
-mod Method
-mod Answers
 pub mod Items
 pub mod Texts
 pub mod Laws

@@ -7,7 +7,7 @@ use wire::varuint::VarUInt;
 use wire::{little, varuint};
 
 // A number's width in bytes: 1, 2, 4 or 8.
-#[derive(Drop)]
+#[derive(Clone, Copy)]
 pub enum Width {
     One,
     Two,
@@ -16,27 +16,27 @@ pub enum Width {
 }
 
 // A number, or the number and the place of a refusal.
-#[derive(Drop)]
+#[derive(Clone, Copy)]
 pub enum Number {
     Is { value: u64 },
     Refused { number: u32, place: usize },
 }
 
 // Where a content stands and how long it is, or a refusal.
-#[derive(Drop)]
+#[derive(Clone, Copy)]
 pub enum Span {
     At { place: usize, length: usize },
     Refused { number: u32, place: usize },
 }
 
 // The item at a place, and the place after it; a refusal does not move.
-#[derive(Drop)]
+#[derive(Clone, Copy)]
 pub struct NumberStep {
     pub item: Number,
     pub next: usize,
 }
 
-#[derive(Drop)]
+#[derive(Clone, Copy)]
 pub struct SpanStep {
     pub item: Span,
     pub next: usize,

@@ -1,4 +1,6 @@
 // A reader that is lent to other code: it holds a payload and a position in it, and reads item by item.
+#![tactic(auto)]
+
 pub mod item;
 
 ghost use Rattle.std.specs.Prelude.{◌≡◌, ◌-◌, length};
@@ -9,7 +11,7 @@ use crate::item::{Number, Span, Width};
 use constants::refusal;
 
 // The payload and the position in it. Beyond the payload's end nothing is left.
-#[derive(Drop)]
+#[derive(Clone, Copy)]
 pub struct Reader<'a> {
     pub payload: &'a [u8],
     pub at: usize,
@@ -59,7 +61,7 @@ impl<'a> Reader<'a> {
     }
 }
 
-// The span at a place, by way of a reader. Its parameters are plain, so whoever calls it needs no proof by hand.
+// The span at a place, by way of a reader. Its parameters are plain: whoever calls it holds no reader.
 pub fn span_from(payload: &[u8], at: usize) -> Span
     ensures { result ≡ (span_at payload.now at).item }
 {

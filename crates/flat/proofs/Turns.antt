@@ -11,7 +11,7 @@ use lib.ListN.{length, get_or}
 use Rattle.parse.specs.Reader.{cursor_at, Accepted}
 use Rattle.schema.specs.declared.Field.{Field}
 use Rattle.schema.specs.declared.TypeRow.{TypeRow}
-use Rattle.schema.specs.Table.{Shape, scalar, text, array, struct, row_at}
+use Rattle.schema.specs.Table.{Shape, scalar, text, struct, row_at}
 use Rattle.schema.specs.File.{table_of}
 use Rattle.schema.specs.Check.{field_row_of}
 use Rattle.value.specs.Comparisons.{map_comparisons}

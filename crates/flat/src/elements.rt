@@ -20,7 +20,7 @@ use walks::{required_of, zeros_in};
 use wire::bitmap;
 
 // A type as the loop over elements needs it: its row, the bits of a struct's fields that are not optional, and the table's layout.
-#[derive(Drop)]
+#[derive(Clone, Copy)]
 pub struct Prepared {
     pub ty: u32,
     pub row: TypeRow,
@@ -29,7 +29,7 @@ pub struct Prepared {
 }
 
 // What the bitmap of an inner struct says: its bits, all of known fields, and the place after it; or a refusal at the bitmap's own place.
-#[derive(Drop)]
+#[derive(Clone, Copy)]
 pub enum InnerHead {
     Bits { known: u64, start: usize },
     Refused { number: u32 },

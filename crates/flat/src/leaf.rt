@@ -23,14 +23,14 @@ const BOOL: usize = kind::BOOL as usize;
 const STRING: usize = kind::STRING as usize;
 
 // A count and where what it counts starts, or a refusal at the count's own place.
-#[derive(Drop)]
+#[derive(Clone, Copy)]
 pub enum Count {
     Is { n: usize, start: usize },
     Refused { number: u32 },
 }
 
 // Where a content starts and ends, or a refusal. The refusal's place comes first, as the start does: an answer so laid out stays in registers.
-#[derive(Drop)]
+#[derive(Clone, Copy)]
 pub enum Span {
     At { from: usize, to: usize },
     Refused { place: usize, number: u32 },
@@ -38,7 +38,7 @@ pub enum Span {
 
 // A bitmap's word, the known fields' bits of it and their count, the number of unknown bits set, and the place after it;
 // or a refusal at the bitmap's own place.
-#[derive(Drop)]
+#[derive(Clone, Copy)]
 pub enum Head {
     Bits {
         word: u64,

@@ -1,4 +1,6 @@
 // The payload reader: values of a schema table's types, shown as rows of a sheet.
+#![tactic(auto)]
+
 pub mod beside;
 pub mod pairs;
 pub mod walk;
@@ -25,7 +27,7 @@ const SCRATCH_ROWS: usize = 32;
 const SCRATCH_CELLS: usize = format::ROW_CELLS * SCRATCH_ROWS;
 
 // The answer: the number of rows with the tail's place and length and the key comparisons due, or the refusal's number and place.
-#[derive(Drop)]
+#[derive(Clone, Copy)]
 pub enum Reading {
     Shown {
         rows: usize,

@@ -31,7 +31,7 @@ const TWO_KEYS: usize = 2;
 const FEW_KEYS: usize = 8;
 
 // An array, a map or a struct of type ty, whose row is t; what it holds has so many levels of depth.
-#[cycle(read_added_read_array_read_composite_read_composites_read_field_read_fields_read_map_read_more_pairs_read_pairs_read_shown_fields_read_struct)]
+#[cycle(walk)]
 fn read_composite(
     shown: &[u8; limit::TYPES],
     s: &[u8],
@@ -65,7 +65,7 @@ fn read_composite(
 }
 
 // An array of type ty, whose elements have the type elem.
-#[cycle(read_added_read_array_read_composite_read_composites_read_field_read_fields_read_map_read_more_pairs_read_pairs_read_shown_fields_read_struct)]
+#[cycle(walk)]
 fn read_array(
     shown: &[u8; limit::TYPES],
     s: &[u8],
@@ -107,7 +107,7 @@ fn read_array(
 }
 
 // The n elements of an array, composites of the type elem.
-#[cycle(read_added_read_array_read_composite_read_composites_read_field_read_fields_read_map_read_more_pairs_read_pairs_read_shown_fields_read_struct)]
+#[cycle(walk)]
 fn read_composites(
     shown: &[u8; limit::TYPES],
     s: &[u8],
@@ -156,7 +156,7 @@ fn read_composites(
 }
 
 // A map of type ty, whose row is t, of at most 64 pairs.
-#[cycle(read_added_read_array_read_composite_read_composites_read_field_read_fields_read_map_read_more_pairs_read_pairs_read_shown_fields_read_struct)]
+#[cycle(walk)]
 fn read_map(
     shown: &[u8; limit::TYPES],
     s: &[u8],
@@ -201,7 +201,7 @@ fn read_map(
 }
 
 // The n pairs of a map, more than two: the longer arrays of keys stand here, so that no other map has to clear them.
-#[cycle(read_added_read_array_read_composite_read_composites_read_field_read_fields_read_map_read_more_pairs_read_pairs_read_shown_fields_read_struct)]
+#[cycle(walk)]
 fn read_more_pairs(
     shown: &[u8; limit::TYPES],
     s: &[u8],
@@ -232,7 +232,7 @@ fn read_more_pairs(
 }
 
 // The n pairs of a map from a place on; what `keys` holds afterwards means nothing. A value that is an empty map takes no call of the cycle.
-#[cycle(read_added_read_array_read_composite_read_composites_read_field_read_fields_read_map_read_more_pairs_read_pairs_read_shown_fields_read_struct)]
+#[cycle(walk)]
 fn read_pairs(
     shown: &[u8; limit::TYPES],
     s: &[u8],
@@ -296,7 +296,7 @@ fn read_pairs(
 
 // The fields of a struct of type ty: n from the first on, those whose bits are set in `known`, `ones` of them. Its bitmap stands at `place`, its fields from
 // `start` on.
-#[derive(Drop)]
+#[derive(Clone, Copy)]
 struct Fields {
     ty: u32,
     first: usize,
@@ -308,7 +308,7 @@ struct Fields {
 }
 
 // An inner struct of type ty, whose row is t. An unknown bit is refused.
-#[cycle(read_added_read_array_read_composite_read_composites_read_field_read_fields_read_map_read_more_pairs_read_pairs_read_shown_fields_read_struct)]
+#[cycle(walk)]
 fn read_struct(
     shown: &[u8; limit::TYPES],
     s: &[u8],
@@ -359,7 +359,7 @@ fn read_struct(
 }
 
 // The fields of a struct, and its own row.
-#[cycle(read_added_read_array_read_composite_read_composites_read_field_read_fields_read_map_read_more_pairs_read_pairs_read_shown_fields_read_struct)]
+#[cycle(walk)]
 fn read_fields(
     shown: &[u8; limit::TYPES],
     s: &[u8],
@@ -406,7 +406,7 @@ fn read_fields(
 }
 
 // The field i of a struct. Most fields are scalars, strings or bytes: these are read here, without a call of their own.
-#[cycle(read_added_read_array_read_composite_read_composites_read_field_read_fields_read_map_read_more_pairs_read_pairs_read_shown_fields_read_struct)]
+#[cycle(walk)]
 fn read_field(
     shown: &[u8; limit::TYPES],
     s: &[u8],
@@ -450,7 +450,7 @@ fn read_field(
 }
 
 // The fields of a struct of which fewer are shown than it has: the others are read without a row. The struct's own row is written again, with its whole length.
-#[cycle(read_added_read_array_read_composite_read_composites_read_field_read_fields_read_map_read_more_pairs_read_pairs_read_shown_fields_read_struct)]
+#[cycle(walk)]
 fn read_shown_fields(
     shown: &[u8; limit::TYPES],
     s: &[u8],
@@ -497,7 +497,7 @@ fn read_shown_fields(
 }
 
 // The fields of a struct after those that are shown, from a place on. They have no rows: none is lent to write them into.
-#[cycle(read_added_read_array_read_composite_read_composites_read_field_read_fields_read_map_read_more_pairs_read_pairs_read_shown_fields_read_struct)]
+#[cycle(walk)]
 fn read_added(
     shown: &[u8; limit::TYPES],
     s: &[u8],

@@ -1,4 +1,6 @@
 // The entries of a record: a side byte, C or S, and then a frame.
+#![tactic(auto)]
+
 ghost use Rattle.std.specs.Prelude.{◌≡◌};
 ghost use Rattle.record.specs.Entry.{is_side, entry_length};
 

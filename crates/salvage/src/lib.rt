@@ -1,4 +1,6 @@
 // Salvage: a copy of every entry of a torn record, and a list of the spans left out.
+#![tactic(auto)]
+
 mod pieces;
 
 ghost use Rattle.std.specs.Prelude.{◌≡◌, [], ◌∷◌, ◌+◌, ◌≤◌, length};
@@ -12,7 +14,7 @@ use constants::{limit, refusal};
 // Cells of a listed span: its place and its length.
 pub const SPAN_CELLS: usize = 2;
 
-#[derive(Drop)]
+#[derive(Clone, Copy)]
 pub enum Salvaging {
     // Entries kept, bytes copied, and spans listed.
     Salvaged {
@@ -27,7 +29,7 @@ pub enum Salvaging {
 }
 
 // What a salvage takes: entries, their bytes, and spans.
-#[derive(Drop)]
+#[derive(Clone, Copy)]
 struct Measure {
     entries: usize,
     bytes: usize,

@@ -18,7 +18,7 @@ const BLOCK: usize = 32;
 const BLOCK_BYTES: usize = BLOCK + MAGIC_2_AT;
 
 // An entry that is kept, or a span that is left out.
-#[derive(Drop)]
+#[derive(Clone, Copy)]
 pub struct Piece {
     pub kept: bool,
     pub length: usize,

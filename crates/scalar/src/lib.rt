@@ -1,9 +1,11 @@
 // One row of a sheet (01's term) over its bytes, handed out as a value where its type is a scalar, a string or bytes.
+#![tactic(auto)]
+
 pub mod entry;
 pub mod float;
 pub mod number;
 
-#[derive(Drop)]
+#[derive(Clone, Copy)]
 pub enum Scalar {
     Truth(bool),
     Signed(i64),
@@ -15,7 +17,7 @@ pub enum Scalar {
     Span { place: usize, length: usize },
 }
 
-#[derive(Drop)]
+#[derive(Clone, Copy)]
 pub enum Answer {
     Is(Scalar),
     Refused { number: u32, place: usize },

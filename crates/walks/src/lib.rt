@@ -1,4 +1,6 @@
 // What the reader's and the writer's walks share: the test of a struct's presence bits, the bits that are required, and the keys of a map with their hash.
+#![tactic(auto)]
+
 pub mod key;
 pub mod siphash;
 

@@ -38,7 +38,7 @@ const FINAL_MARK: usize = 255;
 const TOP_BYTE: usize = 56;
 
 // The four words of the state.
-#[derive(Drop)]
+#[derive(Clone, Copy)]
 struct SipState {
     v0: usize,
     v1: usize,

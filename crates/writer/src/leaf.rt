@@ -14,7 +14,7 @@ const BOOL: usize = kind::BOOL as usize;
 const STRING: usize = kind::STRING as usize;
 
 // A row of the type due, by its place, length and count; or none: the row is missing or of another type.
-#[derive(Drop)]
+#[derive(Clone, Copy)]
 pub enum Due {
     Found {
         place: usize,
@@ -25,14 +25,14 @@ pub enum Due {
 }
 
 // Whether a row is right, or the number of its first fault.
-#[derive(Drop)]
+#[derive(Clone, Copy)]
 pub enum Verdict {
     Fine,
     Refused { number: u32 },
 }
 
 // The known fields' bits of a bitmap, or the number of a struct's first fault.
-#[derive(Drop)]
+#[derive(Clone, Copy)]
 pub enum Head {
     Bits { known: u64 },
     Refused { number: u32 },
@@ -179,7 +179,7 @@ pub fn struct_bits(
 }
 
 // Where a leaf's content stands and its length, or the number of the row's first fault.
-#[derive(Drop)]
+#[derive(Clone, Copy)]
 pub enum Leaf {
     At { place: usize, length: usize },
     Refused { number: u32 },

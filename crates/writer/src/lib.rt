@@ -1,4 +1,6 @@
 // The value writer: the rows of a sheet over their bytes, written as a payload.
+#![tactic(auto)]
+
 pub mod leaf;
 pub mod put;
 pub mod walk;
@@ -16,7 +18,7 @@ use table::access::type_row;
 use table::checking::check;
 
 // The answer: the length of what was written, or the refusal's number and place.
-#[derive(Drop)]
+#[derive(Clone, Copy)]
 pub enum Writing {
     Written { length: usize },
     Refused { number: u32, place: usize },

@@ -30,7 +30,7 @@ const STRUCT: usize = kind::STRUCT as usize;
 const FEW_KEYS: usize = 8;
 
 // The row and the place in the output after what was written, or a refusal with its row.
-#[derive(Drop)]
+#[derive(Clone, Copy)]
 pub enum Walk {
     Past { row: usize, pos: usize },
     Refused { number: u32, place: usize },
@@ -43,7 +43,7 @@ fn refused(number: u32, place: usize) -> Walk
 }
 
 // An array, a map or a struct of type ty in a row, whose type row is t.
-#[cycle(write_array_write_composite_write_elements_write_fields_write_many_pairs_write_map_write_pairs_write_run_write_struct_write_structs_write_value)]
+#[cycle(walk)]
 fn write_composite(
     s: &[u8],
     sheet: &[u32],
@@ -145,7 +145,7 @@ fn write_leaves(
 }
 
 // An array of type ty, whose elements have the type elem and so many levels of depth.
-#[cycle(write_array_write_composite_write_elements_write_fields_write_many_pairs_write_map_write_pairs_write_run_write_struct_write_structs_write_value)]
+#[cycle(walk)]
 fn write_array(
     s: &[u8],
     sheet: &[u32],
@@ -186,7 +186,7 @@ fn write_array(
 }
 
 // The n elements of an array from a row on, which have the type ty.
-#[cycle(write_array_write_composite_write_elements_write_fields_write_many_pairs_write_map_write_pairs_write_run_write_struct_write_structs_write_value)]
+#[cycle(walk)]
 fn write_elements(
     s: &[u8],
     sheet: &[u32],
@@ -231,7 +231,7 @@ fn write_elements(
 }
 
 // A map of type ty, whose type row is t; one of more than 64 pairs is refused at its row.
-#[cycle(write_array_write_composite_write_elements_write_fields_write_many_pairs_write_map_write_pairs_write_run_write_struct_write_structs_write_value)]
+#[cycle(walk)]
 fn write_map(
     s: &[u8],
     sheet: &[u32],
@@ -286,7 +286,7 @@ fn write_map(
 }
 
 // The n pairs of a map, of more than a few. The long array stands here, so that no other map has to make room for it.
-#[cycle(write_array_write_composite_write_elements_write_fields_write_many_pairs_write_map_write_pairs_write_run_write_struct_write_structs_write_value)]
+#[cycle(walk)]
 fn write_many_pairs(
     s: &[u8],
     sheet: &[u32],
@@ -344,7 +344,7 @@ fn write_key(
 }
 
 // The n pairs of a map from a row on. What `keys` holds afterwards means nothing.
-#[cycle(write_array_write_composite_write_elements_write_fields_write_many_pairs_write_map_write_pairs_write_run_write_struct_write_structs_write_value)]
+#[cycle(walk)]
 fn write_pairs(
     s: &[u8],
     sheet: &[u32],
@@ -404,7 +404,7 @@ fn write_pairs(
 
 // So many structs of type ty from a row on, whose type row is t. It is a function of its own, which is inlined: called
 // outright, the arguments of that call would be copied for arrays and maps too.
-#[cycle(write_array_write_composite_write_elements_write_fields_write_many_pairs_write_map_write_pairs_write_run_write_struct_write_structs_write_value)]
+#[cycle(walk)]
 fn write_run(
     s: &[u8],
     sheet: &[u32],
@@ -438,7 +438,7 @@ fn write_run(
 }
 
 // So many structs of one type from a row on, each of n fields from the first on. Which bits are required is found once for all.
-#[cycle(write_array_write_composite_write_elements_write_fields_write_many_pairs_write_map_write_pairs_write_run_write_struct_write_structs_write_value)]
+#[cycle(walk)]
 fn write_structs(
     s: &[u8],
     sheet: &[u32],
@@ -479,7 +479,7 @@ fn write_structs(
 }
 
 // An inner struct of type ty, which has n fields from the first on, of which those with bits in `required` have to be there. An unknown bit is refused.
-#[cycle(write_array_write_composite_write_elements_write_fields_write_many_pairs_write_map_write_pairs_write_run_write_struct_write_structs_write_value)]
+#[cycle(walk)]
 fn write_struct(
     s: &[u8],
     sheet: &[u32],
@@ -527,7 +527,7 @@ fn write_struct(
 }
 
 // A value of type ty in a row. It has one call site, into which it is inlined, since most fields are scalars, strings or bytes.
-#[cycle(write_array_write_composite_write_elements_write_fields_write_many_pairs_write_map_write_pairs_write_run_write_struct_write_structs_write_value)]
+#[cycle(walk)]
 fn write_value(
     s: &[u8],
     sheet: &[u32],
@@ -563,7 +563,7 @@ fn write_value(
 }
 
 // The fields of a struct whose bits are set in `known`, from the row `start` on.
-#[cycle(write_array_write_composite_write_elements_write_fields_write_many_pairs_write_map_write_pairs_write_run_write_struct_write_structs_write_value)]
+#[cycle(walk)]
 fn write_fields(
     s: &[u8],
     sheet: &[u32],

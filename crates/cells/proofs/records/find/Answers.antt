@@ -1,0 +1,17 @@
+-- `cells::records::find` meets its contract: the records of a whole table stand in its first 384 cells.
+use mathlib.Core.Path.{sym, ap, ◌∙◌}
+use mathlib.Core.List.{List}
+use lib.Seq.{length-take-le}
+use Rattle.calls.specs.declared.Call.{Call}
+use Rattle.calls.specs.Record.{is_call}
+use Rattle.calls.specs.Slots.{first_slot}
+use Rattle.cells.proofs.Slots.{taken-calls}
+use Rattle.cells.proofs.records.find.Goals as goal
+
+pub slice_bounds-find_in-end : goal.slice_bounds-find_in-end
+slice_bounds-find_in-end c = sym (length-take-le 384 c.args.cells.now c.if-cells-ge-CELLS.true)
+
+pub returns-then-cells-ge-CELLS : goal.returns-then-cells-ge-CELLS
+returns-then-cells-ge-CELLS c =
+    let a = c.args in
+    c.find_in.ensures ∙ ap (λ (l : List Call). first_slot (is_call a.id) 0 l) (taken-calls a.cells.now)

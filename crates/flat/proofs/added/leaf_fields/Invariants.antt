@@ -1,0 +1,9 @@
+-- `flat::added::leaf_fields` meets its contract. The invariant: what is left of the fields gives the same end, whatever is known.
+use Rattle.flat.proofs.Turns.{Going}
+use Rattle.flat.proofs.added.leaf_fields.Given as goal
+
+abbrev pub invariant-loop-bits : goal.invariant-loop-bits
+invariant-loop-bits l = Going l.s l.p l.depth l.ty l.first l.n l.place l.known l.start l.row l.judging l.initial.sheet l.i l.bits l.here l.below l.sheet
+
+abbrev pub decreases-loop-bits : goal.decreases-loop-bits
+decreases-loop-bits l = l.bits

@@ -1,0 +1,87 @@
+-- `flat::added::read_structs` meets its contract. The invariant: what is left of the elements gives the same end, whatever else is shown.
+use mathlib.Core.Path.{◌≡◌, refl, ◌∙◌}
+use Prim.Native.Nat.{ℕ, suc, ◌+◌, ◌-◌}
+use native.Mathlib.Omega.{arith}
+use Rattle.schema.specs.Table.{Shape}
+use Rattle.walks.specs.Shape.{shape_in}
+use Rattle.flat.specs.Flat.{first_shape}
+use Rattle.flat.specs.Walk.{value_in, told, Walked}
+use Rattle.flat.proofs.Turns.{described_own, lifted, reading-below, reading-deep, reading-end, reading-first, reading-on, reading-own, reading-stop, reading-sum}
+use Rattle.walks.proofs.Items.{elements-none, elements-some}
+use Rattle.flat.proofs.added.read_structs.Goals.{After-partial_struct}
+use Rattle.flat.proofs.added.read_structs.Goals as goal
+
+-- After an element, which was read by what was prepared.
+walked : (c : After-partial_struct) →
+    let args = c.args in
+    let loop = c.loop-left in
+    (R : ℕ → Shape) → R args.elem ≡ first_shape args.s.now args.elem args.m
+    → Walked args.p.now (loop.here + 1) (told R (shape_in args.s.now) args.elem) (value_in args.s.now args.p.now args.depth args.elem loop.here) loop.below
+    loop.sheet c.partial_struct.result c.partial_struct.new.sheet
+walked c =
+    let args = c.args in
+    let same = c.prepared_of-f.ensures.same in
+    lifted (λ R. R args.elem ≡ first_shape args.s.now args.elem args.m) args.s.now args.depth c.loop-left.here same c.if-depth-eq0.false
+    (λ R shown. c.partial_struct.ensures R (rw same shown))
+
+pub prepared_of-f-requires : goal.prepared_of-f-requires
+prepared_of-f-requires c = let pre = c.requires in pre.ready.0.good
+
+pub overflow_add-below : goal.overflow_add-below
+overflow_add-below c = let pre = c.requires in omega (arith, pre.ready.0.small, pre.ready.0.inside, pre.ready.0.behind)
+
+pub loop-left-init : goal.loop-left-init
+loop-left-init c = let args = c.args in let pre = c.requires in reading-first pre.ready.0 (λ t. first_shape args.s.now args.elem args.m) refl _
+
+pub shape_of-sheet-then-depth-eq0 : goal.shape_of-sheet-then-depth-eq0
+shape_of-sheet-then-depth-eq0 c = c.loop-left.invariant.long
+
+pub returns-then-depth-eq0 : goal.returns-then-depth-eq0
+returns-then-depth-eq0 c = reading-deep c.loop-left.invariant (elements-some _ _ c.loop-left-test.true) c.if-depth-eq0.true
+
+pub partial_struct-requires : goal.partial_struct-requires
+partial_struct-requires c =
+    let loop = c in
+    let args = loop.args in
+    let pre = loop.requires in
+    let ready = reading-below loop.loop-left.invariant (elements-some _ _ c.loop-left-test.true) c.if-depth-eq0.false in
+    let f = loop.prepared_of-f in
+    let level : args.depth ≡ suc (args.depth - 1) = omega (arith, c.if-depth-eq0.false) in (
+      rw f.ensures.same ready,
+      described_own args.s.now args.elem f.result f.ensures,
+      rw (f.ensures.same, ← level) pre.ready.1,
+      rw f.ensures.is pre.elem_value.0,
+      rw f.ensures.is pre.elem_value.1,
+    )
+
+pub shape_of-sheet-in-Refused : goal.shape_of-sheet-in-Refused
+shape_of-sheet-in-Refused c = c.partial_struct.auto.sheet ∙ c.loop-left.invariant.long
+
+pub returns-in-Refused : goal.returns-in-Refused
+returns-in-Refused c =
+    let call = (goal.at.returns-in-Refused c).After-partial_struct in
+    reading-stop call.loop-left.invariant (elements-some _ _ call.loop-left-test.true) (walked call) c.in-Refused.is
+
+pub overflow_add-sum : goal.overflow_add-sum
+overflow_add-sum c =
+    let call = (goal.at.overflow_add-sum c).After-partial_struct in
+    let most = reading-sum call.loop-left.invariant (elements-some _ _ call.loop-left-test.true) (walked call) c.in-Past.is in omega (arith, most)
+
+pub loop-left-preserved : goal.loop-left-preserved
+loop-left-preserved c =
+    let call = (goal.at.loop-left-preserved c).After-partial_struct in
+    reading-on call.loop-left.invariant (elements-some _ _ call.loop-left-test.true) (walked call) c.in-Past.is
+
+pub overflow_sub-here : goal.overflow_sub-here
+overflow_sub-here c = omega (arith, c.loop-left.invariant.forth)
+
+pub put_row-requires : goal.put_row-requires
+put_row-requires c = let pre = c.requires in reading-own c.loop-left.invariant (omega arith) pre.ready.2
+
+pub shape_of-sheet : goal.shape_of-sheet
+shape_of-sheet c = c.put_row.auto.sheet ∙ c.loop-left.invariant.long
+
+pub returns : goal.returns
+returns c =
+    let inv = c.loop-left.invariant in
+    reading-end inv (elements-none _ _ c.loop-left-test.false) c.put_row.ensures (omega arith) inv.forth

@@ -1,0 +1,31 @@
+-- `flat::elements::element` meets its contract.
+use Prim.Native.Nat.{suc}
+use native.Mathlib.Omega.{arith}
+use Rattle.flat.proofs.Steps.{span_in, span-put, IsLeaf, is_leaf, leaf-asked, leaf-stop, leaf-past}
+use Rattle.flat.proofs.Turns.{leaf-left}
+use Rattle.flat.proofs.elements.element.Goals.{Else-f-eq-ARRAY}
+use Rattle.flat.proofs.elements.element.Goals as goal
+
+-- Where it is neither a struct nor an array.
+leaf : (c : Else-f-eq-ARRAY) → let args = c.args in IsLeaf args.s.now args.f.ty args.f.row
+leaf c =
+    let args = c.args in
+    let k = leaf-left args.s.now (suc args.depth) args.f.ty args.f.row c.requires.1.is c.requires.2 c.if-f-eq-STRUCT.false c.if-f-eq-ARRAY.false in
+    is_leaf c.requires.1.is k.0 k.1
+
+pub content-requires : goal.content-requires
+content-requires c = leaf-asked (leaf (goal.at.content-requires c).Else-f-eq-ARRAY) (omega arith) c.requires.0
+
+pub overflow_sub-to : goal.overflow_sub-to
+overflow_sub-to c = (span_in c.content.ensures c.in-At.is).0
+
+pub put_row-requires : goal.put_row-requires
+put_row-requires c =
+    let pre = c.requires.0 in
+    span-put c.content.ensures c.in-At.is pre.small (omega (arith, pre.small, pre.inside, pre.behind))
+
+pub returns-in-Refused : goal.returns-in-Refused
+returns-in-Refused c = λ R shown. leaf-stop (leaf (goal.at.returns-in-Refused c).Else-f-eq-ARRAY) (omega arith) c.content.ensures c.in-Refused.is R
+
+pub returns-in-At : goal.returns-in-At
+returns-in-At c = λ R shown. leaf-past (leaf (goal.at.returns-in-At c).Else-f-eq-ARRAY) (omega arith) c.content.ensures c.in-At.is c.requires.0.behind c.put_row.ensures R

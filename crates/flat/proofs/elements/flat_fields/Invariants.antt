@@ -1,0 +1,9 @@
+-- `flat::elements::flat_fields` meets its contract. The invariant: what is left of the fields gives the same end, whatever is known.
+use Rattle.flat.proofs.Turns.{Going}
+use Rattle.flat.proofs.elements.flat_fields.Given as goal
+
+abbrev pub invariant-loop-bits : goal.invariant-loop-bits
+invariant-loop-bits l = Going l.s l.p l.depth l.f.ty l.f.row.a l.f.row.b l.place l.known l.start l.row l.judging l.initial.sheet l.i l.bits l.here l.below l.sheet
+
+abbrev pub decreases-loop-bits : goal.decreases-loop-bits
+decreases-loop-bits l = l.bits

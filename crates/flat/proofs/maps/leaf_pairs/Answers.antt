@@ -1,0 +1,141 @@
+-- `flat::maps::leaf_pairs` meets its contract. The invariant: what is left of the pairs gives the same end, whatever is shown, and where keys are
+-- judged those behind are kept.
+use mathlib.Core.Path.{refl, ◌∙◌}
+use Prim.Native.Nat.{◌+◌}
+use native.Mathlib.Omega.{arith}
+use Rattle.walks.specs.Shape.{shape_in}
+use Rattle.flat.proofs.Pairs.{Midway, along-first, along-own, along-end, along-deep, key-asked, key-room, key-failed, key-past, leaf-stops, leaf-turn}
+use Rattle.flat.proofs.Steps.{span_in, span-put, IsLeaf, is_leaf, leaf-asked}
+use Rattle.flat.proofs.Turns.{Any}
+use Rattle.flat.proofs.maps.leaf_pairs.Goals.{After-known_row-v, In-At}
+use Rattle.flat.proofs.maps.leaf_pairs.Goals as goal
+
+-- After a pair's key.
+keyed : (c : In-At) →
+    let args = c.args in
+    Midway Any args.s.now args.p.now args.depth args.ty args.key args.val args.n args.start args.row args.judging args.sheet.now
+    c.next_key.new.keys c.loop-i.i c.in-At.to 0 (c.loop-i.below + 1) c.next_key.new.sheet
+keyed c = key-past c.loop-i.invariant.0 c.loop-i-test.true c.if-depth-eq0.false c.known_row-k.ensures c.next_key.ensures c.in-At.is
+
+-- The type of the values.
+leaf : (c : After-known_row-v) → let args = c.args in IsLeaf args.s.now args.val c.known_row-v.result
+leaf c =
+    let pre = c.requires.kind_nonzero in
+    let is = c.known_row-v.ensures in
+    is_leaf is (rw is pre.0) (rw is pre.1)
+
+pub known_row-k-requires : goal.known_row-k-requires
+known_row-k-requires c = let q = c.requires.pairs_ready.0 in (q.ready.good, q.some)
+
+pub known_row-v-requires : goal.known_row-v-requires
+known_row-v-requires c = let pre = c.requires in (pre.pairs_ready.0.ready.good, pre.kind_nonzero.0)
+
+pub overflow_add-below : goal.overflow_add-below
+overflow_add-below c = let ready = c.requires.pairs_ready.0.ready in omega (arith, ready.small, ready.inside, ready.behind)
+
+pub loop-i-init : goal.loop-i-init
+loop-i-init c = let c8 = c in (along-first c8.requires.pairs_ready.0 (shape_in c8.args.s.now) tt _ _, refl)
+
+pub shape_of-sheet-then-depth-eq0 : goal.shape_of-sheet-then-depth-eq0
+shape_of-sheet-then-depth-eq0 c = c.loop-i.invariant.0.long
+
+pub shape_of-keys-then-depth-eq0 : goal.shape_of-keys-then-depth-eq0
+shape_of-keys-then-depth-eq0 c = c.loop-i.invariant.1
+
+pub returns-then-depth-eq0 : goal.returns-then-depth-eq0
+returns-then-depth-eq0 c =
+    let loop = c in
+    λ R. along-deep loop.loop-i.invariant.0 c.loop-i-test.true c.if-depth-eq0.true R tt
+
+pub next_key-requires : goal.next_key-requires
+next_key-requires c =
+    let loop = c in
+    let inv = loop.loop-i.invariant in
+    let some = c.loop-i-test.true in
+    let k = loop.known_row-k.ensures in
+    let d0 = c.if-depth-eq0.false in
+    let pre = loop.requires.pairs_ready in
+    record { p_len_bound = key-asked inv.0 some d0 k; i_in_bounds = key-room inv.0 some d0 k inv.1 pre.1 }
+
+pub shape_of-sheet-in-Refused : goal.shape_of-sheet-in-Refused
+shape_of-sheet-in-Refused c = let next = c in next.next_key.auto.sheet ∙ next.loop-i.invariant.0.long
+
+pub shape_of-keys-in-Refused : goal.shape_of-keys-in-Refused
+shape_of-keys-in-Refused c = let next = c in next.next_key.auto.keys ∙ next.loop-i.invariant.1
+
+pub returns-in-Refused : goal.returns-in-Refused
+returns-in-Refused c = λ R. key-failed c.loop-i.invariant.0 c.loop-i-test.true c.if-depth-eq0.false c.known_row-k.ensures c.next_key.ensures c.in-Refused.is R tt
+
+pub content-requires : goal.content-requires
+content-requires c =
+    let at = goal.at.content-requires c in
+    leaf-asked (leaf at.After-known_row-v) c.if-depth-eq0.false (keyed at.In-At).ready
+
+pub shape_of-sheet-in-Refused-content : goal.shape_of-sheet-in-Refused-content
+shape_of-sheet-in-Refused-content c =
+    let next = c in
+    next.next_key.auto.sheet ∙ next.loop-i.invariant.0.long
+
+pub shape_of-keys-in-Refused-content : goal.shape_of-keys-in-Refused-content
+shape_of-keys-in-Refused-content c =
+    let next = c in
+    next.next_key.auto.keys ∙ next.loop-i.invariant.1
+
+pub returns-in-Refused-content : goal.returns-in-Refused-content
+returns-in-Refused-content c =
+    let at = goal.at.returns-in-Refused-content c in
+    λ R. leaf-stops (keyed at.In-At) c.if-depth-eq0.false (leaf at.After-known_row-v) c.content.ensures c.in-Refused-content.is R tt
+
+pub overflow_add-below-in-At-content : goal.overflow_add-below-in-At-content
+overflow_add-below-in-At-content c =
+    let loop = c in
+    let a = loop.loop-i.invariant.0 in omega (arith, a.inside, a.behind, a.asked.ready.small)
+
+pub overflow_sub-to : goal.overflow_sub-to
+overflow_sub-to c = (span_in c.content.ensures c.in-At-content.is).0
+
+pub put_row-requires : goal.put_row-requires
+put_row-requires c =
+    let read = c in
+    let ready = (keyed (goal.at.put_row-requires c).In-At).ready in
+    span-put read.content.ensures c.in-At-content.is ready.small (omega (arith, ready.small, ready.inside, ready.behind))
+
+pub overflow_add-below-in-At-content-2 : goal.overflow_add-below-in-At-content-2
+overflow_add-below-in-At-content-2 c =
+    let loop = c in
+    let a = loop.loop-i.invariant.0 in omega (arith, a.inside, a.behind, a.asked.ready.small)
+
+pub overflow_add-i : goal.overflow_add-i
+overflow_add-i c =
+    let test = c in
+    omega (arith, test.loop-i-test.true, test.requires.pairs_ready.0.most)
+
+pub loop-i-smaller : goal.loop-i-smaller
+loop-i-smaller c = omega (arith, c.loop-i-test.true)
+
+pub loop-i-preserved : goal.loop-i-preserved
+loop-i-preserved c =
+    let at = goal.at.loop-i-preserved c in (
+      leaf-turn (keyed at.In-At) c.if-depth-eq0.false (leaf at.After-known_row-v) c.content.ensures c.in-At-content.is (omega arith) c.put_row.ensures,
+      c.next_key.auto.keys ∙ c.loop-i.invariant.1,
+    )
+
+pub overflow_sub-here : goal.overflow_sub-here
+overflow_sub-here c = let loop = c in (along-own loop.loop-i.invariant.0).0
+
+pub put_row-requires-2 : goal.put_row-requires-2
+put_row-requires-2 c =
+    let loop = c in
+    let w = along-own loop.loop-i.invariant.0 in (w.1, w.2, w.3, w.4)
+
+pub key_comparisons-requires : goal.key_comparisons-requires
+key_comparisons-requires c = c.requires.pairs_ready.0.most
+
+pub shape_of-sheet : goal.shape_of-sheet
+shape_of-sheet c = c.put_row-2.auto.sheet ∙ c.loop-i.invariant.0.long
+
+pub shape_of-keys : goal.shape_of-keys
+shape_of-keys c = c.loop-i.invariant.1
+
+pub returns : goal.returns
+returns c = λ R. along-end c.loop-i.invariant.0 (omega (arith, c.loop-i-test.false)) c.put_row-2.ensures (omega (arith, c.key_comparisons.ensures)) R tt

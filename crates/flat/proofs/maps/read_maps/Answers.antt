@@ -1,0 +1,66 @@
+-- `flat::maps::read_maps` meets its contract. The invariant: what is left of the elements gives the same end, whatever is shown.
+use mathlib.Core.Path.{refl, sym, ◌∙◌}
+use native.Mathlib.Omega.{arith}
+use Rattle.walks.specs.Shape.{shape_in}
+use Rattle.flat.proofs.Turns.{reading-end, reading-first, reading-on, reading-own, reading-ready, reading-stop, reading-sum}
+use Rattle.walks.proofs.Items.{elements-none, elements-some}
+use Rattle.flat.proofs.maps.read_maps.Goals as goal
+
+pub overflow_add-below : goal.overflow_add-below
+overflow_add-below c = let pre = c.requires.ready.0 in omega (arith, pre.small, pre.inside, pre.behind)
+
+pub loop-left-init : goal.loop-left-init
+loop-left-init c = let start = c in (reading-first start.requires.ready.0 (shape_in start.args.s.now) refl _, refl)
+
+pub slice_bounds-clear_flags-end : goal.slice_bounds-clear_flags-end
+slice_bounds-clear_flags-end c = sym c.loop-left.invariant.1
+
+pub clear_flags-requires : goal.clear_flags-requires
+clear_flags-requires c = omega (arith, c.loop-left.invariant.1)
+
+pub slice_bounds-leaf_map-end : goal.slice_bounds-leaf_map-end
+slice_bounds-leaf_map-end c = sym (c.clear_flags.auto.keys ∙ c.loop-left.invariant.1)
+
+pub leaf_map-requires : goal.leaf_map-requires
+leaf_map-requires c =
+    let clear = c in
+    let loop = clear.before in
+    let pre = loop.requires in
+    record { ready = (reading-ready loop.loop-left.invariant.0 (elements-some _ _ clear.loop-left-test.true), pre.ready.1); pairs_in = (pre.pairs_in, omega (arith, clear.clear_flags.auto.keys, loop.loop-left.invariant.1)) }
+
+pub shape_of-sheet-in-Refused : goal.shape_of-sheet-in-Refused
+shape_of-sheet-in-Refused c = c.leaf_map.auto.sheet ∙ c.loop-left.invariant.0.long
+
+pub returns-in-Refused : goal.returns-in-Refused
+returns-in-Refused c =
+    let call = c in
+    reading-stop call.loop-left.invariant.0 (elements-some _ _ call.loop-left-test.true) call.leaf_map.ensures c.in-Refused.is
+
+pub overflow_add-sum : goal.overflow_add-sum
+overflow_add-sum c =
+    let call = c in
+    let test = call.before in
+    omega (arith, reading-sum test.loop-left.invariant.0 (elements-some _ _ test.loop-left-test.true) call.leaf_map.ensures c.in-Past.is)
+
+pub loop-left-preserved : goal.loop-left-preserved
+loop-left-preserved c =
+    let call = c in
+    let clear = call.before in
+    let loop = clear.before in (
+      reading-on loop.loop-left.invariant.0 (elements-some _ _ clear.loop-left-test.true) call.leaf_map.ensures c.in-Past.is,
+      call.leaf_map.auto.keys ∙ clear.clear_flags.auto.keys ∙ loop.loop-left.invariant.1,
+    )
+
+pub overflow_sub-here : goal.overflow_sub-here
+overflow_sub-here c = omega (arith, c.loop-left.invariant.0.forth)
+
+pub put_row-requires : goal.put_row-requires
+put_row-requires c = reading-own c.loop-left.invariant.0 (omega arith) c.requires.ready.2
+
+pub shape_of-sheet : goal.shape_of-sheet
+shape_of-sheet c = c.put_row.auto.sheet ∙ c.loop-left.invariant.0.long
+
+pub returns : goal.returns
+returns c =
+    let inv = c.loop-left.invariant.0 in
+    reading-end inv (elements-none _ _ c.loop-left-test.false) c.put_row.ensures (omega arith) inv.forth

@@ -1,0 +1,68 @@
+-- `writer::make` meets its contract.
+use mathlib.Core.Path.{sym, ap}
+use mathlib.Core.Bool.{false≢true}
+use native.Mathlib.Omega.{arith}
+use Rattle.schema.specs.File.{table_of}
+use Rattle.walks.specs.Shape.{fields_from}
+use Rattle.walks.proofs.Tables.{shape-struct, struct_row}
+use Rattle.writer.specs.Entry.{length_of}
+use Rattle.writer.proofs.Entries.{payload-other, front-refused, payload-refused, payload-long, payload-length, payload-front}
+use Rattle.writer.proofs.make.Goals as goal
+
+pub returns-then-t-ne-STRUCT : goal.returns-then-t-ne-STRUCT
+returns-then-t-ne-STRUCT c =
+    let pre = c.requires in
+    let args = c.args in
+    let none = payload-other args.s.now pre.0 args.ty args.sheet.now args.source.now _ c.type_row-t.ensures c.if-t-ne-STRUCT.true in
+    record { value = sym (ap length_of none); fronts = front-refused _ _ none }
+
+pub root-requires : goal.root-requires
+root-requires c =
+    let args = c.args in
+    let asked = c.requires in
+    let type_row = c.type_row-t in
+    let if1 = c.if-t-ne-STRUCT in record {
+      ready = (
+        record { good = asked.0; inside = omega arith; capped = omega arith; small = asked.1; judged = λ j. absurd (false≢true (sym j)) },
+        shape-struct (table_of args.s.now) args.ty _ type_row.ensures if1.false,
+      );
+      n_nonzero = struct_row args.s.now asked.0 args.ty _ type_row.ensures if1.false;
+    }
+
+pub returns-then-pos-gt-PAYLOAD : goal.returns-then-pos-gt-PAYLOAD
+returns-then-pos-gt-PAYLOAD c =
+    let if1 = c.if-t-ne-STRUCT in
+    let args = c.args in
+    let type_row = c.type_row-t in
+    let root = c.root in
+    let T = table_of args.s.now in
+    let is = shape-struct T args.ty _ type_row.ensures if1.false in
+    let fs = fields_from T type_row.result.a type_row.result.b in
+    let long = payload-long args.s.now args.ty args.sheet.now args.source.now fs is _ _ _ root.ensures _ _ c.in-Past.is c.if-pos-gt-PAYLOAD.true in
+    record { value = sym (ap length_of long); fronts = front-refused _ _ long }
+
+pub returns-in-Refused : goal.returns-in-Refused
+returns-in-Refused c =
+    let if1 = c.if-t-ne-STRUCT in
+    let args = c.args in
+    let type_row = c.type_row-t in
+    let root = c.root in
+    let T = table_of args.s.now in
+    let is = shape-struct T args.ty _ type_row.ensures if1.false in
+    let fs = fields_from T type_row.result.a type_row.result.b in
+    let none = payload-refused args.s.now args.ty args.sheet.now args.source.now fs is _ _ _ root.ensures _ _ c.in-Refused.is in
+    record { value = sym (ap length_of none); fronts = front-refused _ _ none }
+
+pub returns-else-pos-gt-PAYLOAD : goal.returns-else-pos-gt-PAYLOAD
+returns-else-pos-gt-PAYLOAD c =
+    let if1 = c.if-t-ne-STRUCT in
+    let args = c.args in
+    let type_row = c.type_row-t in
+    let root = c.root in
+    let T = table_of args.s.now in
+    let is = shape-struct T args.ty _ type_row.ensures if1.false in
+    let fs = fields_from T type_row.result.a type_row.result.b in
+    record {
+      value = sym (payload-length args.s.now args.ty args.sheet.now args.source.now fs is _ _ _ root.ensures _ _ c.in-Past.is c.if-pos-gt-PAYLOAD.false);
+      fronts = payload-front args.s.now args.ty args.sheet.now args.source.now fs is _ _ _ root.ensures;
+    }

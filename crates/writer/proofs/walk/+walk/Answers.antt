@@ -1,0 +1,725 @@
+-- The proof of the cycle of walkers. An array, a map and the structs of a run are given the depth of what they hold, so the measure is six times the depth:
+-- nothing more for a run of structs, one for a composite, then for each walker one more than for those that it calls with the same depth.
+use mathlib.Core.Path.{◌≡◌, refl, ap, ◌∙◌}
+use mathlib.Core.Bool.{true}
+use mathlib.Core.List.{[], ◌∷◌}
+use Prim.Native.Nat.{ℕ, ◌+◌, ◌-◌, ◌/◌, ◌<◌}
+use native.Mathlib.Omega.{arith}
+use lib.ListN.{length}
+use Rattle.schema.specs.declared.TypeRow.{TypeRow}
+use Rattle.schema.specs.Table.{row_at, array, map}
+use Rattle.schema.specs.File.{table_of}
+use Rattle.schema.proofs.Checks.{good-shaped, good-laid}
+use Rattle.value.specs.Read.{plain_item, pairs}
+use Rattle.walks.specs.Shape.{fields_from, shape_in, leaf_shape}
+use Rattle.walks.proofs.Keys.{keys_none}
+use Rattle.walks.proofs.Tables.{few-fields, struct_row, array_row, map_row, map-value, shape-array, shape-map, shape-struct, shape-past, shape-leaf}
+use Rattle.walks.proofs.Presence.{length_fields}
+use Rattle.walks.proofs.Masks.{bits_left, standing-first, standing-field, standing-kind, standing-next, standing-shift, standing-less, standing-skip, standing-same, standing-end}
+use Rattle.walks.proofs.Items.{elements-none, elements-some, pairs-none}
+use Rattle.writer.specs.Walk.{items_end, MapRow}
+use Rattle.writer.proofs.Steps.{was, renamed, as_stopped, as_refused, shown-stopped, shown-refused, onward, walk-done}
+use Rattle.writer.proofs.Steps.{show-deep, accepted-deeper, walked-deeper, items-deeper, items-shallower, leaf-accepted, show-unknown}
+use Rattle.writer.proofs.Leaves.{due_in}
+use Rattle.writer.proofs.Heads.{HeadRow, head-row, head-fits}
+use Rattle.writer.proofs.Composites.{leaf-failed, leaf_in, leaf-past, row-absent, came-by}
+use Rattle.writer.proofs.Composites.{PartsRow, parts-start, parts-accepted, array-found, map-many, map_found, struct-fault, struct-found, struct-start}
+use Rattle.writer.proofs.Composites.{writing-first, writing-small, writing-known, writing-done, writing-ready, writing-stop, writing-on, structs-held, one-accepted, one_end}
+use Rattle.writer.proofs.Keys.{AfterKey, after-key, key-was, pair-first, pair-accepted, pair-stop, pair-past}
+use Rattle.writer.proofs.walk.+walk.Goals.{write_array-In-Found, write_fields-After-field_row-f, write_map-Else-n-gt-MOST_PAIRS, write_map-Start, write_pairs-After-known_row-k, write_pairs-After-known_row-v, write_pairs-After-write_key, write_struct-After-struct_bits, write_value-Else-kind-ge-ARRAY}
+use Rattle.writer.proofs.walk.+walk.Goals.{write_pairs-then-v-gt-BYTES+in-Past-write_composite, write_pairs-else-v-gt-BYTES+in-At}
+use Rattle.writer.proofs.walk.+walk.Goals as goal
+
+-- an array's row, once it was found
+write-array-row : (t : ℕ) (c : write_array-In-Found t)
+    → let args = c.args in
+    PartsRow (shape_in args.s.now) args.source.now args.sheet.now args.row args.ty (array args.elem) c.in-Found.count
+write-array-row t c = array-found c.row_due.ensures c.in-Found.is _ _ c.requires.1
+
+-- a type below the arrays is that of a leaf
+write-value-leaf : (t : ℕ) (c : write_value-Else-kind-ge-ARRAY t)
+    → let args = c.args in
+    shape_in args.s.now args.ty ≡ leaf_shape c.known_row-t.result.kind
+write-value-leaf t c =
+    let row = c.known_row-t in
+    shape-leaf (table_of c.args.s.now) c.args.ty row.result row.ensures (rw row.ensures c.requires.1) (omega (arith, c.if-kind-ge-ARRAY.false))
+
+-- the next of the fields left, once it was looked up
+write-fields-first : (t : ℕ) (c : write_fields-After-field_row-f t)
+    → let loop = c.loop-bits in
+    let args = c.args in
+    let T = table_of args.s.now in
+    bits_left T args.first args.n loop.i loop.bits ≡ plain_item c.field_row-f.result.ty ∷ bits_left T args.first args.n (loop.i + 1) (loop.bits / 2)
+write-fields-first t c =
+    let loop = c.loop-bits in
+    let some : 0 < loop.bits = omega (arith, c.loop-bits-test.true) in
+    standing-field loop.invariant.1 some (table_of c.args.s.now) c.requires.n_bound.2 c.field_row-f.result c.field_row-f.ensures c.if-bits-eq1.true
+
+-- a map's row, once it was found to be of few enough pairs
+write-map-row : (t : ℕ) (c : write_map-Else-n-gt-MOST_PAIRS t)
+    → let args = c.args in
+    PartsRow (shape_in args.s.now) args.source.now args.sheet.now args.row args.ty (map args.t.a args.t.b) c.in-Found.n
+write-map-row t c =
+    let asked = c.requires in
+    map_found c.row_due.ensures c.in-Found.is _ _ (shape-map (table_of c.args.s.now) c.args.ty _ asked.1 asked.2) c.if-n-gt-MOST_PAIRS.false
+
+-- the types of its keys and values
+write-map-types : (t : ℕ) (c : write_map-Start t) → MapRow c.args.s.now c.args.t
+write-map-types t c =
+    let h = c.requires in
+    let key = map_row c.args.s.now h.0.good c.args.ty _ h.1 h.2 in
+    (key.0, key.1, map-value c.args.s.now h.0.good c.args.ty _ h.1 h.2)
+
+-- the shapes of a map's keys, and of its values where they are leaves
+write-pairs-keys : (t : ℕ) (c : write_pairs-After-known_row-k t)
+    → let args = c.args in
+    shape_in args.s.now args.t.a ≡ leaf_shape c.known_row-k.result.kind
+write-pairs-keys t c =
+    let types = c.requires.1 in
+    let k = c.known_row-k in
+    shape-leaf (table_of c.args.s.now) c.args.t.a k.result k.ensures (rw k.ensures types.0) (rw k.ensures types.1)
+
+write-pairs-values : (t : ℕ) (c : write_pairs-After-known_row-v t)
+    → let args = c.args in
+    c.known_row-v.result.kind < 14 → shape_in args.s.now args.t.b ≡ leaf_shape c.known_row-v.result.kind
+write-pairs-values t c below =
+    let v = c.known_row-v in
+    shape-leaf (table_of c.args.s.now) c.args.t.b v.result v.ensures (rw v.ensures c.requires.1.2) below
+
+-- a turn of the loop, once its key was written
+write-pairs-turn : (t : ℕ) (c : write_pairs-After-write_key t)
+    → let args = c.args in
+    let end = items_end args.s.now args.source.now args.sheet.now args.depth [] (pairs args.n args.t.a args.t.b) args.start args.pos args.out.now in
+    AfterKey (shape_in args.s.now) args.source.now args.sheet.now c.write_key.new.keys c.loop-i.i args.t.a args.t.b args.n args.depth args.judging
+    c.write_key.result c.write_key.new.out end
+write-pairs-turn t c =
+    let types = c.requires.1 in
+    let k = c.known_row-k in
+    let keys = shape-leaf (table_of c.args.s.now) c.args.t.a k.result k.ensures (rw k.ensures types.0) (rw k.ensures types.1) in
+    after-key _ c.write_key.ensures keys _ c.loop-i-test.true c.loop-i.invariant.0.same
+
+write-pairs-out : (t : ℕ) (c : write_pairs-After-write_key t)
+    → length c.write_key.new.out ≡ length c.args.out.now
+write-pairs-out t c = c.write_key.auto.out ∙ c.loop-i.invariant.0.long
+
+-- a struct's row and its bits, once both were read
+write-struct-head : (t : ℕ) (c : write_struct-After-struct_bits t)
+    → let args = c.args in
+    HeadRow true (shape_in args.s.now) args.source.now args.sheet.now args.row args.ty args.n (fields_from (table_of args.s.now) args.first args.n) c.struct_bits.result
+write-struct-head t c =
+    let asked = c.requires in
+    let h = asked.n_nonzero in
+    head-row c.row_due.ensures c.in-Found.is c.struct_bits.ensures asked.ready.1 (length_fields _ _ _ h.2) h.3
+
+pub write_array-put_number-next-requires : goal.write_array-put_number-next-requires
+write_array-put_number-next-requires t c = c.requires.0.capped
+
+pub write_array-overflow_add-row : goal.write_array-overflow_add-row
+write_array-overflow_add-row t c =
+    let at_count = (goal.at.write_array-overflow_add-row t c).In-Found in
+    omega (arith, (write-array-row t at_count).inside, at_count.well_formed.1.0)
+
+pub write_array-write_elements-requires : goal.write_array-write_elements-requires
+write_array-write_elements-requires t c =
+    let at_count = (goal.at.write_array-write_elements-requires t c).In-Found in
+    let asked = at_count.requires in
+    let put-number = c.put_number-next in
+    let row = write-array-row t at_count in (
+      omega (arith, c.decreases),
+      (
+        onward asked.0 (omega (arith, row.inside)) put-number.ensures.capped put-number.auto.out (parts-accepted row _),
+        asked.2,
+      ),
+    )
+
+pub write_array-returns-in-Missing : goal.write_array-returns-in-Missing
+write_array-returns-in-Missing t c = shown-refused _ _ _ _ c.refused.ensures (row-absent c.row_due.ensures _ _ _ c.in-Missing.is)
+
+pub write_array-shape_of-out : goal.write_array-shape_of-out
+write_array-shape_of-out t c = c.write_elements.auto.out ∙ c.put_number-next.auto.out
+
+pub write_array-returns-in-Found : goal.write_array-returns-in-Found
+write_array-returns-in-Found t c =
+    let at_count = (goal.at.write_array-returns-in-Found t c).In-Found in
+    let asked = at_count.requires in
+    renamed (parts-start (write-array-row t at_count) _ asked.0.small c.put_number-next.ensures) c.write_elements.ensures
+
+pub write_composite-returns-then-depth-eq0 : goal.write_composite-returns-then-depth-eq0
+write_composite-returns-then-depth-eq0 t c = shown-refused _ _ _ _ c.refused.ensures (show-deep _ _ _ _ _ c.if-depth-eq0.true)
+
+pub write_composite-write_array-requires : goal.write_composite-write_array-requires
+write_composite-write_array-requires t c =
+    let args = c.args in
+    let asked = c.requires in
+    let h = asked.0 in
+    let kind = c.if-kind-eq-ARRAY.true in
+    let deep = c.if-depth-eq0.false in (
+      omega (arith, c.decreases, deep),
+      (
+        onward h h.inside h.capped refl (accepted-deeper _ _ deep _ _),
+        shape-array (table_of args.s.now) args.ty _ asked.1 kind,
+        array_row args.s.now h.good args.ty _ asked.1 kind,
+      ),
+    )
+
+pub write_composite-shape_of-out-then-kind-eq-ARRAY : goal.write_composite-shape_of-out-then-kind-eq-ARRAY
+write_composite-shape_of-out-then-kind-eq-ARRAY t c = c.write_array.auto.out
+
+pub write_composite-returns-then-kind-eq-ARRAY : goal.write_composite-returns-then-kind-eq-ARRAY
+write_composite-returns-then-kind-eq-ARRAY t c = walked-deeper _ _ c.if-depth-eq0.false _ _ _ _ c.write_array.ensures
+
+pub write_composite-write_map-requires : goal.write_composite-write_map-requires
+write_composite-write_map-requires t c =
+    let asked = c.requires in
+    let h = asked.0 in
+    let deep = c.if-depth-eq0.false in
+    (omega (arith, c.decreases, deep), (onward h h.inside h.capped refl (accepted-deeper _ _ deep _ _), asked.1, c.if-kind-eq-MAP.true))
+
+pub write_composite-shape_of-out-then-kind-eq-MAP : goal.write_composite-shape_of-out-then-kind-eq-MAP
+write_composite-shape_of-out-then-kind-eq-MAP t c = c.write_map.auto.out
+
+pub write_composite-returns-then-kind-eq-MAP : goal.write_composite-returns-then-kind-eq-MAP
+write_composite-returns-then-kind-eq-MAP t c = walked-deeper _ _ c.if-depth-eq0.false _ _ _ _ c.write_map.ensures
+
+pub write_composite-write_run-requires : goal.write_composite-write_run-requires
+write_composite-write_run-requires t c =
+    let asked = c.requires in
+    let h = asked.0 in
+    (omega (arith, c.decreases), (onward h h.inside h.capped refl (one-accepted _ _ _), asked.1, c.if-kind-eq-STRUCT.true, omega (arith, c.if-depth-eq0.false)))
+
+pub write_composite-shape_of-out-then-kind-eq-STRUCT : goal.write_composite-shape_of-out-then-kind-eq-STRUCT
+write_composite-shape_of-out-then-kind-eq-STRUCT t c = c.write_run.auto.out
+
+pub write_composite-returns-then-kind-eq-STRUCT : goal.write_composite-returns-then-kind-eq-STRUCT
+write_composite-returns-then-kind-eq-STRUCT t c = renamed (one_end _ _ _ _ _ _) c.write_run.ensures
+
+pub write_composite-returns : goal.write_composite-returns
+write_composite-returns t c =
+    let args = c.args in
+    let asked = c.requires in
+    let past : 16 < args.t.kind = omega (arith, asked.2, c.if-kind-eq-ARRAY.false, c.if-kind-eq-MAP.false, c.if-kind-eq-STRUCT.false) in
+    shown-refused _ _ _ _ c.refused-2.ensures (show-unknown _ _ c.if-depth-eq0.false _ _ _ (shape-past (table_of args.s.now) args.ty _ asked.1 past))
+
+pub write_elements-known_row-t-requires : goal.write_elements-known_row-t-requires
+write_elements-known_row-t-requires t c = (c.requires.0.good, c.requires.1)
+
+pub write_elements-write_leaves-requires : goal.write_elements-write_leaves-requires
+write_elements-write_leaves-requires t c =
+    let asked = c.requires in
+    let row = c.known_row-t.ensures in
+    record { ready = asked.0; kind_nonzero = (rw row asked.1, ap (λ (r : TypeRow). r.kind) row, c.if-kind-lt-ARRAY.true) }
+
+pub write_elements-shape_of-out-then-kind-lt-ARRAY : goal.write_elements-shape_of-out-then-kind-lt-ARRAY
+write_elements-shape_of-out-then-kind-lt-ARRAY t c = c.write_leaves.auto.out
+
+pub write_elements-returns-then-kind-lt-ARRAY : goal.write_elements-returns-then-kind-lt-ARRAY
+write_elements-returns-then-kind-lt-ARRAY t c = c.write_leaves.ensures
+
+pub write_elements-write_run-requires : goal.write_elements-write_run-requires
+write_elements-write_run-requires t c =
+    let asked = c.requires in
+    let row = c.known_row-t in
+    let held = structs-held row.result.kind c.args.depth c.if-kind-depth.true in
+    (omega (arith, c.decreases), (asked.0, row.ensures, held.0, held.1))
+
+pub write_elements-shape_of-out-then-kind-depth : goal.write_elements-shape_of-out-then-kind-depth
+write_elements-shape_of-out-then-kind-depth t c = c.write_run.auto.out
+
+pub write_elements-returns-then-kind-depth : goal.write_elements-returns-then-kind-depth
+write_elements-returns-then-kind-depth t c = c.write_run.ensures
+
+pub write_elements-loop-left-init : goal.write_elements-loop-left-init
+write_elements-loop-left-init t c = writing-first c.requires.0
+
+pub write_elements-write_composite-requires : goal.write_elements-write_composite-requires
+write_elements-write_composite-requires t c = (
+  omega (arith, c.decreases),
+  (
+    writing-ready c.loop-left.invariant (elements-some _ _ c.loop-left-test.true),
+    c.known_row-t.ensures,
+    omega (arith, c.if-kind-lt-ARRAY.false),
+  ),
+)
+
+pub write_elements-shape_of-out-in-Refused : goal.write_elements-shape_of-out-in-Refused
+write_elements-shape_of-out-in-Refused t c = c.write_composite.auto.out ∙ c.loop-left.invariant.long
+
+pub write_elements-returns-in-Refused : goal.write_elements-returns-in-Refused
+write_elements-returns-in-Refused t c = writing-stop c.loop-left.invariant (elements-some _ _ c.loop-left-test.true) c.write_composite.ensures c.in-Refused.is refl
+
+pub write_elements-loop-left-preserved : goal.write_elements-loop-left-preserved
+write_elements-loop-left-preserved t c = writing-on c.loop-left.invariant (elements-some _ _ c.loop-left-test.true) c.write_composite.ensures c.in-Past.is c.write_composite.auto.out
+
+pub write_elements-shape_of-out : goal.write_elements-shape_of-out
+write_elements-shape_of-out t c = c.loop-left.invariant.long
+
+pub write_elements-returns : goal.write_elements-returns
+write_elements-returns t c = writing-done c.loop-left.invariant (elements-none _ _ c.loop-left-test.false)
+
+pub write_value-known_row-t-requires : goal.write_value-known_row-t-requires
+write_value-known_row-t-requires t c = (c.requires.0.good, c.requires.1)
+
+pub write_value-write_composite-requires : goal.write_value-write_composite-requires
+write_value-write_composite-requires t c =
+    let asked = c.requires in
+    (omega (arith, c.decreases), (asked.0, c.known_row-t.ensures, c.if-kind-ge-ARRAY.true))
+
+pub write_value-shape_of-out-then-kind-ge-ARRAY : goal.write_value-shape_of-out-then-kind-ge-ARRAY
+write_value-shape_of-out-then-kind-ge-ARRAY t c = c.write_composite.auto.out
+
+pub write_value-returns-then-kind-ge-ARRAY : goal.write_value-returns-then-kind-ge-ARRAY
+write_value-returns-then-kind-ge-ARRAY t c = c.write_composite.ensures
+
+pub write_value-returns-then-depth-eq0 : goal.write_value-returns-then-depth-eq0
+write_value-returns-then-depth-eq0 t c = shown-refused _ _ _ _ c.refused.ensures (show-deep _ _ _ _ _ c.if-depth-eq0.true)
+
+pub write_value-leaf_row-requires : goal.write_value-leaf_row-requires
+write_value-leaf_row-requires t c =
+    let asked = c.requires in
+    λ j. leaf-accepted _ _ c.if-depth-eq0.false _ _ (write-value-leaf t (goal.at.write_value-leaf_row-requires t c).Else-kind-ge-ARRAY) (asked.0.judged j)
+
+pub write_value-put_content-next-requires : goal.write_value-put_content-next-requires
+write_value-put_content-next-requires t c =
+    let asked = c.requires.0 in
+    let own = leaf_in c.leaf_row.ensures c.in-At.is in
+    (asked.capped, asked.small, own.3)
+
+pub write_value-overflow_add-result : goal.write_value-overflow_add-result
+write_value-overflow_add-result t c =
+    let own = leaf_in c.leaf_row.ensures c.in-At.is in
+    omega (arith, own.0, c.well_formed.1.0)
+
+pub write_value-returns-in-Refused : goal.write_value-returns-in-Refused
+write_value-returns-in-Refused t c = shown-refused _ _ _ _ c.refused-in-Refused.ensures (leaf-failed c.leaf_row.ensures _ (write-value-leaf t (goal.at.write_value-returns-in-Refused t c).Else-kind-ge-ARRAY) c.if-depth-eq0.false c.in-Refused.is)
+
+pub write_value-shape_of-out : goal.write_value-shape_of-out
+write_value-shape_of-out t c = c.put_content-next.auto.out
+
+pub write_value-returns-in-At : goal.write_value-returns-in-At
+write_value-returns-in-At t c = leaf-past c.leaf_row.ensures _ (write-value-leaf t (goal.at.write_value-returns-in-At t c).Else-kind-ge-ARRAY) c.if-depth-eq0.false c.in-At.is c.put_content-next.ensures
+
+pub write_fields-layout_of-l-requires : goal.write_fields-layout_of-l-requires
+write_fields-layout_of-l-requires t c = good-shaped _ c.requires.ready.good
+
+pub write_fields-loop-bits-init : goal.write_fields-loop-bits-init
+write_fields-loop-bits-init t c =
+    let args = c.args in
+    let asked = c.requires in
+    let all : args.first + args.n - args.first ≡ args.n = omega arith in
+    (rw all (writing-first asked.ready), standing-first asked.n_bound.0 asked.n_bound.1)
+
+pub write_fields-field_row-f-requires : goal.write_fields-field_row-f-requires
+write_fields-field_row-f-requires t c = good-laid _ _ c.requires.ready.good c.layout_of-l.ensures
+
+pub write_fields-write_value-requires : goal.write_fields-write_value-requires
+write_fields-write_value-requires t c =
+    let asked = c.requires in
+    let loop = c.loop-bits in
+    let f = c.field_row-f in
+    let some : 0 < loop.bits = omega (arith, c.loop-bits-test.true) in (
+      omega (arith, c.decreases),
+      (
+        writing-ready loop.invariant.0 (write-fields-first t (goal.at.write_fields-write_value-requires t c).After-field_row-f),
+        standing-kind loop.invariant.1 some c.args.s.now asked.ready.good asked.n_bound.2 f.result f.ensures (row_at (table_of c.args.s.now) f.result.ty) refl,
+      ),
+    )
+
+pub write_fields-shape_of-out-in-Refused : goal.write_fields-shape_of-out-in-Refused
+write_fields-shape_of-out-in-Refused t c = c.write_value.auto.out ∙ c.loop-bits.invariant.0.long
+
+pub write_fields-returns-in-Refused : goal.write_fields-returns-in-Refused
+write_fields-returns-in-Refused t c =
+    let field = (goal.at.write_fields-returns-in-Refused t c).After-field_row-f in
+    writing-stop field.loop-bits.invariant.0 (write-fields-first t field) c.write_value.ensures c.in-Refused.is refl
+
+pub write_fields-overflow_add-i : goal.write_fields-overflow_add-i
+write_fields-overflow_add-i t c =
+    let asked = c.requires in
+    omega (arith, c.loop-bits.invariant.1.last, asked.n_bound.2, few-fields _ asked.ready.good)
+
+pub write_fields-loop-bits-smaller-then-bits-eq1 : goal.write_fields-loop-bits-smaller-then-bits-eq1
+write_fields-loop-bits-smaller-then-bits-eq1 t c = omega (arith, c.loop-bits-test.true)
+
+pub write_fields-loop-bits-preserved-then-bits-eq1 : goal.write_fields-loop-bits-preserved-then-bits-eq1
+write_fields-loop-bits-preserved-then-bits-eq1 t c =
+    let field = (goal.at.write_fields-loop-bits-preserved-then-bits-eq1 t c).After-field_row-f in
+    let inv = field.loop-bits.invariant in (
+      writing-on inv.0 (write-fields-first t field) c.write_value.ensures c.in-Past.is c.write_value.auto.out,
+      standing-next inv.1 (omega (arith, field.loop-bits-test.true)),
+    )
+
+pub write_fields-overflow_shr-bits : goal.write_fields-overflow_shr-bits
+write_fields-overflow_shr-bits t c = standing-shift c.loop-bits.invariant.1 (omega (arith, c.loop-bits-test.true)) c.zeros_in-k.ensures.0
+
+pub write_fields-overflow_add-i-else-bits-eq1 : goal.write_fields-overflow_add-i-else-bits-eq1
+write_fields-overflow_add-i-else-bits-eq1 t c =
+    let asked = c.requires in
+    omega (arith, c.loop-bits.invariant.1.last, asked.n_bound.2, few-fields _ asked.ready.good, c.zeros_in-k.ensures.1)
+
+pub write_fields-loop-bits-smaller : goal.write_fields-loop-bits-smaller
+write_fields-loop-bits-smaller t c = standing-less c.loop-bits.invariant.1 (omega (arith, c.loop-bits-test.true)) c.zeros_in-k.ensures.0 c.if-bits-eq1.false
+
+pub write_fields-loop-bits-preserved : goal.write_fields-loop-bits-preserved
+write_fields-loop-bits-preserved t c =
+    let inv = c.loop-bits.invariant in
+    let some : 0 < c.loop-bits.bits = omega (arith, c.loop-bits-test.true) in
+    (rw (standing-same inv.1 some c.zeros_in-k.ensures.0 (table_of c.args.s.now)) inv.0, standing-skip inv.1 some c.zeros_in-k.ensures.0)
+
+pub write_fields-shape_of-out : goal.write_fields-shape_of-out
+write_fields-shape_of-out t c = c.loop-bits.invariant.0.long
+
+pub write_fields-returns : goal.write_fields-returns
+write_fields-returns t c =
+    let args = c.args in
+    writing-done c.loop-bits.invariant.0 (standing-end (table_of args.s.now) args.first args.n c.loop-bits.i c.loop-bits-test.false)
+
+pub write_many_pairs-write_pairs-requires : goal.write_many_pairs-write_pairs-requires
+write_many_pairs-write_pairs-requires t c =
+    let asked = c.requires in
+    let h = c.requires in
+    (omega (arith, c.decreases), (h.0, h.1, omega (arith, h.2), h.2))
+
+pub write_many_pairs-shape_of-out : goal.write_many_pairs-shape_of-out
+write_many_pairs-shape_of-out t c = c.write_pairs.auto.out
+
+pub write_many_pairs-returns : goal.write_many_pairs-returns
+write_many_pairs-returns t c = c.write_pairs.ensures
+
+pub write_map-returns-then-n-gt-MOST_PAIRS : goal.write_map-returns-then-n-gt-MOST_PAIRS
+write_map-returns-then-n-gt-MOST_PAIRS t c =
+    let asked = c.requires in
+    let is = shape-map (table_of c.args.s.now) c.args.ty _ asked.1 asked.2 in
+    shown-refused _ _ _ _ c.refused-then-n-gt-MOST_PAIRS.ensures (map-many c.row_due.ensures c.in-Found.is _ _ is c.if-n-gt-MOST_PAIRS.true _)
+
+pub write_map-put_number-next-requires : goal.write_map-put_number-next-requires
+write_map-put_number-next-requires t c = c.requires.0.capped
+
+pub write_map-overflow_add-result : goal.write_map-overflow_add-result
+write_map-overflow_add-result t c =
+    let at-if1 = (goal.at.write_map-overflow_add-result t c).Else-n-gt-MOST_PAIRS in
+    omega (arith, (write-map-row t at-if1).inside, at-if1.well_formed.1.0)
+
+pub write_map-shape_of-out-then-n-eq0 : goal.write_map-shape_of-out-then-n-eq0
+write_map-shape_of-out-then-n-eq0 t c = c.put_number-next.auto.out
+
+pub write_map-returns-then-n-eq0 : goal.write_map-returns-then-n-eq0
+write_map-returns-then-n-eq0 t c =
+    let at-if1 = (goal.at.write_map-returns-then-n-eq0 t c).Else-n-gt-MOST_PAIRS in
+    let put-number = c.put_number-next in
+    let row = write-map-row t at-if1 in
+    let from = parts-start row _ c.requires.0.small put-number.ensures in
+    walk-done _ _ _ (pairs-none c.args.t.a c.args.t.b at-if1.in-Found.n (omega (arith, c.if-n-eq0.true))) from (omega (arith, row.inside)) put-number.ensures.capped
+
+pub write_map-overflow_add-row : goal.write_map-overflow_add-row
+write_map-overflow_add-row t c =
+    let at-if1 = (goal.at.write_map-overflow_add-row t c).Else-n-gt-MOST_PAIRS in
+    omega (arith, (write-map-row t at-if1).inside, at-if1.well_formed.1.0)
+
+pub write_map-write_many_pairs-requires : goal.write_map-write_many_pairs-requires
+write_map-write_many_pairs-requires t c =
+    let at-if1 = (goal.at.write_map-write_many_pairs-requires t c).Else-n-gt-MOST_PAIRS in
+    let start = (goal.at.write_map-write_many_pairs-requires t c).Start in
+    let put-number = c.put_number-next in
+    let row = write-map-row t at-if1 in (
+      omega (arith, start.decreases),
+      (
+        onward start.requires.0 (omega (arith, row.inside)) put-number.ensures.capped put-number.auto.out (parts-accepted row _),
+        write-map-types t start,
+        at-if1.if-n-gt-MOST_PAIRS.false,
+      ),
+    )
+
+pub write_map-shape_of-out-then-n-gt-FEW_KEYS : goal.write_map-shape_of-out-then-n-gt-FEW_KEYS
+write_map-shape_of-out-then-n-gt-FEW_KEYS t c = c.write_many_pairs.auto.out ∙ c.put_number-next.auto.out
+
+pub write_map-returns-then-n-gt-FEW_KEYS : goal.write_map-returns-then-n-gt-FEW_KEYS
+write_map-returns-then-n-gt-FEW_KEYS t c =
+    let at-if1 = (goal.at.write_map-returns-then-n-gt-FEW_KEYS t c).Else-n-gt-MOST_PAIRS in
+    renamed (parts-start (write-map-row t at-if1) _ c.requires.0.small c.put_number-next.ensures) c.write_many_pairs.ensures
+
+pub write_map-overflow_add-row-in-Found : goal.write_map-overflow_add-row-in-Found
+write_map-overflow_add-row-in-Found t c =
+    let at-if1 = (goal.at.write_map-overflow_add-row-in-Found t c).Else-n-gt-MOST_PAIRS in
+    omega (arith, (write-map-row t at-if1).inside, at-if1.well_formed.1.0)
+
+pub write_map-write_pairs-requires : goal.write_map-write_pairs-requires
+write_map-write_pairs-requires t c =
+    let at-if1 = (goal.at.write_map-write_pairs-requires t c).Else-n-gt-MOST_PAIRS in
+    let start = (goal.at.write_map-write_pairs-requires t c).Start in
+    let put-number = c.put_number-next in
+    let row = write-map-row t at-if1 in (
+      omega (arith, start.decreases),
+      (
+        onward start.requires.0 (omega (arith, row.inside)) put-number.ensures.capped put-number.auto.out (parts-accepted row _),
+        write-map-types t start,
+        omega (arith, c.if-n-gt-FEW_KEYS.false),
+        at-if1.if-n-gt-MOST_PAIRS.false,
+      ),
+    )
+
+pub write_map-returns-in-Missing : goal.write_map-returns-in-Missing
+write_map-returns-in-Missing t c = shown-refused _ _ _ _ c.refused.ensures (row-absent c.row_due.ensures _ _ _ c.in-Missing.is)
+
+pub write_map-shape_of-out : goal.write_map-shape_of-out
+write_map-shape_of-out t c = c.write_pairs.auto.out ∙ c.put_number-next.auto.out
+
+pub write_map-returns-else-n-gt-FEW_KEYS : goal.write_map-returns-else-n-gt-FEW_KEYS
+write_map-returns-else-n-gt-FEW_KEYS t c =
+    let at-if1 = (goal.at.write_map-returns-else-n-gt-FEW_KEYS t c).Else-n-gt-MOST_PAIRS in
+    renamed (parts-start (write-map-row t at-if1) _ c.requires.0.small c.put_number-next.ensures) c.write_pairs.ensures
+
+pub write_pairs-known_row-k-requires : goal.write_pairs-known_row-k-requires
+write_pairs-known_row-k-requires t c = let h = c.requires in (h.0.good, h.1.0)
+
+pub write_pairs-known_row-v-requires : goal.write_pairs-known_row-v-requires
+write_pairs-known_row-v-requires t c = let h = c.requires in (h.0.good, h.1.2)
+
+pub write_pairs-loop-i-init : goal.write_pairs-loop-i-init
+write_pairs-loop-i-init t c =
+    let all : c.args.n - 0 ≡ c.args.n = omega arith in
+    (rw (all, keys_none c.args.source.now c.args.keys.now) (writing-first c.requires.0), omega arith, refl, λ j l. absurd (omega arith))
+
+pub write_pairs-write_key-requires : goal.write_pairs-write_key-requires
+write_pairs-write_key-requires t c =
+    let at-known-row = (goal.at.write_pairs-write_key-requires t c).After-known_row-k in
+    let h = c.requires in
+    let loop = c.loop-i in
+    let some = c.loop-i-test.true in
+    record {
+      keys-fit = omega (arith, some, loop.invariant.2, h.2);
+      capped = loop.invariant.0.capped;
+      small = writing-small loop.invariant.0;
+      kept = loop.invariant.3;
+      judged = λ j. (
+        shape_in c.args.s.now,
+        write-pairs-keys t at-known-row,
+        (_, pair-first _ _ c.args.t.b _ _ some (writing-known loop.invariant.0 j)),
+      );
+    }
+
+pub write_pairs-shape_of-out-in-Refused : goal.write_pairs-shape_of-out-in-Refused
+write_pairs-shape_of-out-in-Refused t c = write-pairs-out t (goal.at.write_pairs-shape_of-out-in-Refused t c).After-write_key
+
+pub write_pairs-shape_of-keys-in-Refused : goal.write_pairs-shape_of-keys-in-Refused
+write_pairs-shape_of-keys-in-Refused t c = c.write_key.auto.keys ∙ c.loop-i.invariant.2
+
+pub write_pairs-returns-in-Refused : goal.write_pairs-returns-in-Refused
+write_pairs-returns-in-Refused t c = as_stopped (key-was (write-pairs-turn t (goal.at.write_pairs-returns-in-Refused t c).After-write_key) c.in-Refused.is).same
+
+pub write_pairs-write_composite-requires : goal.write_pairs-write_composite-requires
+write_pairs-write_composite-requires t c =
+    let at-write-key = (goal.at.write_pairs-write_composite-requires t c).After-write_key in
+    let asked = c.requires in
+    let turn = write-pairs-turn t at-write-key in
+    let past = c.in-Past.is in
+    let within = (key-was turn past).within in (
+      omega (arith, c.decreases),
+      (
+        onward asked.0 within.0 within.1 (write-pairs-out t at-write-key) (pair-accepted turn past _ _ _ _ refl),
+        c.known_row-v.ensures,
+        c.if-v-gt-BYTES.true,
+      ),
+    )
+
+pub write_pairs-shape_of-out-in-Refused-write_composite : goal.write_pairs-shape_of-out-in-Refused-write_composite
+write_pairs-shape_of-out-in-Refused-write_composite t c = c.write_composite.auto.out ∙ write-pairs-out t (goal.at.write_pairs-shape_of-out-in-Refused-write_composite t c).After-write_key
+
+pub write_pairs-shape_of-keys-in-Refused-write_composite : goal.write_pairs-shape_of-keys-in-Refused-write_composite
+write_pairs-shape_of-keys-in-Refused-write_composite t c = c.write_key.auto.keys ∙ c.loop-i.invariant.2
+
+pub write_pairs-returns-in-Refused-write_composite : goal.write_pairs-returns-in-Refused-write_composite
+write_pairs-returns-in-Refused-write_composite t c =
+    let at-write-key = (goal.at.write_pairs-returns-in-Refused-write_composite t c).After-write_key in
+    let w = was c.write_composite.ensures c.in-Refused-write_composite.is in
+    as_stopped (pair-stop (write-pairs-turn t at-write-key) c.in-Past.is w.same)
+
+pub write_pairs-leaf_row-requires : goal.write_pairs-leaf_row-requires
+write_pairs-leaf_row-requires t c =
+    let at-write-key = (goal.at.write_pairs-leaf_row-requires t c).After-write_key in
+    let at-known-row2 = (goal.at.write_pairs-leaf_row-requires t c).After-known_row-v in
+    let asked = at-known-row2.requires in
+    let turn = write-pairs-turn t at-write-key in
+    let past = c.in-Past.is in
+    let some = (key-was turn past).within.2 in
+    let leaf = write-pairs-values t at-known-row2 (omega (arith, c.if-v-gt-BYTES.false)) in
+    λ j. leaf-accepted _ _ (omega (arith, some)) _ _ leaf (pair-accepted turn past _ _ _ _ refl (asked.0.judged j))
+
+pub write_pairs-shape_of-out-in-Refused-leaf_row : goal.write_pairs-shape_of-out-in-Refused-leaf_row
+write_pairs-shape_of-out-in-Refused-leaf_row t c = write-pairs-out t (goal.at.write_pairs-shape_of-out-in-Refused-leaf_row t c).After-write_key
+
+pub write_pairs-shape_of-keys-in-Refused-leaf_row : goal.write_pairs-shape_of-keys-in-Refused-leaf_row
+write_pairs-shape_of-keys-in-Refused-leaf_row t c = c.write_key.auto.keys ∙ c.loop-i.invariant.2
+
+pub write_pairs-returns-in-Refused-leaf_row : goal.write_pairs-returns-in-Refused-leaf_row
+write_pairs-returns-in-Refused-leaf_row t c =
+    let at-write-key = (goal.at.write_pairs-returns-in-Refused-leaf_row t c).After-write_key in
+    let turn = write-pairs-turn t at-write-key in
+    let past = c.in-Past.is in
+    let some = (key-was turn past).within.2 in
+    let leaf = write-pairs-values t (goal.at.write_pairs-returns-in-Refused-leaf_row t c).After-known_row-v (omega (arith, c.if-v-gt-BYTES.false)) in
+    let failed = leaf-failed c.leaf_row.ensures _ leaf (omega (arith, some)) c.in-Refused-leaf_row.is in
+    as_refused c.refused.ensures (pair-stop turn past (shown-stopped _ _ _ _ failed))
+
+pub write_pairs-put_content-to-requires : goal.write_pairs-put_content-to-requires
+write_pairs-put_content-to-requires t c =
+    let at-write-key = (goal.at.write_pairs-put_content-to-requires t c).After-write_key in
+    let own = leaf_in c.leaf_row.ensures c.in-At.is in
+    ((key-was (write-pairs-turn t at-write-key) c.in-Past.is).within.1, rw (write-pairs-out t at-write-key) c.requires.0.small, own.3)
+
+pub write_pairs-overflow_add-at : goal.write_pairs-overflow_add-at
+write_pairs-overflow_add-at t c =
+    let own = leaf_in c.leaf_row.ensures c.in-At.is in
+    omega (arith, own.0, c.well_formed.1.0)
+
+pub write_pairs-overflow_add-i : goal.write_pairs-overflow_add-i
+write_pairs-overflow_add-i t c = omega (arith, c.loop-i-test.true, c.ranges.n)
+
+pub write_pairs-loop-i-smaller : goal.write_pairs-loop-i-smaller
+write_pairs-loop-i-smaller t c = omega (arith, c.loop-i-test.true)
+
+pub write_pairs-loop-i-preserved : goal.write_pairs-loop-i-preserved
+write_pairs-loop-i-preserved t c =
+    let at-write-key = (goal.at.write_pairs-loop-i-preserved t c).After-write_key in
+    let turn = write-pairs-turn t at-write-key in
+    let past = c.in-Past.is in
+    let within = (key-was turn past).within in
+    let long = write-pairs-out t at-write-key in
+    let joined = c.if-v-gt-BYTES in
+    let turned = pair-past turn past (rw long c.requires.0.small) joined.at joined.to joined.out (elim joined.branch [
+      | write_pairs-then-v-gt-BYTES+in-Past-write_composite w ↦ came-by (was w.write_composite.ensures w.in-Past-write_composite.is) w.write_composite.auto.out w.at-is w.to-is w.out-is
+      | write_pairs-else-v-gt-BYTES+in-At w ↦
+          let leaf = write-pairs-values t (goal.at.write_pairs-loop-i-preserved t c).After-known_row-v (omega (arith, w.if-v-gt-BYTES.false)) in
+          came-by (leaf-past w.leaf_row.ensures _ leaf (omega (arith, within.2)) w.in-At.is w.put_content-to.ensures) w.put_content-to.auto.out w.at-is w.to-is w.out-is
+    ]) in
+    let inv = c.loop-i.invariant in (
+      record { asked = inv.0.asked; same = turned.0; inside = turned.1; capped = turned.2; long = turned.3 ∙ long },
+      omega (arith, c.loop-i-test.true),
+      at-write-key.write_key.auto.keys ∙ inv.2,
+      within.3,
+    )
+
+pub write_pairs-shape_of-out : goal.write_pairs-shape_of-out
+write_pairs-shape_of-out t c = c.loop-i.invariant.0.long
+
+pub write_pairs-shape_of-keys : goal.write_pairs-shape_of-keys
+write_pairs-shape_of-keys t c = c.loop-i.invariant.2
+
+pub write_pairs-returns : goal.write_pairs-returns
+write_pairs-returns t c =
+    let args = c.args in
+    writing-done c.loop-i.invariant.0 (pairs-none args.t.a args.t.b (args.n - c.loop-i.i) (omega (arith, c.loop-i-test.false)))
+
+pub write_run-overflow_sub-depth : goal.write_run-overflow_sub-depth
+write_run-overflow_sub-depth t c = omega (arith, c.requires.3)
+
+pub write_run-write_structs-requires : goal.write_run-write_structs-requires
+write_run-write_structs-requires t c =
+    let args = c.args in
+    let asked = c.requires in
+    let h = c.requires in
+    let s = args.s.now in (
+      omega (arith, c.decreases, h.3),
+      (
+        (
+          onward h.0 h.0.inside h.0.capped refl (items-deeper _ _ (omega (arith, h.3)) _ _),
+          shape-struct (table_of s) args.ty _ h.1 h.2,
+        ),
+        struct_row s h.0.good args.ty _ h.1 h.2,
+      ),
+    )
+
+pub write_run-shape_of-out : goal.write_run-shape_of-out
+write_run-shape_of-out t c = c.write_structs.auto.out
+
+pub write_run-returns : goal.write_run-returns
+write_run-returns t c = items-shallower _ _ (omega (arith, c.requires.3)) _ _ _ _ c.write_structs.ensures
+
+pub write_struct-struct_bits-requires : goal.write_struct-struct_bits-requires
+write_struct-struct_bits-requires t c =
+    let asked = c.requires in
+    (asked.n_nonzero.1, (due_in c.row_due.ensures c.in-Found.is).3)
+
+pub write_struct-overflow_add-n : goal.write_struct-overflow_add-n
+write_struct-overflow_add-n t c =
+    let asked = c.requires in
+    omega (arith, asked.n_nonzero.1)
+
+pub write_struct-put_bits-next-requires : goal.write_struct-put_bits-next-requires
+write_struct-put_bits-next-requires t c =
+    let asked = c.requires in
+    (asked.ready.0.capped, omega (arith, asked.n_nonzero.1))
+
+pub write_struct-overflow_add-row : goal.write_struct-overflow_add-row
+write_struct-overflow_add-row t c =
+    let at-struct-bits = (goal.at.write_struct-overflow_add-row t c).After-struct_bits in
+    let sound = at-struct-bits.well_formed in
+    omega (arith, (write-struct-head t at-struct-bits).inside, sound.1.0)
+
+pub write_struct-write_fields-requires : goal.write_struct-write_fields-requires
+write_struct-write_fields-requires t c =
+    let at-struct-bits = (goal.at.write_struct-write_fields-requires t c).After-struct_bits in
+    let asked = at-struct-bits.requires in
+    let h = asked.n_nonzero in
+    let put-bits = c.put_bits-next in
+    let bits = c.in-Bits.is in
+    let head = write-struct-head t at-struct-bits in (
+      omega (arith, c.decreases),
+      (
+        onward asked.ready.0 (omega (arith, head.inside)) put-bits.ensures.capped put-bits.auto.out (parts-accepted (struct-found head bits) _),
+        (h.1, head-fits head bits, h.2),
+      ),
+    )
+
+pub write_struct-returns-in-Missing : goal.write_struct-returns-in-Missing
+write_struct-returns-in-Missing t c = shown-refused _ _ _ _ c.refused.ensures (row-absent c.row_due.ensures _ _ _ c.in-Missing.is)
+
+pub write_struct-returns-in-Refused : goal.write_struct-returns-in-Refused
+write_struct-returns-in-Refused t c = shown-refused _ _ _ _ c.refused-in-Refused.ensures (struct-fault (write-struct-head t (goal.at.write_struct-returns-in-Refused t c).After-struct_bits) c.in-Refused.is _)
+
+pub write_struct-shape_of-out : goal.write_struct-shape_of-out
+write_struct-shape_of-out t c = c.write_fields.auto.out ∙ c.put_bits-next.auto.out
+
+pub write_struct-returns-in-Bits : goal.write_struct-returns-in-Bits
+write_struct-returns-in-Bits t c =
+    let at-struct-bits = (goal.at.write_struct-returns-in-Bits t c).After-struct_bits in
+    let asked = at-struct-bits.requires in
+    let start = struct-start (write-struct-head t at-struct-bits) c.in-Bits.is _ asked.ready.0.small c.put_bits-next.ensures in
+    renamed start c.write_fields.ensures
+
+pub write_structs-layout_of-requires : goal.write_structs-layout_of-requires
+write_structs-layout_of-requires t c = good-shaped _ c.requires.ready.0.good
+
+pub write_structs-required_of-required-requires : goal.write_structs-required_of-required-requires
+write_structs-required_of-required-requires t c =
+    let asked = c.requires in
+    let good = asked.ready.0.good in
+    (good, good-laid _ _ good c.layout_of.ensures, asked.n_nonzero.1, asked.n_nonzero.2)
+
+pub write_structs-loop-left-init : goal.write_structs-loop-left-init
+write_structs-loop-left-init t c = writing-first c.requires.ready.0
+
+pub write_structs-write_struct-requires : goal.write_structs-write_struct-requires
+write_structs-write_struct-requires t c =
+    let asked = c.requires in
+    let h = asked.n_nonzero in (
+      omega (arith, c.decreases),
+      (
+        (writing-ready c.loop-left.invariant (elements-some _ _ c.loop-left-test.true), asked.ready.1),
+        (h.0, h.1, h.2, c.required_of-required.ensures),
+      ),
+    )
+
+pub write_structs-shape_of-out-in-Refused : goal.write_structs-shape_of-out-in-Refused
+write_structs-shape_of-out-in-Refused t c = c.write_struct.auto.out ∙ c.loop-left.invariant.long
+
+pub write_structs-returns-in-Refused : goal.write_structs-returns-in-Refused
+write_structs-returns-in-Refused t c = writing-stop c.loop-left.invariant (elements-some _ _ c.loop-left-test.true) c.write_struct.ensures c.in-Refused.is refl
+
+pub write_structs-loop-left-preserved : goal.write_structs-loop-left-preserved
+write_structs-loop-left-preserved t c = writing-on c.loop-left.invariant (elements-some _ _ c.loop-left-test.true) c.write_struct.ensures c.in-Past.is c.write_struct.auto.out
+
+pub write_structs-shape_of-out : goal.write_structs-shape_of-out
+write_structs-shape_of-out t c = c.loop-left.invariant.long
+
+pub write_structs-returns : goal.write_structs-returns
+write_structs-returns t c = writing-done c.loop-left.invariant (elements-none _ _ c.loop-left-test.false)

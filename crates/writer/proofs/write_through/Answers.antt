@@ -1,0 +1,45 @@
+-- `writer::write_through` meets its contract.
+use mathlib.Core.Path.{sym, ap, ◌∙◌}
+use lib.Seq.{length-take-le}
+use Rattle.writer.specs.declared.Writing.TheVariants.{Written}
+use Rattle.writer.proofs.Entries.{entry-refused, entry-room, entry-written, entry-copied}
+use Rattle.writer.proofs.write_through.Goals as goal
+
+pub returns-then-out-length : goal.returns-then-out-length
+returns-then-out-length c =
+    let make = c.make in
+    let args = c.args in
+    entry-room args.s.now args.ty args.sheet.now args.source.now args.out.now _ (sym make.ensures.value ∙ c.in-Written.is) c.if-out-length.true
+
+pub slice_bounds-put_payload-end-then-scratch-length : goal.slice_bounds-put_payload-end-then-scratch-length
+slice_bounds-put_payload-end-then-scratch-length c = sym (length-take-le _ _ c.if-out-length.false)
+
+pub put_payload-requires : goal.put_payload-requires
+put_payload-requires c =
+    let pre = c.requires in
+    let make = c.make in
+    let room = length-take-le _ _ c.if-out-length.false in
+    record { good = pre.0; source_value = sym make.ensures.value ∙ c.in-Written.is ∙ ap Written (sym room) }
+
+pub returns-in-Refused : goal.returns-in-Refused
+returns-in-Refused c =
+    let make = c.make in
+    let args = c.args in
+    entry-refused args.s.now args.ty args.sheet.now args.source.now args.out.now _ _ (sym make.ensures.value ∙ c.in-Refused.is)
+
+pub returns-then-scratch-length : goal.returns-then-scratch-length
+returns-then-scratch-length c =
+    let make = c.make in
+    let if1 = c.if-out-length in
+    let args = c.args in
+    let size = sym make.ensures.value ∙ c.in-Written.is in
+    entry-written args.s.now args.ty args.sheet.now args.source.now args.out.now _ size if1.false _ c.put_payload.ensures
+
+pub returns-else-scratch-length : goal.returns-else-scratch-length
+returns-else-scratch-length c =
+    let make = c.make in
+    let if1 = c.if-out-length in
+    let if2 = c.if-scratch-length in
+    let args = c.args in
+    let size = sym make.ensures.value ∙ c.in-Written.is in
+    entry-copied args.s.now args.ty args.sheet.now args.source.now args.out.now _ size if1.false _ _ if2.false make.auto.scratch make.ensures.fronts c.put_span.ensures
