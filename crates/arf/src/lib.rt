@@ -1,5 +1,7 @@
 // The public entries: none of them asks anything of its caller, and each fixes its answer and every cell of lent memory.
-// `receive` and `release` stand in `receiver`: to hand a lent slice of tally rows on would take one more proof by hand.
+// `receive` and `release` are those of `receiver`, handed on as they stand there.
+#![tactic(auto)]
+
 ghost use Rattle.std.specs.Prelude.{◌≡◌, length};
 ghost use Rattle.connection.specs.Step.{fresh_table};
 ghost use Rattle.forward.specs.Entry.{forward_outcome};

@@ -1,4 +1,6 @@
 // The forwarding writer: the rows of a sheet over their bytes, written as a payload with the root's unknown bits kept and a tail after the known fields.
+#![tactic(auto)]
+
 ghost use Rattle.std.specs.Prelude.{◌≡◌, List, ◌+◌, ◌/◌, ◌≤◌, ◌<◌, length};
 ghost use Rattle.buffer.specs.Span.{span};
 ghost use Rattle.buffer.specs.Store.{put};

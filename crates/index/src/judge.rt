@@ -30,7 +30,7 @@ const LENGTH_AT: usize = 8;
 const LAYOUT_AT: usize = 12;
 
 // What follows `stopped`, and how many rows are looked at: none at a refusal.
-#[derive(Drop)]
+#[derive(Clone, Copy)]
 pub struct Judged {
     pub number: u32,
     pub rows: usize,

@@ -1,4 +1,6 @@
 // The index of a record: a row for each entry that its listing prints, by correlation and then place; and the look-up of one call in an index.
+#![tactic(auto)]
+
 mod judge;
 mod make;
 mod order;
@@ -17,7 +19,7 @@ use table::checking::check;
 // Bytes of a row of an index; the trailer is as long.
 pub const ROW: usize = 16;
 
-#[derive(Drop)]
+#[derive(Clone, Copy)]
 pub enum Indexing {
     // The length of the index.
     Made { length: usize },
@@ -25,7 +27,7 @@ pub enum Indexing {
     Refused { number: u32, place: usize },
 }
 
-#[derive(Drop)]
+#[derive(Clone, Copy)]
 pub enum Finding {
     // What follows `stopped` in the text, and the text's length.
     Printed { number: u32, length: usize },

@@ -1,4 +1,3 @@
-pub mod Walk
 pub mod Ways
 pub mod Rows
 pub mod Kept

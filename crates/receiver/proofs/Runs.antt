@@ -425,6 +425,8 @@ released-is : (ts : List Tally) (past : Past) (own : OwnCall) → Reflects past 
     verdict_number (release_verdict own) (counted_number (row_for ts r.row) r 0) ≡ release_by ts past
 unfolding figure_by
 released-is ts closed none nothing = refl
+released-is ts closed (one c) r = elim r [ ]
+released-is ts (since m b h) none r = elim r [ ]
 released-is ts (since m b h) (one c) (call _ _ _ _ w) =
     ap (λ (x : Bool). number_of-release x) w.is_cancelled ∙ go (cancelled h)
   where

@@ -1,5 +1,7 @@
 // One frame's bytes with their side, judged against the schema table, the call table, the sheet and the tally rows; and the release of a cancelled call.
 // An entry is a plan, which names the tally row, and its settling with that row.
+#![tactic(auto)]
+
 pub mod answer;
 pub mod fresh;
 pub mod payload;
@@ -14,7 +16,7 @@ use frame::FrameRead;
 use reader::Reading;
 
 // The answer to a frame, with the next call table.
-#[derive(Drop)]
+#[derive(Clone, Copy)]
 pub struct Received {
     // 0 for an accepted frame, 1 for more bytes needed, or a refusal's number.
     pub number: u32,
@@ -35,14 +37,14 @@ pub struct Received {
 }
 
 // The frame at the front of the bytes as it was read, and the answer to it.
-#[derive(Drop)]
+#[derive(Clone, Copy)]
 pub struct FrameAnswer {
     pub read: FrameRead,
     pub answer: Received,
 }
 
 // The answer to a release, with the next call table.
-#[derive(Drop)]
+#[derive(Clone, Copy)]
 pub struct Released {
     // 0 for a call that was released, or a refusal's number.
     pub number: u32,
@@ -54,7 +56,7 @@ pub struct Released {
 }
 
 // The frame at the front of the bytes, judged before its call: it stops with this number, or is whole, and its payload stands between two places.
-#[derive(Drop)]
+#[derive(Clone, Copy)]
 pub enum Front {
     Refused(u32),
     Whole {
@@ -65,7 +67,7 @@ pub enum Front {
 }
 
 // What is left to do once the tables, the frame and its call are judged.
-#[derive(Drop)]
+#[derive(Clone, Copy)]
 pub enum Next {
     // The answer is this refusal, or 1.
     Refused {
@@ -82,14 +84,14 @@ pub enum Next {
 }
 
 // The tally row that an entry asks for, and what is left to do with it.
-#[derive(Drop)]
+#[derive(Clone, Copy)]
 pub struct Plan {
     pub row: usize,
     pub next: Next,
 }
 
 // A plan settled up to the call table: the tally row afterwards, and what the answer comes from, the judgement, the payload's reading and the frame's size.
-#[derive(Drop)]
+#[derive(Clone, Copy)]
 pub struct Done {
     pub row: Tally,
     pub judged: Judged,
@@ -98,13 +100,13 @@ pub struct Done {
 }
 
 // The tally row afterwards, and the answer.
-#[derive(Drop)]
+#[derive(Clone, Copy)]
 pub struct Settled {
     pub row: Tally,
     pub answer: Received,
 }
 
-#[derive(Drop)]
+#[derive(Clone, Copy)]
 pub struct SettledRelease {
     pub row: Tally,
     pub answer: Released,

@@ -1,4 +1,4 @@
-// One frame over the lent tally rows. Proved by hand, since the prover does not take a lent slice of structs by itself.
+// One frame over the lent tally rows.
 ghost use Rattle.std.specs.Prelude.{◌≡◌};
 ghost use Rattle.receiver.specs.Answer.{effect};
 ghost use Rattle.receiver.specs.Receive.{received};

@@ -1,4 +1,4 @@
-// The release of a cancelled call over the lent tally rows. Proved by hand, as `receive` is.
+// The release of a cancelled call over the lent tally rows.
 ghost use Rattle.std.specs.Prelude.{◌≡◌};
 ghost use Rattle.receiver.specs.Release.{release_effect, released};
 

@@ -1,4 +1,6 @@
 // The run of a record: one entry after the other from the fresh call table.
+#![tactic(auto)]
+
 ghost use Rattle.std.specs.Prelude.{◌≡◌, length};
 ghost use Rattle.schema.specs.Check.{IsGood};
 ghost use Rattle.frame.specs.Frame.{frame_of};

@@ -1,4 +1,6 @@
 // Frames of values: the value that a sheet shows, written as a payload straight behind its header.
+#![tactic(auto)]
+
 ghost use Rattle.std.specs.Prelude.{◌≡◌, ◌+◌, ◌≤◌, length};
 ghost use Rattle.schema.specs.Check.{IsGood};
 ghost use Rattle.value.specs.Sheet.{rows_of};
@@ -15,14 +17,14 @@ use writer::put::put_span;
 use writer::{FEW_CELLS, SHORT, Writing, make, put_payload};
 
 // A part of the output, from one place up to another.
-#[derive(Drop)]
+#[derive(Clone, Copy)]
 struct Part {
     start: usize,
     end: usize,
 }
 
 // How long the payload likely is, which gives its place in the frame; and how many bytes of the output are kept for it.
-#[derive(Drop)]
+#[derive(Clone, Copy)]
 struct Guess {
     length: usize,
     kept: usize,
