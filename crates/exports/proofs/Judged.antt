@@ -15,8 +15,8 @@ use Rattle.receiver.specs.declared.Settled.{Settled}
 use Rattle.receiver.specs.declared.SettledRelease.{SettledRelease}
 use Rattle.receiver.specs.Answer.{effect, row_effect, in_row}
 use Rattle.receiver.specs.Planning.{stop_plan, plan_of, release_plan}
-use Rattle.receiver.specs.Receive.{settled, received}
-use Rattle.receiver.specs.Release.{ReleaseEffect, release_effect, release_answer, release_settled, released}
+use Rattle.receiver.specs.Receive.{settled}
+use Rattle.receiver.specs.Release.{ReleaseEffect, release_effect, release_answer, release_settled}
 use Rattle.receiver.proofs.Ways.{same_row, effect_of, stop-effect}
 use Rattle.receiver.proofs.Lent.{within, release-within}
 use Rattle.exports.specs.Answers.{not_calls, refused_plan, judgement, not_released, release_judgement}

@@ -46,8 +46,7 @@ fn frame_cells(a: FrameRead) -> [u64; 7]
 }
 
 // Reads the frame at the front of the bytes. answer: kind, package, service, method, correlation, the payload's place and length.
-#[unsafe(no_mangle)]
-pub extern "C" fn arf_read_frame(bytes: &[u8], answer: &mut [u64]) -> u32
+pub fn arf_read_frame(bytes: &[u8], answer: &mut [u64]) -> u32
     ensures value { result ≡ read_number (frame_of bytes.now) }
     ensures answer_after { answer.new ≡ stored answer.old (frame_cells (frame_of bytes.now)) }
 {
@@ -76,8 +75,7 @@ fn write_length(a: FrameWritten) -> u64
 }
 
 // Writes a frame. answer: its length.
-#[unsafe(no_mangle)]
-pub extern "C" fn arf_write_frame(
+pub fn arf_write_frame(
     kind: u32,
     package: u32,
     service: u32,

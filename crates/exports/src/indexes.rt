@@ -46,13 +46,7 @@ fn find_cells(a: Finding) -> [u64; 1]
 }
 
 // Makes the index of a record at the start of the output. answer: place, the length of the index.
-#[unsafe(no_mangle)]
-pub extern "C" fn arf_make_index(
-    schema: &[u8],
-    record: &[u8],
-    out: &mut [u8],
-    answer: &mut [u64],
-) -> u32
+pub fn arf_make_index(schema: &[u8], record: &[u8], out: &mut [u8], answer: &mut [u64]) -> u32
     ensures value { result ≡ index_number (make_index schema.now «record».now out.old).answer }
     ensures out_after { out.new ≡ (make_index schema.now «record».now out.old).out }
     ensures answer_after { answer.new ≡ stored answer.old (index_cells (make_index schema.now «record».now out.old).answer) }
@@ -65,8 +59,7 @@ pub extern "C" fn arf_make_index(
 
 // Prints the rows of one call in an index at the start of the output, as text. The number is what follows `stopped` in the text (0, 65 or 66), or 52 where the
 // text does not fit. answer: the text's length.
-#[unsafe(no_mangle)]
-pub extern "C" fn arf_look_up(
+pub fn arf_look_up(
     index: &[u8],
     record: &[u8],
     correlation: u64,

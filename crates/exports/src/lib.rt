@@ -1,5 +1,7 @@
-// The entries for programs in other languages: functions of numbers and slices, in a static library.
+// The entries for programs in other languages: functions of numbers and slices, which the static library of `exports_c` hands out under the same names.
 // Each gives 01's number and stores the answer's other numbers into cells that the caller lends, as many as there is room for.
+#![tactic(auto)]
+
 pub mod frames;
 pub mod indexes;
 pub mod payloads;
@@ -12,7 +14,7 @@ pub mod schemas;
 mod settling;
 
 // What an answer tells of the call table: the number, the bytes used and the calls open afterwards.
-#[derive(Drop)]
+#[derive(Clone, Copy)]
 pub struct Kept {
     pub number: u32,
     pub used: usize,

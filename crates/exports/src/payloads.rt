@@ -46,8 +46,7 @@ fn read_cells(a: Reading) -> [u64; 5]
 }
 
 // Reads a payload and shows it on the sheet. answer: place, rows, the tail's place and length, the key comparisons due.
-#[unsafe(no_mangle)]
-pub extern "C" fn arf_read(
+pub fn arf_read(
     schema: &[u8],
     ty: u32,
     payload: &[u8],
@@ -65,8 +64,7 @@ pub extern "C" fn arf_read(
 }
 
 // Reads a payload by the writer's table and shows it by ours. answer: place, rows, the tail's place and length, the key comparisons due.
-#[unsafe(no_mangle)]
-pub extern "C" fn arf_read_beside(
+pub fn arf_read_beside(
     ours: &[u8],
     theirs: &[u8],
     ty: u32,
@@ -103,8 +101,7 @@ fn write_cells(a: Writing) -> [u64; 2]
 }
 
 // Writes the value that a sheet shows over its bytes. answer: place, the payload's length.
-#[unsafe(no_mangle)]
-pub extern "C" fn arf_write(
+pub fn arf_write(
     schema: &[u8],
     ty: u32,
     sheet: &[u32],
@@ -123,8 +120,7 @@ pub extern "C" fn arf_write(
 }
 
 // Writes a frame with the value that a sheet shows over its bytes; type 4294967295 is an empty payload. answer: place, the frame's length.
-#[unsafe(no_mangle)]
-pub extern "C" fn arf_write_value_frame(
+pub fn arf_write_value_frame(
     kind: u32,
     package: u32,
     service: u32,
@@ -156,8 +152,7 @@ pub extern "C" fn arf_write_value_frame(
 
 // Writes the value that a sheet shows over its bytes, with the root's unknown bits kept and the tail after the known fields. answer: place, the payload's
 // length.
-#[unsafe(no_mangle)]
-pub extern "C" fn arf_forward(
+pub fn arf_forward(
     schema: &[u8],
     ty: u32,
     sheet: &[u32],

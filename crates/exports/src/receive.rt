@@ -72,8 +72,7 @@ fn received_cells(reading: Reading, used: usize, calls: usize) -> [u64; 7]
 
 // Judges the frame at the front of the bytes, from a side (the byte C or S). table: 128 records of three cells, before and after. tallies: five cells a
 // method, before and after. answer: place, bytes used, rows, the tail's place and length, calls open, the key comparisons due.
-#[unsafe(no_mangle)]
-pub extern "C" fn arf_receive(
+pub fn arf_receive(
     table: &mut [u64],
     schema: &[u8],
     side: u8,

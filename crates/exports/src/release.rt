@@ -42,8 +42,7 @@ fn judge(
 
 // Ends the cancelled call with this correlation. table: 128 records of three cells, before and after; with fewer cells, or a cell with more bits than
 // a record's number, it is refused with 15. tallies: five cells a method, before and after. answer: place, calls open.
-#[unsafe(no_mangle)]
-pub extern "C" fn arf_release(
+pub fn arf_release(
     table: &mut [u64],
     schema: &[u8],
     correlation: u64,

@@ -35,13 +35,7 @@ fn salvage_cells(a: Salvaging) -> [u64; 3]
 }
 
 // Copies every entry of a record that can be kept, and lists the spans left out. answer: entries kept, bytes copied, spans listed.
-#[unsafe(no_mangle)]
-pub extern "C" fn arf_salvage(
-    record: &[u8],
-    copy: &mut [u8],
-    spans: &mut [u32],
-    answer: &mut [u64],
-) -> u32
+pub fn arf_salvage(record: &[u8], copy: &mut [u8], spans: &mut [u32], answer: &mut [u64]) -> u32
     ensures value { result ≡ salvage_number (salvage_of «record».now copy.old spans.old).answer }
     ensures copy_after { copy.new ≡ (salvage_of «record».now copy.old spans.old).copy }
     ensures spans_after { spans.new ≡ (salvage_of «record».now copy.old spans.old).spans }

@@ -21,8 +21,7 @@ fn scalar_number(a: Answer) -> u32
 }
 
 // One row over its bytes as a value. answer: place, the case (1 truth value, 2 signed, 3 unsigned, 4 float32, 5 float64, 6 span) and its two numbers.
-#[unsafe(no_mangle)]
-pub extern "C" fn arf_scalar(
+pub fn arf_scalar(
     schema: &[u8],
     ty: u32,
     place: u32,

@@ -29,8 +29,7 @@ fn check_cells(a: Checked) -> [u64; 1]
 }
 
 // The verdict on a schema table. answer: place.
-#[unsafe(no_mangle)]
-pub extern "C" fn arf_check_table(schema: &[u8], answer: &mut [u64]) -> u32
+pub fn arf_check_table(schema: &[u8], answer: &mut [u64]) -> u32
     ensures value { result ≡ check_number (checked schema.now) }
     ensures answer_after { answer.new ≡ stored answer.old (check_cells (checked schema.now)) }
 {
@@ -61,8 +60,7 @@ fn extend_cells(a: Extended) -> [u64; 2]
 }
 
 // Whether the new table extends the old one. answer: place, 1 for yes or 0.
-#[unsafe(no_mangle)]
-pub extern "C" fn arf_extends(old: &[u8], new: &[u8], answer: &mut [u64]) -> u32
+pub fn arf_extends(old: &[u8], new: &[u8], answer: &mut [u64]) -> u32
     ensures value { result ≡ extend_number (extension old.now new.now) }
     ensures answer_after { answer.new ≡ stored answer.old (extend_cells (extension old.now new.now)) }
 {

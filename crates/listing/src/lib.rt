@@ -1,4 +1,6 @@
 // The listing of a record of frames, as text in a lent buffer.
+#![tactic(auto)]
+
 mod entries;
 mod lines;
 

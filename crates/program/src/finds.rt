@@ -1,60 +1,45 @@
 // The entries of one call, by the index of a record: find INDEX RECORD CALL.
 use crate::arguments::{FIRST, SECOND, THIRD};
 use crate::blank;
-use crate::print::{is_over, print};
+use crate::failure::{Failure, both};
+use crate::print::{holds, print};
 use index::Finding;
-use libc::STDERR_FILENO;
+use std::rt::{Env, Files};
 use words::number::{Parsed, number_of};
 
 // More than the longest text: 22 bytes for each of 8,191 rows, and 24.
 pub const TEXT: usize = 180300;
 
-fn show(index: &[u8], record: &[u8], correlation: u64) {
+fn show(rt: &impl Print, index: &[u8], record: &[u8], correlation: u64) -> Result<(), Failure> {
     let mut out = blank::found();
     match arf::look_up(index, record, correlation, &mut out) {
-        Finding::Refused { number: _ } => {
-            io::write_all(STDERR_FILENO, b"arf: the text is too long\n");
-        }
+        Finding::Refused { number: _ } => Err(Failure::LongText),
         Finding::Printed { number: _, length } => {
             let n = files::front(length, &out);
-            print(&out[..n]);
+            print(rt, &out[..n])
         }
     }
 }
 
 // The correlation that the verb's third argument gives.
-fn call(whole: &mut bool) -> u64 {
-    let mut text = io::buffer();
-    let n = os::arg(THIRD, &mut text);
-    let mut value = 0;
-    let mut good = os::errno() == 0;
-    if good {
-        match number_of(&text[..n]) {
-            Parsed::Number(x) => value = x,
-            Parsed::Nothing => good = false,
-        }
+fn call(env: &impl Env) -> Result<u64, Failure> {
+    let mut text = files::buffer();
+    let n = env.arg(THIRD, &mut text).map_err(|_| Failure::Call)?;
+    match number_of(&text[..n]) {
+        Parsed::Number(correlation) => Ok(correlation),
+        Parsed::Nothing => Err(Failure::Call),
     }
-    if !good {
-        io::write_all(
-            STDERR_FILENO,
-            b"arf: CALL is a decimal number from 0 to 18446744073709551615\n",
-        );
-        *whole = false;
-    }
-    value
 }
 
-pub fn find() {
-    let mut whole = true;
-    let correlation = call(&mut whole);
-    if !whole {
-        return;
-    }
+pub fn find<R: Env + Files + Print>(rt: &R) -> Result<(), Failure> {
+    let correlation = call(rt)?;
     let mut index = blank::file();
     let mut record = blank::file();
-    let n = files::read(b"arf", FIRST, &mut index, &mut whole);
-    let m = files::read(b"arf", SECOND, &mut record, &mut whole);
-    if whole && !is_over(n, b"the index") && !is_over(m, b"the record") {
-        show(&index[..n], &record[..m], correlation);
-    }
+    let (n, m) = both(
+        files::read(rt, FIRST, &mut index),
+        files::read(rt, SECOND, &mut record),
+    )?;
+    holds(n, Failure::LongIndex)?;
+    holds(m, Failure::LongRecord)?;
+    show(rt, &index[..n], &record[..m], correlation)
 }

@@ -1,53 +1,47 @@
 // The index of a record: index SCHEMA RECORD INDEX. Writes it to a new file, and says in words how many entries it covers.
 use crate::arguments::{FIRST, SECOND, THIRD};
-use crate::print::is_over;
+use crate::failure::{Failure, both};
+use crate::print::holds;
+use crate::save::save_file;
 use crate::{blank, told};
 use index::{Indexing, ROW};
+use std::rt::{Env, Files};
 
 // The most bytes of an index.
 pub const INDEX: usize = 38848;
 
-// Says how many entries an index of so many bytes covers: each has a row, and the trailer is as long.
-fn tell(length: usize) {
-    let mut entries = 0;
-    if ROW <= length {
-        entries = length / ROW - 1;
-    }
-    told::indexed(entries, length);
+// How many entries an index of so many bytes covers: each has a row, and the trailer is as long.
+fn entries_of(length: usize) -> usize {
+    (length / ROW).saturating_sub(1)
 }
 
 // Writes an index to the new file that the verb's third argument names.
-fn save(index: &[u8], whole: &mut bool) {
-    let mut path = io::buffer();
-    let n = files::name(b"arf", THIRD, &mut path, whole);
-    if *whole {
-        files::save(b"arf", &path[..n], index, whole);
-    }
+fn save<R: Env + Files>(rt: &R, index: &[u8]) -> Result<(), Failure> {
+    let mut path = files::buffer();
+    let n = files::name(rt, THIRD, &mut path)?;
+    save_file(rt, THIRD, &path[..n], index)
 }
 
 // Makes, saves and tells.
-fn make(schema: &[u8], record: &[u8]) {
+fn make<R: Env + Files + Print>(rt: &R, schema: &[u8], record: &[u8]) -> Result<(), Failure> {
     let mut out = blank::index();
     match arf::make_index(schema, record, &mut out) {
-        Indexing::Refused { number, place } => told::refused(number, place),
+        Indexing::Refused { number, place } => told::refused(rt, number, place),
         Indexing::Made { length } => {
             let n = files::front(length, &out);
-            let mut whole = true;
-            save(&out[..n], &mut whole);
-            if whole {
-                tell(length);
-            }
+            save(rt, &out[..n])?;
+            told::indexed(rt, entries_of(length), length)
         }
     }
 }
 
-pub fn index() {
+pub fn index<R: Env + Files + Print>(rt: &R) -> Result<(), Failure> {
     let mut schema = blank::file();
     let mut record = blank::record();
-    let mut whole = true;
-    let n = files::read(b"arf", FIRST, &mut schema, &mut whole);
-    let m = files::read(b"arf", SECOND, &mut record, &mut whole);
-    if whole && !is_over(n, b"the schema file") {
-        make(&schema[..n], &record[..m]);
-    }
+    let (n, m) = both(
+        files::read(rt, FIRST, &mut schema),
+        files::read(rt, SECOND, &mut record),
+    )?;
+    holds(n, Failure::LongSchema)?;
+    make(rt, &schema[..n], &record[..m])
 }

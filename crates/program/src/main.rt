@@ -1,7 +1,10 @@
 // The program behind ./arf: its first argument is a verb, and the others are what that takes. It prints the verb's text on standard output, or on standard
 // error why it failed, and never both.
+#![tactic(auto)]
+
 mod arguments;
 mod blank;
+mod failure;
 mod finds;
 mod indexes;
 mod list;
@@ -11,61 +14,30 @@ mod save;
 mod schemas;
 mod told;
 
-use libc::STDERR_FILENO;
+use arguments::{VERB, WITH_ONE, WITH_THREE, WITH_TWO};
+use failure::Failure;
+use std::io;
+use std::rt::{Env, Files};
 
-fn usage() {
-    io::write_all(
-        STDERR_FILENO,
-        b"arf: there is no such verb with so many arguments: run ./arf --help\n",
-    );
-}
-
-// Runs a verb that takes one argument.
-fn run_one(verb: &[u8]) {
-    if check::same(verb, b"check") {
-        schemas::check();
-    } else if check::same(verb, b"explain") {
-        schemas::explain();
-    } else {
-        usage();
+// Runs the verb that the first argument names; a word that is missing or too long is no verb.
+fn run<R: Env + Files + Print>(rt: &R) -> Result<(), Failure> {
+    let mut verb = files::buffer();
+    let n = rt.arg(VERB, &mut verb).unwrap_or(0);
+    match (arguments::count(rt), &verb[..n]) {
+        (WITH_ONE, b"check") => schemas::check(rt),
+        (WITH_ONE, b"explain") => schemas::explain(rt),
+        (WITH_TWO, b"list") => list::list(rt),
+        (WITH_TWO, b"extends") => schemas::extends(rt),
+        (WITH_THREE, b"salvage") => salvages::salvage(rt),
+        (WITH_THREE, b"index") => indexes::index(rt),
+        (WITH_THREE, b"find") => finds::find(rt),
+        _ => Err(Failure::Usage),
     }
 }
 
-// Runs a verb that takes two.
-fn run_two(verb: &[u8]) {
-    if check::same(verb, b"list") {
-        list::list();
-    } else if check::same(verb, b"extends") {
-        schemas::extends();
-    } else {
-        usage();
-    }
-}
-
-// Runs a verb that takes three.
-fn run_three(verb: &[u8]) {
-    if check::same(verb, b"salvage") {
-        salvages::salvage();
-    } else if check::same(verb, b"index") {
-        indexes::index();
-    } else if check::same(verb, b"find") {
-        finds::find();
-    } else {
-        usage();
-    }
-}
-
-fn main() {
-    let mut verb = io::buffer();
-    let n = os::arg(arguments::VERB, &mut verb);
-    let words = os::arg_count();
-    if words == arguments::WITH_ONE {
-        run_one(&verb[..n]);
-    } else if words == arguments::WITH_TWO {
-        run_two(&verb[..n]);
-    } else if words == arguments::WITH_THREE {
-        run_three(&verb[..n]);
-    } else {
-        usage();
+fn main(rt: HostRuntime) -> io::Result<()> {
+    match run(&rt) {
+        Ok(()) => Ok(()),
+        Err(failure) => failure.tell(&rt, &rt.stderr()),
     }
 }

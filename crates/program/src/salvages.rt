@@ -1,18 +1,20 @@
 // The salvage of a torn record: salvage RECORD COPY SPANS. Writes the kept entries and the list of spans, two little-endian 32-bit numbers each, to two new
 // files, and says in words what was kept and left out.
 use crate::arguments::FIRST;
+use crate::failure::Failure;
 use crate::{blank, save, told};
 use salvage::Salvaging;
+use std::rt::{Env, Files};
 
 // The most cells that a list needs.
 pub const CELLS: usize = 4682;
 
 // Saves and tells what was kept of a record.
-fn keep(record: &[u8]) {
+fn keep<R: Env + Files + Print>(rt: &R, record: &[u8]) -> Result<(), Failure> {
     let mut copy = blank::record();
     let mut spans = blank::spans();
     match arf::salvage(record, &mut copy, &mut spans) {
-        Salvaging::Refused { number } => told::refused(number, 0),
+        Salvaging::Refused { number } => told::refused(rt, number, 0),
         Salvaging::Salvaged {
             entries,
             bytes,
@@ -20,20 +22,14 @@ fn keep(record: &[u8]) {
         } => {
             let n = files::front(bytes, &copy);
             let m = save::front_cells(listed, &spans);
-            let mut whole = true;
-            save::save(&copy[..n], &spans[..m], &mut whole);
-            if whole {
-                told::kept(entries, bytes, &spans[..m]);
-            }
+            save::save(rt, &copy[..n], &spans[..m])?;
+            told::kept(rt, entries, bytes, &spans[..m])
         }
     }
 }
 
-pub fn salvage() {
+pub fn salvage<R: Env + Files + Print>(rt: &R) -> Result<(), Failure> {
     let mut record = blank::record();
-    let mut whole = true;
-    let n = files::read(b"arf", FIRST, &mut record, &mut whole);
-    if whole {
-        keep(&record[..n]);
-    }
+    let n = files::read(rt, FIRST, &mut record)?;
+    keep(rt, &record[..n])
 }

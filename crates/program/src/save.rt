@@ -1,12 +1,19 @@
-// The two files of a salvage.
-ghost use Rattle.io.specs.Counts.{IsPrefixLen};
+// The new files of a salvage and of an index.
+ghost use Rattle.std.specs.Prelude.{◌≡◌, ◌≤◌, length, take};
 
 use crate::arguments::{SECOND, THIRD};
+use crate::failure::{Failure, both};
+use files::FileError;
 use salvage::SPAN_CELLS;
+use std::fs::OpenFile;
+use std::io;
+use std::io::Write;
+use std::rt::{Env, Files};
 
 // The number of the cells of n spans at the front of the list; there are never more than the list has.
 pub fn front_cells(n: usize, spans: &[u32]) -> usize
-    ensures { IsPrefixLen result spans.now }
+    ensures in_bounds { result ≤ length spans.now }
+    ensures taken { result ≡ length (take result spans.now) }
 {
     if spans.len() / SPAN_CELLS < n {
         return 0;
@@ -14,60 +21,52 @@ pub fn front_cells(n: usize, spans: &[u32]) -> usize
     SPAN_CELLS * n
 }
 
-// How many numbers a byte has, and what the third and the fourth byte of a number count.
-const BYTE: u32 = 256;
-
-const THIRD_BYTE: u32 = 65536;
-
-const FOURTH_BYTE: u32 = 16777216;
-
-// Four bytes, the least first.
-fn put_word(fd: i32, path: &[u8], word: u32, whole: &mut bool) {
-    let bytes = [
-        (word % BYTE) as u8,
-        (word / BYTE % BYTE) as u8,
-        (word / THIRD_BYTE % BYTE) as u8,
-        (word / FOURTH_BYTE) as u8,
-    ];
-    files::put(b"arf", fd, path, &bytes, whole);
+// A failure of the file that an argument names.
+fn of_file(argument: usize, outcome: io::Result<()>) -> Result<(), Failure> {
+    outcome.map_err(|error| Failure::File(FileError::File { argument, error }))
 }
 
-fn put_words(fd: i32, path: &[u8], cells: &[u32], whole: &mut bool) {
-    let mut i = 0;
-    while i < cells.len() {
-        put_word(fd, path, cells[i], whole);
-        i += 1;
-    }
+// Writes the bytes to the new file that an argument names.
+pub fn save_file(
+    files: &impl Files,
+    argument: usize,
+    path: &[u8],
+    bytes: &[u8],
+) -> Result<(), Failure> {
+    of_file(argument, files::save(files, path, bytes))
 }
 
-// Writes the list to a new file.
-fn save_spans(path: &[u8], spans: &[u32], whole: &mut bool) {
-    let fd = files::create(b"arf", path, whole);
-    if fd < 0 {
-        return;
+// Writes the list to a file that was made: four bytes for a cell, the least first.
+fn put_spans<F: Write + OpenFile + Drop>(mut file: F, spans: &[u32]) -> io::Result<()> {
+    for cell in spans {
+        files::put(&mut file, &cell.to_le_bytes())?;
     }
-    put_words(fd, path, spans, whole);
-    files::finish(b"arf", fd, path, whole);
-    if !*whole {
-        os::unlink(path);
+    files::finish(file)
+}
+
+// Writes the list to a new file, which is taken away again where that fails.
+fn save_spans(files: &impl Files, path: &[u8], spans: &[u32]) -> io::Result<()> {
+    let file = files::create(files, path)?;
+    let written = put_spans(file, spans);
+    if written.is_err() {
+        // The file's failure counts, and not this one's.
+        let _ = files::remove(files, path);
     }
+    written
 }
 
 // Writes the copy and the list to the new files that the verb's second and third argument name: both, or neither.
-pub fn save(copy: &[u8], spans: &[u32], whole: &mut bool) {
-    let mut first = io::buffer();
-    let mut second = io::buffer();
-    let n = files::name(b"arf", SECOND, &mut first, whole);
-    let m = files::name(b"arf", THIRD, &mut second, whole);
-    if !*whole {
-        return;
+pub fn save<R: Env + Files>(rt: &R, copy: &[u8], spans: &[u32]) -> Result<(), Failure> {
+    let mut first = files::buffer();
+    let mut second = files::buffer();
+    let (n, m) = both(
+        files::name(rt, SECOND, &mut first),
+        files::name(rt, THIRD, &mut second),
+    )?;
+    save_file(rt, SECOND, &first[..n], copy)?;
+    let listed = save_spans(rt, &second[..m], spans);
+    if listed.is_err() {
+        let _ = files::remove(rt, &first[..n]);
     }
-    files::save(b"arf", &first[..n], copy, whole);
-    if !*whole {
-        return;
-    }
-    save_spans(&second[..m], spans, whole);
-    if !*whole {
-        os::unlink(&first[..n]);
-    }
+    of_file(THIRD, listed)
 }

@@ -1,5 +1,7 @@
 -- A float that equals itself is no NaN.
-use Rattle.std.proofs.Common.{◌≡◌, true, not, T, sym, subst}
+use mathlib.Core.Path.{◌≡◌, sym, subst}
+use mathlib.Core.Bool.{true, not}
+use lib.Dec.{T}
 use lib.Ieee.{Float, nan, inf, fin, eq, is_nan}
 
 pub equal-number : (x : Float) → eq x x ≡ true → T (not (is_nan x))

@@ -1,5 +1,8 @@
 // Cases of the frame reader and of the frame writer.
+use crate::stop::Stop;
 use crate::{blank, input, output, sums};
+use frame::{FrameRead, FrameWritten, Header};
+use std::io::{Read, Write};
 
 // The most bytes of an output, and what each holds before the call.
 pub const ROOM: usize = 140000;
@@ -7,94 +10,79 @@ pub const ROOM: usize = 140000;
 pub const BYTE: u8 = 165;
 
 // Code 6: the bytes of a frame. The line has number, the header's five numbers, and the payload's place and length.
-pub fn read() -> bool {
+pub fn read(from: &mut impl Read, to: &mut impl Write) -> Result<(), Stop> {
     let mut data = blank::bytes();
-    let mut whole = true;
-    let n = input::bytes(&mut data, &mut whole);
-    if whole {
-        print_read(arf::read_frame(&data[..n]));
-    }
-    whole
+    let n = input::bytes(from, &mut data)?;
+    print_read(to, arf::read_frame(&data[..n]))
 }
 
-fn print_read(answer: frame::FrameRead) {
+const NO_HEADER: Header = Header {
+    kind: 0,
+    package: 0,
+    service: 0,
+    method: 0,
+    correlation: 0,
+};
+
+fn print_read(to: &mut impl Write, answer: FrameRead) -> Result<(), Stop> {
     match answer {
-        frame::FrameRead::More => print_none(1),
-        frame::FrameRead::Refused(number) => print_none(number as u64),
-        frame::FrameRead::Frame {
+        FrameRead::More => print_frame(to, 1, NO_HEADER, 0, 0),
+        FrameRead::Refused(number) => print_frame(to, number, NO_HEADER, 0, 0),
+        FrameRead::Frame {
             header,
             place,
             length,
-        } => {
-            output::number(0);
-            print_header(header);
-            output::number(place as u64);
-            output::last(length as u64);
-        }
+        } => print_frame(to, 0, header, place, length),
     }
 }
 
-fn print_header(header: frame::Header) {
-    output::number(header.kind as u64);
-    output::number(header.package as u64);
-    output::number(header.service as u64);
-    output::number(header.method as u64);
-    output::number(header.correlation);
-}
-
-fn print_none(number: u64) {
-    output::number(number);
-    let none = frame::Header {
-        kind: 0,
-        package: 0,
-        service: 0,
-        method: 0,
-        correlation: 0,
-    };
-    print_header(none);
-    output::number(0);
-    output::last(0);
+fn print_frame(
+    to: &mut impl Write,
+    number: u32,
+    header: Header,
+    place: usize,
+    length: usize,
+) -> Result<(), Stop> {
+    let numbers = [
+        u64::from(number),
+        u64::from(header.kind),
+        u64::from(header.package),
+        u64::from(header.service),
+        u64::from(header.method),
+        header.correlation,
+        place as u64,
+    ];
+    output::numbers(to, &numbers)?;
+    output::last(to, length as u64)?;
+    Ok(())
 }
 
 // Code 7: a header, a payload and the output's length. The line has number, the frame's length and the output's sum.
-pub fn write() -> bool {
+pub fn write(from: &mut impl Read, to: &mut impl Write) -> Result<(), Stop> {
     let mut payload = blank::bytes();
     let mut out = blank::output();
-    let mut whole = true;
-    let header = read_header(&mut whole);
-    let n = input::bytes(&mut payload, &mut whole);
-    let room = input::room(&out, &mut whole);
-    if whole {
-        show(header, &payload[..n], &mut out[..room]);
-    }
-    whole
+    let header = read_header(from)?;
+    let n = input::bytes(from, &mut payload)?;
+    let room = input::room(from, &out)?;
+    show(to, header, &payload[..n], &mut out[..room])
 }
 
-pub fn read_header(whole: &mut bool) -> frame::Header {
-    let kind = input::word(whole);
-    let package = input::word(whole);
-    let service = input::word(whole);
-    let method = input::word(whole);
-    let correlation = input::long(whole);
-    frame::Header {
-        kind,
-        package,
-        service,
-        method,
-        correlation,
-    }
+pub fn read_header(from: &mut impl Read) -> Result<Header, Stop> {
+    Ok(Header {
+        kind: input::word(from)?,
+        package: input::word(from)?,
+        service: input::word(from)?,
+        method: input::word(from)?,
+        correlation: input::long(from)?,
+    })
 }
 
-fn show(header: frame::Header, payload: &[u8], out: &mut [u8]) {
-    match arf::write_frame(header, payload, out) {
-        frame::FrameWritten::Written(length) => {
-            output::number(0);
-            output::number(length as u64);
-        }
-        frame::FrameWritten::Refused(number) => {
-            output::number(number as u64);
-            output::number(0);
-        }
-    }
-    output::last(sums::of_bytes(out));
+fn show(to: &mut impl Write, header: Header, payload: &[u8], out: &mut [u8]) -> Result<(), Stop> {
+    let (number, length) = match arf::write_frame(header, payload, out) {
+        FrameWritten::Written(length) => (0, length),
+        FrameWritten::Refused(number) => (number, 0),
+    };
+    output::numbers(to, &[u64::from(number), length as u64])?;
+    output::last(to, sums::of_bytes(out))?;
+    Ok(())
 }

@@ -1,118 +1,136 @@
-// The numbers and byte strings of a case file, off standard input. Each reader answers 0 and clears `whole` where the file ends too soon.
-ghost use Rattle.io.specs.Counts.{IsPrefixLen};
+// The numbers and byte strings of a case, off the case file. Each reader stops where the file ends too soon.
+ghost use Rattle.std.specs.Prelude.{◌≡◌, ◌<◌, length, IfErr};
+ghost use Rattle.std.specs.Io.{ReadsAtMost};
+ghost use Rattle.test_entries.specs.Reading.{GivesSome};
+ghost use Rattle.test_entries.specs.declared.stop.Stop.TheVariants.{Cut};
 
+use crate::stop::Stop;
 use cells::rows::TALLY_CELLS;
-use libc::STDIN_FILENO;
+use std::io::Read;
 
-// How many numbers a byte has.
-const BYTE: u16 = 256;
-
-pub fn byte(whole: &mut bool) -> u8 {
-    let mut b = [0u8; 1];
-    let n = io::read_full(STDIN_FILENO, &mut b);
-    if n < 1 {
-        *whole = false;
+// Fills buf from a reader. A reader that ends before counts as a cut file; what it gave until an error is lost.
+fn fill_bytes<R: Read>(from: &mut R, buf: &mut [u8]) -> Result<(), Stop>
+    ensures len { length buf.new ≡ length buf.old }
+    ensures left { GivesSome (R.remaining from.old) (R.remaining from.new) }
+{
+    let mut n = 0;
+    while n < buf.len() {
+        let more = from.read(&mut buf[n..])?;
+        if more == 0 {
+            return Err(Stop::Cut);
+        }
+        n += more;
     }
-    b[0]
+    Ok(())
+}
+
+fn array<const N: usize, R: Read>(from: &mut R) -> Result<[u8; N], Stop>
+    ensures left { GivesSome (R.remaining from.old) (R.remaining from.new) }
+{
+    let mut bytes = [0u8; N];
+    fill_bytes(from, &mut bytes)?;
+    Ok(bytes)
+}
+
+pub fn byte<R: Read>(from: &mut R) -> Result<u8, Stop>
+    ensures left { GivesSome (R.remaining from.old) (R.remaining from.new) }
+{
+    let bytes: [u8; 1] = array(from)?;
+    Ok(bytes[0])
 }
 
 // Two bytes, the least first.
-pub fn short(whole: &mut bool) -> u16 {
-    let low = byte(whole) as u16;
-    let high = byte(whole) as u16;
-    low + BYTE * high
+pub fn short<R: Read>(from: &mut R) -> Result<u16, Stop>
+    ensures left { GivesSome (R.remaining from.old) (R.remaining from.new) }
+{
+    Ok(u16::from_le_bytes(array(from)?))
 }
 
 // Four bytes, the least first.
-pub fn word(whole: &mut bool) -> u32 {
-    let mut b = [0u8; 4];
-    let n = io::read_full(STDIN_FILENO, &mut b);
-    if n < b.len() {
-        *whole = false;
-    }
-    wire::little::u32_at(&b, 0)
+pub fn word<R: Read>(from: &mut R) -> Result<u32, Stop>
+    ensures left { GivesSome (R.remaining from.old) (R.remaining from.new) }
+{
+    Ok(u32::from_le_bytes(array(from)?))
 }
 
 // Eight bytes, the least first.
-pub fn long(whole: &mut bool) -> u64 {
-    let mut b = [0u8; 8];
-    let n = io::read_full(STDIN_FILENO, &mut b);
-    if n < b.len() {
-        *whole = false;
-    }
-    wire::little::number(&b, 0, b.len())
+pub fn long<R: Read>(from: &mut R) -> Result<u64, Stop>
+    ensures left { GivesSome (R.remaining from.old) (R.remaining from.new) }
+{
+    Ok(u64::from_le_bytes(array(from)?))
 }
 
 // A length and that many bytes, which it puts at the start of buf. A length that buf does not hold counts as a cut file.
-pub fn bytes(buf: &mut [u8], whole: &mut bool) -> usize
-    ensures { IsPrefixLen result buf.new }
+pub fn bytes<R: Read>(from: &mut R, buf: &mut [u8]) -> Result<usize, Stop>
+    ensures in_bounds { ReadsAtMost result buf.new }
+    ensures len { length buf.new ≡ length buf.old }
+    ensures left { GivesSome (R.remaining from.old) (R.remaining from.new) }
 {
-    let n = word(whole) as usize;
-    if buf.len() < n {
-        *whole = false;
-        return 0;
-    }
-    let got = io::read_full(STDIN_FILENO, &mut buf[..n]);
-    if got < n {
-        *whole = false;
-    }
-    n
+    let n = room(from, buf)?;
+    fill_bytes(from, &mut buf[..n])?;
+    Ok(n)
 }
 
 // A number of cells.
-pub fn cells(sheet: &[u32], whole: &mut bool) -> usize
-    ensures { IsPrefixLen result sheet.now }
+pub fn cells<R: Read>(from: &mut R, sheet: &[u32]) -> Result<usize, Stop>
+    ensures in_bounds { ReadsAtMost result sheet.now }
+    ensures left { GivesSome (R.remaining from.old) (R.remaining from.new) }
 {
-    let n = word(whole) as usize;
-    within(sheet, n, whole)
+    let n = word(from)? as usize;
+    within(sheet, n)
 }
 
 // The number n of cells, at most as many as the sheet has. A greater one counts as a cut file.
-pub fn within(sheet: &[u32], n: usize, whole: &mut bool) -> usize
-    ensures { IsPrefixLen result sheet.now }
+pub fn within(sheet: &[u32], n: usize) -> Result<usize, Stop>
+    ensures in_bounds { ReadsAtMost result sheet.now }
+    ensures error { IfErr result (λ e. (e ≡ Cut) × (length sheet.now < n)) }
 {
     if sheet.len() < n {
-        *whole = false;
-        return 0;
+        return Err(Stop::Cut);
     }
-    n
+    Ok(n)
 }
 
 // A number of output bytes, at most as many as buf has. A greater one counts as a cut file.
-pub fn room(buf: &[u8], whole: &mut bool) -> usize
-    ensures { IsPrefixLen result buf.now }
+pub fn room<R: Read>(from: &mut R, buf: &[u8]) -> Result<usize, Stop>
+    ensures in_bounds { ReadsAtMost result buf.now }
+    ensures left { GivesSome (R.remaining from.old) (R.remaining from.new) }
 {
-    let n = word(whole) as usize;
+    let n = word(from)? as usize;
     if buf.len() < n {
-        *whole = false;
-        return 0;
+        return Err(Stop::Cut);
     }
-    n
+    Ok(n)
 }
 
 // A number of cells and the cells, which it puts at the start of the sheet.
-pub fn sheet(sheet: &mut [u32], whole: &mut bool) -> usize
-    ensures { IsPrefixLen result sheet.new }
+pub fn sheet<R: Read>(from: &mut R, sheet: &mut [u32]) -> Result<usize, Stop>
+    ensures in_bounds { ReadsAtMost result sheet.new }
+    ensures len { length sheet.new ≡ length sheet.old }
+    ensures left { GivesSome (R.remaining from.old) (R.remaining from.new) }
 {
-    let n = cells(sheet, whole);
-    fill(&mut sheet[..n], whole);
-    n
+    let n = cells(from, sheet)?;
+    fill(from, &mut sheet[..n])?;
+    Ok(n)
 }
 
 // A number of tally rows and the rows, five cells each, which it puts at the start of the cells. More rows than there are cells for count as a cut file.
-pub fn rows(cells: &mut [u32], whole: &mut bool) -> usize
-    ensures { IsPrefixLen result cells.new }
+pub fn rows<R: Read>(from: &mut R, cells: &mut [u32]) -> Result<usize, Stop>
+    ensures in_bounds { ReadsAtMost result cells.new }
+    ensures len { length cells.new ≡ length cells.old }
+    ensures left { GivesSome (R.remaining from.old) (R.remaining from.new) }
 {
-    let rows = word(whole) as usize;
-    let n = within(cells, TALLY_CELLS * rows, whole);
-    fill(&mut cells[..n], whole);
-    n
+    let rows = word(from)? as usize;
+    let n = within(cells, TALLY_CELLS * rows)?;
+    fill(from, &mut cells[..n])?;
+    Ok(n)
 }
 
-fn fill(sheet: &mut [u32], whole: &mut bool) {
-    let mut i = 0;
-    while i < sheet.len() {
-        sheet[i] = word(whole);
-        i += 1;
+fn fill<R: Read>(from: &mut R, sheet: &mut [u32]) -> Result<(), Stop>
+    ensures left { GivesSome (R.remaining from.old) (R.remaining from.new) }
+{
+    for cell in sheet {
+        *cell = word(from)?;
     }
+    Ok(())
 }

@@ -1,19 +1,21 @@
-// Lines of numbers in decimal with single blanks between, on standard output.
-use libc::STDOUT_FILENO;
+// Lines of numbers in decimal with single blanks between.
+use std::io;
+use std::io::Write;
 
-// A number that is not the last of its line.
-pub fn number(n: u64) {
-    io::print_decimal(STDOUT_FILENO, n);
-    io::write_all(STDOUT_FILENO, b" ");
+// Numbers that are not the last of their line.
+pub fn numbers(to: &mut impl Write, numbers: &[u64]) -> io::Result<()> {
+    for n in numbers {
+        write!(to, "{n} ")?;
+    }
+    Ok(())
 }
 
 // The last number of a line.
-pub fn last(n: u64) {
-    io::print_decimal(STDOUT_FILENO, n);
-    io::write_all(STDOUT_FILENO, b"\n");
+pub fn last(to: &mut impl Write, n: u64) -> io::Result<()> {
+    writeln!(to, "{n}")
 }
 
 // The line that ends the run: the case is cut, unknown or beyond the limits.
-pub fn cut() {
-    io::write_all(STDOUT_FILENO, b"cut\n");
+pub fn cut(to: &mut impl Write) -> io::Result<()> {
+    writeln!(to, "cut")
 }

@@ -1,108 +1,92 @@
 // Cases of the salvage of a record, of its index and of a look-up in one.
+use crate::stop::Stop;
 use crate::{blank, input, output, sums};
+use index::{Finding, Indexing};
+use salvage::Salvaging;
+use std::io::{Read, Write};
 
 // Code 17: a record, the copy's length and the number of the list's cells. The line has number, entries kept, bytes copied, spans listed, the copy's sum
 // and the list's.
-pub fn salvage() -> bool {
+pub fn salvage(from: &mut impl Read, to: &mut impl Write) -> Result<(), Stop> {
     let mut record = blank::bytes();
     let mut copy = blank::output();
     let mut spans = blank::cells();
-    let mut whole = true;
-    let n = input::bytes(&mut record, &mut whole);
-    let room = input::room(&copy, &mut whole);
-    let cells = input::cells(&spans, &mut whole);
-    if whole {
-        show(&record[..n], &mut copy[..room], &mut spans[..cells]);
-    }
-    whole
+    let n = input::bytes(from, &mut record)?;
+    let room = input::room(from, &copy)?;
+    let cells = input::cells(from, &spans)?;
+    show(to, &record[..n], &mut copy[..room], &mut spans[..cells])
 }
 
-fn show(record: &[u8], copy: &mut [u8], spans: &mut [u32]) {
-    print_salvaging(arf::salvage(record, copy, spans));
-    output::number(sums::of_bytes(copy));
-    output::last(sums::of_cells(spans));
-}
-
-fn print_salvaging(answer: salvage::Salvaging) {
-    match answer {
-        salvage::Salvaging::Salvaged {
+fn show(
+    to: &mut impl Write,
+    record: &[u8],
+    copy: &mut [u8],
+    spans: &mut [u32],
+) -> Result<(), Stop> {
+    let numbers = match arf::salvage(record, copy, spans) {
+        Salvaging::Salvaged {
             entries,
             bytes,
             spans,
-        } => line(0, entries, bytes, spans),
-        salvage::Salvaging::Refused { number } => line(number as u64, 0, 0, 0),
-    }
-}
-
-fn line(number: u64, entries: usize, bytes: usize, spans: usize) {
-    output::number(number);
-    output::number(entries as u64);
-    output::number(bytes as u64);
-    output::number(spans as u64);
+        } => [0, entries as u64, bytes as u64, spans as u64],
+        Salvaging::Refused { number } => [u64::from(number), 0, 0, 0],
+    };
+    output::numbers(to, &numbers)?;
+    output::numbers(to, &[sums::of_bytes(copy)])?;
+    output::last(to, sums::of_cells(spans))?;
+    Ok(())
 }
 
 // Code 19: a schema file, a record and the output's length. The line has number, place, the index's length and the output's sum.
-pub fn index() -> bool {
+pub fn index(from: &mut impl Read, to: &mut impl Write) -> Result<(), Stop> {
     let mut schema = blank::bytes();
     let mut record = blank::bytes();
     let mut out = blank::output();
-    let mut whole = true;
-    let n = input::bytes(&mut schema, &mut whole);
-    let m = input::bytes(&mut record, &mut whole);
-    let room = input::room(&out, &mut whole);
-    if whole {
-        show_index(&schema[..n], &record[..m], &mut out[..room]);
-    }
-    whole
+    let n = input::bytes(from, &mut schema)?;
+    let m = input::bytes(from, &mut record)?;
+    let room = input::room(from, &out)?;
+    show_index(to, &schema[..n], &record[..m], &mut out[..room])
 }
 
-fn show_index(schema: &[u8], record: &[u8], out: &mut [u8]) {
-    print_indexing(arf::make_index(schema, record, out));
-    output::last(sums::of_bytes(out));
-}
-
-fn print_indexing(answer: index::Indexing) {
-    match answer {
-        index::Indexing::Made { length } => made(0, 0, length),
-        index::Indexing::Refused { number, place } => made(number as u64, place, 0),
-    }
-}
-
-fn made(number: u64, place: usize, length: usize) {
-    output::number(number);
-    output::number(place as u64);
-    output::number(length as u64);
+fn show_index(
+    to: &mut impl Write,
+    schema: &[u8],
+    record: &[u8],
+    out: &mut [u8],
+) -> Result<(), Stop> {
+    let numbers = match arf::make_index(schema, record, out) {
+        Indexing::Made { length } => [0, 0, length as u64],
+        Indexing::Refused { number, place } => [u64::from(number), place as u64, 0],
+    };
+    output::numbers(to, &numbers)?;
+    output::last(to, sums::of_bytes(out))?;
+    Ok(())
 }
 
 // Code 20: an index, a record, a correlation and the output's length. The line has number, the text's length and the output's sum.
-pub fn look_up() -> bool {
+pub fn look_up(from: &mut impl Read, to: &mut impl Write) -> Result<(), Stop> {
     let mut index = blank::bytes();
     let mut record = blank::bytes();
     let mut out = blank::output();
-    let mut whole = true;
-    let n = input::bytes(&mut index, &mut whole);
-    let m = input::bytes(&mut record, &mut whole);
-    let correlation = input::long(&mut whole);
-    let room = input::room(&out, &mut whole);
-    if whole {
-        show_look_up(&index[..n], &record[..m], correlation, &mut out[..room]);
-    }
-    whole
+    let n = input::bytes(from, &mut index)?;
+    let m = input::bytes(from, &mut record)?;
+    let correlation = input::long(from)?;
+    let room = input::room(from, &out)?;
+    show_look_up(to, &index[..n], &record[..m], correlation, &mut out[..room])
 }
 
-fn show_look_up(index: &[u8], record: &[u8], correlation: u64, out: &mut [u8]) {
-    print_finding(arf::look_up(index, record, correlation, out));
-    output::last(sums::of_bytes(out));
-}
-
-fn print_finding(answer: index::Finding) {
-    match answer {
-        index::Finding::Printed { number, length } => found(number as u64, length),
-        index::Finding::Refused { number } => found(number as u64, 0),
-    }
-}
-
-fn found(number: u64, length: usize) {
-    output::number(number);
-    output::number(length as u64);
+fn show_look_up(
+    to: &mut impl Write,
+    index: &[u8],
+    record: &[u8],
+    correlation: u64,
+    out: &mut [u8],
+) -> Result<(), Stop> {
+    let numbers = match arf::look_up(index, record, correlation, out) {
+        Finding::Printed { number, length } => [u64::from(number), length as u64],
+        Finding::Refused { number } => [u64::from(number), 0],
+    };
+    output::numbers(to, &numbers)?;
+    output::last(to, sums::of_bytes(out))?;
+    Ok(())
 }

@@ -1,56 +1,45 @@
 // Cases of the table check and of the extension test.
+use crate::stop::Stop;
 use crate::{blank, input, output};
+use schema::{Checked, Extended};
+use std::io::{Read, Write};
 
 // The most bytes of a table, a payload or a row's bytes, and the most cells of a sheet.
 pub const MOST: usize = 70000;
 
 // Code 1: a table. The line has number and place.
-pub fn check() -> bool {
+pub fn check(from: &mut impl Read, to: &mut impl Write) -> Result<(), Stop> {
     let mut schema = blank::bytes();
-    let mut whole = true;
-    let n = input::bytes(&mut schema, &mut whole);
-    if whole {
-        print_checked(arf::check_table(&schema[..n]));
-    }
-    whole
+    let n = input::bytes(from, &mut schema)?;
+    print_checked(to, arf::check_table(&schema[..n]))
 }
 
-fn print_checked(answer: schema::Checked) {
-    match answer {
-        schema::Checked::Good => {
-            output::number(0);
-            output::last(0);
-        }
-        schema::Checked::Refused { number, place } => {
-            output::number(number as u64);
-            output::last(place as u64);
-        }
-    }
+fn print_checked(to: &mut impl Write, answer: Checked) -> Result<(), Stop> {
+    let (number, place) = match answer {
+        Checked::Good => (0, 0),
+        Checked::Refused { number, place } => (number, place),
+    };
+    output::numbers(to, &[u64::from(number)])?;
+    output::last(to, place as u64)?;
+    Ok(())
 }
 
 // Code 2: an old table and a new one. The line has number, place and answer.
-pub fn extends() -> bool {
+pub fn extends(from: &mut impl Read, to: &mut impl Write) -> Result<(), Stop> {
     let mut old = blank::bytes();
     let mut new = blank::bytes();
-    let mut whole = true;
-    let n = input::bytes(&mut old, &mut whole);
-    let m = input::bytes(&mut new, &mut whole);
-    if whole {
-        print_extended(arf::extends(&old[..n], &new[..m]));
-    }
-    whole
+    let n = input::bytes(from, &mut old)?;
+    let m = input::bytes(from, &mut new)?;
+    print_extended(to, arf::extends(&old[..n], &new[..m]))
 }
 
-fn print_extended(answer: schema::Extended) {
-    match answer {
-        schema::Extended::Yes => line(0, 0, 1),
-        schema::Extended::No => line(0, 0, 0),
-        schema::Extended::Refused { number, place } => line(number as u64, place as u64, 0),
-    }
-}
-
-fn line(number: u64, place: u64, answer: u64) {
-    output::number(number);
-    output::number(place);
-    output::last(answer);
+fn print_extended(to: &mut impl Write, answer: Extended) -> Result<(), Stop> {
+    let (number, place, yes) = match answer {
+        Extended::Yes => (0, 0, true),
+        Extended::No => (0, 0, false),
+        Extended::Refused { number, place } => (number, place, false),
+    };
+    output::numbers(to, &[u64::from(number), place as u64])?;
+    output::last(to, u64::from(yes))?;
+    Ok(())
 }

@@ -1,152 +1,133 @@
 // Cases of the payload reader, of the scalar entry, of the payload writer, of the writer of a whole frame and of the forwarding writer.
 use crate::frames::read_header;
+use crate::stop::Stop;
 use crate::{blank, input, output, sums};
+use frame::Header;
+use reader::Reading;
+use scalar::{Answer, Scalar};
+use std::io::{Read, Write};
+use value::Row;
+use writer::Writing;
 
 // What the lent cells hold before the call.
 pub const CELL: u32 = 2779096485;
 
 // Code 3: a table, a type, a payload and the number of the sheet's cells. The line has number, place, rows, the tail's place and length, key comparisons,
 // and the sheet's sum.
-pub fn read() -> bool {
+pub fn read(from: &mut impl Read, to: &mut impl Write) -> Result<(), Stop> {
     let mut schema = blank::bytes();
     let mut payload = blank::bytes();
     let mut sheet = blank::cells();
-    let mut whole = true;
-    let n = input::bytes(&mut schema, &mut whole);
-    let ty = input::word(&mut whole);
-    let m = input::bytes(&mut payload, &mut whole);
-    let cells = input::cells(&sheet, &mut whole);
-    if whole {
-        show(&schema[..n], ty, &payload[..m], &mut sheet[..cells]);
-    }
-    whole
+    let n = input::bytes(from, &mut schema)?;
+    let ty = input::word(from)?;
+    let m = input::bytes(from, &mut payload)?;
+    let cells = input::cells(from, &sheet)?;
+    show(to, &schema[..n], ty, &payload[..m], &mut sheet[..cells])
 }
 
-fn show(schema: &[u8], ty: u32, payload: &[u8], sheet: &mut [u32]) {
-    print_reading(arf::read(schema, ty, payload, sheet));
-    output::last(sums::of_cells(sheet));
+fn show(
+    to: &mut impl Write,
+    schema: &[u8],
+    ty: u32,
+    payload: &[u8],
+    sheet: &mut [u32],
+) -> Result<(), Stop> {
+    print_reading(to, arf::read(schema, ty, payload, sheet), sheet)
 }
 
 // Code 16: our table and theirs, a type, a payload and the number of the sheet's cells. The line is that of code 3.
-pub fn read_beside() -> bool {
+pub fn read_beside(from: &mut impl Read, to: &mut impl Write) -> Result<(), Stop> {
     let mut ours = blank::bytes();
     let mut theirs = blank::bytes();
     let mut payload = blank::bytes();
     let mut sheet = blank::cells();
-    let mut whole = true;
-    let n = input::bytes(&mut ours, &mut whole);
-    let m = input::bytes(&mut theirs, &mut whole);
-    let ty = input::word(&mut whole);
-    let k = input::bytes(&mut payload, &mut whole);
-    let cells = input::cells(&sheet, &mut whole);
-    if whole {
-        show_beside(
-            &ours[..n],
-            &theirs[..m],
-            ty,
-            &payload[..k],
-            &mut sheet[..cells],
-        );
-    }
-    whole
+    let n = input::bytes(from, &mut ours)?;
+    let m = input::bytes(from, &mut theirs)?;
+    let ty = input::word(from)?;
+    let k = input::bytes(from, &mut payload)?;
+    let cells = input::cells(from, &sheet)?;
+    show_beside(
+        to,
+        &ours[..n],
+        &theirs[..m],
+        ty,
+        &payload[..k],
+        &mut sheet[..cells],
+    )
 }
 
-fn show_beside(ours: &[u8], theirs: &[u8], ty: u32, payload: &[u8], sheet: &mut [u32]) {
-    print_reading(arf::read_beside(ours, theirs, ty, payload, sheet));
-    output::last(sums::of_cells(sheet));
+fn show_beside(
+    to: &mut impl Write,
+    ours: &[u8],
+    theirs: &[u8],
+    ty: u32,
+    payload: &[u8],
+    sheet: &mut [u32],
+) -> Result<(), Stop> {
+    print_reading(
+        to,
+        arf::read_beside(ours, theirs, ty, payload, sheet),
+        sheet,
+    )
 }
 
-fn print_reading(answer: reader::Reading) {
-    match answer {
-        reader::Reading::Shown {
+fn print_reading(to: &mut impl Write, answer: Reading, sheet: &[u32]) -> Result<(), Stop> {
+    let numbers = match answer {
+        Reading::Shown {
             rows,
             tail_place,
             tail_length,
             comparisons,
-        } => {
-            output::number(0);
-            output::number(0);
-            output::number(rows as u64);
-            output::number(tail_place as u64);
-            output::number(tail_length as u64);
-            output::number(comparisons as u64);
-        }
-        reader::Reading::Refused { number, place } => {
-            output::number(number as u64);
-            output::number(place as u64);
-            output::number(0);
-            output::number(0);
-            output::number(0);
-            output::number(0);
-        }
-    }
+        } => [
+            0,
+            0,
+            rows as u64,
+            tail_place as u64,
+            tail_length as u64,
+            comparisons as u64,
+        ],
+        Reading::Refused { number, place } => [u64::from(number), place as u64, 0, 0, 0, 0],
+    };
+    output::numbers(to, &numbers)?;
+    output::last(to, sums::of_cells(sheet))?;
+    Ok(())
 }
 
 // Code 4: a table, a row and its bytes. The line has number, place, the case and its two numbers.
-pub fn scalar() -> bool {
+pub fn scalar(from: &mut impl Read, to: &mut impl Write) -> Result<(), Stop> {
     let mut schema = blank::bytes();
     let mut data = blank::bytes();
-    let mut whole = true;
-    let n = input::bytes(&mut schema, &mut whole);
-    let ty = input::word(&mut whole);
-    let place = input::word(&mut whole);
-    let length = input::word(&mut whole);
-    let count = input::word(&mut whole);
-    let m = input::bytes(&mut data, &mut whole);
-    if whole {
-        let row = value::Row {
-            ty,
-            place,
-            length,
-            count,
-        };
-        print_answer(arf::scalar(&schema[..n], row, &data[..m]));
-    }
-    whole
+    let n = input::bytes(from, &mut schema)?;
+    let row = Row {
+        ty: input::word(from)?,
+        place: input::word(from)?,
+        length: input::word(from)?,
+        count: input::word(from)?,
+    };
+    let m = input::bytes(from, &mut data)?;
+    print_answer(to, arf::scalar(&schema[..n], row, &data[..m]))
 }
 
-fn print_answer(answer: scalar::Answer) {
-    match answer {
-        scalar::Answer::Refused { number, place } => {
-            output::number(number as u64);
-            output::number(place as u64);
-            case(0, 0, 0);
-        }
-        scalar::Answer::Is(s) => {
-            output::number(0);
-            output::number(0);
-            print_scalar(s);
-        }
-    }
+fn print_answer(to: &mut impl Write, answer: Answer) -> Result<(), Stop> {
+    let (number, place, case) = match answer {
+        Answer::Refused { number, place } => (number, place, (0, 0, 0)),
+        Answer::Is(scalar) => (0, 0, case_of(scalar)),
+    };
+    let (which, a, b) = case;
+    output::numbers(to, &[u64::from(number), place as u64, which, a])?;
+    output::last(to, b)?;
+    Ok(())
 }
 
-fn print_scalar(s: scalar::Scalar) {
-    match s {
-        scalar::Scalar::Truth(b) => case(1, truth(b), 0),
-        scalar::Scalar::Signed(x) => case(2, unsigned(x), 0),
-        scalar::Scalar::Unsigned(x) => case(3, x, 0),
-        scalar::Scalar::Float32(x, bits) => case(4, bits as u64, wide(bits32(x))),
-        scalar::Scalar::Float64(x, bits) => case(5, bits, bits64(x)),
-        scalar::Scalar::Span { place, length } => case(6, place as u64, length as u64),
-    }
-}
-
-fn case(which: u64, a: u64, b: u64) {
-    output::number(which);
-    output::number(a);
-    output::last(b);
-}
-
-fn truth(b: bool) -> u64 {
-    if b { 1 } else { 0 }
-}
-
-// A signed number as the unsigned one with the same 64 bits.
-fn unsigned(x: i64) -> u64 {
-    if x < 0 {
-        u64::MAX - ((-1 - x) as u64)
-    } else {
-        x as u64
+// Which case of a scalar it is, and its two numbers.
+fn case_of(scalar: Scalar) -> (u64, u64, u64) {
+    match scalar {
+        Scalar::Truth(b) => (1, u64::from(b), 0),
+        Scalar::Signed(x) => (2, x.cast_unsigned(), 0),
+        Scalar::Unsigned(x) => (3, x, 0),
+        Scalar::Float32(x, bits) => (4, u64::from(bits), u64::from(bits32(x))),
+        Scalar::Float64(x, bits) => (5, bits, bits64(x)),
+        Scalar::Span { place, length } => (6, place as u64, length as u64),
     }
 }
 
@@ -159,122 +140,115 @@ fn bits64(x: f64) -> u64 {
     if x == x { f64::to_bits(x) } else { 0 }
 }
 
-fn wide(x: u32) -> u64 {
-    x as u64
-}
-
 // Code 5: a table, a type, a sheet, its bytes and the output's length. The line has number, place, the payload's length and the output's sum.
-pub fn write() -> bool {
+pub fn write(from: &mut impl Read, to: &mut impl Write) -> Result<(), Stop> {
     let mut schema = blank::bytes();
     let mut sheet = blank::cells();
     let mut data = blank::bytes();
     let mut out = blank::output();
-    let mut whole = true;
-    let n = input::bytes(&mut schema, &mut whole);
-    let ty = input::word(&mut whole);
-    let cells = input::sheet(&mut sheet, &mut whole);
-    let m = input::bytes(&mut data, &mut whole);
-    let room = input::room(&out, &mut whole);
-    if whole {
-        show_written(
-            &schema[..n],
-            ty,
-            &sheet[..cells],
-            &data[..m],
-            &mut out[..room],
-        );
-    }
-    whole
+    let n = input::bytes(from, &mut schema)?;
+    let ty = input::word(from)?;
+    let cells = input::sheet(from, &mut sheet)?;
+    let m = input::bytes(from, &mut data)?;
+    let room = input::room(from, &out)?;
+    show_written(
+        to,
+        &schema[..n],
+        ty,
+        &sheet[..cells],
+        &data[..m],
+        &mut out[..room],
+    )
 }
 
-fn show_written(schema: &[u8], ty: u32, sheet: &[u32], data: &[u8], out: &mut [u8]) {
-    print_writing(arf::write(schema, ty, sheet, data, out));
-    output::last(sums::of_bytes(out));
-}
-
-fn print_writing(answer: writer::Writing) {
-    match answer {
-        writer::Writing::Written { length } => {
-            output::number(0);
-            output::number(0);
-            output::number(length as u64);
-        }
-        writer::Writing::Refused { number, place } => {
-            output::number(number as u64);
-            output::number(place as u64);
-            output::number(0);
-        }
-    }
-}
-
-// Code 15: a header, then as for code 5. The line has number, place, the frame's length and the output's sum.
-pub fn write_frame() -> bool {
-    let mut schema = blank::bytes();
-    let mut sheet = blank::cells();
-    let mut data = blank::bytes();
-    let mut out = blank::output();
-    let mut whole = true;
-    let header = read_header(&mut whole);
-    let n = input::bytes(&mut schema, &mut whole);
-    let ty = input::word(&mut whole);
-    let cells = input::sheet(&mut sheet, &mut whole);
-    let m = input::bytes(&mut data, &mut whole);
-    let room = input::room(&out, &mut whole);
-    if whole {
-        show_frame(
-            header,
-            &schema[..n],
-            ty,
-            &sheet[..cells],
-            &data[..m],
-            &mut out[..room],
-        );
-    }
-    whole
-}
-
-fn show_frame(
-    header: frame::Header,
+fn show_written(
+    to: &mut impl Write,
     schema: &[u8],
     ty: u32,
     sheet: &[u32],
     data: &[u8],
     out: &mut [u8],
-) {
-    print_writing(arf::write_value_frame(header, schema, ty, sheet, data, out));
-    output::last(sums::of_bytes(out));
+) -> Result<(), Stop> {
+    print_writing(to, arf::write(schema, ty, sheet, data, out), out)
 }
 
-// Code 18: a table, a type, a sheet, its bytes, the tail's place and length and the output's length. The line has number, place, the payload's length and
-// the output's sum.
-pub fn forward() -> bool {
+fn print_writing(to: &mut impl Write, answer: Writing, out: &[u8]) -> Result<(), Stop> {
+    let numbers = match answer {
+        Writing::Written { length } => [0, 0, length as u64],
+        Writing::Refused { number, place } => [u64::from(number), place as u64, 0],
+    };
+    output::numbers(to, &numbers)?;
+    output::last(to, sums::of_bytes(out))?;
+    Ok(())
+}
+
+// Code 15: a header, then as for code 5. The line has number, place, the frame's length and the output's sum.
+pub fn write_frame(from: &mut impl Read, to: &mut impl Write) -> Result<(), Stop> {
     let mut schema = blank::bytes();
     let mut sheet = blank::cells();
     let mut data = blank::bytes();
     let mut out = blank::output();
-    let mut whole = true;
-    let n = input::bytes(&mut schema, &mut whole);
-    let ty = input::word(&mut whole);
-    let cells = input::sheet(&mut sheet, &mut whole);
-    let m = input::bytes(&mut data, &mut whole);
-    let place = input::word(&mut whole);
-    let length = input::word(&mut whole);
-    let room = input::room(&out, &mut whole);
-    if whole {
-        show_forwarded(
-            &schema[..n],
-            ty,
-            &sheet[..cells],
-            &data[..m],
-            place,
-            length,
-            &mut out[..room],
-        );
-    }
-    whole
+    let header = read_header(from)?;
+    let n = input::bytes(from, &mut schema)?;
+    let ty = input::word(from)?;
+    let cells = input::sheet(from, &mut sheet)?;
+    let m = input::bytes(from, &mut data)?;
+    let room = input::room(from, &out)?;
+    show_frame(
+        to,
+        header,
+        &schema[..n],
+        ty,
+        &sheet[..cells],
+        &data[..m],
+        &mut out[..room],
+    )
+}
+
+fn show_frame(
+    to: &mut impl Write,
+    header: Header,
+    schema: &[u8],
+    ty: u32,
+    sheet: &[u32],
+    data: &[u8],
+    out: &mut [u8],
+) -> Result<(), Stop> {
+    print_writing(
+        to,
+        arf::write_value_frame(header, schema, ty, sheet, data, out),
+        out,
+    )
+}
+
+// Code 18: a table, a type, a sheet, its bytes, the tail's place and length and the output's length. The line has number, place, the payload's length and
+// the output's sum.
+pub fn forward(from: &mut impl Read, to: &mut impl Write) -> Result<(), Stop> {
+    let mut schema = blank::bytes();
+    let mut sheet = blank::cells();
+    let mut data = blank::bytes();
+    let mut out = blank::output();
+    let n = input::bytes(from, &mut schema)?;
+    let ty = input::word(from)?;
+    let cells = input::sheet(from, &mut sheet)?;
+    let m = input::bytes(from, &mut data)?;
+    let place = input::word(from)?;
+    let length = input::word(from)?;
+    let room = input::room(from, &out)?;
+    show_forwarded(
+        to,
+        &schema[..n],
+        ty,
+        &sheet[..cells],
+        &data[..m],
+        place,
+        length,
+        &mut out[..room],
+    )
 }
 
 fn show_forwarded(
+    to: &mut impl Write,
     schema: &[u8],
     ty: u32,
     sheet: &[u32],
@@ -282,8 +256,8 @@ fn show_forwarded(
     place: u32,
     length: u32,
     out: &mut [u8],
-) {
-    print_writing(arf::forward(
+) -> Result<(), Stop> {
+    let answer = arf::forward(
         schema,
         ty,
         sheet,
@@ -291,6 +265,6 @@ fn show_forwarded(
         place as usize,
         length as usize,
         out,
-    ));
-    output::last(sums::of_bytes(out));
+    );
+    print_writing(to, answer, out)
 }

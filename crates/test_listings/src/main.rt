@@ -1,60 +1,87 @@
 // Prints the listing of each case on standard input: a schema file and a record, each as a length (four bytes, the least first) and its bytes.
-ghost use Rattle.io.specs.Counts.{IsPrefixLen};
+#![tactic(auto)]
 
-use libc::{STDIN_FILENO, STDOUT_FILENO};
+ghost use Rattle.std.specs.Prelude.{◌≡◌, length};
+ghost use Rattle.std.specs.Io.{ReadsAtMost};
+ghost use Rattle.test_listings.specs.Reading.{GivesSome};
+
+use std::io;
+use std::io::{BufReader, ErrorKind, Read};
 
 // The most bytes of a schema file or a record here.
 const MOST: usize = 70000;
 
-// A length; where the file ends it is 0, and `whole` is cleared.
-fn length(whole: &mut bool) -> usize {
-    let mut b = [0u8; 4];
-    let n = io::read_full(STDIN_FILENO, &mut b);
-    if n < 4 {
-        *whole = false;
+// Zeros. They come from a function, so that the proof of the caller knows their number alone.
+fn blank() -> [u8; MOST] {
+    [0u8; MOST]
+}
+
+fn blank_listing() -> [u8; listing::MOST] {
+    [0u8; listing::MOST]
+}
+
+// Fills buf from a reader that does not end before; what it gave until an error is lost.
+fn fill_bytes<R: Read>(from: &mut R, buf: &mut [u8]) -> io::Result<()>
+    ensures len { length buf.new ≡ length buf.old }
+    ensures left { GivesSome (R.remaining from.old) (R.remaining from.new) }
+{
+    let mut n = 0;
+    while n < buf.len() {
+        let more = from.read(&mut buf[n..])?;
+        if more == 0 {
+            return Err(io::Error::from(ErrorKind::UnexpectedEof));
+        }
+        n += more;
     }
-    wire::little::u32_at(&b, 0) as usize
+    Ok(())
+}
+
+fn length<R: Read>(from: &mut R) -> io::Result<usize>
+    ensures left { GivesSome (R.remaining from.old) (R.remaining from.new) }
+{
+    let mut bytes = [0u8; 4];
+    fill_bytes(from, &mut bytes)?;
+    Ok(u32::from_le_bytes(bytes) as usize)
 }
 
 // A length and that many bytes, which it puts at the start of buf. A length that buf does not hold counts as the end of the file.
-fn bytes(buf: &mut [u8], whole: &mut bool) -> usize
-    ensures { IsPrefixLen result buf.new }
+fn bytes<R: Read>(from: &mut R, buf: &mut [u8]) -> io::Result<usize>
+    ensures in_bounds { ReadsAtMost result buf.new }
+    ensures len { length buf.new ≡ length buf.old }
+    ensures left { GivesSome (R.remaining from.old) (R.remaining from.new) }
 {
-    let n = length(whole);
+    let n = length(from)?;
     if buf.len() < n {
-        *whole = false;
-        return 0;
+        return Err(io::Error::from(ErrorKind::UnexpectedEof));
     }
-    let got = io::read_full(STDIN_FILENO, &mut buf[..n]);
-    if got < n {
-        *whole = false;
-    }
-    n
+    fill_bytes(from, &mut buf[..n])?;
+    Ok(n)
 }
 
-fn print(schema: &[u8], entries: &[u8]) {
-    let mut out = [0u8; listing::MOST];
+fn print(to: &impl Print, schema: &[u8], entries: &[u8]) -> io::Result<()> {
+    let mut out = blank_listing();
     let n = listing::list(schema, entries, &mut out);
-    io::write_all(STDOUT_FILENO, &out[..n]);
+    to.write_all(&out[..n])
 }
 
-// Runs the next case, and answers whether there was one.
-fn run_case() -> bool {
-    let mut schema = [0u8; MOST];
-    let mut entries = [0u8; MOST];
-    let mut whole = true;
-    let n = bytes(&mut schema, &mut whole);
-    let m = bytes(&mut entries, &mut whole);
-    if whole {
-        print(&schema[..n], &entries[..m]);
-    }
-    whole
+// Runs the next case; where there is none, the file is at its end.
+fn run_case(from: &mut impl Read, to: &impl Print) -> io::Result<()> {
+    let mut schema = blank();
+    let mut entries = blank();
+    let n = bytes(from, &mut schema)?;
+    let m = bytes(from, &mut entries)?;
+    print(to, &schema[..n], &entries[..m])
 }
 
-// A proved loop has to end, and nothing says that a file does: the loop counts its turns down, from a number that no run uses up.
-fn main() {
-    let mut turns = u64::MAX;
-    while turns > 0 && run_case() {
-        turns -= 1;
+// A proved loop has to end, and nothing says that a file does: the loop counts its turns up to a number that no run reaches.
+fn main(rt: HostRuntime) -> io::Result<()> {
+    let mut from = BufReader::new(rt.alloc(), rt.reader())?;
+    for _ in 0..u64::MAX {
+        match run_case(&mut from, &rt) {
+            Ok(()) => {}
+            Err(error) if error.kind() == ErrorKind::UnexpectedEof => break,
+            Err(error) => return Err(error),
+        }
     }
+    Ok(())
 }

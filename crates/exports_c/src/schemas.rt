@@ -1,0 +1,25 @@
+// The check of a schema table, and whether one table extends another.
+ghost use Rattle.std.specs.Prelude.{◌≡◌};
+ghost use Rattle.schema.specs.Check.{checked};
+ghost use Rattle.schema.specs.Extend.{extension};
+ghost use Rattle.arf.specs.Numbers.{check_number, extend_number};
+ghost use Rattle.cells.specs.Cells.{stored};
+ghost use Rattle.exports.specs.Answers.{check_cells, extend_cells};
+
+// The verdict on a schema table. answer: place.
+#[unsafe(no_mangle)]
+pub extern "C" fn arf_check_table(schema: &[u8], answer: &mut [u64]) -> u32
+    ensures value { result ≡ check_number (checked schema.now) }
+    ensures answer_after { answer.new ≡ stored answer.old (check_cells (checked schema.now)) }
+{
+    exports::schemas::arf_check_table(schema, answer)
+}
+
+// Whether the new table extends the old one. answer: place, 1 for yes or 0.
+#[unsafe(no_mangle)]
+pub extern "C" fn arf_extends(old: &[u8], new: &[u8], answer: &mut [u64]) -> u32
+    ensures value { result ≡ extend_number (extension old.now new.now) }
+    ensures answer_after { answer.new ≡ stored answer.old (extend_cells (extension old.now new.now)) }
+{
+    exports::schemas::arf_extends(old, new, answer)
+}

@@ -1,0 +1,98 @@
+-- `listing::entries::put_from_first` meets its contract: what is left of the entries gives the same end as all of them. A line takes at most 149 bytes
+-- and its entry at least 27, so the place stays small.
+use mathlib.Core.Path.{refl, sym, ap, ◌∙◌}
+use Prim.Native.Nat.{◌+◌, ◌≤◌}
+use native.Mathlib.Omega.{arith}
+use lib.ListN.{length}
+use Rattle.replay.specs.Run.{header_in}
+use Rattle.replay.proofs.Replays.{tail_of, entry-bounds}
+use Rattle.listing.proofs.Turns.{rest-first, rest_end, rest-stop, rest-line}
+use Rattle.listing.proofs.entries.put_from_first.Goals.{After-struct_known-1}
+use Rattle.listing.proofs.entries.put_from_first.Goals as goal
+
+pub loop-at-init : goal.loop-at-init
+loop-at-init c =
+    let a = c.args in (
+      c.requires.2,
+      refl,
+      omega arith,
+      omega (arith, c.requires.0, c.requires.1),
+      omega arith,
+      rest-first a.schema.now a.entries.now a.out.now a.start c.fresh-table.result c.fresh-table.ensures,
+    )
+
+pub step-r-requires : goal.step-r-requires
+step-r-requires c = (c.requires.3, c.loop-at.invariant.0)
+
+pub shape_of-sheet-then-stops : goal.shape_of-sheet-then-stops
+shape_of-sheet-then-stops c =
+    c.step-r.auto.sheet ∙ c.loop-at.invariant.0 ∙ sym c.requires.2
+
+pub shape_of-out-then-stops : goal.shape_of-out-then-stops
+shape_of-out-then-stops c = c.put_stopped.auto.out ∙ c.loop-at.invariant.1
+
+pub returns-then-stops : goal.returns-then-stops
+returns-then-stops c =
+    let a = c.args in
+    let here = c.loop-at in
+    let step = c.step-r in record {
+      added = rest-stop a.schema.now a.entries.now _ here.out here.pos here.entry here.at here.table.slots here.invariant.5
+          c.loop-at-test.true _ (tail_of a.entries.now here.at) _ refl step.result.answer step.ensures.0
+          (sym c.stops.ensures ∙ c.if-stops.true)
+          c.put_stopped.result _ c.put_stopped.ensures.added;
+      upper_bound = omega (arith, here.invariant.3, c.put_stopped.ensures.upper_bound);
+    }
+
+-- the entry that was listed lies in the record
+bounds : (c : After-struct_known-1) → let r = c.step-r.result.answer in
+    (26 ≤ r.used) × (c.loop-at.at + 1 + r.used ≤ length c.args.entries.now)
+bounds c =
+    let a = c.args in
+    let here = c.loop-at in
+    let step = c.step-r in
+    entry-bounds a.schema.now a.entries.now here.at here.table.slots c.loop-at-test.true
+    _ (tail_of a.entries.now here.at) _ refl step.result.answer step.ensures.0
+    (sym c.stops.ensures ∙ c.if-stops.false)
+
+pub overflow_add-entry : goal.overflow_add-entry
+overflow_add-entry c =
+    omega (arith, c.loop-at.invariant.4, c.loop-at-test.true, c.requires.1)
+
+pub loop-at-preserved : goal.loop-at-preserved
+loop-at-preserved c =
+    let a = c.args in
+    let here = c.loop-at in
+    let step = c.step-r in
+    let header = c.header in
+    let b = bounds c in (
+      step.auto.sheet ∙ here.invariant.0,
+      c.put_line-pos.auto.out ∙ here.invariant.1,
+      b.1,
+      omega (arith, here.invariant.3, b.0, b.1, c.put_line-pos.ensures.upper_bound),
+      omega (arith, here.invariant.4, b.0),
+      rest-line a.schema.now a.entries.now _ here.out here.pos here.entry here.at here.table.slots here.invariant.5
+          c.loop-at-test.true _ (tail_of a.entries.now here.at) _ refl step.result.answer step.ensures.0
+          (sym c.stops.ensures ∙ c.if-stops.false) b.0
+          header.result (header.ensures ∙ ap header_in step.ensures.1) _ c.put_line-pos.result c.put_line-pos.ensures.added,
+    )
+
+pub shape_of-sheet : goal.shape_of-sheet
+shape_of-sheet c = c.loop-at.invariant.0 ∙ sym c.requires.2
+
+pub shape_of-out : goal.shape_of-out
+shape_of-out c = c.put_stopped-2.auto.out ∙ c.loop-at.invariant.1
+
+pub returns : goal.returns
+returns c =
+    let a = c.args in
+    let here = c.loop-at in record {
+      added = rest_end a.schema.now a.entries.now _ here.out here.pos here.entry here.at here.table.slots here.invariant.5 c.loop-at-test.false
+          c.put_stopped-2.result _ c.put_stopped-2.ensures.added;
+      upper_bound = omega (arith, here.invariant.3, c.put_stopped-2.ensures.upper_bound);
+    }
+
+pub overflow_add-at : goal.overflow_add-at
+overflow_add-at c = omega (arith, (bounds c).1, c.requires.1)
+
+pub loop-at-smaller : goal.loop-at-smaller
+loop-at-smaller c = omega (arith, (bounds c).1)

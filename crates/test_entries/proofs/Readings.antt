@@ -1,0 +1,18 @@
+-- Readers that give some bytes, one call after another.
+use Rattle.std.proofs.Common.{List, [], ◌++◌, ℕ}
+use Rattle.std.specs.declared.option.Option.{Option}
+use Rattle.std.specs.Io.KnownBytes.{Consumes, Keeps}
+use Rattle.std.proofs.KnownBytes.{Consumes-nil, Consumes-trans, Consumes-kept}
+use Rattle.test_entries.specs.Reading.{GivesSome}
+
+pub GivesSome-none : (a : Option (List ℕ)) → GivesSome a a
+GivesSome-none a = ([], Consumes-nil a)
+
+pub GivesSome-more : (a b c : Option (List ℕ)) (bs : List ℕ) → GivesSome a b → Consumes b c bs → GivesSome a c
+GivesSome-more a b c bs p q = (p.0 ++ bs, Consumes-trans a b c p.0 bs p.1 q)
+
+pub GivesSome-trans : (a b c : Option (List ℕ)) → GivesSome a b → GivesSome b c → GivesSome a c
+GivesSome-trans a b c p q = GivesSome-more a b c q.0 p q.1
+
+pub GivesSome-kept : (a b c : Option (List ℕ)) → GivesSome a b → Keeps b c → GivesSome a c
+GivesSome-kept a b c p q = (p.0, Consumes-kept a b c p.0 p.1 q)

@@ -1,0 +1,9 @@
+-- The bytes are read after their number.
+use Rattle.test_entries.proofs.Readings.{GivesSome-trans}
+use Rattle.test_entries.proofs.input.bytes.Goals as goal
+
+pub returns-in_err-fill_bytes-clause-left : goal.returns-in_err-fill_bytes-clause-left
+returns-in_err-fill_bytes-clause-left g c = GivesSome-trans _ _ _ c.room.ensures.left c.fill_bytes.ensures.left
+
+pub returns-clause-left : goal.returns-clause-left
+returns-clause-left g c = GivesSome-trans _ _ _ c.room.ensures.left c.fill_bytes.ensures.left
