@@ -1,6 +1,6 @@
 /* arf.h: the proved arf entries for C and C++.
  *
- * The functions are those of crates/exports, in the archive libarf.a (x86-64 Linux). They are
+ * The functions are those of crates/exports_c, in the archive libarf.a (x86-64 Linux). They are
  * proved in Rattle; this header is not, and tools/check-header holds its declarations to the
  * Rattle source.
  *

@@ -1,6 +1,6 @@
 //! The functions of the static library, with a safe call of each.
 //!
-//! A Rattle slice crosses as a pointer and a length. `crates/exports` asks
+//! A Rattle slice crosses as a pointer and a length. `crates/exports_c` asks
 //! nothing more of its callers, so a call is right for any Rust slices: their
 //! pointers are aligned and never null, also where they are empty; their
 //! lengths are those of memory that is there; what is lent as `&mut` is nobody

@@ -1,6 +1,6 @@
 //! The proved arf entries for Rust programs.
 //!
-//! Each function lends its slices to the static library of `crates/exports`,
+//! Each function lends its slices to the static library of `crates/exports_c`,
 //! whose Rattle source is proved, and hands its answer on as a Rust value. No
 //! function panics or fails for any input, on a thread that has [`STACK`] bytes
 //! of stack, or [`INDEX_STACK`] for [`make_index`]: what the rules do not allow
