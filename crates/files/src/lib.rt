@@ -1,15 +1,14 @@
 // Files that a program's arguments name.
 #![tactic(auto)]
 
-ghost use Rattle.std.specs.Prelude.{◌≡◌, ◌<◌, ◌≤◌, length, take, IfOk, IfErr, OnErr};
+ghost use Rattle.std.specs.Prelude.{◌≡◌, ◌<◌, ◌≤◌, length, take, IfOk, IfErr, OnOk, OnErr};
 ghost use Rattle.std.specs.Io.{ReadsAtMost};
-ghost use Rattle.std.specs.Io.KnownBytes.{Consumes, IsAtEnd};
-ghost use Rattle.files.specs.Failures.{IsNameError, IsReadError, GivesFront};
+ghost use Rattle.std.specs.Io.KnownBytes.{Appends, Consumes, IsAtEnd};
+ghost use Rattle.files.specs.Failures.{IsNameError, IsReadError, IsNoText, GivesFront, TakesFront};
 
-use std::alloc::{AllocError, Allocator};
 use std::env::FillError;
-use std::fs::{File, OpenFile};
-use std::io::{Read, Write};
+use std::fs::{OpenFile, OpenOptions};
+use std::io::{Cursor, ErrorKind, Read, Write};
 use std::rt::{Env, Files};
 use std::{fs, io};
 
@@ -23,6 +22,9 @@ const TOO_LONG: i32 = 36;
 
 const NO_TEXT: i32 = 84;
 
+// More bytes than the words of any error have, with its number.
+const WORDS: usize = 512;
+
 // Why a file was not read or made.
 #[derive(Clone, Copy, Debug)]
 pub enum FileError {
@@ -33,43 +35,44 @@ pub enum FileError {
 }
 
 // Says what failed and why, after the program's name.
-pub fn fail<R: Alloc>(
-    rt: &R,
-    out: &impl Print,
-    program: &[u8],
-    what: &[u8],
-    error: io::Error,
-) -> io::Result<()> {
-    let reason = reason(rt.alloc(), error)?;
+pub fn fail(out: &impl Print, program: &[u8], what: &[u8], error: io::Error) -> io::Result<()> {
+    let mut text = Cursor::new([0u8; WORDS]);
+    // Words that are longer are cut.
+    let _ = write!(text, "{error}");
+    let n = front(text.position() as usize, text.get_ref());
     out.write_all(program)?;
     out.write_all(b": ")?;
     out.write_all(what)?;
-    println!(out; ": {reason}")
+    out.write_all(b": ")?;
+    out.write_all(without_number(&text.get_ref()[..n]))?;
+    out.write_all(b"\n")
 }
 
 // The system's words for an error, without its number.
-fn reason<A: Allocator + Clone>(alloc: A, error: io::Error) -> Result<String<A>, AllocError> {
-    let whole = error.to_string(alloc.clone()?)?;
-    match whole.split_once(" (os error ") {
-        Some((words, _)) => String::from_str(alloc, words),
-        None => Ok(whole),
+fn without_number(text: &[u8]) -> &[u8] {
+    match str::from_utf8(text) {
+        Ok(words) => match words.split_once(" (os error ") {
+            Some((words, _)) => words.as_bytes(),
+            None => text,
+        },
+        Err(_) => text,
     }
 }
 
 // Says which file failed and why, after the program's name.
-pub fn tell<R: Alloc + Env>(
-    rt: &R,
+pub fn tell(
+    env: &impl Env,
     out: &impl Print,
     program: &[u8],
     failure: FileError,
 ) -> io::Result<()> {
     match failure {
-        FileError::Name(error) => fail(rt, out, program, b"a file's name", error),
+        FileError::Name(error) => fail(out, program, b"a file's name", error),
         FileError::File { argument, error } => {
             let mut path = buffer();
-            match name(rt, argument, &mut path) {
-                Ok(length) => fail(rt, out, program, &path[..length], error),
-                Err(_) => fail(rt, out, program, b"a file", error),
+            match name(env, argument, &mut path) {
+                Ok(length) => fail(out, program, &path[..length], error),
+                Err(_) => fail(out, program, b"a file", error),
             }
         }
     }
@@ -100,7 +103,10 @@ pub fn name(env: &impl Env, i: usize, path: &mut [u8]) -> Result<usize, FileErro
 }
 
 // A file's name as text, which std wants.
-fn text(path: &[u8]) -> io::Result<&str> {
+fn text(path: &[u8]) -> io::Result<&str>
+    ensures ok { IfOk result (λ s. s.now ≡ path.now) }
+    ensures error { IfErr result (IsNoText path.now) }
+{
     str::from_utf8(path).map_err(|_| io::Error::from_raw_os_error(NO_TEXT))
 }
 
@@ -156,12 +162,26 @@ pub fn front(n: usize, buf: &[u8]) -> usize
 
 // Makes a file, which may not be there yet, and opens it for writing.
 pub fn create<R: Files>(files: &R, path: &[u8]) -> io::Result<R::File> {
-    File::create_new(files, text(path)?)
+    OpenOptions::new()
+        .write(true)
+        .create_new(true)
+        .open(files, text(path)?)
 }
 
-// Writes the bytes at the end of a file that was made.
-pub fn put(file: &mut impl Write, bytes: &[u8]) -> io::Result<()> {
-    file.write_all(bytes)
+// Writes the bytes at the end of a file that was made. Where that fails, it has taken some of them, the first.
+pub fn put<W: Write>(file: &mut W, bytes: &[u8]) -> io::Result<()>
+    ensures ok { OnOk result (Appends (W.contents file.old) (W.contents file.new) bytes.now) }
+    ensures error { OnErr result (TakesFront (W.contents file.old) (W.contents file.new) bytes.now) }
+{
+    let mut n = 0;
+    while n < bytes.len() {
+        let more = file.write(&bytes[n..])?;
+        if more == 0 {
+            return Err(io::Error::from(ErrorKind::WriteZero));
+        }
+        n += more;
+    }
+    Ok(())
 }
 
 // Brings a file that was made to the disk and closes it.

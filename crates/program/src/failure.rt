@@ -48,15 +48,15 @@ pub fn both(
 
 impl Failure {
     // Says on standard error, as `out`, why the program has failed.
-    pub fn tell<R: Alloc + Env>(self, rt: &R, out: &impl Print) -> io::Result<()> {
+    pub fn tell(self, env: &impl Env, out: &impl Print) -> io::Result<()> {
         match self {
             Failure::Usage => println!(out;
                 "arf: there is no such verb with so many arguments: run ./arf --help"
             ),
-            Failure::File(error) => files::tell(rt, out, b"arf", error),
+            Failure::File(error) => files::tell(env, out, b"arf", error),
             Failure::Files(first, second) => {
-                files::tell(rt, out, b"arf", first)?;
-                files::tell(rt, out, b"arf", second)
+                files::tell(env, out, b"arf", first)?;
+                files::tell(env, out, b"arf", second)
             }
             Failure::LongSchema => println!(out;
                 "arf: the schema file has more than 131,072 bytes"
@@ -67,7 +67,7 @@ impl Failure {
                 "arf: CALL is a decimal number from 0 to 18446744073709551615"
             ),
             Failure::LongText => println!(out; "arf: the text is too long"),
-            Failure::Output(error) => files::fail(rt, out, b"arf", b"standard output", error),
+            Failure::Output(error) => files::fail(out, b"arf", b"standard output", error),
         }
     }
 }

@@ -13,7 +13,7 @@ mod tables;
 mod values;
 
 use std::io;
-use std::io::{BufReader, BufWriter, Read, Write};
+use std::io::{Read, Write};
 use stop::Stop;
 
 // Runs a case of this code.
@@ -59,12 +59,12 @@ fn run_case(from: &mut impl Read, to: &mut impl Write) -> io::Result<bool> {
 
 // A proved loop has to end, and nothing says that a file does: the loop counts its turns up to a number that no run reaches.
 fn main(rt: HostRuntime) -> io::Result<()> {
-    let mut from = BufReader::new(rt.alloc(), rt.reader())?;
-    let mut to = BufWriter::new(rt.alloc(), io::writer(&rt))?;
+    let mut from = rt.reader();
+    let mut to = io::writer(&rt);
     for _ in 0..u64::MAX {
         if !run_case(&mut from, &mut to)? {
             break;
         }
     }
-    to.flush()
+    Ok(())
 }

@@ -1,6 +1,5 @@
 // Why a case has no line, or no whole one.
 use std::io;
-use std::io::ErrorKind;
 
 #[derive(Clone, Copy, Debug)]
 pub enum Stop {
@@ -12,9 +11,6 @@ pub enum Stop {
 
 impl From<io::Error> for Stop {
     fn from(error: io::Error) -> Stop {
-        match error.kind() {
-            ErrorKind::UnexpectedEof => Stop::Cut,
-            _ => Stop::Failed(error),
-        }
+        Stop::Failed(error)
     }
 }

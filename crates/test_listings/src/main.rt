@@ -6,7 +6,7 @@ ghost use Rattle.std.specs.Io.{ReadsAtMost};
 ghost use Rattle.test_listings.specs.Reading.{GivesSome};
 
 use std::io;
-use std::io::{BufReader, ErrorKind, Read};
+use std::io::{ErrorKind, Read};
 
 // The most bytes of a schema file or a record here.
 const MOST: usize = 70000;
@@ -75,7 +75,7 @@ fn run_case(from: &mut impl Read, to: &impl Print) -> io::Result<()> {
 
 // A proved loop has to end, and nothing says that a file does: the loop counts its turns up to a number that no run reaches.
 fn main(rt: HostRuntime) -> io::Result<()> {
-    let mut from = BufReader::new(rt.alloc(), rt.reader())?;
+    let mut from = rt.reader();
     for _ in 0..u64::MAX {
         match run_case(&mut from, &rt) {
             Ok(()) => {}
