@@ -15,10 +15,12 @@ ghost use Rattle.salvage.specs.Salvage.{outcome, salvage_of};
 ghost use Rattle.scalar.specs.Scalar.{scalar_by};
 ghost use Rattle.schema.specs.Check.{checked};
 ghost use Rattle.schema.specs.Extend.{extension};
+ghost use Rattle.table.specs.Told.{told, told_extends};
 ghost use Rattle.valueframe.specs.Entry.{frame_outcome};
 ghost use Rattle.writer.specs.Entry as writer;
 
 use connection::CallTable;
+use constants::refusal::Refused;
 use frame::{FrameRead, FrameWritten, Header};
 use index::{Finding, Indexing};
 use reader::Reading;
@@ -26,20 +28,19 @@ pub use receiver::receive::receive;
 pub use receiver::release::release;
 use salvage::Salvaging;
 use scalar::Answer;
-use schema::{Checked, Extended};
 use value::Row;
 use writer::Writing;
 
 // The verdict on a schema table: good, or the first fault's number and place.
-pub fn check_table(schema: &[u8]) -> Checked
-    ensures { result ≡ checked schema.now }
+pub fn check_table(schema: &[u8]) -> Result<(), Refused>
+    ensures { told result ≡ checked schema.now }
 {
     table::checking::check(schema)
 }
 
 // Whether the new table extends the old one; for tables that are not good the first one's refusal, old first.
-pub fn extends(old: &[u8], new: &[u8]) -> Extended
-    ensures { result ≡ extension old.now new.now }
+pub fn extends(old: &[u8], new: &[u8]) -> Result<bool, Refused>
+    ensures { told_extends result ≡ extension old.now new.now }
 {
     table::extension::extends(old, new)
 }

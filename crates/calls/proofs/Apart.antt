@@ -1,5 +1,6 @@
 -- Calls kept apart: the judgement of a frame depends on its own call's record and, for INVOKE, on whether a slot is free, that of a release on the
 -- record alone; the own record afterwards follows from that; other records are unchanged; and what frees a slot.
+use Rattle.std.specs.Prelude.{None, Option, Some}
 use mathlib.Core.Path.{◌≡◌, refl, sym, ◌∙◌, ap, subst}
 use mathlib.Core.Logic.{◌⊎◌, inl, inr, ⊎_elim}
 use mathlib.Core.Bool.{Bool, true, false, not, cond, ◌&&◌}
@@ -10,8 +11,6 @@ use lib.ListN.{length, set, length-set}
 use lib.Dec.{eqb, leb, lit≤, eqb-suc-suc}
 use borrow.Author.Tests.{eqb-true, eqb-false, ne_eqb, not-true, not-false}
 use Rattle.schema.specs.declared.Method.{Method}
-use Rattle.schema.specs.declared.Found.{Found}
-use Rattle.schema.specs.declared.Found.TheVariants.{At, Missing}
 use Rattle.schema.specs.Table.{Table}
 use Rattle.schema.specs.Check.{method_row, find_method, is_missing}
 use Rattle.calls.specs.declared.Call.{Call}
@@ -24,7 +23,7 @@ use Rattle.calls.specs.declared.Judged.TheVariants.{Refused, Opens, Goes}
 use Rattle.calls.specs.Forms.{row_of_form}
 use Rattle.calls.specs.Numbers.{ends_call, EndsCall, payload, many-pairs}
 use Rattle.calls.specs.Record.{empty_call, opened_call, is_call, is_free, complete, allowed, not_allowed, at_limit, marked, with_mark, after_frame}
-use Rattle.calls.specs.Slots.{slot, first_slot, count_open, form_row, OwnCall, none, one, record_at, own_of, full}
+use Rattle.calls.specs.Slots.{slot, first_slot, count_open, form_row, record_at, own_of, full}
 use Rattle.calls.specs.Judge.{right_side, payload_of, names_method, Verdict, stop, opens, goes, open_verdict, invoke_verdict, other_verdict, verdict_of, release_verdict, placed, judge_of, judge_release}
 use Rattle.calls.specs.Step.{number_after, slots_after, due_of, receive, release}
 use Rattle.calls.specs.Good.{GoodCalls}
@@ -66,11 +65,11 @@ due-by (Opens j c d) = refl
 due-by (Goes i c d) = refl
 
 -- whether a slot is free matters for INVOKE alone
-pub room-aside : (T : Table) (f : Frame) (own : OwnCall) (a b : Bool) → (f.kind ≡ 1 → a ≡ b) → verdict_of T f own a ≡ verdict_of T f own b
+pub room-aside : (T : Table) (f : Frame) (own : Option Call) (a b : Bool) → (f.kind ≡ 1 → a ≡ b) → verdict_of T f own a ≡ verdict_of T f own b
 unfolding verdict_of
 room-aside T f own a b h = go (eqb f.kind 1) refl
   where
-    g : Found
+    g : Option ℕ
     g = find_method T f.«package» f.service f.method
 
     go : (q : Bool) → eqb f.kind 1 ≡ q →
@@ -101,7 +100,7 @@ release-answered id n l = number_by (judge_release id l) n ∙ ap (λ (v : Verdi
 module _ (T : Table) (f : Frame) (l₁ l₂ : List Call) (same : own_of f.correlation l₁ ≡ own_of f.correlation l₂) (room : f.kind ≡ 1 → full l₁ ≡ full l₂) where
   pub same-verdict : verdict_of T f (own_of f.correlation l₁) (full l₁) ≡ verdict_of T f (own_of f.correlation l₂) (full l₂)
   same-verdict =
-      ap (λ (o : OwnCall). verdict_of T f o (full l₁)) same ∙ room-aside T f (own_of f.correlation l₂) (full l₁) (full l₂) room
+      ap (λ (o : Option Call). verdict_of T f o (full l₁)) same ∙ room-aside T f (own_of f.correlation l₂) (full l₁) (full l₂) room
 
   pub same-judgement : verdict (judge_of T f l₁) ≡ verdict (judge_of T f l₂)
   same-judgement = judged-by T f l₁ ∙ same-verdict ∙ sym (judged-by T f l₂)
@@ -130,10 +129,10 @@ own-set id l i x h e alone = go x.«open» refl
         (λ q. others k (eqb-false k i q))
         (cases (eqb k i))
 
-    go : (b : Bool) → x.«open» ≡ b → record_at (set l i x) (first_slot (is_call id) 0 (set l i x)) ≡ cond b (one x) none
+    go : (b : Bool) → x.«open» ≡ b → record_at (set l i x) (first_slot (is_call id) 0 (set l i x)) ≡ cond b (Some x) None
     go true o =
         let r = only-found (is_call id) (set l i x) i (omega (arith, length-set l i x)) (subst (λ (c : Call). is_call id c ≡ true) (sym at) (is-call id x o (e o))) only in
-        ap (record_at (set l i x)) r ∙ ap one at
+        ap (record_at (set l i x)) r ∙ ap Some at
     go false o = ap (record_at (set l i x)) (none_found (is_call id) (set l i x) (not_there o))
 
 module _ (T : Table) (id : ℕ) (l : List Call) where
@@ -166,7 +165,7 @@ module _ (T : Table) (id : ℕ) (l : List Call) where
         go false = refl
     stepped-own p (goes_to i c d w) = go (eqb p 0) (ends_call p)
       where
-        go : (a b : Bool) → own_of id (cond a (set l i c) (cond b (set l i empty_call) l)) ≡ cond a (kept c) (cond b none (own_of id l))
+        go : (a b : Bool) → own_of id (cond a (set l i c) (cond b (set l i empty_call) l)) ≡ cond a (kept c) (cond b None (own_of id l))
         go true b = going-own i c w c w.same
         go false true = going-own i c w empty_call (λ o. clash false o refl)
         go false false = refl
@@ -195,17 +194,17 @@ not_other k id c n f = is_false (is_call k c) (λ t. n (sym (call-id k c t) ∙ 
 
 first-set : (q : Call → Bool) (l : List Call) (i : ℕ) (x : Call) (k : ℕ) → q x ≡ q (slot l i) → first_slot q k (set l i x) ≡ first_slot q k l
 first-set q [] i x k e = refl
-first-set q (y ∷ ys) zero x k e = ap (λ (b : Bool). cond b (At k) (first_slot q (suc k) ys)) e
-first-set q (y ∷ ys) (suc i) x k e = ap (λ (f : Found). cond (q y) (At k) f) (first-set q ys i x (suc k) e)
+first-set q (y ∷ ys) zero x k e = ap (λ (b : Bool). cond b (Some k) (first_slot q (suc k) ys)) e
+first-set q (y ∷ ys) (suc i) x k e = ap (λ (f : Option ℕ). cond (q y) (Some k) f) (first-set q ys i x (suc k) e)
 
 other-set : (k : ℕ) (l : List Call) (i : ℕ) (x : Call) → is_call k x ≡ false → is_call k (slot l i) ≡ false → own_of k (set l i x) ≡ own_of k l
 unfolding own_of
 other-set k l i x new old = ap (record_at (set l i x)) (first-set (is_call k) l i x 0 (new ∙ sym old)) ∙ go (first_slot (is_call k) 0 l) refl
   where
-    go : (f : Found) → first_slot (is_call k) 0 l ≡ f → record_at (set l i x) f ≡ record_at l f
-    go Missing e = refl
-    go (At j) e =
-        ap one (slot-other l i x j (λ q. clash (is_call k (slot l j)) (found-passes (is_call k) l j e) (subst (λ (n : ℕ). is_call k (slot l n) ≡ false) (sym q) old)))
+    go : (f : Option ℕ) → first_slot (is_call k) 0 l ≡ f → record_at (set l i x) f ≡ record_at l f
+    go None e = refl
+    go (Some j) e =
+        ap Some (slot-other l i x j (λ q. clash (is_call k (slot l j)) (found-passes (is_call k) l j e) (subst (λ (n : ℕ). is_call k (slot l n) ≡ false) (sym q) old)))
 
 module _ (T : Table) (id : ℕ) (l : List Call) (k : ℕ) (n : k ≡ id → ⊥) where
   other-opening : (j : ℕ) (c : Call) → Starts T id l j c → own_of k (set l j c) ≡ own_of k l
@@ -248,27 +247,27 @@ none-ended = refl
 
 -- ---- the slots
 -- no slot but the one touched is changed
-untouched : (l : List Call) (p : ℕ) (J : Judged) (j : ℕ) → (touched J ≡ At j → ⊥) → slot (slots_after J p l) j ≡ slot l j
+untouched : (l : List Call) (p : ℕ) (J : Judged) (j : ℕ) → (touched J ≡ Some j → ⊥) → slot (slots_after J p l) j ≡ slot l j
 untouched l p (Refused n) j h = refl
 untouched l p (Opens i c d) j h = go (eqb p 0)
   where
     go : (b : Bool) → slot (cond b (set l i c) l) j ≡ slot l j
-    go true = slot-other l i c j (λ e. h (ap At (sym e)))
+    go true = slot-other l i c j (λ e. h (ap Some (sym e)))
     go false = refl
 untouched l p (Goes i c d) j h = go (eqb p 0) (ends_call p)
   where
     go : (a b : Bool) → slot (cond a (set l i c) (cond b (set l i empty_call) l)) j ≡ slot l j
-    go true b = slot-other l i c j (λ e. h (ap At (sym e)))
-    go false true = slot-other l i empty_call j (λ e. h (ap At (sym e)))
+    go true b = slot-other l i c j (λ e. h (ap Some (sym e)))
+    go false true = slot-other l i empty_call j (λ e. h (ap Some (sym e)))
     go false false = refl
 
 module _ (T : Table) (f : Frame) (l : List Call) where
-  pub other-slots : (reading : Payload → ℕ) (j : ℕ) → (touched (judge_of T f l) ≡ At j → ⊥) → slot (receive T f reading l).slots j ≡ slot l j
+  pub other-slots : (reading : Payload → ℕ) (j : ℕ) → (touched (judge_of T f l) ≡ Some j → ⊥) → slot (receive T f reading l).slots j ≡ slot l j
   unfolding receive
   other-slots reading j h = untouched l (reading (due_of (judge_of T f l))) (judge_of T f l) j h
 
 -- the slot that is touched is free, or open under the event's identifier
-touched-own : (T : Table) (id : ℕ) (l : List Call) {J : Judged} → JudgedFits T id l J → (i : ℕ) → touched J ≡ At i → (slot l i).«open» ≡ true → (slot l i).correlation ≡ id
+touched-own : (T : Table) (id : ℕ) (l : List Call) {J : Judged} → JudgedFits T id l J → (i : ℕ) → touched J ≡ Some i → (slot l i).«open» ≡ true → (slot l i).correlation ≡ id
 touched-own T id l (stops n) i t o = missing_at i t
 touched-own T id l (opens_at j c d w) i t o =
     clash (slot l i).«open» o (subst (λ (n : ℕ). (slot l n).«open» ≡ false) (at_at j i t) (not-true (slot l j).«open» (found-passes is_free l j w.lowest)))
@@ -285,7 +284,7 @@ pub release-kept : (id n : ℕ) (l : List Call) (i : ℕ) → is_call id (slot l
 unfolding release
 release-kept id n l i h = untouched l n (judge_release id l) i (λ t. clash (is_call id (slot l i)) (go (judge_release id l) refl t) h)
   where
-    go : (J : Judged) → judge_release id l ≡ J → touched J ≡ At i → is_call id (slot l i) ≡ true
+    go : (J : Judged) → judge_release id l ≡ J → touched J ≡ Some i → is_call id (slot l i) ≡ true
     go (Refused m) e t = missing_at i t
     go (Opens j c d) e t = absurd (released-never id l j c d e)
     go (Goes j c d) e t =
@@ -310,7 +309,7 @@ record Emptied (id : ℕ) (l : List Call) (p : ℕ) (J : Judged) (i : ℕ) : Typ
   why : (ends_call p ≡ true) ⊎ ((p ≡ 0) × (next.«open» ≡ false))
 
 module _ (T : Table) (id : ℕ) (l : List Call) (i : ℕ) (o : (slot l i).«open» ≡ true) where
-  untouched_open : {A : Type 0} (p : ℕ) (J : Judged) → (touched J ≡ At i → ⊥) → (slot (slots_after J p l) i).«open» ≡ false → A
+  untouched_open : {A : Type 0} (p : ℕ) (J : Judged) → (touched J ≡ Some i → ⊥) → (slot (slots_after J p l) i).«open» ≡ false → A
   untouched_open p J h q = clash (slot l i).«open» o (subst (λ (x : Call). x.«open» ≡ false) (untouched l p J i h) q)
 
   own-emptied : (p : ℕ) (c : Call) (d : Payload) → Moves T id l i c → (slot (slots_after (Goes i c d) p l) i).«open» ≡ false → Emptied id l p (Goes i c d) i
@@ -399,15 +398,15 @@ spared w (payload low high) = omega (arith, w.1, low)
 spared w many-pairs = omega (arith, w.1)
 
 -- a release that is accepted
-gone : (n : ℕ) (own : OwnCall) → verdict_number (release_verdict own) n ≡ 0 → verdict_own (release_verdict own) n own ≡ none
-gone n none e = absurd (omega arith)
-gone n (one c) e = go c.cancelled e
+gone : (n : ℕ) (own : Option Call) → verdict_number (release_verdict own) n ≡ 0 → verdict_own (release_verdict own) n own ≡ None
+gone n None e = absurd (omega arith)
+gone n (Some c) e = go c.cancelled e
   where
-    go : (b : Bool) → verdict_number (cond b (goes empty_call Unread) (stop 14)) n ≡ 0 → verdict_own (cond b (goes empty_call Unread) (stop 14)) n (one c) ≡ none
+    go : (b : Bool) → verdict_number (cond b (goes empty_call Unread) (stop 14)) n ≡ 0 → verdict_own (cond b (goes empty_call Unread) (stop 14)) n (Some c) ≡ None
     go true z = rw z
     go false z = absurd (omega arith)
 
-pub release-ends : (T : Table) (id n : ℕ) (l : List Call) → GoodCalls T l → (release id n l).number ≡ 0 → own_of id (release id n l).slots ≡ none
+pub release-ends : (T : Table) (id n : ℕ) (l : List Call) → GoodCalls T l → (release id n l).number ≡ 0 → own_of id (release id n l).slots ≡ None
 release-ends T id n l g e = release-own T id n l g ∙ gone n (own_of id l) (sym (release-answered id n l) ∙ e)
 
 -- the numbers before the payload are 8 to 17
@@ -417,26 +416,26 @@ Spares (opens c d) = Unit {0}
 Spares (goes c d) = Unit {0}
 
 module _ (T : Table) (f : Frame) (l : List Call) where
-  spares-opening : (c : Call) (d : Payload) (own : OwnCall) (b : Bool) → Spares (open_verdict c d own b)
+  spares-opening : (c : Call) (d : Payload) (own : Option Call) (b : Bool) → Spares (open_verdict c d own b)
   unfolding Spares
-  spares-opening c d (one x) b = (lit≤ tt, lit≤ tt)
-  spares-opening c d none true = (lit≤ tt, lit≤ tt)
-  spares-opening c d none false = tt
+  spares-opening c d (Some x) b = (lit≤ tt, lit≤ tt)
+  spares-opening c d None true = (lit≤ tt, lit≤ tt)
+  spares-opening c d None false = tt
 
-  spares-invoke : (n : Found) (own : OwnCall) (b : Bool) → Spares (invoke_verdict T f.correlation n own b)
+  spares-invoke : (n : Option ℕ) (own : Option Call) (b : Bool) → Spares (invoke_verdict T f.correlation n own b)
   unfolding Spares
-  spares-invoke Missing own b = (lit≤ tt, lit≤ tt)
-  spares-invoke (At m) own b = spares-opening (opened_call m f.correlation) (payload_of (method_row T m) 1) own b
+  spares-invoke None own b = (lit≤ tt, lit≤ tt)
+  spares-invoke (Some m) own b = spares-opening (opened_call m f.correlation) (payload_of (method_row T m) 1) own b
 
   spares-late : (b : Bool) → Spares (stop (cond b 16 14))
   unfolding Spares
   spares-late true = (lit≤ tt, lit≤ tt)
   spares-late false = (lit≤ tt, lit≤ tt)
 
-  spares-other : (own : OwnCall) → Spares (other_verdict T f own)
+  spares-other : (own : Option Call) → Spares (other_verdict T f own)
   unfolding Spares
-  spares-other none = (lit≤ tt, lit≤ tt)
-  spares-other (one c) =
+  spares-other None = (lit≤ tt, lit≤ tt)
+  spares-other (Some c) =
       let m = method_row T c.method in
       let next = goes (after_frame (row_of_form m.form) f.kind c) (payload_of m f.kind) in
       let late = stop (not_allowed f.kind c) in
@@ -447,7 +446,7 @@ module _ (T : Table) (f : Frame) (l : List Call) where
       (λ _. spares-late (c.cancelled && (leb 4 f.kind && leb f.kind 7))))
       (λ _. (lit≤ tt, lit≤ tt))
 
-  spares-verdict : (own : OwnCall) (b : Bool) → Spares (verdict_of T f own b)
+  spares-verdict : (own : Option Call) (b : Bool) → Spares (verdict_of T f own b)
   unfolding verdict_of Spares
   spares-verdict own b =
       let invoke = invoke_verdict T f.correlation (find_method T f.«package» f.service f.method) own b in
@@ -465,7 +464,7 @@ module _ (T : Table) (f : Frame) (l : List Call) where
   stop-number n e = subst (λ (J : Judged). Spares (verdict J)) e spares
 
   module _ (g : GoodCalls T l) (other : f.kind ≡ 1 → ⊥) where
-    ended-own : (p : ℕ) (J : Judged) → judge_of T f l ≡ J → ends_call (number_after J p) ≡ true → own_of f.correlation (slots_after J p l) ≡ none
+    ended-own : (p : ℕ) (J : Judged) → judge_of T f l ≡ J → ends_call (number_after J p) ≡ true → own_of f.correlation (slots_after J p l) ≡ None
     ended-own p (Refused n) e t = absurd (spared (stop-number n e) ((ends-iff n).0 t))
     ended-own p (Opens j c d) e t = absurd (other (judged-opens T f l j c d e).is_invoke)
     ended-own p (Goes i c d) e t =
@@ -475,7 +474,7 @@ module _ (T : Table) (f : Frame) (l : List Call) where
     -- A payload refusal ends the open call.
     pub refused-ends : (reading : Payload → ℕ) →
         let r = receive T f reading l in
-        ends_call r.number ≡ true → own_of f.correlation r.slots ≡ none
+        ends_call r.number ≡ true → own_of f.correlation r.slots ≡ None
     unfolding receive
     refused-ends reading t = ended-own (reading (due_of (judge_of T f l))) (judge_of T f l) refl t
 
@@ -539,7 +538,7 @@ error-payload : (m : Method) (kind : ℕ) → kind ≡ 7 → payload_of m kind �
 unfolding payload_of
 error-payload m kind e = rw e
 
-error-due : (T : Table) (f : Frame) (own : OwnCall) (b : Bool) → f.kind ≡ 7 → verdict_due (verdict_of T f own b) ≡ Unread
+error-due : (T : Table) (f : Frame) (own : Option Call) (b : Bool) → f.kind ≡ 7 → verdict_due (verdict_of T f own b) ≡ Unread
 unfolding verdict_of
 error-due T f own b e = go (right_side f.side f.kind) (eqb f.kind 1) (ne_eqb f.kind 1 (λ z. omega arith)) own
   where
@@ -549,14 +548,14 @@ error-due T f own b e = go (right_side f.side f.kind) (eqb f.kind 1) (ne_eqb f.k
     call true false z x d n h = refl
     call false b z x d n h = refl
 
-    other : (own : OwnCall) → verdict_due (other_verdict T f own) ≡ Unread
-    other none = refl
-    other (one c) =
+    other : (own : Option Call) → verdict_due (other_verdict T f own) ≡ Unread
+    other None = refl
+    other (Some c) =
         let m = method_row T c.method in
         call (names_method f m) (allowed (row_of_form m.form) f.kind c) (at_limit f.kind c)
         (after_frame (row_of_form m.form) f.kind c) (payload_of m f.kind) (not_allowed f.kind c) (error-payload m f.kind e)
 
-    go : (a q : Bool) → q ≡ false → (own : OwnCall) →
+    go : (a q : Bool) → q ≡ false → (own : Option Call) →
         verdict_due (cond a (cond q (invoke_verdict T f.correlation (find_method T f.«package» f.service f.method) own b) (other_verdict T f own)) (stop 8)) ≡ Unread
     go true true z own = clash false (sym z) refl
     go true false z own = other own
@@ -601,7 +600,7 @@ full_from [] k = refl
 full_from (x ∷ xs) k = go x.«open» (full_from xs (suc k))
   where
     go : (b : Bool) → is_missing (first_slot is_free (suc k) xs) ≡ eqb (count_open xs) (length xs) →
-        is_missing (cond (not b) (At k) (first_slot is_free (suc k) xs)) ≡ eqb (cond b (suc (count_open xs)) (count_open xs)) (suc (length xs))
+        is_missing (cond (not b) (Some k) (first_slot is_free (suc k) xs)) ≡ eqb (cond b (suc (count_open xs)) (count_open xs)) (suc (length xs))
     go true h = h ∙ sym (eqb-suc-suc (count_open xs) (length xs))
     go false h = sym (ne_eqb (count_open xs) (suc (length xs)) (λ e. omega (arith, few_open xs)))
 

@@ -1,4 +1,5 @@
 -- What a judgement tells: a frame that opens a call, a frame that goes to an open one, and a release.
+use Rattle.std.specs.Prelude.{None, Option, Some}
 use mathlib.Core.Path.{◌≡◌, refl, sym, ◌∙◌, ap, subst}
 use mathlib.Core.Bool.{Bool, true, false, cond}
 use mathlib.Core.List.{List}
@@ -7,8 +8,6 @@ use lib.Dec.{eqb}
 use borrow.Author.Tests.{eqb-true, eqb-false, eq-eqb, ne_eqb}
 use Rattle.wire.proofs.Cases.{differ, chosen, passed_over}
 use Rattle.schema.specs.declared.Method.{Method}
-use Rattle.schema.specs.declared.Found.{Found}
-use Rattle.schema.specs.declared.Found.TheVariants.{At, Missing}
 use Rattle.schema.specs.Table.{Table}
 use Rattle.schema.specs.Check.{method_row, find_method, is_missing}
 use Rattle.calls.specs.declared.Call.{Call}
@@ -18,7 +17,7 @@ use Rattle.calls.specs.declared.Payload.TheVariants.{Unread}
 use Rattle.calls.specs.declared.Judged.TheVariants.{Opens, Goes}
 use Rattle.calls.specs.Forms.{row_of_form}
 use Rattle.calls.specs.Record.{is_call, is_free, empty_call, opened_call, allowed, not_allowed, at_limit, after_frame}
-use Rattle.calls.specs.Slots.{slot, first_slot, slot_of, OwnCall, none, one, record_at, own_of, full, form_row}
+use Rattle.calls.specs.Slots.{slot, first_slot, slot_of, record_at, own_of, full, form_row}
 use Rattle.calls.specs.Judge.{right_side, payload_of, names_method, Verdict, stop, opens, goes, open_verdict, invoke_verdict, call_verdict, other_verdict, verdict_of, release_verdict, placed, slot_for, judge_of, judge_release}
 
 -- ---- the slot
@@ -35,76 +34,76 @@ module _ (s : ℕ) where
 
 module _ (l : List Call) where
   -- no record of its own: no slot
-  pub own-none : (id : ℕ) → own_of id l ≡ none → first_slot (is_call id) 0 l ≡ Missing
+  pub own-none : (id : ℕ) → own_of id l ≡ None → first_slot (is_call id) 0 l ≡ None
   unfolding own_of
   own-none id = go (first_slot (is_call id) 0 l)
     where
-      go : (f : Found) → record_at l f ≡ none → f ≡ Missing
-      go Missing e = refl
-      go (At i) e = differ cc
+      go : (f : Option ℕ) → record_at l f ≡ None → f ≡ None
+      go None e = refl
+      go (Some i) e = differ cc
 
   -- a record of its own stands in a slot
-  pub own-one : (id i : ℕ) (c : Call) → own_of id l ≡ one c → slot_of (first_slot (is_call id) 0 l) ≡ i → (first_slot (is_call id) 0 l ≡ At i) × (c ≡ slot l i)
+  pub own-one : (id i : ℕ) (c : Call) → own_of id l ≡ Some c → slot_of (first_slot (is_call id) 0 l) ≡ i → (first_slot (is_call id) 0 l ≡ Some i) × (c ≡ slot l i)
   unfolding own_of
   own-one id i c = go (first_slot (is_call id) 0 l)
     where
-      go : (f : Found) → record_at l f ≡ one c → slot_of f ≡ i → (f ≡ At i) × (c ≡ slot l i)
-      go Missing e s = differ cc
-      go (At k) e s = let same : slot l k ≡ c = cc in (ap At s, sym same ∙ ap (slot l) s)
+      go : (f : Option ℕ) → record_at l f ≡ Some c → slot_of f ≡ i → (f ≡ Some i) × (c ≡ slot l i)
+      go None e s = differ cc
+      go (Some k) e s = let same : slot l k ≡ c = cc in (ap Some s, sym same ∙ ap (slot l) s)
 
   -- the record of the call that is found
-  pub own_at : (id i : ℕ) → first_slot (is_call id) 0 l ≡ At i → own_of id l ≡ one (slot l i)
+  pub own_at : (id i : ℕ) → first_slot (is_call id) 0 l ≡ Some i → own_of id l ≡ Some (slot l i)
   unfolding own_of
   own_at id i e = rw e
 
-  not_full : (j : ℕ) → full l ≡ false → slot_of (first_slot is_free 0 l) ≡ j → first_slot is_free 0 l ≡ At j
+  not_full : (j : ℕ) → full l ≡ false → slot_of (first_slot is_free 0 l) ≡ j → first_slot is_free 0 l ≡ Some j
   unfolding full
   not_full j = go (first_slot is_free 0 l)
     where
-      go : (f : Found) → is_missing f ≡ false → slot_of f ≡ j → f ≡ At j
-      go Missing e s = differ cc
-      go (At k) e s = ap At s
+      go : (f : Option ℕ) → is_missing f ≡ false → slot_of f ≡ j → f ≡ Some j
+      go None e s = differ cc
+      go (Some k) e s = ap Some s
 
 -- ---- the judgement without a slot
 module _ (T : Table) (f : Frame) where
   abbrev id : ℕ
   id = f.correlation
 
-  abbrev found_method : Found
+  abbrev found_method : Option ℕ
   found_method = find_method T f.«package» f.service f.method
 
   abbrev right : Bool
   right = right_side f.side f.kind
 
   -- INVOKE
-  open_opens : (new c : Call) (p d : Payload) (own : OwnCall) (b : Bool) → open_verdict new p own b ≡ opens c d → (new ≡ c) × (own ≡ none) × (b ≡ false)
-  open_opens new c p d (one x) b e = differ cc
-  open_opens new c p d none true e = differ cc
-  open_opens new c p d none false e = let q : new ≡ c = cc in (q, refl, refl)
+  open_opens : (new c : Call) (p d : Payload) (own : Option Call) (b : Bool) → open_verdict new p own b ≡ opens c d → (new ≡ c) × (own ≡ None) × (b ≡ false)
+  open_opens new c p d (Some x) b e = differ cc
+  open_opens new c p d None true e = differ cc
+  open_opens new c p d None false e = let q : new ≡ c = cc in (q, refl, refl)
 
-  open_never : (new c : Call) (p d : Payload) (own : OwnCall) (b : Bool) → open_verdict new p own b ≡ goes c d → ⊥
-  open_never new c p d (one x) b e = differ cc
-  open_never new c p d none true e = differ cc
-  open_never new c p d none false e = differ cc
+  open_never : (new c : Call) (p d : Payload) (own : Option Call) (b : Bool) → open_verdict new p own b ≡ goes c d → ⊥
+  open_never new c p d (Some x) b e = differ cc
+  open_never new c p d None true e = differ cc
+  open_never new c p d None false e = differ cc
 
   -- of the method that its identifiers name; the identifier is not open, and there is room
-  pub record Invoked (own : OwnCall) (b : Bool) (c : Call) : Type 0 where
+  pub record Invoked (own : Option Call) (b : Bool) (c : Call) : Type 0 where
     pub method : ℕ
-    pub is_method : found_method ≡ At method
+    pub is_method : found_method ≡ Some method
     pub is_invoke : f.kind ≡ 1
     pub is_new : c ≡ opened_call method id
-    pub not_open : own ≡ none
+    pub not_open : own ≡ None
     pub not_full_lem : b ≡ false
 
-  invoke-opens : (g : Found) (own : OwnCall) (b : Bool) (c : Call) (d : Payload) → found_method ≡ g → f.kind ≡ 1 → invoke_verdict T id g own b ≡ opens c d → Invoked own b c
-  invoke-opens Missing own b c d m k e = differ cc
-  invoke-opens (At n) own b c d m k e =
+  invoke-opens : (g : Option ℕ) (own : Option Call) (b : Bool) (c : Call) (d : Payload) → found_method ≡ g → f.kind ≡ 1 → invoke_verdict T id g own b ≡ opens c d → Invoked own b c
+  invoke-opens None own b c d m k e = differ cc
+  invoke-opens (Some n) own b c d m k e =
       let r = open_opens (opened_call n id) c (payload_of (method_row T n) 1) d own b e in
       record { method = n; is_method = m; is_invoke = k; is_new = sym r.0; not_open = r.1; not_full_lem = r.2 }
 
-  invoke-never : (g : Found) (own : OwnCall) (b : Bool) (c : Call) (d : Payload) → invoke_verdict T id g own b ≡ goes c d → ⊥
-  invoke-never Missing own b c d e = differ cc
-  invoke-never (At n) own b c d e = open_never (opened_call n id) c (payload_of (method_row T n) 1) d own b e
+  invoke-never : (g : Option ℕ) (own : Option Call) (b : Bool) (c : Call) (d : Payload) → invoke_verdict T id g own b ≡ goes c d → ⊥
+  invoke-never None own b c d e = differ cc
+  invoke-never (Some n) own b c d e = open_never (opened_call n id) c (payload_of (method_row T n) 1) d own b e
 
   -- the others
   module _ (m : Method) (x : Call) where
@@ -135,26 +134,26 @@ module _ (T : Table) (f : Frame) where
         differ cc
 
   -- to the open call x, where it is allowed; its record then is c
-  pub record Reached (own : OwnCall) (c : Call) : Type 0 where
+  pub record Reached (own : Option Call) (c : Call) : Type 0 where
     pub call : Call
     pub is_other : f.kind ≡ 1 → ⊥
-    pub is_open_lem : own ≡ one call
+    pub is_open_lem : own ≡ Some call
     pub is_allowed : allowed (form_row T call) f.kind call ≡ true
     pub is_below : at_limit f.kind call ≡ false
     pub is_next : c ≡ after_frame (form_row T call) f.kind call
 
-  other_goes : (own : OwnCall) (c : Call) (d : Payload) → (f.kind ≡ 1 → ⊥) → other_verdict T f own ≡ goes c d → Reached own c
-  other_goes none c d n e = differ cc
-  other_goes (one x) c d n e =
+  other_goes : (own : Option Call) (c : Call) (d : Payload) → (f.kind ≡ 1 → ⊥) → other_verdict T f own ≡ goes c d → Reached own c
+  other_goes None c d n e = differ cc
+  other_goes (Some x) c d n e =
       let r = call-goes (method_row T x.method) x c d e in
       record { call = x; is_other = n; is_open_lem = refl; is_allowed = r.0; is_below = r.1; is_next = r.2 }
 
-  other-never : (own : OwnCall) (c : Call) (d : Payload) → other_verdict T f own ≡ opens c d → ⊥
-  other-never none c d e = differ cc
-  other-never (one x) c d e = call-never (method_row T x.method) x c d e
+  other-never : (own : Option Call) (c : Call) (d : Payload) → other_verdict T f own ≡ opens c d → ⊥
+  other-never None c d e = differ cc
+  other-never (Some x) c d e = call-never (method_row T x.method) x c d e
 
   -- every frame
-  module _ (own : OwnCall) (b : Bool) (c : Call) (d : Payload) where
+  module _ (own : Option Call) (b : Bool) (c : Call) (d : Payload) where
     abbrev invoke : Verdict
     invoke = invoke_verdict T id found_method own b
 
@@ -180,16 +179,16 @@ module _ (T : Table) (f : Frame) (l : List Call) where
   -- the frame opens a call at slot j, of the method that its identifiers name; the identifier is not open, and j is the lowest free slot
   pub record Opening (j : ℕ) (c : Call) : Type 0 where
     pub method : ℕ
-    pub is_method : find_method T f.«package» f.service f.method ≡ At method
+    pub is_method : find_method T f.«package» f.service f.method ≡ Some method
     pub is_invoke : f.kind ≡ 1
     pub is_new : c ≡ opened_call method f.correlation
-    pub not_open : first_slot (is_call f.correlation) 0 l ≡ Missing
-    pub lowest : first_slot is_free 0 l ≡ At j
+    pub not_open : first_slot (is_call f.correlation) 0 l ≡ None
+    pub lowest : first_slot is_free 0 l ≡ Some j
 
   -- the frame goes to the open call at slot i, where it is allowed; its record then is c
   pub record Going (i : ℕ) (c : Call) : Type 0 where
     pub is_other : f.kind ≡ 1 → ⊥
-    pub is_own : first_slot (is_call f.correlation) 0 l ≡ At i
+    pub is_own : first_slot (is_call f.correlation) 0 l ≡ Some i
     pub is_allowed : allowed (form_row T (slot l i)) f.kind (slot l i) ≡ true
     pub is_below : at_limit f.kind (slot l i) ≡ false
     pub is_next : c ≡ after_frame (form_row T (slot l i)) f.kind (slot l i)
@@ -231,20 +230,20 @@ module _ (T : Table) (f : Frame) (l : List Call) where
 module _ (id : ℕ) (l : List Call) where
   -- the cancelled call at slot i is ended
   pub record Releasing (i : ℕ) (c : Call) : Type 0 where
-    pub is_own : first_slot (is_call id) 0 l ≡ At i
+    pub is_own : first_slot (is_call id) 0 l ≡ Some i
     pub is_cancelled : (slot l i).cancelled ≡ true
     pub is_next : c ≡ empty_call
 
-  release-goes : (own : OwnCall) (c : Call) (d : Payload) → release_verdict own ≡ goes c d → (x : Call) × (own ≡ one x) × (x.cancelled ≡ true) × (c ≡ empty_call)
-  release-goes none c d e = differ cc
-  release-goes (one x) c d e =
+  release-goes : (own : Option Call) (c : Call) (d : Payload) → release_verdict own ≡ goes c d → (x : Call) × (own ≡ Some x) × (x.cancelled ≡ true) × (c ≡ empty_call)
+  release-goes None c d e = differ cc
+  release-goes (Some x) c d e =
       let r = chosen x.cancelled (goes empty_call Unread) (stop 14) (λ q. differ cc) e in
       let q : goes empty_call Unread ≡ goes c d = r.1 in
       (x, refl, r.0, cc)
 
-  release-never : (own : OwnCall) (c : Call) (d : Payload) → release_verdict own ≡ opens c d → ⊥
-  release-never none c d e = differ cc
-  release-never (one x) c d e =
+  release-never : (own : Option Call) (c : Call) (d : Payload) → release_verdict own ≡ opens c d → ⊥
+  release-never None c d e = differ cc
+  release-never (Some x) c d e =
       let q : goes empty_call Unread ≡ opens c d = (chosen x.cancelled (goes empty_call Unread) (stop 14) (λ q. differ cc) e).1 in differ cc
 
   pub released-goes : (i : ℕ) (c : Call) (d : Payload) → judge_release id l ≡ Goes i c d → Releasing i c

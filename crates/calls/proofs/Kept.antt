@@ -1,4 +1,5 @@
 -- A step keeps a good table good, and its number of slots: of a frame and of a release, by what their judgements have in common.
+use Rattle.std.specs.Prelude.{None, Some}
 use mathlib.Core.Path.{◌≡◌, refl, sym, ◌∙◌, ap, subst}
 use mathlib.Core.Logic.{◌⊎◌, inl, inr, ⊎_elim}
 use mathlib.Core.Bool.{Bool, true, false, not, cond, ◌&&◌, ◌||◌}
@@ -20,7 +21,6 @@ use Rattle.calls.specs.Slots.{slot, first_slot, form_row, good_table}
 use Rattle.calls.specs.Judge.{judge_of, judge_release}
 use Rattle.calls.specs.Step.{slots_after, due_of, receive, release}
 use Rattle.calls.specs.Good.{GoodCall, GoodCalls}
-use Rattle.schema.specs.declared.Found.TheVariants.{At, Missing}
 use Rattle.schema.proofs.Bools.{cases, clash, and_i, and_left, and_right, or_left, or_cases, or-false}
 use Rattle.schema.proofs.Methods.{found-named}
 use Rattle.calls.proofs.Searches.{found_in, found-passes, none_passes, slot_same, slot-other, past_end}
@@ -208,11 +208,11 @@ module _ (T : Table) (id : ℕ) (l : List Call) where
     pub fresh : c.correlation ≡ id
     pub good : c.«open» ≡ true → GoodCall T c
     pub zero : c.«open» ≡ false → c ≡ empty_call
-    pub not_open : first_slot (is_call id) 0 l ≡ Missing
-    pub lowest : first_slot is_free 0 l ≡ At j
+    pub not_open : first_slot (is_call id) 0 l ≡ None
+    pub lowest : first_slot is_free 0 l ≡ Some j
 
   pub record Moves (i : ℕ) (c : Call) : Type 0 where
-    pub is_own : first_slot (is_call id) 0 l ≡ At i
+    pub is_own : first_slot (is_call id) 0 l ≡ Some i
     pub same : c.«open» ≡ true → c.correlation ≡ id
     pub good : GoodCall T (slot l i) → c.«open» ≡ true → GoodCall T c
     pub zero : c.«open» ≡ false → c ≡ empty_call

@@ -1,4 +1,5 @@
 -- No record ever counts more than 65,535 elements either way, and each step counts one more at most.
+use Rattle.std.specs.Prelude.{None, Option, Some}
 use mathlib.Core.Path.{◌≡◌, refl, sym, subst}
 use mathlib.Core.Bool.{Bool, true, false, cond, ◌&&◌, ◌||◌}
 use mathlib.Core.List.{List, [], ◌∷◌}
@@ -8,8 +9,6 @@ use lib.Dec.{eqb, lit≤}
 use lib.ListN.{set, replicate}
 use borrow.Author.Tests.{eqb-false, ne_eqb}
 use Rattle.wire.proofs.Cases.{cond-case, differ}
-use Rattle.schema.specs.declared.Found.{Found}
-use Rattle.schema.specs.declared.Found.TheVariants.{At, Missing}
 use Rattle.schema.specs.Table.{Table}
 use Rattle.schema.proofs.Bools.{or-false}
 use Rattle.calls.specs.declared.Call.{Call}
@@ -20,7 +19,7 @@ use Rattle.calls.specs.declared.Judged.TheVariants.{Refused, Opens, Goes}
 use Rattle.calls.specs.Numbers.{ends_call}
 pub use Rattle.calls.specs.Limits.{FewElements, FewIn}
 use Rattle.calls.specs.Record.{empty_call, is_call, is_input, is_output, at_limit, counting, marked, ends}
-use Rattle.calls.specs.Slots.{slot, first_slot, form_row, fresh_slots, one, record_at, own_of}
+use Rattle.calls.specs.Slots.{slot, first_slot, form_row, fresh_slots, record_at, own_of}
 use Rattle.calls.specs.Judge.{judge_of, judge_release}
 use Rattle.calls.specs.Step.{slots_after, due_of, receive, release}
 use Rattle.calls.proofs.Judgement.{judged-opens, judged-goes, released-goes, released-never}
@@ -102,16 +101,16 @@ few-more T f reading most l h =
 -- ---- below the limit
 
 -- the record of a call that is open is one of a slot
-own-few : (most id : ℕ) (l : List Call) → FewIn most l → (c : Call) → own_of id l ≡ one c → FewElements most c
+own-few : (most id : ℕ) (l : List Call) → FewIn most l → (c : Call) → own_of id l ≡ Some c → FewElements most c
 unfolding own_of
 own-few most id l h c = go (first_slot (is_call id) 0 l)
   where
-    go : (at : Found) → record_at l at ≡ one c → FewElements most c
-    go (At i) e = let same : slot l i ≡ c = cc in subst (FewElements most) same (h i)
-    go Missing e = differ cc
+    go : (at : Option ℕ) → record_at l at ≡ Some c → FewElements most c
+    go (Some i) e = let same : slot l i ≡ c = cc in subst (FewElements most) same (h i)
+    go None e = differ cc
 
 -- A call that counts less than 65,535 elements is not at its limit.
-pub few-below : (id : ℕ) (l : List Call) → FewIn 65534 l → (kind : ℕ) (c : Call) → own_of id l ≡ one c → at_limit kind c ≡ false
+pub few-below : (id : ℕ) (l : List Call) → FewIn 65534 l → (kind : ℕ) (c : Call) → own_of id l ≡ Some c → at_limit kind c ≡ false
 few-below id l h kind c e =
     let w = own-few 65534 id l h c e in
     let ins : eqb c.input_elements 65535 ≡ false = ne_eqb c.input_elements 65535 (λ z. omega (arith, z, w.inputs)) in

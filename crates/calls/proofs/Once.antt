@@ -1,10 +1,9 @@
 -- The order rules say one thing of a frame: what each rule decides, it decides alone.
+use Rattle.std.specs.Prelude.{None, Option, Some}
 use mathlib.Core.Path.{◌≡◌, refl, sym, ◌∙◌, ap, subst}
 use mathlib.Core.Bool.{Bool, true, false}
 use mathlib.Core.List.{List}
 use Prim.Native.Nat.{ℕ}
-use Rattle.schema.specs.declared.Found.{Found}
-use Rattle.schema.specs.declared.Found.TheVariants.{At, Missing}
 use Rattle.schema.specs.Table.{Table}
 use Rattle.schema.specs.Check.{method_row, find_method}
 use Rattle.schema.proofs.Bools.{clash}
@@ -36,7 +35,7 @@ module _ (T : Table) (f : Frame) (full : Bool) where
   abbrev right : Bool
   right = right_side f.side f.kind
 
-  abbrev named : Found
+  abbrev named : Option ℕ
   named = find_method T f.«package» f.service f.method
 
   abbrev May : (m : ℕ) → List ℕ → Type 0
@@ -64,8 +63,8 @@ module _ (T : Table) (f : Frame) (full : Bool) where
   -- the ruling, rule by rule
   record Decided (past : Past) (r : Ruling) : Type 0 where
     wrong : right ≡ false → r ≡ refused 8
-    missing : right ≡ true → f.kind ≡ 1 → named ≡ Missing → r ≡ refused 9
-    opening : right ≡ true → f.kind ≡ 1 → (m : ℕ) → named ≡ At m → Opening past m r
+    missing : right ≡ true → f.kind ≡ 1 → named ≡ None → r ≡ refused 9
+    opening : right ≡ true → f.kind ≡ 1 → (m : ℕ) → named ≡ Some m → Opening past m r
     following : right ≡ true → (f.kind ≡ 1 → ⊥) → Following past r
 
   decided : {past : Past} {r : Ruling} → Ruled T f full past r → Decided past r

@@ -1,4 +1,5 @@
 -- The order of a call's frames: where the record's marks reflect the kinds accepted, a frame is ruled by them, and its record reflects them afterwards.
+use Rattle.std.specs.Prelude.{None, Option, Some}
 use mathlib.Core.Path.{◌≡◌, refl, sym, ◌∙◌, ap, subst}
 use mathlib.Core.Logic.{◌⊎◌, inl, inr, ⊎_elim}
 use mathlib.Core.Bool.{Bool, true, false, not, cond, ◌&&◌, ◌||◌}
@@ -8,8 +9,6 @@ use native.Mathlib.Omega.{arith}
 use lib.Dec.{eqb, leb, lit≤}
 use lib.ListN.{length}
 use borrow.Author.Tests.{eqb-true, eqb-false, eq-eqb, ne_eqb, leb-true}
-use Rattle.schema.specs.declared.Found.{Found}
-use Rattle.schema.specs.declared.Found.TheVariants.{At, Missing}
 use Rattle.schema.specs.Table.{Table}
 use Rattle.schema.specs.Check.{method_row, find_method}
 use Rattle.schema.specs.Good.{GoodSchema}
@@ -26,7 +25,7 @@ use Rattle.calls.specs.declared.Rise.{Rise}
 use Rattle.calls.specs.Forms.{letter, letters_row, row_of_form}
 use Rattle.calls.specs.Numbers.{ends_call, EndsCall, payload, many-pairs}
 use Rattle.calls.specs.Record.{implies, empty_call, opened_call, is_call, complete, allowed, not_allowed, is_input, is_output, at_limit, counting, marked, ends, after_frame}
-use Rattle.calls.specs.Slots.{slot, first_slot, contains, OwnCall, none, one, record_at, own_of, full}
+use Rattle.calls.specs.Slots.{slot, first_slot, contains, record_at, own_of, full}
 use Rattle.calls.specs.Judge.{right_side, payload_of, names_method, Verdict, stop, opens, goes, invoke_verdict, call_verdict, other_verdict, verdict_of, judge_of, release_verdict, judge_release}
 use Rattle.calls.specs.Step.{receive, release}
 use Rattle.calls.specs.Counting.{no_rise, ending, rise_of, release_rise, figure_by}
@@ -206,13 +205,13 @@ ruling_of (opens c d) = comes d
 ruling_of (goes c d) = comes d
 
 -- the method of an open call is one of the table's
-Known : Table → OwnCall → Type 0
-Known T none = Unit {0}
-Known T (one c) = c.method < length T.methods
+Known : Table → Option Call → Type 0
+Known T None = Unit {0}
+Known T (Some c) = c.method < length T.methods
 
 -- an event with this number counts as what rises, for the method of the row that rises
 abbrev pub CountsAs : Table → Event → Past → Rise → (number : ℕ) → Type 0
-CountsAs T e past r n = (event_as T e n past ≡ figure_by r n) × ((figure_by r n ≡ Nothing) ⊎ (method_in T e past ≡ At r.row))
+CountsAs T e past r n = (event_as T e n past ≡ figure_by r n) × ((figure_by r n ≡ Nothing) ⊎ (method_in T e past ≡ Some r.row))
 
 module _ (T : Table) (g : GoodSchema T) (f : Frame) (b : Bool) where
   abbrev heard : Verdict → ℕ → Heard
@@ -220,7 +219,7 @@ module _ (T : Table) (g : GoodSchema T) (f : Frame) (b : Bool) where
 
   -- the ruling is the one by the past, and whatever number the payload has, the record afterwards reflects the past afterwards, and what rises is what
   -- the event counts as
-  abbrev VerdictFits : Past → OwnCall → Verdict → Type 0
+  abbrev VerdictFits : Past → Option Call → Verdict → Type 0
   VerdictFits past own v =
       Ruled T f b past (ruling_of v)
       × ((p : ℕ) → Reflects (after T (heard v p) past) (verdict_own v p own))
@@ -229,11 +228,11 @@ module _ (T : Table) (g : GoodSchema T) (f : Frame) (b : Bool) where
   abbrev right : Bool
   right = right_side f.side f.kind
 
-  abbrev found : Found
+  abbrev found : Option ℕ
   found = find_method T f.«package» f.service f.method
 
   -- a refusal before the payload
-  stays : (n : ℕ) → 8 ≤ n → n ≤ 17 → {past : Past} {own : OwnCall} → Reflects past own → Reflects (after T (record { event = frame f; number = n }) past) own
+  stays : (n : ℕ) → 8 ≤ n → n ≤ 17 → {past : Past} {own : Option Call} → Reflects past own → Reflects (after T (record { event = frame f; number = n }) past) own
   stays n low high r = rw (ne_eqb n 0 (λ z. omega arith), not_ending n (early low high)) r
     where
       early : {n : ℕ} → 8 ≤ n → n ≤ 17 → EndsCall n → ⊥
@@ -251,14 +250,14 @@ module _ (T : Table) (g : GoodSchema T) (f : Frame) (b : Bool) where
 
   -- INVOKE
   module _ (s : right ≡ true) (k : f.kind ≡ 1) where
-    opening : (n p : ℕ) → found ≡ At n →
-        Reflects (after T (record { event = frame f; number = p }) closed) (cond (eqb p 0) (one (opened_call n f.correlation)) none)
+    opening : (n p : ℕ) → found ≡ Some n →
+        Reflects (after T (record { event = frame f; number = p }) closed) (cond (eqb p 0) (Some (opened_call n f.correlation)) None)
     opening n p e = go (eqb p 0) (ends_call p)
       where
         begins : accepted T (frame f) closed ≡ since n no_elements []
         begins = rw (k, e)
 
-        go : (x y : Bool) → Reflects (cond x (accepted T (frame f) closed) (cond y closed closed)) (cond x (one (opened_call n f.correlation)) none)
+        go : (x y : Bool) → Reflects (cond x (accepted T (frame f) closed) (cond y closed closed)) (cond x (Some (opened_call n f.correlation)) None)
         go true y =
             rw begins
             (call n no_elements [] (opened_call n f.correlation)
@@ -275,28 +274,28 @@ module _ (T : Table) (g : GoodSchema T) (f : Frame) (b : Bool) where
         go false true = nothing
         go false false = nothing
 
-    opens-counted : (n p : ℕ) → found ≡ At n → CountsAs T (frame f) closed (record { row = n; accepted = Opened; refused = Nothing }) p
+    opens-counted : (n p : ℕ) → found ≡ Some n → CountsAs T (frame f) closed (record { row = n; accepted = Opened; refused = Nothing }) p
     unfolding figure_by
     opens-counted n p e = (refl, inr e)
 
-    belongs : (n : ℕ) → found ≡ At n → Belongs (method_row T n) 1 (payload_of (method_row T n) 1)
+    belongs : (n : ℕ) → found ≡ Some n → Belongs (method_row T n) 1 (payload_of (method_row T n) 1)
     belongs n e =
         invoke-belongs T g.few_types (method_row T n) (g.methods n (found-named T f.«package» f.service f.method n e).0)
 
-    invoked : (past : Past) (own : OwnCall) → Reflects past own → (m : Found) → found ≡ m → VerdictFits past own (invoke_verdict T f.correlation m own b)
-    invoked past own r Missing e = (unknown past s k e, λ p. stays 9 (lit≤ tt) (lit≤ tt) r, λ p. nowhere 9 (lit≤ tt) (lit≤ tt) past)
-    invoked closed none nothing (At n) e = go b refl
+    invoked : (past : Past) (own : Option Call) → Reflects past own → (m : Option ℕ) → found ≡ m → VerdictFits past own (invoke_verdict T f.correlation m own b)
+    invoked past own r None e = (unknown past s k e, λ p. stays 9 (lit≤ tt) (lit≤ tt) r, λ p. nowhere 9 (lit≤ tt) (lit≤ tt) past)
+    invoked closed None nothing (Some n) e = go b refl
       where
-        go : (x : Bool) → b ≡ x → VerdictFits closed none (invoke_verdict T f.correlation (At n) none x)
+        go : (x : Bool) → b ≡ x → VerdictFits closed None (invoke_verdict T f.correlation (Some n) None x)
         go true q = (no_room n s k e q, λ p. stays 13 (lit≤ tt) (lit≤ tt) nothing, λ p. nowhere 13 (lit≤ tt) (lit≤ tt) closed)
         go false q = (opens_call n _ s k e q (belongs n e), λ p. opening n p e, λ p. opens-counted n p e)
-    invoked (since m x h) (one c) (call _ _ _ _ w) (At n) e = (
+    invoked (since m x h) (Some c) (call _ _ _ _ w) (Some n) e = (
       already m n x h s k e,
       λ p. stays 10 (lit≤ tt) (lit≤ tt) (call m x h c w),
       λ p. nowhere 10 (lit≤ tt) (lit≤ tt) (since m x h),
     )
-    invoked closed (one c) r (At n) e = elim r [ ]
-    invoked (since m x h) none r (At n) e = elim r [ ]
+    invoked closed (Some c) r (Some n) e = elim r [ ]
+    invoked (since m x h) None r (Some n) e = elim r [ ]
 
   -- the others
   module _ (s : right ≡ true) (n : f.kind ≡ 1 → ⊥) where
@@ -326,11 +325,11 @@ module _ (T : Table) (g : GoodSchema T) (f : Frame) (b : Bool) where
           go false e = call m before (f.kind ∷ h) (marked f.kind c) (marks-next form before h c m w f.kind (not_last 7 refl e))
 
       going : (p : ℕ) →
-          Reflects (after T (record { event = frame f; number = p }) (since m before h)) (cond (eqb p 0) (kept (after_frame (row_of_form form) f.kind c)) (cond (ends_call p) none (one c)))
+          Reflects (after T (record { event = frame f; number = p }) (since m before h)) (cond (eqb p 0) (kept (after_frame (row_of_form form) f.kind c)) (cond (ends_call p) None (Some c)))
       going p = go (eqb p 0) (ends_call p)
         where
           go : (x y : Bool) →
-              Reflects (cond x (accepted T (frame f) (since m before h)) (cond y closed (since m before h))) (cond x (kept (after_frame (row_of_form form) f.kind c)) (cond y none (one c)))
+              Reflects (cond x (accepted T (frame f) (since m before h)) (cond y closed (since m before h))) (cond x (kept (after_frame (row_of_form form) f.kind c)) (cond y None (Some c)))
           go true y = rw (ne_eqb f.kind 1 n) continues
           go false true = nothing
           go false false = call m before h c w
@@ -355,22 +354,22 @@ module _ (T : Table) (g : GoodSchema T) (f : Frame) (b : Bool) where
           go true e = ap (λ (b : Bool). cond b Cancelled Errored) (sym w.is_cancelled)
           go false e = rw (e, ← completes) (last (complete (row_of_form form) (marked f.kind c)))
 
-      counted : (p : ℕ) → CountsAs T (frame f) (since m before h) (verdict_rise f.kind (one c) (goes (after_frame (row_of_form form) f.kind c) (payload_of (method_row T m) f.kind))) p
+      counted : (p : ℕ) → CountsAs T (frame f) (since m before h) (verdict_rise f.kind (Some c) (goes (after_frame (row_of_form form) f.kind c) (payload_of (method_row T m) f.kind))) p
       unfolding figure_by
-      counted p = (ap (λ (x : Figure). cond (eqb p 0) x (cond (ends_call p) Failed Nothing)) accepted_as_lem, inr (ap At (sym w.method)))
+      counted p = (ap (λ (x : Figure). cond (eqb p 0) x (cond (ends_call p) Failed Nothing)) accepted_as_lem, inr (ap Some (sym w.method)))
 
-      called : VerdictFits (since m before h) (one c) (call_verdict (method_row T m) f c)
+      called : VerdictFits (since m before h) (Some c) (call_verdict (method_row T m) f c)
       called = go (names_method f (method_row T m)) (allowed (row_of_form form) f.kind c) (at_limit f.kind c) refl refl refl
         where
           next : Verdict
           next = goes (after_frame (row_of_form form) f.kind c) (payload_of (method_row T m) f.kind)
 
-          same-call : Reflects (since m before h) (one c)
+          same-call : Reflects (since m before h) (Some c)
           same-call = call m before h c w
 
           go : (x y z : Bool) → names_method f (method_row T m) ≡ x → allowed (row_of_form form) f.kind c ≡ y
               → at_limit f.kind c ≡ z
-              → VerdictFits (since m before h) (one c) (cond x (cond y (cond z (stop 17) next) (stop (not_allowed f.kind c))) (stop 12))
+              → VerdictFits (since m before h) (Some c) (cond x (cond y (cond z (stop 17) next) (stop (not_allowed f.kind c))) (stop 12))
           go true true true p q l =
               let may = may_come form before h c m w f.kind bounds.0 bounds.1 (rw letters at q) in (
                 too_many m before h s n p may (limited form before h c m w f.kind l),
@@ -383,7 +382,7 @@ module _ (T : Table) (g : GoodSchema T) (f : Frame) (b : Bool) where
               (goes_on m before h _ s n p may few (payload-belongs T g.few_types (method_row T m) (g.methods m known) h may), going, counted)
           go true false z p q l =
               let bar : allowed (letters_row form) f.kind c ≡ false = rw letters at q in
-              late form before h c m w (λ k. VerdictFits (since m before h) (one c) (stop k)) f.kind bar
+              late form before h c m w (λ k. VerdictFits (since m before h) (Some c) (stop k)) f.kind bar
               (λ x. (
                 dropped m before h s p x,
                 λ k. stays 16 (lit≤ tt) (lit≤ tt) same-call,
@@ -400,15 +399,15 @@ module _ (T : Table) (g : GoodSchema T) (f : Frame) (b : Bool) where
             λ k. nowhere 12 (lit≤ tt) (lit≤ tt) (since m before h),
           )
 
-    other : (past : Past) (own : OwnCall) → Known T own → Reflects past own → VerdictFits past own (other_verdict T f own)
+    other : (past : Past) (own : Option Call) → Known T own → Reflects past own → VerdictFits past own (other_verdict T f own)
     unfolding Known
-    other closed none known nothing = (not_open s n, λ p. stays 11 (lit≤ tt) (lit≤ tt) nothing, λ p. nowhere 11 (lit≤ tt) (lit≤ tt) closed)
-    other (since m x h) (one c) known (call _ _ _ _ w) =
-        subst (λ (k : ℕ). VerdictFits (since m x h) (one c) (call_verdict (method_row T k) f c)) (sym w.method) (called m (rw w.method at known) x h c w)
-    other closed (one c) known r = elim r [ ]
-    other (since m x h) none known r = elim r [ ]
+    other closed None known nothing = (not_open s n, λ p. stays 11 (lit≤ tt) (lit≤ tt) nothing, λ p. nowhere 11 (lit≤ tt) (lit≤ tt) closed)
+    other (since m x h) (Some c) known (call _ _ _ _ w) =
+        subst (λ (k : ℕ). VerdictFits (since m x h) (Some c) (call_verdict (method_row T k) f c)) (sym w.method) (called m (rw w.method at known) x h c w)
+    other closed (Some c) known r = elim r [ ]
+    other (since m x h) None known r = elim r [ ]
 
-  every : (past : Past) (own : OwnCall) → Known T own → Reflects past own → VerdictFits past own (verdict_of T f own b)
+  every : (past : Past) (own : Option Call) → Known T own → Reflects past own → VerdictFits past own (verdict_of T f own b)
   unfolding verdict_of
   every past own known r = go right refl (eqb f.kind 1) refl
     where
@@ -421,7 +420,7 @@ module _ (T : Table) (g : GoodSchema T) (f : Frame) (b : Bool) where
 -- ---- a release
 -- the number is the one by the past, the record afterwards reflects the past afterwards, and what rises is what the release counts as; where 18 is the
 -- answer, nothing rises
-abbrev Suits : Table → (correlation : ℕ) → Past → OwnCall → Verdict → Type 0
+abbrev Suits : Table → (correlation : ℕ) → Past → Option Call → Verdict → Type 0
 Suits T id past own v =
     Releases past (verdict_number v 0)
     × ((p : ℕ) → ends_call p ≡ false → Reflects (after T (record { event = event.release id; number = verdict_number v p }) past) (verdict_own v p own))
@@ -429,22 +428,22 @@ Suits T id past own v =
 
 module _ (T : Table) (id : ℕ) where
   released-one : (m : ℕ) (b : Elements) (h : List ℕ) (c : Call) → Marks m b h c → (p : ℕ) → ends_call p ≡ false →
-      Reflects (after T (record { event = event.release id; number = p }) (since m b h)) (cond (eqb p 0) none (cond (ends_call p) none (one c)))
+      Reflects (after T (record { event = event.release id; number = p }) (since m b h)) (cond (eqb p 0) None (cond (ends_call p) None (Some c)))
   released-one m b h c w p n = rw n (go (eqb p 0))
     where
-      go : (q : Bool) → Reflects (cond q closed (since m b h)) (cond q none (one c))
+      go : (q : Bool) → Reflects (cond q closed (since m b h)) (cond q None (Some c))
       go true = nothing
       go false = call m b h c w
 
-  release-suits : (past : Past) (own : OwnCall) → Reflects past own → Suits T id past own (release_verdict own)
+  release-suits : (past : Past) (own : Option Call) → Reflects past own → Suits T id past own (release_verdict own)
   unfolding ends_call figure_by
-  release-suits closed none nothing = (no_call, λ p n. nothing, λ p n. (refl, inl refl))
-  release-suits (since m b h) (one c) (call _ _ _ _ w) =
-      cond-case (Suits T id (since m b h) (one c)) c.cancelled (goes empty_call Unread) (stop 14)
-      (λ t. (released m b h (sym w.is_cancelled ∙ t), released-one m b h c w, λ p n. (rw n, inr (ap At (sym w.method)))))
+  release-suits closed None nothing = (no_call, λ p n. nothing, λ p n. (refl, inl refl))
+  release-suits (since m b h) (Some c) (call _ _ _ _ w) =
+      cond-case (Suits T id (since m b h) (Some c)) c.cancelled (goes empty_call Unread) (stop 14)
+      (λ t. (released m b h (sym w.is_cancelled ∙ t), released-one m b h c w, λ p n. (rw n, inr (ap Some (sym w.method)))))
       (λ t. (not_cancelled m b h (sym w.is_cancelled ∙ t), λ p n. call m b h c w, λ p n. (refl, inl refl)))
-  release-suits closed (one c) r = elim r [ ]
-  release-suits (since m b h) none r = elim r [ ]
+  release-suits closed (Some c) r = elim r [ ]
+  release-suits (since m b h) None r = elim r [ ]
 
 -- ---- under good tables
 module _ (T : Table) (g : GoodSchema T) (l : List Call) (w : GoodCalls T l) where
@@ -452,12 +451,12 @@ module _ (T : Table) (g : GoodSchema T) (l : List Call) (w : GoodCalls T l) wher
   unfolding own_of Known
   own-known id = go (first_slot (is_call id) 0 l) refl
     where
-      go : (i : Found) → first_slot (is_call id) 0 l ≡ i → Known T (record_at l i)
-      go Missing e = tt
-      go (At i) e = (w.calls i (call_open id (slot l i) (found-passes (is_call id) l i e))).method_exists
+      go : (i : Option ℕ) → first_slot (is_call id) 0 l ≡ i → Known T (record_at l i)
+      go None e = tt
+      go (Some i) e = (w.calls i (call_open id (slot l i) (found-passes (is_call id) l i e))).method_exists
 
   module _ (f : Frame) (past : Past) (r : Reflects past (own_of f.correlation l)) where
-    abbrev own : OwnCall
+    abbrev own : Option Call
     own = own_of f.correlation l
 
     -- A frame is ruled by the kinds accepted for its call since INVOKE.

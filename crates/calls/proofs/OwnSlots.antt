@@ -1,11 +1,11 @@
 -- The judgement of a frame at its slot is the judgement over the call table, and so is what it raises.
+use Rattle.std.specs.Prelude.{Option}
 use mathlib.Core.Path.{◌≡◌, refl, sym, ap, ◌∙◌}
 use mathlib.Core.Bool.{Bool, true, false, cond}
 use mathlib.Core.List.{List}
 use Prim.Native.Nat.{ℕ}
 use lib.Dec.{eqb}
 use borrow.Author.Tests.{eq-eqb}
-use Rattle.schema.specs.declared.Found.{Found}
 use Rattle.schema.specs.Table.{Table}
 use Rattle.schema.specs.Check.{is_missing}
 use Rattle.schema.proofs.Bools.{clash}
@@ -14,7 +14,7 @@ use Rattle.calls.specs.declared.Frame.{Frame}
 use Rattle.calls.specs.declared.Judged.{Judged}
 use Rattle.calls.specs.declared.OwnSlot.{OwnSlot}
 use Rattle.calls.specs.Record.{is_call, is_free}
-use Rattle.calls.specs.Slots.{first_slot, slot_of, OwnCall, own_of, full}
+use Rattle.calls.specs.Slots.{first_slot, slot_of, own_of, full}
 use Rattle.calls.specs.Judge.{verdict_of, release_verdict, placed, judge_of, judge_release}
 use Rattle.calls.specs.Counting.{rise_of, release_rise}
 use Rattle.calls.specs.Apart.{verdict, verdict_rise, verdict_release_rise}
@@ -30,13 +30,13 @@ module _ (T : Table) (f : Frame) (l : List Call) where
   unfolding judged_at judge_of full
   judged-by-slot = go (eqb f.kind 1) refl
     where
-      own : OwnCall
+      own : Option Call
       own = own_of f.correlation l
 
-      free : Found
+      free : Option ℕ
       free = first_slot is_free 0 l
 
-      there : Found
+      there : Option ℕ
       there = first_slot (is_call f.correlation) 0 l
 
       go : (b : Bool) → eqb f.kind 1 ≡ b

@@ -1,5 +1,6 @@
 -- An open call's record is good exactly where its marks are those of kinds accepted in an order that the rules allow. So each identifier of a good table
 -- has a past that the table reflects.
+use Rattle.std.specs.Prelude.{None, Option, Some}
 use mathlib.Core.Path.{◌≡◌, refl, sym, ◌∙◌}
 use mathlib.Core.Logic.{◌↔◌}
 use mathlib.Core.Bool.{Bool, true, false, cond, ◌&&◌}
@@ -7,8 +8,6 @@ use mathlib.Core.List.{List, [], ◌∷◌}
 use Prim.Native.Nat.{ℕ, ◌<◌}
 use native.Mathlib.Omega.{arith}
 use lib.ListN.{length}
-use Rattle.schema.specs.declared.Found.{Found}
-use Rattle.schema.specs.declared.Found.TheVariants.{At, Missing}
 use Rattle.schema.specs.Table.{Table}
 use Rattle.schema.specs.Check.{method_row}
 use Rattle.schema.specs.Good.{GoodSchema}
@@ -257,9 +256,9 @@ pub some-past : (T : Table) → GoodSchema T → (l : List Call) → GoodCalls T
 unfolding own_of
 some-past T g l w id = go (first_slot (is_call id) 0 l) refl
   where
-    go : (i : Found) → first_slot (is_call id) 0 l ≡ i → PastIn T l id
-    go Missing e = record { past = closed; lawful = idle; reflects = rw e nothing }
-    go (At i) e =
+    go : (i : Option ℕ) → first_slot (is_call id) 0 l ≡ i → PastIn T l id
+    go None e = record { past = closed; lawful = idle; reflects = rw e nothing }
+    go (Some i) e =
         let c = slot l i in
         let r = good-reached T g c (w.calls i (call_open id c (found-passes (is_call id) l i e))) in
         record { past = since c.method r.before r.kinds; lawful = r.lawful; reflects = rw e (call c.method r.before r.kinds c r.marks) }

@@ -1,4 +1,5 @@
 -- What a frame's payload holds is a struct type of a good schema table, or nothing, or not read.
+use Rattle.std.specs.Prelude.{None, Option, Some}
 use mathlib.Core.Path.{◌≡◌, refl}
 use mathlib.Core.Logic.{⊎_elim}
 use native.Mathlib.Omega.{arith}
@@ -9,8 +10,6 @@ use Prim.Native.Nat.{ℕ, ◌/◌, ◌%◌, ◌<◌}
 use lib.ListN.{length}
 use lib.Dec.{eqb}
 use Rattle.schema.specs.declared.Method.{Method}
-use Rattle.schema.specs.declared.Found.{Found}
-use Rattle.schema.specs.declared.Found.TheVariants.{At, Missing}
 use Rattle.schema.specs.Table.{Table, row_at}
 use Rattle.schema.specs.File.{table_of}
 use Rattle.schema.specs.Check.{method_row, find_method, IsGood}
@@ -20,7 +19,7 @@ use Rattle.calls.specs.declared.Payload.{Payload}
 use Rattle.calls.specs.declared.Payload.TheVariants.{Struct, Empty, Unread}
 use Rattle.calls.specs.Forms.{row_of_form}
 use Rattle.calls.specs.Record.{is_call, opened_call, allowed, not_allowed, at_limit, after_frame}
-use Rattle.calls.specs.Slots.{slot, first_slot, OwnCall, none, one, record_at, own_of, full}
+use Rattle.calls.specs.Slots.{slot, first_slot, record_at, own_of, full}
 use Rattle.calls.specs.Judge.{right_side, typed, payload_of, names_method, Verdict, stop, goes, open_verdict, invoke_verdict, other_verdict, verdict_of, judge_of}
 use Rattle.calls.specs.Apart.{verdict_due}
 use Rattle.calls.specs.Step.{due_of}
@@ -75,18 +74,18 @@ module _ (s : List ℕ) (g : IsGood s) (f : Frame) where
   method-sound : (m kind : ℕ) → m < length T.methods → Sound T (payload_of (method_row T m) kind)
   method-sound m kind h = payload-sound T (method_row T m) ((good-table s g).methods m h) kind
 
-  opening-sound : (c : Call) (d : Payload) → Sound T d → (own : OwnCall) (b : Bool) → Sound T (verdict_due (open_verdict c d own b))
-  opening-sound c d h (one x) b = unread
-  opening-sound c d h none true = unread
-  opening-sound c d h none false = h
+  opening-sound : (c : Call) (d : Payload) → Sound T d → (own : Option Call) (b : Bool) → Sound T (verdict_due (open_verdict c d own b))
+  opening-sound c d h (Some x) b = unread
+  opening-sound c d h None true = unread
+  opening-sound c d h None false = h
 
-  invoke-sound : (n : Found) → find_method T f.«package» f.service f.method ≡ n → (own : OwnCall) (b : Bool)
+  invoke-sound : (n : Option ℕ) → find_method T f.«package» f.service f.method ≡ n → (own : Option Call) (b : Bool)
       → Sound T (verdict_due (invoke_verdict T f.correlation n own b))
-  invoke-sound Missing e own b = unread
-  invoke-sound (At m) e own b =
+  invoke-sound None e own b = unread
+  invoke-sound (Some m) e own b =
       opening-sound (opened_call m f.correlation) (payload_of (method_row T m) 1) (method-sound m 1 (found-named T f.«package» f.service f.method m e).0) own b
 
-  call-sound : (c : Call) → c.method < length T.methods → Sound T (verdict_due (other_verdict T f (one c)))
+  call-sound : (c : Call) → c.method < length T.methods → Sound T (verdict_due (other_verdict T f (Some c)))
   call-sound c known =
       let m = method_row T c.method in
       let next = goes (after_frame (row_of_form m.form) f.kind c) (payload_of m f.kind) in
@@ -105,9 +104,9 @@ module _ (s : List ℕ) (g : IsGood s) (f : Frame) where
     unfolding own_of
     other-sound = go (first_slot (is_call f.correlation) 0 l) refl
       where
-        go : (n : Found) → first_slot (is_call f.correlation) 0 l ≡ n → Sound T (verdict_due (other_verdict T f (record_at l n)))
-        go Missing e = unread
-        go (At i) e =
+        go : (n : Option ℕ) → first_slot (is_call f.correlation) 0 l ≡ n → Sound T (verdict_due (other_verdict T f (record_at l n)))
+        go None e = unread
+        go (Some i) e =
             let o = call_open f.correlation (slot l i) (found-passes (is_call f.correlation) l i e) in
             call-sound (slot l i) (w.calls i o).method_exists
 

@@ -1,4 +1,5 @@
 -- What a judged frame or release raises, by the own record alone; and that the calls of a method open now follow what rises.
+use Rattle.std.specs.Prelude.{None, Option, Some}
 use mathlib.Core.Path.{◌≡◌, refl, sym, ◌∙◌, ap, subst}
 use mathlib.Core.Logic.{◌⊎◌, inl, inr}
 use mathlib.Core.Bool.{Bool, true, false, cond, ◌&&◌}
@@ -8,7 +9,6 @@ use native.Mathlib.Omega.{arith}
 use lib.ListN.{length, set}
 use lib.Dec.{eqb}
 use borrow.Author.Tests.{eq-eqb, ne_eqb, not-true}
-use Rattle.schema.specs.declared.Found.TheVariants.{At}
 use Rattle.schema.specs.Table.{Table}
 use Rattle.schema.specs.Check.{find_method}
 use Rattle.schema.proofs.Bools.{clash, or-false}
@@ -25,7 +25,7 @@ use Rattle.calls.specs.declared.Figure.TheVariants.{Nothing, Opened, Completed, 
 use Rattle.calls.specs.declared.Rise.{Rise}
 use Rattle.calls.specs.Numbers.{ends_call}
 use Rattle.calls.specs.Record.{counting, empty_call, is_call, is_free, complete, marked, ends}
-use Rattle.calls.specs.Slots.{fresh_slots, slot, form_row, OwnCall, none, one, own_of, full}
+use Rattle.calls.specs.Slots.{fresh_slots, slot, form_row, own_of, full}
 use Rattle.calls.specs.Judge.{Verdict, stop, opens, goes, verdict_of, judge_of, release_verdict, judge_release}
 use Rattle.calls.specs.Step.{number_after, slots_after, due_of, receive, release}
 use Rattle.calls.specs.Counting.{no_tally, no_rise, ending, rise_of, release_rise, figure_by, raised}
@@ -64,26 +64,26 @@ module _ (id : ℕ) (l : List Call) where
 -- ---- the row is that of the call's method
 
 module _ (T : Table) (f : Frame) where
-  invoked-row : (own : OwnCall) (m : ℕ) → f.kind ≡ 1 → find_method T f.«package» f.service f.method ≡ At m → call_method T f own ≡ At m
-  invoked-row none m k e = rw (eq-eqb f.kind 1 k) e
-  invoked-row (one c) m k e = rw (eq-eqb f.kind 1 k) e
+  invoked-row : (own : Option Call) (m : ℕ) → f.kind ≡ 1 → find_method T f.«package» f.service f.method ≡ Some m → call_method T f own ≡ Some m
+  invoked-row None m k e = rw (eq-eqb f.kind 1 k) e
+  invoked-row (Some c) m k e = rw (eq-eqb f.kind 1 k) e
 
-  other_row : (own : OwnCall) (x c : Call) (d : Payload) → own ≡ one x → (f.kind ≡ 1 → ⊥) → call_method T f own ≡ At (verdict_rise f.kind own (goes c d)).row
-  other_row none x c d e n = differ cc
-  other_row (one y) x c d e n = rw (ne_eqb f.kind 1 n)
+  other_row : (own : Option Call) (x c : Call) (d : Payload) → own ≡ Some x → (f.kind ≡ 1 → ⊥) → call_method T f own ≡ Some (verdict_rise f.kind own (goes c d)).row
+  other_row None x c d e n = differ cc
+  other_row (Some y) x c d e n = rw (ne_eqb f.kind 1 n)
 
-  module _ (own : OwnCall) (b : Bool) where
-    raised_by : (v : Verdict) → verdict_of T f own b ≡ v → (verdict_rise f.kind own v ≡ no_rise) ⊎ (call_method T f own ≡ At (verdict_rise f.kind own v).row)
+  module _ (own : Option Call) (b : Bool) where
+    raised_by : (v : Verdict) → verdict_of T f own b ≡ v → (verdict_rise f.kind own v ≡ no_rise) ⊎ (call_method T f own ≡ Some (verdict_rise f.kind own v).row)
     raised_by (stop n) e = inl refl
     raised_by (opens c d) e =
         let w = verdict-opens T f own b c d e in
-        inr (invoked-row own w.method w.is_invoke w.is_method ∙ sym (ap (λ (x : Call). At x.method) w.is_new))
+        inr (invoked-row own w.method w.is_invoke w.is_method ∙ sym (ap (λ (x : Call). Some x.method) w.is_new))
     raised_by (goes c d) e =
         let w = verdict-goes T f own b c d e in
         inr (other_row own w.call c d w.is_open_lem w.is_other)
 
     -- Nothing rises, or in the row of the method that the frame is about.
-    pub rise-method : let r = verdict_rise f.kind own (verdict_of T f own b) in (r ≡ no_rise) ⊎ (call_method T f own ≡ At r.row)
+    pub rise-method : let r = verdict_rise f.kind own (verdict_of T f own b) in (r ≡ no_rise) ⊎ (call_method T f own ≡ Some r.row)
     rise-method = raised_by (verdict_of T f own b) refl
 
 -- ---- what rises in a row
@@ -205,13 +205,13 @@ module _ (T : Table) (f : Frame) (l : List Call) (m : ℕ) where
   unfolding rise_of figure_by opens_by closes_by
   opens-follows p j c d e = go (eqb p 0) (ends_call p)
     where
-      none : (x : Bool) → open_of m (set l j c) + cond x 0 0 ≡ open_of m (set l j c)
-      none true = omega arith
-      none false = omega arith
+      None : (x : Bool) → open_of m (set l j c) + cond x 0 0 ≡ open_of m (set l j c)
+      None true = omega arith
+      None false = omega arith
 
       go : (a b : Bool) → open_of m (cond a (set l j c) l) + cond (eqb c.method m) (closes_by (cond a Opened (cond b Nothing Nothing))) 0
           ≡ open_of m l + cond (eqb c.method m) (opens_by (cond a Opened (cond b Nothing Nothing))) 0
-      go true b = none (eqb c.method m) ∙ opened_one j c d e
+      go true b = None (eqb c.method m) ∙ opened_one j c d e
       go false true = refl
       go false false = refl
 

@@ -1,4 +1,5 @@
 -- Laws of the slots: what a search found, and the record at a slot after one is changed.
+use Rattle.std.specs.Prelude.{None, Option, Some}
 use mathlib.Core.Path.{◌≡◌, refl, ap, subst}
 use mathlib.Core.Logic.{⊎_elim}
 use mathlib.Core.Bool.{Bool, true, false, cond}
@@ -10,21 +11,19 @@ use lib.Seq.{get_or-set_same, get_or-set_other}
 use lib.Dec.{ltb}
 use borrow.Author.Tests.{ltb-true, ltb-false}
 use Rattle.wire.proofs.Cases.{differ}
-use Rattle.schema.specs.declared.Found.{Found}
-use Rattle.schema.specs.declared.Found.TheVariants.{At, Missing}
 use Rattle.calls.specs.declared.Call.{Call}
 use Rattle.calls.specs.Record.{empty_call}
 use Rattle.calls.specs.Slots.{slot, first_slot}
 use Rattle.schema.proofs.Bools.{cases, clash}
 
 -- ---- what a search found
-pub missing_at : {A : Type 0} (i : ℕ) → Missing ≡ At i → A
+pub missing_at : {A : Type 0} (i : ℕ) → None ≡ Some i → A
 missing_at i e = differ cc
 
-pub at-missing : {A : Type 0} (i : ℕ) → At i ≡ Missing → A
+pub at-missing : {A : Type 0} (i : ℕ) → Some i ≡ None → A
 at-missing i e = differ cc
 
-pub at_at : (i j : ℕ) → At i ≡ At j → i ≡ j
+pub at_at : (i j : ℕ) → Some i ≡ Some j → i ≡ j
 at_at i j e = cc
 
 module _ (p : Call → Bool) where
@@ -36,11 +35,11 @@ module _ (p : Call → Bool) where
     passes : p (slot l place) ≡ true
     before : (j : ℕ) → j < place → p (slot l j) ≡ false
 
-  first-at : (l : List Call) (k i : ℕ) → first_slot p k l ≡ At i → FirstAt l k i
+  first-at : (l : List Call) (k i : ℕ) → first_slot p k l ≡ Some i → FirstAt l k i
   first-at [] k i e = missing_at i e
   first-at (y ∷ ys) k i e = go (p y) refl e (first-at ys (suc k) i)
     where
-      go : (b : Bool) → p y ≡ b → cond b (At k) (first_slot p (suc k) ys) ≡ At i → (first_slot p (suc k) ys ≡ At i → FirstAt ys (suc k) i) → FirstAt (y ∷ ys) k i
+      go : (b : Bool) → p y ≡ b → cond b (Some k) (first_slot p (suc k) ys) ≡ Some i → (first_slot p (suc k) ys ≡ Some i → FirstAt ys (suc k) i) → FirstAt (y ∷ ys) k i
       go true q h ih =
           let n : k ≡ i = cc in
           record { place = 0; is = omega arith; there = omega arith; passes = q; before = λ j m. absurd (omega arith) }
@@ -58,7 +57,7 @@ module _ (p : Call → Bool) where
           earlier n f zero m = q
           earlier n f (suc j) m = f j (omega arith)
 
-  module _ (l : List Call) (i : ℕ) (e : first_slot p 0 l ≡ At i) where
+  module _ (l : List Call) (i : ℕ) (e : first_slot p 0 l ≡ Some i) where
     same_place : (first-at l 0 i e).place ≡ i
     same_place = let r = first-at l 0 i e in omega (arith, r.is)
 
@@ -71,30 +70,30 @@ module _ (p : Call → Bool) where
     pub found-lowest : (j : ℕ) → j < i → p (slot l j) ≡ false
     found-lowest j h = let r = first-at l 0 i e in r.before j (omega (arith, r.is))
 
-  pub none_passes : (l : List Call) (k : ℕ) → first_slot p k l ≡ Missing → (j : ℕ) → j < length l → p (slot l j) ≡ false
+  pub none_passes : (l : List Call) (k : ℕ) → first_slot p k l ≡ None → (j : ℕ) → j < length l → p (slot l j) ≡ false
   none_passes [] k e j h = absurd (omega arith)
   none_passes (y ∷ ys) k e j h = go (p y) refl e (none_passes ys (suc k)) j h
     where
-      go : (b : Bool) → p y ≡ b → cond b (At k) (first_slot p (suc k) ys) ≡ Missing →
-          (first_slot p (suc k) ys ≡ Missing → (j : ℕ) → j < length ys → p (slot ys j) ≡ false) → (j : ℕ) → j < suc (length ys) → p (slot (y ∷ ys) j) ≡ false
+      go : (b : Bool) → p y ≡ b → cond b (Some k) (first_slot p (suc k) ys) ≡ None →
+          (first_slot p (suc k) ys ≡ None → (j : ℕ) → j < length ys → p (slot ys j) ≡ false) → (j : ℕ) → j < suc (length ys) → p (slot (y ∷ ys) j) ≡ false
       go true q h ih j m = at-missing k h
       go false q h ih zero m = q
       go false q h ih (suc j) m = ih h j (omega arith)
 
   -- the only record that passes is found
-  pub only-found : (l : List Call) (i : ℕ) → i < length l → p (slot l i) ≡ true → ((j : ℕ) → p (slot l j) ≡ true → j ≡ i) → first_slot p 0 l ≡ At i
+  pub only-found : (l : List Call) (i : ℕ) → i < length l → p (slot l i) ≡ true → ((j : ℕ) → p (slot l j) ≡ true → j ≡ i) → first_slot p 0 l ≡ Some i
   only-found l i h t u = go (first_slot p 0 l) refl
     where
-      go : (f : Found) → first_slot p 0 l ≡ f → f ≡ At i
-      go Missing e = clash (p (slot l i)) t (none_passes l 0 e i h)
-      go (At j) e = ap At (u j (found-passes l j e))
+      go : (f : Option ℕ) → first_slot p 0 l ≡ f → f ≡ Some i
+      go None e = clash (p (slot l i)) t (none_passes l 0 e i h)
+      go (Some j) e = ap Some (u j (found-passes l j e))
 
-  pub none_found : (l : List Call) → ((j : ℕ) → p (slot l j) ≡ false) → first_slot p 0 l ≡ Missing
+  pub none_found : (l : List Call) → ((j : ℕ) → p (slot l j) ≡ false) → first_slot p 0 l ≡ None
   none_found l u = go (first_slot p 0 l) refl
     where
-      go : (f : Found) → first_slot p 0 l ≡ f → f ≡ Missing
-      go Missing e = refl
-      go (At j) e = clash (p (slot l j)) (found-passes l j e) (u j)
+      go : (f : Option ℕ) → first_slot p 0 l ≡ f → f ≡ None
+      go None e = refl
+      go (Some j) e = clash (p (slot l j)) (found-passes l j e) (u j)
 
 -- ---- a slot after one is changed
 module _ (l : List Call) (i : ℕ) (x : Call) where

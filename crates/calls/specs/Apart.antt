@@ -1,7 +1,5 @@
 -- Calls kept apart: the answer and the own record afterwards by the judgement without a slot; and what frees a slot.
-use Rattle.std.specs.Prelude.{◌≡◌, ℕ, true, cond, eqb}
-use Rattle.schema.specs.declared.Found.{Found}
-use Rattle.schema.specs.declared.Found.TheVariants.{At, Missing}
+use Rattle.std.specs.Prelude.{◌≡◌, ℕ, true, cond, eqb, None, Option, Some}
 use Rattle.schema.specs.Table.{Table}
 use Rattle.schema.specs.Check.{find_method}
 use Rattle.calls.specs.declared.Call.{Call}
@@ -15,7 +13,7 @@ use Rattle.calls.specs.declared.Rise.{Rise}
 use Rattle.calls.specs.Numbers.{ends_call}
 use Rattle.calls.specs.Counting.{no_rise, ending}
 use Rattle.calls.specs.Record.{is_call, complete, marked}
-use Rattle.calls.specs.Slots.{OwnCall, none, one, form_row}
+use Rattle.calls.specs.Slots.{form_row}
 use Rattle.calls.specs.Judge.{Verdict, stop, opens, goes}
 use Rattle.calls.specs.Event.{Event, frame, release, identifier}
 
@@ -37,39 +35,39 @@ verdict_number (opens c due) p = p
 verdict_number (goes c due) p = p
 
 -- An ended call has no record.
-abbrev pub kept : Call → OwnCall
-kept c = cond c.«open» (one c) none
+abbrev pub kept : Call → Option Call
+kept c = cond c.«open» (Some c) None
 
-abbrev pub verdict_own : Verdict → (payload : ℕ) → OwnCall → OwnCall
+abbrev pub verdict_own : Verdict → (payload : ℕ) → Option Call → Option Call
 verdict_own (stop n) p own = own
 verdict_own (opens c due) p own = cond (eqb p 0) (kept c) own
-verdict_own (goes c due) p own = cond (eqb p 0) (kept c) (cond (ends_call p) none own)
+verdict_own (goes c due) p own = cond (eqb p 0) (kept c) (cond (ends_call p) None own)
 
 -- The method of the call that a frame is about, by its own record: the call's, or for INVOKE the one that its identifiers name.
-abbrev pub call_method : Table → Frame → OwnCall → Found
-call_method T f none = cond (eqb f.kind 1) (find_method T f.«package» f.service f.method) Missing
-call_method T f (one c) = cond (eqb f.kind 1) (find_method T f.«package» f.service f.method) (At c.method)
+abbrev pub call_method : Table → Frame → Option Call → Option ℕ
+call_method T f None = cond (eqb f.kind 1) (find_method T f.«package» f.service f.method) None
+call_method T f (Some c) = cond (eqb f.kind 1) (find_method T f.«package» f.service f.method) (Some c.method)
 
 -- The figure that an event with this verdict raises, and in which tally row.
-abbrev pub verdict_rise : (kind : ℕ) → OwnCall → Verdict → Rise
+abbrev pub verdict_rise : (kind : ℕ) → Option Call → Verdict → Rise
 verdict_rise kind own (stop n) = no_rise
 verdict_rise kind own (opens c due) = record { row = c.method; accepted = Opened; refused = Nothing }
-verdict_rise kind none (goes c due) = no_rise
-verdict_rise kind (one x) (goes c due) = record { row = x.method; accepted = ending kind x c; refused = Failed }
+verdict_rise kind None (goes c due) = no_rise
+verdict_rise kind (Some x) (goes c due) = record { row = x.method; accepted = ending kind x c; refused = Failed }
 
-abbrev pub verdict_release_rise : OwnCall → Verdict → Rise
+abbrev pub verdict_release_rise : Option Call → Verdict → Rise
 verdict_release_rise own (stop n) = no_rise
 verdict_release_rise own (opens c due) = no_rise
-verdict_release_rise none (goes c due) = no_rise
-verdict_release_rise (one x) (goes c due) = record { row = x.method; accepted = Cancelled; refused = Nothing }
+verdict_release_rise None (goes c due) = no_rise
+verdict_release_rise (Some x) (goes c due) = record { row = x.method; accepted = Cancelled; refused = Nothing }
 
 -- ---- the slots
 
 -- The slot that acceptance changes.
-abbrev pub touched : Judged → Found
-touched (Refused n) = Missing
-touched (Opens j c due) = At j
-touched (Goes i c due) = At i
+abbrev pub touched : Judged → Option ℕ
+touched (Refused n) = None
+touched (Opens j c due) = Some j
+touched (Goes i c due) = Some i
 
 -- Why an event that is answered with this number frees the slot of an open call c of its identifier: a payload refusal; the accepted frame that makes it
 -- complete; an accepted ERROR; the release of a cancelled call.

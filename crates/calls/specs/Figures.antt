@@ -1,7 +1,5 @@
 -- The figures of a method, by the history of what was heard: accepted frames, releases and payload refusals. They ask no record.
-use Rattle.std.specs.Prelude.{◌≡◌, Bool, false, cond, ◌&&◌, List, [], ◌∷◌, ℕ, ◌+◌, eqb}
-use Rattle.schema.specs.declared.Found.{Found}
-use Rattle.schema.specs.declared.Found.TheVariants.{At, Missing}
+use Rattle.std.specs.Prelude.{◌≡◌, Bool, false, cond, ◌&&◌, List, [], ◌∷◌, ℕ, ◌+◌, eqb, None, Option, Some}
 use Rattle.schema.specs.Table.{Table}
 use Rattle.schema.specs.Check.{method_row, find_method}
 use Rattle.calls.specs.declared.Call.{Call}
@@ -35,16 +33,16 @@ abbrev pub counts_as : Table → Heard → Past → Figure
 counts_as T e past = event_as T e.event e.number past
 
 -- The method that it is counted for: the open call's, or the one that INVOKE names.
-abbrev pub method_in : Table → Event → Past → Found
-method_in T e (since m b h) = At m
+abbrev pub method_in : Table → Event → Past → Option ℕ
+method_in T e (since m b h) = Some m
 method_in T (frame f) closed = find_method T f.«package» f.service f.method
-method_in T (release id) closed = Missing
+method_in T (release id) closed = None
 
 -- ---- a history, its last event first, from a start without calls
 
-abbrev pub is_method : ℕ → Found → Bool
-is_method m Missing = false
-is_method m (At k) = eqb k m
+abbrev pub is_method : ℕ → Option ℕ → Bool
+is_method m None = false
+is_method m (Some k) = eqb k m
 
 -- The columns of a tally row, from 1 on; an event that raises none has no column.
 abbrev pub column : Figure → ℕ

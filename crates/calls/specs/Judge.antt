@@ -1,9 +1,7 @@
 -- A frame judged before its payload is read (8; INVOKE 9, 10, 13; the others 11, 12, 14 or 16, 17), and what its payload holds.
 -- The judgement is a function of the frame, of its own call's record and, for INVOKE, of whether 128 calls are open; the slot is added last.
-use Rattle.std.specs.Prelude.{ℕ, Bool, true, false, cond, ◌&&◌, ◌||◌, List, eqb, leb}
+use Rattle.std.specs.Prelude.{ℕ, Bool, true, false, cond, ◌&&◌, ◌||◌, List, eqb, leb, None, Option, Some}
 use Rattle.schema.specs.declared.Method.{Method}
-use Rattle.schema.specs.declared.Found.{Found}
-use Rattle.schema.specs.declared.Found.TheVariants.{At, Missing}
 use Rattle.schema.specs.Table.{Table}
 use Rattle.schema.specs.Check.{method_row, named, find_method}
 use Rattle.calls.specs.declared.Call.{Call}
@@ -14,7 +12,7 @@ use Rattle.calls.specs.declared.Judged.{Judged}
 use Rattle.calls.specs.declared.Judged.TheVariants.{Refused, Opens, Goes}
 use Rattle.calls.specs.Forms.{row_of_form}
 use Rattle.calls.specs.Record.{is_call, is_free, empty_call, opened_call, allowed, not_allowed, at_limit, after_frame}
-use Rattle.calls.specs.Slots.{first_slot, slot_of, OwnCall, none, one, own_of, full}
+use Rattle.calls.specs.Slots.{first_slot, slot_of, own_of, full}
 
 -- The client (C) sends 1 INVOKE, 2 IN_STREAM, 3 IN_CLOSE and 8 CANCEL, the server (S) 4 OUT_STREAM, 5 OUT_CLOSE, 6 RESPONSE and 7 ERROR.
 abbrev pub right_side : (side kind : ℕ) → Bool
@@ -45,15 +43,15 @@ pub data Verdict : Type 0 where
   goes : Call → Payload → Verdict
 
 -- INVOKE of a known method: 10, 13.
-abbrev pub open_verdict : Call → Payload → OwnCall → (full : Bool) → Verdict
-open_verdict new p (one c) f = stop 10
-open_verdict new p none true = stop 13
-open_verdict new p none false = opens new p
+abbrev pub open_verdict : Call → Payload → Option Call → (full : Bool) → Verdict
+open_verdict new p (Some c) f = stop 10
+open_verdict new p None true = stop 13
+open_verdict new p None false = opens new p
 
 -- INVOKE: 9 first.
-abbrev pub invoke_verdict : Table → (correlation : ℕ) → Found → OwnCall → (full : Bool) → Verdict
-invoke_verdict T id Missing own f = stop 9
-invoke_verdict T id (At m) own f = open_verdict (opened_call m id) (payload_of (method_row T m) 1) own f
+abbrev pub invoke_verdict : Table → (correlation : ℕ) → Option ℕ → Option Call → (full : Bool) → Verdict
+invoke_verdict T id None own f = stop 9
+invoke_verdict T id (Some m) own f = open_verdict (opened_call m id) (payload_of (method_row T m) 1) own f
 
 -- The frame's three identifiers are those of method entry m.
 abbrev pub names_method : Frame → Method → Bool
@@ -69,16 +67,16 @@ call_verdict m f c =
     (stop 12)
 
 -- The others: 11 first.
-abbrev pub other_verdict : Table → Frame → OwnCall → Verdict
-other_verdict T f none = stop 11
-other_verdict T f (one c) = call_verdict (method_row T c.method) f c
+abbrev pub other_verdict : Table → Frame → Option Call → Verdict
+other_verdict T f None = stop 11
+other_verdict T f (Some c) = call_verdict (method_row T c.method) f c
 
 -- The method entry that a frame's identifiers name.
-abbrev pub method_of : Table → Frame → Found
+abbrev pub method_of : Table → Frame → Option ℕ
 method_of T f = find_method T f.«package» f.service f.method
 
 -- Every frame; `full` says that 128 calls are open.
-unfoldable pub verdict_of : Table → Frame → OwnCall → (full : Bool) → Verdict
+unfoldable pub verdict_of : Table → Frame → Option Call → (full : Bool) → Verdict
 verdict_of T f own full =
     cond (right_side f.side f.kind)
     (cond (eqb f.kind 1)
@@ -87,9 +85,9 @@ verdict_of T f own full =
     (stop 8)
 
 -- A release: 11 for a call that is not open, 14 for one that is not cancelled. A released call's slot is zeroed, and nothing is read.
-abbrev pub release_verdict : OwnCall → Verdict
-release_verdict none = stop 11
-release_verdict (one c) = cond c.cancelled (goes empty_call Unread) (stop 14)
+abbrev pub release_verdict : Option Call → Verdict
+release_verdict None = stop 11
+release_verdict (Some c) = cond c.cancelled (goes empty_call Unread) (stop 14)
 
 -- ---- the slot
 

@@ -1,8 +1,6 @@
 -- The order of a call's frames as a relation on the kinds accepted for it since its INVOKE, without its record; the stream elements that these count;
 -- and what both say of a frame and of a release.
-use Rattle.std.specs.Prelude.{◌≡◌, Bool, true, false, cond, ◌&&◌, ◌||◌, List, [], ◌∷◌, ℕ, ◌+◌, ◌<◌, eqb, length}
-use Rattle.schema.specs.declared.Found.{Found}
-use Rattle.schema.specs.declared.Found.TheVariants.{At, Missing}
+use Rattle.std.specs.Prelude.{◌≡◌, Bool, true, false, cond, ◌&&◌, ◌||◌, List, [], ◌∷◌, ℕ, ◌+◌, ◌<◌, eqb, length, None, Option, Some}
 use Rattle.schema.specs.Table.{Table}
 use Rattle.schema.specs.Check.{method_row, named, find_method}
 use Rattle.calls.specs.declared.Call.{Call}
@@ -11,7 +9,7 @@ use Rattle.calls.specs.declared.Payload.{Payload}
 use Rattle.calls.specs.Forms.{letter}
 use Rattle.calls.specs.Numbers.{ends_call}
 use Rattle.calls.specs.Record.{implies, counting}
-use Rattle.calls.specs.Slots.{contains, OwnCall, none, one, own_of}
+use Rattle.calls.specs.Slots.{contains, own_of}
 use Rattle.calls.specs.Judge.{right_side}
 use Rattle.calls.specs.Event.{Event, frame, release, identifier}
 use Rattle.calls.specs.Belongs.{Belongs}
@@ -106,9 +104,9 @@ pub record Heard : Type 0 where
   pub event : Event
   pub number : ℕ
 
-abbrev pub opened : Found → Past
-opened Missing = closed
-opened (At m) = since m no_elements []
+abbrev pub opened : Option ℕ → Past
+opened None = closed
+opened (Some m) = since m no_elements []
 
 abbrev pub continued : Table → (kind : ℕ) → Past → Past
 continued T kind closed = closed
@@ -137,7 +135,7 @@ pub data Ruling : Type 0 where
   comes : Payload → Ruling
 
 module _ (T : Table) (f : Frame) where
-  abbrev pub method_named : Found
+  abbrev pub method_named : Option ℕ
   method_named = find_method T f.«package» f.service f.method
 
   -- A side that may send the kind; and for a call of method m, the call's identifiers.
@@ -152,10 +150,10 @@ module _ (T : Table) (f : Frame) (full : Bool) where
   pub data Ruled : Past → Ruling → Type 0 where
     wrong_side : (past : Past) → right_side f.side f.kind ≡ false → Ruled past (refused 8)
     -- INVOKE: 9, 10, 13, payload.
-    unknown : (past : Past) → sent T f → f.kind ≡ 1 → method_named T f ≡ Missing → Ruled past (refused 9)
-    already : (m n : ℕ) (b : Elements) (h : List ℕ) → sent T f → f.kind ≡ 1 → method_named T f ≡ At n → Ruled (since m b h) (refused 10)
-    no_room : (n : ℕ) → sent T f → f.kind ≡ 1 → method_named T f ≡ At n → full ≡ true → Ruled closed (refused 13)
-    opens : (n : ℕ) (d : Payload) → sent T f → f.kind ≡ 1 → method_named T f ≡ At n → full ≡ false → Belongs (method_row T n) 1 d → Ruled closed (comes d)
+    unknown : (past : Past) → sent T f → f.kind ≡ 1 → method_named T f ≡ None → Ruled past (refused 9)
+    already : (m n : ℕ) (b : Elements) (h : List ℕ) → sent T f → f.kind ≡ 1 → method_named T f ≡ Some n → Ruled (since m b h) (refused 10)
+    no_room : (n : ℕ) → sent T f → f.kind ≡ 1 → method_named T f ≡ Some n → full ≡ true → Ruled closed (refused 13)
+    opens : (n : ℕ) (d : Payload) → sent T f → f.kind ≡ 1 → method_named T f ≡ Some n → full ≡ false → Belongs (method_row T n) 1 d → Ruled closed (comes d)
     -- The others: 11, 12, 14 or 16, 17, payload.
     not_open : sent T f → (f.kind ≡ 1 → ⊥) → Ruled closed (refused 11)
     differ : (m : ℕ) (b : Elements) (h : List ℕ) → sent T f → (f.kind ≡ 1 → ⊥) → same T f m ≡ false → Ruled (since m b h) (refused 12)
@@ -187,9 +185,9 @@ pub record Marks (m : ℕ) (b : Elements) (h : List ℕ) (c : Call) : Type 0 whe
   pub output_elements_of : c.output_elements ≡ outputs_of b h
   pub no_error : contains 7 h ≡ false
 
-pub data Reflects : Past → OwnCall → Type 0 where
-  nothing : Reflects closed none
-  call : (m : ℕ) (b : Elements) (h : List ℕ) (c : Call) → Marks m b h c → Reflects (since m b h) (one c)
+pub data Reflects : Past → Option Call → Type 0 where
+  nothing : Reflects closed None
+  call : (m : ℕ) (b : Elements) (h : List ℕ) (c : Call) → Marks m b h c → Reflects (since m b h) (Some c)
 
 -- The record is that of a call whose kinds came in an order that the rules allow.
 pub record LawfulRecord (T : Table) (c : Call) : Type 0 where

@@ -1,13 +1,9 @@
 -- The call table (01's term) as a list of 128 records, one a slot: searches, the count of open calls, and the test whether it is good.
-use Rattle.std.specs.Prelude.{ℕ, suc, Bool, true, false, not, cond, ◌&&◌, ◌||◌, List, [], ◌∷◌, length, get_or, replicate, eqb}
-use Rattle.schema.specs.declared.Found.{Found}
-use Rattle.schema.specs.declared.Found.TheVariants.{At, Missing}
+use Rattle.std.specs.Prelude.{ℕ, suc, Bool, true, false, not, cond, ◌&&◌, ◌||◌, List, [], ◌∷◌, length, get_or, replicate, eqb, None, Option, Some}
 use Rattle.schema.specs.Table.{Table}
 use Rattle.schema.specs.Check.{method_row, is_missing}
 use Rattle.calls.specs.declared.Call.{Call}
 use Rattle.calls.specs.declared.FormRow.{FormRow}
-pub use Rattle.calls.specs.declared.OwnCall.{OwnCall}
-pub use Rattle.calls.specs.declared.OwnCall.TheVariants.{None as none, One as one}
 use Rattle.calls.specs.Forms.{row_of_form}
 use Rattle.calls.specs.Record.{empty_call, is_call, is_free, good_open, zero_call}
 
@@ -20,22 +16,22 @@ abbrev pub slot : List Call → ℕ → Call
 slot l i = get_or l i empty_call
 
 -- The place, counted from i, of the first record that passes.
-abbrev pub first_slot : (Call → Bool) → ℕ → List Call → Found
-first_slot p i [] = Missing
-first_slot p i (x ∷ xs) = cond (p x) (At i) (first_slot p (suc i) xs)
+abbrev pub first_slot : (Call → Bool) → ℕ → List Call → Option ℕ
+first_slot p i [] = None
+first_slot p i (x ∷ xs) = cond (p x) (Some i) (first_slot p (suc i) xs)
 
 -- The place found; 128, past the last slot, where there is none.
-abbrev pub slot_of : Found → ℕ
-slot_of Missing = 128
-slot_of (At i) = i
+abbrev pub slot_of : Option ℕ → ℕ
+slot_of None = 128
+slot_of (Some i) = i
 
 -- The record at a slot that was found.
-abbrev pub record_at : List Call → Found → OwnCall
-record_at l Missing = none
-record_at l (At i) = one (slot l i)
+abbrev pub record_at : List Call → Option ℕ → Option Call
+record_at l None = None
+record_at l (Some i) = Some (slot l i)
 
 -- The record of the call that is open under this correlation.
-unfoldable pub own_of : (correlation : ℕ) → List Call → OwnCall
+unfoldable pub own_of : (correlation : ℕ) → List Call → Option Call
 own_of id l = record_at l (first_slot (is_call id) 0 l)
 
 -- No slot is free: as many calls are open as there are slots, 128.

@@ -2,8 +2,6 @@
 // their laws in proofs/, and the code in the crate `connection`.
 #![tactic(auto)]
 
-use schema::Found;
-
 // The record of a call. A free slot is zero in every member.
 #[derive(Clone, Copy)]
 pub struct Call {
@@ -43,18 +41,11 @@ pub enum Payload {
     Unread,
 }
 
-// The record of a call, or none.
-#[derive(Clone, Copy)]
-pub enum OwnCall {
-    None,
-    One(Call),
-}
-
 // What a judgement sees of the call table: the record of its own call, and the slot that it changes, if there is one.
 #[derive(Clone, Copy)]
 pub struct OwnSlot {
-    pub own: OwnCall,
-    pub slot: Found,
+    pub own: Option<Call>,
+    pub slot: Option<usize>,
 }
 
 // A frame judged before its payload is read; or a release, which reads nothing.

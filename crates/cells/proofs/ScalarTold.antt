@@ -16,8 +16,8 @@ use Rattle.wire.specs.Little.{little, twos}
 use Rattle.utf8.specs.Utf8.{utf8}
 use Rattle.wire.proofs.Cases.{cond-case}
 use Rattle.wire.proofs.Numbers.{bytes_take, bytes_drop, sign-weight, little-below}
-use Rattle.schema.specs.declared.Checked.{Checked}
-use Rattle.schema.specs.declared.Checked.TheVariants as check
+use Rattle.schema.specs.Checked.{Checked}
+use Rattle.schema.specs.Checked as check
 use Rattle.schema.specs.Table.{Shape, unknown, scalar, text, array, map, struct, shape, widths, width}
 use Rattle.schema.specs.File.{table_of}
 use Rattle.schema.specs.Check.{checked}

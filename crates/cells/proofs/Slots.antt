@@ -1,4 +1,5 @@
 -- The slots of the call table in cells: the record at each, searches, the count of open calls, and the loop that tests whether the table is good.
+use Rattle.std.specs.Prelude.{None, Some}
 use mathlib.Core.Path.{◌≡◌, refl, sym, ap, subst, ◌∙◌}
 use mathlib.Core.Bool.{Bool, true, false, cond, ◌&&◌, ◌||◌}
 use mathlib.Core.List.{List, [], ◌∷◌, append-nil}
@@ -9,7 +10,6 @@ use lib.ListN.{length, get_or, drop, take, set}
 use lib.Seq.{get_or-take, length-take-le, set_out}
 use borrow.Author.Tests.{eq-eqb, ne_eqb, eqb-true, ltb-true, ltb-false, le-ltb}
 use Rattle.schema.proofs.Bools.{and_left, and_right}
-use Rattle.schema.specs.declared.Found.TheVariants.{At, Missing}
 use Rattle.schema.specs.Table.{Table}
 use Rattle.calls.specs.declared.Call.{Call}
 use Rattle.calls.specs.declared.FormRow.{FormRow}
@@ -64,13 +64,13 @@ taken-calls cells = from-taken cells 0 128 (omega arith)
 -- ---- searches
 
 module _ (p : Call → Bool) (cells : List ℕ) (i : ℕ) (e : first_slot p 0 (calls_of cells) ≡ first_slot p i (drop i (calls_of cells))) where
-  pub found_here : i < 128 → p (call_at cells i) ≡ true → At i ≡ first_slot p 0 (calls_of cells)
+  pub found_here : i < 128 → p (call_at cells i) ≡ true → Some i ≡ first_slot p 0 (calls_of cells)
   found_here h t = first-here p (calls_of cells) i e (omega (arith, long cells, h)) (ap p (slot_is cells i h) ∙ t)
 
   pub found-next : i < 128 → p (call_at cells i) ≡ false → first_slot p 0 (calls_of cells) ≡ first_slot p (i + 1) (drop (i + 1) (calls_of cells))
   found-next h t = first_next p (calls_of cells) i e (omega (arith, long cells, h)) (ap p (slot_is cells i h) ∙ t)
 
-  pub found_none : 128 ≤ i → Missing ≡ first_slot p 0 (calls_of cells)
+  pub found_none : 128 ≤ i → None ≡ first_slot p 0 (calls_of cells)
   found_none h = first-none p (calls_of cells) i e (omega (arith, long cells, h))
 
 -- ---- the count of open calls

@@ -9,12 +9,11 @@ ghost use Rattle.calls.specs.OwnSlots.{own_slot_of};
 ghost use Rattle.cells.specs.Records.{call_of, call_at, calls_of, CountsOpen, marks_of, record_cells, plain, are_calls};
 
 use crate::put;
-use calls::{Call, OwnCall, OwnSlot};
+use calls::{Call, OwnSlot};
 use connection::call_record::EMPTY;
 use connection::forms::TABLE_1;
 use connection::good::{distinct, is_good_call};
 use constants::limit;
-use schema::Found;
 use table::access::method_count;
 
 // Cells of a record: the correlation, the method, and the marks with the counts of elements.
@@ -157,21 +156,21 @@ fn is_call(cells: &[u64], i: usize, id: u64) -> bool
 }
 
 // The slot of the open call with this correlation.
-fn find_in(cells: &[u64], id: u64) -> Found
+fn find_in(cells: &[u64], id: u64) -> Option<usize>
     ensures { result ≡ first_slot (is_call id) 0 (calls_of cells.now) }
 {
     let mut i: usize = 0;
     while i < limit::CALLS {
         if is_call(cells, i, id) {
-            return Found::At(i);
+            return Some(i);
         }
         i += 1;
     }
-    Found::Missing
+    None
 }
 
 // `find_in` over the table's 384 cells alone, so that the loop needs no bounds test.
-pub fn find(cells: &[u64], id: u64) -> Found
+pub fn find(cells: &[u64], id: u64) -> Option<usize>
     ensures { result ≡ first_slot (is_call id) 0 (calls_of cells.now) }
 {
     if CELLS <= cells.len() {
@@ -181,21 +180,21 @@ pub fn find(cells: &[u64], id: u64) -> Found
 }
 
 // The lowest free slot.
-fn free_slot_in(cells: &[u64]) -> Found
+fn free_slot_in(cells: &[u64]) -> Option<usize>
     ensures { result ≡ first_slot is_free 0 (calls_of cells.now) }
 {
     let mut i: usize = 0;
     while i < limit::CALLS {
         if !is_open(cells, i) {
-            return Found::At(i);
+            return Some(i);
         }
         i += 1;
     }
-    Found::Missing
+    None
 }
 
 // `free_slot_in` over the table's 384 cells alone, so that the loop needs no bounds test.
-pub fn free_slot(cells: &[u64]) -> Found
+pub fn free_slot(cells: &[u64]) -> Option<usize>
     ensures { result ≡ first_slot is_free 0 (calls_of cells.now) }
 {
     if CELLS <= cells.len() {
@@ -205,12 +204,12 @@ pub fn free_slot(cells: &[u64]) -> Found
 }
 
 // The record at a slot that was found.
-fn own(cells: &[u64], found: Found) -> OwnCall
+fn own(cells: &[u64], found: Option<usize>) -> Option<Call>
     ensures { result ≡ record_at (calls_of cells.now) found }
 {
     match found {
-        Found::Missing => OwnCall::None,
-        Found::At(i) => OwnCall::One(slot_at(cells, i)),
+        None => None,
+        Some(i) => Some(slot_at(cells, i)),
     }
 }
 

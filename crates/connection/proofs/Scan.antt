@@ -1,5 +1,6 @@
 -- One turn of a loop over a list, for every definition that recurses on it: the rest at i is the element at i before the rest at i + 1.
 -- And what a loop has shown that looks for the first record that passes, or for a number.
+use Rattle.std.specs.Prelude.{None, Some}
 use mathlib.Core.Path.{◌≡◌, refl, sym, ◌∙◌}
 use mathlib.Core.Bool.{Bool, true, false, ◌||◌}
 use mathlib.Core.List.{List, [], ◌∷◌, ◌++◌, append_assoc, append-nil}
@@ -9,7 +10,6 @@ use native.Mathlib.Omega.{arith}
 use lib.ListN.{length, get_or, take, drop, set, length-set, drop_of_length-le}
 use lib.Seq.{drop-cons, take-suc-set}
 use lib.Dec.{eqb}
-use Rattle.schema.specs.declared.Found.TheVariants.{At, Missing}
 use Rattle.schema.specs.Table.{Table}
 use Rattle.schema.proofs.Bools.{or_assoc, or-none}
 use Rattle.calls.specs.declared.Call.{Call}
@@ -24,13 +24,13 @@ module _ {A : Type 0} (d : A) (l : List A) (i : ℕ) where
   rest_end h = drop_of_length-le l h
 
 module _ (p : Call → Bool) (l : List Call) (i : ℕ) (e : first_slot p 0 l ≡ first_slot p i (drop i l)) where
-  pub first-here : i < length l → p (slot l i) ≡ true → At i ≡ first_slot p 0 l
+  pub first-here : i < length l → p (slot l i) ≡ true → Some i ≡ first_slot p 0 l
   first-here h t = sym (e ∙ rw (rest-step empty_call l i h, t))
 
   pub first_next : i < length l → p (slot l i) ≡ false → first_slot p 0 l ≡ first_slot p (i + 1) (drop (i + 1) l)
   first_next h t = e ∙ rw (rest-step empty_call l i h, t, add-one)
 
-  pub first-none : length l ≤ i → Missing ≡ first_slot p 0 l
+  pub first-none : length l ≤ i → None ≡ first_slot p 0 l
   first-none h = sym (e ∙ rw (rest_end empty_call l i h))
 
 module _ (found : Bool) (n : ℕ) (l : List ℕ) (i : ℕ) (e : (found || contains n (drop i l)) ≡ contains n l) where

@@ -8,9 +8,9 @@ ghost use Rattle.calls.specs.OwnSlots.{judged_at};
 
 use crate::call_record::{EMPTY, after, allows, at_limit, not_allowed, opened};
 use crate::forms::row_of;
-use calls::{Call, Frame, Judged, OwnCall, OwnSlot, Payload};
+use calls::{Call, Frame, Judged, OwnSlot, Payload};
 use constants::{format, frame_kind, limit, refusal, side};
-use schema::{Found, Method};
+use schema::Method;
 use table::access::{find_method, method};
 use table::rows::is_named;
 
@@ -51,12 +51,12 @@ pub fn payload_of(m: Method, kind: u8) -> Payload
 }
 
 // The number of a slot; 128, past the last, where there is none.
-fn slot_of(found: Found) -> usize
+fn slot_of(found: Option<usize>) -> usize
     ensures { result ≡ slot_of found }
 {
     match found {
-        Found::At(i) => i,
-        Found::Missing => limit::CALLS,
+        Some(i) => i,
+        None => limit::CALLS,
     }
 }
 
@@ -84,10 +84,10 @@ fn judge_opening(seen: OwnSlot, new: Call, payload: Payload) -> Judged
     let own = seen.own;
     let slot = seen.slot;
     match own {
-        OwnCall::One(_) => Judged::Refused(refusal::CALL_OPEN),
-        OwnCall::None => match slot {
-            Found::At(j) => Judged::Opens(j, new, payload),
-            Found::Missing => Judged::Refused(refusal::TOO_MANY_CALLS),
+        Some(_) => Judged::Refused(refusal::CALL_OPEN),
+        None => match slot {
+            Some(j) => Judged::Opens(j, new, payload),
+            None => Judged::Refused(refusal::TOO_MANY_CALLS),
         },
     }
 }
@@ -97,8 +97,8 @@ fn judge_invoke(seen: OwnSlot, s: &[u8], f: Frame) -> Judged
     ensures { result ≡ placed (slot_of seen.slot) (invoke_verdict (table_of s.now) f.correlation (method_of (table_of s.now) f) seen.own (is_missing seen.slot)) }
 {
     match find_method(s, f.package, f.service, f.method) {
-        Found::Missing => Judged::Refused(refusal::UNKNOWN_METHOD),
-        Found::At(m) => {
+        None => Judged::Refused(refusal::UNKNOWN_METHOD),
+        Some(m) => {
             let payload = payload_of(method(s, m), frame_kind::INVOKE);
             judge_opening(seen, opened(m as u32, f.correlation), payload)
         }
@@ -112,8 +112,8 @@ fn judge_other(seen: OwnSlot, s: &[u8], f: Frame) -> Judged
     let own = seen.own;
     let slot = seen.slot;
     match own {
-        OwnCall::None => Judged::Refused(refusal::CALL_NOT_OPEN),
-        OwnCall::One(call) => judge_call(call, method(s, call.method as usize), f, slot_of(slot)),
+        None => Judged::Refused(refusal::CALL_NOT_OPEN),
+        Some(call) => judge_call(call, method(s, call.method as usize), f, slot_of(slot)),
     }
 }
 
@@ -139,8 +139,8 @@ pub fn judge_release(seen: OwnSlot) -> Judged
     let own = seen.own;
     let slot = seen.slot;
     match own {
-        OwnCall::None => Judged::Refused(refusal::CALL_NOT_OPEN),
-        OwnCall::One(call) => {
+        None => Judged::Refused(refusal::CALL_NOT_OPEN),
+        Some(call) => {
             if call.cancelled {
                 Judged::Goes(slot_of(slot), EMPTY, Payload::Unread)
             } else {

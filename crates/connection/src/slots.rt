@@ -7,9 +7,8 @@ ghost use Rattle.connection.specs.Step.{fresh_table};
 
 use crate::CallTable;
 use crate::call_record::{EMPTY, is_call, is_free};
-use calls::{Call, OwnCall, OwnSlot};
+use calls::{Call, OwnSlot};
 use constants::limit;
-use schema::Found;
 
 impl CallTable {
     // All 128 slots free and zero.
@@ -46,42 +45,42 @@ impl CallTable {
     }
 
     // The slot of the open call with this correlation.
-    pub fn find(self, id: u64) -> Found
+    pub fn find(self, id: u64) -> Option<usize>
         ensures { result ≡ first_slot (is_call id) 0 self.slots }
     {
         let mut i: usize = 0;
         while i < limit::CALLS {
             let call = self.slots[i];
             if is_call(call, id) {
-                return Found::At(i);
+                return Some(i);
             }
             i += 1;
         }
-        Found::Missing
+        None
     }
 
     // The lowest free slot.
-    pub fn free_slot(self) -> Found
+    pub fn free_slot(self) -> Option<usize>
         ensures { result ≡ first_slot is_free 0 self.slots }
     {
         let mut i: usize = 0;
         while i < limit::CALLS {
             let call = self.slots[i];
             if is_free(call) {
-                return Found::At(i);
+                return Some(i);
             }
             i += 1;
         }
-        Found::Missing
+        None
     }
 
     // The record at a slot that was found.
-    fn own(self, found: Found) -> OwnCall
+    fn own(self, found: Option<usize>) -> Option<Call>
         ensures { result ≡ record_at self.slots found }
     {
         match found {
-            Found::Missing => OwnCall::None,
-            Found::At(i) => OwnCall::One(self.at(i)),
+            None => None,
+            Some(i) => Some(self.at(i)),
         }
     }
 

@@ -4,7 +4,7 @@ ghost use Rattle.calls.specs.Counting.{ending, figure_by, amount_in, full_at, ra
 ghost use Rattle.calls.specs.Apart.{verdict, verdict_rise, verdict_release_rise};
 
 use crate::numbers::ends_call;
-use calls::{Call, Figure, Judged, OwnCall, Rise, Tally};
+use calls::{Call, Figure, Judged, Rise, Tally};
 use constants::{frame_kind, limit, refusal};
 
 // A fresh row.
@@ -44,7 +44,7 @@ fn ending(call: Call, kind: u8, next: Call) -> Figure
 }
 
 // What a judged frame of this kind to its own call raises.
-pub fn rise_of(own: OwnCall, kind: u8, judged: Judged) -> Rise
+pub fn rise_of(own: Option<Call>, kind: u8, judged: Judged) -> Rise
     ensures { result ≡ verdict_rise kind own (verdict judged) }
 {
     match judged {
@@ -55,8 +55,8 @@ pub fn rise_of(own: OwnCall, kind: u8, judged: Judged) -> Rise
             refused: Figure::Nothing,
         },
         Judged::Goes(_, next, _) => match own {
-            OwnCall::None => NO_RISE,
-            OwnCall::One(call) => Rise {
+            None => NO_RISE,
+            Some(call) => Rise {
                 row: call.method as usize,
                 accepted: ending(call, kind, next),
                 refused: Figure::Failed,
@@ -66,15 +66,15 @@ pub fn rise_of(own: OwnCall, kind: u8, judged: Judged) -> Rise
 }
 
 // What its judged release raises.
-pub fn release_rise(own: OwnCall, judged: Judged) -> Rise
+pub fn release_rise(own: Option<Call>, judged: Judged) -> Rise
     ensures { result ≡ verdict_release_rise own (verdict judged) }
 {
     match judged {
         Judged::Refused(_) => NO_RISE,
         Judged::Opens(_, _, _) => NO_RISE,
         Judged::Goes(_, _, _) => match own {
-            OwnCall::None => NO_RISE,
-            OwnCall::One(call) => {
+            None => NO_RISE,
+            Some(call) => {
                 let row = call.method as usize;
                 let accepted = Figure::Cancelled;
                 let refused = Figure::Nothing;

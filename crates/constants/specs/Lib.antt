@@ -1,2 +1,3 @@
 -- The numbers of the papers by their names in code.
 pub mod Table
+pub mod Number

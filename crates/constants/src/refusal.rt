@@ -1,8 +1,87 @@
-// The numbers that come back, by their names in host/arf; C has ARF_ or ARF_BAD_ before them (ARF_BAD_SCHEMA for 40).
+// What is refused, and where: the refusals by their names, each with its number (docs/FORMAT.md, "Numbers that come back"). C has ARF_BAD_ before the names.
+ghost use Rattle.std.specs.Prelude.{◌≡◌, Err};
+ghost use Rattle.constants.specs.Number.{number_of};
 
+// Neither is a refusal: what was asked is done, and more bytes are needed.
 pub const ACCEPTED: u32 = 0;
 
 pub const MORE: u32 = 1;
+
+// A refusal by its number.
+#[derive(Clone, Copy, Debug, PartialEq, Eq)]
+pub enum Refusal {
+    Magic = 2,
+    Version = 3,
+    Kind = 4,
+    Flags = 5,
+    Length = 6,
+    PayloadTooLong = 7,
+    WrongSide = 8,
+    UnknownMethod = 9,
+    CallOpen = 10,
+    CallNotOpen = 11,
+    OtherMethod = 12,
+    TooManyCalls = 13,
+    NotNow = 14,
+    CallTable = 15,
+    Dropped = 16,
+    TooManyElements = 17,
+    TallyFull = 18,
+    TallyRows = 19,
+    Cut = 20,
+    Varuint = 21,
+    Bool = 22,
+    Utf8 = 23,
+    RepeatedKey = 24,
+    AbsentField = 25,
+    UnknownBit = 26,
+    Surplus = 27,
+    TooDeep = 28,
+    UnduePayload = 29,
+    SheetTooShort = 30,
+    MapTooLong = 31,
+    SchemaShape = 40,
+    TooManyRows = 41,
+    TypeRow = 42,
+    Field = 43,
+    Method = 44,
+    FileTooLong = 45,
+    NoStruct = 46,
+    NoExtension = 47,
+    Sheet = 50,
+    Outside = 51,
+    OutputTooShort = 52,
+    ListTooShort = 53,
+    Index = 65,
+    OtherRecord = 66,
+}
+
+// A refusal and its place. The place comes first: an answer that is laid out as places are stays in registers.
+#[derive(Clone, Copy, Debug, PartialEq, Eq)]
+pub struct Refused {
+    pub place: usize,
+    pub refusal: Refusal,
+}
+
+impl From<Refusal> for u32 {
+    ghost from_gives = { λ refusal number. number ≡ number_of refusal };
+
+    fn from(refusal: Refusal) -> u32 {
+        refusal as u32
+    }
+}
+
+impl Refusal {
+    // The refusal at a place, as an answer.
+    pub fn at<T>(self, place: usize) -> Result<T, Refused>
+        ensures { result ≡ Err (record { place = place; refusal = self }) }
+    {
+        Err(Refused {
+            place,
+            refusal: self,
+        })
+    }
+}
 
 pub const MAGIC: u32 = 2;
 

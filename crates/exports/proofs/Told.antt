@@ -13,10 +13,10 @@ use Rattle.schema.specs.Extend.{if_good, extended, extension}
 use Rattle.frame.specs.declared.Header.{Header}
 use Rattle.frame.proofs.Answers.{refused-numbers}
 use Rattle.schema.proofs.Numbered.{listed, listed-bounds}
-use Rattle.schema.specs.declared.Checked.{Checked}
-use Rattle.schema.specs.declared.Checked.TheVariants as check
-use Rattle.schema.specs.declared.Extended.{Extended}
-use Rattle.schema.specs.declared.Extended.TheVariants.{Yes, No, Refused as Faulty}
+use Rattle.schema.specs.Checked.{Checked}
+use Rattle.schema.specs.Checked as check
+use Rattle.schema.specs.Extended.{Extended}
+use Rattle.schema.specs.Extended.{Yes, No, Refused as Faulty}
 use Rattle.arf.specs.Numbers.{check_number, extend_number, write_number}
 use Rattle.frame.specs.declared.FrameRead.{FrameRead}
 use Rattle.frame.specs.declared.FrameRead.TheVariants as frame

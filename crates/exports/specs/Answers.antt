@@ -1,8 +1,8 @@
 -- The numbers that each answer is stored as beside 01's number, case by case; 0 where 01 gives no value.
 use Rattle.std.specs.Prelude.{◌≡◌, Bool, false, cond, List, [], ◌∷◌, ℕ, length, replicate}
-use Rattle.schema.specs.declared.Checked.{Checked}
-use Rattle.schema.specs.declared.Checked.TheVariants as check
-use Rattle.schema.specs.declared.Extended.{Extended}
+use Rattle.schema.specs.Checked.{Checked}
+use Rattle.schema.specs.Checked as check
+use Rattle.schema.specs.Extended.{Extended}
 use Rattle.schema.specs.Check.{checked}
 use Rattle.arf.specs.Numbers.{check_place, extend_place, extend_answer}
 use Rattle.frame.specs.declared.Header.{Header}

@@ -1,10 +1,10 @@
 -- An answer from its number and its cells, as a program in another language reads it back. 0 is the number of what is accepted, 1 of a frame that needs
 -- more bytes; any other is a refusal's.
 use Rattle.std.specs.Prelude.{cond, List, ℕ, zero, suc, eqb, get_or}
-use Rattle.schema.specs.declared.Checked.{Checked}
-use Rattle.schema.specs.declared.Checked.TheVariants as check
-use Rattle.schema.specs.declared.Extended.{Extended}
-use Rattle.schema.specs.declared.Extended.TheVariants.{Yes, No, Refused as Faulty}
+use Rattle.schema.specs.Checked.{Checked}
+use Rattle.schema.specs.Checked as check
+use Rattle.schema.specs.Extended.{Extended}
+use Rattle.schema.specs.Extended.{Yes, No, Refused as Faulty}
 use Rattle.frame.specs.declared.FrameRead.{FrameRead}
 use Rattle.frame.specs.declared.FrameRead.TheVariants as frame
 use Rattle.frame.specs.declared.FrameWritten.{FrameWritten}

@@ -6,11 +6,11 @@ ghost use Rattle.cells.specs.Records.{calls_of, CountsOpen, are_calls};
 ghost use Rattle.exports.specs.Answers.{refused_plan};
 
 use cells::records::{are_good, open_count, own_slot};
+use constants::refusal::Refused;
 use constants::{frame_kind, refusal};
 use frame::read_frame;
 use receiver::planning::{front, plan_call, plan_frame, stop, tables_fault};
 use receiver::{Front, Plan};
-use schema::Checked;
 use table::checking::check;
 
 // One frame from a side with so many tally rows lent, judged in the order: schema table, call table, tally rows, frame, side and call. `calls` is how
@@ -28,11 +28,11 @@ pub fn plan(
     ensures counts_open { CountsOpen cells.now calls.new }
 {
     match check(schema) {
-        Checked::Refused { number, place } => {
+        Err(Refused { place, refusal }) => {
             *calls = open_count(cells);
-            stop(number, place)
+            stop(refusal as u32, place)
         }
-        Checked::Good => match front(
+        Ok(()) => match front(
             are_good(cells, schema, calls),
             schema,
             side,
@@ -66,11 +66,11 @@ pub fn plan_release(
     ensures counts_open { CountsOpen cells.now calls.new }
 {
     match check(schema) {
-        Checked::Refused { number, place } => {
+        Err(Refused { place, refusal }) => {
             *calls = open_count(cells);
-            stop(number, place)
+            stop(refusal as u32, place)
         }
-        Checked::Good => {
+        Ok(()) => {
             let fault = tables_fault(are_good(cells, schema, calls), schema, rows);
             if fault != refusal::ACCEPTED {
                 return stop(fault, 0);

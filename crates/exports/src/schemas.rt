@@ -5,26 +5,27 @@ ghost use Rattle.schema.specs.Extend.{extension};
 ghost use Rattle.arf.specs.Numbers.{check_number, extend_number};
 ghost use Rattle.cells.specs.Cells.{stored};
 ghost use Rattle.exports.specs.Answers.{check_cells, extend_cells};
+ghost use Rattle.table.specs.Told.{told, told_extends};
 
 use cells::store;
 use constants::refusal;
-use schema::{Checked, Extended};
+use constants::refusal::Refused;
 
-fn check_number(a: Checked) -> u32
-    ensures { result ≡ check_number a }
+fn check_number(a: Result<(), Refused>) -> u32
+    ensures { result ≡ check_number (told a) }
 {
     match a {
-        Checked::Good => refusal::ACCEPTED,
-        Checked::Refused { number, place: _ } => number,
+        Ok(()) => refusal::ACCEPTED,
+        Err(refused) => refused.refusal as u32,
     }
 }
 
-fn check_cells(a: Checked) -> [u64; 1]
-    ensures { result ≡ check_cells a }
+fn check_cells(a: Result<(), Refused>) -> [u64; 1]
+    ensures { result ≡ check_cells (told a) }
 {
     match a {
-        Checked::Good => [0],
-        Checked::Refused { number: _, place } => [place as u64],
+        Ok(()) => [0],
+        Err(refused) => [refused.place as u64],
     }
 }
 
@@ -39,23 +40,21 @@ pub fn arf_check_table(schema: &[u8], answer: &mut [u64]) -> u32
     check_number(a)
 }
 
-fn extend_number(a: Extended) -> u32
-    ensures { result ≡ extend_number a }
+fn extend_number(a: Result<bool, Refused>) -> u32
+    ensures { result ≡ extend_number (told_extends a) }
 {
     match a {
-        Extended::Yes => refusal::ACCEPTED,
-        Extended::No => refusal::ACCEPTED,
-        Extended::Refused { number, place: _ } => number,
+        Ok(_) => refusal::ACCEPTED,
+        Err(refused) => refused.refusal as u32,
     }
 }
 
-fn extend_cells(a: Extended) -> [u64; 2]
-    ensures { result ≡ extend_cells a }
+fn extend_cells(a: Result<bool, Refused>) -> [u64; 2]
+    ensures { result ≡ extend_cells (told_extends a) }
 {
     match a {
-        Extended::Yes => [0, 1],
-        Extended::No => [0, 0],
-        Extended::Refused { number: _, place } => [place as u64, 0],
+        Ok(yes) => [0, yes as u64],
+        Err(refused) => [refused.place as u64, 0],
     }
 }
 

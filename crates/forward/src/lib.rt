@@ -15,8 +15,8 @@ ghost use Rattle.writer.specs.Entry.{outcome};
 ghost use Rattle.forward.specs.Forward.{root_place, suits, fault_of};
 ghost use Rattle.forward.specs.Entry.{sheet_forwarded, forward_outcome};
 
+use constants::refusal::Refused;
 use constants::{format, kind, limit, refusal};
-use schema::Checked;
 use table::access::type_row;
 use table::checking::check;
 use wire::bitmap;
@@ -172,7 +172,10 @@ pub fn forward(
     ensures { outcome result out.new ≡ forward_outcome s.now ty sheet.now source.now tail_place tail_length out.old }
 {
     match check(s) {
-        Checked::Refused { number, place } => Writing::Refused { number, place },
-        Checked::Good => forward_sheet(s, ty, sheet, source, tail_place, tail_length, out),
+        Err(Refused { place, refusal }) => Writing::Refused {
+            number: refusal as u32,
+            place,
+        },
+        Ok(()) => forward_sheet(s, ty, sheet, source, tail_place, tail_length, out),
     }
 }

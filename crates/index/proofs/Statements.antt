@@ -14,8 +14,8 @@ use lib.Seq.{take_at}
 use Rattle.wire.specs.Little.{Bytes}
 use Rattle.wire.proofs.Numbers.{bytes-parts, bytes_drop, little-below}
 use Rattle.wire.proofs.Cases.{differ}
-use Rattle.schema.specs.declared.Checked.{Checked}
-use Rattle.schema.specs.declared.Checked.TheVariants.{Good, Refused as Faulty}
+use Rattle.schema.specs.Checked.{Checked}
+use Rattle.schema.specs.Checked.{Good, Refused as Faulty}
 use Rattle.schema.specs.File.{table_of}
 use Rattle.schema.specs.Check.{checked, IsGood}
 use Rattle.schema.proofs.Faults.{refused-iff as schema-refused}

@@ -2,8 +2,8 @@
 -- layout number 1, all little-endian; and what making one answers and leaves in the output.
 use Rattle.std.specs.Prelude.{cond, List, [], ◌∷◌, ◌++◌, ℕ, ltb, length, drop}
 use Rattle.wire.specs.Little.{bytes}
-use Rattle.schema.specs.declared.Checked.{Checked}
-use Rattle.schema.specs.declared.Checked.TheVariants.{Good, Refused as Faulty}
+use Rattle.schema.specs.Checked.{Checked}
+use Rattle.schema.specs.Checked.{Good, Refused as Faulty}
 use Rattle.schema.specs.Check.{checked}
 use Rattle.replay.specs.Run.{run_of}
 use Rattle.index.specs.declared.Indexing.{Indexing}

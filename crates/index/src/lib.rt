@@ -12,8 +12,8 @@ ghost use Rattle.index.specs.LookUp as look;
 
 use crate::judge::judge;
 use crate::print::put_text;
+use constants::refusal::Refused;
 use constants::{limit, refusal};
-use schema::Checked;
 use table::checking::check;
 
 // Bytes of a row of an index; the trailer is as long.
@@ -40,8 +40,11 @@ pub fn make_index(schema: &[u8], entries: &[u8], out: &mut [u8]) -> Indexing
     ensures { outcome result out.new ≡ make_index schema.now entries.now out.old }
 {
     match check(schema) {
-        Checked::Refused { number, place } => Indexing::Refused { number, place },
-        Checked::Good => {
+        Err(Refused { place, refusal }) => Indexing::Refused {
+            number: refusal as u32,
+            place,
+        },
+        Ok(()) => {
             if limit::FILE < entries.len() {
                 return Indexing::Refused {
                     number: refusal::FILE_TOO_LONG,

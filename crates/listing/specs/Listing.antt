@@ -1,8 +1,8 @@
 -- The listing of a record (entries: the byte C or S, then a frame) by a schema file, in 01's order: the heading; 45; the schema's faults; the entries of
 -- the record's run from the fresh call table.
 use Rattle.std.specs.Prelude.{Bool, cond, ◌||◌, List, [], ◌∷◌, ◌++◌, ℕ, ◌+◌, ltb, length}
-use Rattle.schema.specs.declared.Checked.{Checked}
-use Rattle.schema.specs.declared.Checked.TheVariants.{Good, Refused as Faulty}
+use Rattle.schema.specs.Checked.{Checked}
+use Rattle.schema.specs.Checked.{Good, Refused as Faulty}
 use Rattle.schema.specs.Check.{checked}
 use Rattle.calls.specs.declared.Call.{Call}
 use Rattle.replay.specs.Run.{Entry, Run, run_from, run_of}

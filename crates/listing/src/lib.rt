@@ -9,7 +9,6 @@ ghost use Rattle.text.specs.Text.{Added};
 ghost use Rattle.listing.specs.Listing.{listing};
 
 use constants::{limit, refusal};
-use schema::Checked;
 
 // Any listing has fewer bytes: a line has at most 149, and its entry at least 27 of the record's 65,536.
 pub const MOST: usize = 362000;
@@ -24,10 +23,8 @@ fn put_all(schema: &[u8], entries: &[u8], out: &mut [u8]) -> usize
         return lines::put_stopped(out, pos, refusal::FILE_TOO_LONG, 0);
     }
     match arf::check_table(schema) {
-        Checked::Refused { number, place: _ } => {
-            lines::put_stopped(out, pos, number, entries.len())
-        }
-        Checked::Good => entries::put_entries(schema, entries, out, pos),
+        Err(refused) => lines::put_stopped(out, pos, refused.refusal as u32, entries.len()),
+        Ok(()) => entries::put_entries(schema, entries, out, pos),
     }
 }
 

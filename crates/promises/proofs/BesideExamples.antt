@@ -11,8 +11,8 @@ use Rattle.wire.specs.Little as little
 use Rattle.wire.proofs.Cases.{differ}
 use Rattle.schema.specs.declared.TypeRow.{TypeRow}
 use Rattle.schema.specs.declared.Field.{Field}
-use Rattle.schema.specs.declared.Checked.TheVariants.{Good}
-use Rattle.schema.specs.declared.Extended.TheVariants.{No}
+use Rattle.schema.specs.Checked.{Good}
+use Rattle.schema.specs.Extended.{No}
 use Rattle.schema.specs.Table as table
 use Rattle.schema.specs.Table.{Table}
 use Rattle.schema.specs.File.{cell, shaped, layout_of, tabulate, table_of}

@@ -10,8 +10,8 @@ use Rattle.wire.specs.Little as little
 use Rattle.wire.specs.Varuint as varuint
 use Rattle.utf8.specs.Utf8 as utf8
 use Rattle.parse.specs.Reader as answer
-use Rattle.schema.specs.declared.Checked.TheVariants.{Good}
-use Rattle.schema.specs.declared.Extended.TheVariants.{Yes}
+use Rattle.schema.specs.Checked.{Good}
+use Rattle.schema.specs.Extended.{Yes}
 use Rattle.schema.specs.Table as table
 use Rattle.schema.specs.Table.{Table}
 use Rattle.schema.specs.File.{cell, shaped, layout_of, tabulate, table_of}

@@ -15,9 +15,9 @@ use Rattle.wire.proofs.Cases.{differ}
 use Rattle.parse.specs.Reader.{cursor_at}
 use Rattle.parse.proofs.Answers.{seen_end}
 use Rattle.schema.specs.declared.Field.{Field}
-use Rattle.schema.specs.declared.Checked.{Checked}
-use Rattle.schema.specs.declared.Checked.TheVariants.{Good, Refused as Faulty}
-use Rattle.schema.specs.declared.Extended.TheVariants.{Yes, No}
+use Rattle.schema.specs.Checked.{Checked}
+use Rattle.schema.specs.Checked.{Good, Refused as Faulty}
+use Rattle.schema.specs.Extended.{Yes, No}
 use Rattle.schema.specs.Table.{Shape, struct}
 use Rattle.schema.specs.File.{table_of}
 use Rattle.schema.specs.Check.{checked, IsGood}

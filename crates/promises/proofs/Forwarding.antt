@@ -11,8 +11,8 @@ use Rattle.buffer.specs.Span.{span}
 use Rattle.wire.specs.Little.{Bytes}
 use Rattle.wire.proofs.Numbers.{bytes_take}
 use Rattle.schema.specs.declared.Field.{Field}
-use Rattle.schema.specs.declared.Checked.TheVariants.{Refused as Faulty}
-use Rattle.schema.specs.declared.Extended.TheVariants.{Yes}
+use Rattle.schema.specs.Checked.{Refused as Faulty}
+use Rattle.schema.specs.Extended.{Yes}
 use Rattle.schema.specs.Table.{Shape, struct}
 use Rattle.schema.specs.File.{table_of}
 use Rattle.schema.specs.Check.{checked, IsGood}

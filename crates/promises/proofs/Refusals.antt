@@ -6,8 +6,8 @@ use Prim.Native.Nat.{ℕ, ◌≤◌, ◌<◌}
 use native.Mathlib.Omega.{arith}
 use lib.ListN.{length}
 use Rattle.schema.specs.declared.Field.{Field}
-use Rattle.schema.specs.declared.Checked.{Checked}
-use Rattle.schema.specs.declared.Checked.TheVariants.{Good, Refused as Faulty}
+use Rattle.schema.specs.Checked.{Checked}
+use Rattle.schema.specs.Checked.{Good, Refused as Faulty}
 use Rattle.schema.specs.Table.{struct}
 use Rattle.schema.specs.File.{table_of}
 use Rattle.schema.specs.Check.{checked, IsGood}

@@ -10,8 +10,8 @@ use lib.Seq.{paste}
 use Rattle.wire.proofs.Cases.{differ}
 use Rattle.parse.specs.Reader.{Answer, seen, cursor_at, Accepted}
 use Rattle.schema.specs.declared.TypeRow.{TypeRow}
-use Rattle.schema.specs.declared.Checked.{Checked}
-use Rattle.schema.specs.declared.Checked.TheVariants.{Good, Refused as Faulty}
+use Rattle.schema.specs.Checked.{Checked}
+use Rattle.schema.specs.Checked.{Good, Refused as Faulty}
 use Rattle.schema.specs.Table.{row_at}
 use Rattle.schema.specs.File.{table_of}
 use Rattle.schema.specs.Check.{checked, IsGood}

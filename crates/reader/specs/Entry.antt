@@ -1,7 +1,7 @@
 -- What the entries answer.
 use Rattle.std.specs.Prelude.{List, ℕ, ◌/◌, length}
-use Rattle.schema.specs.declared.Checked.{Checked}
-use Rattle.schema.specs.declared.Checked.TheVariants.{Good, Refused as Faulty}
+use Rattle.schema.specs.Checked.{Checked}
+use Rattle.schema.specs.Checked.{Good, Refused as Faulty}
 use Rattle.schema.specs.File.{table_of}
 use Rattle.schema.specs.Check.{checked}
 use Rattle.value.specs.Read as value

@@ -7,8 +7,9 @@ ghost use Rattle.reader.specs.Entry.{Outcome};
 ghost use Rattle.reader.specs.Beside.{Knows, beside_payload, beside_outcome};
 
 use crate::{Reading, read_shown};
+use constants::refusal::Refused;
 use constants::{kind, limit, refusal};
-use schema::{Checked, TypeRow};
+use schema::TypeRow;
 use table::access::type_row;
 use table::checking::check;
 use table::extension::is_widened;
@@ -63,8 +64,11 @@ fn read_good(ours: &[u8], theirs: &[u8], ty: u32, payload: &[u8], sheet: &mut [u
     ensures { Outcome.outcome result sheet.new ≡ beside_outcome ours.now theirs.now ty payload.now sheet.old }
 {
     match check(theirs) {
-        Checked::Refused { number, place } => Reading::Refused { number, place },
-        Checked::Good => {
+        Err(Refused { place, refusal }) => Reading::Refused {
+            number: refusal as u32,
+            place,
+        },
+        Ok(()) => {
             if !is_widened(ours, theirs) {
                 return Reading::Refused {
                     number: refusal::NO_EXTENSION,
@@ -87,7 +91,10 @@ pub fn read_beside(
     ensures { Outcome.outcome result sheet.new ≡ beside_outcome ours.now theirs.now ty payload.now sheet.old }
 {
     match check(ours) {
-        Checked::Refused { number, place } => Reading::Refused { number, place },
-        Checked::Good => read_good(ours, theirs, ty, payload, sheet),
+        Err(Refused { place, refusal }) => Reading::Refused {
+            number: refusal as u32,
+            place,
+        },
+        Ok(()) => read_good(ours, theirs, ty, payload, sheet),
     }
 }

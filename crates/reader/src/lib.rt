@@ -11,10 +11,10 @@ ghost use Rattle.reader.specs.Entry.{Outcome, payload_outcome, payload_number, r
 ghost use Rattle.reader.specs.Beside.{shown_outcome};
 
 use crate::walk::root;
+use constants::refusal::Refused;
 use constants::{format, kind, limit, refusal};
 use flat::Walk;
 use flat::sheet::copy_cells;
-use schema::Checked;
 use table::access::type_row;
 use table::checking::check;
 
@@ -107,8 +107,11 @@ pub fn read(schema: &[u8], ty: u32, payload: &[u8], sheet: &mut [u32]) -> Readin
     ensures { Outcome.outcome result sheet.new ≡ read_outcome schema.now ty payload.now sheet.old }
 {
     match check(schema) {
-        Checked::Refused { number, place } => Reading::Refused { number, place },
-        Checked::Good => read_payload(schema, ty, payload, sheet),
+        Err(Refused { place, refusal }) => Reading::Refused {
+            number: refusal as u32,
+            place,
+        },
+        Ok(()) => read_payload(schema, ty, payload, sheet),
     }
 }
 

@@ -1,10 +1,10 @@
 -- Calls kept apart: what the answer to a frame depends on.
+use Rattle.std.specs.Prelude.{Some}
 use mathlib.Core.Path.{◌≡◌, refl, sym, ap, subst, ◌∙◌}
 use mathlib.Core.Logic.{◌⊎◌, inl, inr, ⊎_elim}
 use mathlib.Core.List.{List, []}
 use Prim.Native.Nat.{ℕ, ◌+◌, ◌-◌}
 use lib.ListN.{length, take, drop}
-use Rattle.schema.specs.declared.Found.TheVariants.{At}
 use Rattle.schema.specs.Table.{Table}
 use Rattle.schema.specs.File.{table_of}
 use Rattle.calls.specs.declared.Call.{Call}
@@ -89,7 +89,7 @@ module _ (sheet₁ sheet₂ : List ℕ) (ts₁ ts₂ : List Tally) (l₁ l₂ : 
         let e = calls.same-verdict T f l₁ l₂ own slots in
         rise-by T f l₁ ∙ (λ i. verdict_rise f.kind (own i) (e i)) ∙ sym (rise-by T f l₂)
 
-    same_row : (f : Frame) → ((m : ℕ) → call_method T f (own_of f.correlation l₁) ≡ At m → row_for ts₁ m ≡ row_for ts₂ m)
+    same_row : (f : Frame) → ((m : ℕ) → call_method T f (own_of f.correlation l₁) ≡ Some m → row_for ts₁ m ≡ row_for ts₂ m)
         → let r = rise_of f.kind l₁ (judge_of T f l₁) in (r ≡ no_rise) ⊎ (row_for ts₁ r.row ≡ row_for ts₂ r.row)
     same_row f h =
         rw (rise-by T f l₁)
@@ -97,7 +97,7 @@ module _ (sheet₁ sheet₂ : List ℕ) (ts₁ ts₂ : List Tally) (l₁ l₂ : 
         (rise-method T f (own_of f.correlation l₁) (full l₁)))
 
     frame_same : (f : Frame) (payload : List ℕ) (size : ℕ) → own_of f.correlation l₁ ≡ own_of f.correlation l₂ → (f.kind ≡ 1 → full l₁ ≡ full l₂)
-        → ((m : ℕ) → call_method T f (own_of f.correlation l₁) ≡ At m → row_for ts₁ m ≡ row_for ts₂ m)
+        → ((m : ℕ) → call_method T f (own_of f.correlation l₁) ≡ Some m → row_for ts₁ m ≡ row_for ts₂ m)
         → SameAnswer sheet₁ sheet₂ (frame_effect s f payload size sheet₁ ts₁ l₁) (frame_effect s f payload size sheet₂ ts₂ l₂)
     unfolding frame_effect frame_settled
     frame_same f payload size own slots rows =

@@ -1,5 +1,6 @@
 -- Every answer has one of 01's numbers for a frame, with its place. The payload of a frame is read as a struct type of the good table, and it is not too
 -- long, so that neither 46 nor 7 comes from it.
+use Rattle.std.specs.Prelude.{None, Option, Some}
 use mathlib.Core.Path.{◌≡◌, refl, sym, ap, subst, ◌∙◌}
 use mathlib.Core.Bool.{Bool, true, false, cond, ◌&&◌}
 use mathlib.Core.List.{List}
@@ -11,8 +12,6 @@ use lib.ListN.{length, take, drop, length-take}
 use borrow.Author.Tests.{le-leb, ltb-true, ltb-false}
 use Rattle.wire.proofs.Cases.{cond-case}
 use Rattle.parse.specs.Reader.{Answer, refused, seen, cursor_at}
-use Rattle.schema.specs.declared.Found.{Found}
-use Rattle.schema.specs.declared.Found.TheVariants.{At, Missing}
 use Rattle.schema.specs.Table.{Table, Shape, row_at, fields_of, shape}
 use Rattle.schema.specs.File.{table_of}
 use Rattle.schema.specs.Check.{method_row, named, find_method, IsGood}
@@ -38,8 +37,6 @@ use Rattle.calls.specs.Record.{empty_call, allowed, not_allowed, at_limit, after
 use Rattle.calls.specs.declared.Rise.{Rise}
 use Rattle.calls.specs.Counting.{rise_of, release_rise, figure_by, full_at}
 use Rattle.calls.specs.Slots.{own_of, full}
-use Rattle.calls.specs.declared.OwnCall.{OwnCall}
-use Rattle.calls.specs.declared.OwnCall.TheVariants.{None as none, One as one}
 use Rattle.calls.specs.Judge.{right_side, payload_of, release_verdict, judge_of, judge_release, Verdict, stop, opens, goes, invoke_verdict, other_verdict, verdict_of}
 use Rattle.calls.specs.Step.{due_of, release}
 use Rattle.connection.specs.Step.{step_of}
@@ -70,10 +67,10 @@ use Rattle.receiver.proofs.Ways.{released_row, released_number, ReleaseWay, unre
 -- ---- the payload
 
 -- A judged frame's number: one that uses the frame, or one that keeps it.
-abbrev Judging : (kind : ℕ) → OwnCall → List Tally → (number place : ℕ) → Type 0
+abbrev Judging : (kind : ℕ) → Option Call → List Tally → (number place : ℕ) → Type 0
 Judging kind own ts n p = AnswerNumber n p × (UsesFrame n ⊎ Keeps kind own ts n)
 
-module _ (kind : ℕ) (own : OwnCall) (ts : List Tally) where
+module _ (kind : ℕ) (own : Option Call) (ts : List Tally) where
   -- the number and place of a payload's reading
   abbrev Told : Outcome → Type 0
   Told o = Judging kind own ts (number_in o) (numbers (reading_in o)).place
@@ -108,47 +105,47 @@ module _ (kind : ℕ) (own : OwnCall) (ts : List Tally) where
 
 -- ---- the side and the call
 
-abbrev Refusing : (kind : ℕ) → OwnCall → List Tally → ℕ → Type 0
+abbrev Refusing : (kind : ℕ) → Option Call → List Tally → ℕ → Type 0
 Refusing kind own ts n = (8 ≤ n) × ((n ≤ 17) × (UsesFrame n ⊎ Keeps kind own ts n))
 
-Stops : (kind : ℕ) → OwnCall → List Tally → Verdict → Type 0
+Stops : (kind : ℕ) → Option Call → List Tally → Verdict → Type 0
 Stops kind own ts (stop n) = Refusing kind own ts n
 Stops kind own ts (opens c d) = Unit {0}
 Stops kind own ts (goes c d) = Unit {0}
 
 module _ (T : Table) (f : Frame) (ts : List Tally) where
-  refusing : (own : OwnCall) (n : ℕ) → 8 ≤ n → n ≤ 14 → Refusing f.kind own ts n
+  refusing : (own : Option Call) (n : ℕ) → 8 ≤ n → n ≤ 14 → Refusing f.kind own ts n
   refusing own n low high = (low, (omega (arith, high), inl (call-used low high)))
 
-  invoke-stops : (m : Found) (own : OwnCall) (b : Bool) → Stops f.kind own ts (invoke_verdict T f.correlation m own b)
+  invoke-stops : (m : Option ℕ) (own : Option Call) (b : Bool) → Stops f.kind own ts (invoke_verdict T f.correlation m own b)
   unfolding Stops
-  invoke-stops Missing own b = refusing own _ (lit≤ tt) (lit≤ tt)
-  invoke-stops (At m) (one c) b = refusing (one c) _ (lit≤ tt) (lit≤ tt)
-  invoke-stops (At m) none true = refusing none _ (lit≤ tt) (lit≤ tt)
-  invoke-stops (At m) none false = tt
+  invoke-stops None own b = refusing own _ (lit≤ tt) (lit≤ tt)
+  invoke-stops (Some m) (Some c) b = refusing (Some c) _ (lit≤ tt) (lit≤ tt)
+  invoke-stops (Some m) None true = refusing None _ (lit≤ tt) (lit≤ tt)
+  invoke-stops (Some m) None false = tt
 
-  late-stops : (c : Call) → Stops f.kind (one c) ts (stop (not_allowed f.kind c))
+  late-stops : (c : Call) → Stops f.kind (Some c) ts (stop (not_allowed f.kind c))
   unfolding Stops
   late-stops c =
-      cond-case (Refusing f.kind (one c) ts) (c.cancelled && (leb 4 f.kind && leb f.kind 7)) 16 14 (λ _. (lit≤ tt, (lit≤ tt, inl dropped)))
-      (λ _. refusing (one c) 14 (lit≤ tt) (lit≤ tt))
+      cond-case (Refusing f.kind (Some c) ts) (c.cancelled && (leb 4 f.kind && leb f.kind 7)) 16 14 (λ _. (lit≤ tt, (lit≤ tt, inl dropped)))
+      (λ _. refusing (Some c) 14 (lit≤ tt) (lit≤ tt))
 
-  other-stops : (own : OwnCall) → Stops f.kind own ts (other_verdict T f own)
+  other-stops : (own : Option Call) → Stops f.kind own ts (other_verdict T f own)
   unfolding Stops
-  other-stops none = refusing none _ (lit≤ tt) (lit≤ tt)
-  other-stops (one c) =
+  other-stops None = refusing None _ (lit≤ tt) (lit≤ tt)
+  other-stops (Some c) =
       let m = method_row T c.method in
       let next = goes (after_frame (row_of_form m.form) f.kind c) (payload_of m f.kind) in
       let late = stop (not_allowed f.kind c) in
       let few = cond (at_limit f.kind c) (stop 17) next in
       let may = allowed (row_of_form m.form) f.kind c in
-      let P = Stops f.kind (one c) ts in
+      let P = Stops f.kind (Some c) ts in
       cond-case P (named f.«package» f.service f.method m) (cond may few late) (stop 12)
       (λ _. cond-case P may few late
       (λ _. cond-case P (at_limit f.kind c) (stop 17) next (λ e. (lit≤ tt, (lit≤ tt, inr (limit c refl e)))) (λ _. tt)) (λ _. late-stops c))
-      (λ _. refusing (one c) _ (lit≤ tt) (lit≤ tt))
+      (λ _. refusing (Some c) _ (lit≤ tt) (lit≤ tt))
 
-  verdict-stops : (own : OwnCall) (b : Bool) → Stops f.kind own ts (verdict_of T f own b)
+  verdict-stops : (own : Option Call) (b : Bool) → Stops f.kind own ts (verdict_of T f own b)
   unfolding verdict_of Stops
   verdict-stops own b =
       let invoke = invoke_verdict T f.correlation (find_method T f.«package» f.service f.method) own b in
@@ -159,7 +156,7 @@ module _ (T : Table) (f : Frame) (ts : List Tally) where
 
 -- ---- the whole answer
 
-answered-listed : (kind : ℕ) (own : OwnCall) (s p sheet : List ℕ) (size : ℕ) (ts : List Tally) (l : List Call) (r : Rise) (J : Judged) → Stops kind own ts (verdict J)
+answered-listed : (kind : ℕ) (own : Option Call) (s p sheet : List ℕ) (size : ℕ) (ts : List Tally) (l : List Call) (r : Rise) (J : Judged) → Stops kind own ts (verdict J)
     → Told kind own ts (tallied (row_for ts r.row) r sheet (payload_read s (due_of J) p sheet))
     → let t = row_for ts r.row in
     let a = answered size l J r t (tallied t r sheet (payload_read s (due_of J) p sheet)) in Judging kind own ts a.answer.number a.answer.place
@@ -248,7 +245,7 @@ none-used dropped e w = (stopping_between w).3 (omega (arith, e), omega (arith, 
 none-used (value-used low high) e w = omega (arith, (stopping_between w).2 (omega (arith, low, e)), high, e)
 none-used refused-pairs e w = omega (arith, (stopping_between w).2 (omega (arith, e)), e)
 
-none_kept : {kind : ℕ} {own : OwnCall} {ts : List Tally} {m : ℕ} → Keeps kind own ts m → {n : ℕ} → m ≡ n → Stopping n → ⊥
+none_kept : {kind : ℕ} {own : Option Call} {ts : List Tally} {m : ℕ} → Keeps kind own ts m → {n : ℕ} → m ≡ n → Stopping n → ⊥
 none_kept (limit c o t) e w = (stopping_between w).3 (omega (arith, e), omega (arith, e))
 none_kept (tally m x f) e w = (stopping_between w).3 (omega (arith, e), omega (arith, e))
 none_kept few_rows e w = omega (arith, (stopping_between w).2 (omega (arith, e)), e)
@@ -287,9 +284,9 @@ unready-number s l k (rows_wrong g w n) = inr (inl refl)
 unready-number s l k (schema_fault {n} {row} e) = inr (inr (listed-bounds (table_of s) (schema-listed s n row ((schema-refused s n row).1 e))).0)
 
 -- the number of a release that may be made is 0 or 18
-judged-listed : (n : ℕ) → ReleaseNumber n 0 → (own : OwnCall) → ReleaseNumber (verdict_number (release_verdict own) n) 0
-judged-listed n w none = not_open
-judged-listed n w (one c) = cond-case (λ (v : Verdict). ReleaseNumber (verdict_number v n) 0) c.cancelled (goes empty_call Unread) (stop 14) (λ _. w) (λ _. not_cancelled)
+judged-listed : (n : ℕ) → ReleaseNumber n 0 → (own : Option Call) → ReleaseNumber (verdict_number (release_verdict own) n) 0
+judged-listed n w None = not_open
+judged-listed n w (Some c) = cond-case (λ (v : Verdict). ReleaseNumber (verdict_number v n) 0) c.cancelled (goes empty_call Unread) (stop 14) (λ _. w) (λ _. not_cancelled)
 
 released-told : (l' : List Call) (n : ℕ) → ReleaseNumber n 0 → ReleaseNumber (release_answer n 0 l').number (release_answer n 0 l').place
 unfolding release_answer
@@ -314,9 +311,9 @@ release-listed s l id ts = go (release-ways s l id ts)
 abbrev JudgedNumber : ℕ → Type 0
 JudgedNumber k = UsesFrame k ⊎ (k ≡ 18)
 
-judged-number : (n : ℕ) → JudgedNumber n → (own : OwnCall) → JudgedNumber (verdict_number (release_verdict own) n)
-judged-number n w none = inl (call-used (lit≤ tt) (lit≤ tt))
-judged-number n w (one c) =
+judged-number : (n : ℕ) → JudgedNumber n → (own : Option Call) → JudgedNumber (verdict_number (release_verdict own) n)
+judged-number n w None = inl (call-used (lit≤ tt) (lit≤ tt))
+judged-number n w (Some c) =
     cond-case (λ (v : Verdict). JudgedNumber (verdict_number v n)) c.cancelled (goes empty_call Unread) (stop 14) (λ _. w) (λ _. inl (call-used (lit≤ tt) (lit≤ tt)))
 
 released-number : (s : List ℕ) (l : List Call) (id : ℕ) (ts : List Tally) → JudgedNumber (released_number s l id ts)

@@ -1,4 +1,5 @@
 -- The records of the calls after a frame: its own, the others, what frees a slot, and what changes no call.
+use Rattle.std.specs.Prelude.{None, Option, Some}
 use mathlib.Core.Path.{◌≡◌, refl, sym, ap, subst, ◌∙◌}
 use mathlib.Core.Logic.{◌⊎◌, inl, inr, ⊎_elim}
 use mathlib.Core.Bool.{true, false}
@@ -8,7 +9,6 @@ use native.Mathlib.Omega.{arith}
 use lib.Dec.{eqb}
 use lib.ListN.{length, set}
 use borrow.Author.Tests.{eqb-true, eqb-false, ne_eqb}
-use Rattle.schema.specs.declared.Found.TheVariants.{At, Missing}
 use Rattle.schema.specs.Table.{Table}
 use Rattle.schema.specs.File.{table_of}
 use Rattle.schema.proofs.Bools.{cases, clash}
@@ -21,8 +21,6 @@ use Rattle.calls.specs.declared.Judged.TheVariants.{Refused, Opens, Goes}
 use Rattle.calls.specs.Numbers.{ends_call, EndsCall, payload, many-pairs}
 use Rattle.calls.specs.Record.{is_call, with_mark}
 use Rattle.calls.specs.Slots.{slot, own_of, full}
-use Rattle.calls.specs.declared.OwnCall.{OwnCall}
-use Rattle.calls.specs.declared.OwnCall.TheVariants.{None as none}
 use Rattle.calls.specs.Judge.{judge_of, Verdict, stop, opens, goes, verdict_of}
 use Rattle.calls.specs.Step.{receive}
 use Rattle.calls.specs.Apart.{verdict_due, verdict_number, verdict_own, touched, Freed}
@@ -42,7 +40,7 @@ use Rattle.receiver.proofs.Kept.{answer-holds}
 use Rattle.receiver.proofs.Apart.{same_answer}
 
 -- the payload's number matters only where the payload is read
-own-by : (v : Verdict) (p : ℕ) (own : OwnCall) → verdict_own v p own ≡ verdict_own v (verdict_number v p) own
+own-by : (v : Verdict) (p : ℕ) (own : Option Call) → verdict_own v p own ≡ verdict_own v (verdict_number v p) own
 own-by (stop n) p own = refl
 own-by (opens c d) p own = refl
 own-by (goes c d) p own = refl
@@ -67,7 +65,7 @@ early-zero calls z = omega arith
 early-zero rows z = omega arith
 early-zero (frame a b) z = omega arith
 
-own-kept : (v : Verdict) (own : OwnCall) {n q : ℕ} → Early n q → verdict_own v n own ≡ own
+own-kept : (v : Verdict) (own : Option Call) {n q : ℕ} → Early n q → verdict_own v n own ≡ own
 own-kept (stop m) own e = refl
 own-kept (opens c d) own {n} e = rw (ne_eqb n 0 (early-zero e))
 own-kept (goes c d) own {n} e = rw (ne_eqb n 0 (early-zero e), early-spares e)
@@ -77,14 +75,14 @@ opened-by : (T : Table) (f : Frame) (l : List Call) (reading : Payload → ℕ) 
     → (slot (receive T f reading l).slots i).«open» ≡ true → (k : ℕ) → k < i → (slot l k).«open» ≡ true
 opened-by T f l reading i z o = go (judge_of T f l) refl
   where
-    kept : {A : Type 0} → (touched (judge_of T f l) ≡ At i → ⊥) → A
+    kept : {A : Type 0} → (touched (judge_of T f l) ≡ Some i → ⊥) → A
     kept h = clash (slot l i).«open» (subst (λ (c : Call). c.«open» ≡ true) (calls.other-slots T f l reading i h) o) z
 
-    other : (j : ℕ) → touched (judge_of T f l) ≡ At j → eqb i j ≡ false → touched (judge_of T f l) ≡ At i → ⊥
+    other : (j : ℕ) → touched (judge_of T f l) ≡ Some j → eqb i j ≡ false → touched (judge_of T f l) ≡ Some i → ⊥
     other j e q t = let same : i ≡ j = cc in eqb-false i j q same
 
     go : (J : Judged) → judge_of T f l ≡ J → (k : ℕ) → k < i → (slot l k).«open» ≡ true
-    go (Refused n) e k h = kept (λ t. let bad : Missing ≡ At i = sym (ap touched e) ∙ t in let one : ◌≡◌ {A = ℕ} 0 1 = cc bad in omega arith)
+    go (Refused n) e k h = kept (λ t. let bad : None ≡ Some i = sym (ap touched e) ∙ t in let one : ◌≡◌ {A = ℕ} 0 1 = cc bad in omega arith)
     go (Opens j c d) e k h =
         ⊎_elim
         (λ q. let same = eqb-true i j q in (calls.lowest-free T f l j c d e).1 k (omega arith))
@@ -117,7 +115,7 @@ module _ (s : List ℕ) (side : ℕ) (bytes sheet : List ℕ) (ts : List Tally) 
   others-kept k other = answer-holds s side bytes sheet ts l (λ _ l'. own_of k l' ≡ own_of k l) (λ n q e. refl) (λ f w g t r. calls.others-kept T f l r k (other f w))
 
   -- No slot is changed but that of the frame's own call, or the one where INVOKE opens a call.
-  pub slots_kept : (j : ℕ) → ((f : Frame) → Front side bytes f → touched (judge_of T f l) ≡ At j → ⊥) → slot slots j ≡ slot l j
+  pub slots_kept : (j : ℕ) → ((f : Frame) → Front side bytes f → touched (judge_of T f l) ≡ Some j → ⊥) → slot slots j ≡ slot l j
   slots_kept j other = answer-holds s side bytes sheet ts l (λ _ l'. slot l' j ≡ slot l j) (λ n q e. refl) (λ f w g t r. calls.other-slots T f l r j (other f w))
 
   -- A new call takes the lowest free slot.
@@ -187,9 +185,9 @@ module _ (s : List ℕ) (side : ℕ) (bytes sheet : List ℕ) (ts : List Tally) 
         ∙ ap (λ (n : ℕ). verdict_own v n own) (sym (calls.answered T f r l))))
 
     -- Payload refusals end the open call.
-    pub refused-ends : (f.kind ≡ 1 → ⊥) → ends_call number ≡ true → own_of f.correlation slots ≡ none
+    pub refused-ends : (f.kind ≡ 1 → ⊥) → ends_call number ≡ true → own_of f.correlation slots ≡ None
     refused-ends other =
-        answer-holds s side bytes sheet ts l (λ n l'. ends_call n ≡ true → own_of f.correlation l' ≡ none)
+        answer-holds s side bytes sheet ts l (λ n l'. ends_call n ≡ true → own_of f.correlation l' ≡ None)
         (λ n q e t. clash (ends_call n) t (early-spares (early s l (length ts) bytes e)))
         (λ f' w' g t r. rw (front-once w' w) (calls.refused-ends T f l (good-clauses T l t) other r))
 

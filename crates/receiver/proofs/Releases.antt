@@ -1,4 +1,5 @@
 -- A release: what its answer depends on, the records and the tally rows afterwards, and what it frees.
+use Rattle.std.specs.Prelude.{None, Option, Some}
 use mathlib.Core.Path.{◌≡◌, refl, sym, ap, ◌∙◌}
 use mathlib.Core.Logic.{⊎_elim}
 use mathlib.Core.Bool.{Bool, true, false, cond}
@@ -19,8 +20,6 @@ use Rattle.calls.specs.declared.Payload.TheVariants.{Unread}
 use Rattle.calls.specs.Numbers.{ends_call}
 use Rattle.calls.specs.Record.{empty_call, is_call}
 use Rattle.calls.specs.Slots.{slot, count_open, good_table, own_of}
-use Rattle.calls.specs.declared.OwnCall.{OwnCall}
-use Rattle.calls.specs.declared.OwnCall.TheVariants.{None as none, One as one}
 use Rattle.calls.specs.Judge.{Verdict, stop, goes, release_verdict, judge_release}
 use Rattle.calls.specs.Step.{release}
 use Rattle.calls.specs.Counting.{release_rise, figure_by, counted_number}
@@ -42,10 +41,10 @@ early-number rows z = omega arith
 early-number (frame a b) z = omega arith
 
 -- a release's number ends no call
-spared : (n : ℕ) → ends_call n ≡ false → (own : OwnCall) → ends_call (verdict_number (release_verdict own) n) ≡ false
+spared : (n : ℕ) → ends_call n ≡ false → (own : Option Call) → ends_call (verdict_number (release_verdict own) n) ≡ false
 unfolding ends_call
-spared n k none = refl
-spared n k (one c) = cond-case (λ (v : Verdict). ends_call (verdict_number v n) ≡ false) c.cancelled (goes empty_call Unread) (stop 14) (λ _. k) (λ _. refl)
+spared n k None = refl
+spared n k (Some c) = cond-case (λ (v : Verdict). ends_call (verdict_number v n) ≡ false) c.cancelled (goes empty_call Unread) (stop 14) (λ _. k) (λ _. refl)
 
 counted : (n q : ℕ) (l : List Call) → (release_answer n q l).«open» ≡ count_open (release_answer n q l).table.slots
 unfolding release_answer
@@ -80,9 +79,9 @@ module _ (s : List ℕ) (l : List Call) (id : ℕ) (ts : List Tally) where
       (λ w n k z. unraised m (release_rise l (judge_release id l)) (release id n l).number (row_for ts m) z (rw (calls.release-answered id n l) (spared n k (own_of id l)))) z)
 
   -- A released call has ended.
-  pub released-ends : number ≡ 0 → own_of id slots ≡ none
+  pub released-ends : number ≡ 0 → own_of id slots ≡ None
   released-ends =
-      release-holds s l id ts (λ n l'. n ≡ 0 → own_of id l' ≡ none)
+      release-holds s l id ts (λ n l'. n ≡ 0 → own_of id l' ≡ None)
       (λ n q e z. absurd (early-number (unready-early s l (length ts) e) z)) (λ g t n k. calls.release-ends T id n l (good-clauses T l t))
 
   -- The record of every other identifier is unchanged,
@@ -104,18 +103,18 @@ module _ (s : List ℕ) (l : List Call) (id : ℕ) (ts : List Tally) where
 -- The answer to a release depends on the schema table, on whether the call table is good, on the number of tally rows, on its own call's record and on the
 -- row of its method; and so does the record afterwards.
 module _ (s : List ℕ) (id : ℕ) (l₁ l₂ : List Call) (ts₁ ts₂ : List Tally) (good : good_table (table_of s) l₁ ≡ good_table (table_of s) l₂)
-    (own : own_of id l₁ ≡ own_of id l₂) (rows : length ts₁ ≡ length ts₂) (row : (c : Call) → own_of id l₁ ≡ one c → row_for ts₁ c.method ≡ row_for ts₂ c.method) where
+    (own : own_of id l₁ ≡ own_of id l₂) (rows : length ts₁ ≡ length ts₂) (row : (c : Call) → own_of id l₁ ≡ Some c → row_for ts₁ c.method ≡ row_for ts₂ c.method) where
   same-rise : release_rise l₁ (judge_release id l₁) ≡ release_rise l₂ (judge_release id l₂)
   same-rise = release-rise-by id l₁ ∙ (λ i. verdict_release_rise (own i) (release_verdict (own i))) ∙ sym (release-rise-by id l₂)
 
   -- the number by a row that is asked for
-  numbered : (own : OwnCall) → ((c : Call) → own ≡ one c → row_for ts₁ c.method ≡ row_for ts₂ c.method) → let r = verdict_release_rise own (release_verdict own) in
+  numbered : (own : Option Call) → ((c : Call) → own ≡ Some c → row_for ts₁ c.method ≡ row_for ts₂ c.method) → let r = verdict_release_rise own (release_verdict own) in
       counted_number (row_for ts₁ r.row) r 0 ≡ counted_number (row_for ts₂ r.row) r 0
   unfolding figure_by
-  numbered none h = refl
-  numbered (one c) h = go c.cancelled
+  numbered None h = refl
+  numbered (Some c) h = go c.cancelled
     where
-      go : (b : Bool) → let r = verdict_release_rise (one c) (cond b (goes empty_call Unread) (stop 14)) in
+      go : (b : Bool) → let r = verdict_release_rise (Some c) (cond b (goes empty_call Unread) (stop 14)) in
           counted_number (row_for ts₁ r.row) r 0 ≡ counted_number (row_for ts₂ r.row) r 0
       go true = ap (λ (t : Tally). cond (eqb t.cancelled 4294967295) 18 0) (h c refl)
       go false = refl

@@ -1,5 +1,6 @@
 -- Histories of frames and releases from any good call table and tally rows: it stays good, each record reflects what was answered to its call's events, and
 -- the answer to a frame and to a release is the one by the rules.
+use Rattle.std.specs.Prelude.{None, Option, Some}
 use mathlib.Core.Path.{◌≡◌, refl, sym, ◌∙◌, ap, subst}
 use mathlib.Core.Logic.{◌↔◌, ◌⊎◌, inl, inr, ⊎_elim}
 use mathlib.Core.Bool.{Bool, true, false, cond, ◌||◌}
@@ -10,7 +11,6 @@ use lib.Dec.{eqb, lit≤}
 use lib.ListN.{length, take, drop, length-replicate}
 use borrow.Author.Tests.{eqb-true, eqb-false, eq-eqb, ne_eqb}
 use Rattle.wire.proofs.Cases.{differ}
-use Rattle.schema.specs.declared.Found.TheVariants.{At}
 use Rattle.schema.specs.Table.{Table}
 use Rattle.schema.specs.File.{table_of}
 use Rattle.schema.specs.Check.{IsGood}
@@ -31,8 +31,6 @@ use Rattle.calls.specs.declared.Judged.TheVariants.{Refused as JudgedRefused, Op
 use Rattle.calls.specs.declared.Payload.TheVariants.{Struct, Empty, Unread}
 use Rattle.calls.specs.Record.{empty_call, is_call}
 use Rattle.calls.specs.Slots.{slot, count_open, good_table, contains, own_of, full}
-use Rattle.calls.specs.declared.OwnCall.{OwnCall}
-use Rattle.calls.specs.declared.OwnCall.TheVariants.{None as none, One as one}
 use Rattle.calls.specs.Judge.{right_side, judge_of, judge_release, Verdict, stop, goes, release_verdict}
 use Rattle.calls.specs.Step.{Afterwards, due_of}
 use Rattle.connection.specs.Step.{fresh_table, step_of}
@@ -182,8 +180,8 @@ fresh-stands T =
 pub good-stands : (s : List ℕ) → IsGood s → (l : List Call) (ts : List Tally) → length l ≡ 128 → GoodCalls (table_of s) l → length ts ≡ length (table_of s).methods →
     (past : ℕ → Past) × ((id : ℕ) → Lawful (table_of s) (past id)) × Reflected (table_of s) l ts past
 good-stands s g l ts n w k =
-    let one : (id : ℕ) → PastIn (table_of s) l id = some-past (table_of s) (good-table s g) l w in
-    (λ id. (one id).past, λ id. (one id).lawful, record { slots = n; good = w; reflects = λ id. (one id).reflects; rows = k })
+    let Some : (id : ℕ) → PastIn (table_of s) l id = some-past (table_of s) (good-table s g) l w in
+    (λ id. (Some id).past, λ id. (Some id).lawful, record { slots = n; good = w; reflects = λ id. (Some id).reflects; rows = k })
 
 -- ---- the answer by what the rules say of a frame
 
@@ -275,7 +273,7 @@ module _ (T : Table) (f : Frame) (past : Past) (ts : List Tally) (sheet : List �
   counts_as = event_as T (calls.frame f) x.numbers.number past
 
   -- a method that the past names is the row's
-  in_row_lem : (m : ℕ) → method_in T (calls.frame f) past ≡ At m → full_at (row_for ts m) (event_as T (calls.frame f) x.numbers.number past) ≡ full-now
+  in_row_lem : (m : ℕ) → method_in T (calls.frame f) past ≡ Some m → full_at (row_for ts m) (event_as T (calls.frame f) x.numbers.number past) ≡ full-now
   in_row_lem m e =
       ap (full_at (row_for ts m)) w.0
       ∙ ⊎_elim
@@ -421,19 +419,19 @@ only-released ts (since m b h) n (released_now m' b' h' e w q) =
     rw (was-cancelled w refl, ne_eqb (row_for ts m).cancelled 4294967295 (λ z. q (ap (λ (k : ℕ). (row_for ts k).cancelled) (sym same) ∙ z)))
 
 -- by the own record
-released-is : (ts : List Tally) (past : Past) (own : OwnCall) → Reflects past own → let r = verdict_release_rise own (release_verdict own) in
+released-is : (ts : List Tally) (past : Past) (own : Option Call) → Reflects past own → let r = verdict_release_rise own (release_verdict own) in
     verdict_number (release_verdict own) (counted_number (row_for ts r.row) r 0) ≡ release_by ts past
 unfolding figure_by
-released-is ts closed none nothing = refl
-released-is ts closed (one c) r = elim r [ ]
-released-is ts (since m b h) none r = elim r [ ]
-released-is ts (since m b h) (one c) (call _ _ _ _ w) =
+released-is ts closed None nothing = refl
+released-is ts closed (Some c) r = elim r [ ]
+released-is ts (since m b h) None r = elim r [ ]
+released-is ts (since m b h) (Some c) (call _ _ _ _ w) =
     ap (λ (x : Bool). number_of-release x) w.is_cancelled ∙ go (cancelled h)
   where
     number_of-release : Bool → ℕ
     number_of-release x =
         let v : Verdict = cond x (goes empty_call Unread) (stop 14) in
-        let r = verdict_release_rise (one c) v in
+        let r = verdict_release_rise (Some c) v in
         verdict_number v (counted_number (row_for ts r.row) r 0)
 
     go : (x : Bool) → number_of-release x ≡ cond x (cond (eqb (row_for ts m).cancelled 4294967295) 18 0) 14
@@ -626,7 +624,7 @@ module _ (s : List ℕ) (g : IsGood s) (start : State) (past : ℕ → Past) (st
 
   -- INVOKE of a known method on an open call's identifier, cancelled or not, is 10.
   pub invoke_open : (es : List Event) (i : Input) (f : Frame) (w : Front i.side i.bytes f) (m n : ℕ) (b : Elements) (h : List ℕ)
-      → past_in s start past es f.correlation ≡ since m b h → f.side ≡ 67 → f.kind ≡ 1 → method_named T f ≡ At n
+      → past_in s start past es f.correlation ≡ since m b h → f.side ≡ 67 → f.kind ≡ 1 → method_named T f ≡ Some n
       → (answer_after s start es i).answer.number ≡ 10
   invoke_open es i f w m n b h e side kind known =
       ap (λ (y : Said). y.numbers.number) (refused-by es i f w 10 (lit≤ tt) (lit≤ tt) (rw e (rules.already m n b h (rw (side, kind)) kind known)))
@@ -700,7 +698,7 @@ module _ (s : List ℕ) (g : IsGood s) (start : State) (past : ℕ → Past) (st
   -- ERROR of a cancelled call is accepted and ends it, unless its tally is full.
   pub error-ends-cancelled : (es : List Event) (i : Input) (f : Frame) (w : Front i.side i.bytes f) (m : ℕ) (b : Elements) (h : List ℕ)
       → past_in s start past es f.correlation ≡ since m b h → RoomAfter s start past es f 0 → f.side ≡ 83 → f.kind ≡ 7 → same T f m ≡ true
-      → let a = answer_after s start es i in (a.answer.number ≡ 0) × (own_of f.correlation a.answer.table.slots ≡ none)
+      → let a = answer_after s start es i in (a.answer.number ≡ 0) × (own_of f.correlation a.answer.table.slots ≡ None)
   error-ends-cancelled es i f w m b h e spacious side kind ids = (number, ended)
     where
       a : Effect
@@ -729,11 +727,11 @@ module _ (s : List ℕ) (g : IsGood s) (start : State) (past : ℕ → Past) (st
       closes : after T (record { event = calls.frame f; number = a.answer.number }) (past_in s start past es f.correlation) ≡ closed
       closes = rw (number, e, kind)
 
-      ended : own_of f.correlation a.answer.table.slots ≡ none
+      ended : own_of f.correlation a.answer.table.slots ≡ None
       ended =
           no_record
           (subst (λ (p : Past). Reflects p (own_of f.correlation a.answer.table.slots)) closes
           (front-reflects s g (calls_after s start es) (rows_after s start es) (calls-good es) (rows_right es) i.side i.bytes i.sheet f w (past_in s start past es f.correlation) (reflected es f.correlation)))
         where
-          no_record : {own : OwnCall} → Reflects closed own → own ≡ none
+          no_record : {own : Option Call} → Reflects closed own → own ≡ None
           no_record nothing = refl

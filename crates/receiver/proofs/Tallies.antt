@@ -1,5 +1,6 @@
 -- The tally rows of a history: from a fresh start each row is the figures of what was heard, opened is the other four and the calls of that method now open,
 -- and a call's counts are the elements accepted since its INVOKE; and that a frame touches the row of its call's method alone.
+use Rattle.std.specs.Prelude.{None, Option, Some}
 use mathlib.Core.Path.{◌≡◌, refl, sym, ap, subst, ◌∙◌}
 use mathlib.Core.Logic.{◌⊎◌, inl, inr, ⊎_elim}
 use mathlib.Core.Bool.{cond}
@@ -10,8 +11,6 @@ use lib.Dec.{eqb}
 use lib.ListN.{length, take, drop}
 use borrow.Author.Tests.{eqb-true}
 use Rattle.wire.proofs.Cases.{differ, cond-case}
-use Rattle.schema.specs.declared.Found.{Found}
-use Rattle.schema.specs.declared.Found.TheVariants.{At, Missing}
 use Rattle.schema.specs.Table.{Table}
 use Rattle.schema.specs.File.{table_of}
 use Rattle.schema.specs.Check.{IsGood, find_method, method_row}
@@ -31,8 +30,6 @@ use Rattle.calls.specs.Numbers.{ends_call}
 use Rattle.calls.specs.declared.Payload.TheVariants.{Unread}
 use Rattle.calls.specs.Record.{empty_call}
 use Rattle.calls.specs.Slots.{own_of, full}
-use Rattle.calls.specs.declared.OwnCall.{OwnCall}
-use Rattle.calls.specs.declared.OwnCall.TheVariants.{None as none, One as one}
 use Rattle.calls.specs.Judge.{Verdict, stop, goes, release_verdict, judge_release}
 use Rattle.calls.specs.Step as calls-step
 use Rattle.calls.specs.Counting.{no_rise, release_rise, figure_by, raised}
@@ -167,10 +164,10 @@ Begun closed = Unit {0}
 Begun (since m b h) = b ≡ no_elements
 
 module _ (T : Table) where
-  begun_opened : (f : Found) → Begun (opened f)
+  begun_opened : (f : Option ℕ) → Begun (opened f)
   unfolding Begun
-  begun_opened Missing = tt
-  begun_opened (At m) = refl
+  begun_opened None = tt
+  begun_opened (Some m) = refl
 
   begun-continued : (kind : ℕ) (past : Past) → Begun past → Begun (continued T kind past)
   unfolding Begun
@@ -197,15 +194,15 @@ module _ (T : Table) where
       cond-case Begun (eqb (calls.identifier e.event) id) (after T e (past_of T id closed es)) (past_of T id closed es)
       (λ _. begun-after e (past_of T id closed es) (begun-past id es)) (λ _. begun-past id es)
 
-counts-since : (past : Past) (own : OwnCall) → Begun past → Reflects past own → (c : Call) → own ≡ one c → CountedSince c past
+counts-since : (past : Past) (own : Option Call) → Begun past → Reflects past own → (c : Call) → own ≡ Some c → CountedSince c past
 unfolding Begun
 counts-since closed own w r c e = no_call r e
   where
-    no_call : {x : OwnCall} → Reflects closed x → x ≡ one c → CountedSince c closed
+    no_call : {x : Option Call} → Reflects closed x → x ≡ Some c → CountedSince c closed
     no_call nothing e = differ cc
 counts-since (since m b h) own w r c e = with_call r e
   where
-    with_call : {x : OwnCall} → Reflects (since m b h) x → x ≡ one c → CountedSince c (since m b h)
+    with_call : {x : Option Call} → Reflects (since m b h) x → x ≡ Some c → CountedSince c (since m b h)
     with_call (call _ _ _ x k) e =
         let same : x ≡ c = cc in
         let input : c.input_elements ≡ times 2 h = ap (λ (y : Call). y.input_elements) (sym same) ∙ k.input_elements_of ∙ ap (λ (y : Elements). y.inputs + times 2 h) w ∙ omega arith in
@@ -214,7 +211,7 @@ counts-since (since m b h) own w r c e = with_call r e
 
 -- After any history from a fresh start, the counts of an open call are the elements accepted each way since its INVOKE.
 pub elements-counted : (s : List ℕ) → IsGood s → (es : List Event) (id : ℕ) (c : Call) → let start = fresh_state (table_of s) in
-    own_of id (state_from s start es).calls ≡ one c → CountedSince c (past_of (table_of s) id closed (heard_from s start es))
+    own_of id (state_from s start es).calls ≡ Some c → CountedSince c (past_of (table_of s) id closed (heard_from s start es))
 elements-counted s g es id c e =
     let T = table_of s in
     let start = fresh_state T in
@@ -242,18 +239,18 @@ other-rows s side bytes sheet ts l m other =
         rw (rise-by (table_of s) f l)
         (⊎_elim
         (λ e. idle m _ n (row_for ts m) e)
-        (λ e. passed m _ n (row_for ts m) (λ q. other (record { frame = f; front = w; is_method = e ∙ ap At q })))
+        (λ e. passed m _ n (row_for ts m) (λ q. other (record { frame = f; front = w; is_method = e ∙ ap Some q })))
         (rise-method (table_of s) f (own_of f.correlation l) (full l)))
 
 -- nothing rises by a release, or in the row of its call's method
-release-method : (own : OwnCall) → let r = verdict_release_rise own (release_verdict own) in (r ≡ no_rise) ⊎ ((c : Call) × (own ≡ one c) × (r.row ≡ c.method))
-release-method none = inl refl
-release-method (one c) =
-    cond-case (λ (v : Verdict). let r = verdict_release_rise (one c) v in (r ≡ no_rise) ⊎ ((x : Call) × (one c ≡ one x) × (r.row ≡ x.method)))
+release-method : (own : Option Call) → let r = verdict_release_rise own (release_verdict own) in (r ≡ no_rise) ⊎ ((c : Call) × (own ≡ Some c) × (r.row ≡ c.method))
+release-method None = inl refl
+release-method (Some c) =
+    cond-case (λ (v : Verdict). let r = verdict_release_rise (Some c) v in (r ≡ no_rise) ⊎ ((x : Call) × (Some c ≡ Some x) × (r.row ≡ x.method)))
     c.cancelled (goes empty_call Unread) (stop 14) (λ _. inr (c, refl, refl)) (λ _. inl refl)
 
 -- So does a release.
-pub release-other-rows : (s : List ℕ) (l : List Call) (id : ℕ) (ts : List Tally) (m : ℕ) → ((c : Call) → own_of id l ≡ one c → c.method ≡ m → ⊥)
+pub release-other-rows : (s : List ℕ) (l : List Call) (id : ℕ) (ts : List Tally) (m : ℕ) → ((c : Call) → own_of id l ≡ Some c → c.method ≡ m → ⊥)
     → row_for (released s l id ts).tallies m ≡ row_for ts m
 release-other-rows s l id ts m other =
     release-holds-row s l id ts m (λ _ _ t. t ≡ row_for ts m) (λ n q e. refl) (λ w n k. kept (release-number n))

@@ -9,8 +9,8 @@ use lib.Dec.{eqb, lit≤}
 use lib.ListN.{length, take, drop, get_or, set}
 use borrow.Author.Tests.{eqb-true, eqb-false, eq-eqb, ne_eqb}
 use Rattle.wire.proofs.Cases.{cond-case}
-use Rattle.schema.specs.declared.Checked.{Checked}
-use Rattle.schema.specs.declared.Checked.TheVariants.{Good, Refused as Faulty}
+use Rattle.schema.specs.Checked.{Checked}
+use Rattle.schema.specs.Checked.{Good, Refused as Faulty}
 use Rattle.schema.specs.Table.{Table}
 use Rattle.schema.specs.File.{table_of}
 use Rattle.schema.specs.Check.{checked}

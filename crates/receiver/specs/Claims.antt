@@ -1,6 +1,5 @@
 -- What the theorems about a whole frame speak of.
-use Rattle.std.specs.Prelude.{◌≡◌, true, List, ◌⊎◌, ℕ, ◌≤◌, length, take, drop, get_or}
-use Rattle.schema.specs.declared.Found.TheVariants.{At}
+use Rattle.std.specs.Prelude.{◌≡◌, true, List, ◌⊎◌, ℕ, ◌≤◌, length, take, drop, get_or, Option, Some}
 use Rattle.schema.specs.Table.{Table}
 use Rattle.schema.specs.File.{table_of}
 use Rattle.schema.specs.Check.{IsGood}
@@ -18,8 +17,6 @@ use Rattle.calls.specs.Figures.{Full}
 use Rattle.calls.specs.Record.{at_limit}
 use Rattle.calls.specs.Apart.{call_method}
 use Rattle.calls.specs.Slots.{good_table, own_of, full}
-use Rattle.calls.specs.declared.OwnCall.{OwnCall}
-use Rattle.calls.specs.declared.OwnCall.TheVariants.{One as one}
 use Rattle.calls.specs.Good.{GoodCalls}
 use Rattle.calls.specs.Order.{times, no_elements, Past, since}
 use Rattle.value.specs.declared.Row.{Row}
@@ -115,8 +112,8 @@ row_for ts m = get_or ts m no_tally
 
 -- The numbers that keep a whole frame under good tables, so that it can come again: its own call is at the element limit, a lent tally is full, or the
 -- sheet has too few rows.
-pub data Keeps (kind : ℕ) (own : OwnCall) (ts : List Tally) : (number : ℕ) → Type 0 where
-  limit : (c : Call) → own ≡ one c → at_limit kind c ≡ true → Keeps kind own ts 17
+pub data Keeps (kind : ℕ) (own : Option Call) (ts : List Tally) : (number : ℕ) → Type 0 where
+  limit : (c : Call) → own ≡ Some c → at_limit kind c ≡ true → Keeps kind own ts 17
   tally : (m : ℕ) (x : Figure) → Full (row_for ts m) x → Keeps kind own ts 18
   few_rows : Keeps kind own ts 30
 
@@ -138,7 +135,7 @@ pub record KeptWhole (sheet : List ℕ) (ts : List Tally) (l : List Call) (a : E
 pub record About (T : Table) (side : ℕ) (bytes : List ℕ) (l : List Call) (m : ℕ) : Type 0 where
   pub frame : Frame
   pub front : Front side bytes frame
-  pub is_method : call_method T frame (own_of frame.correlation l) ≡ At m
+  pub is_method : call_method T frame (own_of frame.correlation l) ≡ Some m
 
 -- Two answers that are the same but for the calls: equal replies, and sheets that show the same rows.
 pub record SameAnswer (sheet₁ sheet₂ : List ℕ) (a₁ a₂ : Effect) : Type 0 where

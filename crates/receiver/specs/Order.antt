@@ -1,6 +1,5 @@
 -- The answer to a frame and to a release by the rules: by the past of its call, by what belongs in its payload, and by the tally row of its method.
-use Rattle.std.specs.Prelude.{◌≡◌, Bool, List, [], ℕ, length}
-use Rattle.schema.specs.declared.Found.TheVariants.{At}
+use Rattle.std.specs.Prelude.{◌≡◌, Bool, List, [], ℕ, length, Some}
 use Rattle.schema.specs.Table.{Table}
 use Rattle.schema.specs.File.{table_of}
 use Rattle.calls.specs.declared.Call.{Call}
@@ -42,12 +41,12 @@ pub data Answered (schema payload sheet : List ℕ) : Ruling → Said → Type 0
 
 -- The figure that the frame raises for the call's method, by its past and where this number is answered, is not full.
 abbrev pub HasRoom : Table → Frame → Past → List Tally → (number : ℕ) → Type 0
-HasRoom T f past ts n = (m : ℕ) → method_in T (frame f) past ≡ At m → Full (row_for ts m) (event_as T (frame f) n past) → ⊥
+HasRoom T f past ts n = (m : ℕ) → method_in T (frame f) past ≡ Some m → Full (row_for ts m) (event_as T (frame f) n past) → ⊥
 
 -- The tally rows, last: where the figure that this answer would raise for the call's method, by its past, is full, 18 stands in its place and nothing is
 -- written.
 pub data Counted (T : Table) (f : Frame) (past : Past) (ts : List Tally) (sheet : List ℕ) (x : Said) : Said → Type 0 where
-  full_tally : (m : ℕ) → method_in T (frame f) past ≡ At m → Full (row_for ts m) (event_as T (frame f) x.numbers.number past)
+  full_tally : (m : ℕ) → method_in T (frame f) past ≡ Some m → Full (row_for ts m) (event_as T (frame f) x.numbers.number past)
       → Counted T f past ts sheet x (said_by (outcome (Refused 18 0) sheet))
   rises : HasRoom T f past ts x.numbers.number → Counted T f past ts sheet x x
 

@@ -11,9 +11,9 @@ use calls::{Frame, OwnSlot};
 use connection::CallTable;
 use connection::judge::{judge_frame, judge_release};
 use connection::tallies::{release_rise, rise_of};
+use constants::refusal::Refused;
 use constants::{frame_kind, refusal};
 use frame::{FrameRead, Header, read_frame};
-use schema::Checked;
 use table::access::method_count;
 use table::checking::check;
 
@@ -160,8 +160,8 @@ pub fn plan(table: CallTable, schema: &[u8], side: u8, bytes: &[u8], rows: usize
     ensures { (result ≡ plan_of schema.now side bytes.now rows table.slots) × Fitted schema.now bytes.now result.next }
 {
     match check(schema) {
-        Checked::Refused { number, place } => stop(number, place),
-        Checked::Good => plan_good(table, schema, side, bytes, read_frame(bytes), rows),
+        Err(Refused { place, refusal }) => stop(refusal as u32, place),
+        Ok(()) => plan_good(table, schema, side, bytes, read_frame(bytes), rows),
     }
 }
 
@@ -170,8 +170,8 @@ pub fn plan_release(table: CallTable, schema: &[u8], correlation: u64, rows: usi
     ensures { result ≡ release_plan schema.now table.slots correlation rows }
 {
     match check(schema) {
-        Checked::Refused { number, place } => stop(number, place),
-        Checked::Good => {
+        Err(Refused { place, refusal }) => stop(refusal as u32, place),
+        Ok(()) => {
             let fault = tables_fault(table.is_good(schema), schema, rows);
             if fault != refusal::ACCEPTED {
                 return stop(fault, 0);

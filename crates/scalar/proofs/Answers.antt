@@ -12,7 +12,7 @@ use Rattle.buffer.specs.Span.{span, inside}
 use Rattle.wire.specs.Little.{little}
 use Rattle.utf8.specs.Utf8.{utf8}
 use Rattle.schema.specs.Table.{Table, Shape, unknown, scalar, text, array, map, struct, row_at, shape, width}
-use Rattle.schema.specs.declared.Checked.TheVariants as check
+use Rattle.schema.specs.Checked as check
 use Rattle.schema.specs.File.{table_of}
 use Rattle.schema.specs.Check.{checked, IsGood}
 use Rattle.schema.specs.Good.{GoodSchema}

@@ -13,8 +13,8 @@ use Rattle.wire.specs.Little.{little}
 use Rattle.utf8.specs.Utf8.{utf8}
 use Rattle.utf8.proofs.Utf8s.{utf8-is}
 use Rattle.parse.specs.Test.{test}
-use Rattle.schema.specs.declared.Checked.{Checked}
-use Rattle.schema.specs.declared.Checked.TheVariants as check
+use Rattle.schema.specs.Checked.{Checked}
+use Rattle.schema.specs.Checked as check
 use Rattle.schema.specs.Table.{Shape, unknown, scalar, text, array, map, struct, shape, width}
 use Rattle.schema.specs.File.{table_of}
 use Rattle.schema.specs.Check.{checked, IsGood}

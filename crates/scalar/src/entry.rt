@@ -8,8 +8,8 @@ ghost use Rattle.scalar.specs.Scalar.{text_at, scalar_of, scalar_by, scalar_at};
 
 use crate::number::value;
 use crate::{Answer, Scalar};
+use constants::refusal::Refused;
 use constants::{kind, refusal};
-use schema::Checked;
 use table::access::type_row;
 use table::checking::check;
 use table::kind::width_of;
@@ -96,7 +96,10 @@ pub fn scalar(schema: &[u8], row: Row, bytes: &[u8]) -> Answer
     ensures { result ≡ scalar_by schema.now row bytes.now }
 {
     match check(schema) {
-        Checked::Refused { number, place } => Answer::Refused { number, place },
-        Checked::Good => scalar_of(schema, row, bytes),
+        Err(Refused { place, refusal }) => Answer::Refused {
+            number: refusal as u32,
+            place,
+        },
+        Ok(()) => scalar_of(schema, row, bytes),
     }
 }

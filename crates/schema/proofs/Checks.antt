@@ -1,14 +1,13 @@
 -- What a good file's check has shown, and the verdict from what was found.
+use Rattle.std.specs.Prelude.{None, Option, Some}
 use mathlib.Core.Path.{◌≡◌, refl, sym}
 use mathlib.Core.Bool.{Bool, true, false, cond}
 use mathlib.Core.List.{List}
 use Prim.Native.Nat.{ℕ}
 use Rattle.wire.proofs.Cases.{chosen, differ}
 use Rattle.schema.specs.declared.Layout.{Layout}
-use Rattle.schema.specs.declared.Found.{Found}
-use Rattle.schema.specs.declared.Found.TheVariants.{At, Missing}
-use Rattle.schema.specs.declared.Checked.{Checked}
-use Rattle.schema.specs.declared.Checked.TheVariants.{Good, Refused}
+use Rattle.schema.specs.Checked.{Checked}
+use Rattle.schema.specs.Checked.{Good, Refused}
 use Rattle.schema.specs.Table.{Table}
 use Rattle.schema.specs.File.{shaped, layout_of, table_of, Laid}
 use Rattle.schema.specs.Check.{small, fault, bad_row, bad_field, bad_method, checked, checked_table, IsGood}
@@ -20,9 +19,9 @@ no-fault n i e = differ cc
 cond-good : (b : Bool) (x : Checked) (n : ℕ) → cond b x (Refused n 0) ≡ Good → (b ≡ true) × (x ≡ Good)
 cond-good b x n e = chosen b x (Refused n 0) (no-fault n 0) e
 
-fault-good : (n : ℕ) (f : Found) (next : Checked) → fault n f next ≡ Good → (f ≡ Missing) × (next ≡ Good)
-fault-good n (At i) next e = absurd (no-fault n i e)
-fault-good n Missing next e = (refl, e)
+fault-good : (n : ℕ) (f : Option ℕ) (next : Checked) → fault n f next ≡ Good → (f ≡ None) × (next ≡ Good)
+fault-good n (Some i) next e = absurd (no-fault n i e)
+fault-good n None next e = (refl, e)
 
 module _ (s : List ℕ) where
   pub good-shaped : IsGood s → shaped s ≡ true
@@ -39,9 +38,9 @@ module _ (s : List ℕ) where
 -- what the check of a good table has found
 pub record Faultless (T : Table) : Type 0 where
   pub few : small T ≡ true
-  pub rows : bad_row T ≡ Missing
-  pub fields : bad_field T ≡ Missing
-  pub methods : bad_method T ≡ Missing
+  pub rows : bad_row T ≡ None
+  pub fields : bad_field T ≡ None
+  pub methods : bad_method T ≡ None
 
 pub faultless : (T : Table) → checked_table T ≡ Good → Faultless T
 unfolding checked_table
@@ -60,21 +59,21 @@ module _ (T : Table) where
   too_many e = sym (rw e)
 
   module _ (few : small T ≡ true) where
-    pub row-fault : (i : ℕ) → bad_row T ≡ At i → Refused 42 i ≡ checked_table T
+    pub row-fault : (i : ℕ) → bad_row T ≡ Some i → Refused 42 i ≡ checked_table T
     unfolding checked_table
     row-fault i r = sym (rw (few, r))
 
-    module _ (r : bad_row T ≡ Missing) where
-      pub field-fault : (i : ℕ) → bad_field T ≡ At i → Refused 43 i ≡ checked_table T
+    module _ (r : bad_row T ≡ None) where
+      pub field-fault : (i : ℕ) → bad_field T ≡ Some i → Refused 43 i ≡ checked_table T
       unfolding checked_table
       field-fault i f = sym (rw (few, r, f))
 
-      module _ (f : bad_field T ≡ Missing) where
-        pub method-fault : (i : ℕ) → bad_method T ≡ At i → Refused 44 i ≡ checked_table T
+      module _ (f : bad_field T ≡ None) where
+        pub method-fault : (i : ℕ) → bad_method T ≡ Some i → Refused 44 i ≡ checked_table T
         unfolding checked_table
         method-fault i m = sym (rw (few, r, f, m))
 
-        pub no-faults : bad_method T ≡ Missing → Good ≡ checked_table T
+        pub no-faults : bad_method T ≡ None → Good ≡ checked_table T
         unfolding checked_table
         no-faults m = sym (rw (few, r, f, m))
 

@@ -4,8 +4,8 @@ use mathlib.Core.List.{List, [], ◌∷◌, ◌++◌, map}
 use Prim.Native.Nat.{ℕ, zero, suc, ◌+◌, ◌*◌}
 use lib.ListN.{take, drop, set, replicate}
 use Rattle.wire.specs.Little.{little}
-use Rattle.schema.specs.declared.Checked.TheVariants.{Good, Refused}
-use Rattle.schema.specs.declared.Extended.TheVariants.{Yes, No}
+use Rattle.schema.specs.Checked.{Good, Refused}
+use Rattle.schema.specs.Extended.{Yes, No}
 use Rattle.schema.specs.Table.{Table}
 use Rattle.schema.specs.File.{cell, shaped, layout_of, tabulate, empty_table, table_of}
 use Rattle.schema.specs.Check.{lowest, good_row, good_field, find_among, good_method, small, bad_row, bad_field, bad_method, checked_table, checked}

@@ -1,4 +1,5 @@
 -- The test of extension decides the relation, for good tables; and what a table that extends another gives for each of its type numbers.
+use Rattle.std.specs.Prelude.{None, Option, Some}
 use mathlib.Core.Path.{◌≡◌, refl, sym, ap, ◌∙◌}
 use mathlib.Core.Logic.{⊎_elim, ◌↔◌}
 use mathlib.Core.Bool.{Bool, true, false, cond, ◌&&◌}
@@ -13,9 +14,7 @@ use Rattle.wire.proofs.Cases.{differ}
 use Rattle.schema.specs.declared.TypeRow.{TypeRow}
 use Rattle.schema.specs.declared.Field.{Field}
 use Rattle.schema.specs.declared.Method.{Method}
-use Rattle.schema.specs.declared.Found.{Found}
-use Rattle.schema.specs.declared.Found.TheVariants.{At, Missing}
-use Rattle.schema.specs.declared.Extended.TheVariants.{Yes, No}
+use Rattle.schema.specs.Extended.{Yes, No}
 use Rattle.schema.specs.Table.{Table, scalar, text, array, map, struct, row_at, fields_of, shape, bitmap_bytes}
 use Rattle.schema.specs.File.{table_of}
 use Rattle.schema.specs.Check.{no_field, method_row, find_method, IsGood}
@@ -203,14 +202,14 @@ module _ (old new : Table) (g : GoodSchema old) (g' : GoodSchema new) where
   unfolding method_kept
   kept-method m = go _ refl
     where
-      go : (f : Found) → find_method new m.«package» m.service m.method ≡ f → same_at new m f ≡ true → (j : ℕ) × (j < length new.methods) × (method_row new j ≡ m)
-      go (At j) e s = (j, (found-named new _ _ _ j e).0, same-method (method_row new j) m s)
-      go Missing e s = clash false s refl
+      go : (f : Option ℕ) → find_method new m.«package» m.service m.method ≡ f → same_at new m f ≡ true → (j : ℕ) × (j < length new.methods) × (method_row new j ≡ m)
+      go (Some j) e s = (j, (found-named new _ _ _ j e).0, same-method (method_row new j) m s)
+      go None e s = clash false s refl
 
   method-kept : (m : Method) (j : ℕ) → j < length new.methods → method_row new j ≡ m → method_kept new m ≡ true
   unfolding method_kept
   method-kept m j h e =
-      let found : find_method new m.«package» m.service m.method ≡ At j =
+      let found : find_method new m.«package» m.service m.method ≡ Some j =
       sym (ap (λ (x : Method). find_method new x.«package» x.service x.method) e) ∙ finds-own new g' j h in
       ap (same_at new m) found ∙ ap (λ (x : Method). same_method x m) e ∙ method-same m
 
@@ -319,7 +318,7 @@ module _ (old new : Table) (g : GoodSchema old) (g' : GoodSchema new) (x : Widen
           (gains (fields_of old (row_at old t)) f.gained f.optional)
 
   -- a method found in the old table is found in the new one, the same
-  pub still-found : (p q r i : ℕ) → find_method old p q r ≡ At i → (j : ℕ) × (find_method new p q r ≡ At j) × (method_row new j ≡ method_row old i)
+  pub still-found : (p q r i : ℕ) → find_method old p q r ≡ Some i → (j : ℕ) × (find_method new p q r ≡ Some j) × (method_row new j ≡ method_row old i)
   still-found p q r i e =
       let f = found-named old p q r i e in
       let w = x.methods i f.0 in

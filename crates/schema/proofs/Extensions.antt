@@ -7,8 +7,8 @@ use lib.Dec.{eqb}
 use borrow.Author.Tests.{lt-ltb, le-ltb}
 use Rattle.schema.specs.declared.TypeRow.{TypeRow}
 use Rattle.schema.specs.declared.Field.{Field}
-use Rattle.schema.specs.declared.Checked.TheVariants.{Good, Refused as Faulty}
-use Rattle.schema.specs.declared.Extended.TheVariants.{Yes, No, Refused}
+use Rattle.schema.specs.Checked.{Good, Refused as Faulty}
+use Rattle.schema.specs.Extended.{Yes, No, Refused}
 use Rattle.schema.specs.Table.{Table}
 use Rattle.schema.specs.File.{table_of}
 use Rattle.schema.specs.Check.{field_row_of, checked}

@@ -1,4 +1,5 @@
 -- A schema file is refused exactly for what is wrong with it, where all that comes before is good.
+use Rattle.std.specs.Prelude.{None, Option, Some}
 use mathlib.Core.Path.{◌≡◌, refl, sym, subst, ◌∙◌}
 use mathlib.Core.Logic.{⊎_elim, ◌↔◌}
 use mathlib.Core.Bool.{Bool, false, ◌&&◌}
@@ -9,10 +10,8 @@ use lib.ListN.{length}
 use lib.Dec.{leb, eqb}
 use borrow.Author.Tests.{leb-true, leb-false, eqb-false}
 use Rattle.wire.proofs.Cases.{cond-case}
-use Rattle.schema.specs.declared.Found.{Found}
-use Rattle.schema.specs.declared.Found.TheVariants.{At, Missing}
-use Rattle.schema.specs.declared.Checked.{Checked}
-use Rattle.schema.specs.declared.Checked.TheVariants.{Good, Refused}
+use Rattle.schema.specs.Checked.{Checked}
+use Rattle.schema.specs.Checked.{Good, Refused}
 use Rattle.schema.specs.Table.{Table}
 use Rattle.schema.specs.File.{cell, trailer_at, fields_at_of, methods_at_of, shaped, table_of}
 use Rattle.schema.specs.Check.{good_row, good_field, good_method, small, fault, bad_row, bad_field, bad_method, checked_table, checked}
@@ -92,15 +91,15 @@ module _ (T : Table) where
 
   -- ---- the first row at fault
 
-  row_first : (q : ℕ) → (bad_row T ≡ At q) ↔ First (RowOk T) (length T.types) q
+  row_first : (q : ℕ) → (bad_row T ≡ Some q) ↔ First (RowOk T) (length T.types) q
   unfolding bad_row
   row_first = first-fault (good_row T) (RowOk T) (row-iff T) (length T.types)
 
-  field-first : (q : ℕ) → (bad_field T ≡ At q) ↔ First (FieldOk T) (length T.fields) q
+  field-first : (q : ℕ) → (bad_field T ≡ Some q) ↔ First (FieldOk T) (length T.fields) q
   unfolding bad_field
   field-first = first-fault (good_field T) (FieldOk T) (field-iff T) (length T.fields)
 
-  method-first : (q : ℕ) → (bad_method T ≡ At q) ↔ First (MethodOk T) (length T.methods) q
+  method-first : (q : ℕ) → (bad_method T ≡ Some q) ↔ First (MethodOk T) (length T.methods) q
   unfolding bad_method
   method-first = first-fault (good_method T) (MethodOk T) (method-iff T) (length T.methods)
 
@@ -111,9 +110,9 @@ module _ (s : List ℕ) where
   Told Good = Unit {0}
   Told (Refused n q) = TableFault s n q
 
-  fault-told : (n : ℕ) (f : Found) (next : Checked) → ((i : ℕ) → f ≡ At i → TableFault s n i) → (f ≡ Missing → Told next) → Told (fault n f next)
-  fault-told n (At i) next h w = h i refl
-  fault-told n Missing next h w = w refl
+  fault-told : (n : ℕ) (f : Option ℕ) (next : Checked) → ((i : ℕ) → f ≡ Some i → TableFault s n i) → (f ≡ None → Told next) → Told (fault n f next)
+  fault-told n (Some i) next h w = h i refl
+  fault-told n None next h w = w refl
 
   table-told : HasShape s → Told (checked_table (table_of s))
   unfolding checked_table

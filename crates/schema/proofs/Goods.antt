@@ -1,4 +1,5 @@
 -- A file passes its check exactly where it is good: each test is the sentence that it tests.
+use Rattle.std.specs.Prelude.{None}
 use mathlib.Core.Path.{◌≡◌, refl, sym, ap, ◌∙◌}
 use mathlib.Core.Logic.{inl, inr, ⊎_elim, ◌↔◌}
 use mathlib.Core.Bool.{Bool, true, false, cond, ◌&&◌, ◌||◌}
@@ -11,8 +12,7 @@ use borrow.Author.Tests.{leb-true, ltb-true, eqb-true, leb-false, ltb-false, eqb
 use Rattle.schema.specs.declared.TypeRow.{TypeRow}
 use Rattle.schema.specs.declared.Field.{Field}
 use Rattle.schema.specs.declared.Method.{Method}
-use Rattle.schema.specs.declared.Found.TheVariants.{Missing}
-use Rattle.schema.specs.declared.Checked.TheVariants.{Good}
+use Rattle.schema.specs.Checked.{Good}
 use Rattle.schema.specs.Table.{Table, row_at}
 use Rattle.schema.specs.File.{cell, trailer_at, fields_at_of, methods_at_of, shaped, table_of}
 use Rattle.schema.specs.Check.{no_row, key_kind, plain_row, array_row, map_row, struct_row, good_row, field_row_of, good_field, method_row, letter_fits}
@@ -289,15 +289,15 @@ module _ (T : Table) where
 
   -- ---- the sections
 
-  pub rows-iff : (bad_row T ≡ Missing) ↔ RowsOk T
+  pub rows-iff : (bad_row T ≡ None) ↔ RowsOk T
   unfolding bad_row
   rows-iff = all-good (good_row T) (RowOk T) row-iff (length T.types)
 
-  pub fields-iff : (bad_field T ≡ Missing) ↔ FieldsOk T
+  pub fields-iff : (bad_field T ≡ None) ↔ FieldsOk T
   unfolding bad_field
   fields-iff = all-good (good_field T) (FieldOk T) field-iff (length T.fields)
 
-  pub methods-iff : (bad_method T ≡ Missing) ↔ ((i : ℕ) → i < length T.methods → MethodOk T i)
+  pub methods-iff : (bad_method T ≡ None) ↔ ((i : ℕ) → i < length T.methods → MethodOk T i)
   unfolding bad_method
   methods-iff = all-good (good_method T) (MethodOk T) method-iff (length T.methods)
 

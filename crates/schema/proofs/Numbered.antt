@@ -3,7 +3,7 @@ use mathlib.Core.Path.{◌≡◌}
 use mathlib.Core.List.{List}
 use Prim.Native.Nat.{ℕ, ◌≤◌, ◌<◌}
 use native.Mathlib.Omega.{arith}
-use Rattle.schema.specs.declared.Checked.TheVariants.{Refused}
+use Rattle.schema.specs.Checked.{Refused}
 use Rattle.schema.specs.Table.{Table}
 use Rattle.schema.specs.File.{table_of}
 use Rattle.schema.specs.Check.{checked}

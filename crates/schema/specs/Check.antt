@@ -1,19 +1,17 @@
 -- The judgement of a schema table: of each type row, field and method, and of the whole file with its first fault.
-use Rattle.std.specs.Prelude.{◌≡◌, Bool, true, false, cond, not, ◌&&◌, ◌||◌, List, ℕ, zero, suc, ◌+◌, ◌/◌, ◌%◌, length, get_or, leb, ltb, eqb}
+use Rattle.std.specs.Prelude.{◌≡◌, Bool, true, false, cond, not, ◌&&◌, ◌||◌, List, ℕ, zero, suc, ◌+◌, ◌/◌, ◌%◌, length, get_or, leb, ltb, eqb, None, Option, Some}
 use Rattle.schema.specs.declared.TypeRow.{TypeRow}
 use Rattle.schema.specs.declared.Field.{Field}
 use Rattle.schema.specs.declared.Method.{Method}
-use Rattle.schema.specs.declared.Found.{Found}
-use Rattle.schema.specs.declared.Found.TheVariants.{At, Missing}
-use Rattle.schema.specs.declared.Checked.{Checked}
-use Rattle.schema.specs.declared.Checked.TheVariants.{Good, Refused}
+use Rattle.schema.specs.Checked.{Checked}
+use Rattle.schema.specs.Checked.{Good, Refused}
 use Rattle.schema.specs.Table.{Table, row_at}
 use Rattle.schema.specs.File.{shaped, table_of}
 
 -- The lowest number, of n counted from i, that passes the test.
-unfoldable pub lowest : (ℕ → Bool) → ℕ → ℕ → Found
-lowest p i zero = Missing
-lowest p i (suc n) = cond (p i) (At i) (lowest p (suc i) n)
+unfoldable pub lowest : (ℕ → Bool) → ℕ → ℕ → Option ℕ
+lowest p i zero = None
+lowest p i (suc n) = cond (p i) (Some i) (lowest p (suc i) n)
 
 -- ---- a type row
 
@@ -96,12 +94,12 @@ abbrev pub named : («package» service method : ℕ) → Method → Bool
 named p s n m = eqb m.«package» p && (eqb m.service s && eqb m.method n)
 
 -- The first of the first n entries with these three identifiers.
-unfoldable pub find_among : Table → ℕ → («package» service method : ℕ) → Found
+unfoldable pub find_among : Table → ℕ → («package» service method : ℕ) → Option ℕ
 find_among T n p s m = lowest (λ i. named p s m (method_row T i)) 0 n
 
-abbrev pub is_missing : Found → Bool
-is_missing (At i) = false
-is_missing Missing = true
+abbrev pub is_missing : Option ℕ → Bool
+is_missing (Some i) = false
+is_missing None = true
 
 -- No two entries share all three identifiers; the later is at fault.
 unfoldable pub good_method : Table → ℕ → Bool
@@ -110,7 +108,7 @@ good_method T i =
     is_missing (find_among T i (method_row T i).«package» (method_row T i).service (method_row T i).method)
 
 -- The first entry of the table with these three identifiers.
-abbrev pub find_method : Table → («package» service method : ℕ) → Found
+abbrev pub find_method : Table → («package» service method : ℕ) → Option ℕ
 find_method T p s m = find_among T (length T.methods) p s m
 
 -- ---- the whole file
@@ -120,9 +118,9 @@ unfoldable pub small : Table → Bool
 small T = leb (length T.types) 256 && (leb (length T.fields) 2048 && leb (length T.methods) 256)
 
 -- The fault found, or else what comes after.
-abbrev pub fault : ℕ → Found → Checked → Checked
-fault number (At i) next = Refused number i
-fault number Missing next = next
+abbrev pub fault : ℕ → Option ℕ → Checked → Checked
+fault number (Some i) next = Refused number i
+fault number None next = next
 
 -- Entry i of a section is good: section 0 has the types, 1 the fields, 2 the methods.
 unfoldable pub good_entry : Table → (section i : ℕ) → Bool
@@ -131,17 +129,17 @@ good_entry T (suc zero) i = good_field T i
 good_entry T (suc (suc n)) i = good_method T i
 
 -- The lowest of the first n entries of a section at fault.
-unfoldable pub bad_entry : Table → (section n : ℕ) → Found
+unfoldable pub bad_entry : Table → (section n : ℕ) → Option ℕ
 bad_entry T section n = lowest (λ i. not (good_entry T section i)) 0 n
 
 -- The lowest type row, field and method at fault.
-unfoldable pub bad_row : Table → Found
+unfoldable pub bad_row : Table → Option ℕ
 bad_row T = lowest (λ i. not (good_row T i)) 0 (length T.types)
 
-unfoldable pub bad_field : Table → Found
+unfoldable pub bad_field : Table → Option ℕ
 bad_field T = lowest (λ i. not (good_field T i)) 0 (length T.fields)
 
-unfoldable pub bad_method : Table → Found
+unfoldable pub bad_method : Table → Option ℕ
 bad_method T = lowest (λ i. not (good_method T i)) 0 (length T.methods)
 
 -- The first test that fails: too many rows (41), a type row (42), a field (43), a method (44).

@@ -1,14 +1,12 @@
 -- When a table extends another: the relation as its sentence is written, the test that decides it for good tables, and the entry's answer.
-use Rattle.std.specs.Prelude.{◌≡◌, Bool, false, cond, not, ◌&&◌, ◌||◌, List, ◌++◌, ℕ, ◌+◌, ◌≤◌, ◌<◌, length, get_or, leb, ltb, eqb}
+use Rattle.std.specs.Prelude.{◌≡◌, Bool, false, cond, not, ◌&&◌, ◌||◌, List, ◌++◌, ℕ, ◌+◌, ◌≤◌, ◌<◌, length, get_or, leb, ltb, eqb, None, Option, Some}
 use Rattle.schema.specs.declared.TypeRow.{TypeRow}
 use Rattle.schema.specs.declared.Field.{Field}
 use Rattle.schema.specs.declared.Method.{Method}
-use Rattle.schema.specs.declared.Found.{Found}
-use Rattle.schema.specs.declared.Found.TheVariants.{At, Missing}
-use Rattle.schema.specs.declared.Checked.{Checked}
-use Rattle.schema.specs.declared.Checked.TheVariants.{Good, Refused as Faulty}
-use Rattle.schema.specs.declared.Extended.{Extended}
-use Rattle.schema.specs.declared.Extended.TheVariants.{Yes, No, Refused}
+use Rattle.schema.specs.Checked.{Checked}
+use Rattle.schema.specs.Checked.{Good, Refused as Faulty}
+use Rattle.schema.specs.Extended.{Extended}
+use Rattle.schema.specs.Extended.{Yes, No, Refused}
 use Rattle.schema.specs.Table.{Table, Shape, struct, row_at, fields_of, bitmap_bytes}
 use Rattle.schema.specs.File.{table_of}
 use Rattle.schema.specs.Check.{no_field, field_row_of, method_row, lowest, is_missing, find_method, checked}
@@ -80,9 +78,9 @@ same_method m n =
     (eqb m.input_stream n.input_stream && eqb m.output_stream n.output_stream))
 
 -- The entry that has the method's identifiers is the method.
-abbrev pub same_at : Table → Method → Found → Bool
-same_at new m (At j) = same_method (method_row new j) m
-same_at new m Missing = false
+abbrev pub same_at : Table → Method → Option ℕ → Bool
+same_at new m (Some j) = same_method (method_row new j) m
+same_at new m None = false
 
 unfoldable pub method_kept : Table → Method → Bool
 method_kept new m = same_at new m (find_method new m.«package» m.service m.method)

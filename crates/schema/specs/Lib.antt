@@ -9,3 +9,5 @@ pub mod Encoded
 pub mod Widths
 pub mod Numbers
 pub mod Extend
+pub mod Checked
+pub mod Extended

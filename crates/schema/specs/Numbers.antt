@@ -1,9 +1,9 @@
 -- The numbers that come back for each case of the answers of the table check and of the extension test.
 use Rattle.std.specs.Prelude.{ℕ}
-use Rattle.schema.specs.declared.Checked.{Checked}
-use Rattle.schema.specs.declared.Checked.TheVariants.{Good, Refused}
-use Rattle.schema.specs.declared.Extended.{Extended}
-use Rattle.schema.specs.declared.Extended.TheVariants.{Yes, No, Refused as Faulty}
+use Rattle.schema.specs.Checked.{Checked}
+use Rattle.schema.specs.Checked.{Good, Refused}
+use Rattle.schema.specs.Extended.{Extended}
+use Rattle.schema.specs.Extended.{Yes, No, Refused as Faulty}
 
 -- ---- the table check
 

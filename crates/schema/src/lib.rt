@@ -39,25 +39,3 @@ pub struct Layout {
     pub fields_at: usize,
     pub methods_at: usize,
 }
-
-// The number of an entry, or none.
-#[derive(Clone, Copy)]
-pub enum Found {
-    At(usize),
-    Missing,
-}
-
-// The verdict on a file: good, or the refusal's number and place.
-#[derive(Clone, Copy)]
-pub enum Checked {
-    Good,
-    Refused { number: u32, place: usize },
-}
-
-// Whether one table extends another: yes, no, or the refusal of the first that is not good, the old one first.
-#[derive(Clone, Copy)]
-pub enum Extended {
-    Yes,
-    No,
-    Refused { number: u32, place: usize },
-}

@@ -1,10 +1,9 @@
 -- The tests of the check as code makes them, where the layout is at hand.
-use Rattle.std.proofs.Common.{◌≡◌, ℕ, zero, suc, not, ◌&&◌, ◌||◌, eqb, ltb, leb, List, sym, refl, ap, ◌∙◌, eq-eqb, ne_eqb}
+use Rattle.std.proofs.Common.{◌≡◌, ℕ, zero, suc, not, ◌&&◌, ◌||◌, eqb, ltb, leb, List, sym, refl, ap, ◌∙◌, eq-eqb, ne_eqb, Option}
 use Rattle.schema.specs.declared.TypeRow.{TypeRow}
 use Rattle.schema.specs.declared.Field.{Field}
 use Rattle.schema.specs.declared.Method.{Method}
 use Rattle.schema.specs.declared.Layout.{Layout}
-use Rattle.schema.specs.declared.Found.{Found}
 use Rattle.schema.specs.Table.{Table, row_at}
 use Rattle.schema.specs.File.{table_of, Laid}
 use Rattle.schema.specs.Check.{lowest, plain_row, array_row, map_row, struct_row, good_row, field_row_of, good_field, method_row, letter_fits, formed, find_among, is_missing}
@@ -32,7 +31,7 @@ module _ (T : Table) where
   pub letter-no : (bit t : ℕ) → (bit ≡ 1 → ⊥) → eqb t 4294967295 ≡ letter_fits T bit t
   letter-no bit t e = sym (rw (ne_eqb bit 1 e))
 
-  pub method-judged : (i : ℕ) (m : Method) (f : Found) → m ≡ method_row T i → f ≡ find_among T i m.«package» m.service m.method
+  pub method-judged : (i : ℕ) (m : Method) (f : Option ℕ) → m ≡ method_row T i → f ≡ find_among T i m.«package» m.service m.method
       → (formed T m && is_missing f) ≡ good_method T i
   unfolding good_method
   method-judged i m f p q =
@@ -41,7 +40,7 @@ module _ (T : Table) where
       λ j. formed T (p j) && is_missing (found j)
 
 -- the lowest method at fault, of n counted from i
-abbrev pub first_bad : Table → ℕ → ℕ → Found
+abbrev pub first_bad : Table → ℕ → ℕ → Option ℕ
 first_bad T i n = lowest (λ j. not (good_method T j)) i n
 
 pub methods-whole : (s : List ℕ) (l : Layout) → Laid s l → first_bad (table_of s) 0 l.methods ≡ bad_method (table_of s)

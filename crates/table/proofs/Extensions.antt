@@ -1,9 +1,7 @@
 -- The tests of extension as code makes them.
-use Rattle.std.proofs.Common.{◌≡◌, ℕ, false, ◌&&◌, eqb, sym, ap, ◌∙◌, eq-eqb, ne_eqb}
+use Rattle.std.proofs.Common.{◌≡◌, ℕ, false, ◌&&◌, eqb, sym, ap, ◌∙◌, eq-eqb, ne_eqb, None, Option, Some}
 use Rattle.schema.specs.declared.TypeRow.{TypeRow}
 use Rattle.schema.specs.declared.Method.{Method}
-use Rattle.schema.specs.declared.Found.{Found}
-use Rattle.schema.specs.declared.Found.TheVariants.{At, Missing}
 use Rattle.schema.specs.Table.{Table}
 use Rattle.schema.specs.Check.{method_row, find_method}
 use Rattle.schema.specs.Extend.{struct_kept, row_kept_of, same_method, method_kept}
@@ -22,11 +20,11 @@ module _ (old new : Table) (r q : TypeRow) where
     unfolding row_kept_of
     same_numbers k = sym (rw (eq-eqb q.kind r.kind e, ne_eqb r.kind 16 k))
 
-module _ (new : Table) (m : Method) (f : Found) (is : f ≡ find_method new m.«package» m.service m.method) where
-  pub method-there : (j : ℕ) (n : Method) → n ≡ method_row new j → f ≡ At j → same_method n m ≡ method_kept new m
+module _ (new : Table) (m : Method) (f : Option ℕ) (is : f ≡ find_method new m.«package» m.service m.method) where
+  pub method-there : (j : ℕ) (n : Method) → n ≡ method_row new j → f ≡ Some j → same_method n m ≡ method_kept new m
   unfolding method_kept
   method-there j n of e = ap (λ (x : Method). same_method x m) of ∙ sym (rw (sym is ∙ e))
 
-  pub method-gone : f ≡ Missing → false ≡ method_kept new m
+  pub method-gone : f ≡ None → false ≡ method_kept new m
   unfolding method_kept
   method-gone e = sym (rw (sym is ∙ e))

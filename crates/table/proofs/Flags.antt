@@ -1,8 +1,7 @@
 -- Flags of methods that were seen: a method whose flag is not set shares its identifiers with none of them.
-use Rattle.std.proofs.Common.{◌≡◌, ℕ, zero, suc, ◌+◌, ◌<◌, Bool, true, false, not, ◌&&◌, ◌||◌, ltb, List, [], ◌∷◌, length, get_or, set, sym, refl, ap, ◌∙◌, subst, ⊎_elim, not-suc-le-zero, arith, length-set, get_or-set_same, ltb-false, ltb-true}
+use Rattle.std.proofs.Common.{◌≡◌, ℕ, zero, suc, ◌+◌, ◌<◌, Bool, true, false, not, ◌&&◌, ◌||◌, ltb, List, [], ◌∷◌, length, get_or, set, sym, refl, ap, ◌∙◌, subst, ⊎_elim, not-suc-le-zero, arith, length-set, get_or-set_same, ltb-false, ltb-true, None}
 use mathlib.Core.Path.{subst⁻¹}
 use Rattle.schema.specs.declared.Method.{Method}
-use Rattle.schema.specs.declared.Found.TheVariants.{Missing}
 use Rattle.schema.specs.Table.{Table}
 use Rattle.schema.specs.Check.{method_row, formed, find_among, is_missing, good_method}
 use Rattle.table.specs.Flags.{mixed, flag_of}
@@ -53,7 +52,7 @@ module _ (T : Table) (b : Bool) (seen : List Bool) (i : ℕ) (f : MethodsFlagged
     wide = length-set seen k true ∙ f.wide;
   }
 
-  unseen : get_or seen (flag b m) false ≡ false → find_among T i m.«package» m.service m.method ≡ Missing
+  unseen : get_or seen (flag b m) false ≡ false → find_among T i m.«package» m.service m.method ≡ None
   unfolding find_among
   unseen e =
       below_none _ i (λ j h. is_false _ (λ n.

@@ -1,11 +1,10 @@
 -- One turn of a loop that looks for the lowest number that passes a test, or for one that does not.
-use Rattle.std.proofs.Common.{◌≡◌, ℕ, suc, ◌+◌, ◌-◌, ◌<◌, ◌≤◌, Bool, true, false, not, sym, ap, ◌∙◌, arith}
-use Rattle.schema.specs.declared.Found.TheVariants.{At, Missing}
+use Rattle.std.proofs.Common.{◌≡◌, ℕ, suc, ◌+◌, ◌-◌, ◌<◌, ◌≤◌, Bool, true, false, not, sym, ap, ◌∙◌, arith, None, Some}
 use Rattle.schema.specs.Check.{lowest, is_missing}
 use Rattle.schema.specs.Extend.{every}
 
 module _ (p : ℕ → Bool) (n i : ℕ) (e : lowest p 0 n ≡ lowest p i (n - i)) where
-  pub lowest-here : i < n → p i ≡ true → At i ≡ lowest p 0 n
+  pub lowest-here : i < n → p i ≡ true → Some i ≡ lowest p 0 n
   unfolding lowest
   lowest-here h t = let k : n - i ≡ suc (n - (i + 1)) = omega arith in sym (e ∙ rw (k, t))
 
@@ -16,13 +15,13 @@ module _ (p : ℕ → Bool) (n i : ℕ) (e : lowest p 0 n ≡ lowest p i (n - i)
       let j : suc i ≡ i + 1 = omega arith in
       e ∙ rw (k, t, j)
 
-  pub lowest-none : n ≤ i → Missing ≡ lowest p 0 n
+  pub lowest-none : n ≤ i → None ≡ lowest p 0 n
   unfolding lowest
   lowest-none h = let k : n - i ≡ 0 = omega arith in sym (e ∙ rw k)
 
 -- the same where the code finds the first that is not good
 module _ (good : ℕ → Bool) (n i : ℕ) (e : lowest (λ j. not (good j)) 0 n ≡ lowest (λ j. not (good j)) i (n - i)) (b : Bool) (is : b ≡ good i) where
-  pub bad_here : i < n → not b ≡ true → At i ≡ lowest (λ j. not (good j)) 0 n
+  pub bad_here : i < n → not b ≡ true → Some i ≡ lowest (λ j. not (good j)) 0 n
   bad_here h t = lowest-here (λ j. not (good j)) n i e h (ap not (sym is) ∙ t)
 
   pub bad_next : i < n → not b ≡ false → lowest (λ j. not (good j)) 0 n ≡ lowest (λ j. not (good j)) (i + 1) (n - (i + 1))

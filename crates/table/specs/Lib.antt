@@ -1,2 +1,3 @@
 -- The flags by which equal entries are found.
 pub mod Flags
+pub mod Told

@@ -6,7 +6,7 @@ ghost use Rattle.schema.specs.Check.{IsGood, field_row_of, method_row, find_meth
 
 use crate::file::{TYPE, layout_of, type_at};
 use crate::rows::{field_row, find_among, method_row, row};
-use schema::{Field, Found, Method, TypeRow};
+use schema::{Field, Method, TypeRow};
 
 pub fn type_row(s: &[u8], t: usize) -> TypeRow
     requires { IsGood s.now }
@@ -46,7 +46,7 @@ pub fn method(s: &[u8], i: usize) -> Method
 }
 
 // The first method with these three identifiers.
-pub fn find_method(s: &[u8], package: u32, service: u32, method: u32) -> Found
+pub fn find_method(s: &[u8], package: u32, service: u32, method: u32) -> Option<usize>
     requires { IsGood s.now }
     ensures { result ≡ find_method (table_of s.now) «package» service method }
 {

@@ -3,12 +3,14 @@ ghost use Rattle.std.specs.Prelude.{◌≡◌, true, false, not, ◌||◌};
 ghost use Rattle.schema.specs.File.{Laid, table_of};
 ghost use Rattle.schema.specs.Check.{plain_row, array_row, map_row, struct_row, good_row, good_field, letter_fits, formed, find_among, is_missing, good_method, good_entry, bad_entry, bad_method, checked_table, checked};
 ghost use Rattle.table.specs.Flags.{flag_of};
+ghost use Rattle.table.specs.Told.{told};
 
 use crate::file::{is_shaped, layout_of};
 use crate::product::{HALF, mixed, wrapping_mul};
 use crate::rows::{field_row, find_among, method_row, row};
-use constants::{format, kind, limit, refusal};
-use schema::{Checked, Found, Layout, Method, TypeRow};
+use constants::refusal::{Refusal, Refused};
+use constants::{format, kind, limit};
+use schema::{Layout, Method, TypeRow};
 use std::num::wrapping_add_u64;
 
 fn is_plain(r: TypeRow) -> bool
@@ -82,12 +84,12 @@ fn is_formed(s: &[u8], l: Layout, m: Method) -> bool
                     & letter_fits(s, l, m.form % 2, m.output_stream))))
 }
 
-fn is_missing(f: Found) -> bool
+fn is_missing(f: Option<usize>) -> bool
     ensures { result ≡ is_missing f }
 {
     match f {
-        Found::At(_) => false,
-        Found::Missing => true,
+        Some(_) => false,
+        None => true,
     }
 }
 
@@ -114,18 +116,18 @@ fn is_good(s: &[u8], l: Layout, section: u32, i: usize) -> bool
 }
 
 // The lowest of the n entries of a section that is at fault. Each method is compared with all before it.
-fn bad_entry(s: &[u8], l: Layout, section: u32, n: usize) -> Found
+fn bad_entry(s: &[u8], l: Layout, section: u32, n: usize) -> Option<usize>
     requires { Laid s.now l }
     ensures { result ≡ bad_entry (table_of s.now) section n }
 {
     let mut i = 0;
     while i < n {
         if !is_good(s, l, section, i) {
-            return Found::At(i);
+            return Some(i);
         }
         i += 1;
     }
-    Found::Missing
+    None
 }
 
 // What package and service, as one number, and the method are multiplied by: odd, with ones all over.
@@ -174,7 +176,7 @@ const FEW_METHODS: usize = 12;
 #[derive(Clone, Copy)]
 struct Sought {
     abandoned: bool,
-    bad: Found,
+    bad: Option<usize>,
 }
 
 // Looks for the lowest method at fault, where a method is compared with those before it only if one of them has its flag. That is abandoned where
@@ -195,7 +197,7 @@ fn bad_by_flags(s: &[u8], l: Layout, mixing: bool) -> Sought
             if (searches == MOST_SEARCHES) & !mixing {
                 return Sought {
                     abandoned: true,
-                    bad: Found::Missing,
+                    bad: None,
                 };
             }
             searches += 1;
@@ -203,7 +205,7 @@ fn bad_by_flags(s: &[u8], l: Layout, mixing: bool) -> Sought
         if !(formed & is_new(s, l, i, m, taken)) {
             return Sought {
                 abandoned: false,
-                bad: Found::At(i),
+                bad: Some(i),
             };
         }
         seen[flag] = true;
@@ -211,12 +213,12 @@ fn bad_by_flags(s: &[u8], l: Layout, mixing: bool) -> Sought
     }
     Sought {
         abandoned: false,
-        bad: Found::Missing,
+        bad: None,
     }
 }
 
 // The lowest method at fault.
-fn bad_of_many(s: &[u8], l: Layout) -> Found
+fn bad_of_many(s: &[u8], l: Layout) -> Option<usize>
     requires { Laid s.now l }
     ensures { result ≡ bad_method (table_of s.now) }
 {
@@ -229,7 +231,7 @@ fn bad_of_many(s: &[u8], l: Layout) -> Found
     }
 }
 
-fn bad_method(s: &[u8], l: Layout) -> Found
+fn bad_method(s: &[u8], l: Layout) -> Option<usize>
     requires { Laid s.now l }
     ensures { result ≡ bad_method (table_of s.now) }
 {
@@ -241,51 +243,36 @@ fn bad_method(s: &[u8], l: Layout) -> Found
 }
 
 // The counts, then the rows.
-fn check_rows(s: &[u8], l: Layout) -> Checked
+fn check_rows(s: &[u8], l: Layout) -> Result<(), Refused>
     requires { Laid s.now l }
-    ensures { result ≡ checked_table (table_of s.now) }
+    ensures { told result ≡ checked_table (table_of s.now) }
 {
     if !((l.types <= limit::TYPES)
         & ((l.fields <= limit::FIELDS) & (l.methods <= limit::METHODS)))
     {
-        return Checked::Refused {
-            number: refusal::TOO_MANY_ROWS,
-            place: 0,
-        };
+        return Refusal::TooManyRows.at(0);
     }
     let types = bad_entry(s, l, 0, l.types);
-    if let Found::At(i) = types {
-        return Checked::Refused {
-            number: refusal::TYPE_ROW,
-            place: i,
-        };
+    if let Some(i) = types {
+        return Refusal::TypeRow.at(i);
     }
     let fields = bad_entry(s, l, 1, l.fields);
-    if let Found::At(i) = fields {
-        return Checked::Refused {
-            number: refusal::FIELD,
-            place: i,
-        };
+    if let Some(i) = fields {
+        return Refusal::Field.at(i);
     }
     match bad_method(s, l) {
-        Found::At(i) => Checked::Refused {
-            number: refusal::METHOD,
-            place: i,
-        },
-        Found::Missing => Checked::Good,
+        Some(i) => Refusal::Method.at(i),
+        None => Ok(()),
     }
 }
 
 // The verdict on a file, whatever its bytes.
-pub fn check(schema: &[u8]) -> Checked
-    ensures { result ≡ checked schema.now }
+pub fn check(schema: &[u8]) -> Result<(), Refused>
+    ensures { told result ≡ checked schema.now }
 {
     if is_shaped(schema) {
         check_rows(schema, layout_of(schema))
     } else {
-        Checked::Refused {
-            number: refusal::SCHEMA_SHAPE,
-            place: 0,
-        }
+        Refusal::SchemaShape.at(0)
     }
 }

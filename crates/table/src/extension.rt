@@ -4,12 +4,14 @@ ghost use Rattle.schema.specs.Table.{bitmap_bytes};
 ghost use Rattle.schema.specs.File.{Laid, table_of};
 ghost use Rattle.schema.specs.Check.{IsGood};
 ghost use Rattle.schema.specs.Extend.{every, same_field, field_kept, struct_kept, row_kept_of, rows_kept, same_method, method_kept, methods_kept, widened, bitmap_kept, bitmaps_kept, extended, extension};
+ghost use Rattle.table.specs.Told.{told_extends};
 
 use crate::checking::check;
 use crate::file::layout_of;
 use crate::rows::{field_row, find_among, method_row, row};
 use constants::kind;
-use schema::{Checked, Extended, Field, Found, Layout, Method, TypeRow};
+use constants::refusal::Refused;
+use schema::{Field, Layout, Method, TypeRow};
 use wire::bitmap;
 
 fn same_field(f: Field, g: Field) -> bool
@@ -106,8 +108,8 @@ fn keeps_method(new: &[u8], k: Layout, m: Method) -> bool
     ensures { result ≡ method_kept (table_of new.now) m }
 {
     match find_among(new, k, k.methods, m.package, m.service, m.method) {
-        Found::At(j) => same_method(method_row(new, k, j), m),
-        Found::Missing => false,
+        Some(j) => same_method(method_row(new, k, j), m),
+        None => false,
     }
 }
 
@@ -179,19 +181,11 @@ fn is_extended(old: &[u8], new: &[u8]) -> bool
     is_widened(old, new) & keeps_bitmaps(old, layout_of(old), new, layout_of(new))
 }
 
-// The answer for any two files.
-pub fn extends(old: &[u8], new: &[u8]) -> Extended
-    ensures { result ≡ extension old.now new.now }
+// The answer for any two files: yes or no, or the refusal of the first that is not good, the old one first.
+pub fn extends(old: &[u8], new: &[u8]) -> Result<bool, Refused>
+    ensures { told_extends result ≡ extension old.now new.now }
 {
-    if let Checked::Refused { number, place } = check(old) {
-        return Extended::Refused { number, place };
-    }
-    if let Checked::Refused { number, place } = check(new) {
-        return Extended::Refused { number, place };
-    }
-    if is_extended(old, new) {
-        Extended::Yes
-    } else {
-        Extended::No
-    }
+    check(old)?;
+    check(new)?;
+    Ok(is_extended(old, new))
 }

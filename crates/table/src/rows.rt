@@ -5,7 +5,7 @@ ghost use Rattle.schema.specs.File.{Laid, table_of};
 ghost use Rattle.schema.specs.Check.{field_row_of, method_row, named, find_among};
 
 use crate::file::{FIELD, METHOD, TYPE, field_at, method_at, type_at};
-use schema::{Field, Found, Layout, Method, TypeRow};
+use schema::{Field, Layout, Method, TypeRow};
 
 pub fn row(s: &[u8], l: Layout, t: usize) -> TypeRow
     requires { Laid s.now l }
@@ -61,7 +61,14 @@ pub fn is_named(m: Method, package: u32, service: u32, method: u32) -> bool
 }
 
 // The first of the first n methods with these three identifiers.
-pub fn find_among(s: &[u8], l: Layout, n: usize, package: u32, service: u32, method: u32) -> Found
+pub fn find_among(
+    s: &[u8],
+    l: Layout,
+    n: usize,
+    package: u32,
+    service: u32,
+    method: u32,
+) -> Option<usize>
     requires { Laid s.now l }
     ensures { result ≡ find_among (table_of s.now) n «package» service method }
 {
@@ -69,9 +76,9 @@ pub fn find_among(s: &[u8], l: Layout, n: usize, package: u32, service: u32, met
     while i < n {
         let m = method_row(s, l, i);
         if is_named(m, package, service, method) {
-            return Found::At(i);
+            return Some(i);
         }
         i += 1;
     }
-    Found::Missing
+    None
 }

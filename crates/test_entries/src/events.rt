@@ -10,7 +10,6 @@ use connection::CallTable;
 use constants::limit;
 use receiver::planning::{plan, plan_release};
 use receiver::settling::{settle, settle_release};
-use schema::Checked;
 use std::io::{Read, Write};
 use table::access::method_count;
 
@@ -45,11 +44,8 @@ fn fresh_rows(schema: &[u8]) -> usize
     ensures { result ≤ 256 }
 {
     match arf::check_table(schema) {
-        Checked::Good => method_count(schema),
-        Checked::Refused {
-            number: _,
-            place: _,
-        } => 0,
+        Ok(()) => method_count(schema),
+        Err(_) => 0,
     }
 }
 

@@ -1,7 +1,7 @@
 // Cases of the table check and of the extension test.
 use crate::stop::Stop;
 use crate::{blank, input, output};
-use schema::{Checked, Extended};
+use constants::refusal::Refused;
 use std::io::{Read, Write};
 
 // The most bytes of a table, a payload or a row's bytes, and the most cells of a sheet.
@@ -14,10 +14,10 @@ pub fn check(from: &mut impl Read, to: &mut impl Write) -> Result<(), Stop> {
     print_checked(to, arf::check_table(&schema[..n]))
 }
 
-fn print_checked(to: &mut impl Write, answer: Checked) -> Result<(), Stop> {
+fn print_checked(to: &mut impl Write, answer: Result<(), Refused>) -> Result<(), Stop> {
     let (number, place) = match answer {
-        Checked::Good => (0, 0),
-        Checked::Refused { number, place } => (number, place),
+        Ok(()) => (0, 0),
+        Err(refused) => (u32::from(refused.refusal), refused.place),
     };
     output::numbers(to, &[u64::from(number)])?;
     output::last(to, place as u64)?;
@@ -33,11 +33,10 @@ pub fn extends(from: &mut impl Read, to: &mut impl Write) -> Result<(), Stop> {
     print_extended(to, arf::extends(&old[..n], &new[..m]))
 }
 
-fn print_extended(to: &mut impl Write, answer: Extended) -> Result<(), Stop> {
+fn print_extended(to: &mut impl Write, answer: Result<bool, Refused>) -> Result<(), Stop> {
     let (number, place, yes) = match answer {
-        Extended::Yes => (0, 0, true),
-        Extended::No => (0, 0, false),
-        Extended::Refused { number, place } => (number, place, false),
+        Ok(yes) => (0, 0, yes),
+        Err(refused) => (u32::from(refused.refusal), refused.place, false),
     };
     output::numbers(to, &[u64::from(number), place as u64])?;
     output::last(to, u64::from(yes))?;

@@ -1,4 +1,5 @@
 -- Demand 1, sentence by sentence: below each the theorems that state it, cited from the crate that proves them.
+use Rattle.std.specs.Prelude.{None}
 use mathlib.Core.List.{List, ◌++◌}
 use Prim.Native.Nat.{ℕ, ◌≤◌}
 use mathlib.Core.Path.{◌≡◌}
@@ -6,7 +7,7 @@ use mathlib.Core.Logic.{◌↔◌}
 use lib.ListN.{length}
 use mathlib.Core.Bool.{false, true}
 use Rattle.schema.specs.Check.{IsGood, checked}
-use Rattle.schema.specs.declared.Checked.TheVariants.{Refused as schema-Refused}
+use Rattle.schema.specs.Checked.{Refused as schema-Refused}
 use Rattle.schema.specs.Faults.{TableFault}
 use Rattle.schema.specs.Numbered.{TableNumber}
 use Rattle.schema.specs.File.{table_of}
@@ -21,7 +22,6 @@ use Rattle.calls.specs.declared.Call.{Call}
 use Rattle.calls.specs.Numbers.{ends_call, EndsCall}
 use Rattle.calls.specs.declared.Frame.{Frame as calls-Frame}
 use Rattle.calls.specs.Slots.{own_of, slot}
-use Rattle.calls.specs.declared.OwnCall.TheVariants.{None as calls-none}
 use Rattle.calls.specs.Event.{Event as calls-Event}
 use Rattle.calls.specs.Apart.{Freed}
 use Rattle.value.specs.declared.Row.{Row as value-Row}
@@ -210,7 +210,7 @@ refused-kept = receiver-Records.refused-kept
 -- Payload refusals end the open call.
 pub refused-ends : (s : List ℕ) (side : ℕ) (bytes sheet : List ℕ) (ts : List Tally) (l : List Call) (f : calls-Frame) (w : Front side bytes f) →
     let slots = (received s side bytes sheet ts l).answer.table.slots in let number = (received s side bytes sheet ts l).answer.number in
-    (f.kind ≡ 1 → ⊥) → ends_call number ≡ true → own_of f.correlation slots ≡ calls-none
+    (f.kind ≡ 1 → ⊥) → ends_call number ≡ true → own_of f.correlation slots ≡ None
 refused-ends = receiver-Records.refused-ends
 
 -- Payload refusals 20 to 29 and 31 end the open call, and no other number does.

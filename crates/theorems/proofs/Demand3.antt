@@ -4,7 +4,7 @@ use Prim.Native.Nat.{ℕ, ◌≤◌, ◌/◌}
 use mathlib.Core.Path.{◌≡◌}
 use lib.ListN.{take, length}
 use Rattle.schema.specs.Extend.{extension}
-use Rattle.schema.specs.declared.Extended.TheVariants.{Yes}
+use Rattle.schema.specs.Extended.{Yes}
 use Rattle.schema.specs.declared.Field.{Field}
 use Rattle.schema.specs.Table.{struct}
 use Rattle.schema.specs.Check.{IsGood}

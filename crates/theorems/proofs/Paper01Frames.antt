@@ -1,5 +1,6 @@
 -- Paper 01, frames and calls: its sentences, and below each the theorems that state it, cited from the crate that proves them. What a definition or a
 -- contract alone states is in docs/PROMISES.md.
+use Rattle.std.specs.Prelude.{Some}
 use mathlib.Core.List.{List, ◌++◌, map, ◌∷◌, []}
 use Prim.Native.Nat.{ℕ, ◌<◌}
 use lib.ListN.{length, take}
@@ -9,7 +10,6 @@ use lib.Dec.{eqb}
 use Rattle.schema.specs.File.{table_of}
 use Rattle.schema.specs.declared.Method.{Method}
 use Rattle.schema.specs.Table.{Table}
-use Rattle.schema.specs.declared.Found.TheVariants.{At}
 use Rattle.frame.specs.declared.Header.{Header}
 use Rattle.frame.specs.IsFrame.{IsFrame}
 use Rattle.frame.specs.Frame.{frame_of}
@@ -183,7 +183,7 @@ same-own = receiver-Records.same-own
 -- No slot is changed but that of the frame's own call, or the one where INVOKE opens a call.
 pub slots_kept : (s : List ℕ) (side : ℕ) (bytes sheet : List ℕ) (ts : List Tally) (l : List Call) →
     let T = table_of s in let slots = (received s side bytes sheet ts l).answer.table.slots in
-    (j : ℕ) → ((f : calls-Frame) → Front side bytes f → touched (judge_of T f l) ≡ At j → ⊥) → slot slots j ≡ slot l j
+    (j : ℕ) → ((f : calls-Frame) → Front side bytes f → touched (judge_of T f l) ≡ Some j → ⊥) → slot slots j ≡ slot l j
 slots_kept = receiver-Records.slots_kept
 
 -- Bytes after the frame change nothing.

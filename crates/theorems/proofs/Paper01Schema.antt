@@ -1,5 +1,6 @@
 -- Paper 01, the schema table: its sentences, and below each the theorems that state it, cited from the crate that proves them. What a definition or a
 -- contract alone states is in docs/PROMISES.md.
+use Rattle.std.specs.Prelude.{Some}
 use mathlib.Core.List.{List}
 use Prim.Native.Nat.{ℕ, ◌≤◌, ◌*◌, ◌<◌, ◌/◌, ◌^◌, ◌%◌}
 use mathlib.Core.Logic.{◌↔◌, ◌⊎◌}
@@ -13,9 +14,8 @@ use Rattle.schema.specs.Encoded.{file_of}
 use Rattle.schema.specs.File.{table_of}
 use Rattle.schema.specs.Table.{Table, row_at, shape, scalar, text, array, map, struct, fields_of, width}
 use Rattle.schema.specs.Widths.{ScalarBits}
-use Rattle.schema.specs.declared.Found.TheVariants.{At}
 use Rattle.schema.specs.Extend.{extension, Extends}
-use Rattle.schema.specs.declared.Extended.TheVariants.{Yes, No}
+use Rattle.schema.specs.Extended.{Yes, No}
 use Rattle.schema.specs.declared.Field.{Field}
 use Rattle.schema.specs.Numbers.{extend_number, extend_answer, extend_place}
 use Rattle.schema.specs.Faults.{TableFault}
@@ -98,7 +98,7 @@ names-differ = schema-Methods.names-differ
 
 -- Each entry is found by its own identifiers.
 pub finds-own : (T : Table) (g : GoodSchema T)
-    (i : ℕ) → i < length T.methods → find_method T (method_row T i).«package» (method_row T i).service (method_row T i).method ≡ At i
+    (i : ℕ) → i < length T.methods → find_method T (method_row T i).«package» (method_row T i).service (method_row T i).method ≡ Some i
 finds-own = schema-Methods.finds-own
 
 -- Stated in another file: `Demand1.schema-refused-iff`.

@@ -1,4 +1,5 @@
 -- Request 2026-01, answers that cross our cancel: its sentences, and below each the theorems that state it, cited from the crate that proves them.
+use Rattle.std.specs.Prelude.{None, Some}
 use mathlib.Core.List.{List, map, ◌∷◌, []}
 use Prim.Native.Nat.{ℕ, ◌+◌}
 use mathlib.Core.Path.{◌≡◌}
@@ -8,14 +9,12 @@ use mathlib.Core.Logic.{◌↔◌}
 use Rattle.schema.specs.Check.{IsGood}
 use Rattle.schema.specs.File.{table_of}
 use Rattle.schema.specs.Table.{Table}
-use Rattle.schema.specs.declared.Found.TheVariants.{At}
 use Rattle.schema.proofs.Examples.{file}
 use Rattle.calls.specs.declared.Tally.{Tally}
 use Rattle.calls.specs.declared.Call.{Call}
 use Rattle.calls.specs.declared.Frame.{Frame as calls-Frame}
 use Rattle.calls.specs.Record.{is_call, with_mark, allowed, not_allowed}
 use Rattle.calls.specs.Slots.{slot, own_of, contains, good_table, count_open}
-use Rattle.calls.specs.declared.OwnCall.TheVariants.{None as calls-none, One as one}
 use Rattle.calls.specs.Event.{Event as calls-Event, identifier}
 use Rattle.calls.specs.Apart.{EndsCancelled}
 use Rattle.calls.specs.Order.{Past, Reflects, Elements, since, same, Crosses, method_named, cancelled, Ruled, comes}
@@ -94,7 +93,7 @@ pub error-ends-cancelled : (s : List ℕ) (g : IsGood s) (start : State) (past :
     let T = table_of s in
     (es : List receiver-Event) (i : Input) (f : calls-Frame) (w : Front i.side i.bytes f) (m : ℕ) (b : Elements) (h : List ℕ)
     → past_in s start past es f.correlation ≡ since m b h → RoomAfter s start past es f 0 → f.side ≡ 83 → f.kind ≡ 7 → same T f m ≡ true
-    → let a = answer_after s start es i in (a.answer.number ≡ 0) × (own_of f.correlation a.answer.table.slots ≡ calls-none)
+    → let a = answer_after s start es i in (a.answer.number ≡ 0) × (own_of f.correlation a.answer.table.slots ≡ None)
 error-ends-cancelled = receiver-Runs.error-ends-cancelled
 
 -- "so does a new public release call naming the correlation."
@@ -103,7 +102,7 @@ error-ends-cancelled = receiver-Runs.error-ends-cancelled
 -- A released call has ended.
 pub released-ends : (s : List ℕ) (l : List Call) (id : ℕ) (ts : List Tally) →
     let slots = (released s l id ts).answer.table.slots in let number = (released s l id ts).answer.number in
-    number ≡ 0 → own_of id slots ≡ calls-none
+    number ≡ 0 → own_of id slots ≡ None
 released-ends = receiver-Releases.released-ends
 
 -- Stated in another file: `Demand2.release-by-order`.
@@ -125,7 +124,7 @@ any_open = calls-Cancelled.any_open
 pub invoke_open : (s : List ℕ) (g : IsGood s) (start : State) (past : ℕ → Past) (st : Reflected (table_of s) start.calls start.tallies past) →
     let T = table_of s in
     (es : List receiver-Event) (i : Input) (f : calls-Frame) (w : Front i.side i.bytes f) (m n : ℕ) (b : Elements) (h : List ℕ)
-    → past_in s start past es f.correlation ≡ since m b h → f.side ≡ 67 → f.kind ≡ 1 → method_named T f ≡ At n
+    → past_in s start past es f.correlation ≡ since m b h → f.side ≡ 67 → f.kind ≡ 1 → method_named T f ≡ Some n
     → (answer_after s start es i).answer.number ≡ 10
 invoke_open = receiver-Runs.invoke_open
 
@@ -151,14 +150,14 @@ client-late = receiver-Runs.client-late
 -- The answer to a release depends on the schema table, on whether the call table is good, on its own call's record, and on the tally rows' number and own row.
 pub same_answer : (s : List ℕ) (id : ℕ) (l₁ l₂ : List Call) (ts₁ ts₂ : List Tally) (good : good_table (table_of s) l₁ ≡ good_table (table_of s) l₂)
     (own : own_of id l₁ ≡ own_of id l₂) (rows : length ts₁ ≡ length ts₂)
-    (row : (c : Call) → own_of id l₁ ≡ one c → row_for ts₁ c.method ≡ row_for ts₂ c.method)
+    (row : (c : Call) → own_of id l₁ ≡ Some c → row_for ts₁ c.method ≡ row_for ts₂ c.method)
     → release_reply (released s l₁ id ts₁).answer ≡ release_reply (released s l₂ id ts₂).answer
 same_answer = receiver-Releases.same_answer
 
 -- So does the record of its call afterwards.
 pub same-own : (s : List ℕ) (id : ℕ) (l₁ l₂ : List Call) (ts₁ ts₂ : List Tally) (good : good_table (table_of s) l₁ ≡ good_table (table_of s) l₂)
     (own : own_of id l₁ ≡ own_of id l₂) (rows : length ts₁ ≡ length ts₂)
-    (row : (c : Call) → own_of id l₁ ≡ one c → row_for ts₁ c.method ≡ row_for ts₂ c.method)
+    (row : (c : Call) → own_of id l₁ ≡ Some c → row_for ts₁ c.method ≡ row_for ts₂ c.method)
     → own_of id (released s l₁ id ts₁).answer.table.slots ≡ own_of id (released s l₂ id ts₂).answer.table.slots
 same-own = receiver-Releases.same-own
 

@@ -1,5 +1,6 @@
 -- Request 2026-05, how many receipts has this call had: its sentences, and below each the theorems that state it, cited from the crate that proves
 -- them.
+use Rattle.std.specs.Prelude.{Some}
 use mathlib.Core.List.{List, ◌∷◌, [], map}
 use Prim.Native.Nat.{ℕ, ◌+◌, ◌<◌}
 use mathlib.Core.Path.{◌≡◌}
@@ -15,7 +16,6 @@ use Rattle.frame.specs.declared.FrameRead.TheVariants.{Frame as frame-Frame}
 use Rattle.calls.specs.declared.Call.{Call}
 use Rattle.calls.specs.Slots.{own_of, good_table}
 use Rattle.connection.specs.Step.{fresh_table}
-use Rattle.calls.specs.declared.OwnCall.TheVariants.{One as one}
 use Rattle.calls.specs.Order.{past_of, closed}
 use Rattle.calls.specs.Record.{is_input, is_output}
 use Rattle.calls.specs.Limits.{FewIn}
@@ -50,7 +50,7 @@ use Rattle.receiver.proofs.FreshRows as receiver-FreshRows
 
 -- After any history from a fresh start, the counts of an open call are the elements accepted each way since its INVOKE.
 pub elements-counted : (s : List ℕ) → IsGood s → (es : List receiver-Event) (id : ℕ) (c : Call) → let start = fresh_state (table_of s) in
-    own_of id (state_from s start es).calls ≡ one c → CountedSince c (past_of (table_of s) id closed (heard_from s start es))
+    own_of id (state_from s start es).calls ≡ Some c → CountedSince c (past_of (table_of s) id closed (heard_from s start es))
 elements-counted = receiver-Tallies.elements-counted
 
 -- IN_STREAM is an element of the input stream, and OUT_STREAM of the output stream; closes and all others are none.
@@ -160,7 +160,7 @@ pub other-rows : (s : List ℕ) (side : ℕ) (bytes sheet : List ℕ) (ts : List
 other-rows = receiver-Tallies.other-rows
 
 -- So does a release: every other row is as it was.
-pub release-other-rows : (s : List ℕ) (l : List Call) (id : ℕ) (ts : List Tally) (m : ℕ) → ((c : Call) → own_of id l ≡ one c → c.method ≡ m → ⊥)
+pub release-other-rows : (s : List ℕ) (l : List Call) (id : ℕ) (ts : List Tally) (m : ℕ) → ((c : Call) → own_of id l ≡ Some c → c.method ≡ m → ⊥)
     → row_for (released s l id ts).tallies m ≡ row_for ts m
 release-other-rows = receiver-Tallies.release-other-rows
 

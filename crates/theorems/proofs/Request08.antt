@@ -1,5 +1,6 @@
 -- Request 2026-08, reading with the carrier's table beside ours: its sentences, and below each the theorems that state it, cited from the crate that
 -- proves them.
+use Rattle.std.specs.Prelude.{Some}
 use mathlib.Core.List.{List, ◌∷◌, [], map, ◌++◌}
 use Prim.Native.Nat.{ℕ, ◌≤◌, ◌*◌}
 use mathlib.Core.Path.{◌≡◌}
@@ -13,10 +14,9 @@ use Rattle.schema.specs.File.{table_of}
 use Rattle.schema.specs.declared.Field.{Field}
 use Rattle.schema.specs.Table.{struct, Table, shape}
 use Rattle.schema.specs.Good.{GoodSchema}
-use Rattle.schema.specs.declared.Found.TheVariants.{At}
 use Rattle.schema.proofs.Examples.{longer, file}
-use Rattle.schema.specs.declared.Extended.TheVariants.{No, Yes}
-use Rattle.schema.specs.declared.Checked.TheVariants.{Refused as schema-Refused}
+use Rattle.schema.specs.Extended.{No, Yes}
+use Rattle.schema.specs.Checked.{Refused as schema-Refused}
 use Rattle.value.specs.Value.{Value, Tree, value}
 use Rattle.value.specs.Added.{without, NoneAdded, first_added, reached}
 use Rattle.value.specs.Beside.{RightfulBeside, pruned, DelimitedBeside, SomeOf, root_length, TooFewRows}
@@ -69,7 +69,7 @@ widens-iff = schema-Extending.widens-iff
 
 -- A method found in the old table is found in the new one, the same.
 pub still-found : (old new : Table) (g : GoodSchema old) (g' : GoodSchema new) (x : Widens old new)
-    (p q r i : ℕ) → find_method old p q r ≡ At i → (j : ℕ) × (find_method new p q r ≡ At j) × (method_row new j ≡ method_row old i)
+    (p q r i : ℕ) → find_method old p q r ≡ Some i → (j : ℕ) × (find_method new p q r ≡ Some j) × (method_row new j ≡ method_row old i)
 still-found = schema-Extending.still-found
 
 -- 47 where theirs is the older file, also for a type that is no struct; where a method of ours has another form in theirs; and where a field that theirs

@@ -9,11 +9,11 @@ use Rattle.wire.specs.Little.{Bytes}
 use Rattle.schema.specs.Check.{IsGood, checked}
 use Rattle.schema.proofs.Examples.{file}
 use Rattle.schema.specs.Extend.{extension}
-use Rattle.schema.specs.declared.Extended.TheVariants.{Yes}
+use Rattle.schema.specs.Extended.{Yes}
 use Rattle.schema.specs.declared.Field.{Field}
 use Rattle.schema.specs.Table.{struct, Table, Shape, bitmap_bytes, shape}
 use Rattle.schema.specs.Good.{GoodSchema}
-use Rattle.schema.specs.declared.Checked.TheVariants.{Refused as schema-Refused}
+use Rattle.schema.specs.Checked.{Refused as schema-Refused}
 use Rattle.value.specs.Sheet.{rows_of}
 use Rattle.value.specs.Value.{Value, size}
 use Rattle.value.specs.Spell.{RootSpells, encode, TailFits}

@@ -12,7 +12,7 @@ use lib.ListN.{length, take, drop}
 use Rattle.buffer.specs.Store as store
 use Rattle.wire.specs.Varuint.{varuint_bytes}
 use Rattle.wire.proofs.Cases.{differ}
-use Rattle.schema.specs.declared.Checked.TheVariants.{Good, Refused as Faulty}
+use Rattle.schema.specs.Checked.{Good, Refused as Faulty}
 use Rattle.schema.specs.Check.{checked}
 use Rattle.frame.specs.declared.Header.{Header}
 use Rattle.frame.specs.Frame.{known_kind}

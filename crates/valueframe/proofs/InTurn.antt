@@ -11,7 +11,7 @@ use lib.Dec.{leb}
 use lib.ListN.{length, drop}
 use lib.Seq.{take-append_seam}
 use Rattle.wire.proofs.Cases.{differ}
-use Rattle.schema.specs.declared.Checked.TheVariants.{Refused as Faulty}
+use Rattle.schema.specs.Checked.{Refused as Faulty}
 use Rattle.schema.specs.Table.{row_at}
 use Rattle.schema.specs.File.{table_of}
 use Rattle.schema.specs.Check.{checked, IsGood}

@@ -8,9 +8,9 @@ ghost use Rattle.writer.specs.Entry.{outcome, outcome_of, length_of, payload_by}
 ghost use Rattle.valueframe.specs.Entry.{empty_by, frame_in, value_frame, frame_outcome};
 ghost use Rattle.valueframe.specs.Part.{belongs, part_after};
 
+use constants::refusal::Refused;
 use constants::{format, limit, refusal};
 use frame::{Header, known_kind, payload_place, write_front};
-use schema::Checked;
 use table::checking::check;
 use writer::leaf::wide;
 use writer::put::put_span;
@@ -218,7 +218,10 @@ pub fn write_value_frame(
     ensures { outcome result out.new ≡ frame_outcome header schema.now ty sheet.now source.now out.old }
 {
     match check(schema) {
-        Checked::Refused { number, place } => Writing::Refused { number, place },
-        Checked::Good => write_frame(header, schema, ty, sheet, source, out),
+        Err(Refused { place, refusal }) => Writing::Refused {
+            number: refusal as u32,
+            place,
+        },
+        Ok(()) => write_frame(header, schema, ty, sheet, source, out),
     }
 }

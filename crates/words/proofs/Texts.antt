@@ -10,10 +10,10 @@ use lib.ListN.{length}
 use Rattle.buffer.specs.Store.{put}
 use Rattle.buffer.proofs.Stores.{put-end}
 use Rattle.wire.proofs.Cases.{nothing_left}
-use Rattle.schema.specs.declared.Checked.{Checked}
-use Rattle.schema.specs.declared.Checked.TheVariants.{Good, Refused as Faulty}
-use Rattle.schema.specs.declared.Extended.{Extended}
-use Rattle.schema.specs.declared.Extended.TheVariants.{Yes, No, Refused}
+use Rattle.schema.specs.Checked.{Checked}
+use Rattle.schema.specs.Checked.{Good, Refused as Faulty}
+use Rattle.schema.specs.Extended.{Extended}
+use Rattle.schema.specs.Extended.{Yes, No, Refused}
 use Rattle.schema.specs.Check.{checked}
 use Rattle.schema.specs.Extend.{extension}
 use Rattle.text.specs.Codes.{codes}

@@ -1,10 +1,10 @@
 -- The texts of the verbs check, extends and explain, as ASCII codes. Each line ends in one LF.
 use Rattle.std.specs.Prelude.{cond, List, [], ◌∷◌, ◌++◌, ℕ, eqb, ltb, length}
 use Prim.Native.String.{String}
-use Rattle.schema.specs.declared.Checked.{Checked}
-use Rattle.schema.specs.declared.Checked.TheVariants.{Good, Refused as Faulty}
-use Rattle.schema.specs.declared.Extended.{Extended}
-use Rattle.schema.specs.declared.Extended.TheVariants.{Yes, No, Refused}
+use Rattle.schema.specs.Checked.{Checked}
+use Rattle.schema.specs.Checked.{Good, Refused as Faulty}
+use Rattle.schema.specs.Extended.{Extended}
+use Rattle.schema.specs.Extended.{Yes, No, Refused}
 use Rattle.schema.specs.Check.{checked}
 use Rattle.schema.specs.Extend.{extension}
 use Rattle.text.specs.Codes.{codes}

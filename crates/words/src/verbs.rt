@@ -7,7 +7,6 @@ ghost use Rattle.words.specs.Words.{which_of, check_text, extends_text, explain_
 use crate::lines::{put_explained, put_refusal};
 use crate::number::{Parsed, number_of};
 use constants::{limit, refusal};
-use schema::{Checked, Extended};
 use text::put_word;
 
 // The verdict on a schema file.
@@ -19,8 +18,8 @@ pub fn put_check(schema: &[u8], out: &mut [u8]) -> usize
         return put_refusal(out, 0, refusal::FILE_TOO_LONG, 0);
     }
     match table::checking::check(schema) {
-        Checked::Good => put_word(out, 0, b"good\n"),
-        Checked::Refused { number, place } => put_refusal(out, 0, number, place),
+        Ok(()) => put_word(out, 0, b"good\n"),
+        Err(refused) => put_refusal(out, 0, refused.refusal as u32, refused.place),
     }
 }
 
@@ -30,11 +29,8 @@ fn put_which(old: &[u8], out: &mut [u8]) -> usize
     ensures value { result ≡ 4 }
 {
     match table::checking::check(old) {
-        Checked::Good => put_word(out, 0, b"new "),
-        Checked::Refused {
-            number: _,
-            place: _,
-        } => put_word(out, 0, b"old "),
+        Ok(()) => put_word(out, 0, b"new "),
+        Err(_) => put_word(out, 0, b"old "),
     }
 }
 
@@ -52,11 +48,11 @@ pub fn put_extends(old: &[u8], new: &[u8], out: &mut [u8]) -> usize
         return put_refusal(out, at, refusal::FILE_TOO_LONG, 0);
     }
     match table::extension::extends(old, new) {
-        Extended::Yes => put_word(out, 0, b"yes\n"),
-        Extended::No => put_word(out, 0, b"no\n"),
-        Extended::Refused { number, place } => {
+        Ok(true) => put_word(out, 0, b"yes\n"),
+        Ok(false) => put_word(out, 0, b"no\n"),
+        Err(refused) => {
             let at = put_which(old, out);
-            put_refusal(out, at, number, place)
+            put_refusal(out, at, refused.refusal as u32, refused.place)
         }
     }
 }

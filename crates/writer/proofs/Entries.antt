@@ -16,7 +16,7 @@ use Rattle.wire.proofs.Cases.{differ}
 use Rattle.parse.specs.Reader.{CursorOf, AnswerOf, refused, seen, Accepted}
 use Rattle.schema.specs.declared.TypeRow.{TypeRow}
 use Rattle.schema.specs.declared.Field.{Field}
-use Rattle.schema.specs.declared.Checked.TheVariants.{Good, Refused as TableRefused}
+use Rattle.schema.specs.Checked.{Good, Refused as TableRefused}
 use Rattle.schema.specs.Table.{Shape, struct, row_at, shape}
 use Rattle.schema.specs.File.{table_of}
 use Rattle.schema.specs.Check.{IsGood, checked}

@@ -6,8 +6,8 @@ use Prim.Native.Nat.{ℕ}
 use lib.ListN.{length, take, drop}
 use lib.Seq.{take_at}
 use Rattle.wire.proofs.Cases.{differ}
-use Rattle.schema.specs.declared.Checked.{Checked}
-use Rattle.schema.specs.declared.Checked.TheVariants.{Good, Refused as Faulty}
+use Rattle.schema.specs.Checked.{Checked}
+use Rattle.schema.specs.Checked.{Good, Refused as Faulty}
 use Rattle.schema.specs.File.{table_of}
 use Rattle.schema.specs.Check.{checked, IsGood}
 use Rattle.value.specs.Sheet.{rows_of}

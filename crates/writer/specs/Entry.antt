@@ -1,7 +1,7 @@
 -- What the entries answer.
 use Rattle.std.specs.Prelude.{◌≡◌, List, ◌++◌, cond, ℕ, ◌≤◌, leb, length, drop}
-use Rattle.schema.specs.declared.Checked.{Checked}
-use Rattle.schema.specs.declared.Checked.TheVariants.{Good, Refused as TableRefused}
+use Rattle.schema.specs.Checked.{Checked}
+use Rattle.schema.specs.Checked.{Good, Refused as TableRefused}
 use Rattle.schema.specs.File.{table_of}
 use Rattle.schema.specs.Check.{checked}
 use Rattle.value.specs.Sheet.{rows_of}

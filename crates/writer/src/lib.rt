@@ -12,8 +12,8 @@ ghost use Rattle.writer.specs.Entry.{outcome, length_of, payload_by, Fronts, she
 
 use crate::put::put_span;
 use crate::walk::{Walk, root};
+use constants::refusal::Refused;
 use constants::{kind, limit, refusal};
-use schema::Checked;
 use table::access::type_row;
 use table::checking::check;
 
@@ -126,7 +126,10 @@ pub fn write(s: &[u8], ty: u32, sheet: &[u32], source: &[u8], out: &mut [u8]) ->
     ensures { outcome result out.new ≡ file_outcome s.now ty sheet.now source.now out.old }
 {
     match check(s) {
-        Checked::Refused { number, place } => Writing::Refused { number, place },
-        Checked::Good => write_sheet(s, ty, sheet, source, out),
+        Err(Refused { place, refusal }) => Writing::Refused {
+            number: refusal as u32,
+            place,
+        },
+        Ok(()) => write_sheet(s, ty, sheet, source, out),
     }
 }

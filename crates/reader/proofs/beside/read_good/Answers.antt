@@ -1,6 +1,6 @@
 -- `reader::beside::read_good` meets its contract.
 use mathlib.Core.Path.{refl, sym, ◌∙◌}
-use Rattle.schema.specs.declared.Checked.TheVariants.{Good}
+use Rattle.schema.specs.Checked.{Good}
 use Rattle.reader.proofs.Entries.{beside-theirs, beside-other, beside-good}
 use Rattle.reader.proofs.beside.read_good.Goals as goal
 

@@ -1,7 +1,7 @@
 -- `words::verbs::put_which` meets its contract: the old file is good, or it is not.
 use mathlib.Core.Path.{subst}
 use native.Mathlib.Omega.{arith}
-use Rattle.schema.specs.declared.Checked.{Checked}
+use Rattle.schema.specs.Checked.{Checked}
 use Rattle.text.specs.Codes.{codes}
 use Rattle.text.specs.Text.{Added}
 use Rattle.words.specs.Words.{which_of}
