@@ -182,6 +182,7 @@ fn is_extended(old: &[u8], new: &[u8]) -> bool
 }
 
 // The answer for any two files: yes or no, or the refusal of the first that is not good, the old one first.
+#[tactic(auto, unfolding(schema::specs::Extend::extension))]
 pub fn extends(old: &[u8], new: &[u8]) -> Result<bool, Refused>
     ensures { told_extends result ≡ extension old.now new.now }
 {

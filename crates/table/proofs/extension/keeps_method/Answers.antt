@@ -14,12 +14,12 @@ found c =
     let a = c.args in
     c.find_among.ensures ∙ ap (λ (n : ℕ). find_among (table_of a.new.now) n a.m.«package» a.m.service a.m.method) (laid-methods _ _ c.requires)
 
-pub returns-in-At : goal.returns-in-At
-returns-in-At c =
-    let d = (goal.at.returns-in-At c).After-find_among in
-    c.same_method.ensures ∙ method-there (table_of d.args.new.now) d.args.m _ (found d) _ _ c.method_row.ensures c.in-At.is
+pub returns-in-Some : goal.returns-in-Some
+returns-in-Some c =
+    let d = (goal.at.returns-in-Some c).After-find_among in
+    c.same_method.ensures ∙ method-there (table_of d.args.new.now) d.args.m _ (found d) _ _ c.method_row.ensures c.in-Some.is
 
-pub returns-in-Missing : goal.returns-in-Missing
-returns-in-Missing c =
-    let d = (goal.at.returns-in-Missing c).After-find_among in
-    method-gone (table_of d.args.new.now) d.args.m _ (found d) c.in-Missing.is
+pub returns-in-None : goal.returns-in-None
+returns-in-None c =
+    let d = (goal.at.returns-in-None c).After-find_among in
+    method-gone (table_of d.args.new.now) d.args.m _ (found d) c.in-None.is
