@@ -1,6 +1,8 @@
 -- A file of the right shape as code reads it: the tests of the shape, and rows by number where the layout is at hand.
 use Rattle.std.proofs.Common.{◌≡◌, ℕ, ◌+◌, ◌-◌, ◌*◌, ◌%◌, ◌<◌, ◌≤◌, false, ◌&&◌, eqb, List, length, sym, ap, ◌∙◌, arith, le-leb}
 use borrow.Author.Tests.{lt-leb}
+use native.Mathlib.Decide.{dec_lt}
+use Rattle.schema.specs.declared.TypeRow.{TypeRow}
 use Rattle.schema.specs.declared.Layout.{Layout}
 use Rattle.schema.specs.Table.{row_at}
 use Rattle.schema.specs.File.{cell, type_at, field_at, method_at, trailer_at, shaped, table_of, Laid}
@@ -70,3 +72,12 @@ module _ (s : List ℕ) (l : Layout) (h : Laid s l) where
 
     pub laid-no-method : l.methods ≤ i → no_method ≡ method_row (table_of s) i
     laid-no-method k = sym (method-out s h.shape i (rw h.is at k))
+
+  -- a row past the last has the kind 0
+  pub there : (t : ℕ) → 0 < (row_at (table_of s) t).kind → t < l.types
+  there t some = elim (dec_lt t l.types) [
+    | yes k ↦ k
+    | no g ↦
+        let none : 0 ≡ (row_at (table_of s) t).kind = ap (λ (r : TypeRow). r.kind) (laid-no-row t (omega arith)) in
+        absurd (omega arith)
+  ]

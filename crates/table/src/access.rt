@@ -4,15 +4,14 @@ ghost use Rattle.schema.specs.Table.{row_at};
 ghost use Rattle.schema.specs.File.{table_of};
 ghost use Rattle.schema.specs.Check.{IsGood, field_row_of, method_row, find_method};
 
-use crate::file::{TYPE, layout_of, type_at};
-use crate::rows::{field_row, find_among, method_row, row};
+use crate::good::Schema;
 use schema::{Field, Method, TypeRow};
 
 pub fn type_row(s: &[u8], t: usize) -> TypeRow
     requires { IsGood s.now }
     ensures { result ≡ row_at (table_of s.now) t }
 {
-    row(s, layout_of(s), t)
+    Schema::of_good(s).type_row(t)
 }
 
 // The row of a type that the table has, found without the layout.
@@ -20,29 +19,28 @@ pub fn known_row(s: &[u8], t: usize) -> TypeRow
     requires { IsGood s.now × (0 < (row_at (table_of s.now) t).kind) }
     ensures { result ≡ row_at (table_of s.now) t }
 {
-    type_at(s, TYPE * t)
+    Schema::of_good(s).known_row(t)
 }
 
 pub fn field(s: &[u8], i: usize) -> Field
     requires { IsGood s.now }
     ensures { result ≡ field_row_of (table_of s.now) i }
 {
-    field_row(s, layout_of(s), i)
+    Schema::of_good(s).field(i)
 }
 
 pub fn method_count(s: &[u8]) -> usize
     requires { IsGood s.now }
     ensures { result ≡ length (table_of s.now).methods }
 {
-    let l = layout_of(s);
-    l.methods
+    Schema::of_good(s).method_count()
 }
 
 pub fn method(s: &[u8], i: usize) -> Method
     requires { IsGood s.now }
     ensures { result ≡ method_row (table_of s.now) i }
 {
-    method_row(s, layout_of(s), i)
+    Schema::of_good(s).method(i)
 }
 
 // The first method with these three identifiers.
@@ -50,6 +48,5 @@ pub fn find_method(s: &[u8], package: u32, service: u32, method: u32) -> Option<
     requires { IsGood s.now }
     ensures { result ≡ find_method (table_of s.now) «package» service method }
 {
-    let l = layout_of(s);
-    find_among(s, l, l.methods, package, service, method)
+    Schema::of_good(s).find_method(package, service, method)
 }

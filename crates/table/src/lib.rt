@@ -5,6 +5,7 @@ pub mod access;
 pub mod checking;
 pub mod extension;
 pub mod file;
+pub mod good;
 pub mod kind;
 pub mod product;
 pub mod rows;

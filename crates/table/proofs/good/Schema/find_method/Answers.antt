@@ -1,0 +1,12 @@
+-- `table::good::Schema::find_method` meets its contract: it looks among all methods of the table.
+use Rattle.std.proofs.Common.{ℕ, ap, ◌∙◌}
+use Rattle.schema.specs.File.{table_of}
+use Rattle.schema.specs.Check.{find_among}
+use Rattle.table.proofs.Files.{laid-methods}
+use Rattle.table.proofs.good.Schema.find_method.Goals as goal
+
+pub returns : goal.returns
+returns c =
+    let a = c.args in
+    c.find_among.ensures
+    ∙ ap (λ (n : ℕ). find_among (table_of a.self.now.bytes.now) n a.«package» a.service a.method) (laid-methods _ _ c.layout-l.ensures)
