@@ -1,3 +1,4 @@
 -- The numbers of the papers by their names in code.
 pub mod Table
 pub mod Number
+pub mod Kinds
