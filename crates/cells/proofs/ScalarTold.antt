@@ -26,8 +26,8 @@ use Rattle.schema.proofs.Numbered.{listed, listed-bounds}
 use Rattle.value.specs.declared.Row.{Row}
 use Rattle.scalar.specs.declared.Scalar.{Scalar}
 use Rattle.scalar.specs.declared.Scalar.TheVariants.{Truth, Signed, Unsigned, Float32, Float64, Span}
-use Rattle.scalar.specs.declared.Answer.{Answer}
-use Rattle.scalar.specs.declared.Answer.TheVariants.{Is, Refused}
+use Rattle.scalar.specs.Answer.{Answer}
+use Rattle.scalar.specs.Answer.{Is, Refused}
 use Rattle.scalar.specs.Scalar.{value_of, text_at, by_shape, scalar_of, after_table, scalar_by, scalar_number, scalar_at}
 use Rattle.scalar.proofs.Widths.{width-bounds}
 use Rattle.cells.specs.Scalars.{bits_of, scalar_cells, scalar_told}

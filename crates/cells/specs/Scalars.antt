@@ -5,8 +5,8 @@ use Rattle.std.specs.Float.Ieee.{is_nan, to_bits, of_bits}
 use Rattle.wire.specs.Little.{twos}
 use Rattle.scalar.specs.declared.Scalar.{Scalar}
 use Rattle.scalar.specs.declared.Scalar.TheVariants.{Truth, Signed, Unsigned, Float32, Float64, Span}
-use Rattle.scalar.specs.declared.Answer.{Answer}
-use Rattle.scalar.specs.declared.Answer.TheVariants.{Is, Refused}
+use Rattle.scalar.specs.Answer.{Answer}
+use Rattle.scalar.specs.Answer.{Is, Refused}
 
 -- ---- as cells
 

@@ -21,7 +21,7 @@ use Rattle.schema.proofs.Shapes.{shape-scalar, shape-text, kind_of, Within, with
 use Rattle.value.specs.declared.Row.{Row}
 use Rattle.value.proofs.Spans.{truth-byte}
 use Rattle.value.proofs.Complete.{asks}
-use Rattle.scalar.specs.declared.Answer.TheVariants.{Is, Refused}
+use Rattle.scalar.specs.Answer.{Is, Refused}
 use Rattle.scalar.specs.declared.Scalar.TheVariants.{Span}
 use Rattle.scalar.specs.Scalar.{value_of, text_at, by_shape, scalar_of, scalar_by, scalar_at}
 

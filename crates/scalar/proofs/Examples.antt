@@ -14,8 +14,7 @@ use Rattle.schema.specs.Table.{Table}
 use Rattle.value.specs.declared.Row.{Row}
 use Rattle.scalar.specs.declared.Scalar.{Scalar}
 use Rattle.scalar.specs.declared.Scalar.TheVariants.{Truth, Signed, Unsigned, Float32, Float64, Span}
-use Rattle.scalar.specs.declared.Answer.{Answer}
-use Rattle.scalar.specs.declared.Answer.TheVariants.{Is}
+use Rattle.scalar.specs.Answer.{Answer, Is}
 use Rattle.scalar.specs.Scalar as scalar
 
 abbrev type : ℕ → ℕ → ℕ → TypeRow

@@ -8,3 +8,4 @@ pub mod Twos
 pub mod Reading
 pub mod Examples
 pub mod Signs
+pub mod Told

@@ -1,4 +1,4 @@
--- The answers to a row that is handed out, in 01's numbers.
+-- The answers to a row that is handed out, by the numbers of docs/FORMAT.md.
 use mathlib.Core.Path.{◌≡◌, refl, ap, ap₂, ◌∙◌}
 use mathlib.Core.Logic.{◌↔◌}
 use mathlib.Core.Bool.{Bool, true, false, not, ◌||◌}
@@ -19,8 +19,7 @@ use Rattle.schema.proofs.Numbered.{listed, listed-bounds}
 use Rattle.value.specs.declared.Row.{Row}
 use Rattle.scalar.specs.declared.Scalar.{Scalar}
 use Rattle.scalar.specs.declared.Scalar.TheVariants.{Span}
-use Rattle.scalar.specs.declared.Answer.{Answer}
-use Rattle.scalar.specs.declared.Answer.TheVariants.{Is, Refused}
+use Rattle.scalar.specs.Answer.{Answer, Is, Refused}
 use Rattle.scalar.specs.Scalar.{value_of, text_at, by_shape, scalar_of, after_table, scalar_by, scalar_number, place_of, scalar_at}
 use Rattle.scalar.specs.Leaves.{ShowsLeaf}
 use Rattle.scalar.specs.Reasons.{Reason}

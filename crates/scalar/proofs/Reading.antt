@@ -21,8 +21,7 @@ use Rattle.value.specs.Read.{Item, plan, on_struct_of, root_struct, root_of}
 use Rattle.value.specs.Fits.{LeafFits, AllFit, Fits, RootFits}
 use Rattle.value.proofs.Sound.{asked}
 use Rattle.value.proofs.Placed.{root-placed}
-use Rattle.scalar.specs.declared.Answer.{Answer as Told}
-use Rattle.scalar.specs.declared.Answer.TheVariants.{Refused}
+use Rattle.scalar.specs.Answer.{Answer as Told, Refused}
 use Rattle.scalar.specs.Scalar.{text_at, by_shape, scalar_of, scalar_number, scalar_at}
 use Rattle.scalar.specs.Leaves.{ShowsLeaf, EachLeaf, EachOf}
 use Rattle.scalar.proofs.Answers.{number-told, text-is}

@@ -25,8 +25,7 @@ use Rattle.value.specs.SheetReasons.{RowFault, scalar-unfit, scalar-outside, no_
 use Rattle.value.proofs.Reasons.{denied}
 use Rattle.value.proofs.RowFaults.{bool-fault, string_fault}
 use Rattle.scalar.specs.declared.Scalar.{Scalar}
-use Rattle.scalar.specs.declared.Answer.{Answer}
-use Rattle.scalar.specs.declared.Answer.TheVariants.{Is, Refused}
+use Rattle.scalar.specs.Answer.{Answer, Is, Refused}
 use Rattle.scalar.specs.Scalar.{text_at, by_shape, scalar_of, after_table, scalar_by, scalar_at}
 use Rattle.scalar.specs.Reasons.{Leaf, fault_place, Reason, file, no-leaf, faulty}
 

@@ -5,8 +5,7 @@ use Rattle.schema.specs.Table.{Shape, unknown, scalar, text, array, map, struct}
 use Rattle.value.specs.declared.Row.{Row}
 use Rattle.value.specs.Value.{Tree, tip, branch, Forest, stop, plus}
 use Rattle.scalar.specs.declared.Scalar.TheVariants.{Span}
-use Rattle.scalar.specs.declared.Answer.{Answer}
-use Rattle.scalar.specs.declared.Answer.TheVariants.{Is}
+use Rattle.scalar.specs.Answer.{Answer, Is}
 use Rattle.scalar.specs.Scalar.{value_of}
 
 -- The answer shows a leaf of a shape with the content x: its value, or the span of the bytes where it stands. A composite is no leaf.

@@ -14,8 +14,7 @@ use Rattle.schema.specs.Check.{checked}
 use Rattle.value.specs.declared.Row.{Row}
 use Rattle.scalar.specs.declared.Scalar.{Scalar}
 use Rattle.scalar.specs.declared.Scalar.TheVariants.{Truth, Signed, Unsigned, Float32, Float64, Span}
-use Rattle.scalar.specs.declared.Answer.{Answer}
-use Rattle.scalar.specs.declared.Answer.TheVariants.{Is, Refused}
+use Rattle.scalar.specs.Answer.{Answer, Is, Refused}
 
 -- The value of a scalar's bytes, by its kind: 1 bool, 2 to 5 signed, 6 to 9 unsigned, 10 float32, 11 float64.
 unfoldable pub value_of : (kind : ℕ) → List ℕ → Scalar
@@ -67,7 +66,7 @@ after_table (check.Refused number place) next = Refused number place
 unfoldable pub scalar_by : (schema : List ℕ) → Row → List ℕ → Answer
 scalar_by schema r bytes = after_table (checked schema) (scalar_of (table_of schema) r bytes)
 
--- 01's number and place of an answer: 0 for a value.
+-- The number and place of an answer (docs/FORMAT.md): 0 for a value.
 unfoldable pub scalar_number : Answer → ℕ
 scalar_number (Is x) = 0
 scalar_number (Refused number place) = number

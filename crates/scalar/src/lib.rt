@@ -1,4 +1,4 @@
-// One row of a sheet (01's term) over its bytes, handed out as a value where its type is a scalar, a string or bytes.
+// One row of a sheet (docs/FORMAT.md) over its bytes, handed out as a value where its type is a scalar, a string or bytes.
 #![tactic(auto)]
 
 pub mod entry;
@@ -15,10 +15,4 @@ pub enum Scalar {
     Float64(f64, u64),
     // Where the content of a string or of bytes stands.
     Span { place: usize, length: usize },
-}
-
-#[derive(Clone, Copy)]
-pub enum Answer {
-    Is(Scalar),
-    Refused { number: u32, place: usize },
 }

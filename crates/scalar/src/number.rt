@@ -10,32 +10,23 @@ use table::kind::width_of;
 use wire::bitmap::BYTE_BITS;
 use wire::little::{number, signed};
 
-// Kinds as `usize`.
-const BOOL: usize = kind::BOOL as usize;
-
-const INT64: usize = kind::INT64 as usize;
-
-const UINT64: usize = kind::UINT64 as usize;
-
-const FLOAT32: usize = kind::FLOAT32 as usize;
-
 // The value of a scalar kind at a place.
-pub fn value(s: &[u8], kind: usize, place: usize) -> Scalar
+pub fn value(s: &[u8], kind: u32, place: usize) -> Scalar
     requires { (0 < kind) × (kind < 12) × (place + width kind ≤ length s.now) }
     ensures { result ≡ value_of kind (take (width kind) (drop place s.now)) }
 {
-    let w = width_of(kind);
+    let w = width_of(kind as usize);
     let x = number(s, place, w);
-    if kind == BOOL {
+    if kind == kind::BOOL {
         return Scalar::Truth(x == 1);
     }
-    if kind <= INT64 {
+    if kind <= kind::INT64 {
         return Scalar::Signed(signed(x, 1 << (BYTE_BITS * w - 1)));
     }
-    if kind <= UINT64 {
+    if kind <= kind::UINT64 {
         return Scalar::Unsigned(x);
     }
-    if kind == FLOAT32 {
+    if kind == kind::FLOAT32 {
         let n = x as u32;
         return Scalar::Float32(float32(n), n);
     }

@@ -34,7 +34,7 @@ use Rattle.value.specs.Numbered.{ReadNumber, WriteNumber}
 use Rattle.reader.specs.Entry.{read_outcome, outcome as reader-outcome, room}
 use Rattle.reader.specs.declared.Reading.TheVariants.{Refused as reader-Refused}
 use Rattle.scalar.specs.Scalar.{scalar_by}
-use Rattle.scalar.specs.declared.Answer.TheVariants.{Refused as scalar-Refused}
+use Rattle.scalar.specs.Answer.{Refused as scalar-Refused}
 use Rattle.scalar.specs.Reasons.{Reason as scalar-Reason}
 use Rattle.writer.specs.Entry.{file_outcome, outcome as writer-outcome}
 use Rattle.writer.specs.declared.Writing.TheVariants.{Refused as writer-Refused}

@@ -3,7 +3,7 @@
 
 use constants::limit;
 
-// A row of a sheet (01's term): the type, place, length and count of one value.
+// A row of a sheet (docs/FORMAT.md): the type, place, length and count of one value.
 #[derive(Clone, Copy)]
 pub struct Row {
     pub ty: u32,

@@ -6,7 +6,8 @@ use native.Mathlib.Omega.{arith}
 use borrow.Author.Tests.{leb-true}
 use lib.ListN.{length}
 use Rattle.schema.specs.Table.{width}
-use Rattle.scalar.specs.declared.Answer.TheVariants.{Is}
+use Rattle.scalar.specs.Answer.{Is}
+use Rattle.scalar.specs.Told.{told}
 use Rattle.scalar.proofs.Answers.{wrong-length, outside, no_truth, number_is}
 use Rattle.buffer.specs.Span.{inside}
 use Rattle.scalar.proofs.entry.number_at.Goals.{Else-length-width_of, Else-not-is_inside, else-kind-eq-BOOL, then-kind-eq-BOOL+else-bytes-place-gt1}
@@ -19,12 +20,12 @@ wide c = c.if-length-width_of.false ∙ c.width_of.ensures.0
 pub returns-then-length-width_of : goal.returns-then-length-width_of
 returns-then-length-width_of c =
     let a = c.args in
-    c.refuse.ensures ∙ sym (wrong-length a.kind a.place a.length a.bytes.now (λ e. c.if-length-width_of.true (e ∙ sym c.width_of.ensures.0)))
+    ap told c.at.ensures ∙ sym (wrong-length a.kind a.place a.length a.bytes.now (λ e. c.if-length-width_of.true (e ∙ sym c.width_of.ensures.0)))
 
 pub returns-then-not-is_inside : goal.returns-then-not-is_inside
 returns-then-not-is_inside c =
     let a = c.args in
-    c.refuse-then-not-is_inside.ensures
+    ap told c.at-then-not-is_inside.ensures
     ∙ sym (outside a.kind a.place a.length a.bytes.now (wide (goal.at.returns-then-not-is_inside c).Else-length-width_of) (sym c.is_inside.ensures ∙ c.if-not-is_inside.true))
 
 -- The span is inside.
@@ -34,17 +35,11 @@ within c = sym c.is_inside.ensures ∙ c.if-not-is_inside.false
 room : (c : Else-not-is_inside) → let a = c.args in a.place + a.length ≤ length a.bytes.now
 room c = leb-true _ _ (within c)
 
-pub bounds-bytes-place : goal.bounds-bytes-place
-bounds-bytes-place c = omega (arith, room (goal.at.bounds-bytes-place c).Else-not-is_inside)
-
 pub returns-then-bytes-place-gt1 : goal.returns-then-bytes-place-gt1
 returns-then-bytes-place-gt1 c =
     let t = (goal.at.returns-then-bytes-place-gt1 c).Else-not-is_inside in
     let a = t.args in
-    c.refuse-then-bytes-place-gt1.ensures ∙ sym (no_truth a.kind a.place a.length a.bytes.now (wide (goal.at.returns-then-bytes-place-gt1 c).Else-length-width_of) (within t) c.if-kind-eq-BOOL.true c.if-bytes-place-gt1.true)
-
-pub value-requires : goal.value-requires
-value-requires c = (c.requires.0, c.requires.1, rw (wide (goal.at.value-requires c).Else-length-width_of) at (room (goal.at.value-requires c).Else-not-is_inside))
+    ap told c.at-then-bytes-place-gt1.ensures ∙ sym (no_truth a.kind a.place a.length a.bytes.now (wide (goal.at.returns-then-bytes-place-gt1 c).Else-length-width_of) (within t) c.if-kind-eq-BOOL.true c.if-bytes-place-gt1.true)
 
 pub returns : goal.returns
 returns c =

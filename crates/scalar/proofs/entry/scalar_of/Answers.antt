@@ -1,41 +1,36 @@
 -- `scalar::entry::scalar_of` meets its contract, by the kind of the row's type.
 use mathlib.Core.Path.{◌≡◌, sym, ap, ◌∙◌}
 use Rattle.schema.specs.declared.TypeRow.{TypeRow}
+use Rattle.scalar.specs.Told.{told}
 use Rattle.schema.specs.Table.{row_at}
 use Rattle.schema.specs.File.{table_of}
 use Rattle.schema.specs.Good.{GoodSchema}
 use Rattle.schema.proofs.Goods.{good-table}
 use Rattle.scalar.proofs.Answers.{row-refused, row-passed, number-row, text-row}
 use borrow.Author.Rules.{rules}
-use Rattle.scalar.proofs.entry.scalar_of.Goals.{After-type_row-t}
+use Rattle.scalar.proofs.entry.scalar_of.Goals.{After-type_row-kind}
 use Rattle.scalar.proofs.entry.scalar_of.Goals as goal
 
 -- The kind is the table's.
-kind-is : (c : After-type_row-t) → let a = c.args in (row_at (table_of a.schema.now) a.row.ty).kind ≡ c.type_row-t.result.kind
-kind-is c = ap (λ (r : TypeRow). r.kind) (sym c.type_row-t.ensures)
+kind-is : (c : After-type_row-kind) → let a = c.args in (row_at (table_of a.schema.now) a.row.ty).kind ≡ c.type_row-kind.result.kind
+kind-is c = ap (λ (r : TypeRow). r.kind) (sym c.type_row-kind.ensures)
 
-good : (c : After-type_row-t) → GoodSchema (table_of c.args.schema.now)
+good : (c : After-type_row-kind) → GoodSchema (table_of c.args.schema.now)
 good c = good-table _ c.requires
 
 pub returns-then-kind-row : goal.returns-then-kind-row
 returns-then-kind-row c =
-    let t = (goal.at.returns-then-kind-row c).After-type_row-t in
-    c.refuse.ensures ∙ sym (row-refused _ (good t) _ _ _ (kind-is t) c.if-kind-row.true)
-
-pub number_at-requires : goal.number_at-requires
-number_at-requires c =
-    let t = (goal.at.number_at-requires c).After-type_row-t in
-    let p = row-passed _ (good t) c.args.row c.args.bytes.now _ (kind-is t) c.if-kind-row.false in
-    (p.0, c.if-kind-lt-STRING.true, search rules, search rules)
+    let t = (goal.at.returns-then-kind-row c).After-type_row-kind in
+    ap told c.at.ensures ∙ sym (row-refused _ (good t) _ _ _ (kind-is t) c.if-kind-row.true)
 
 pub returns-then-kind-lt-STRING : goal.returns-then-kind-lt-STRING
 returns-then-kind-lt-STRING c =
-    let t = (goal.at.returns-then-kind-lt-STRING c).After-type_row-t in
+    let t = (goal.at.returns-then-kind-lt-STRING c).After-type_row-kind in
     let p = row-passed _ (good t) c.args.row c.args.bytes.now _ (kind-is t) c.if-kind-row.false in
     c.number_at.ensures ∙ sym (number-row _ (good t) _ _ _ (kind-is t) p.0 c.if-kind-lt-STRING.true p.2)
 
 pub returns-else-kind-lt-STRING : goal.returns-else-kind-lt-STRING
 returns-else-kind-lt-STRING c =
-    let t = (goal.at.returns-else-kind-lt-STRING c).After-type_row-t in
+    let t = (goal.at.returns-else-kind-lt-STRING c).After-type_row-kind in
     let p = row-passed _ (good t) c.args.row c.args.bytes.now _ (kind-is t) c.if-kind-row.false in
     c.text_at.ensures ∙ sym (text-row _ (good t) _ _ _ (kind-is t) c.if-kind-lt-STRING.false p.1 p.2)

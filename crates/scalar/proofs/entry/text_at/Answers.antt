@@ -4,6 +4,7 @@ use mathlib.Core.Path.{◌≡◌, sym, ap, ◌∙◌}
 use native.Mathlib.Omega.{arith}
 use borrow.Author.Tests.{leb-true}
 use Rattle.utf8.specs.Utf8.{utf8}
+use Rattle.scalar.specs.Told.{told}
 use Rattle.scalar.proofs.Answers.{text-outside, no-utf8, text-is}
 use Rattle.buffer.specs.Span.{span, inside}
 use Rattle.buffer.proofs.Spans.{slice-span}
@@ -21,16 +22,13 @@ judged c = let a = c.args in c.valid.ensures ∙ ap utf8 (slice-span a.bytes.now
 pub returns-then-not-is_inside : goal.returns-then-not-is_inside
 returns-then-not-is_inside c =
     let a = c.args in
-    c.refuse.ensures
+    ap told c.at.ensures
     ∙ sym (text-outside a.kind a.place a.length a.bytes.now (sym c.is_inside.ensures ∙ c.if-not-is_inside.true))
-
-pub valid-requires : goal.valid-requires
-valid-requires c = (omega arith, leb-true _ _ (within (goal.at.valid-requires c).Else-not-is_inside))
 
 pub returns-then-not-valid : goal.returns-then-not-valid
 returns-then-not-valid c =
     let a = c.args in
-    c.refuse-then-not-valid.ensures
+    ap told c.at-then-not-valid.ensures
     ∙ sym (no-utf8 a.kind a.place a.length a.bytes.now (within (goal.at.returns-then-not-valid c).Else-not-is_inside) c.if-kind-eq-STRING.true (sym (judged (goal.at.returns-then-not-valid c).After-valid) ∙ c.if-not-valid.true))
 
 pub returns-else-not-valid : goal.returns-else-not-valid
