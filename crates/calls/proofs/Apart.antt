@@ -18,8 +18,8 @@ use Rattle.calls.specs.declared.FormRow.{FormRow}
 use Rattle.calls.specs.declared.Frame.{Frame}
 use Rattle.calls.specs.declared.Payload.{Payload}
 use Rattle.calls.specs.declared.Payload.TheVariants.{Unread}
-use Rattle.calls.specs.declared.Judged.{Judged}
-use Rattle.calls.specs.declared.Judged.TheVariants.{Refused, Opens, Goes}
+use Rattle.calls.specs.Judged.{Judged}
+use Rattle.calls.specs.Judged.{Refused, Opens, Goes}
 use Rattle.calls.specs.Forms.{row_of_form}
 use Rattle.calls.specs.Numbers.{ends_call, EndsCall, payload, many-pairs}
 use Rattle.calls.specs.Record.{empty_call, opened_call, is_call, is_free, complete, allowed, not_allowed, at_limit, marked, with_mark, after_frame}

@@ -14,7 +14,7 @@ use Rattle.calls.specs.declared.Call.{Call}
 use Rattle.calls.specs.declared.Frame.{Frame}
 use Rattle.calls.specs.declared.Payload.{Payload}
 use Rattle.calls.specs.declared.Payload.TheVariants.{Unread}
-use Rattle.calls.specs.declared.Judged.TheVariants.{Opens, Goes}
+use Rattle.calls.specs.Judged.{Opens, Goes}
 use Rattle.calls.specs.Forms.{row_of_form}
 use Rattle.calls.specs.Record.{is_call, is_free, empty_call, opened_call, allowed, not_allowed, at_limit, after_frame}
 use Rattle.calls.specs.Slots.{slot, first_slot, slot_of, record_at, own_of, full, form_row}

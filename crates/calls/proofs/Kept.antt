@@ -13,8 +13,8 @@ use Rattle.calls.specs.declared.Call.{Call}
 use Rattle.calls.specs.declared.FormRow.{FormRow}
 use Rattle.calls.specs.declared.Frame.{Frame}
 use Rattle.calls.specs.declared.Payload.{Payload}
-use Rattle.calls.specs.declared.Judged.{Judged}
-use Rattle.calls.specs.declared.Judged.TheVariants.{Refused, Opens, Goes}
+use Rattle.calls.specs.Judged.{Judged}
+use Rattle.calls.specs.Judged.{Refused, Opens, Goes}
 use Rattle.calls.specs.Numbers.{ends_call}
 use Rattle.calls.specs.Record.{empty_call, opened_call, is_call, is_free, complete, allowed, is_input, is_output, counting, marked, ends, after_frame}
 use Rattle.calls.specs.Slots.{slot, first_slot, form_row, good_table}

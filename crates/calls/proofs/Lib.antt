@@ -17,3 +17,4 @@ pub mod Counted
 pub mod Once
 pub mod Pasts
 pub mod Payloads
+pub mod Told

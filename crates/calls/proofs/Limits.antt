@@ -14,8 +14,8 @@ use Rattle.schema.proofs.Bools.{or-false}
 use Rattle.calls.specs.declared.Call.{Call}
 use Rattle.calls.specs.declared.Frame.{Frame}
 use Rattle.calls.specs.declared.Payload.{Payload}
-use Rattle.calls.specs.declared.Judged.{Judged}
-use Rattle.calls.specs.declared.Judged.TheVariants.{Refused, Opens, Goes}
+use Rattle.calls.specs.Judged.{Judged}
+use Rattle.calls.specs.Judged.{Refused, Opens, Goes}
 use Rattle.calls.specs.Numbers.{ends_call}
 pub use Rattle.calls.specs.Limits.{FewElements, FewIn}
 use Rattle.calls.specs.Record.{empty_call, is_call, is_input, is_output, at_limit, counting, marked, ends}

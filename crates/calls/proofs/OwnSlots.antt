@@ -11,7 +11,7 @@ use Rattle.schema.specs.Check.{is_missing}
 use Rattle.schema.proofs.Bools.{clash}
 use Rattle.calls.specs.declared.Call.{Call}
 use Rattle.calls.specs.declared.Frame.{Frame}
-use Rattle.calls.specs.declared.Judged.{Judged}
+use Rattle.calls.specs.Judged.{Judged}
 use Rattle.calls.specs.declared.OwnSlot.{OwnSlot}
 use Rattle.calls.specs.Record.{is_call, is_free}
 use Rattle.calls.specs.Slots.{first_slot, slot_of, own_of, full}

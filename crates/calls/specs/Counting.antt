@@ -1,8 +1,8 @@
 -- Tally rows (02's term), one a method: which figure of which row a judged frame or release raises, when that figure is full, and the row afterwards.
 use Rattle.std.specs.Prelude.{ℕ, ◌+◌, Bool, cond, List, eqb}
 use Rattle.calls.specs.declared.Call.{Call}
-use Rattle.calls.specs.declared.Judged.{Judged}
-use Rattle.calls.specs.declared.Judged.TheVariants.{Refused, Opens, Goes}
+use Rattle.calls.specs.Judged.{Judged}
+use Rattle.calls.specs.Judged.{Refused, Opens, Goes}
 use Rattle.calls.specs.declared.Tally.{Tally}
 use Rattle.calls.specs.declared.Figure.{Figure}
 use Rattle.calls.specs.declared.Figure.TheVariants.{Nothing, Opened, Completed, Errored, Cancelled, Failed}

@@ -8,8 +8,8 @@ use Rattle.calls.specs.declared.Call.{Call}
 use Rattle.calls.specs.declared.Frame.{Frame}
 use Rattle.calls.specs.declared.Payload.{Payload}
 use Rattle.calls.specs.declared.Payload.TheVariants.{Struct, Empty, Unread}
-use Rattle.calls.specs.declared.Judged.{Judged}
-use Rattle.calls.specs.declared.Judged.TheVariants.{Refused, Opens, Goes}
+use Rattle.calls.specs.Judged.{Judged}
+use Rattle.calls.specs.Judged.{Refused, Opens, Goes}
 use Rattle.calls.specs.Forms.{row_of_form}
 use Rattle.calls.specs.Record.{is_call, is_free, empty_call, opened_call, allowed, not_allowed, at_limit, after_frame}
 use Rattle.calls.specs.Slots.{first_slot, slot_of, own_of, full}

@@ -4,6 +4,8 @@ pub mod Numbers
 pub mod Record
 pub mod Slots
 pub mod Limits
+pub mod Judged
+pub mod Told
 pub mod Judge
 pub mod OwnSlots
 pub mod Step

@@ -4,7 +4,7 @@ use Rattle.schema.specs.Table.{Table}
 use Rattle.schema.specs.Check.{is_missing}
 use Rattle.calls.specs.declared.Call.{Call}
 use Rattle.calls.specs.declared.Frame.{Frame}
-use Rattle.calls.specs.declared.Judged.{Judged}
+use Rattle.calls.specs.Judged.{Judged}
 use Rattle.calls.specs.declared.OwnSlot.{OwnSlot}
 use Rattle.calls.specs.Record.{is_call, is_free}
 use Rattle.calls.specs.Slots.{first_slot, slot_of, own_of}

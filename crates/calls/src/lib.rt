@@ -2,6 +2,12 @@
 // their laws in proofs/, and the code in the crate `connection`.
 #![tactic(auto)]
 
+ghost use Rattle.std.specs.Prelude.{◌≡◌};
+ghost use Rattle.calls.specs.declared.Stop.TheVariants.{Refused};
+ghost use Rattle.calls.specs.Told.{number_of_stop};
+
+use constants::refusal::{MORE, Refusal};
+
 // The record of a call. A free slot is zero in every member.
 #[derive(Clone, Copy)]
 pub struct Call {
@@ -18,7 +24,7 @@ pub struct Call {
     pub output_elements: u16,
 }
 
-// A row of the draft's Table 1: whether the form allows IN_STREAM, IN_CLOSE, OUT_STREAM and OUT_CLOSE.
+// A row of the forms' table: whether the form allows IN_STREAM, IN_CLOSE, OUT_STREAM and OUT_CLOSE.
 #[derive(Clone, Copy)]
 pub struct FormRow(pub bool, pub bool, pub bool, pub bool);
 
@@ -48,15 +54,39 @@ pub struct OwnSlot {
     pub slot: Option<usize>,
 }
 
-// A frame judged before its payload is read; or a release, which reads nothing.
+// A frame that is allowed, before its payload is read; or a release, which reads nothing.
 #[derive(Clone, Copy)]
-pub enum Judged {
-    // It is refused with this number.
-    Refused(u32),
+pub enum Allowed {
     // It opens a call at this slot, with this record.
     Opens(usize, Call, Payload),
     // It goes to the open call at this slot, whose record is this one once the frame is accepted.
     Goes(usize, Call, Payload),
+}
+
+// Why a frame or a release changes nothing: more bytes are needed, or it is refused.
+#[derive(Clone, Copy)]
+pub enum Stop {
+    More,
+    Refused(Refusal),
+}
+
+impl From<Refusal> for Stop {
+    ghost from_gives = { λ refusal stop. stop ≡ Refused refusal };
+
+    fn from(refusal: Refusal) -> Stop {
+        Stop::Refused(refusal)
+    }
+}
+
+impl From<Stop> for u32 {
+    ghost from_gives = { λ stop number. number ≡ number_of_stop stop };
+
+    fn from(stop: Stop) -> u32 {
+        match stop {
+            Stop::More => MORE,
+            Stop::Refused(refusal) => refusal as u32,
+        }
+    }
 }
 
 // The record that an answer puts at a slot; there is no slot 128.
@@ -66,7 +96,7 @@ pub struct Change {
     pub call: Call,
 }
 
-// A tally row (02's term): how many calls of a method were opened, and how many ended in each way.
+// A tally row: how many calls of a method were opened, and how many ended in each way.
 #[derive(Clone, Copy)]
 pub struct Tally {
     pub opened: u32,

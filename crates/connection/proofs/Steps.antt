@@ -10,8 +10,8 @@ use borrow.Author.Tests.{eq-eqb, ne_eqb}
 use Rattle.wire.proofs.Cases.{differ}
 use Rattle.calls.specs.declared.Call.{Call}
 use Rattle.calls.specs.declared.Payload.{Payload}
-use Rattle.calls.specs.declared.Judged.{Judged}
-use Rattle.calls.specs.declared.Judged.TheVariants.{Refused, Opens, Goes}
+use Rattle.calls.specs.Judged.{Judged}
+use Rattle.calls.specs.Judged.{Refused, Opens, Goes}
 use Rattle.calls.specs.declared.Change.{Change}
 use Rattle.calls.specs.Numbers.{ends_call}
 use Rattle.calls.specs.Record.{empty_call}

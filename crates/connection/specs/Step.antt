@@ -1,7 +1,7 @@
 -- The call table by value: the fresh one, and the next one beside the answer's number.
 use Rattle.std.specs.Prelude.{ℕ, List}
 use Rattle.calls.specs.declared.Call.{Call}
-use Rattle.calls.specs.declared.Judged.{Judged}
+use Rattle.calls.specs.Judged.{Judged}
 use Rattle.calls.specs.Slots.{fresh_slots}
 use Rattle.calls.specs.Step.{after_judged}
 use Rattle.connection.specs.declared.CallTable.{CallTable}

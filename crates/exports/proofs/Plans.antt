@@ -13,8 +13,8 @@ use Rattle.schema.specs.File.{table_of}
 use Rattle.schema.specs.Check.{checked}
 use Rattle.calls.specs.declared.Call.{Call}
 use Rattle.calls.specs.declared.Change.{Change}
-use Rattle.calls.specs.declared.Judged.{Judged}
-use Rattle.calls.specs.declared.Judged.TheVariants.{Refused as JudgedRefused}
+use Rattle.calls.specs.Judged.{Judged}
+use Rattle.calls.specs.Judged.{Refused as JudgedRefused}
 use Rattle.calls.specs.Step.{number_after, slots_after, Changes}
 use Rattle.connection.specs.Step.{step_of}
 use Rattle.calls.specs.Slots.{good_table, count_open}

@@ -27,8 +27,8 @@ use Rattle.salvage.specs.declared.Salvaging.{Salvaging}
 use Rattle.salvage.specs.Salvage.{salvage_entries, salvage_bytes, salvage_spans}
 use Rattle.calls.specs.declared.Call.{Call}
 use Rattle.calls.specs.declared.Tally.{Tally}
-use Rattle.calls.specs.declared.Judged.{Judged}
-use Rattle.calls.specs.declared.Judged.TheVariants.{Refused as JudgedRefused}
+use Rattle.calls.specs.Judged.{Judged}
+use Rattle.calls.specs.Judged.{Refused as JudgedRefused}
 use Rattle.receiver.specs.declared.Received.{Received}
 use Rattle.receiver.specs.Answer.{Effect, effect, stopped}
 use Rattle.receiver.specs.declared.Plan.{Plan}

@@ -22,8 +22,8 @@ use Rattle.calls.specs.declared.Tally.{Tally}
 use Rattle.calls.specs.declared.Frame.{Frame}
 use Rattle.calls.specs.declared.Payload.{Payload}
 use Rattle.calls.specs.declared.Payload.TheVariants.{Unread}
-use Rattle.calls.specs.declared.Judged.{Judged}
-use Rattle.calls.specs.declared.Judged.TheVariants.{Refused as JudgedRefused, Opens, Goes}
+use Rattle.calls.specs.Judged.{Judged}
+use Rattle.calls.specs.Judged.{Refused as JudgedRefused, Opens, Goes}
 use Rattle.calls.specs.Numbers.{ends_call, uses_frame, UsesFrame, accepted, call, dropped, refused, refused-pairs}
 use Rattle.calls.specs.declared.Rise.{Rise}
 use Rattle.calls.specs.declared.Figure.TheVariants.{Nothing as NoFigure}

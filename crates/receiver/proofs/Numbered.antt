@@ -29,8 +29,8 @@ use Rattle.calls.specs.declared.Tally.{Tally}
 use Rattle.calls.specs.declared.Frame.{Frame}
 use Rattle.calls.specs.declared.Payload.{Payload}
 use Rattle.calls.specs.declared.Payload.TheVariants.{Unread}
-use Rattle.calls.specs.declared.Judged.{Judged}
-use Rattle.calls.specs.declared.Judged.TheVariants.{Refused as JudgedRefused, Opens, Goes}
+use Rattle.calls.specs.Judged.{Judged}
+use Rattle.calls.specs.Judged.{Refused as JudgedRefused, Opens, Goes}
 use Rattle.calls.specs.Forms.{row_of_form}
 use Rattle.calls.specs.Numbers.{UsesFrame, accepted as zero-used, call as call-used, dropped, refused as value-used, refused-pairs}
 use Rattle.calls.specs.Record.{empty_call, allowed, not_allowed, at_limit, after_frame}

@@ -21,13 +21,13 @@ use Rattle.wire.proofs.Cases.{differ}
 use Rattle.calls.specs.declared.Call.{Call}
 use Rattle.calls.specs.declared.Frame.{Frame}
 use Rattle.calls.specs.declared.Payload.{Payload}
-use Rattle.calls.specs.declared.Judged.{Judged}
+use Rattle.calls.specs.Judged.{Judged}
 use Rattle.calls.specs.declared.Tally.{Tally}
 use Rattle.calls.specs.declared.Figure.{Figure}
 use Rattle.calls.specs.declared.Figure.TheVariants.{Nothing}
 use Rattle.calls.specs.declared.Rise.{Rise}
 use Rattle.calls.specs.Numbers.{ends_call, uses_frame}
-use Rattle.calls.specs.declared.Judged.TheVariants.{Refused as JudgedRefused}
+use Rattle.calls.specs.Judged.{Refused as JudgedRefused}
 use Rattle.calls.specs.Slots.{good_table, count_open}
 use Rattle.calls.specs.Judge.{judge_release}
 use Rattle.calls.specs.Step.{due_of}

@@ -26,8 +26,8 @@ use Rattle.calls.specs.declared.Tally.{Tally}
 use Rattle.calls.specs.declared.Figure.{Figure}
 use Rattle.calls.specs.declared.Figure.TheVariants.{Nothing as NoFigure}
 use Rattle.calls.specs.declared.Rise.{Rise}
-use Rattle.calls.specs.declared.Judged.{Judged}
-use Rattle.calls.specs.declared.Judged.TheVariants.{Refused as JudgedRefused, Opens, Goes}
+use Rattle.calls.specs.Judged.{Judged}
+use Rattle.calls.specs.Judged.{Refused as JudgedRefused, Opens, Goes}
 use Rattle.calls.specs.declared.Payload.TheVariants.{Struct, Empty, Unread}
 use Rattle.calls.specs.Record.{empty_call, is_call}
 use Rattle.calls.specs.Slots.{slot, count_open, good_table, contains, own_of, full}

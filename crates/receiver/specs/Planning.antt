@@ -12,7 +12,7 @@ use Rattle.frame.specs.declared.FrameRead.TheVariants.{More, Frame as Whole, Ref
 use Rattle.frame.specs.Frame.{frame_of}
 use Rattle.calls.specs.declared.Call.{Call}
 use Rattle.calls.specs.declared.Frame.{Frame}
-use Rattle.calls.specs.declared.Judged.{Judged}
+use Rattle.calls.specs.Judged.{Judged}
 use Rattle.calls.specs.declared.Rise.{Rise}
 use Rattle.calls.specs.declared.OwnSlot.{OwnSlot}
 use Rattle.calls.specs.Slots.{slot_of, good_table}

@@ -4,7 +4,7 @@ use Rattle.std.specs.Prelude.{◌≡◌, ℕ, ◌-◌, List, length, take, drop,
 use Rattle.schema.specs.File.{table_of}
 use Rattle.calls.specs.declared.Call.{Call}
 use Rattle.calls.specs.declared.Frame.{Frame}
-use Rattle.calls.specs.declared.Judged.{Judged}
+use Rattle.calls.specs.Judged.{Judged}
 use Rattle.calls.specs.declared.Rise.{Rise}
 use Rattle.calls.specs.declared.Tally.{Tally}
 use Rattle.calls.specs.Judge.{judge_of}

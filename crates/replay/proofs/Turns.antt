@@ -18,7 +18,7 @@ use Rattle.frame.proofs.Frames.{read-is-frame}
 use Rattle.frame.proofs.Answers.{used-inside}
 use Rattle.record.proofs.Entries.{frame-least}
 use Rattle.calls.specs.declared.Call.{Call}
-use Rattle.calls.specs.declared.Judged.TheVariants.{Refused as JudgedRefused}
+use Rattle.calls.specs.Judged.{Refused as JudgedRefused}
 use Rattle.calls.specs.declared.Tally.{Tally}
 use Rattle.calls.specs.Numbers.{uses_frame}
 use Rattle.calls.specs.Judge.{judge_of, verdict_of}

@@ -7,7 +7,7 @@ use Rattle.schema.specs.Check.{named}
 use Rattle.calls.specs.declared.Call.{Call}
 use Rattle.calls.specs.declared.Frame.{Frame}
 use Rattle.calls.specs.declared.FormRow.{FormRow}
-use Rattle.calls.specs.declared.Judged.TheVariants.{Refused}
+use Rattle.calls.specs.Judged.{Refused}
 use Rattle.calls.specs.Record.{allowed}
 use Rattle.calls.specs.Judge.{call_verdict, placed}
 use Rattle.connection.proofs.judge.judge_call.Goals as goal

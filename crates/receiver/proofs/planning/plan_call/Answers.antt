@@ -1,6 +1,6 @@
 -- `receiver::planning::plan_call` meets its contract: judged, and what it raises.
 use mathlib.Core.Path.{◌∙◌, ap}
-use Rattle.calls.specs.declared.Judged.{Judged}
+use Rattle.calls.specs.Judged.{Judged}
 use Rattle.calls.specs.Apart.{verdict, verdict_release_rise}
 use Rattle.receiver.specs.Planning.{judged_plan}
 use Rattle.receiver.proofs.planning.plan_call.Goals as goal
