@@ -1,9 +1,11 @@
 // The record of a call: all that depends on its members.
 ghost use Rattle.std.specs.Prelude.{◌≡◌, true, false, ◌<◌};
+ghost use Rattle.constants.specs.Number.{number_of};
 ghost use Rattle.calls.specs.Record.{is_call, is_free, opened_call, complete, allowed, not_allowed, counting, at_limit, marked, after_frame, zero_call, good_open};
 
 use calls::{Call, FormRow};
-use constants::{frame_kind, limit, refusal};
+use constants::refusal::Refusal;
+use constants::{frame_kind, limit};
 
 pub const EMPTY: Call = Call {
     correlation: 0,
@@ -79,13 +81,13 @@ pub fn allows(call: Call, row: FormRow, kind: u8) -> bool
 }
 
 // The number of a frame that is not allowed now: a server frame of a cancelled call is dropped.
-pub fn not_allowed(call: Call, kind: u8) -> u32
-    ensures { result ≡ not_allowed kind call }
+pub fn not_allowed(call: Call, kind: u8) -> Refusal
+    ensures { number_of result ≡ not_allowed kind call }
 {
     if call.cancelled & ((frame_kind::OUT_STREAM <= kind) & (kind <= frame_kind::ERROR)) {
-        refusal::DROPPED
+        Refusal::Dropped
     } else {
-        refusal::NOT_NOW
+        Refusal::NotNow
     }
 }
 

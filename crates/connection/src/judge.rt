@@ -5,11 +5,14 @@ ghost use Rattle.schema.specs.Check.{IsGood, is_missing};
 ghost use Rattle.calls.specs.Slots.{slot_of};
 ghost use Rattle.calls.specs.Judge.{right_side, typed, payload_of, call_verdict, open_verdict, invoke_verdict, other_verdict, method_of, release_verdict, placed};
 ghost use Rattle.calls.specs.OwnSlots.{judged_at};
+ghost use Rattle.calls.specs.Told.{told};
+ghost use Rattle.constants.specs.Number.{number_of};
 
 use crate::call_record::{EMPTY, after, allows, at_limit, not_allowed, opened};
 use crate::forms::row_of;
-use calls::{Call, Frame, Judged, OwnSlot, Payload};
-use constants::{format, frame_kind, limit, refusal, side};
+use calls::{Allowed, Call, Frame, OwnSlot, Payload};
+use constants::refusal::Refusal;
+use constants::{format, frame_kind, limit, side};
 use schema::Method;
 use table::access::{find_method, method};
 use table::rows::is_named;
@@ -37,6 +40,7 @@ fn of_type(t: u32) -> Payload
 }
 
 // What the payload of a frame to a call of this method holds.
+#[tactic(auto, unfolding(calls::specs::Judge::payload_of))]
 pub fn payload_of(m: Method, kind: u8) -> Payload
     ensures { result ≡ payload_of m kind }
 {
@@ -61,43 +65,43 @@ fn slot_of(found: Option<usize>) -> usize
 }
 
 // A frame that is no INVOKE, to this open call of method m at slot i.
-pub fn judge_call(call: Call, m: Method, f: Frame, i: usize) -> Judged
-    ensures { result ≡ placed i (call_verdict m f call) }
+pub fn judge_call(call: Call, m: Method, f: Frame, i: usize) -> Result<Allowed, Refusal>
+    ensures { told number_of result ≡ placed i (call_verdict m f call) }
 {
     if !is_named(m, f.package, f.service, f.method) {
-        return Judged::Refused(refusal::OTHER_METHOD);
+        return Err(Refusal::OtherMethod);
     }
     let row = row_of(m.form);
     if !allows(call, row, f.kind) {
-        return Judged::Refused(not_allowed(call, f.kind));
+        return Err(not_allowed(call, f.kind));
     }
     if at_limit(call, f.kind) {
-        return Judged::Refused(refusal::TOO_MANY_ELEMENTS);
+        return Err(Refusal::TooManyElements);
     }
-    Judged::Goes(i, after(call, row, f.kind), payload_of(m, f.kind))
+    Ok(Allowed::Goes(i, after(call, row, f.kind), payload_of(m, f.kind)))
 }
 
 // An INVOKE that would make this record.
-fn judge_opening(seen: OwnSlot, new: Call, payload: Payload) -> Judged
-    ensures { result ≡ placed (slot_of seen.slot) (open_verdict new payload seen.own (is_missing seen.slot)) }
+fn judge_opening(seen: OwnSlot, new: Call, payload: Payload) -> Result<Allowed, Refusal>
+    ensures { told number_of result ≡ placed (slot_of seen.slot) (open_verdict new payload seen.own (is_missing seen.slot)) }
 {
     let own = seen.own;
     let slot = seen.slot;
     match own {
-        Some(_) => Judged::Refused(refusal::CALL_OPEN),
+        Some(_) => Err(Refusal::CallOpen),
         None => match slot {
-            Some(j) => Judged::Opens(j, new, payload),
-            None => Judged::Refused(refusal::TOO_MANY_CALLS),
+            Some(j) => Ok(Allowed::Opens(j, new, payload)),
+            None => Err(Refusal::TooManyCalls),
         },
     }
 }
 
-fn judge_invoke(seen: OwnSlot, s: &[u8], f: Frame) -> Judged
+fn judge_invoke(seen: OwnSlot, s: &[u8], f: Frame) -> Result<Allowed, Refusal>
     requires { IsGood s.now }
-    ensures { result ≡ placed (slot_of seen.slot) (invoke_verdict (table_of s.now) f.correlation (method_of (table_of s.now) f) seen.own (is_missing seen.slot)) }
+    ensures { told number_of result ≡ placed (slot_of seen.slot) (invoke_verdict (table_of s.now) f.correlation (method_of (table_of s.now) f) seen.own (is_missing seen.slot)) }
 {
     match find_method(s, f.package, f.service, f.method) {
-        None => Judged::Refused(refusal::UNKNOWN_METHOD),
+        None => Err(Refusal::UnknownMethod),
         Some(m) => {
             let payload = payload_of(method(s, m), frame_kind::INVOKE);
             judge_opening(seen, opened(m as u32, f.correlation), payload)
@@ -105,25 +109,26 @@ fn judge_invoke(seen: OwnSlot, s: &[u8], f: Frame) -> Judged
     }
 }
 
-fn judge_other(seen: OwnSlot, s: &[u8], f: Frame) -> Judged
+fn judge_other(seen: OwnSlot, s: &[u8], f: Frame) -> Result<Allowed, Refusal>
     requires { IsGood s.now }
-    ensures { result ≡ placed (slot_of seen.slot) (other_verdict (table_of s.now) f seen.own) }
+    ensures { told number_of result ≡ placed (slot_of seen.slot) (other_verdict (table_of s.now) f seen.own) }
 {
     let own = seen.own;
     let slot = seen.slot;
     match own {
-        None => Judged::Refused(refusal::CALL_NOT_OPEN),
+        None => Err(Refusal::CallNotOpen),
         Some(call) => judge_call(call, method(s, call.method as usize), f, slot_of(slot)),
     }
 }
 
 // A frame before its payload is read, against a good schema table.
-pub fn judge_frame(seen: OwnSlot, s: &[u8], f: Frame) -> Judged
+#[tactic(auto, unfolding(calls::specs::OwnSlots::judged_at, calls::specs::Judge::verdict_of))]
+pub fn judge_frame(seen: OwnSlot, s: &[u8], f: Frame) -> Result<Allowed, Refusal>
     requires { IsGood s.now }
-    ensures { result ≡ judged_at (table_of s.now) f seen }
+    ensures { told number_of result ≡ judged_at (table_of s.now) f seen }
 {
     if !right_side(f.side, f.kind) {
-        return Judged::Refused(refusal::WRONG_SIDE);
+        return Err(Refusal::WrongSide);
     }
     if f.kind == frame_kind::INVOKE {
         judge_invoke(seen, s, f)
@@ -133,18 +138,18 @@ pub fn judge_frame(seen: OwnSlot, s: &[u8], f: Frame) -> Judged
 }
 
 // A release, before the call is ended.
-pub fn judge_release(seen: OwnSlot) -> Judged
-    ensures { result ≡ placed (slot_of seen.slot) (release_verdict seen.own) }
+pub fn judge_release(seen: OwnSlot) -> Result<Allowed, Refusal>
+    ensures { told number_of result ≡ placed (slot_of seen.slot) (release_verdict seen.own) }
 {
     let own = seen.own;
     let slot = seen.slot;
     match own {
-        None => Judged::Refused(refusal::CALL_NOT_OPEN),
+        None => Err(Refusal::CallNotOpen),
         Some(call) => {
             if call.cancelled {
-                Judged::Goes(slot_of(slot), EMPTY, Payload::Unread)
+                Ok(Allowed::Goes(slot_of(slot), EMPTY, Payload::Unread))
             } else {
-                Judged::Refused(refusal::NOT_NOW)
+                Err(Refusal::NotNow)
             }
         }
     }

@@ -10,7 +10,7 @@ pub mod slots;
 pub mod step;
 pub mod tallies;
 
-use calls::Call;
+use calls::{Call, Stop};
 use constants::limit;
 
 #[derive(Clone, Copy)]
@@ -18,9 +18,9 @@ pub struct CallTable {
     pub slots: [Call; limit::CALLS],
 }
 
-// The answer's number and the next table.
+// The answer and the next table.
 #[derive(Clone, Copy)]
 pub struct Stepped {
-    pub number: u32,
+    pub answer: Result<(), Stop>,
     pub table: CallTable,
 }

@@ -85,6 +85,7 @@ impl CallTable {
     }
 
     // The own call of a correlation: its record and its slot; where a call is to be opened, the lowest free slot.
+    #[tactic(auto, unfolding(calls::specs::Slots::own_of))]
     pub fn own_slot(self, id: u64, opens: bool) -> OwnSlot
         ensures { result ≡ own_slot_of id opens self.slots }
     {

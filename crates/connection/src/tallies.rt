@@ -1,11 +1,14 @@
 // Tally rows: what a judged frame or release raises in the row of its method.
 ghost use Rattle.std.specs.Prelude.{◌≡◌, false};
 ghost use Rattle.calls.specs.Counting.{ending, figure_by, amount_in, full_at, raised};
+ghost use Rattle.calls.specs.Told.{told, told_number};
+ghost use Rattle.constants.specs.Number.{number_of};
 ghost use Rattle.calls.specs.Apart.{verdict, verdict_rise, verdict_release_rise};
 
 use crate::numbers::ends_call;
-use calls::{Call, Figure, Judged, Rise, Tally};
-use constants::{frame_kind, limit, refusal};
+use calls::{Allowed, Call, Figure, Rise, Tally};
+use constants::refusal::Refusal;
+use constants::{frame_kind, limit};
 
 // A fresh row.
 pub const NO_TALLY: Tally = Tally {
@@ -44,17 +47,17 @@ fn ending(call: Call, kind: u8, next: Call) -> Figure
 }
 
 // What a judged frame of this kind to its own call raises.
-pub fn rise_of(own: Option<Call>, kind: u8, judged: Judged) -> Rise
-    ensures { result ≡ verdict_rise kind own (verdict judged) }
+pub fn rise_of(own: Option<Call>, kind: u8, judged: Result<Allowed, Refusal>) -> Rise
+    ensures { result ≡ verdict_rise kind own (verdict (told number_of judged)) }
 {
     match judged {
-        Judged::Refused(_) => NO_RISE,
-        Judged::Opens(_, call, _) => Rise {
+        Err(_) => NO_RISE,
+        Ok(Allowed::Opens(_, call, _)) => Rise {
             row: call.method as usize,
             accepted: Figure::Opened,
             refused: Figure::Nothing,
         },
-        Judged::Goes(_, next, _) => match own {
+        Ok(Allowed::Goes(_, next, _)) => match own {
             None => NO_RISE,
             Some(call) => Rise {
                 row: call.method as usize,
@@ -66,13 +69,13 @@ pub fn rise_of(own: Option<Call>, kind: u8, judged: Judged) -> Rise
 }
 
 // What its judged release raises.
-pub fn release_rise(own: Option<Call>, judged: Judged) -> Rise
-    ensures { result ≡ verdict_release_rise own (verdict judged) }
+pub fn release_rise(own: Option<Call>, judged: Result<Allowed, Refusal>) -> Rise
+    ensures { result ≡ verdict_release_rise own (verdict (told number_of judged)) }
 {
     match judged {
-        Judged::Refused(_) => NO_RISE,
-        Judged::Opens(_, _, _) => NO_RISE,
-        Judged::Goes(_, _, _) => match own {
+        Err(_) => NO_RISE,
+        Ok(Allowed::Opens(_, _, _)) => NO_RISE,
+        Ok(Allowed::Goes(_, _, _)) => match own {
             None => NO_RISE,
             Some(call) => {
                 let row = call.method as usize;
@@ -88,17 +91,15 @@ pub fn release_rise(own: Option<Call>, judged: Judged) -> Rise
     }
 }
 
-// The figure that rises, by the number that the payload gives.
-pub fn figure_by(rise: Rise, number: u32) -> Figure
-    ensures { result ≡ figure_by rise number }
+// The figure that rises, by what reading the payload gave.
+#[tactic(auto, unfolding(calls::specs::Counting::figure_by))]
+pub fn figure_by(rise: Rise, payload: Result<(), Refusal>) -> Figure
+    ensures { result ≡ figure_by rise (told_number number_of payload) }
 {
-    if number == refusal::ACCEPTED {
-        return rise.accepted;
-    }
-    if ends_call(number) {
-        rise.refused
-    } else {
-        Figure::Nothing
+    match payload {
+        Ok(()) => rise.accepted,
+        Err(refusal) if ends_call(refusal) => rise.refused,
+        Err(_) => Figure::Nothing,
     }
 }
 
@@ -124,6 +125,7 @@ pub fn is_full(row: Tally, f: Figure) -> bool
 }
 
 // The row with one more in a figure that is not full.
+#[tactic(auto, unfolding(calls::specs::Counting::raised))]
 pub fn raised(row: Tally, f: Figure) -> Tally
     requires { full_at row f ≡ false }
     ensures { result ≡ raised row f }

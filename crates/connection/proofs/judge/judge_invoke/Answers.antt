@@ -10,18 +10,5 @@ pub overflow_cast-m : goal.overflow_cast-m
 overflow_cast-m c =
     let s = c.args.s.now in
     let f = c.args.f in
-    let named = sym c.find_method.ensures ∙ c.in-At.is in
-    omega (arith, (good-table s c.requires).few_methods, (found-named (table_of s) f.«package» f.service f.method c.in-At.m named).0)
-
-pub returns-in-Missing : goal.returns-in-Missing
-returns-in-Missing c = rw (sym c.find_method.ensures ∙ c.in-Missing.is)
-
-pub returns-in-At : goal.returns-in-At
-returns-in-At c =
-    rw (
-      sym c.find_method.ensures ∙ c.in-At.is,
-      c.judge_opening.ensures,
-      c.opened.ensures,
-      c.payload_of-payload.ensures,
-      c.method.ensures,
-    )
+    let named = sym c.find_method.ensures ∙ c.in-Some.is in
+    omega (arith, (good-table s c.requires).few_methods, (found-named (table_of s) f.«package» f.service f.method c.in-Some.m named).0)
