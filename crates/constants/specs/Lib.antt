@@ -1,4 +1,4 @@
--- The numbers of the papers by their names in code.
+-- The numbers of the format by their names in code.
 pub mod Table
 pub mod Number
 pub mod Kinds

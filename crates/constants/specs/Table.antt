@@ -1,5 +1,5 @@
--- The numbers of the papers by the names that they have in code. Each stands here once more as a numeral, beside the paper's words, and the constants of
--- src/ are held against it: `papers` says that each has this number.
+-- The numbers of the format by the names that they have in code. Each stands here as a numeral, beside the words of docs/FORMAT.md, and those of src/ are
+-- held against it: `papers` says that each has this number.
 use Rattle.constants.specs.declared.papers.FrameNumbers.{FrameNumbers}
 use Rattle.constants.specs.declared.papers.CallNumbers.{CallNumbers}
 use Rattle.constants.specs.declared.papers.ValueNumbers.{ValueNumbers}
@@ -11,7 +11,7 @@ use Rattle.constants.specs.declared.papers.SideBytes.{SideBytes}
 use Rattle.constants.specs.declared.papers.FixedNumbers.{FixedNumbers}
 use Rattle.constants.specs.declared.papers.LimitNumbers.{LimitNumbers}
 
--- Numbers that come back for a frame's bytes (01).
+-- Numbers that come back for a frame's bytes (docs/FORMAT.md, "The numbers").
 abbrev pub frames : FrameNumbers
 frames =
     record {
@@ -26,7 +26,7 @@ frames =
       wrong_side = 8;  -- wrong side for this kind, or no side
     }
 
--- For a call (01; 16 to 19: 2026-01 and 2026-05).
+-- For a call.
 abbrev pub calls : CallNumbers
 calls =
     record {
@@ -43,7 +43,7 @@ calls =
       tally_rows = 19;  -- wrong number of tally rows
     }
 
--- For a payload (01; 31: 2026-10).
+-- For a payload.
 abbrev pub values : ValueNumbers
 values =
     record {
@@ -61,7 +61,7 @@ values =
       map_too_long = 31;  -- map above 64 pairs
     }
 
--- For a schema file (01; 47: 2026-08).
+-- For a schema file.
 abbrev pub schemas : SchemaNumbers
 schemas =
     record {
@@ -75,7 +75,7 @@ schemas =
       no_extension = 47;  -- no such extension
     }
 
--- For what is lent, and for an index (01; 53: 2026-09; 65 and 66: 2026-12).
+-- For what is lent, and for an index.
 abbrev pub outputs : OutputNumbers
 outputs =
     record {
@@ -87,7 +87,7 @@ outputs =
       other_record = 66;  -- record of another length
     }
 
--- Kinds of types (01, the schema table).
+-- Kinds of types (docs/FORMAT.md, "A schema file").
 abbrev pub kinds : TypeKindNumbers
 kinds =
     record {
@@ -109,7 +109,7 @@ kinds =
       structure = 16;
     }
 
--- Kinds of frames (01, frames and calls).
+-- Kinds of frames (docs/FORMAT.md, "Frames").
 abbrev pub frame_kinds : FrameKindNumbers
 frame_kinds =
     record {
@@ -123,7 +123,7 @@ frame_kinds =
       cancel = 8;
     }
 
--- Sides (01, the listing): entries are C or S, then a frame.
+-- Sides (docs/FORMAT.md, "Calls"): entries of a record are C or S, then a frame.
 abbrev pub sides : SideBytes
 sides =
     record {
@@ -131,7 +131,7 @@ sides =
       server = 83;  -- S
     }
 
--- What is fixed in a frame, in a file and on a sheet (01).
+-- What is fixed in a frame, in a file and on a sheet.
 abbrev pub formats : FixedNumbers
 formats =
     record {
@@ -145,14 +145,14 @@ formats =
       row_cells = 4;  -- rows of four 32-bit numbers
     }
 
--- Limits (01; those of 2026-05 and 2026-10).
+-- Limits.
 abbrev pub limits : LimitNumbers
 limits =
     record {
       payload = 16384;  -- payloads have 0 to 16,384 bytes
       depth = 16;  -- depth 16 is allowed
       below_root = 15;
-      pairs = 64;  -- maps get at most 64 pairs (2026-10)
+      pairs = 64;  -- maps get at most 64 pairs
       struct_fields = 64;  -- number of fields, 1 to 64
       types = 256;  -- at most 256 types
       fields = 2048;  -- .. 2,048 fields
@@ -162,6 +162,6 @@ limits =
       file = 65536;  -- record, or the listing's schema file, above 65,536 bytes
       sheet = 16384;  -- the sheet has 4,096 rows, of four cells each
       calls = 128;  -- the call table has 128 slots
-      elements = 65535;  -- the stream elements accepted each way, to 65,535 (2026-05)
-      tally = 4294967295;  -- a tally at 4294967295 (2026-05)
+      elements = 65535;  -- the stream elements accepted each way, to 65,535
+      tally = 4294967295;  -- a tally at 4294967295
     }

@@ -1,5 +1,5 @@
-// Names for the numbers of the papers; definitions keep the numerals.
-// Where the two meet, in `papers` and specs/Table.antt, each number stands beside the paper's words.
+// Names for the numbers of the format; definitions keep the numerals.
+// Where the two meet, in `papers` and specs/Table.antt, each number stands beside the words of docs/FORMAT.md.
 #![tactic(auto)]
 
 pub mod format;

@@ -2,7 +2,11 @@
 ghost use Rattle.std.specs.Prelude.{◌≡◌};
 ghost use Rattle.constants.specs.Table.{frames, calls, values, schemas, outputs, kinds, frame_kinds, sides, formats, limits};
 
-use crate::{format, frame_kind, kind, limit, refusal, side};
+use crate::frame_kind::FrameKind;
+use crate::kind::Kind;
+use crate::refusal::Refusal;
+use crate::side::Side;
+use crate::{format, limit, refusal};
 
 #[derive(Clone, Copy)]
 pub struct FrameNumbers {
@@ -145,13 +149,13 @@ pub fn frames() -> FrameNumbers
     FrameNumbers {
         accepted: refusal::ACCEPTED,
         more: refusal::MORE,
-        magic: refusal::MAGIC,
-        version: refusal::VERSION,
-        kind: refusal::KIND,
-        flags: refusal::FLAGS,
-        length: refusal::LENGTH,
-        payload_too_long: refusal::PAYLOAD_TOO_LONG,
-        wrong_side: refusal::WRONG_SIDE,
+        magic: Refusal::Magic as u32,
+        version: Refusal::Version as u32,
+        kind: Refusal::Kind as u32,
+        flags: Refusal::Flags as u32,
+        length: Refusal::Length as u32,
+        payload_too_long: Refusal::PayloadTooLong as u32,
+        wrong_side: Refusal::WrongSide as u32,
     }
 }
 
@@ -159,17 +163,17 @@ pub fn calls() -> CallNumbers
     ensures { result ≡ calls }
 {
     CallNumbers {
-        unknown_method: refusal::UNKNOWN_METHOD,
-        call_open: refusal::CALL_OPEN,
-        call_not_open: refusal::CALL_NOT_OPEN,
-        other_method: refusal::OTHER_METHOD,
-        too_many_calls: refusal::TOO_MANY_CALLS,
-        not_now: refusal::NOT_NOW,
-        call_table: refusal::CALL_TABLE,
-        dropped: refusal::DROPPED,
-        too_many_elements: refusal::TOO_MANY_ELEMENTS,
-        tally_full: refusal::TALLY_FULL,
-        tally_rows: refusal::TALLY_ROWS,
+        unknown_method: Refusal::UnknownMethod as u32,
+        call_open: Refusal::CallOpen as u32,
+        call_not_open: Refusal::CallNotOpen as u32,
+        other_method: Refusal::OtherMethod as u32,
+        too_many_calls: Refusal::TooManyCalls as u32,
+        not_now: Refusal::NotNow as u32,
+        call_table: Refusal::CallTable as u32,
+        dropped: Refusal::Dropped as u32,
+        too_many_elements: Refusal::TooManyElements as u32,
+        tally_full: Refusal::TallyFull as u32,
+        tally_rows: Refusal::TallyRows as u32,
     }
 }
 
@@ -177,18 +181,18 @@ pub fn values() -> ValueNumbers
     ensures { result ≡ values }
 {
     ValueNumbers {
-        cut: refusal::CUT,
-        varuint: refusal::VARUINT,
-        bool: refusal::BOOL,
-        utf8: refusal::UTF8,
-        repeated_key: refusal::REPEATED_KEY,
-        absent_field: refusal::ABSENT_FIELD,
-        unknown_bit: refusal::UNKNOWN_BIT,
-        surplus: refusal::SURPLUS,
-        too_deep: refusal::TOO_DEEP,
-        undue_payload: refusal::UNDUE_PAYLOAD,
-        sheet_too_short: refusal::SHEET_TOO_SHORT,
-        map_too_long: refusal::MAP_TOO_LONG,
+        cut: Refusal::Cut as u32,
+        varuint: Refusal::Varuint as u32,
+        bool: Refusal::Bool as u32,
+        utf8: Refusal::Utf8 as u32,
+        repeated_key: Refusal::RepeatedKey as u32,
+        absent_field: Refusal::AbsentField as u32,
+        unknown_bit: Refusal::UnknownBit as u32,
+        surplus: Refusal::Surplus as u32,
+        too_deep: Refusal::TooDeep as u32,
+        undue_payload: Refusal::UnduePayload as u32,
+        sheet_too_short: Refusal::SheetTooShort as u32,
+        map_too_long: Refusal::MapTooLong as u32,
     }
 }
 
@@ -196,14 +200,14 @@ pub fn schemas() -> SchemaNumbers
     ensures { result ≡ schemas }
 {
     SchemaNumbers {
-        schema_shape: refusal::SCHEMA_SHAPE,
-        too_many_rows: refusal::TOO_MANY_ROWS,
-        type_row: refusal::TYPE_ROW,
-        field: refusal::FIELD,
-        method: refusal::METHOD,
-        file_too_long: refusal::FILE_TOO_LONG,
-        no_struct: refusal::NO_STRUCT,
-        no_extension: refusal::NO_EXTENSION,
+        schema_shape: Refusal::SchemaShape as u32,
+        too_many_rows: Refusal::TooManyRows as u32,
+        type_row: Refusal::TypeRow as u32,
+        field: Refusal::Field as u32,
+        method: Refusal::Method as u32,
+        file_too_long: Refusal::FileTooLong as u32,
+        no_struct: Refusal::NoStruct as u32,
+        no_extension: Refusal::NoExtension as u32,
     }
 }
 
@@ -211,12 +215,12 @@ pub fn outputs() -> OutputNumbers
     ensures { result ≡ outputs }
 {
     OutputNumbers {
-        sheet: refusal::SHEET,
-        outside: refusal::OUTSIDE,
-        output_too_short: refusal::OUTPUT_TOO_SHORT,
-        list_too_short: refusal::LIST_TOO_SHORT,
-        index: refusal::INDEX,
-        other_record: refusal::OTHER_RECORD,
+        sheet: Refusal::Sheet as u32,
+        outside: Refusal::Outside as u32,
+        output_too_short: Refusal::OutputTooShort as u32,
+        list_too_short: Refusal::ListTooShort as u32,
+        index: Refusal::Index as u32,
+        other_record: Refusal::OtherRecord as u32,
     }
 }
 
@@ -224,22 +228,22 @@ pub fn kinds() -> TypeKindNumbers
     ensures { result ≡ kinds }
 {
     TypeKindNumbers {
-        bool: kind::BOOL,
-        int8: kind::INT8,
-        int16: kind::INT16,
-        int32: kind::INT32,
-        int64: kind::INT64,
-        uint8: kind::UINT8,
-        uint16: kind::UINT16,
-        uint32: kind::UINT32,
-        uint64: kind::UINT64,
-        float32: kind::FLOAT32,
-        float64: kind::FLOAT64,
-        string: kind::STRING,
-        bytes: kind::BYTES,
-        array: kind::ARRAY,
-        map: kind::MAP,
-        structure: kind::STRUCT,
+        bool: Kind::Bool as u32,
+        int8: Kind::Int8 as u32,
+        int16: Kind::Int16 as u32,
+        int32: Kind::Int32 as u32,
+        int64: Kind::Int64 as u32,
+        uint8: Kind::Uint8 as u32,
+        uint16: Kind::Uint16 as u32,
+        uint32: Kind::Uint32 as u32,
+        uint64: Kind::Uint64 as u32,
+        float32: Kind::Float32 as u32,
+        float64: Kind::Float64 as u32,
+        string: Kind::String as u32,
+        bytes: Kind::Bytes as u32,
+        array: Kind::Array as u32,
+        map: Kind::Map as u32,
+        structure: Kind::Struct as u32,
     }
 }
 
@@ -247,14 +251,14 @@ pub fn frame_kinds() -> FrameKindNumbers
     ensures { result ≡ frame_kinds }
 {
     FrameKindNumbers {
-        invoke: frame_kind::INVOKE,
-        in_stream: frame_kind::IN_STREAM,
-        in_close: frame_kind::IN_CLOSE,
-        out_stream: frame_kind::OUT_STREAM,
-        out_close: frame_kind::OUT_CLOSE,
-        response: frame_kind::RESPONSE,
-        error: frame_kind::ERROR,
-        cancel: frame_kind::CANCEL,
+        invoke: FrameKind::Invoke as u8,
+        in_stream: FrameKind::InStream as u8,
+        in_close: FrameKind::InClose as u8,
+        out_stream: FrameKind::OutStream as u8,
+        out_close: FrameKind::OutClose as u8,
+        response: FrameKind::Response as u8,
+        error: FrameKind::Error as u8,
+        cancel: FrameKind::Cancel as u8,
     }
 }
 
@@ -262,8 +266,8 @@ pub fn sides() -> SideBytes
     ensures { result ≡ sides }
 {
     SideBytes {
-        client: side::CLIENT,
-        server: side::SERVER,
+        client: Side::Client as u8,
+        server: Side::Server as u8,
     }
 }
 

@@ -1,6 +1,6 @@
 // What is refused, and where: the refusals by their names, each with its number (docs/FORMAT.md, "Numbers that come back"). C has ARF_BAD_ before the names.
 ghost use Rattle.std.specs.Prelude.{◌≡◌, Err};
-ghost use Rattle.constants.specs.Number.{number_of};
+ghost use Rattle.constants.specs.Number.{number_of, RefusalOf};
 
 // Neither is a refusal: what was asked is done, and more bytes are needed.
 pub const ACCEPTED: u32 = 0;
@@ -68,6 +68,66 @@ impl From<Refusal> for u32 {
 
     fn from(refusal: Refusal) -> u32 {
         refusal as u32
+    }
+}
+
+// A number that no refusal has.
+#[derive(Clone, Copy, Debug, PartialEq, Eq)]
+pub struct UnknownRefusal(pub u32);
+
+impl TryFrom<u32> for Refusal {
+    type Error = UnknownRefusal;
+
+    ghost try_from_gives = { RefusalOf };
+
+    fn try_from(number: u32) -> Result<Self, UnknownRefusal> {
+        match number {
+            2 => Ok(Refusal::Magic),
+            3 => Ok(Refusal::Version),
+            4 => Ok(Refusal::Kind),
+            5 => Ok(Refusal::Flags),
+            6 => Ok(Refusal::Length),
+            7 => Ok(Refusal::PayloadTooLong),
+            8 => Ok(Refusal::WrongSide),
+            9 => Ok(Refusal::UnknownMethod),
+            10 => Ok(Refusal::CallOpen),
+            11 => Ok(Refusal::CallNotOpen),
+            12 => Ok(Refusal::OtherMethod),
+            13 => Ok(Refusal::TooManyCalls),
+            14 => Ok(Refusal::NotNow),
+            15 => Ok(Refusal::CallTable),
+            16 => Ok(Refusal::Dropped),
+            17 => Ok(Refusal::TooManyElements),
+            18 => Ok(Refusal::TallyFull),
+            19 => Ok(Refusal::TallyRows),
+            20 => Ok(Refusal::Cut),
+            21 => Ok(Refusal::Varuint),
+            22 => Ok(Refusal::Bool),
+            23 => Ok(Refusal::Utf8),
+            24 => Ok(Refusal::RepeatedKey),
+            25 => Ok(Refusal::AbsentField),
+            26 => Ok(Refusal::UnknownBit),
+            27 => Ok(Refusal::Surplus),
+            28 => Ok(Refusal::TooDeep),
+            29 => Ok(Refusal::UnduePayload),
+            30 => Ok(Refusal::SheetTooShort),
+            31 => Ok(Refusal::MapTooLong),
+            40 => Ok(Refusal::SchemaShape),
+            41 => Ok(Refusal::TooManyRows),
+            42 => Ok(Refusal::TypeRow),
+            43 => Ok(Refusal::Field),
+            44 => Ok(Refusal::Method),
+            45 => Ok(Refusal::FileTooLong),
+            46 => Ok(Refusal::NoStruct),
+            47 => Ok(Refusal::NoExtension),
+            50 => Ok(Refusal::Sheet),
+            51 => Ok(Refusal::Outside),
+            52 => Ok(Refusal::OutputTooShort),
+            53 => Ok(Refusal::ListTooShort),
+            65 => Ok(Refusal::Index),
+            66 => Ok(Refusal::OtherRecord),
+            _ => Err(UnknownRefusal(number)),
+        }
     }
 }
 
