@@ -8,9 +8,7 @@ use borrow.Author.Tests.{leb-true, leb-false}
 use lib.Dec.{leb}
 use lib.ListN.{length, take, drop}
 use Rattle.wire.specs.Little.{little}
-use Rattle.wire.specs.Varuint.{varuint}
-use Rattle.wire.specs.declared.varuint.VarUInt.{VarUInt}
-use Rattle.wire.specs.declared.varuint.VarUInt.TheVariants.{Number, Cut, Malformed}
+use Rattle.wire.specs.Varuint.{varuint, VarUInt, Number, Cut, Malformed}
 use Rattle.wire.proofs.Varuints.{varuint-inside}
 use Rattle.wire.proofs.Cases.{differ}
 use Rattle.parse.specs.Reader.{Answer, refused, seen, and_then, cursor_at, var_u_int, count}

@@ -3,7 +3,7 @@ ghost use Rattle.std.specs.Prelude.{◌≡◌, ◌-◌, ◌≤◌, ◌<◌, leng
 ghost use Rattle.cursor.specs.Item.{width_bytes, varuint_at, fixed_number_at, span_at};
 
 use constants::refusal;
-use wire::varuint::VarUInt;
+use wire::varuint::{Past, VarUIntError};
 use wire::{little, varuint};
 
 // A number's width in bytes: 1, 2, 4 or 8.
@@ -57,18 +57,18 @@ pub fn varuint_at(payload: &[u8], at: usize) -> NumberStep
     ensures { result ≡ varuint_at payload.now at }
 {
     match varuint::read(payload, at) {
-        VarUInt::Number { value, next } => NumberStep {
+        Ok(Past { value, next }) => NumberStep {
             item: Number::Is { value },
             next,
         },
-        VarUInt::Cut => NumberStep {
+        Err(VarUIntError::Cut) => NumberStep {
             item: Number::Refused {
                 number: refusal::CUT,
                 place: at,
             },
             next: at,
         },
-        VarUInt::Malformed => NumberStep {
+        Err(VarUIntError::Malformed) => NumberStep {
             item: Number::Refused {
                 number: refusal::VARUINT,
                 place: at,

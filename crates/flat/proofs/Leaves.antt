@@ -10,9 +10,8 @@ use lib.Dec.{ltb, eqb}
 use lib.ListN.{length, get_or, length-drop, length-take}
 use Rattle.buffer.specs.Span.{span}
 use Rattle.wire.specs.Little.{little}
-use Rattle.wire.specs.Varuint.{varuint}
+use Rattle.wire.specs.Varuint.{varuint, Number, Cut, Malformed}
 use Rattle.utf8.specs.Utf8.{utf8}
-use Rattle.wire.specs.declared.varuint.VarUInt.TheVariants.{Number, Cut, Malformed}
 use Rattle.wire.proofs.Varuints.{varuint-inside}
 use Rattle.parse.specs.Reader.{seen, and_then, check, cursor_at, block, Accepted, count}
 use Rattle.parse.proofs.Answers.{accepted-check}

@@ -14,7 +14,7 @@ ghost use Rattle.flat.specs.Leaf.{CountRead, Uncounted, Spanned, Headed};
 use constants::{kind, limit, refusal};
 use table::kind::width_of;
 use walks::is_complete;
-use wire::varuint::VarUInt;
+use wire::varuint::VarUIntError;
 use wire::{bitmap, varuint};
 
 // Kinds as `usize`.
@@ -58,26 +58,29 @@ pub fn read_count(p: &[u8], at: usize, least: usize) -> Count
     ensures { CountRead p.now at least (count least (cursor_at p.now at)) result }
 {
     match varuint::read(p, at) {
-        VarUInt::Cut => Count::Refused {
+        Err(VarUIntError::Cut) => Count::Refused {
             number: refusal::CUT,
         },
-        VarUInt::Malformed => Count::Refused {
+        Err(VarUIntError::Malformed) => Count::Refused {
             number: refusal::VARUINT,
         },
-        VarUInt::Number { value, next } => {
-            let rest = p.len() - next;
-            if (rest as u64) < value {
+        Ok(size) => {
+            let rest = p.len() - size.next;
+            if (rest as u64) < size.value {
                 return Count::Refused {
                     number: refusal::CUT,
                 };
             }
-            let n = value as usize;
+            let n = size.value as usize;
             if rest < least * n {
                 return Count::Refused {
                     number: refusal::CUT,
                 };
             }
-            Count::Is { n: n, start: next }
+            Count::Is {
+                n: n,
+                start: size.next,
+            }
         }
     }
 }

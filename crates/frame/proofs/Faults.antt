@@ -10,9 +10,7 @@ use borrow.Author.Tests.{le-leb, lt-leb, ne_eqb}
 use lib.ListN.{length, take, drop, length-append, take-append-drop, get_or-append}
 use lib.Seq.{drop_at, get_or-take, length-take-le, take-append_seam}
 use Rattle.wire.specs.Little.{little}
-use Rattle.wire.specs.declared.varuint.VarUInt.{VarUInt}
-use Rattle.wire.specs.declared.varuint.VarUInt.TheVariants.{Number, Cut, Malformed}
-use Rattle.wire.specs.Varuint.{front_var_u_int, Spelled, Completed, Spare, TenthAbove}
+use Rattle.wire.specs.Varuint.{VarUInt, Number, Cut, Malformed, front_var_u_int, Spelled, Completed, Spare, TenthAbove}
 use Rattle.wire.proofs.Cases.{differ}
 use Rattle.wire.proofs.Varuints.{spelled-reads, read-spelled, spelled-cut, cut_completed, malformed-iff}
 use Rattle.frame.specs.declared.Header.{Header}

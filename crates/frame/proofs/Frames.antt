@@ -9,9 +9,7 @@ use lib.Dec.{leb, eqb}
 use lib.ListN.{length, get_or, take, drop, length-append, length-drop, take-append-drop}
 use lib.Seq.{take_at, drop_at, drop-drop, length-take-le}
 use Rattle.wire.specs.Little.{little}
-use Rattle.wire.specs.declared.varuint.VarUInt.{VarUInt}
-use Rattle.wire.specs.declared.varuint.VarUInt.TheVariants.{Number, Cut, Malformed}
-use Rattle.wire.specs.Varuint.{front_var_u_int, varuint, Spelled}
+use Rattle.wire.specs.Varuint.{VarUInt, Number, Cut, Malformed, front_var_u_int, varuint, Spelled}
 use Rattle.wire.proofs.Numbers.{little-one}
 use Rattle.wire.proofs.Varuints.{spelled-reads, read-spelled}
 use Rattle.wire.proofs.Cases.{chosen, differ}

@@ -9,9 +9,7 @@ use borrow.Author.Tests.{le-leb, lt-leb}
 use lib.Dec.{leb, eqb}
 use lib.ListN.{length, drop, length-append, length-drop, get_or-append}
 use lib.Seq.{take-append-le, drop-append-le}
-use Rattle.wire.specs.declared.varuint.VarUInt.{VarUInt}
-use Rattle.wire.specs.declared.varuint.VarUInt.TheVariants.{Number, Cut, Malformed}
-use Rattle.wire.specs.Varuint.{front_var_u_int}
+use Rattle.wire.specs.Varuint.{VarUInt, Number, Cut, Malformed, front_var_u_int}
 use Rattle.wire.proofs.Varuints.{front-settled}
 use Rattle.wire.proofs.Cases.{differ}
 use Rattle.parse.specs.Test.{test}

@@ -1,9 +1,7 @@
 -- What reading a frame finds, field by field in wire order: a field is judged once it is whole. And what each answer stands for.
 use Rattle.std.specs.Prelude.{ℕ, ◌+◌, Bool, ◌&&◌, cond, List, leb, eqb, length, get_or, take, drop}
 use Rattle.wire.specs.Little.{little}
-use Rattle.wire.specs.declared.varuint.VarUInt.{VarUInt}
-use Rattle.wire.specs.declared.varuint.VarUInt.TheVariants.{Number, Cut, Malformed}
-use Rattle.wire.specs.Varuint.{front_var_u_int}
+use Rattle.wire.specs.Varuint.{VarUInt, Number, Cut, Malformed, front_var_u_int}
 use Rattle.parse.specs.Test.{test}
 use Rattle.frame.specs.declared.Header.{Header}
 use Rattle.frame.specs.declared.FrameRead.{FrameRead}

@@ -17,7 +17,7 @@ use crate::layout::{
 use buffer::copy;
 use constants::{format, frame_kind, limit, refusal};
 use wire::little::{store, u32_at};
-use wire::varuint::VarUInt;
+use wire::varuint::VarUIntError;
 
 // The version, as a number that was read.
 const VERSION: u32 = format::VERSION as u32;
@@ -122,22 +122,22 @@ fn read_payload(s: &[u8]) -> FrameRead
     ensures { result ≡ frame_payload (length s.now) (header_at s.now) (varuint s.now 25) }
 {
     match wire::varuint::read(s, format::HEADER) {
-        VarUInt::Number { value, next } => {
-            if LONGEST < value {
+        Ok(size) => {
+            if LONGEST < size.value {
                 return FrameRead::Refused(refusal::PAYLOAD_TOO_LONG);
             }
-            let length = value as usize;
-            if s.len() - next < length {
+            let length = size.value as usize;
+            if s.len() - size.next < length {
                 return FrameRead::More;
             }
             FrameRead::Frame {
                 header: header_at(s),
-                place: next,
+                place: size.next,
                 length,
             }
         }
-        VarUInt::Cut => FrameRead::More,
-        VarUInt::Malformed => FrameRead::Refused(refusal::LENGTH),
+        Err(VarUIntError::Cut) => FrameRead::More,
+        Err(VarUIntError::Malformed) => FrameRead::Refused(refusal::LENGTH),
     }
 }
 

@@ -9,9 +9,7 @@ use lib.Dec.{leb}
 use lib.ListN.{length, take, drop, take-append-drop, length-append, get_or-append}
 use lib.Seq.{length-take-le, take-append_seam, drop-append_seam, get_or-take}
 use borrow.Author.Tests.{leb-true, leb-false, le-leb, lt-leb}
-use Rattle.wire.specs.Varuint.{front_var_u_int, Spelled, Completed, TenthAbove}
-use Rattle.wire.specs.declared.varuint.VarUInt.{VarUInt}
-use Rattle.wire.specs.declared.varuint.VarUInt.TheVariants.{Number, Cut, Malformed}
+use Rattle.wire.specs.Varuint.{front_var_u_int, Spelled, Completed, TenthAbove, VarUInt, Number, Cut, Malformed}
 use Rattle.wire.proofs.Varuints.{read-spelled, spelled-reads, spelled-cut, cut_completed, malformed-iff}
 use Rattle.parse.specs.Reader.{Cursor, refused, seen, and_then, check, number_read, block, var_u_int, MalformedBytes, enough, count}
 use Rattle.parse.proofs.Answers.{Seen, value as holds, seen-then, seen-check, Reads, not-ok, ok, stay, reads_then, reads-check, passes, steps, fails}

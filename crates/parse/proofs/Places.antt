@@ -7,8 +7,7 @@ use borrow.Author.Tests.{le-leb, lt-leb}
 use lib.ListN.{length, drop, length-append, length-drop}
 use lib.Seq.{take-append_seam, drop-append_seam, drop-drop}
 use Rattle.buffer.specs.Span.{span, SpanIs}
-use Rattle.wire.specs.Varuint.{varuint}
-use Rattle.wire.specs.declared.varuint.VarUInt.TheVariants.{Number, Cut, Malformed}
+use Rattle.wire.specs.Varuint.{varuint, Number, Cut, Malformed}
 use Rattle.wire.proofs.Varuints.{varuint-inside}
 use Rattle.parse.specs.Reader.{Cursor, Answer, refused, seen, and_then, check, cursor_at, block, var_u_int, count}
 use Rattle.parse.proofs.Answers.{Seen, nothing, value as holds, seen-map, Reads, not-ok, ok}

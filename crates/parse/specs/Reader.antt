@@ -1,8 +1,6 @@
 -- Readers: functions from a cursor to a refusal, or to what was read and the cursor after it. They read the bytes of a payload, or the rows of a sheet.
 use Rattle.std.specs.Prelude.{◌≡◌, ◌⊎◌, List, Bool, true, false, ℕ, ◌+◌, ◌-◌, ◌*◌, ◌<◌, leb, length, take, drop}
-use Rattle.wire.specs.Varuint.{Groups, last_or, TenthAbove, front_var_u_int}
-use Rattle.wire.specs.declared.varuint.VarUInt.{VarUInt}
-use Rattle.wire.specs.declared.varuint.VarUInt.TheVariants.{Number, Cut, Malformed}
+use Rattle.wire.specs.Varuint.{Groups, last_or, TenthAbove, front_var_u_int, VarUInt, Number, Cut, Malformed}
 
 -- Where a reader stands: what is left, and the place of the first of it.
 pub record CursorOf (E : Type 0) : Type 0 where

@@ -7,8 +7,7 @@ use lib.ListN.{length, take, get_or}
 use lib.IntN.{ℤ}
 use mathlib.Core.Bool.{true}
 use mathlib.Core.Logic.{◌↔◌, ◌⊎◌}
-use Rattle.wire.specs.Varuint.{Spelled, front_var_u_int, Starts, Completed, Groups, varuint_bytes, varuint}
-use Rattle.wire.specs.declared.varuint.VarUInt.TheVariants.{Number, Cut}
+use Rattle.wire.specs.Varuint.{Spelled, front_var_u_int, Starts, Completed, Groups, varuint_bytes, varuint, Number, Cut}
 use Rattle.wire.specs.Little.{Bytes, little, bytes, twos}
 use Rattle.parse.specs.Reader.{Cursor, seen}
 use Rattle.schema.specs.Table.{width, array, map as schema-map, Table, shape, struct, bitmap_bytes}

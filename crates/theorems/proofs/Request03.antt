@@ -4,8 +4,7 @@ use Prim.Native.Nat.{ℕ, ◌<◌, ◌^◌}
 use mathlib.Core.Path.{◌≡◌}
 use mathlib.Core.Logic.{◌↔◌, ◌⊎◌}
 use lib.ListN.{take, replicate}
-use Rattle.wire.specs.Varuint.{front_var_u_int, Spare, TenthAbove, Spelled, varuint_bytes}
-use Rattle.wire.specs.declared.varuint.VarUInt.TheVariants.{Malformed}
+use Rattle.wire.specs.Varuint.{front_var_u_int, Spare, TenthAbove, Spelled, varuint_bytes, Malformed}
 use Rattle.wire.specs.Little.{Bytes}
 use Rattle.schema.proofs.Examples.{file}
 use Rattle.frame.specs.Frame.{frame_of}

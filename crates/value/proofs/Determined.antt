@@ -7,8 +7,7 @@ use lib.ListN.{length, drop, take-append-drop, length-take, length-drop}
 use lib.Seq.{drop-drop}
 use Rattle.buffer.specs.Span.{span}
 use Rattle.buffer.proofs.Spans.{length-span}
-use Rattle.wire.specs.Varuint.{front_var_u_int, Spelled}
-use Rattle.wire.specs.declared.varuint.VarUInt.TheVariants.{Number}
+use Rattle.wire.specs.Varuint.{front_var_u_int, Spelled, Number}
 use Rattle.wire.proofs.Varuints.{spelled-reads}
 use Rattle.wire.proofs.Cases.{differ}
 use Rattle.parse.specs.Reader.{Cursor, seen, cursor_at}

@@ -3,9 +3,8 @@ use mathlib.Core.Path.{◌≡◌, refl}
 use mathlib.Core.List.{[], ◌∷◌}
 use lib.IntN.{negsuc}
 use lib.ListN.{take, drop}
-use Rattle.wire.specs.declared.varuint.VarUInt.TheVariants.{Number, Cut, Malformed}
+use Rattle.wire.specs.Varuint.{Number, Cut, Malformed, groups, front_var_u_int, varuint, shortest, varuint_bytes}
 use Rattle.wire.specs.Little.{little, twos}
-use Rattle.wire.specs.Varuint.{groups, front_var_u_int, varuint, shortest, varuint_bytes}
 use Rattle.wire.specs.Bitmap.{bits, bit_list, total}
 
 -- int8 80 is -128, FF is -1

@@ -4,3 +4,4 @@ pub mod Bitmaps
 pub mod Examples
 pub mod Cases
 pub mod Table
+pub mod Told

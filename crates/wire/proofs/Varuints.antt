@@ -12,9 +12,7 @@ use borrow.Author.Tests.{ltb-true, ltb-false, lt-ltb, le-ltb, eqb-true, eqb-fals
 use lib.Dec.{ltb, lit<}
 use lib.ListN.{length, get_or, take, drop, length-append, length-drop, drop_of_length-le}
 use lib.Seq.{drop-cons, drop-append_seam}
-use Rattle.wire.specs.declared.varuint.VarUInt.{VarUInt}
-use Rattle.wire.specs.declared.varuint.VarUInt.TheVariants.{Number, Cut, Malformed}
-use Rattle.wire.specs.Varuint.{before, is_spare, last_group, groups, front_var_u_int, varuint, Groups, tenth, final, group, last_or, Ended, Spelled, Starts, Completed, Spare, TenthAbove, shortest, varuint_bytes}
+use Rattle.wire.specs.Varuint.{VarUInt, Number, Cut, Malformed, before, is_spare, last_group, groups, front_var_u_int, varuint, Groups, tenth, final, group, last_or, Ended, Spelled, Starts, Completed, Spare, TenthAbove, shortest, varuint_bytes}
 use Rattle.wire.proofs.Cases.{cond-case}
 use Rattle.wire.specs.Little.{Bytes}
 

@@ -1,10 +1,29 @@
 -- VarUInt, read from the front of a list of bytes: seven bits a byte, least group first, the top bit set on all but the last byte. Of two or more
 -- bytes the last is not 0.
-use Rattle.std.specs.Prelude.{ℕ, zero, suc, ◌+◌, ◌-◌, ◌*◌, ◌/◌, ◌%◌, ◌<◌, ◌≤◌, ◌≡◌, List, [], ◌∷◌, ◌++◌, Bool, cond, ltb, eqb, length, get_or, drop}
-use Rattle.wire.specs.declared.varuint.VarUInt.{VarUInt}
-use Rattle.wire.specs.declared.varuint.VarUInt.TheVariants.{Number, Cut, Malformed}
+use Rattle.std.specs.Prelude.{ℕ, zero, suc, ◌+◌, ◌-◌, ◌*◌, ◌/◌, ◌%◌, ◌<◌, ◌≤◌, ◌≡◌, List, [], ◌∷◌, ◌++◌, Bool, cond, ltb, eqb, length, get_or, drop, Result, Ok, Err}
+use Rattle.wire.specs.declared.varuint.Past as past
+use Rattle.wire.specs.declared.varuint.VarUIntError.{VarUIntError}
+use Rattle.wire.specs.declared.varuint.VarUIntError.TheVariants.{Cut as CutError, Malformed as MalformedError}
+use Rattle.constants.specs.declared.refusal.Refusal as code
 
 -- ---- what is read
+
+-- What stands at a place: a number and the place after it, or no VarUInt, by the bytes' end or by a spare last group or a tenth byte above 1.
+pub data VarUInt : Type 0 where
+  Number : ℕ → ℕ → VarUInt
+  Cut : VarUInt
+  Malformed : VarUInt
+
+-- What an answer tells.
+abbrev pub told : Result past.Past VarUIntError → VarUInt
+told (Ok r) = Number r.value r.next
+told (Err CutError) = Cut
+told (Err MalformedError) = Malformed
+
+-- Which refusal it is that no number was read.
+abbrev pub refusal_of : VarUIntError → code.Refusal
+refusal_of CutError = code.TheVariants.Cut
+refusal_of MalformedError = code.TheVariants.Varuint
 
 -- The number with a group in front of the groups that were read.
 abbrev pub before : ℕ → VarUInt → VarUInt

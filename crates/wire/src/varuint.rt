@@ -2,9 +2,10 @@
 // the last is not 0, so that a number has one VarUInt.
 ghost use Rattle.std.specs.Prelude.{◌≡◌, ◌+◌, ◌≤◌, ◌<◌, length, drop};
 ghost use Rattle.buffer.specs.Store.{written};
-ghost use Rattle.wire.specs.Varuint.{before, groups, varuint, varuint_bytes};
+ghost use Rattle.wire.specs.Varuint.{told, refusal_of, before, groups, varuint, varuint_bytes};
 
 use crate::little::wide;
+use constants::refusal::Refusal;
 
 // The top bit, which is set on all bytes but the last.
 const CONTINUATION: u64 = 128;
@@ -19,20 +20,38 @@ const AFTER_FIRST: usize = MOST_GROUPS - 1;
 // The tenth group is below it: nine groups have 63 of the 64 bits.
 const TENTH_LIMIT: u64 = 2;
 
-// What stands at a place.
-#[derive(Clone, Copy)]
-pub enum VarUInt {
-    Number { value: u64, next: usize },
+// A number that was read, and the place after it.
+#[derive(Clone, Copy, Debug, PartialEq, Eq)]
+pub struct Past {
+    pub value: u64,
+    pub next: usize,
+}
+
+// Why no number was read.
+#[derive(Clone, Copy, Debug, PartialEq, Eq)]
+pub enum VarUIntError {
     // The bytes end before the last group.
     Cut,
     // A last byte of 0 after others, or a tenth byte above 1.
     Malformed,
 }
 
+// Its number as a refusal, where a cut VarUInt is one.
+impl From<VarUIntError> for Refusal {
+    ghost from_gives = { λ error refusal. refusal ≡ refusal_of error };
+
+    fn from(error: VarUIntError) -> Refusal {
+        match error {
+            VarUIntError::Cut => Refusal::Cut,
+            VarUIntError::Malformed => Refusal::Varuint,
+        }
+    }
+}
+
 // The groups after a first one of the value `first`, from at on.
-fn read_more(s: &[u8], at: usize, first: u64) -> VarUInt
+fn read_more(s: &[u8], at: usize, first: u64) -> Result<Past, VarUIntError>
     requires { first < 128 }
-    ensures { result ≡ before first (groups 9 (drop at s.now) at) }
+    ensures { told result ≡ before first (groups 9 (drop at s.now) at) }
 {
     let mut value = first;
     let mut weight = BASE;
@@ -40,17 +59,17 @@ fn read_more(s: &[u8], at: usize, first: u64) -> VarUInt
     let mut left = AFTER_FIRST;
     while 1 < left {
         if s.len() <= i {
-            return VarUInt::Cut;
+            return Err(VarUIntError::Cut);
         }
         let b = wide(s[i]);
         if b < CONTINUATION {
             if b == 0 {
-                return VarUInt::Malformed;
+                return Err(VarUIntError::Malformed);
             }
-            return VarUInt::Number {
+            return Ok(Past {
                 value: value + weight * b,
                 next: i + 1,
-            };
+            });
         }
         value += weight * (b - CONTINUATION);
         weight *= BASE;
@@ -58,34 +77,34 @@ fn read_more(s: &[u8], at: usize, first: u64) -> VarUInt
         left -= 1;
     }
     if s.len() <= i {
-        return VarUInt::Cut;
+        return Err(VarUIntError::Cut);
     }
     let b = wide(s[i]);
     if b < TENTH_LIMIT {
         if b == 0 {
-            return VarUInt::Malformed;
+            return Err(VarUIntError::Malformed);
         }
-        return VarUInt::Number {
+        return Ok(Past {
             value: value + weight * b,
             next: i + 1,
-        };
+        });
     }
-    VarUInt::Malformed
+    Err(VarUIntError::Malformed)
 }
 
 // The VarUInt at a place. Most are a single byte, which is answered at once.
-pub fn read(s: &[u8], at: usize) -> VarUInt
-    ensures { result ≡ varuint s.now at }
+pub fn read(s: &[u8], at: usize) -> Result<Past, VarUIntError>
+    ensures { told result ≡ varuint s.now at }
 {
     if s.len() <= at {
-        return VarUInt::Cut;
+        return Err(VarUIntError::Cut);
     }
     let b = wide(s[at]);
     if b < CONTINUATION {
-        return VarUInt::Number {
+        return Ok(Past {
             value: b,
             next: at + 1,
-        };
+        });
     }
     read_more(s, at + 1, b - CONTINUATION)
 }

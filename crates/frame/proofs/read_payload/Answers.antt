@@ -5,8 +5,8 @@ use Prim.Native.Nat.{ℕ, ◌+◌}
 use native.Mathlib.Omega.{arith}
 use borrow.Author.Tests.{le-leb, lt-leb}
 use lib.ListN.{length}
-use Rattle.wire.specs.declared.varuint.VarUInt.{VarUInt}
-use Rattle.wire.specs.Varuint.{varuint}
+use Rattle.std.proofs.Common.{Err}
+use Rattle.wire.specs.Varuint.{VarUInt, told, varuint}
 use Rattle.wire.proofs.Varuints.{varuint-inside}
 use Rattle.frame.specs.Frame.{frame_payload}
 use Rattle.frame.specs.Places.{header_at}
@@ -17,43 +17,43 @@ came : (s : List ℕ) (read r : VarUInt) → read ≡ varuint s 25 → read ≡ 
     → frame_payload (length s) (header_at s) r ≡ frame_payload (length s) (header_at s) (varuint s 25)
 came s read r was e = ap (frame_payload (length s) (header_at s)) (sym e ∙ was)
 
-pub returns-then-value-gt-LONGEST : goal.returns-then-value-gt-LONGEST
+pub returns-then-size-gt-LONGEST : goal.returns-then-size-gt-LONGEST
 unfolding frame_payload
-returns-then-value-gt-LONGEST c =
-    rw (← came c.args.s.now _ _ c.read.ensures c.in-Number.is, lt-leb c.in-Number.value 16384 c.if-value-gt-LONGEST.true)
+returns-then-size-gt-LONGEST c =
+    rw (← came c.args.s.now _ _ c.read.ensures (ap told c.in-Ok.is), lt-leb c.in-Ok.size.value 16384 c.if-size-gt-LONGEST.true)
 
 pub overflow_sub-s : goal.overflow_sub-s
-overflow_sub-s c = (varuint-inside c.args.s.now 25 c.in-Number.value c.in-Number.next (sym c.read.ensures ∙ c.in-Number.is)).1
+overflow_sub-s c = (varuint-inside c.args.s.now 25 c.in-Ok.size.value c.in-Ok.size.next (sym c.read.ensures ∙ ap told c.in-Ok.is)).1
 
-pub returns-then-s-next : goal.returns-then-s-next
+pub returns-then-s-size : goal.returns-then-s-size
 unfolding frame_payload
-returns-then-s-next c =
-    let n = c.in-Number.value in
-    let next = c.in-Number.next in
-    let i = (varuint-inside c.args.s.now 25 n next (sym c.read.ensures ∙ c.in-Number.is)).1 in
+returns-then-s-size c =
+    let n = c.in-Ok.size.value in
+    let next = c.in-Ok.size.next in
+    let i = (varuint-inside c.args.s.now 25 n next (sym c.read.ensures ∙ ap told c.in-Ok.is)).1 in
     rw (
-      ← came c.args.s.now _ _ c.read.ensures c.in-Number.is,
-      le-leb n 16384 c.if-value-gt-LONGEST.false,
+      ← came c.args.s.now _ _ c.read.ensures (ap told c.in-Ok.is),
+      le-leb n 16384 c.if-size-gt-LONGEST.false,
       lt-leb (next + n) (length c.args.s.now) (omega arith),
     )
 
-pub returns-else-s-next : goal.returns-else-s-next
+pub returns-else-s-size : goal.returns-else-s-size
 unfolding frame_payload
-returns-else-s-next c =
-    let n = c.in-Number.value in
-    let next = c.in-Number.next in
-    let i = (varuint-inside c.args.s.now 25 n next (sym c.read.ensures ∙ c.in-Number.is)).1 in
+returns-else-s-size c =
+    let n = c.in-Ok.size.value in
+    let next = c.in-Ok.size.next in
+    let i = (varuint-inside c.args.s.now 25 n next (sym c.read.ensures ∙ ap told c.in-Ok.is)).1 in
     rw (
-      ← came c.args.s.now _ _ c.read.ensures c.in-Number.is,
-      le-leb n 16384 c.if-value-gt-LONGEST.false,
+      ← came c.args.s.now _ _ c.read.ensures (ap told c.in-Ok.is),
+      le-leb n 16384 c.if-size-gt-LONGEST.false,
       le-leb (next + n) (length c.args.s.now) (omega arith),
       c.header_at.ensures,
     )
 
-pub returns-in-Cut : goal.returns-in-Cut
+pub returns-in-Err-Cut : goal.returns-in-Err-Cut
 unfolding frame_payload
-returns-in-Cut c = came c.args.s.now _ _ c.read.ensures c.in-Cut.is
+returns-in-Err-Cut c = came c.args.s.now _ _ c.read.ensures (ap told (c.in-Err-Cut.is ∙ ap Err c.in-Err-Cut.field-0-is))
 
-pub returns-in-Malformed : goal.returns-in-Malformed
+pub returns-in-Err-Malformed : goal.returns-in-Err-Malformed
 unfolding frame_payload
-returns-in-Malformed c = came c.args.s.now _ _ c.read.ensures c.in-Malformed.is
+returns-in-Err-Malformed c = came c.args.s.now _ _ c.read.ensures (ap told (c.in-Err-Malformed.is ∙ ap Err c.in-Err-Malformed.field-0-is))

@@ -6,9 +6,7 @@ use native.Mathlib.Omega.{arith}
 use borrow.Author.Tests.{eq-eqb, ne_eqb}
 use lib.Dec.{lit<}
 use lib.ListN.{length, drop}
-use Rattle.wire.specs.declared.varuint.VarUInt.{VarUInt}
-use Rattle.wire.specs.declared.varuint.VarUInt.TheVariants.{Cut}
-use Rattle.wire.specs.Varuint.{before, groups}
+use Rattle.wire.specs.Varuint.{VarUInt, Cut, before, groups}
 use Rattle.wire.proofs.Varuints.{with_low, with-low-first, with-low-more, full, groups-cut, last_bad, last-good, one-group, tenth-group, tenth-above, more-groups}
 use Rattle.wire.proofs.varuint.read_more.Goals.{At-loop-left}
 use Rattle.wire.proofs.varuint.read_more.Goals as goal
