@@ -2,16 +2,14 @@
 ghost use Rattle.std.specs.Prelude.{◌≡◌, ◌<◌};
 ghost use Rattle.buffer.specs.Span.{inside};
 ghost use Rattle.schema.specs.File.{table_of};
-ghost use Rattle.schema.specs.Check.{IsGood};
 ghost use Rattle.scalar.specs.Scalar.{text_at, scalar_of, scalar_by, scalar_at};
 ghost use Rattle.scalar.specs.Told.{told};
 
 use crate::Scalar;
 use crate::number::value;
-use constants::kind;
+use constants::kind::Kind;
 use constants::refusal::{Refusal, Refused};
-use table::access::type_row;
-use table::checking::check;
+use table::good::Schema;
 use table::kind::width_of;
 use utf8::valid;
 use value::Row;
@@ -35,7 +33,7 @@ fn number_at(bytes: &[u8], kind: u32, place: usize, length: usize) -> Result<Sca
     if !is_inside(bytes, place, length) {
         return Refusal::Outside.at(0);
     }
-    if kind == kind::BOOL {
+    if kind == Kind::Bool as u32 {
         if 1 < bytes[place] {
             return Refusal::Bool.at(place);
         }
@@ -51,7 +49,7 @@ fn text_at(bytes: &[u8], kind: u32, place: usize, length: usize) -> Result<Scala
     if !is_inside(bytes, place, length) {
         return Refusal::Outside.at(0);
     }
-    if kind == kind::STRING {
+    if kind == Kind::String as u32 {
         if !valid(bytes, place, place + length) {
             return Refusal::Utf8.at(place);
         }
@@ -60,17 +58,16 @@ fn text_at(bytes: &[u8], kind: u32, place: usize, length: usize) -> Result<Scala
 }
 
 // By a good table.
-pub fn scalar_of(schema: &[u8], row: Row, bytes: &[u8]) -> Result<Scalar, Refused>
-    requires { IsGood schema.now }
-    ensures { told result ≡ scalar_of (table_of schema.now) row bytes.now }
+pub fn scalar_of(schema: &Schema, row: Row, bytes: &[u8]) -> Result<Scalar, Refused>
+    ensures { told result ≡ scalar_of (table_of schema.now.bytes.now) row bytes.now }
 {
-    let kind = type_row(schema, row.ty as usize).kind;
+    let kind = schema.type_row(row.ty as usize).kind;
     let place = row.place as usize;
     let length = row.length as usize;
-    if (kind == 0) | ((kind::BYTES < kind) | (row.count != 0)) {
+    if (kind == 0) | ((kind > Kind::Bytes as u32) | (row.count != 0)) {
         return Refusal::Sheet.at(0);
     }
-    if kind < kind::STRING {
+    if kind < Kind::String as u32 {
         number_at(bytes, kind, place, length)
     } else {
         text_at(bytes, kind, place, length)
@@ -82,6 +79,6 @@ pub fn scalar_of(schema: &[u8], row: Row, bytes: &[u8]) -> Result<Scalar, Refuse
 pub fn scalar(schema: &[u8], row: Row, bytes: &[u8]) -> Result<Scalar, Refused>
     ensures { told result ≡ scalar_by schema.now row bytes.now }
 {
-    check(schema)?;
-    scalar_of(schema, row, bytes)
+    let schema = Schema::check(schema)?;
+    scalar_of(&schema, row, bytes)
 }

@@ -1,4 +1,5 @@
 // The float that a bit pattern stands for. Every NaN pattern is a NaN.
+// Two functions: a trait over both formats, with a sign, an infinity and a way from bits for each, would be longer than these and say no more.
 ghost use Rattle.std.specs.Prelude.{◌≡◌};
 ghost use Rattle.std.specs.Float.{binary32, binary64};
 ghost use Rattle.std.specs.Float.Ieee.{of_bits};

@@ -5,7 +5,7 @@ ghost use Rattle.scalar.specs.Scalar.{value_of};
 
 use crate::Scalar;
 use crate::float::{float32, float64};
-use constants::kind;
+use constants::kind::Kind;
 use table::kind::width_of;
 use wire::bitmap::BYTE_BITS;
 use wire::little::{number, signed};
@@ -17,16 +17,16 @@ pub fn value(s: &[u8], kind: u32, place: usize) -> Scalar
 {
     let w = width_of(kind as usize);
     let x = number(s, place, w);
-    if kind == kind::BOOL {
+    if kind == Kind::Bool as u32 {
         return Scalar::Truth(x == 1);
     }
-    if kind <= kind::INT64 {
+    if kind <= Kind::Int64 as u32 {
         return Scalar::Signed(signed(x, 1 << (BYTE_BITS * w - 1)));
     }
-    if kind <= kind::UINT64 {
+    if kind <= Kind::Uint64 as u32 {
         return Scalar::Unsigned(x);
     }
-    if kind == kind::FLOAT32 {
+    if kind == Kind::Float32 as u32 {
         let n = x as u32;
         return Scalar::Float32(float32(n), n);
     }

@@ -10,7 +10,7 @@ use Rattle.scalar.specs.Answer.{Is}
 use Rattle.scalar.specs.Told.{told}
 use Rattle.scalar.proofs.Answers.{wrong-length, outside, no_truth, number_is}
 use Rattle.buffer.specs.Span.{inside}
-use Rattle.scalar.proofs.entry.number_at.Goals.{Else-length-width_of, Else-not-is_inside, else-kind-eq-BOOL, then-kind-eq-BOOL+else-bytes-place-gt1}
+use Rattle.scalar.proofs.entry.number_at.Goals.{Else-length-width_of, Else-not-is_inside, else-kind, then-kind+else-bytes-place-gt1}
 use Rattle.scalar.proofs.entry.number_at.Goals as goal
 
 -- The length is the width.
@@ -39,14 +39,14 @@ pub returns-then-bytes-place-gt1 : goal.returns-then-bytes-place-gt1
 returns-then-bytes-place-gt1 c =
     let t = (goal.at.returns-then-bytes-place-gt1 c).Else-not-is_inside in
     let a = t.args in
-    ap told c.at-then-bytes-place-gt1.ensures ∙ sym (no_truth a.kind a.place a.length a.bytes.now (wide (goal.at.returns-then-bytes-place-gt1 c).Else-length-width_of) (within t) c.if-kind-eq-BOOL.true c.if-bytes-place-gt1.true)
+    ap told c.at-then-bytes-place-gt1.ensures ∙ sym (no_truth a.kind a.place a.length a.bytes.now (wide (goal.at.returns-then-bytes-place-gt1 c).Else-length-width_of) (within t) c.if-kind.true c.if-bytes-place-gt1.true)
 
 pub returns : goal.returns
 returns c =
     let a = c.args in
     ap Is c.value.ensures
     ∙ sym (number_is a.kind a.place a.length a.bytes.now (wide (goal.at.returns c).Else-length-width_of) (within (goal.at.returns c).Else-not-is_inside)
-    (λ e. (elim c.if-kind-eq-BOOL.branch [
-      | then-kind-eq-BOOL+else-bytes-place-gt1 w ↦ w.if-bytes-place-gt1.false
-      | else-kind-eq-BOOL w ↦ absurd (w.if-kind-eq-BOOL.false e)
+    (λ e. (elim c.if-kind.branch [
+      | then-kind+else-bytes-place-gt1 w ↦ w.if-bytes-place-gt1.false
+      | else-kind w ↦ absurd (w.if-kind.false e)
     ])))

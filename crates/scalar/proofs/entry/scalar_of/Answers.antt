@@ -12,25 +12,25 @@ use Rattle.scalar.proofs.entry.scalar_of.Goals.{After-type_row-kind}
 use Rattle.scalar.proofs.entry.scalar_of.Goals as goal
 
 -- The kind is the table's.
-kind-is : (c : After-type_row-kind) → let a = c.args in (row_at (table_of a.schema.now) a.row.ty).kind ≡ c.type_row-kind.result.kind
+kind-is : (c : After-type_row-kind) → let a = c.args in (row_at (table_of a.schema.now.bytes.now) a.row.ty).kind ≡ c.type_row-kind.result.kind
 kind-is c = ap (λ (r : TypeRow). r.kind) (sym c.type_row-kind.ensures)
 
-good : (c : After-type_row-kind) → GoodSchema (table_of c.args.schema.now)
-good c = good-table _ c.requires
+good : (c : After-type_row-kind) → GoodSchema (table_of c.args.schema.now.bytes.now)
+good c = good-table _ c.args.schema.now.good
 
 pub returns-then-kind-row : goal.returns-then-kind-row
 returns-then-kind-row c =
     let t = (goal.at.returns-then-kind-row c).After-type_row-kind in
     ap told c.at.ensures ∙ sym (row-refused _ (good t) _ _ _ (kind-is t) c.if-kind-row.true)
 
-pub returns-then-kind-lt-STRING : goal.returns-then-kind-lt-STRING
-returns-then-kind-lt-STRING c =
-    let t = (goal.at.returns-then-kind-lt-STRING c).After-type_row-kind in
+pub returns-then-kind : goal.returns-then-kind
+returns-then-kind c =
+    let t = (goal.at.returns-then-kind c).After-type_row-kind in
     let p = row-passed _ (good t) c.args.row c.args.bytes.now _ (kind-is t) c.if-kind-row.false in
-    c.number_at.ensures ∙ sym (number-row _ (good t) _ _ _ (kind-is t) p.0 c.if-kind-lt-STRING.true p.2)
+    c.number_at.ensures ∙ sym (number-row _ (good t) _ _ _ (kind-is t) p.0 c.if-kind.true p.2)
 
-pub returns-else-kind-lt-STRING : goal.returns-else-kind-lt-STRING
-returns-else-kind-lt-STRING c =
-    let t = (goal.at.returns-else-kind-lt-STRING c).After-type_row-kind in
+pub returns-else-kind : goal.returns-else-kind
+returns-else-kind c =
+    let t = (goal.at.returns-else-kind c).After-type_row-kind in
     let p = row-passed _ (good t) c.args.row c.args.bytes.now _ (kind-is t) c.if-kind-row.false in
-    c.text_at.ensures ∙ sym (text-row _ (good t) _ _ _ (kind-is t) c.if-kind-lt-STRING.false p.1 p.2)
+    c.text_at.ensures ∙ sym (text-row _ (good t) _ _ _ (kind-is t) c.if-kind.false p.1 p.2)

@@ -29,14 +29,14 @@ pub returns-then-not-valid : goal.returns-then-not-valid
 returns-then-not-valid c =
     let a = c.args in
     ap told c.at-then-not-valid.ensures
-    ∙ sym (no-utf8 a.kind a.place a.length a.bytes.now (within (goal.at.returns-then-not-valid c).Else-not-is_inside) c.if-kind-eq-STRING.true (sym (judged (goal.at.returns-then-not-valid c).After-valid) ∙ c.if-not-valid.true))
+    ∙ sym (no-utf8 a.kind a.place a.length a.bytes.now (within (goal.at.returns-then-not-valid c).Else-not-is_inside) c.if-kind.true (sym (judged (goal.at.returns-then-not-valid c).After-valid) ∙ c.if-not-valid.true))
 
 pub returns-else-not-valid : goal.returns-else-not-valid
 returns-else-not-valid c =
     let a = c.args in
     sym (text-is a.kind a.place a.length a.bytes.now (within (goal.at.returns-else-not-valid c).Else-not-is_inside) (λ e. sym (judged (goal.at.returns-else-not-valid c).After-valid) ∙ c.if-not-valid.false))
 
-pub returns-else-kind-eq-STRING : goal.returns-else-kind-eq-STRING
-returns-else-kind-eq-STRING c =
+pub returns-else-kind : goal.returns-else-kind
+returns-else-kind c =
     let a = c.args in
-    sym (text-is a.kind a.place a.length a.bytes.now (within (goal.at.returns-else-kind-eq-STRING c).Else-not-is_inside) (λ e. absurd (c.if-kind-eq-STRING.false e)))
+    sym (text-is a.kind a.place a.length a.bytes.now (within (goal.at.returns-else-kind c).Else-not-is_inside) (λ e. absurd (c.if-kind.false e)))

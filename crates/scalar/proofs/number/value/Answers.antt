@@ -50,9 +50,9 @@ fits : (c : After-number-x) → c.number-x.result < 256 ^ c.width_of-w.result
 fits c = let a = c.args in
     rw c.number-x.ensures (little-le a.s.now a.place c.width_of-w.result c.width_of-w.result (λ i. omega (arith, c.type_inv.s i)) (omega arith))
 
-pub returns-then-kind-eq-BOOL : goal.returns-then-kind-eq-BOOL
+pub returns-then-kind : goal.returns-then-kind
 unfolding value_of
-returns-then-kind-eq-BOOL c = rw (is (goal.at.returns-then-kind-eq-BOOL c).After-number-x, eq-eqb _ _ c.if-kind-eq-BOOL.true)
+returns-then-kind c = rw (is (goal.at.returns-then-kind c).After-number-x, eq-eqb _ _ c.if-kind.true)
 
 pub signed-requires : goal.signed-requires
 signed-requires c =
@@ -60,30 +60,30 @@ signed-requires c =
     let x = c.number-x.result in
     subst (λ (half : ℕ). (x < half + half) × (half ≤ 2 ^ 63)) (sym (one_at (8 * w - 1) (omega arith))) (sign-weight w x (omega arith) (omega arith) (fits (goal.at.signed-requires c).After-number-x))
 
-pub returns-then-kind-le-INT64 : goal.returns-then-kind-le-INT64
-returns-then-kind-le-INT64 c =
-    let n = (goal.at.returns-then-kind-le-INT64 c).After-number-x in
+pub returns-then-kind-2 : goal.returns-then-kind-2
+returns-then-kind-2 c =
+    let n = (goal.at.returns-then-kind-2 c).After-number-x in
     let w = n.width_of-w.result in
     let weight = one_at (8 * w - 1) (omega arith) ∙ ap (λ (k : ℕ). 2 ^ (8 * k - 1)) (sym (long n)) in
     ap Signed (to_z-of_z {w = w64} (record { sfits = c.signed.type_inv }) ∙ c.signed.ensures ∙ ap₂ twos weight (is n))
-    ∙ sym (signed_is n.args.kind (part n) c.if-kind-eq-BOOL.false c.if-kind-le-INT64.true)
+    ∙ sym (signed_is n.args.kind (part n) c.if-kind.false c.if-kind-2.true)
 
-pub returns-then-kind-le-UINT64 : goal.returns-then-kind-le-UINT64
-returns-then-kind-le-UINT64 c =
-    let n = (goal.at.returns-then-kind-le-UINT64 c).After-number-x in
+pub returns-then-kind-3 : goal.returns-then-kind-3
+returns-then-kind-3 c =
+    let n = (goal.at.returns-then-kind-3 c).After-number-x in
     ap Unsigned (is n) ∙ sym (unsigned_is n.args.kind (part n) (omega arith) (omega arith))
 
 pub overflow_cast-n : goal.overflow_cast-n
 overflow_cast-n c =
-    let four : c.width_of-w.result ≡ 4 = c.width_of-w.ensures.0 ∙ ap width c.if-kind-eq-FLOAT32.true in
+    let four : c.width_of-w.result ≡ 4 = c.width_of-w.ensures.0 ∙ ap width c.if-kind-4.true in
     record { fits = rw four at (fits (goal.at.overflow_cast-n c).After-number-x) }
 
-pub returns-then-kind-eq-FLOAT32 : goal.returns-then-kind-eq-FLOAT32
-returns-then-kind-eq-FLOAT32 c =
-    let n = (goal.at.returns-then-kind-eq-FLOAT32 c).After-number-x in
-    ap₂ Float32 (c.float32.ensures ∙ ap (of_bits binary32) (is n)) (is n) ∙ sym (float32-is n.args.kind (part n) c.if-kind-eq-FLOAT32.true)
+pub returns-then-kind-4 : goal.returns-then-kind-4
+returns-then-kind-4 c =
+    let n = (goal.at.returns-then-kind-4 c).After-number-x in
+    ap₂ Float32 (c.float32.ensures ∙ ap (of_bits binary32) (is n)) (is n) ∙ sym (float32-is n.args.kind (part n) c.if-kind-4.true)
 
 pub returns : goal.returns
 returns c =
     let n = (goal.at.returns c).After-number-x in
-    ap₂ Float64 (c.float64.ensures ∙ ap (of_bits binary64) (is n)) (is n) ∙ sym (float64-is n.args.kind (part n) (omega arith) c.if-kind-eq-FLOAT32.false)
+    ap₂ Float64 (c.float64.ensures ∙ ap (of_bits binary64) (is n)) (is n) ∙ sym (float64-is n.args.kind (part n) (omega arith) c.if-kind-4.false)
