@@ -26,8 +26,8 @@ use Rattle.frame.specs.Frame as read
 use Rattle.frame.specs.Written as wrote
 use Rattle.reader.specs.declared.Reading.{Reading}
 use Rattle.reader.specs.declared.Reading.TheVariants as reader
-use Rattle.writer.specs.declared.Writing.{Writing}
-use Rattle.writer.specs.declared.Writing.TheVariants as writer
+use Rattle.writer.specs.Writing.{Writing}
+use Rattle.writer.specs.Writing as writer
 use Rattle.index.specs.declared.Indexing.{Indexing}
 use Rattle.index.specs.declared.Indexing.TheVariants as index
 use Rattle.index.specs.declared.Finding.TheVariants as find

@@ -14,8 +14,8 @@ use Rattle.value.specs.declared.Row.{Row}
 use Rattle.reader.specs.declared.Reading.{Reading}
 use Rattle.reader.specs.Beside.{beside_outcome}
 use Rattle.reader.specs.Entry.{reading_in, sheet_in, read_outcome, numbers}
-use Rattle.writer.specs.declared.Writing.{Writing}
-use Rattle.writer.specs.declared.Writing.TheVariants.{Written, Refused as Unwritten}
+use Rattle.writer.specs.Writing.{Writing}
+use Rattle.writer.specs.Writing.{Written, Refused as Unwritten}
 use Rattle.writer.specs.Entry as writer
 use Rattle.valueframe.specs.Entry.{frame_outcome}
 use Rattle.forward.specs.Entry.{forward_outcome}

@@ -11,8 +11,8 @@ use Rattle.frame.specs.declared.FrameWritten.{FrameWritten}
 use Rattle.frame.specs.declared.FrameWritten.TheVariants as written
 use Rattle.reader.specs.declared.Reading.{Reading}
 use Rattle.reader.specs.declared.Reading.TheVariants as reader
-use Rattle.writer.specs.declared.Writing.{Writing}
-use Rattle.writer.specs.declared.Writing.TheVariants as writer
+use Rattle.writer.specs.Writing.{Writing}
+use Rattle.writer.specs.Writing as writer
 use Rattle.index.specs.declared.Indexing.{Indexing}
 use Rattle.index.specs.declared.Indexing.TheVariants as index
 use Rattle.index.specs.declared.Finding.{Finding}

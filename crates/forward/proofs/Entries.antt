@@ -37,8 +37,8 @@ use Rattle.value.proofs.Writing.{sheet-shows}
 use Rattle.walks.proofs.Presence.{bits-read}
 use Rattle.walks.proofs.Tables.{no-struct}
 use Rattle.walks.proofs.Walks.{nothing-before}
-use Rattle.writer.specs.declared.Writing.{Writing}
-use Rattle.writer.specs.declared.Writing.TheVariants.{Written, Refused}
+use Rattle.writer.specs.Writing.{Writing}
+use Rattle.writer.specs.Writing.{Written, Refused}
 use Rattle.writer.specs.declared.walk.Walk.{Walk}
 use Rattle.writer.specs.declared.walk.Walk.TheVariants.{Past, Refused as Stopped}
 use Rattle.writer.specs.Emit.{cap, done, stopped, emit}

@@ -19,7 +19,7 @@ use Rattle.value.specs.Read as read
 use Rattle.value.specs.Sheet.{rows_of}
 use Rattle.value.specs.Spell as spell
 use Rattle.value.specs.Write as write
-use Rattle.writer.specs.declared.Writing.TheVariants.{Refused}
+use Rattle.writer.specs.Writing.{Refused}
 use Rattle.writer.specs.Entry.{Outcome, outcome, outcome_of}
 use Rattle.forward.specs.Forward.{forward}
 use Rattle.forward.specs.Entry.{sheet_forwarded, forward_outcome}

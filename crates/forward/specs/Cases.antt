@@ -1,8 +1,8 @@
 -- Worked cases over schema files: a type, a sheet's cells, their bytes, a tail's place and length and the output, with the answer. Each refusal stands where
 -- those after it would come too.
 use Rattle.std.specs.Prelude.{◌≡◌, List, [], ◌∷◌, ◌++◌, map, ℕ, ◌+◌, length, replicate}
-use Rattle.writer.specs.declared.Writing.{Writing}
-use Rattle.writer.specs.declared.Writing.TheVariants.{Written, Refused}
+use Rattle.writer.specs.Writing.{Writing}
+use Rattle.writer.specs.Writing.{Written, Refused}
 use Rattle.writer.specs.Entry.{outcome}
 use Rattle.forward.specs.Entry.{forward_outcome}
 

@@ -39,7 +39,7 @@ use Rattle.reader.specs.declared.Reading.TheVariants.{Shown, Refused}
 use Rattle.flat.specs.Sheet.{shown_in}
 use Rattle.reader.specs.Entry.{Outcome, outcome, outcome_of, room, read_outcome}
 use Rattle.reader.specs.Beside.{beside_payload, beside_outcome}
-use Rattle.writer.specs.declared.Writing.TheVariants.{Written}
+use Rattle.writer.specs.Writing.{Written}
 use Rattle.writer.specs.Entry as writer
 use Rattle.writer.specs.Entry.{file_outcome}
 use Rattle.promises.specs.Claims.{shapes, first_rows, ReadsAs}

@@ -41,7 +41,7 @@ use Rattle.value.proofs.Without.{spelled_kept}
 use Rattle.value.proofs.Statements as value
 use Rattle.reader.specs.declared.Reading.TheVariants.{Shown}
 use Rattle.reader.specs.Entry.{outcome, outcome_of, room, read_outcome}
-use Rattle.writer.specs.declared.Writing.TheVariants.{Written}
+use Rattle.writer.specs.Writing.{Written}
 use Rattle.writer.specs.Entry as writer
 use Rattle.writer.specs.Entry.{file_outcome}
 use Rattle.promises.specs.Claims.{shapes, first_rows, ReadsAs, NoUnknownBits, OldAnswers, NewByOld}

@@ -28,7 +28,7 @@ use Rattle.value.specs.Fits.{Shows}
 use Rattle.value.proofs.Numbers.{sheet-reason-number, write-number-above}
 use Rattle.reader.specs.declared.Reading.TheVariants.{Shown}
 use Rattle.reader.specs.Entry.{outcome, room, read_outcome}
-use Rattle.writer.specs.declared.Writing.TheVariants.{Written, Refused}
+use Rattle.writer.specs.Writing.{Written, Refused}
 use Rattle.writer.specs.Entry as writer
 use Rattle.writer.specs.Entry.{file_outcome}
 use Rattle.writer.proofs.Outcomes.{taken-apart, refused-apart, refused-is, write-by, written_is}

@@ -24,7 +24,7 @@ use Rattle.value.proofs.Sheets.{length-rows}
 use Rattle.value.proofs.Statements as value
 use Rattle.reader.specs.declared.Reading.TheVariants.{Shown}
 use Rattle.reader.specs.Entry.{outcome, room, read_outcome}
-use Rattle.writer.specs.declared.Writing.TheVariants.{Written, Refused}
+use Rattle.writer.specs.Writing.{Written, Refused}
 use Rattle.writer.specs.Entry as writer
 use Rattle.writer.specs.Entry.{file_outcome}
 use Rattle.promises.specs.Claims.{shapes, first_rows, ReadsAs, NoUnknownBits}

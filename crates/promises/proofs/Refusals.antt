@@ -22,7 +22,7 @@ use Rattle.value.proofs.Numbers.{reason-number, sheet-reason-number, read-number
 use Rattle.value.proofs.Statements as value
 use Rattle.reader.specs.declared.Reading.TheVariants.{Refused}
 use Rattle.reader.specs.Entry.{outcome, outcome_of, room, by_table, read_outcome, payload_outcome}
-use Rattle.writer.specs.declared.Writing.TheVariants.{Refused as Unwritten}
+use Rattle.writer.specs.Writing.{Refused as Unwritten}
 use Rattle.writer.specs.Entry as writer
 use Rattle.promises.specs.Claims.{shapes, ReadReason, WriteReason}
 use Rattle.writer.proofs.Outcomes.{write-by, refused-from as unwritten-from}

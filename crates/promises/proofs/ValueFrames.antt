@@ -13,7 +13,7 @@ use Rattle.frame.specs.IsFrame.{HeaderFits}
 use Rattle.frame.proofs.Writes.{length-frame}
 use Rattle.frame.proofs.ReadBack as frame
 use Rattle.reader.specs.Entry.{room}
-use Rattle.writer.specs.declared.Writing.TheVariants.{Written}
+use Rattle.writer.specs.Writing.{Written}
 use Rattle.writer.specs.Entry as writer
 use Rattle.writer.proofs.Outcomes.{written_is}
 use Rattle.valueframe.specs.Entry.{frame_outcome}

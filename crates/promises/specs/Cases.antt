@@ -5,7 +5,7 @@ use Rattle.value.specs.declared.Row.{Row}
 use Rattle.reader.specs.declared.Reading.TheVariants.{Shown}
 use Rattle.reader.specs.Entry.{Outcome, outcome, read_outcome, Numbers, numbers}
 use Rattle.reader.specs.Beside.{beside_outcome}
-use Rattle.writer.specs.declared.Writing.TheVariants.{Written}
+use Rattle.writer.specs.Writing.{Written}
 use Rattle.writer.specs.Entry as writer
 use Rattle.writer.specs.Entry.{file_outcome}
 use Rattle.forward.specs.Entry.{forward_outcome}

@@ -37,7 +37,7 @@ use Rattle.scalar.specs.Scalar.{scalar_by}
 use Rattle.scalar.specs.Answer.{Refused as scalar-Refused}
 use Rattle.scalar.specs.Reasons.{Reason as scalar-Reason}
 use Rattle.writer.specs.Entry.{file_outcome, outcome as writer-outcome}
-use Rattle.writer.specs.declared.Writing.TheVariants.{Refused as writer-Refused}
+use Rattle.writer.specs.Writing.{Refused as writer-Refused}
 use Rattle.receiver.specs.Receive.{received}
 use Rattle.receiver.specs.Claims.{AnswerNumber, ReleaseNumber, Stopping, Stops, Unready, Nothing, Front}
 use Rattle.receiver.specs.Release.{released}

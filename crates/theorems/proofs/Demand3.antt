@@ -20,7 +20,7 @@ use Rattle.reader.specs.Entry.{read_outcome, outcome as reader-outcome, room}
 use Rattle.reader.specs.declared.Reading.TheVariants.{Shown, Refused as reader-Refused}
 use Rattle.flat.specs.Sheet.{shown_in}
 use Rattle.writer.specs.Entry.{file_outcome, outcome as writer-outcome}
-use Rattle.writer.specs.declared.Writing.TheVariants.{Written as writer-Written}
+use Rattle.writer.specs.Writing.{Written as writer-Written}
 use Rattle.promises.specs.Claims.{shapes, NewByOld, first_rows, ReadsAs}
 use Rattle.promises.specs.Cases.{P5, P6}
 use Rattle.promises.proofs.Examples.{inner_rows, known_rows, wider, root_rows}

@@ -24,8 +24,8 @@ use Rattle.reader.specs.declared.Reading.TheVariants.{Refused as reader-Refused}
 use Rattle.reader.specs.Entry.{read_outcome, outcome as reader-outcome}
 use Rattle.reader.specs.Beside.{beside_outcome}
 use Rattle.scalar.specs.Scalar.{scalar_by, scalar_number}
-use Rattle.writer.specs.declared.Writing.{Writing}
-use Rattle.writer.specs.declared.Writing.TheVariants.{Refused as writer-Refused}
+use Rattle.writer.specs.Writing.{Writing}
+use Rattle.writer.specs.Writing.{Refused as writer-Refused}
 use Rattle.writer.specs.Numbers.{write_number as writer-writeNumber}
 use Rattle.writer.specs.Entry.{file_outcome, outcome as writer-outcome}
 use Rattle.forward.specs.Entry.{forward_outcome}

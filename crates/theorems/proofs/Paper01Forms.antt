@@ -33,7 +33,7 @@ use Rattle.flat.specs.Sheet.{shown_in}
 use Rattle.reader.specs.declared.Reading.{Reading}
 use Rattle.writer.specs.Numbers.{numbers as writer-numbers}
 use Rattle.writer.specs.Entry.{file_outcome, Outcome as writer-Outcome, outcome as writer-outcome}
-use Rattle.writer.specs.declared.Writing.TheVariants.{Refused as writer-Refused, Written as writer-Written}
+use Rattle.writer.specs.Writing.{Refused as writer-Refused, Written as writer-Written}
 use Rattle.forward.specs.Entry.{forward_outcome}
 use Rattle.forward.specs.Claims.{Forwards}
 use Rattle.index.specs.Index.{index_number, make_index, index_place, index_length}

@@ -9,7 +9,7 @@ use Rattle.schema.proofs.Examples.{file}
 use Rattle.frame.specs.declared.Header.{Header}
 use Rattle.value.specs.Write.{refusal as write-refusal}
 use Rattle.writer.specs.Entry.{outcome as writer-outcome, payload_by}
-use Rattle.writer.specs.declared.Writing.TheVariants.{Written as writer-Written, Refused as writer-Refused}
+use Rattle.writer.specs.Writing.{Written as writer-Written, Refused as writer-Refused}
 use Rattle.valueframe.specs.Entry.{frame_outcome}
 use Rattle.valueframe.specs.Claims.{InTurn, Unwritten}
 use Rattle.valueframe.specs.Cases.{ValueFrameCase, header, worked as valueframe-worked, lent as valueframe-lent}

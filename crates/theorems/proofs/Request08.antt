@@ -31,7 +31,7 @@ use Rattle.reader.specs.Beside.{beside_outcome}
 use Rattle.reader.specs.declared.Reading.TheVariants.{Refused as reader-Refused, Shown}
 use Rattle.flat.specs.Sheet.{shown_in}
 use Rattle.writer.specs.Entry.{file_outcome, outcome as writer-outcome}
-use Rattle.writer.specs.declared.Writing.TheVariants.{Written as writer-Written}
+use Rattle.writer.specs.Writing.{Written as writer-Written}
 use Rattle.promises.specs.Claims.{shapes, first_rows, ReadsAs}
 use Rattle.promises.specs.Beside.{ReadsBeside, NewBeside, RefusedBeside, Unextended}
 use Rattle.promises.specs.Cases.{patched, other_form, carrier, HoldBeside, lent as promises-lent, beside_carrier, Hold as promises-Hold, struct_of, grown_alone, grown_beside, of_theirs, P5, receipts}

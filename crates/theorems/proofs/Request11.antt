@@ -24,7 +24,7 @@ use Rattle.value.specs.Write.{written, refusal as write-refusal}
 use Rattle.reader.specs.Entry.{read_outcome, outcome as reader-outcome, room}
 use Rattle.reader.specs.declared.Reading.TheVariants.{Shown}
 use Rattle.writer.specs.Entry.{outcome as writer-outcome, file_outcome}
-use Rattle.writer.specs.declared.Writing.TheVariants.{Written as writer-Written, Refused as writer-Refused}
+use Rattle.writer.specs.Writing.{Written as writer-Written, Refused as writer-Refused}
 use Rattle.forward.specs.Entry.{forward_outcome}
 use Rattle.forward.specs.Claims.{Forwards, Passes, TailReason}
 use Rattle.forward.specs.Cases.{ForwardHold as forward-Hold, worked as forward-worked, nine, by-nine, large, lent as forward-lent}

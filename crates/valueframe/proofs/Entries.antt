@@ -22,7 +22,7 @@ use Rattle.value.specs.declared.Row.{Row}
 use Rattle.value.specs.Sheet.{rows_of}
 use Rattle.value.specs.Write.{Writing, refusal, written}
 use Rattle.value.proofs.Sheets.{length-rows}
-use Rattle.writer.specs.declared.Writing.TheVariants.{Written, Refused}
+use Rattle.writer.specs.Writing.{Written, Refused}
 use Rattle.writer.specs.Entry.{Outcome, outcome, outcome_of, payload_by, length_of, within_room}
 use Rattle.writer.proofs.Entries.{length-refused, length-written, written-length, payload-small}
 use Rattle.valueframe.specs.Entry.{empty_by, payload_for, framed, frame_in, value_frame, frame_outcome}

@@ -22,7 +22,7 @@ use Rattle.value.specs.Spell as spell
 use Rattle.value.specs.Sheet.{rows_of}
 use Rattle.value.specs.Write as write
 use Rattle.value.specs.Write.{Writing, refusal}
-use Rattle.writer.specs.declared.Writing.TheVariants.{Refused}
+use Rattle.writer.specs.Writing.{Refused}
 use Rattle.writer.specs.Entry.{outcome, outcome_of, payload_by, within_room}
 use Rattle.valueframe.specs.Entry.{empty_by, payload_for, framed, value_frame, frame_outcome}
 use Rattle.valueframe.specs.Cases.{ValueFrameCase, header, lent, worked}

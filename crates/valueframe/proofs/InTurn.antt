@@ -26,7 +26,7 @@ use Rattle.frame.proofs.ReadBack.{written-iff, refused-iff}
 use Rattle.value.specs.Sheet.{rows_of}
 use Rattle.value.specs.Write.{Writing, refusal, written, write}
 use Rattle.value.proofs.Writing.{not_written}
-use Rattle.writer.specs.declared.Writing.TheVariants.{Written, Refused}
+use Rattle.writer.specs.Writing.{Written, Refused}
 use Rattle.writer.specs.Entry.{outcome, outcome_of, payload_by, length_of, within_room}
 use Rattle.writer.proofs.Entries.{room-last, payload-small, payload-other}
 use Rattle.writer.proofs.Outcomes.{taken-apart, refused-apart, write-by, refused-from, written-good, written_is}

@@ -19,8 +19,8 @@ use Rattle.schema.proofs.Bools.{cases, and_left, and_right}
 use Rattle.frame.specs.declared.Header.{Header}
 use Rattle.frame.specs.Written.{front_bytes, frame_bytes}
 use Rattle.value.specs.Write.{Writing, refusal, written}
-use Rattle.writer.specs.declared.Writing as code
-use Rattle.writer.specs.declared.Writing.TheVariants.{Written, Refused}
+use Rattle.writer.specs.Writing as code
+use Rattle.writer.specs.Writing.{Written, Refused}
 use Rattle.writer.specs.Emit.{PutAt}
 use Rattle.writer.specs.Entry.{outcome, length_of, Fronts}
 use Rattle.writer.proofs.Entries.{length-written, written-length}

@@ -2,8 +2,8 @@
 -- those after it would come too.
 use Rattle.std.specs.Prelude.{List, [], ◌∷◌, ◌++◌, ℕ, ◌+◌, replicate}
 use Rattle.frame.specs.declared.Header.{Header}
-use Rattle.writer.specs.declared.Writing.{Writing}
-use Rattle.writer.specs.declared.Writing.TheVariants.{Written, Refused}
+use Rattle.writer.specs.Writing.{Writing}
+use Rattle.writer.specs.Writing.{Written, Refused}
 
 pub record ValueFrameCase : Type 0 where
   pub kind : ℕ

@@ -5,7 +5,7 @@ use Rattle.schema.specs.Faults.{TableFault}
 use Rattle.frame.specs.declared.Header.{Header}
 use Rattle.frame.specs.declared.FrameWritten.TheVariants.{Written as Framed, Refused as Unframed}
 use Rattle.frame.specs.Written.{written_of, output_of}
-use Rattle.writer.specs.declared.Writing.TheVariants.{Written, Refused}
+use Rattle.writer.specs.Writing.{Written, Refused}
 use Rattle.writer.specs.Entry.{outcome, file_outcome}
 
 -- The payload that goes into the frame: the bytes that the entry `write` writes into mid; without a value, by a good file and without a row, none.

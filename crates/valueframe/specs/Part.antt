@@ -2,8 +2,8 @@
 use Rattle.std.specs.Prelude.{Bool, false, cond, ◌&&◌, List, ◌++◌, ℕ, ◌+◌, eqb, leb, length, drop}
 use Rattle.wire.specs.Varuint.{varuint_bytes}
 use Rattle.value.specs.Write as value
-use Rattle.writer.specs.declared.Writing.{Writing}
-use Rattle.writer.specs.declared.Writing.TheVariants.{Written, Refused}
+use Rattle.writer.specs.Writing.{Writing}
+use Rattle.writer.specs.Writing.{Written, Refused}
 
 -- A payload was written whose place in the frame is `start`, with no more than `size` bytes.
 unfoldable pub belongs : Writing → (start size : ℕ) → Bool

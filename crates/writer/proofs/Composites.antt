@@ -1,4 +1,5 @@
 -- Laws of the walkers: a value of each shape by its row, and the turns of the loops over what it holds.
+use Rattle.std.specs.Prelude.{Result, Ok, Err}
 use mathlib.Core.Path.{◌≡◌, refl, sym, ap, ◌∙◌}
 use mathlib.Core.Bool.{Bool, true, false, ◌&&◌}
 use mathlib.Core.List.{List, [], ◌∷◌, append-nil}
@@ -23,14 +24,11 @@ use Rattle.value.specs.Write.{RowReader, row_due, says, show}
 use Rattle.walks.specs.Shape.{leaf_shape, shape_in}
 use Rattle.walks.proofs.Items.{item-accepted, item-stop, item-past}
 use Rattle.walks.proofs.Walks.{deep}
-use Rattle.writer.specs.declared.leaf.Due.{Due}
-use Rattle.writer.specs.declared.leaf.Due.TheVariants.{Found, Missing}
-use Rattle.writer.specs.declared.leaf.Leaf.{Leaf}
-use Rattle.writer.specs.declared.leaf.Leaf.TheVariants.{At, Refused as LeafRefused}
-use Rattle.writer.specs.declared.leaf.Head.{Head}
-use Rattle.writer.specs.declared.leaf.Head.TheVariants.{Bits, Refused as HeadRefused}
-use Rattle.writer.specs.declared.walk.Walk.{Walk}
-use Rattle.writer.specs.declared.walk.Walk.TheVariants.{Past, Refused}
+use Rattle.constants.specs.Number.{number_of}
+use Rattle.constants.specs.declared.refusal.Refused.{Refused}
+use Rattle.writer.specs.declared.leaf.RowSays.{RowSays}
+use Rattle.writer.specs.declared.leaf.Placed.{Placed}
+use Rattle.writer.specs.declared.walk.Past.{Past}
 use Rattle.writer.specs.Emit.{cap, PutAt, emitted, Final, emit, emit_all}
 use Rattle.writer.specs.Leaf.{rows_at, due_answer, DueRow, leaf_of, LeafIn, LeafRow, head_of}
 use Rattle.writer.specs.Walk.{value_in, items_in, value_end, items_end, Walked, Ready}
@@ -40,38 +38,39 @@ use Rattle.writer.proofs.Steps.{ahead, was, as_refused, shown-along, walk-done, 
 
 -- ---- a leaf
 
-module _ {cells B : List ℕ} {kind t row : ℕ} {r : Leaf} (read : LeafRow cells B kind t row r) where
-  module _ {p n : ℕ} (e : r ≡ At p n) where
-    pub leaf_in : LeafIn cells B row (At p n)
+module _ {cells B : List ℕ} {kind t row : ℕ} {r : Result Placed Refused} (read : LeafRow cells B kind t row r) where
+  module _ {x : Placed} (e : r ≡ Ok x) where
+    pub leaf_in : LeafIn cells B row (Ok x)
     leaf_in = rw e at read.within
 
   module _ (S : ℕ → Shape) {d : ℕ} (is : S t ≡ leaf_shape kind) (some : d ≡ 0 → ⊥) where
-    pub leaf-failed : {n : ℕ} → r ≡ LeafRefused n → show S B d t (rows_at cells row) ≡ refused n row
-    leaf-failed {n} e =
+    pub leaf-failed : {e : Refused} → r ≡ Err e → show S B d t (rows_at cells row) ≡ refused (number_of e.refusal) e.place
+    leaf-failed {e} h =
         rw (deep d some)
-        (leaf-refused S B (d - 1) t (rows_at cells row) (leaf_shape kind) is n row (sym read.same ∙ ap (leaf_of cells B row) e))
+        (leaf-refused S B (d - 1) t (rows_at cells row) (leaf_shape kind) is (number_of e.refusal) e.place (sym read.same ∙ ap (leaf_of cells B row) h))
 
-    module _ {p n : ℕ} (e : r ≡ At p n) where
-      pub leaf-read : (w : Row) × (show S B d t (rows_at cells row) ≡ seen (tip w (span B p n)) (rows_at cells (row + 1)))
+    module _ {x : Placed} (e : r ≡ Ok x) where
+      pub leaf-read : (w : Row) × (show S B d t (rows_at cells row) ≡ seen (tip w (span B x.place x.length)) (rows_at cells (row + 1)))
       leaf-read =
           rw (deep d some)
-          (leaf-shown S B (d - 1) t (rows_at cells row) (leaf_shape kind) is (span B p n) (rows_at cells (row + 1)) (sym read.same ∙ ap (leaf_of cells B row) e))
+          (leaf-shown S B (d - 1) t (rows_at cells row) (leaf_shape kind) is (span B x.place x.length) (rows_at cells (row + 1)) (sym read.same ∙ ap (leaf_of cells B row) e))
 
-      pub leaf-past : {pos : ℕ} {out : List ℕ} {next : ℕ} {mid : List ℕ} → PutAt out pos (leaf_bytes (leaf_shape kind) (span B p n)) next mid
-          → Walked cells (emit S t (show S B d t (rows_at cells row)) pos out) (Past (row + 1) next) mid
+      pub leaf-past : {pos : ℕ} {out : List ℕ} {next : ℕ} {mid : List ℕ} → PutAt out pos (leaf_bytes (leaf_shape kind) (span B x.place x.length)) next mid
+          → Walked cells (emit S t (show S B d t (rows_at cells row)) pos out) (Ok (record { row = row + 1; pos = next })) mid
       unfolding emit
       leaf-past {pos} {out} {next} {mid} q =
           let w = leaf-read in
           let i = leaf_in e in
-          let h : mid ≡ put out pos (leaf_bytes (leaf_shape kind) (span B p n)) = q.holds in
-          let f : next ≡ cap (pos + length (leaf_bytes (leaf_shape kind) (span B p n))) = q.further in
-          record { same = rw (w.1, tip-bytes S t w.0 (span B p n), is, ← h, ← f); within = (omega arith, q.capped) }
+          let h : mid ≡ put out pos (leaf_bytes (leaf_shape kind) (span B x.place x.length)) = q.holds in
+          let f : next ≡ cap (pos + length (leaf_bytes (leaf_shape kind) (span B x.place x.length))) = q.further in
+          record { same = rw (w.1, tip-bytes S t w.0 (span B x.place x.length), is, ← h, ← f); within = (omega arith, q.capped) }
 
 -- ---- composites
 
-pub row-absent : {t : ℕ} {cells : List ℕ} {row : ℕ} {due : Due} → DueRow cells row t due → (S : ℕ → Shape) (B : List ℕ) (d : ℕ) → due ≡ Missing
-    → show S B (suc d) t (rows_at cells row) ≡ refused 50 row
-row-absent {t} {cells} {row} found S B d e = show-refused S B d t (rows_at cells row) 50 row (sym found.same ∙ ap (due_answer cells row t) e)
+pub row-absent : {t : ℕ} {cells : List ℕ} {row : ℕ} {due : Result RowSays Refused} → DueRow cells row t due → (S : ℕ → Shape) (B : List ℕ) (d : ℕ) {e : Refused} → due ≡ Err e
+    → show S B (suc d) t (rows_at cells row) ≡ refused (number_of e.refusal) e.place
+row-absent {t} {cells} {row} found S B d {e} is =
+    show-refused S B d t (rows_at cells row) (number_of e.refusal) e.place (sym found.same ∙ ap (due_answer cells row t) is)
 
 -- A composite's row that was found and says its head h.
 pub record PartsRow (S : ℕ → Shape) (B cells : List ℕ) (row t : ℕ) (sh : Shape) (h : ℕ) : Type 0 where
@@ -99,36 +98,36 @@ module _ {S : ℕ → Shape} {B cells : List ℕ} {row t : ℕ} {sh : Shape} {h 
   pub parts-accepted : Accepted (show S B (suc d) t (rows_at cells row)) → Accepted (walk (show S B d) [] (plan sh h) (rows_at cells (row + 1)))
   parts-accepted a = accepted-first _ _ (rw parts-shown at a)
 
-module _ {t : ℕ} {cells : List ℕ} {row : ℕ} {due : Due} (found : DueRow cells row t due) {p n c : ℕ} (e : due ≡ Found p n c) (S : ℕ → Shape) (B : List ℕ) where
-  parts-found : {sh : Shape} → S t ≡ sh → says B row sh p n c (rows_at cells (row + 1)) ≡ seen (parts 0 c) (rows_at cells (row + 1)) → PartsRow S B cells row t sh c
+module _ {t : ℕ} {cells : List ℕ} {row : ℕ} {due : Result RowSays Refused} (found : DueRow cells row t due) {w : RowSays} (e : due ≡ Ok w) (S : ℕ → Shape) (B : List ℕ) where
+  parts-found : {sh : Shape} → S t ≡ sh → says B row sh w.place w.length w.count (rows_at cells (row + 1)) ≡ seen (parts 0 w.count) (rows_at cells (row + 1)) → PartsRow S B cells row t sh w.count
   parts-found is said =
-      record { is = is; own = record { ty = t; place = p; length = n; count = c }; read = row_read found e; inside = (due_in found e).0; said = said }
+      record { is = is; own = record { ty = t; place = w.place; length = w.length; count = w.count }; read = row_read found e; inside = (due_in found e).0; said = said }
 
-  pub array-found : {a : ℕ} → S t ≡ array a → PartsRow S B cells row t (array a) c
+  pub array-found : {a : ℕ} → S t ≡ array a → PartsRow S B cells row t (array a) w.count
   array-found is = parts-found is refl
 
   module _ {k v : ℕ} (is : S t ≡ map k v) where
     -- a map of more than 64 pairs is refused
-    pub map-many : 64 < c → (d : ℕ) → show S B (suc d) t (rows_at cells row) ≡ refused 31 row
+    pub map-many : 64 < w.count → (d : ℕ) → show S B (suc d) t (rows_at cells row) ≡ refused 31 row
     unfolding and_then check
     map-many h d =
-        let f : leb c 64 ≡ false = lt-leb c 64 h in
+        let f : leb w.count 64 ≡ false = lt-leb w.count 64 h in
         show_bad S B d t (rows_at cells row) (map k v) is _ (rows_at cells (row + 1)) (row_read found e) 31 row (rw f)
 
-    pub map_found : c ≤ 64 → PartsRow S B cells row t (map k v) c
+    pub map_found : w.count ≤ 64 → PartsRow S B cells row t (map k v) w.count
     unfolding and_then check
     map_found few =
-        let f : leb c 64 ≡ true = le-leb c 64 few in
+        let f : leb w.count 64 ≡ true = le-leb w.count 64 few in
         parts-found is (rw f)
 
 -- an inner struct
-module _ {S : ℕ → Shape} {B cells : List ℕ} {row t n : ℕ} {fs : List Field} {head : Head} (w : HeadRow true S B cells row t n fs head) where
-  pub struct-fault : {number : ℕ} → head ≡ HeadRefused number → (d : ℕ) → show S B (suc d) t (rows_at cells row) ≡ refused number row
-  struct-fault {number} q d =
-      show_bad S B d t (rows_at cells row) (struct fs) w.is w.own (rows_at cells (row + 1)) w.read number row
-      (sym (w.headed row (rows_at cells (row + 1))) ∙ ap (head_of row (rows_at cells (row + 1))) q)
+module _ {S : ℕ → Shape} {B cells : List ℕ} {row t n : ℕ} {fs : List Field} {head : Result ℕ Refused} (w : HeadRow true S B cells row t n fs head) where
+  pub struct-fault : {e : Refused} → head ≡ Err e → (d : ℕ) → show S B (suc d) t (rows_at cells row) ≡ refused (number_of e.refusal) e.place
+  struct-fault {e} q d =
+      show_bad S B d t (rows_at cells row) (struct fs) w.is w.own (rows_at cells (row + 1)) w.read (number_of e.refusal) e.place
+      (sym (w.headed (rows_at cells (row + 1))) ∙ ap (head_of (rows_at cells (row + 1))) q)
 
-  module _ {known : ℕ} (q : head ≡ Bits known) where
+  module _ {known : ℕ} (q : head ≡ Ok known) where
     pub struct-found : PartsRow S B cells row t (struct fs) known
     struct-found =
         record {
@@ -136,7 +135,7 @@ module _ {S : ℕ → Shape} {B cells : List ℕ} {row t n : ℕ} {fs : List Fie
           own = w.own;
           read = w.read;
           inside = w.inside;
-          said = sym (w.headed row (rows_at cells (row + 1))) ∙ ap (head_of row (rows_at cells (row + 1))) q;
+          said = sym (w.headed (rows_at cells (row + 1))) ∙ ap (head_of (rows_at cells (row + 1))) q;
         }
 
     pub struct-start : (d : ℕ) {out : List ℕ} {pos next : ℕ} {mid : List ℕ} → length out ≤ 16384 → PutAt out pos (bytes (bitmap_bytes n) known) next mid
@@ -165,7 +164,7 @@ module _ {s B cells : List ℕ} {depth : ℕ} {all : List Item} {start pos₀ : 
     writing-known j = shown-along _ _ _ _ _ _ _ _ _ g.same (g.asked.judged j)
 
     -- no item is left
-    pub writing-done : left ≡ [] → Walked cells (items_end s B cells depth [] all start pos₀ out₀) (Past row pos) out
+    pub writing-done : left ≡ [] → Walked cells (items_end s B cells depth [] all start pos₀ out₀) (Ok (record { row = row; pos = pos })) out
     writing-done none = walk-done _ _ _ none g.same g.inside g.capped
 
     -- an element or a field, and those after it
@@ -173,12 +172,12 @@ module _ {s B cells : List ℕ} {depth : ℕ} {all : List Item} {start pos₀ : 
       pub writing-ready : Ready s cells out row pos judging (value_in s B cells depth e row)
       writing-ready = record { good = g.asked.good; inside = g.inside; capped = g.capped; small = writing-small; judged = λ j. item-accepted _ _ first _ (writing-known j) }
 
-      module _ {r : Walk} {mid : List ℕ} (w : Walked cells (value_end s B cells depth e row pos out) r mid) where
-        pub writing-stop : {n q : ℕ} → r ≡ Refused n q → {r' : Walk} {after : List ℕ} → r' ≡ Refused n q → Walked cells (items_end s B cells depth [] all start pos₀ out₀) r' after
+      module _ {r : Result Past Refused} {mid : List ℕ} (w : Walked cells (value_end s B cells depth e row pos out) r mid) where
+        pub writing-stop : {e : Refused} → r ≡ Err e → {r' : Result Past Refused} {after : List ℕ} → r' ≡ Err e → Walked cells (items_end s B cells depth [] all start pos₀ out₀) r' after
         unfolding emit emit_all
         writing-stop h h' = as_refused h' (item-stop (emitting (shape_in s)) (show (shape_in s) B depth) keys first (rows_at cells row) (emitted pos out) _ (was w h).same ∙ g.same)
 
-        pub writing-on : {next to : ℕ} → r ≡ Past next to → length mid ≡ length out → WritingItems s B cells depth all start pos₀ judging out₀ keys rest next to mid
+        pub writing-on : {p : Past} → r ≡ Ok p → length mid ≡ length out → WritingItems s B cells depth all start pos₀ judging out₀ keys rest p.row p.pos mid
         unfolding emit emit_all
         writing-on h long =
             let v = was w h in
@@ -222,9 +221,9 @@ module _ (P : ℕ → RowReader Tree) (t : ℕ) (c : CursorOf Row) where
 
 -- A value that one way or the other of a branch has written.
 pub record Came (cells : List ℕ) (end : Final) (before : List ℕ) (here to : ℕ) (out : List ℕ) : Type 0 where
-  pub walked : Walked cells end (Past here to) out
+  pub walked : Walked cells end (Ok (record { row = here; pos = to })) out
   pub long : length out ≡ length before
 
-pub came-by : {cells : List ℕ} {end : Final} {before : List ℕ} {row next : ℕ} {out : List ℕ} → Walked cells end (Past row next) out → length out ≡ length before
-    → {here to : ℕ} {out' : List ℕ} → here ≡ row → to ≡ next → out' ≡ out → Came cells end before here to out'
+pub came-by : {cells : List ℕ} {end : Final} {before : List ℕ} {p : Past} {out : List ℕ} → Walked cells end (Ok p) out → length out ≡ length before
+    → {here to : ℕ} {out' : List ℕ} → here ≡ p.row → to ≡ p.pos → out' ≡ out → Came cells end before here to out'
 came-by w k e₁ e₂ e₃ = rw (e₁, e₂, e₃) (record { walked = w; long = k })

@@ -1,4 +1,5 @@
 -- Laws of the entries: what each of their returns shows of the whole writing.
+use Rattle.std.specs.Prelude.{Result, Ok, Err}
 use mathlib.Core.Path.{◌≡◌, refl, sym, ap, subst, ◌∙◌}
 use mathlib.Core.Bool.{Bool, true, false, cond}
 use mathlib.Core.List.{List, ◌++◌, append-nil}
@@ -26,9 +27,10 @@ use Rattle.value.specs.Spell.{encode}
 use Rattle.value.specs.Sheet.{rows_of}
 use Rattle.value.specs.Write.{show_root, sheet_root, Writing, refusal, written, fitted, writing, write}
 use Rattle.walks.proofs.Tables.{no-struct}
-use Rattle.writer.specs.declared.Writing.TheVariants.{Written, Refused}
-use Rattle.writer.specs.declared.walk.Walk.{Walk}
-use Rattle.writer.specs.declared.walk.Walk.TheVariants.{Past, Refused as Stopped}
+use Rattle.writer.specs.Writing.{Written, Refused}
+use Rattle.constants.specs.Number.{number_of}
+use Rattle.constants.specs.declared.refusal.Refused as error
+use Rattle.writer.specs.declared.walk.Past.{Past}
 use Rattle.writer.specs.Emit.{cap, PutAt, done, stopped, emit}
 use Rattle.writer.specs.Leaf.{rows_at}
 use Rattle.writer.specs.Walk.{end_of, Walked}
@@ -122,32 +124,34 @@ module _ (s : List ℕ) (ty : ℕ) (cells B : List ℕ) (fs : List Field) (is : 
   payload-by m e = rw (is, e)
 
   -- The first walk measures.
-  module _ (o o' : List ℕ) (r : Walk) (walked : Walked cells (emit (shape (table_of s)) ty (show_root (shape (table_of s)) B ty fs (rows_at cells 0)) 0 o) r o') where
-    pub payload-refused : (n q : ℕ) → r ≡ Stopped n q → payload_by s ty cells B ≡ refusal n q
-    payload-refused n q e =
+  module _ (o o' : List ℕ) (r : Result Past error.Refused) (walked : Walked cells (emit (shape (table_of s)) ty (show_root (shape (table_of s)) B ty fs (rows_at cells 0)) 0 o) r o') where
+    pub payload-refused : (f : error.Refused) → r ≡ Err f → payload_by s ty cells B ≡ refusal (number_of f.refusal) f.place
+    payload-refused f e =
+        let n = number_of f.refusal in
+        let q = f.place in
         let w : stopped n q ≡ emit (shape (table_of s)) ty (show_root (shape (table_of s)) B ty fs (rows_at cells 0)) 0 o = rw e at walked.same in
         payload-by (refused n q) (emit-stopped (shape (table_of s)) ty _ n q o w)
 
-    module _ (row pos : ℕ) (e : r ≡ Past row pos) where
-      shown : (tree : Tree) × (payload_by s ty cells B ≡ fitted 16384 (encode (shape (table_of s)) (value tree) ty)) × (pos ≡ cap (length (encode (shape (table_of s)) (value tree) ty)))
+    module _ (p : Past) (e : r ≡ Ok p) where
+      shown : (tree : Tree) × (payload_by s ty cells B ≡ fitted 16384 (encode (shape (table_of s)) (value tree) ty)) × (p.pos ≡ cap (length (encode (shape (table_of s)) (value tree) ty)))
       shown =
-          let w : done (rows_at cells row) pos o' ≡ emit (shape (table_of s)) ty (show_root (shape (table_of s)) B ty fs (rows_at cells 0)) 0 o = rw e at walked.same in
-          let (tree, read, size, _) = emit-done (shape (table_of s)) ty _ (rows_at cells row) pos o o' w in
-          (tree, payload-by (seen tree (rows_at cells row)) read, size)
+          let w : done (rows_at cells p.row) p.pos o' ≡ emit (shape (table_of s)) ty (show_root (shape (table_of s)) B ty fs (rows_at cells 0)) 0 o = rw e at walked.same in
+          let (tree, read, size, _) = emit-done (shape (table_of s)) ty _ (rows_at cells p.row) p.pos o o' w in
+          (tree, payload-by (seen tree (rows_at cells p.row)) read, size)
 
       abbrev bs : List ℕ
       bs = encode (shape (table_of s)) (value shown.0) ty
 
-      pub payload-long : 16384 < pos → payload_by s ty cells B ≡ refusal 7 0
+      pub payload-long : 16384 < p.pos → payload_by s ty cells B ≡ refusal 7 0
       payload-long h =
-          let p = shown.2 in
+          let size = shown.2 in
           let a : leb (length bs) 16384 ≡ false = lt-leb (length bs) 16384 (omega arith) in
           shown.1 ∙ rw a
 
-      pub payload-length : pos ≤ 16384 → length_of (payload_by s ty cells B) ≡ Written pos
+      pub payload-length : p.pos ≤ 16384 → length_of (payload_by s ty cells B) ≡ Written p.pos
       payload-length h =
-          let p = shown.2 in
-          let n : length bs ≡ pos = omega arith in
+          let size = shown.2 in
+          let n : length bs ≡ p.pos = omega arith in
           let a : leb (length bs) 16384 ≡ true = le-leb (length bs) 16384 (omega arith) in
           ap length_of shown.1 ∙ rw a (ap Written n)
 
@@ -155,12 +159,12 @@ module _ (s : List ℕ) (ty : ℕ) (cells B : List ℕ) (fs : List Field) (is : 
     pub payload-front : Fronts (payload_by s ty cells B) o o'
     payload-front = go r walked.same
       where
-        go : (r : Walk) → end_of cells r o' ≡ emit (shape (table_of s)) ty (show_root (shape (table_of s)) B ty fs (rows_at cells 0)) 0 o → Fronts (payload_by s ty cells B) o o'
-        go (Past row pos) e bs is room =
-            let (tree, read, _, puts) = emit-done (shape (table_of s)) ty _ (rows_at cells row) pos o o' e in
-            let own : encode (shape (table_of s)) (value tree) ty ≡ bs = (fitted-same 16384 _ bs (sym (payload-by (seen tree (rows_at cells row)) read) ∙ is)).0 in
+        go : (r : Result Past error.Refused) → end_of cells r o' ≡ emit (shape (table_of s)) ty (show_root (shape (table_of s)) B ty fs (rows_at cells 0)) 0 o → Fronts (payload_by s ty cells B) o o'
+        go (Ok p) e bs is room =
+            let (tree, read, _, puts) = emit-done (shape (table_of s)) ty _ (rows_at cells p.row) p.pos o o' e in
+            let own : encode (shape (table_of s)) (value tree) ty ≡ bs = (fitted-same 16384 _ bs (sym (payload-by (seen tree (rows_at cells p.row)) read) ∙ is)).0 in
             puts ∙ ap (put o 0) own ∙ put_whole o bs (omega arith)
-        go (Stopped k q) e bs is room = front-refused o o' (payload-by (refused k q) (emit-stopped (shape (table_of s)) ty _ k q o e)) bs is room
+        go (Err f) e bs is room = front-refused o o' (payload-by (refused (number_of f.refusal) f.place) (emit-stopped (shape (table_of s)) ty _ (number_of f.refusal) f.place o e)) bs is room
 
   -- The second writes what was measured, into an output of its length.
   module _ {n : ℕ} (measured : length_of (payload_by s ty cells B) ≡ Written n) where
@@ -176,22 +180,22 @@ module _ (s : List ℕ) (ty : ℕ) (cells B : List ℕ) (fs : List Field) (is : 
         go (refused k q) e = let f = ap length_of (payload-by (refused k q) e) in differ cc
         go (seen tree end) e = tt
 
-    pub payload-put : (o o' : List ℕ) (r : Walk) → length o ≡ n → Walked cells (emit (shape (table_of s)) ty (show_root (shape (table_of s)) B ty fs (rows_at cells 0)) 0 o) r o'
+    pub payload-put : (o o' : List ℕ) (r : Result Past error.Refused) → length o ≡ n → Walked cells (emit (shape (table_of s)) ty (show_root (shape (table_of s)) B ty fs (rows_at cells 0)) 0 o) r o'
         → payload_by s ty cells B ≡ written o'
     payload-put o o' r room walked = go r walked.same
       where
-        go : (r : Walk) → end_of cells r o' ≡ emit (shape (table_of s)) ty (show_root (shape (table_of s)) B ty fs (rows_at cells 0)) 0 o → payload_by s ty cells B ≡ written o'
-        go (Past row pos) e =
-            let (tree, read, _, puts) = emit-done (shape (table_of s)) ty _ (rows_at cells row) pos o o' e in
+        go : (r : Result Past error.Refused) → end_of cells r o' ≡ emit (shape (table_of s)) ty (show_root (shape (table_of s)) B ty fs (rows_at cells 0)) 0 o → payload_by s ty cells B ≡ written o'
+        go (Ok p) e =
+            let (tree, read, _, puts) = emit-done (shape (table_of s)) ty _ (rows_at cells p.row) p.pos o o' e in
             let bs = encode (shape (table_of s)) (value tree) ty in
-            let by = payload-by (seen tree (rows_at cells row)) read in
+            let by = payload-by (seen tree (rows_at cells p.row)) read in
             let (bs', same, size) = length-written (payload_by s ty cells B) measured in
             let own : bs ≡ bs' = (fitted-same 16384 bs bs' (sym by ∙ same)).0 in
             let room' : length bs ≡ length o = ap length own ∙ size ∙ sym room in
             let whole : o' ≡ bs = puts ∙ put_whole o bs (omega arith) ∙ ap (λ (x : List ℕ). bs ++ x) (drop_of_length-le o {i = length bs} (omega arith)) ∙ append-nil bs in
             same ∙ ap written (sym own ∙ sym whole)
-        go (Stopped k q) e =
-            let f = ap length_of (payload-by (refused k q) (emit-stopped (shape (table_of s)) ty _ k q o e)) in
+        go (Err g) e =
+            let f = ap length_of (payload-by (refused (number_of g.refusal) g.place) (emit-stopped (shape (table_of s)) ty _ (number_of g.refusal) g.place o e)) in
             differ cc
 
 -- ---- the entry: the payload, where the output has room for it

@@ -1,4 +1,5 @@
 -- Laws of the leaves: what each of their returns shows of the crate `value`'s reading of a row.
+use Rattle.std.specs.Prelude.{Result, Ok, Err, ⊤}
 use mathlib.Core.Path.{◌≡◌, refl, sym, ap, ◌∙◌}
 use mathlib.Core.Bool.{true, false, not, ◌&&◌, ◌||◌}
 use mathlib.Core.List.{List}
@@ -22,27 +23,31 @@ use Rattle.value.proofs.Spans.{scalar_untrue}
 use Rattle.value.proofs.Sheets.{rows-from, no_rows}
 use Rattle.walks.specs.Shape.{leaf_shape}
 use Rattle.walks.proofs.Tables.{leaf-scalar, leaf-text}
-use Rattle.writer.specs.declared.leaf.Due.{Due}
-use Rattle.writer.specs.declared.leaf.Due.TheVariants.{Found, Missing}
-use Rattle.writer.specs.declared.leaf.Verdict.{Verdict}
-use Rattle.writer.specs.declared.leaf.Verdict.TheVariants.{Fine, Refused as VerdictRefused}
-use Rattle.writer.specs.declared.leaf.Leaf.TheVariants.{At, Refused as LeafRefused}
+use Rattle.constants.specs.Number.{number_of}
+use Rattle.constants.specs.declared.refusal.Refusal.{Refusal}
+use Rattle.constants.specs.declared.refusal.Refusal.TheVariants.{Sheet, Outside, Bool as NoBool, Utf8 as NoUtf8}
+use Rattle.constants.specs.declared.refusal.Refused.{Refused}
+use Rattle.writer.specs.declared.leaf.RowSays.{RowSays}
 use Rattle.writer.specs.Leaf.{rows_at, place_at, length_at, due_answer, DueIn, DueRow, said_of, VerdictIn, Judged, row_says, LeafRow}
 
 -- ---- rows
 
+-- A refusal at row k.
+abbrev pub refused_at : {A : Type 0} → ℕ → Refusal → Result A Refused
+refused_at k refusal = Err (record { place = k; refusal = refusal })
+
 module _ (cells : List ℕ) (k t : ℕ) where
-  pub row-missing : length cells / 4 ≤ k → DueRow cells k t Missing
+  pub row-missing : length cells / 4 ≤ k → DueRow cells k t (refused_at k Sheet)
   unfolding row_due next_row and_then
   row-missing h = record { same = rw (no_rows cells k h); within = tt }
 
   module _ (h : k < length cells / 4) where
-    pub row_other : (get_or cells (4 * k) 0 ≡ t → ⊥) → DueRow cells k t Missing
+    pub row_other : (get_or cells (4 * k) 0 ≡ t → ⊥) → DueRow cells k t (refused_at k Sheet)
     unfolding row_due next_row and_then check
     row_other e = record { same = rw (rows-from cells k h, ne_eqb (get_or cells (4 * k) 0) t e); within = tt }
 
     pub row-found : get_or cells (4 * k) 0 ≡ t → (p n c : ℕ) → (p ≡ place_at cells k) × (p < 4294967296) → (n ≡ length_at cells k) × (n < 4294967296) → c ≡ get_or cells (4 * k + 3) 0
-        → DueRow cells k t (Found p n c)
+        → DueRow cells k t (Ok (record { place = p; length = n; count = c }))
     unfolding row_due next_row and_then check
     row-found e p n c ep en ec =
         record {
@@ -61,78 +66,78 @@ row-known cells k t a = elim (dec_lt k (length cells / 4)) [
 ]
 
 -- a row that was found
-module _ {cells : List ℕ} {k t : ℕ} {due : Due} (found : DueRow cells k t due) {p n c : ℕ} (e : due ≡ Found p n c) where
-  pub due_in : DueIn cells k (Found p n c)
+module _ {cells : List ℕ} {k t : ℕ} {due : Result RowSays Refused} (found : DueRow cells k t due) {w : RowSays} (e : due ≡ Ok w) where
+  pub due_in : DueIn cells k (Ok w)
   due_in = rw e at found.within
 
-  pub row_read : row_due t (rows_at cells k) ≡ seen (record { ty = t; place = p; length = n; count = c }) (rows_at cells (k + 1))
+  pub row_read : row_due t (rows_at cells k) ≡ seen (record { ty = t; place = w.place; length = w.length; count = w.count }) (rows_at cells (k + 1))
   row_read = sym found.same ∙ ap (due_answer cells k t) e
 
 -- ---- scalars, strings and bytes
 
-module _ (B : List ℕ) (kind p n c : ℕ) where
+module _ (B : List ℕ) (kind p n c k : ℕ) where
   module _ (is : kind < 12) where
-    pub scalar-wide : (n ≡ width kind → ⊥) → Judged B kind p n c (VerdictRefused 50)
+    pub scalar-wide : (n ≡ width kind → ⊥) → Judged B kind p n c k (refused_at k Sheet)
     unfolding and_then check
-    scalar-wide e = record { same = λ k cur. rw (leaf-scalar kind is, ne_eqb n (width kind) e); within = tt }
+    scalar-wide e = record { same = λ cur. rw (leaf-scalar kind is, ne_eqb n (width kind) e); within = tt }
 
     module _ (w : n ≡ width kind) where
-      pub scalar-counted : (c ≡ 0 → ⊥) → Judged B kind p n c (VerdictRefused 50)
+      pub scalar-counted : (c ≡ 0 → ⊥) → Judged B kind p n c k (refused_at k Sheet)
       unfolding and_then check
-      scalar-counted e = record { same = λ k cur. rw (leaf-scalar kind is, eq-eqb n (width kind) w, ne_eqb c 0 e); within = tt }
+      scalar-counted e = record { same = λ cur. rw (leaf-scalar kind is, eq-eqb n (width kind) w, ne_eqb c 0 e); within = tt }
 
       module _ (z : c ≡ 0) where
-        pub scalar-outside : length B < p + n → Judged B kind p n c (VerdictRefused 51)
+        pub scalar-outside : length B < p + n → Judged B kind p n c k (refused_at k Outside)
         unfolding and_then check
-        scalar-outside h = record { same = λ k cur. rw (leaf-scalar kind is, eq-eqb n (width kind) w, eq-eqb c 0 z, lt-leb (p + n) (length B) h); within = tt }
+        scalar-outside h = record { same = λ cur. rw (leaf-scalar kind is, eq-eqb n (width kind) w, eq-eqb c 0 z, lt-leb (p + n) (length B) h); within = tt }
 
         module _ (inside : p + n ≤ length B) where
-          pub scalar-fine : (not (eqb kind 1) || ltb (little (span B p n)) 2) ≡ true → Judged B kind p n c Fine
+          pub scalar-fine : (not (eqb kind 1) || ltb (little (span B p n)) 2) ≡ true → Judged B kind p n c k (Ok tt)
           unfolding and_then check
           scalar-fine t =
               record {
-                same = λ k cur. rw (leaf-scalar kind is, eq-eqb n (width kind) w, eq-eqb c 0 z, le-leb (p + n) (length B) inside, t);
+                same = λ cur. rw (leaf-scalar kind is, eq-eqb n (width kind) w, eq-eqb c 0 z, le-leb (p + n) (length B) inside, t);
                 within = inside;
               }
 
           pub one_byte : kind ≡ 1 → p < length B
           one_byte k = let e : n ≡ 1 = w ∙ ap width k in omega arith
 
-          pub scalar_bad : kind ≡ 1 → 1 < get_or B p 0 → Judged B kind p n c (VerdictRefused 22)
+          pub scalar_bad : kind ≡ 1 → 1 < get_or B p 0 → Judged B kind p n c k (refused_at k NoBool)
           unfolding and_then check
           scalar_bad k h =
               let f = scalar_untrue B kind p n w inside k h in
               record {
-                same = λ row cur. rw (leaf-scalar kind is, eq-eqb n (width kind) w, eq-eqb c 0 z, le-leb (p + n) (length B) inside, f, eq-eqb kind 1 k);
+                same = λ cur. rw (leaf-scalar kind is, eq-eqb n (width kind) w, eq-eqb c 0 z, le-leb (p + n) (length B) inside, f, eq-eqb kind 1 k);
                 within = tt;
               }
 
   module _ (is : 12 ≤ kind) where
-    pub text-counted : (c ≡ 0 → ⊥) → Judged B kind p n c (VerdictRefused 50)
+    pub text-counted : (c ≡ 0 → ⊥) → Judged B kind p n c k (refused_at k Sheet)
     unfolding and_then check
-    text-counted e = record { same = λ k cur. rw (leaf-text kind is, ne_eqb c 0 e); within = tt }
+    text-counted e = record { same = λ cur. rw (leaf-text kind is, ne_eqb c 0 e); within = tt }
 
     module _ (z : c ≡ 0) where
-      pub text-outside : length B < p + n → Judged B kind p n c (VerdictRefused 51)
+      pub text-outside : length B < p + n → Judged B kind p n c k (refused_at k Outside)
       unfolding and_then check
-      text-outside h = record { same = λ k cur. rw (leaf-text kind is, eq-eqb c 0 z, lt-leb (p + n) (length B) h); within = tt }
+      text-outside h = record { same = λ cur. rw (leaf-text kind is, eq-eqb c 0 z, lt-leb (p + n) (length B) h); within = tt }
 
       module _ (inside : p + n ≤ length B) where
-        pub text-fine : (not (eqb kind 12) || utf8 (span B p n)) ≡ true → Judged B kind p n c Fine
+        pub text-fine : (not (eqb kind 12) || utf8 (span B p n)) ≡ true → Judged B kind p n c k (Ok tt)
         unfolding and_then check
-        text-fine t = record { same = λ k cur. rw (leaf-text kind is, eq-eqb c 0 z, le-leb (p + n) (length B) inside, t); within = inside }
+        text-fine t = record { same = λ cur. rw (leaf-text kind is, eq-eqb c 0 z, le-leb (p + n) (length B) inside, t); within = inside }
 
-        pub text_bad : kind ≡ 12 → utf8 (span B p n) ≡ false → Judged B kind p n c (VerdictRefused 23)
+        pub text_bad : kind ≡ 12 → utf8 (span B p n) ≡ false → Judged B kind p n c k (refused_at k NoUtf8)
         unfolding and_then check
         text_bad k e =
             record {
-              same = λ row cur. rw (leaf-text kind is, eq-eqb c 0 z, le-leb (p + n) (length B) inside, eq-eqb kind 12 k, e);
+              same = λ cur. rw (leaf-text kind is, eq-eqb c 0 z, le-leb (p + n) (length B) inside, eq-eqb kind 12 k, e);
               within = tt;
             }
 
   -- what is accepted is fine
-  module _ (k : ℕ) (cur : CursorOf Row) (h : Accepted (says B k (leaf_shape kind) p n c cur)) where
-    scalar-known : kind < 12 → Judged B kind p n c Fine
+  module _ (cur : CursorOf Row) (h : Accepted (says B k (leaf_shape kind) p n c cur)) where
+    scalar-known : kind < 12 → Judged B kind p n c k (Ok tt)
     scalar-known is =
         let w = accepted-check (eqb n (width kind) && eqb c 0) 50 k cur _ (rw (leaf-scalar kind is) at h) in
         let v = accepted-check (inside B p n) 51 k cur _ w.1 in
@@ -141,14 +146,14 @@ module _ (B : List ℕ) (kind p n c : ℕ) where
         let z : c ≡ 0 = eqb-true c 0 (and_right (eqb n (width kind)) (eqb c 0) w.0) in
         scalar-fine is e z (leb-true (p + n) (length B) v.0) u.0
 
-    text-known : 12 ≤ kind → Judged B kind p n c Fine
+    text-known : 12 ≤ kind → Judged B kind p n c k (Ok tt)
     text-known is =
         let w = accepted-check (eqb c 0) 50 k cur _ (rw (leaf-text kind is) at h) in
         let v = accepted-check (inside B p n) 51 k cur _ w.1 in
         let u = accepted-check (not (eqb kind 12) || utf8 (span B p n)) 23 k cur _ v.1 in
         text-fine is (eqb-true c 0 w.0) (leb-true (p + n) (length B) v.0) u.0
 
-    content-known : Judged B kind p n c Fine
+    content-known : Judged B kind p n c k (Ok tt)
     content-known = elim (dec_lt kind 12) [
       | yes l ↦ scalar-known l
       | no g ↦ text-known (omega arith)
@@ -156,32 +161,35 @@ module _ (B : List ℕ) (kind p n c : ℕ) where
 
 -- ---- a whole row of such a value
 
-module _ (cells B : List ℕ) (kind t k : ℕ) (d : Due) (due : DueRow cells k t d) where
-  pub leaf-missing : d ≡ Missing → LeafRow cells B kind t k (LeafRefused 50)
+module _ (cells B : List ℕ) (kind t k : ℕ) (d : Result RowSays Refused) (due : DueRow cells k t d) where
+  pub leaf-missing : {e : Refused} → d ≡ Err e → LeafRow cells B kind t k (Err e)
   unfolding row_says and_then
-  leaf-missing e = record { same = rw (sym due.same ∙ ap (due_answer cells k t) e); within = tt }
+  leaf-missing {e} is = record { same = rw (sym due.same ∙ ap (due_answer cells k t) is); within = tt }
 
-  module _ (p n c : ℕ) (e : d ≡ Found p n c) where
-    pub row_small : (p < 4294967296) × (n < 4294967296)
-    row_small = let w = due_in due e in (w.3, w.4)
+  module _ (w : RowSays) (e : d ≡ Ok w) where
+    pub row_small : (w.place < 4294967296) × (w.length < 4294967296)
+    row_small = let i = due_in due e in (i.3, i.4)
 
-    row-says : row_says B t (leaf_shape kind) (rows_at cells k) ≡ says B k (leaf_shape kind) p n c (rows_at cells (k + 1))
+    row-says : row_says B t (leaf_shape kind) (rows_at cells k) ≡ says B k (leaf_shape kind) w.place w.length w.count (rows_at cells (k + 1))
     unfolding row_says and_then
     row-says = rw (row_read due e)
 
-    module _ (v : Verdict) (judged : Judged B kind p n c v) where
-      pub leaf-fine : v ≡ Fine → LeafRow cells B kind t k (At p n)
+    module _ (v : Result ⊤ Refused) (judged : Judged B kind w.place w.length w.count k v) where
+      pub leaf-fine : v ≡ Ok tt → LeafRow cells B kind t k (Ok (record { place = w.place; length = w.length }))
       leaf-fine f =
-          let w : VerdictIn (length B) p n Fine = rw f at judged.within in
+          let h : VerdictIn (length B) w.place w.length (Ok tt) = rw f at judged.within in
           let i = due_in due e in
           record {
-            same = sym (row-says ∙ sym (judged.same k (rows_at cells (k + 1))) ∙ ap (said_of B p n k (rows_at cells (k + 1))) f);
-            within = (i.0, i.1, i.2, w);
+            same = sym (row-says ∙ sym (judged.same (rows_at cells (k + 1))) ∙ ap (said_of B w.place w.length (rows_at cells (k + 1))) f);
+            within = (i.0, i.1, i.2, h);
           }
 
-      pub leaf_bad : (number : ℕ) → v ≡ VerdictRefused number → LeafRow cells B kind t k (LeafRefused number)
-      leaf_bad number f =
-          record { same = sym (row-says ∙ sym (judged.same k (rows_at cells (k + 1))) ∙ ap (said_of B p n k (rows_at cells (k + 1))) f); within = tt }
+      pub leaf_bad : {fault : Refused} → v ≡ Err fault → LeafRow cells B kind t k (Err fault)
+      leaf_bad f =
+          record {
+            same = sym (row-says ∙ sym (judged.same (rows_at cells (k + 1))) ∙ ap (said_of B w.place w.length (rows_at cells (k + 1))) f);
+            within = tt;
+          }
 
 -- such a row that is accepted
 module _ (cells B : List ℕ) (kind t k : ℕ) (a : Accepted (row_says B t (leaf_shape kind) (rows_at cells k))) where
@@ -192,9 +200,10 @@ module _ (cells B : List ℕ) (kind t k : ℕ) (a : Accepted (row_says B t (leaf
   pub leaf-row_in : k < length cells / 4
   leaf-row_in = (row-known cells k t row-accepted).0
 
-  pub leaf-known : (p n : ℕ) → (p ≡ place_at cells k) × (p < 4294967296) → (n ≡ length_at cells k) × (n < 4294967296) → LeafRow cells B kind t k (At p n)
+  pub leaf-known : (p n : ℕ) → (p ≡ place_at cells k) × (p < 4294967296) → (n ≡ length_at cells k) × (n < 4294967296) → LeafRow cells B kind t k (Ok (record { place = p; length = n }))
   leaf-known p n ep en =
       let c = get_or cells (4 * k + 3) 0 in
+      let w : RowSays = record { place = p; length = n; count = c } in
       let due = row-found cells k t leaf-row_in (row-known cells k t row-accepted).1 p n c ep en refl in
-      let said = row-says cells B kind t k (Found p n c) due p n c refl in
-      leaf-fine cells B kind t k (Found p n c) due p n c refl Fine (content-known B kind p n c k (rows_at cells (k + 1)) (rw said at a)) refl
+      let said = row-says cells B kind t k (Ok w) due w refl in
+      leaf-fine cells B kind t k (Ok w) due w refl (Ok tt) (content-known B kind p n c k (rows_at cells (k + 1)) (rw said at a)) refl

@@ -8,3 +8,4 @@ pub mod Roots
 pub mod Entries
 pub mod Outcomes
 pub mod Numbers
+pub mod Told

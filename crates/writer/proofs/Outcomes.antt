@@ -12,7 +12,7 @@ use Rattle.schema.specs.File.{table_of}
 use Rattle.schema.specs.Check.{checked, IsGood}
 use Rattle.value.specs.Sheet.{rows_of}
 use Rattle.value.specs.Write.{Writing, refusal, written, write}
-use Rattle.writer.specs.declared.Writing.TheVariants.{Written, Refused}
+use Rattle.writer.specs.Writing.{Written, Refused}
 use Rattle.writer.specs.Entry.{outcome, outcome_of, by_verdict, sheet_outcome, file_outcome}
 
 -- Only by a good file is anything written. It stands at the output's front.

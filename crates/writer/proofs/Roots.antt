@@ -1,4 +1,5 @@
 -- Laws of the root: its row, its known fields, and that no row is left over; and of the two walks over a whole sheet.
+use Rattle.std.specs.Prelude.{Result, Ok, Err}
 use mathlib.Core.Path.{◌≡◌, refl, sym, ap, ◌∙◌}
 use mathlib.Core.Bool.{Bool, true, false, cond}
 use mathlib.Core.List.{List, []}
@@ -20,10 +21,9 @@ use Rattle.value.specs.Read.{Own, plain, parts, present, known_bits, walk}
 use Rattle.value.specs.Spell.{encode_all}
 use Rattle.value.specs.Write.{RowReader, row_due, bits_at, show, show_root}
 use Rattle.value.proofs.Sheets.{length-rows}
-use Rattle.writer.specs.declared.leaf.Due.{Due}
-use Rattle.writer.specs.declared.leaf.Due.TheVariants.{Missing}
-use Rattle.writer.specs.declared.leaf.Head.{Head}
-use Rattle.writer.specs.declared.leaf.Head.TheVariants.{Bits, Refused}
+use Rattle.constants.specs.Number.{number_of}
+use Rattle.constants.specs.declared.refusal.Refused.{Refused}
+use Rattle.writer.specs.declared.leaf.RowSays.{RowSays}
 use Rattle.writer.specs.Emit.{cap, PutAt, Final, done, stopped, emit, emit_all}
 use Rattle.writer.specs.Leaf.{rows_at, due_answer, DueRow, head_says, head_of}
 use Rattle.writer.specs.Walk.{whole_end}
@@ -61,20 +61,20 @@ module _ (S : ℕ → Shape) (B : List ℕ) (fs : List Field) where
       go (refused _ _) = refl
       go (seen m c₁) = counted (eqb r.count (length (present fs (known_bits fs m)))) (known_bits fs m) c₁
 
-  pub root-absent : {t : ℕ} {cells : List ℕ} {due : Due} → DueRow cells 0 t due → due ≡ Missing → show_root S B t fs (rows_at cells 0) ≡ refused 50 0
+  pub root-absent : {t : ℕ} {cells : List ℕ} {due : Result RowSays Refused} → DueRow cells 0 t due → {e : Refused} → due ≡ Err e → show_root S B t fs (rows_at cells 0) ≡ refused (number_of e.refusal) e.place
   unfolding and_then
-  root-absent {t} {cells} found e = rw (root-step t cells, sym found.same ∙ ap (due_answer cells 0 t) e)
+  root-absent {t} {cells} found is = rw (root-step t cells, sym found.same ∙ ap (due_answer cells 0 t) is)
 
-module _ {S : ℕ → Shape} {B cells : List ℕ} {t n : ℕ} {fs : List Field} {head : Head} (w : HeadRow false S B cells 0 t n fs head) where
-  root-row : show_root S B t fs (rows_at cells 0) ≡ and_then (head_of 0 (rows_at cells 1) head) (after_head S B fs w.own)
+module _ {S : ℕ → Shape} {B cells : List ℕ} {t n : ℕ} {fs : List Field} {head : Result ℕ Refused} (w : HeadRow false S B cells 0 t n fs head) where
+  root-row : show_root S B t fs (rows_at cells 0) ≡ and_then (head_of (rows_at cells 1) head) (after_head S B fs w.own)
   unfolding and_then
-  root-row = rw (root-step S B fs t cells, w.read, head_step S B fs w.own (rows_at cells 1), w.headed 0 (rows_at cells 1))
+  root-row = rw (root-step S B fs t cells, w.read, head_step S B fs w.own (rows_at cells 1), w.headed (rows_at cells 1))
 
-  pub root-fault : {number : ℕ} → head ≡ Refused number → show_root S B t fs (rows_at cells 0) ≡ refused number 0
+  pub root-fault : {e : Refused} → head ≡ Err e → show_root S B t fs (rows_at cells 0) ≡ refused (number_of e.refusal) e.place
   unfolding and_then
   root-fault q = rw (root-row, q)
 
-  module _ {known : ℕ} (q : head ≡ Bits known) where
+  module _ {known : ℕ} (q : head ≡ Ok known) where
     root-walk : show_root S B t fs (rows_at cells 0) ≡ and_then (walk (show S B 15) [] (present fs known) (rows_at cells 1)) (after_fields S B fs w.own known)
     unfolding and_then after_head
     root-walk = rw (root-row, q)

@@ -1,4 +1,7 @@
 -- Laws of the walkers: what one step of a walk does to its end.
+use Rattle.std.specs.Prelude.{Result, Ok, Err}
+use Rattle.std.specs.Result.{IsErrAnd}
+use Rattle.std.proofs.lemmas.Result.{err_from_is_err_and}
 use mathlib.Core.Path.{◌≡◌, refl, sym, ap, ◌∙◌}
 use mathlib.Core.Bool.{Bool, true, false}
 use mathlib.Core.List.{List, [], ◌∷◌, ◌++◌}
@@ -18,8 +21,9 @@ use Rattle.value.specs.Write.{RowReader, next_row, row_due, says, held, show}
 use Rattle.walks.proofs.Walks.{deep, deeper, shallower}
 use Rattle.walks.specs.Sink.{ended}
 use Rattle.walks.proofs.Items.{accepted-along, Sink}
-use Rattle.writer.specs.declared.walk.Walk.{Walk}
-use Rattle.writer.specs.declared.walk.Walk.TheVariants.{Past, Refused}
+use Rattle.constants.specs.Number.{number_of}
+use Rattle.constants.specs.declared.refusal.Refused.{Refused}
+use Rattle.writer.specs.declared.walk.Past.{Past}
 use Rattle.writer.specs.Emit.{cap, PutAt, Emitted, emitted, append, Final, done, stopped, emit, emit_all}
 use Rattle.writer.specs.Leaf.{rows_at, row_says}
 use Rattle.writer.specs.Walk.{Walked, Ready}
@@ -27,26 +31,30 @@ use Rattle.writer.proofs.Puts.{put-after}
 
 -- ---- ends
 
-pub was : {cells : List ℕ} {end : Final} {r r' : Walk} {out : List ℕ} → Walked cells end r out → r ≡ r' → Walked cells end r' out
+pub was : {cells : List ℕ} {end : Final} {r r' : Result Past Refused} {out : List ℕ} → Walked cells end r out → r ≡ r' → Walked cells end r' out
 was w e = rw e at w
 
-pub renamed : {cells : List ℕ} {end end' : Final} {r : Walk} {out : List ℕ} → end ≡ end' → Walked cells end r out → Walked cells end' r out
+pub renamed : {cells : List ℕ} {end end' : Final} {r : Result Past Refused} {out : List ℕ} → end ≡ end' → Walked cells end r out → Walked cells end' r out
 renamed e w = rw e at w
 
-pub as_stopped : {cells : List ℕ} {end : Final} {out : List ℕ} {n q : ℕ} → stopped n q ≡ end → Walked cells end (Refused n q) out
-as_stopped e = record { same = e; within = tt }
+pub as_stopped : {cells : List ℕ} {end : Final} {out : List ℕ} {e : Refused} → stopped (number_of e.refusal) e.place ≡ end → Walked cells end (Err e) out
+as_stopped h = record { same = h; within = tt }
 
-pub as_refused : {cells : List ℕ} {end : Final} {out : List ℕ} {r : Walk} {n q : ℕ} → r ≡ Refused n q → stopped n q ≡ end → Walked cells end r out
-as_refused e h = rw e (as_stopped h)
+pub as_refused : {cells : List ℕ} {end : Final} {out : List ℕ} {r : Result Past Refused} {e : Refused} → r ≡ Err e → stopped (number_of e.refusal) e.place ≡ end → Walked cells end r out
+as_refused is h = rw is (as_stopped h)
+
+-- what `?` hands on
+pub handed : {A : Type 0} {r : Result A Refused} {e : Refused} → IsErrAnd r (λ y. y ≡ e) → r ≡ Err e
+handed {r = r} h = let p = err_from_is_err_and r h in p.1 ∙ ap (λ (y : Refused). Err y) p.2
 
 -- a value that is refused ends its walk
 pub shown-stopped : (S : ℕ → Shape) (t pos : ℕ) (out : List ℕ) {o : AnswerOf Row Tree} {n q : ℕ} → o ≡ refused n q → stopped n q ≡ emit S t o pos out
 unfolding emit
 shown-stopped S t pos out h = rw h
 
-pub shown-refused : (S : ℕ → Shape) (t pos : ℕ) (out : List ℕ) {o : AnswerOf Row Tree} {cells out' : List ℕ} {r : Walk} {n q : ℕ}
-    → r ≡ Refused n q → o ≡ refused n q → Walked cells (emit S t o pos out) r out'
-shown-refused S t pos out e h = as_refused e (shown-stopped S t pos out h)
+pub shown-refused : (S : ℕ → Shape) (t pos : ℕ) (out : List ℕ) {o : AnswerOf Row Tree} {cells out' : List ℕ} {r : Result Past Refused} {e : Refused}
+    → r ≡ Err e → o ≡ refused (number_of e.refusal) e.place → Walked cells (emit S t o pos out) r out'
+shown-refused S t pos out is h = as_refused is (shown-stopped S t pos out h)
 
 -- bytes put after bytes
 put_both : (out : List ℕ) (pos : ℕ) (a b : List ℕ) (next : ℕ) (mid : List ℕ) → length out ≤ 16384 → PutAt out pos a next mid
@@ -112,7 +120,7 @@ walk_end S P keys c pos out h = let e : cap (pos + 0) ≡ pos = omega arith in r
 
 -- where no item is left, the end is here
 pub walk-done : (S : ℕ → Shape) (P : ℕ → RowReader Tree) (keys : List (List ℕ)) {is : List Item} {cells : List ℕ} {row pos : ℕ} {out : List ℕ} {end : Final}
-    → is ≡ [] → ahead S P keys is (rows_at cells row) pos out ≡ end → row ≤ length cells / 4 → pos ≤ 16385 → Walked cells end (Past row pos) out
+    → is ≡ [] → ahead S P keys is (rows_at cells row) pos out ≡ end → row ≤ length cells / 4 → pos ≤ 16385 → Walked cells end (Ok (record { row = row; pos = pos })) out
 walk-done S P keys {cells} {row} {pos} {out} e h i p =
     record { same = walk_end S P keys (rows_at cells row) pos out p ∙ (rw e at h); within = (i, p) }
 
@@ -172,7 +180,7 @@ module _ (S : ℕ → Shape) (B : List ℕ) {d : ℕ} (some : d ≡ 0 → ⊥) (
   pub accepted-deeper : Accepted (show S B d t c) → Accepted (show S B (suc (d - 1)) t c)
   accepted-deeper = deeper (λ k. Accepted (show S B k t c)) d some
 
-  pub walked-deeper : (pos : ℕ) (out : List ℕ) {cells : List ℕ} {r : Walk} {out' : List ℕ}
+  pub walked-deeper : (pos : ℕ) (out : List ℕ) {cells : List ℕ} {r : Result Past Refused} {out' : List ℕ}
       → Walked cells (emit S t (show S B (suc (d - 1)) t c) pos out) r out' → Walked cells (emit S t (show S B d t c) pos out) r out'
   walked-deeper pos out {cells} {r} {out'} = shallower (λ k. Walked cells (emit S t (show S B k t c) pos out) r out') d some
 
@@ -183,7 +191,7 @@ module _ (S : ℕ → Shape) (B : List ℕ) {d : ℕ} (some : d ≡ 0 → ⊥) (
   pub items-deeper : Accepted (walk (show S B d) [] is c) → Accepted (walk (show S B (suc (d - 1))) [] is c)
   items-deeper = deeper (λ k. Accepted (walk (show S B k) [] is c)) d some
 
-  pub items-shallower : (pos : ℕ) (out : List ℕ) {cells : List ℕ} {r : Walk} {out' : List ℕ}
+  pub items-shallower : (pos : ℕ) (out : List ℕ) {cells : List ℕ} {r : Result Past Refused} {out' : List ℕ}
       → Walked cells (ahead S (show S B (suc (d - 1))) [] is c pos out) r out' → Walked cells (ahead S (show S B d) [] is c pos out) r out'
   items-shallower pos out {cells} {r} {out'} = shallower (λ k. Walked cells (ahead S (show S B k) [] is c pos out) r out') d some
 

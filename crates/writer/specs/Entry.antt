@@ -6,8 +6,8 @@ use Rattle.schema.specs.File.{table_of}
 use Rattle.schema.specs.Check.{checked}
 use Rattle.value.specs.Sheet.{rows_of}
 use Rattle.value.specs.Write as value
-use Rattle.writer.specs.declared.Writing.{Writing}
-use Rattle.writer.specs.declared.Writing.TheVariants.{Written, Refused}
+use Rattle.writer.specs.Writing.{Writing}
+use Rattle.writer.specs.Writing.{Written, Refused}
 
 -- An answer with the output as it is left.
 pub data Outcome : Type 0 where

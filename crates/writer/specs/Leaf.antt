@@ -1,5 +1,5 @@
 -- What the leaves of the writer answer: a row, a content, a bitmap.
-use Rattle.std.specs.Prelude.{◌≡◌, Bool, true, false, List, ℕ, ◌+◌, ◌*◌, ◌/◌, ◌^◌, ◌≤◌, ◌<◌, eqb, length, get_or, drop}
+use Rattle.std.specs.Prelude.{◌≡◌, Bool, true, false, List, ℕ, ◌+◌, ◌*◌, ◌/◌, ◌^◌, ◌≤◌, ◌<◌, eqb, length, get_or, drop, Result, Ok, Err, ⊤}
 use Rattle.buffer.specs.Span.{span}
 use Rattle.parse.specs.Reader.{CursorOf, AnswerOf, refused, seen, ◌>>=◌, ◌>>◌, return, at, check}
 use Rattle.schema.specs.declared.Field.{Field}
@@ -10,14 +10,10 @@ use Rattle.value.specs.Read.{Own, plain, parts, row_count, known_bits}
 use Rattle.value.specs.Write.{RowReader, row_due, bits_at, says}
 use Rattle.walks.specs.Shape.{leaf_shape}
 use Rattle.walks.specs.Required.{Requires}
-use Rattle.writer.specs.declared.leaf.Due.{Due}
-use Rattle.writer.specs.declared.leaf.Due.TheVariants.{Found, Missing}
-use Rattle.writer.specs.declared.leaf.Verdict.{Verdict}
-use Rattle.writer.specs.declared.leaf.Verdict.TheVariants.{Fine, Refused as VerdictRefused}
-use Rattle.writer.specs.declared.leaf.Leaf.{Leaf}
-use Rattle.writer.specs.declared.leaf.Leaf.TheVariants.{At, Refused as LeafRefused}
-use Rattle.writer.specs.declared.leaf.Head.{Head}
-use Rattle.writer.specs.declared.leaf.Head.TheVariants.{Bits, Refused as HeadRefused}
+use Rattle.constants.specs.Number.{number_of}
+use Rattle.constants.specs.declared.refusal.Refused.{Refused}
+use Rattle.writer.specs.declared.leaf.RowSays.{RowSays}
+use Rattle.writer.specs.declared.leaf.Placed.{Placed}
 
 -- The cursor at a row of a sheet's cells.
 abbrev pub rows_at : List ℕ → ℕ → CursorOf Row
@@ -33,32 +29,32 @@ abbrev pub length_at : List ℕ → ℕ → ℕ
 length_at cells k = get_or cells (4 * k + 2) 0
 
 -- The answer for row k, of type t, as the answer of a reader there.
-abbrev pub due_answer : List ℕ → (k t : ℕ) → Due → AnswerOf Row Row
-due_answer cells k t (Found p n c) = seen (record { ty = t; place = p; length = n; count = c }) (rows_at cells (k + 1))
-due_answer cells k t Missing = refused 50 k
+abbrev pub due_answer : List ℕ → (k t : ℕ) → Result RowSays Refused → AnswerOf Row Row
+due_answer cells k t (Ok r) = seen (record { ty = t; place = r.place; length = r.length; count = r.count }) (rows_at cells (k + 1))
+due_answer cells k t (Err e) = refused (number_of e.refusal) e.place
 
-abbrev pub DueIn : List ℕ → ℕ → Due → Type 0
-DueIn cells k (Found p n c) = (k < length cells / 4) × (p ≡ place_at cells k) × (n ≡ length_at cells k) × (p < 4294967296) × (n < 4294967296)
-DueIn cells k Missing = Unit {0}
+abbrev pub DueIn : List ℕ → ℕ → Result RowSays Refused → Type 0
+DueIn cells k (Ok r) = (k < length cells / 4) × (r.place ≡ place_at cells k) × (r.length ≡ length_at cells k) × (r.place < 4294967296) × (r.length < 4294967296)
+DueIn cells k (Err e) = Unit {0}
 
-pub record DueRow (cells : List ℕ) (k t : ℕ) (r : Due) : Type 0 where
+pub record DueRow (cells : List ℕ) (k t : ℕ) (r : Result RowSays Refused) : Type 0 where
   pub same : due_answer cells k t r ≡ row_due t (rows_at cells k)
   pub within : DueIn cells k r
 
 -- ---- contents
 
 -- A verdict on row k with the n bytes at place p, as the answer of a reader.
-abbrev pub said_of : (B : List ℕ) (p n k : ℕ) → CursorOf Row → Verdict → AnswerOf Row Own
-said_of B p n k cur Fine = seen (plain (span B p n)) cur
-said_of B p n k cur (VerdictRefused number) = refused number k
+abbrev pub said_of : (B : List ℕ) (p n : ℕ) → CursorOf Row → Result ⊤ Refused → AnswerOf Row Own
+said_of B p n cur (Ok x) = seen (plain (span B p n)) cur
+said_of B p n cur (Err e) = refused (number_of e.refusal) e.place
 
-abbrev pub VerdictIn : (size p n : ℕ) → Verdict → Type 0
-VerdictIn size p n Fine = p + n ≤ size
-VerdictIn size p n (VerdictRefused number) = Unit {0}
+abbrev pub VerdictIn : (size p n : ℕ) → Result ⊤ Refused → Type 0
+VerdictIn size p n (Ok x) = p + n ≤ size
+VerdictIn size p n (Err e) = Unit {0}
 
--- It is what the row says, whichever row it is.
-pub record Judged (B : List ℕ) (kind p n c : ℕ) (r : Verdict) : Type 0 where
-  pub same : (k : ℕ) (cur : CursorOf Row) → said_of B p n k cur r ≡ says B k (leaf_shape kind) p n c cur
+-- It is what row k says.
+pub record Judged (B : List ℕ) (kind p n c k : ℕ) (r : Result ⊤ Refused) : Type 0 where
+  pub same : (cur : CursorOf Row) → said_of B p n cur r ≡ says B k (leaf_shape kind) p n c cur
   pub within : VerdictIn (length B) p n r
 
 -- What the next row, of type t and shape s, says.
@@ -67,15 +63,15 @@ row_says B t s = at λ here. do
   r ← row_due t
   says B here.at s r.place r.length r.count
 
-abbrev pub leaf_of : (cells B : List ℕ) (k : ℕ) → Leaf → AnswerOf Row Own
-leaf_of cells B k (At p n) = seen (plain (span B p n)) (rows_at cells (k + 1))
-leaf_of cells B k (LeafRefused number) = refused number k
+abbrev pub leaf_of : (cells B : List ℕ) (k : ℕ) → Result Placed Refused → AnswerOf Row Own
+leaf_of cells B k (Ok x) = seen (plain (span B x.place x.length)) (rows_at cells (k + 1))
+leaf_of cells B k (Err e) = refused (number_of e.refusal) e.place
 
-abbrev pub LeafIn : (cells B : List ℕ) (k : ℕ) → Leaf → Type 0
-LeafIn cells B k (At p n) = (k < length cells / 4) × (p ≡ place_at cells k) × (n ≡ length_at cells k) × (p + n ≤ length B)
-LeafIn cells B k (LeafRefused number) = Unit {0}
+abbrev pub LeafIn : (cells B : List ℕ) (k : ℕ) → Result Placed Refused → Type 0
+LeafIn cells B k (Ok x) = (k < length cells / 4) × (x.place ≡ place_at cells k) × (x.length ≡ length_at cells k) × (x.place + x.length ≤ length B)
+LeafIn cells B k (Err e) = Unit {0}
 
-pub record LeafRow (cells B : List ℕ) (kind t k : ℕ) (r : Leaf) : Type 0 where
+pub record LeafRow (cells B : List ℕ) (kind t k : ℕ) (r : Result Placed Refused) : Type 0 where
   pub same : leaf_of cells B k r ≡ row_says B t (leaf_shape kind) (rows_at cells k)
   pub within : LeafIn cells B k r
 
@@ -89,19 +85,19 @@ head_says false B k fs p c = do
   check (eqb c (row_count (struct fs) (known_bits fs m))) 50 k
   return (parts 0 (known_bits fs m))
 
-abbrev pub head_of : (k : ℕ) → CursorOf Row → Head → AnswerOf Row Own
-head_of k cur (Bits known) = seen (parts 0 known) cur
-head_of k cur (HeadRefused number) = refused number k
+abbrev pub head_of : CursorOf Row → Result ℕ Refused → AnswerOf Row Own
+head_of cur (Ok known) = seen (parts 0 known) cur
+head_of cur (Err e) = refused (number_of e.refusal) e.place
 
-abbrev pub HeadIn : (n : ℕ) → Head → Type 0
-HeadIn n (Bits known) = known < 2 ^ n
-HeadIn n (HeadRefused number) = Unit {0}
+abbrev pub HeadIn : (n : ℕ) → Result ℕ Refused → Type 0
+HeadIn n (Ok known) = known < 2 ^ n
+HeadIn n (Err e) = Unit {0}
 
--- It is what the row says, whichever row it is.
-abbrev pub Headed : (inner : Bool) → List ℕ → List Field → (place count : ℕ) → Head → Type 0
-Headed inner B fs p c r = (k : ℕ) (cur : CursorOf Row) → head_of k cur r ≡ head_says inner B k fs p c cur
+-- It is what row k says.
+abbrev pub Headed : (inner : Bool) → List ℕ → List Field → (place count row : ℕ) → Result ℕ Refused → Type 0
+Headed inner B fs p c k r = (cur : CursorOf Row) → head_of cur r ≡ head_says inner B k fs p c cur
 
 -- The same for whatever struct of n fields asks for these bits.
-pub record HeadedBy (B : List ℕ) (required n p c : ℕ) (inner : Bool) (r : Head) : Type 0 where
-  pub same : (fs : List Field) → length fs ≡ n → Requires required fs → Headed inner B fs p c r
+pub record HeadedBy (B : List ℕ) (required n p c k : ℕ) (inner : Bool) (r : Result ℕ Refused) : Type 0 where
+  pub same : (fs : List Field) → length fs ≡ n → Requires required fs → Headed inner B fs p c k r
   pub within : HeadIn n r

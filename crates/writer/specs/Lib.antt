@@ -2,5 +2,7 @@
 pub mod Emit
 pub mod Leaf
 pub mod Walk
+pub mod Writing
+pub mod Told
 pub mod Entry
 pub mod Numbers

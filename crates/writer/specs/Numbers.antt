@@ -1,7 +1,7 @@
 -- The numbers that come back for each case of the writers' answer: number, place and the length written.
 use Rattle.std.specs.Prelude.{ℕ, List}
-use Rattle.writer.specs.declared.Writing.{Writing}
-use Rattle.writer.specs.declared.Writing.TheVariants.{Written, Refused}
+use Rattle.writer.specs.Writing.{Writing}
+use Rattle.writer.specs.Writing.{Written, Refused}
 use Rattle.writer.specs.Entry.{Outcome, outcome}
 
 abbrev pub write_number : Writing → ℕ

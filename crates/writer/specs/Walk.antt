@@ -1,5 +1,5 @@
 -- What a walker answers: what the crate `value` says the rows show, with its encoding put into the output.
-use Rattle.std.specs.Prelude.{◌≡◌, Bool, true, false, cond, List, ◌∷◌, ℕ, ◌+◌, ◌/◌, ◌≤◌, ◌<◌, eqb, length}
+use Rattle.std.specs.Prelude.{◌≡◌, Bool, true, false, cond, List, ◌∷◌, ℕ, ◌+◌, ◌/◌, ◌≤◌, ◌<◌, eqb, length, Result, Ok, Err}
 use Rattle.parse.specs.Reader.{AnswerOf, Accepted}
 use Rattle.schema.specs.declared.Field.{Field}
 use Rattle.schema.specs.declared.TypeRow.{TypeRow}
@@ -13,8 +13,9 @@ use Rattle.value.specs.Write.{show, show_root}
 use Rattle.walks.specs.Shape.{shape_in, leaf_shape}
 use Rattle.walks.specs.Keys.{keys_in, Kept}
 use Rattle.walks.specs.Sink.{ended}
-use Rattle.writer.specs.declared.walk.Walk.{Walk}
-use Rattle.writer.specs.declared.walk.Walk.TheVariants.{Past, Refused}
+use Rattle.constants.specs.Number.{number_of}
+use Rattle.constants.specs.declared.refusal.Refused.{Refused}
+use Rattle.writer.specs.declared.walk.Past.{Past}
 use Rattle.writer.specs.Emit.{Final, done, stopped, emit, emit_all}
 use Rattle.writer.specs.Leaf.{rows_at}
 
@@ -49,15 +50,15 @@ whole_end (stopped n q) = stopped n q
 
 -- Its answer over the sheet's cells, with the output that it leaves. Of what a refusal leaves there nothing is said: the entry lends memory of its own,
 -- or puts back what stood there.
-abbrev pub end_of : List ℕ → Walk → List ℕ → Final
-end_of cells (Past row pos) out = done (rows_at cells row) pos out
-end_of cells (Refused n q) out = stopped n q
+abbrev pub end_of : List ℕ → Result Past Refused → List ℕ → Final
+end_of cells (Ok p) out = done (rows_at cells p.row) p.pos out
+end_of cells (Err e) out = stopped (number_of e.refusal) e.place
 
-abbrev pub Within : List ℕ → Walk → Type 0
-Within cells (Past row pos) = (row ≤ length cells / 4) × (pos ≤ 16385)
-Within cells (Refused n q) = Unit {0}
+abbrev pub Within : List ℕ → Result Past Refused → Type 0
+Within cells (Ok p) = (p.row ≤ length cells / 4) × (p.pos ≤ 16385)
+Within cells (Err e) = Unit {0}
 
-pub record Walked (cells : List ℕ) (end : Final) (r : Walk) (out : List ℕ) : Type 0 where
+pub record Walked (cells : List ℕ) (end : Final) (r : Result Past Refused) (out : List ℕ) : Type 0 where
   pub same : end_of cells r out ≡ end
   pub within : Within cells r
 
@@ -83,13 +84,13 @@ abbrev pub key_in : (S : ℕ → Shape) (B cells keys : List ℕ) (i key row dep
 key_in S B cells keys i key row depth rest = walk (show S B depth) (keys_in B keys i) (key_first key rest) (rows_at cells row)
 
 -- Where they end, as far as the key was written.
-abbrev pub past_key : (S : ℕ → Shape) (B cells keys : List ℕ) (i depth : ℕ) → List Item → Walk → List ℕ → Final
-past_key S B cells keys i depth rest (Past row pos) out = emit_all S rest (walk (show S B depth) (keys_in B keys (i + 1)) rest (rows_at cells row)) pos out
-past_key S B cells keys i depth rest (Refused n q) out = stopped n q
+abbrev pub past_key : (S : ℕ → Shape) (B cells keys : List ℕ) (i depth : ℕ) → List Item → Result Past Refused → List ℕ → Final
+past_key S B cells keys i depth rest (Ok p) out = emit_all S rest (walk (show S B depth) (keys_in B keys (i + 1)) rest (rows_at cells p.row)) p.pos out
+past_key S B cells keys i depth rest (Err e) out = stopped (number_of e.refusal) e.place
 
-abbrev pub KeyWithin : (B cells keys : List ℕ) (i depth : ℕ) → Bool → Walk → Type 0
-KeyWithin B cells keys i depth judging (Past row pos) = (row ≤ length cells / 4) × (pos ≤ 16385) × (0 < depth) × Kept B keys judging (i + 1)
-KeyWithin B cells keys i depth judging (Refused n q) = Unit {0}
+abbrev pub KeyWithin : (B cells keys : List ℕ) (i depth : ℕ) → Bool → Result Past Refused → Type 0
+KeyWithin B cells keys i depth judging (Ok p) = (p.row ≤ length cells / 4) × (p.pos ≤ 16385) × (0 < depth) × Kept B keys judging (i + 1)
+KeyWithin B cells keys i depth judging (Err e) = Unit {0}
 
 -- What is asked for a key of a kind, and what is told of it: the items from it on end as those after it do.
 pub record KeyReady (B cells out keys : List ℕ) (i kind key row pos depth : ℕ) (judging : Bool) : Type 0 where
@@ -99,7 +100,7 @@ pub record KeyReady (B cells out keys : List ℕ) (i kind key row pos depth : �
   pub kept : Kept B keys judging i
   pub judged : judging ≡ false → (S : ℕ → Shape) × (S key ≡ leaf_shape kind) × ((rest : List Item) × Accepted (key_in S B cells keys i key row depth rest))
 
-pub record KeyPut (B cells out keys : List ℕ) (i kind key row pos depth : ℕ) (judging : Bool) (r : Walk) (out' keys' : List ℕ) : Type 0 where
+pub record KeyPut (B cells out keys : List ℕ) (i kind key row pos depth : ℕ) (judging : Bool) (r : Result Past Refused) (out' keys' : List ℕ) : Type 0 where
   pub same : (S : ℕ → Shape) → S key ≡ leaf_shape kind → (rest : List Item)
       → past_key S B cells keys' i depth rest r out' ≡ emit_all S (key_first key rest) (key_in S B cells keys i key row depth rest) pos out
   pub within : KeyWithin B cells keys' i depth judging r

@@ -5,7 +5,8 @@ ghost use Rattle.schema.specs.Table.{width};
 ghost use Rattle.walks.specs.Shape.{leaf_shape};
 ghost use Rattle.writer.specs.Leaf.{rows_at, DueRow, Judged, row_says, LeafRow, HeadedBy};
 
-use constants::{format, kind, refusal};
+use constants::refusal::{Refusal, Refused};
+use constants::{format, kind};
 use wire::bitmap;
 
 // Kinds as `usize`.
@@ -13,29 +14,19 @@ const BOOL: usize = kind::BOOL as usize;
 
 const STRING: usize = kind::STRING as usize;
 
-// A row of the type due, by its place, length and count; or none: the row is missing or of another type.
+// What a row of the type due says: its place, length and count.
 #[derive(Clone, Copy)]
-pub enum Due {
-    Found {
-        place: usize,
-        length: usize,
-        count: usize,
-    },
-    Missing,
+pub struct RowSays {
+    pub place: usize,
+    pub length: usize,
+    pub count: usize,
 }
 
-// Whether a row is right, or the number of its first fault.
+// Where a leaf's content stands and its length.
 #[derive(Clone, Copy)]
-pub enum Verdict {
-    Fine,
-    Refused { number: u32 },
-}
-
-// The known fields' bits of a bitmap, or the number of a struct's first fault.
-#[derive(Clone, Copy)]
-pub enum Head {
-    Bits { known: u64 },
-    Refused { number: u32 },
+pub struct Placed {
+    pub place: usize,
+    pub length: usize,
 }
 
 pub fn wide(x: u32) -> usize
@@ -44,22 +35,22 @@ pub fn wide(x: u32) -> usize
     x as usize
 }
 
-// The row of a number, which is to be of type ty.
-pub fn row_due(sheet: &[u32], row: usize, ty: u32) -> Due
+// The row of a number, which is to be of type ty: one that is missing or of another type is refused.
+pub fn row_due(sheet: &[u32], row: usize, ty: u32) -> Result<RowSays, Refused>
     ensures { DueRow sheet.now row ty result }
 {
     if sheet.len() / format::ROW_CELLS <= row {
-        return Due::Missing;
+        return Refusal::Sheet.at(row);
     }
     let k = format::ROW_CELLS * row;
     if sheet[k] != ty {
-        return Due::Missing;
+        return Refusal::Sheet.at(row);
     }
-    Due::Found {
+    Ok(RowSays {
         place: wide(sheet[k + 1]),
         length: wide(sheet[k + 2]),
         count: wide(sheet[k + 3]),
-    }
+    })
 }
 
 // The width in bytes of a scalar of a kind; kind 0 is none, and has none.
@@ -73,75 +64,82 @@ fn width_of(kind: usize) -> usize
     table::kind::width_of(kind)
 }
 
-// A scalar by its row.
-fn scalar(source: &[u8], kind: usize, place: usize, n: usize, count: usize) -> Verdict
+// A scalar by its row: whether that is right, or its first fault.
+fn scalar(
+    source: &[u8],
+    kind: usize,
+    place: usize,
+    n: usize,
+    count: usize,
+    row: usize,
+) -> Result<(), Refused>
     requires { (kind < 12) × (place < 4294967296) × (n < 4294967296) }
-    ensures { Judged source.now kind place n count result }
+    ensures { Judged source.now kind place n count row result }
 {
     if n != width_of(kind) {
-        return Verdict::Refused {
-            number: refusal::SHEET,
-        };
+        return Refusal::Sheet.at(row);
     }
     if count != 0 {
-        return Verdict::Refused {
-            number: refusal::SHEET,
-        };
+        return Refusal::Sheet.at(row);
     }
     if source.len() < place + n {
-        return Verdict::Refused {
-            number: refusal::OUTSIDE,
-        };
+        return Refusal::Outside.at(row);
     }
     if kind == BOOL {
         if 1 < source[place] {
-            return Verdict::Refused {
-                number: refusal::BOOL,
-            };
+            return Refusal::Bool.at(row);
         }
     }
-    Verdict::Fine
+    Ok(())
 }
 
-// A string or bytes by its row.
-fn text(source: &[u8], kind: usize, place: usize, n: usize, count: usize) -> Verdict
+// A string or bytes by its row, likewise.
+fn text(
+    source: &[u8],
+    kind: usize,
+    place: usize,
+    n: usize,
+    count: usize,
+    row: usize,
+) -> Result<(), Refused>
     requires { (12 ≤ kind) × (place < 4294967296) × (n < 4294967296) }
-    ensures { Judged source.now kind place n count result }
+    ensures { Judged source.now kind place n count row result }
 {
     if count != 0 {
-        return Verdict::Refused {
-            number: refusal::SHEET,
-        };
+        return Refusal::Sheet.at(row);
     }
     if source.len() < place + n {
-        return Verdict::Refused {
-            number: refusal::OUTSIDE,
-        };
+        return Refusal::Outside.at(row);
     }
     if kind == STRING {
         if !utf8::valid(source, place, place + n) {
-            return Verdict::Refused {
-                number: refusal::UTF8,
-            };
+            return Refusal::Utf8.at(row);
         }
     }
-    Verdict::Fine
+    Ok(())
 }
 
-// A value of a kind from 1 to 13 by its row.
-pub fn content(source: &[u8], kind: usize, place: usize, n: usize, count: usize) -> Verdict
+// A value of a kind from 1 to 13 by its row, likewise.
+pub fn content(
+    source: &[u8],
+    kind: usize,
+    place: usize,
+    n: usize,
+    count: usize,
+    row: usize,
+) -> Result<(), Refused>
     requires { (place < 4294967296) × (n < 4294967296) }
-    ensures { Judged source.now kind place n count result }
+    ensures { Judged source.now kind place n count row result }
 {
     if kind < STRING {
-        scalar(source, kind, place, n, count)
+        scalar(source, kind, place, n, count, row)
     } else {
-        text(source, kind, place, n, count)
+        text(source, kind, place, n, count, row)
     }
 }
 
 // A struct's row by its presence bytes: n fields, of which those with bits in `required` have to be there, and a count of the known ones.
-// The root's unknown bits are left out, an inner struct's are refused.
+// The answer is the known fields' bits, or the first fault. The root's unknown bits are left out, an inner struct's are refused.
 pub fn struct_bits(
     source: &[u8],
     required: u64,
@@ -149,40 +147,26 @@ pub fn struct_bits(
     place: usize,
     count: usize,
     inner: bool,
-) -> Head
+    row: usize,
+) -> Result<u64, Refused>
     requires { (n ≤ 64) × (place < 4294967296) }
-    ensures { HeadedBy source.now required n place count inner result }
+    ensures { HeadedBy source.now required n place count row inner result }
 {
     let size = (n + bitmap::SPARE_BITS) / bitmap::BYTE_BITS;
     if source.len() < place + size {
-        return Head::Refused {
-            number: refusal::OUTSIDE,
-        };
+        return Refusal::Outside.at(row);
     }
     let b = bitmap::read(source, place, n);
     if required & b.bits != required {
-        return Head::Refused {
-            number: refusal::ABSENT_FIELD,
-        };
+        return Refusal::AbsentField.at(row);
     }
     if inner & (b.bits != b.known) {
-        return Head::Refused {
-            number: refusal::SHEET,
-        };
+        return Refusal::Sheet.at(row);
     }
     if count != b.ones as usize {
-        return Head::Refused {
-            number: refusal::SHEET,
-        };
+        return Refusal::Sheet.at(row);
     }
-    Head::Bits { known: b.known }
-}
-
-// Where a leaf's content stands and its length, or the number of the row's first fault.
-#[derive(Clone, Copy)]
-pub enum Leaf {
-    At { place: usize, length: usize },
-    Refused { number: u32 },
+    Ok(b.known)
 }
 
 // A row of a value of type ty, which is of a kind from 1 to 13. A walk that does not judge knows that it is right.
@@ -193,28 +177,21 @@ pub fn leaf_row(
     ty: u32,
     row: usize,
     judging: bool,
-) -> Leaf
+) -> Result<Placed, Refused>
     requires { judging ≡ false → Accepted (row_says source.now ty (leaf_shape kind) (rows_at sheet.now row)) }
     ensures { LeafRow sheet.now source.now kind ty row result }
 {
     if !judging {
         let k = format::ROW_CELLS * row;
-        return Leaf::At {
+        return Ok(Placed {
             place: wide(sheet[k + 1]),
             length: wide(sheet[k + 2]),
-        };
+        });
     }
-    match row_due(sheet, row, ty) {
-        Due::Missing => Leaf::Refused {
-            number: refusal::SHEET,
-        },
-        Due::Found {
-            place,
-            length,
-            count,
-        } => match content(source, kind, place, length, count) {
-            Verdict::Refused { number } => Leaf::Refused { number },
-            Verdict::Fine => Leaf::At { place, length },
-        },
-    }
+    let says = row_due(sheet, row, ty)?;
+    content(source, kind, says.place, says.length, says.count, row)?;
+    Ok(Placed {
+        place: says.place,
+        length: says.length,
+    })
 }

@@ -4,14 +4,14 @@ ghost use Rattle.std.specs.Prelude.{◌≡◌, [], suc, ◌+◌, ◌/◌, ◌^�
 ghost use Rattle.schema.specs.Table.{row_at, array, struct};
 ghost use Rattle.schema.specs.File.{table_of};
 ghost use Rattle.value.specs.Read.{plain_item, pairs, present};
-ghost use Rattle.writer.specs.declared.walk.Walk.TheVariants.{Refused};
 ghost use Rattle.walks.specs.Shape.{fields_from, shape_in};
 ghost use Rattle.walks.specs.Required.{Requires};
 ghost use Rattle.writer.specs.Walk.{value_in, items_in, root_in, value_end, items_end, root_end, whole_end, Walked, Ready, MapRow, KeyReady, KeyPut};
 
-use crate::leaf::{Due, Head, Leaf, leaf_row, row_due, struct_bits};
+use crate::leaf::{leaf_row, row_due, struct_bits};
 use crate::put::{put_bits, put_content, put_number};
-use constants::{format, kind, limit, refusal};
+use constants::refusal::{Refusal, Refused};
+use constants::{format, kind, limit};
 use schema::TypeRow;
 use table::access::known_row;
 use table::file::layout_of;
@@ -29,17 +29,11 @@ const STRUCT: usize = kind::STRUCT as usize;
 // Pairs of a map whose keys are kept in a short array.
 const FEW_KEYS: usize = 8;
 
-// The row and the place in the output after what was written, or a refusal with its row.
+// The row and the place in the output after what was written.
 #[derive(Clone, Copy)]
-pub enum Walk {
-    Past { row: usize, pos: usize },
-    Refused { number: u32, place: usize },
-}
-
-fn refused(number: u32, place: usize) -> Walk
-    ensures { result ≡ Refused number place }
-{
-    Walk::Refused { number, place }
+pub struct Past {
+    pub row: usize,
+    pub pos: usize,
 }
 
 // An array, a map or a struct of type ty in a row, whose type row is t.
@@ -55,12 +49,12 @@ fn write_composite(
     pos: usize,
     depth: usize,
     judging: bool,
-) -> Walk
+) -> Result<Past, Refused>
     requires { Ready s.now sheet.now out.old row pos judging (value_in s.now source.now sheet.now depth ty row) × (t ≡ row_at (table_of s.now) ty) × (13 < t.kind) }
     ensures { Walked sheet.now (value_end s.now source.now sheet.now depth ty row pos out.old) result out.new }
 {
     if depth == 0 {
-        return refused(refusal::TOO_DEEP, row);
+        return Refusal::TooDeep.at(row);
     }
     let kind = t.kind;
     if kind == kind::ARRAY {
@@ -73,7 +67,7 @@ fn write_composite(
         return write_run(s, sheet, source, out, ty, t, 1, row, pos, depth, judging);
     }
     // A good table has no composite of another kind: this is never reached, and 50 is what the definition has for a type that there is not.
-    refused(refusal::SHEET, row)
+    Refusal::Sheet.at(row)
 }
 
 // A leaf, which is a scalar, a string or bytes, of a kind in a row.
@@ -88,21 +82,17 @@ fn write_leaf(
     pos: usize,
     depth: usize,
     judging: bool,
-) -> Walk
+) -> Result<Past, Refused>
     requires ready { Ready s.now sheet.now out.old row pos judging (value_in s.now source.now sheet.now depth ty row) }
     requires kind_nonzero { (0 < kind) × (kind ≡ (row_at (table_of s.now) ty).kind) × (kind < 14) × (0 < depth) }
     ensures { Walked sheet.now (value_end s.now source.now sheet.now depth ty row pos out.old) result out.new }
 {
-    match leaf_row(sheet, source, kind, ty, row, judging) {
-        Leaf::Refused { number } => refused(number, row),
-        Leaf::At { place, length } => {
-            let next = put_content(out, pos, kind, source, place, length);
-            Walk::Past {
-                row: row + 1,
-                pos: next,
-            }
-        }
-    }
+    let placed = leaf_row(sheet, source, kind, ty, row, judging)?;
+    let next = put_content(out, pos, kind, source, placed.place, placed.length);
+    Ok(Past {
+        row: row + 1,
+        pos: next,
+    })
 }
 
 // So many elements of an array from a row on, which are leaves of a kind: a loop without the cycle of walkers.
@@ -118,7 +108,7 @@ fn write_leaves(
     pos: usize,
     depth: usize,
     judging: bool,
-) -> Walk
+) -> Result<Past, Refused>
     requires ready { Ready s.now sheet.now out.old start pos judging (items_in s.now source.now sheet.now depth [] (replicate n (plain_item elem)) start) }
     requires kind_nonzero { (0 < kind) × (kind ≡ (row_at (table_of s.now) elem).kind) × (kind < 14) }
     ensures { Walked sheet.now (items_end s.now source.now sheet.now depth [] (replicate n (plain_item elem)) start pos out.old) result out.new }
@@ -128,20 +118,14 @@ fn write_leaves(
     let mut to = pos;
     while 0 < left {
         if depth == 0 {
-            return refused(refusal::TOO_DEEP, here);
+            return Refusal::TooDeep.at(here);
         }
-        match write_leaf(s, sheet, source, out, kind, elem, here, to, depth, judging) {
-            Walk::Refused { number, place } => {
-                return Walk::Refused { number, place };
-            }
-            Walk::Past { row, pos } => {
-                here = row;
-                to = pos;
-            }
-        }
+        let past = write_leaf(s, sheet, source, out, kind, elem, here, to, depth, judging)?;
+        here = past.row;
+        to = past.pos;
         left = left - 1;
     }
-    Walk::Past { row: here, pos: to }
+    Ok(Past { row: here, pos: to })
 }
 
 // An array of type ty, whose elements have the type elem and so many levels of depth.
@@ -157,32 +141,24 @@ fn write_array(
     pos: usize,
     depth: usize,
     judging: bool,
-) -> Walk
+) -> Result<Past, Refused>
     requires { Ready s.now sheet.now out.old row pos judging (value_in s.now source.now sheet.now (suc depth) ty row) × (shape_in s.now ty ≡ array elem) × (0 < (row_at (table_of s.now) elem).kind) }
     ensures { Walked sheet.now (value_end s.now source.now sheet.now (suc depth) ty row pos out.old) result out.new }
 {
-    match row_due(sheet, row, ty) {
-        Due::Missing => refused(refusal::SHEET, row),
-        Due::Found {
-            place: _,
-            length: _,
-            count,
-        } => {
-            let next = put_number(out, pos, count as u64);
-            write_elements(
-                s,
-                sheet,
-                source,
-                out,
-                elem,
-                count,
-                row + 1,
-                next,
-                depth,
-                judging,
-            )
-        }
-    }
+    let says = row_due(sheet, row, ty)?;
+    let next = put_number(out, pos, says.count as u64);
+    write_elements(
+        s,
+        sheet,
+        source,
+        out,
+        elem,
+        says.count,
+        row + 1,
+        next,
+        depth,
+        judging,
+    )
 }
 
 // The n elements of an array from a row on, which have the type ty.
@@ -198,7 +174,7 @@ fn write_elements(
     pos: usize,
     depth: usize,
     judging: bool,
-) -> Walk
+) -> Result<Past, Refused>
     requires { Ready s.now sheet.now out.old start pos judging (items_in s.now source.now sheet.now depth [] (replicate n (plain_item ty)) start) × (0 < (row_at (table_of s.now) ty).kind) }
     ensures { Walked sheet.now (items_end s.now source.now sheet.now depth [] (replicate n (plain_item ty)) start pos out.old) result out.new }
 {
@@ -216,18 +192,12 @@ fn write_elements(
     let mut here = start;
     let mut to = pos;
     while 0 < left {
-        match write_composite(s, sheet, source, out, ty, t, here, to, depth, judging) {
-            Walk::Refused { number, place } => {
-                return Walk::Refused { number, place };
-            }
-            Walk::Past { row, pos } => {
-                here = row;
-                to = pos;
-            }
-        }
+        let past = write_composite(s, sheet, source, out, ty, t, here, to, depth, judging)?;
+        here = past.row;
+        to = past.pos;
         left = left - 1;
     }
-    Walk::Past { row: here, pos: to }
+    Ok(Past { row: here, pos: to })
 }
 
 // A map of type ty, whose type row is t; one of more than 64 pairs is refused at its row.
@@ -243,46 +213,38 @@ fn write_map(
     pos: usize,
     depth: usize,
     judging: bool,
-) -> Walk
+) -> Result<Past, Refused>
     requires { Ready s.now sheet.now out.old row pos judging (value_in s.now source.now sheet.now (suc depth) ty row) × (t ≡ row_at (table_of s.now) ty) × (t.kind ≡ 15) }
     ensures { Walked sheet.now (value_end s.now source.now sheet.now (suc depth) ty row pos out.old) result out.new }
 {
-    match row_due(sheet, row, ty) {
-        Due::Missing => refused(refusal::SHEET, row),
-        Due::Found {
-            place: _,
-            length: _,
-            count: n,
-        } => {
-            if MOST_PAIRS < n {
-                return refused(refusal::MAP_TOO_LONG, row);
-            }
-            let next = put_number(out, pos, n as u64);
-            if n == 0 {
-                return Walk::Past {
-                    row: row + 1,
-                    pos: next,
-                };
-            }
-            if FEW_KEYS < n {
-                return write_many_pairs(s, sheet, source, out, t, n, row + 1, next, depth, judging);
-            }
-            let mut keys = [0usize; 2 * (FEW_KEYS + FLAG_CELLS)];
-            write_pairs(
-                s,
-                sheet,
-                source,
-                out,
-                &mut keys,
-                t,
-                n,
-                row + 1,
-                next,
-                depth,
-                judging,
-            )
-        }
+    let n = row_due(sheet, row, ty)?.count;
+    if MOST_PAIRS < n {
+        return Refusal::MapTooLong.at(row);
     }
+    let next = put_number(out, pos, n as u64);
+    if n == 0 {
+        return Ok(Past {
+            row: row + 1,
+            pos: next,
+        });
+    }
+    if FEW_KEYS < n {
+        return write_many_pairs(s, sheet, source, out, t, n, row + 1, next, depth, judging);
+    }
+    let mut keys = [0usize; 2 * (FEW_KEYS + FLAG_CELLS)];
+    write_pairs(
+        s,
+        sheet,
+        source,
+        out,
+        &mut keys,
+        t,
+        n,
+        row + 1,
+        next,
+        depth,
+        judging,
+    )
 }
 
 // The n pairs of a map, of more than a few. The long array stands here, so that no other map has to make room for it.
@@ -298,7 +260,7 @@ fn write_many_pairs(
     pos: usize,
     depth: usize,
     judging: bool,
-) -> Walk
+) -> Result<Past, Refused>
     requires { Ready s.now sheet.now out.old start pos judging (items_in s.now source.now sheet.now depth [] (pairs n t.a t.b) start) × MapRow s.now t × (n ≤ 64) }
     ensures { Walked sheet.now (items_end s.now source.now sheet.now depth [] (pairs n t.a t.b) start pos out.old) result out.new }
 {
@@ -321,26 +283,22 @@ fn write_key(
     pos: usize,
     depth: usize,
     judging: bool,
-) -> Walk
+) -> Result<Past, Refused>
     requires { KeyReady source.now sheet.now out.old keys.old i kind key row pos depth judging }
     ensures { KeyPut source.now sheet.now out.old keys.old i kind key row pos depth judging result out.new keys.new }
 {
     if depth == 0 {
-        return refused(refusal::TOO_DEEP, row);
+        return Refusal::TooDeep.at(row);
     }
-    match leaf_row(sheet, source, kind, key, row, judging) {
-        Leaf::Refused { number } => refused(number, row),
-        Leaf::At { place, length } => {
-            if is_repeated(source, keys, i, place, length, judging) {
-                return refused(refusal::REPEATED_KEY, row);
-            }
-            let next = put_content(out, pos, kind, source, place, length);
-            Walk::Past {
-                row: row + 1,
-                pos: next,
-            }
-        }
+    let placed = leaf_row(sheet, source, kind, key, row, judging)?;
+    if is_repeated(source, keys, i, placed.place, placed.length, judging) {
+        return Refusal::RepeatedKey.at(row);
     }
+    let next = put_content(out, pos, kind, source, placed.place, placed.length);
+    Ok(Past {
+        row: row + 1,
+        pos: next,
+    })
 }
 
 // The n pairs of a map from a row on. What `keys` holds afterwards means nothing.
@@ -357,7 +315,7 @@ fn write_pairs(
     pos: usize,
     depth: usize,
     judging: bool,
-) -> Walk
+) -> Result<Past, Refused>
     requires { Ready s.now sheet.now out.old start pos judging (items_in s.now source.now sheet.now depth [] (pairs n t.a t.b) start) × MapRow s.now t × (n + 4 ≤ length keys.old / 2) × (n ≤ 64) }
     ensures { Walked sheet.now (items_end s.now source.now sheet.now depth [] (pairs n t.a t.b) start pos out.old) result out.new }
 {
@@ -367,39 +325,28 @@ fn write_pairs(
     let mut at = start;
     let mut to = pos;
     while i < n {
-        match write_key(sheet, source, out, keys, i, k, t.a, at, to, depth, judging) {
-            Walk::Refused { number, place } => {
-                return Walk::Refused { number, place };
-            }
-            Walk::Past { row, pos } => {
-                at = row;
-                to = pos;
-            }
-        }
+        let past = write_key(sheet, source, out, keys, i, k, t.a, at, to, depth, judging)?;
+        at = past.row;
+        to = past.pos;
         if kind::BYTES < v.kind {
-            match write_composite(s, sheet, source, out, t.b, v, at, to, depth, judging) {
-                Walk::Refused { number, place } => {
-                    return Walk::Refused { number, place };
-                }
-                Walk::Past { row, pos } => {
-                    at = row;
-                    to = pos;
-                }
-            }
+            let past = write_composite(s, sheet, source, out, t.b, v, at, to, depth, judging)?;
+            at = past.row;
+            to = past.pos;
         } else {
-            match leaf_row(sheet, source, v.kind as usize, t.b, at, judging) {
-                Leaf::Refused { number } => {
-                    return refused(number, at);
-                }
-                Leaf::At { place, length } => {
-                    to = put_content(out, to, v.kind as usize, source, place, length);
-                    at = at + 1;
-                }
-            }
+            let placed = leaf_row(sheet, source, v.kind as usize, t.b, at, judging)?;
+            to = put_content(
+                out,
+                to,
+                v.kind as usize,
+                source,
+                placed.place,
+                placed.length,
+            );
+            at = at + 1;
         }
         i = i + 1;
     }
-    Walk::Past { row: at, pos: to }
+    Ok(Past { row: at, pos: to })
 }
 
 // So many structs of type ty from a row on, whose type row is t. It is a function of its own, which is inlined: called
@@ -417,7 +364,7 @@ fn write_run(
     pos: usize,
     depth: usize,
     judging: bool,
-) -> Walk
+) -> Result<Past, Refused>
     requires { Ready s.now sheet.now out.old row pos judging (items_in s.now source.now sheet.now depth [] (replicate n (plain_item ty)) row) × (t ≡ row_at (table_of s.now) ty) × (t.kind ≡ 16) × (0 < depth) }
     ensures { Walked sheet.now (items_end s.now source.now sheet.now depth [] (replicate n (plain_item ty)) row pos out.old) result out.new }
 {
@@ -452,7 +399,7 @@ fn write_structs(
     pos: usize,
     depth: usize,
     judging: bool,
-) -> Walk
+) -> Result<Past, Refused>
     requires ready { Ready s.now sheet.now out.old start pos judging (items_in s.now source.now sheet.now (suc depth) [] (replicate count (plain_item ty)) start) × (shape_in s.now ty ≡ struct (fields_from (table_of s.now) first n)) }
     requires n_nonzero { (0 < n) × (n ≤ 64) × (first + n ≤ length (table_of s.now).fields) }
     ensures { Walked sheet.now (items_end s.now source.now sheet.now (suc depth) [] (replicate count (plain_item ty)) start pos out.old) result out.new }
@@ -462,20 +409,14 @@ fn write_structs(
     let mut here = start;
     let mut to = pos;
     while 0 < left {
-        match write_struct(
+        let past = write_struct(
             s, sheet, source, out, ty, first, n, required, here, to, depth, judging,
-        ) {
-            Walk::Refused { number, place } => {
-                return Walk::Refused { number, place };
-            }
-            Walk::Past { row, pos } => {
-                here = row;
-                to = pos;
-            }
-        }
+        )?;
+        here = past.row;
+        to = past.pos;
         left = left - 1;
     }
-    Walk::Past { row: here, pos: to }
+    Ok(Past { row: here, pos: to })
 }
 
 // An inner struct of type ty, which has n fields from the first on, of which those with bits in `required` have to be there. An unknown bit is refused.
@@ -493,37 +434,27 @@ fn write_struct(
     pos: usize,
     depth: usize,
     judging: bool,
-) -> Walk
+) -> Result<Past, Refused>
     requires ready { Ready s.now sheet.now out.old row pos judging (value_in s.now source.now sheet.now (suc depth) ty row) × (shape_in s.now ty ≡ struct (fields_from (table_of s.now) first n)) }
     requires n_nonzero { (0 < n) × (n ≤ 64) × (first + n ≤ length (table_of s.now).fields) × Requires required (fields_from (table_of s.now) first n) }
     ensures { Walked sheet.now (value_end s.now source.now sheet.now (suc depth) ty row pos out.old) result out.new }
 {
-    match row_due(sheet, row, ty) {
-        Due::Missing => refused(refusal::SHEET, row),
-        Due::Found {
-            place,
-            length: _,
-            count,
-        } => match struct_bits(source, required, n, place, count, true) {
-            Head::Refused { number } => refused(number, row),
-            Head::Bits { known } => {
-                let next = put_bits(out, pos, (n + SPARE_BITS) / BYTE_BITS, known);
-                write_fields(
-                    s,
-                    sheet,
-                    source,
-                    out,
-                    first,
-                    n,
-                    known,
-                    row + 1,
-                    next,
-                    depth,
-                    judging,
-                )
-            }
-        },
-    }
+    let says = row_due(sheet, row, ty)?;
+    let known = struct_bits(source, required, n, says.place, says.count, true, row)?;
+    let next = put_bits(out, pos, (n + SPARE_BITS) / BYTE_BITS, known);
+    write_fields(
+        s,
+        sheet,
+        source,
+        out,
+        first,
+        n,
+        known,
+        row + 1,
+        next,
+        depth,
+        judging,
+    )
 }
 
 // A value of type ty in a row. It has one call site, into which it is inlined, since most fields are scalars, strings or bytes.
@@ -538,7 +469,7 @@ fn write_value(
     pos: usize,
     depth: usize,
     judging: bool,
-) -> Walk
+) -> Result<Past, Refused>
     requires { Ready s.now sheet.now out.old row pos judging (value_in s.now source.now sheet.now depth ty row) × (0 < (row_at (table_of s.now) ty).kind) }
     ensures { Walked sheet.now (value_end s.now source.now sheet.now depth ty row pos out.old) result out.new }
 {
@@ -548,18 +479,14 @@ fn write_value(
         return write_composite(s, sheet, source, out, ty, t, row, pos, depth, judging);
     }
     if depth == 0 {
-        return refused(refusal::TOO_DEEP, row);
+        return Refusal::TooDeep.at(row);
     }
-    match leaf_row(sheet, source, kind, ty, row, judging) {
-        Leaf::Refused { number } => refused(number, row),
-        Leaf::At { place, length } => {
-            let next = put_content(out, pos, kind, source, place, length);
-            Walk::Past {
-                row: row + 1,
-                pos: next,
-            }
-        }
-    }
+    let placed = leaf_row(sheet, source, kind, ty, row, judging)?;
+    let next = put_content(out, pos, kind, source, placed.place, placed.length);
+    Ok(Past {
+        row: row + 1,
+        pos: next,
+    })
 }
 
 // The fields of a struct whose bits are set in `known`, from the row `start` on.
@@ -576,7 +503,7 @@ fn write_fields(
     pos: usize,
     depth: usize,
     judging: bool,
-) -> Walk
+) -> Result<Past, Refused>
     requires ready { Ready s.now sheet.now out.old start pos judging (items_in s.now source.now sheet.now depth [] (present (fields_from (table_of s.now) first n) known) start) }
     requires n_bound { (n ≤ 64) × (known < 2 ^ n) × (first + n ≤ length (table_of s.now).fields) }
     ensures { Walked sheet.now (items_end s.now source.now sheet.now depth [] (present (fields_from (table_of s.now) first n) known) start pos out.old) result out.new }
@@ -589,15 +516,9 @@ fn write_fields(
     while bits != 0 {
         if bits % 2 == 1 {
             let f = field_row(s, l, i);
-            match write_value(s, sheet, source, out, f.ty, here, to, depth, judging) {
-                Walk::Refused { number, place } => {
-                    return Walk::Refused { number, place };
-                }
-                Walk::Past { row, pos } => {
-                    here = row;
-                    to = pos;
-                }
-            }
+            let past = write_value(s, sheet, source, out, f.ty, here, to, depth, judging)?;
+            here = past.row;
+            to = past.pos;
             bits = bits / 2;
             i = i + 1;
         } else {
@@ -606,7 +527,7 @@ fn write_fields(
             i = i + k;
         }
     }
-    Walk::Past { row: here, pos: to }
+    Ok(Past { row: here, pos: to })
 }
 
 // The known fields of the root from row 1 on, of those that it has from the first on. No row is left over.
@@ -620,12 +541,12 @@ fn root_fields(
     known: u64,
     to: usize,
     judging: bool,
-) -> Walk
+) -> Result<Past, Refused>
     requires ready { Ready s.now sheet.now out.old 1 to judging (items_in s.now source.now sheet.now 15 [] (present (fields_from (table_of s.now) first n) known) 1) }
     requires n_bound { (n ≤ 64) × (known < 2 ^ n) × (first + n ≤ length (table_of s.now).fields) }
     ensures { Walked sheet.now (whole_end (items_end s.now source.now sheet.now 15 [] (present (fields_from (table_of s.now) first n) known) 1 to out.old)) result out.new }
 {
-    match write_fields(
+    let past = write_fields(
         s,
         sheet,
         source,
@@ -637,15 +558,11 @@ fn root_fields(
         to,
         limit::BELOW_ROOT,
         judging,
-    ) {
-        Walk::Refused { number, place } => Walk::Refused { number, place },
-        Walk::Past { row, pos } => {
-            if row < sheet.len() / format::ROW_CELLS {
-                return refused(refusal::SHEET, row);
-            }
-            Walk::Past { row, pos }
-        }
+    )?;
+    if past.row < sheet.len() / format::ROW_CELLS {
+        return Refusal::Sheet.at(past.row);
     }
+    Ok(past)
 }
 
 // The root, a struct of type ty that has n fields from the first on, in row 0. Its unknown bits are left out, and no row is left over.
@@ -658,30 +575,14 @@ pub fn root(
     first: usize,
     n: usize,
     judging: bool,
-) -> Walk
+) -> Result<Past, Refused>
     requires ready { Ready s.now sheet.now out.old 0 0 judging (root_in s.now source.now sheet.now ty (fields_from (table_of s.now) first n)) × (shape_in s.now ty ≡ struct (fields_from (table_of s.now) first n)) }
     requires n_nonzero { (0 < n) × (n ≤ 64) × (first + n ≤ length (table_of s.now).fields) }
     ensures { Walked sheet.now (root_end s.now source.now sheet.now ty (fields_from (table_of s.now) first n) out.old) result out.new }
 {
-    match row_due(sheet, 0, ty) {
-        Due::Missing => refused(refusal::SHEET, 0),
-        Due::Found {
-            place,
-            length: _,
-            count,
-        } => match struct_bits(
-            source,
-            required_of(s, layout_of(s), first, n),
-            n,
-            place,
-            count,
-            false,
-        ) {
-            Head::Refused { number } => refused(number, 0),
-            Head::Bits { known } => {
-                let next = put_bits(out, 0, (n + SPARE_BITS) / BYTE_BITS, known);
-                root_fields(s, sheet, source, out, first, n, known, next, judging)
-            }
-        },
-    }
+    let says = row_due(sheet, 0, ty)?;
+    let required = required_of(s, layout_of(s), first, n);
+    let known = struct_bits(source, required, n, says.place, says.count, false, 0)?;
+    let next = put_bits(out, 0, (n + SPARE_BITS) / BYTE_BITS, known);
+    root_fields(s, sheet, source, out, first, n, known, next, judging)
 }

@@ -1,7 +1,7 @@
 -- `valueframe::put_first` meets its contract.
 use mathlib.Core.Path.{sym, ap, ◌∙◌}
 use lib.ListN.{length}
-use Rattle.writer.specs.declared.Writing as code
+use Rattle.writer.specs.Writing as code
 use Rattle.writer.specs.Entry.{payload_by}
 use Rattle.valueframe.specs.Part.{belongs}
 use Rattle.valueframe.proofs.Kept.{put_back, part-other, part-there}

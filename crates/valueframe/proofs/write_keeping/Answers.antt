@@ -2,8 +2,8 @@
 use mathlib.Core.Path.{sym, ap, ◌∙◌}
 use Prim.Native.Nat.{◌-◌}
 use native.Mathlib.Omega.{arith}
-use Rattle.writer.specs.declared.Writing as code
-use Rattle.writer.specs.declared.Writing.TheVariants.{Written}
+use Rattle.writer.specs.Writing as code
+use Rattle.writer.specs.Writing.{Written}
 use Rattle.writer.specs.Entry.{payload_by}
 use Rattle.valueframe.specs.Part.{belongs}
 use Rattle.valueframe.proofs.Entries.{value-limit, part_length}

@@ -6,6 +6,7 @@ use Rattle.schema.specs.File.{table_of}
 use Rattle.walks.specs.Shape.{fields_from}
 use Rattle.walks.proofs.Tables.{shape-struct, struct_row}
 use Rattle.writer.specs.Entry.{length_of}
+use Rattle.writer.proofs.Steps.{handed}
 use Rattle.writer.proofs.Entries.{payload-other, front-refused, payload-refused, payload-long, payload-length, payload-front}
 use Rattle.writer.proofs.make.Goals as goal
 
@@ -14,7 +15,7 @@ returns-then-t-ne-STRUCT c =
     let pre = c.requires in
     let args = c.args in
     let none = payload-other args.s.now pre.0 args.ty args.sheet.now args.source.now _ c.type_row-t.ensures c.if-t-ne-STRUCT.true in
-    record { value = sym (ap length_of none); fronts = front-refused _ _ none }
+    record { value = rw c.at.ensures (sym (ap length_of none)); fronts = front-refused _ _ none }
 
 pub root-requires : goal.root-requires
 root-requires c =
@@ -29,8 +30,8 @@ root-requires c =
       n_nonzero = struct_row args.s.now asked.0 args.ty _ type_row.ensures if1.false;
     }
 
-pub returns-then-pos-gt-PAYLOAD : goal.returns-then-pos-gt-PAYLOAD
-returns-then-pos-gt-PAYLOAD c =
+pub returns-then-past-gt-PAYLOAD : goal.returns-then-past-gt-PAYLOAD
+returns-then-past-gt-PAYLOAD c =
     let if1 = c.if-t-ne-STRUCT in
     let args = c.args in
     let type_row = c.type_row-t in
@@ -38,11 +39,11 @@ returns-then-pos-gt-PAYLOAD c =
     let T = table_of args.s.now in
     let is = shape-struct T args.ty _ type_row.ensures if1.false in
     let fs = fields_from T type_row.result.a type_row.result.b in
-    let long = payload-long args.s.now args.ty args.sheet.now args.source.now fs is _ _ _ root.ensures _ _ c.in-Past.is c.if-pos-gt-PAYLOAD.true in
-    record { value = sym (ap length_of long); fronts = front-refused _ _ long }
+    let long = payload-long args.s.now args.ty args.sheet.now args.source.now fs is _ _ _ root.ensures _ c.in_ok-past.was c.if-past-gt-PAYLOAD.true in
+    record { value = rw c.at-then-past-gt-PAYLOAD.ensures (sym (ap length_of long)); fronts = front-refused _ _ long }
 
-pub returns-in-Refused : goal.returns-in-Refused
-returns-in-Refused c =
+pub returns-in_err-past : goal.returns-in_err-past
+returns-in_err-past c =
     let if1 = c.if-t-ne-STRUCT in
     let args = c.args in
     let type_row = c.type_row-t in
@@ -50,11 +51,11 @@ returns-in-Refused c =
     let T = table_of args.s.now in
     let is = shape-struct T args.ty _ type_row.ensures if1.false in
     let fs = fields_from T type_row.result.a type_row.result.b in
-    let none = payload-refused args.s.now args.ty args.sheet.now args.source.now fs is _ _ _ root.ensures _ _ c.in-Refused.is in
-    record { value = sym (ap length_of none); fronts = front-refused _ _ none }
+    let none = payload-refused args.s.now args.ty args.sheet.now args.source.now fs is _ _ _ root.ensures _ c.in_err-past.was in
+    record { value = rw (handed c.from_residual.ensures.1) (sym (ap length_of none)); fronts = front-refused _ _ none }
 
-pub returns-else-pos-gt-PAYLOAD : goal.returns-else-pos-gt-PAYLOAD
-returns-else-pos-gt-PAYLOAD c =
+pub returns : goal.returns
+returns c =
     let if1 = c.if-t-ne-STRUCT in
     let args = c.args in
     let type_row = c.type_row-t in
@@ -63,6 +64,6 @@ returns-else-pos-gt-PAYLOAD c =
     let is = shape-struct T args.ty _ type_row.ensures if1.false in
     let fs = fields_from T type_row.result.a type_row.result.b in
     record {
-      value = sym (payload-length args.s.now args.ty args.sheet.now args.source.now fs is _ _ _ root.ensures _ _ c.in-Past.is c.if-pos-gt-PAYLOAD.false);
+      value = sym (payload-length args.s.now args.ty args.sheet.now args.source.now fs is _ _ _ root.ensures _ c.in_ok-past.was c.if-past-gt-PAYLOAD.false);
       fronts = payload-front args.s.now args.ty args.sheet.now args.source.now fs is _ _ _ root.ensures;
     }

@@ -1,7 +1,9 @@
 -- `writer::write_through` meets its contract.
 use mathlib.Core.Path.{sym, ap, ◌∙◌}
 use lib.Seq.{length-take-le}
-use Rattle.writer.specs.declared.Writing.TheVariants.{Written}
+use Rattle.writer.specs.Writing.{Written}
+use Rattle.writer.specs.Told.{told}
+use Rattle.writer.proofs.Steps.{handed}
 use Rattle.writer.proofs.Entries.{entry-refused, entry-room, entry-written, entry-copied}
 use Rattle.writer.proofs.write_through.Goals as goal
 
@@ -9,7 +11,8 @@ pub returns-then-out-length : goal.returns-then-out-length
 returns-then-out-length c =
     let make = c.make in
     let args = c.args in
-    entry-room args.s.now args.ty args.sheet.now args.source.now args.out.now _ (sym make.ensures.value ∙ c.in-Written.is) c.if-out-length.true
+    rw c.at.ensures
+    (entry-room args.s.now args.ty args.sheet.now args.source.now args.out.now _ (sym make.ensures.value ∙ ap told c.in_ok-length.was) c.if-out-length.true)
 
 pub slice_bounds-put_payload-end-then-scratch-length : goal.slice_bounds-put_payload-end-then-scratch-length
 slice_bounds-put_payload-end-then-scratch-length c = sym (length-take-le _ _ c.if-out-length.false)
@@ -19,20 +22,21 @@ put_payload-requires c =
     let pre = c.requires in
     let make = c.make in
     let room = length-take-le _ _ c.if-out-length.false in
-    record { good = pre.0; source_value = sym make.ensures.value ∙ c.in-Written.is ∙ ap Written (sym room) }
+    record { good = pre.0; source_value = sym make.ensures.value ∙ ap told c.in_ok-length.was ∙ ap Written (sym room) }
 
-pub returns-in-Refused : goal.returns-in-Refused
-returns-in-Refused c =
+pub returns-in_err-length : goal.returns-in_err-length
+returns-in_err-length c =
     let make = c.make in
     let args = c.args in
-    entry-refused args.s.now args.ty args.sheet.now args.source.now args.out.now _ _ (sym make.ensures.value ∙ c.in-Refused.is)
+    rw (handed c.from_residual.ensures.1)
+    (entry-refused args.s.now args.ty args.sheet.now args.source.now args.out.now _ _ (sym make.ensures.value ∙ ap told c.in_err-length.was))
 
 pub returns-then-scratch-length : goal.returns-then-scratch-length
 returns-then-scratch-length c =
     let make = c.make in
     let if1 = c.if-out-length in
     let args = c.args in
-    let size = sym make.ensures.value ∙ c.in-Written.is in
+    let size = sym make.ensures.value ∙ ap told c.in_ok-length.was in
     entry-written args.s.now args.ty args.sheet.now args.source.now args.out.now _ size if1.false _ c.put_payload.ensures
 
 pub returns-else-scratch-length : goal.returns-else-scratch-length
@@ -41,5 +45,5 @@ returns-else-scratch-length c =
     let if1 = c.if-out-length in
     let if2 = c.if-scratch-length in
     let args = c.args in
-    let size = sym make.ensures.value ∙ c.in-Written.is in
+    let size = sym make.ensures.value ∙ ap told c.in_ok-length.was in
     entry-copied args.s.now args.ty args.sheet.now args.source.now args.out.now _ size if1.false _ _ if2.false make.auto.scratch make.ensures.fronts c.put_span.ensures

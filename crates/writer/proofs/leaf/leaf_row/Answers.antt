@@ -1,5 +1,7 @@
 -- `writer::leaf::leaf_row` meets its contract.
-use Rattle.writer.proofs.Leaves.{leaf-missing, row_small, leaf-fine, leaf_bad, leaf-row_in, leaf-known}
+use Rattle.std.proofs.Common.{◌∙◌}
+use Rattle.writer.proofs.Leaves.{leaf-missing, leaf-fine, leaf_bad, leaf-row_in, leaf-known}
+use Rattle.writer.proofs.Steps.{handed}
 use borrow.Author.Rules.{rules}
 use Rattle.writer.proofs.leaf.leaf_row.Goals as goal
 
@@ -55,27 +57,13 @@ returns-then-not-judging c =
     leaf-known args.sheet.now args.source.now args.kind args.ty args.row (asked c.if-not-judging.true) _ _ c.wide.ensures
     c.wide-then-not-judging.ensures
 
-pub content-requires : goal.content-requires
-content-requires c =
-    let args = c.args in
-    let w = row_small args.sheet.now args.source.now args.kind args.ty args.row _ c.row_due.ensures c.in-Found.place c.in-Found.length c.in-Found.count c.in-Found.is in
-    w
+pub returns-in_err-says : goal.returns-in_err-says
+returns-in_err-says c = rw (handed c.from_residual.ensures.1) (leaf-missing _ _ _ _ _ _ c.row_due.ensures c.in_err-says.was)
 
-pub returns-in-Missing : goal.returns-in-Missing
-returns-in-Missing c =
-    let args = c.args in
-    leaf-missing args.sheet.now args.source.now args.kind args.ty args.row _ c.row_due.ensures c.in-Missing.is
+pub returns-in_err-content : goal.returns-in_err-content
+returns-in_err-content c =
+    rw (handed c.from_residual-in_err-content.ensures.1)
+    (leaf_bad _ _ _ _ _ _ c.row_due.ensures _ c.in_ok-says.was _ c.content.ensures c.in_err-content.was)
 
-pub returns-in-Refused : goal.returns-in-Refused
-returns-in-Refused c =
-    let args = c.args in
-    let row-due = c.row_due in
-    leaf_bad args.sheet.now args.source.now args.kind args.ty args.row _ row-due.ensures c.in-Found.place c.in-Found.length c.in-Found.count
-    c.in-Found.is _ c.content.ensures _ c.in-Refused.is
-
-pub returns-in-Fine : goal.returns-in-Fine
-returns-in-Fine c =
-    let args = c.args in
-    let row-due = c.row_due in
-    leaf-fine args.sheet.now args.source.now args.kind args.ty args.row _ row-due.ensures c.in-Found.place c.in-Found.length c.in-Found.count
-    c.in-Found.is _ c.content.ensures c.in-Fine.is
+pub returns : goal.returns
+returns c = leaf-fine _ _ _ _ _ _ c.row_due.ensures _ c.in_ok-says.was _ c.content.ensures c.in_ok-content.was

@@ -7,27 +7,30 @@ use Rattle.writer.proofs.leaf.scalar.Goals as goal
 pub returns-then-n-width_of : goal.returns-then-n-width_of
 returns-then-n-width_of c =
     let args = c.args in
-    scalar-wide args.source.now args.kind args.place args.n args.count c.requires.0 (λ e. c.if-n-width_of.true (e ∙ sym c.width_of.ensures))
+    rw c.at.ensures
+    (scalar-wide args.source.now args.kind args.place args.n args.count args.row c.requires.0 (λ e. c.if-n-width_of.true (e ∙ sym c.width_of.ensures)))
 
 pub returns-then-count-ne0 : goal.returns-then-count-ne0
 returns-then-count-ne0 c =
     let args = c.args in
-    scalar-counted args.source.now args.kind args.place args.n args.count c.requires.0 (c.if-n-width_of.false ∙ c.width_of.ensures)
-    c.if-count-ne0.true
+    rw c.at-then-count-ne0.ensures
+    (scalar-counted args.source.now args.kind args.place args.n args.count args.row c.requires.0 (c.if-n-width_of.false ∙ c.width_of.ensures)
+    c.if-count-ne0.true)
 
 pub returns-then-source-place : goal.returns-then-source-place
 returns-then-source-place c =
     let args = c.args in
     let asked = c.requires in
-    scalar-outside args.source.now args.kind args.place args.n args.count asked.0 (c.if-n-width_of.false ∙ c.width_of.ensures)
-    c.if-count-ne0.false c.if-source-place.true
+    rw c.at-then-source-place.ensures
+    (scalar-outside args.source.now args.kind args.place args.n args.count args.row asked.0 (c.if-n-width_of.false ∙ c.width_of.ensures)
+    c.if-count-ne0.false c.if-source-place.true)
 
 pub bounds-source-place : goal.bounds-source-place
 bounds-source-place c =
     let args = c.args in
     let asked = c.requires in
     let width_of = c.width_of in
-    one_byte args.source.now args.kind args.place args.n args.count asked.0 (c.if-n-width_of.false ∙ width_of.ensures) c.if-count-ne0.false
+    one_byte args.source.now args.kind args.place args.n args.count args.row asked.0 (c.if-n-width_of.false ∙ width_of.ensures) c.if-count-ne0.false
     c.if-source-place.false c.if-kind-eq-BOOL.true
 
 pub returns-then-source-place-gt1 : goal.returns-then-source-place-gt1
@@ -36,8 +39,9 @@ returns-then-source-place-gt1 c =
     let asked = c.requires in
     let width_of = c.width_of in
     let if1 = c.if-n-width_of in
-    scalar_bad args.source.now args.kind args.place args.n args.count asked.0 (if1.false ∙ width_of.ensures) c.if-count-ne0.false
-    c.if-source-place.false c.if-kind-eq-BOOL.true c.if-source-place-gt1.true
+    rw c.at-then-source-place-gt1.ensures
+    (scalar_bad args.source.now args.kind args.place args.n args.count args.row asked.0 (if1.false ∙ width_of.ensures) c.if-count-ne0.false
+    c.if-source-place.false c.if-kind-eq-BOOL.true c.if-source-place-gt1.true)
 
 pub returns-else-source-place-gt1 : goal.returns-else-source-place-gt1
 returns-else-source-place-gt1 c =
@@ -47,7 +51,7 @@ returns-else-source-place-gt1 c =
     let if1 = c.if-n-width_of in
     let if2 = c.if-count-ne0 in
     let if3 = c.if-source-place in
-    scalar-fine args.source.now args.kind args.place args.n args.count asked.0 (if1.false ∙ width_of.ensures) if2.false if3.false
+    scalar-fine args.source.now args.kind args.place args.n args.count args.row asked.0 (if1.false ∙ width_of.ensures) if2.false if3.false
     (scalar-truth args.source.now args.kind args.place args.n (if1.false ∙ width_of.ensures) if3.false c.if-kind-eq-BOOL.true c.if-source-place-gt1.false)
 
 pub returns-else-kind-eq-BOOL : goal.returns-else-kind-eq-BOOL
@@ -56,5 +60,5 @@ returns-else-kind-eq-BOOL c =
     let asked = c.requires in
     let width_of = c.width_of in
     let if1 = c.if-n-width_of in
-    scalar-fine args.source.now args.kind args.place args.n args.count asked.0 (if1.false ∙ width_of.ensures) c.if-count-ne0.false c.if-source-place.false
+    scalar-fine args.source.now args.kind args.place args.n args.count args.row asked.0 (if1.false ∙ width_of.ensures) c.if-count-ne0.false c.if-source-place.false
     (scalar-other args.source.now args.kind args.place args.n c.if-kind-eq-BOOL.false)

@@ -9,30 +9,33 @@ use Rattle.buffer.proofs.Spans.{slice-span}
 use Rattle.writer.proofs.leaf.text.Goals as goal
 
 pub returns-then-count-ne0 : goal.returns-then-count-ne0
-returns-then-count-ne0 c = text-counted c.args.source.now c.args.kind c.args.place c.args.n c.args.count c.requires.0 c.if-count-ne0.true
+returns-then-count-ne0 c = rw c.at.ensures
+    (text-counted c.args.source.now c.args.kind c.args.place c.args.n c.args.count c.args.row c.requires.0 c.if-count-ne0.true)
 
 pub returns-then-source-place : goal.returns-then-source-place
 returns-then-source-place c =
     let args = c.args in
-    text-outside args.source.now args.kind args.place args.n args.count c.requires.0 c.if-count-ne0.false c.if-source-place.true
+    rw c.at-then-source-place.ensures
+    (text-outside args.source.now args.kind args.place args.n args.count args.row c.requires.0 c.if-count-ne0.false c.if-source-place.true)
 
 pub returns-then-not-valid : goal.returns-then-not-valid
 returns-then-not-valid c =
     let args = c.args in
     let asked = c.requires in
-    text_bad args.source.now args.kind args.place args.n args.count asked.0 c.if-count-ne0.false c.if-source-place.false
-    c.if-kind-eq-STRING.true (sym (c.valid.ensures ∙ ap (λ (l : List ℕ). utf8 l) (slice-span args.source.now args.place args.n)) ∙ c.if-not-valid.true)
+    rw c.at-then-not-valid.ensures
+    (text_bad args.source.now args.kind args.place args.n args.count args.row asked.0 c.if-count-ne0.false c.if-source-place.false
+    c.if-kind-eq-STRING.true (sym (c.valid.ensures ∙ ap (λ (l : List ℕ). utf8 l) (slice-span args.source.now args.place args.n)) ∙ c.if-not-valid.true))
 
 pub returns-else-not-valid : goal.returns-else-not-valid
 returns-else-not-valid c =
     let args = c.args in
     let asked = c.requires in
-    text-fine args.source.now args.kind args.place args.n args.count asked.0 c.if-count-ne0.false c.if-source-place.false
+    text-fine args.source.now args.kind args.place args.n args.count args.row asked.0 c.if-count-ne0.false c.if-source-place.false
     (text-valid args.source.now args.kind args.place args.n
     (sym (c.valid.ensures ∙ ap (λ (l : List ℕ). utf8 l) (slice-span args.source.now args.place args.n)) ∙ c.if-not-valid.false))
 
 pub returns-else-kind-eq-STRING : goal.returns-else-kind-eq-STRING
 returns-else-kind-eq-STRING c =
     let args = c.args in
-    text-fine args.source.now args.kind args.place args.n args.count c.requires.0 c.if-count-ne0.false c.if-source-place.false
+    text-fine args.source.now args.kind args.place args.n args.count args.row c.requires.0 c.if-count-ne0.false c.if-source-place.false
     (text-plain args.source.now args.kind args.place args.n c.if-kind-eq-STRING.false)

@@ -18,7 +18,7 @@ use Rattle.walks.proofs.Presence.{length_fields}
 use Rattle.walks.proofs.Masks.{bits_left, standing-first, standing-field, standing-kind, standing-next, standing-shift, standing-less, standing-skip, standing-same, standing-end}
 use Rattle.walks.proofs.Items.{elements-none, elements-some, pairs-none}
 use Rattle.writer.specs.Walk.{items_end, MapRow}
-use Rattle.writer.proofs.Steps.{was, renamed, as_stopped, as_refused, shown-stopped, shown-refused, onward, walk-done}
+use Rattle.writer.proofs.Steps.{handed, was, renamed, as_refused, shown-stopped, shown-refused, onward, walk-done}
 use Rattle.writer.proofs.Steps.{show-deep, accepted-deeper, walked-deeper, items-deeper, items-shallower, leaf-accepted, show-unknown}
 use Rattle.writer.proofs.Leaves.{due_in}
 use Rattle.writer.proofs.Heads.{HeadRow, head-row, head-fits}
@@ -26,15 +26,15 @@ use Rattle.writer.proofs.Composites.{leaf-failed, leaf_in, leaf-past, row-absent
 use Rattle.writer.proofs.Composites.{PartsRow, parts-start, parts-accepted, array-found, map-many, map_found, struct-fault, struct-found, struct-start}
 use Rattle.writer.proofs.Composites.{writing-first, writing-small, writing-known, writing-done, writing-ready, writing-stop, writing-on, structs-held, one-accepted, one_end}
 use Rattle.writer.proofs.Keys.{AfterKey, after-key, key-was, pair-first, pair-accepted, pair-stop, pair-past}
-use Rattle.writer.proofs.walk.+walk.Goals.{write_array-In-Found, write_fields-After-field_row-f, write_map-Else-n-gt-MOST_PAIRS, write_map-Start, write_pairs-After-known_row-k, write_pairs-After-known_row-v, write_pairs-After-write_key, write_struct-After-struct_bits, write_value-Else-kind-ge-ARRAY}
-use Rattle.writer.proofs.walk.+walk.Goals.{write_pairs-then-v-gt-BYTES+in-Past-write_composite, write_pairs-else-v-gt-BYTES+in-At}
+use Rattle.writer.proofs.walk.+walk.Goals.{write_array-In_ok-says, write_fields-After-field_row-f, write_map-Else-n-gt-MOST_PAIRS, write_map-Start, write_pairs-After-known_row-k, write_pairs-After-known_row-v, write_pairs-After-write_key, write_struct-After-struct_bits, write_value-Else-kind-ge-ARRAY}
+use Rattle.writer.proofs.walk.+walk.Goals.{write_pairs-then-v-gt-BYTES+in_ok-past-2, write_pairs-else-v-gt-BYTES+in_ok-placed}
 use Rattle.writer.proofs.walk.+walk.Goals as goal
 
 -- an array's row, once it was found
-write-array-row : (t : ℕ) (c : write_array-In-Found t)
+write-array-row : (t : ℕ) (c : write_array-In_ok-says t)
     → let args = c.args in
-    PartsRow (shape_in args.s.now) args.source.now args.sheet.now args.row args.ty (array args.elem) c.in-Found.count
-write-array-row t c = array-found c.row_due.ensures c.in-Found.is _ _ c.requires.1
+    PartsRow (shape_in args.s.now) args.source.now args.sheet.now args.row args.ty (array args.elem) c.in_ok-says.says.count
+write-array-row t c = array-found c.row_due.ensures c.in_ok-says.was _ _ c.requires.1
 
 -- a type below the arrays is that of a leaf
 write-value-leaf : (t : ℕ) (c : write_value-Else-kind-ge-ARRAY t)
@@ -58,10 +58,10 @@ write-fields-first t c =
 -- a map's row, once it was found to be of few enough pairs
 write-map-row : (t : ℕ) (c : write_map-Else-n-gt-MOST_PAIRS t)
     → let args = c.args in
-    PartsRow (shape_in args.s.now) args.source.now args.sheet.now args.row args.ty (map args.t.a args.t.b) c.in-Found.n
+    PartsRow (shape_in args.s.now) args.source.now args.sheet.now args.row args.ty (map args.t.a args.t.b) c.in_ok-n.field-0.count
 write-map-row t c =
     let asked = c.requires in
-    map_found c.row_due.ensures c.in-Found.is _ _ (shape-map (table_of c.args.s.now) c.args.ty _ asked.1 asked.2) c.if-n-gt-MOST_PAIRS.false
+    map_found c.row_due.ensures c.in_ok-n.was _ _ (shape-map (table_of c.args.s.now) c.args.ty _ asked.1 asked.2) c.if-n-gt-MOST_PAIRS.false
 
 -- the types of its keys and values
 write-map-types : (t : ℕ) (c : write_map-Start t) → MapRow c.args.s.now c.args.t
@@ -109,22 +109,17 @@ write-struct-head : (t : ℕ) (c : write_struct-After-struct_bits t)
 write-struct-head t c =
     let asked = c.requires in
     let h = asked.n_nonzero in
-    head-row c.row_due.ensures c.in-Found.is c.struct_bits.ensures asked.ready.1 (length_fields _ _ _ h.2) h.3
+    head-row c.row_due.ensures c.in_ok-says.was c.struct_bits.ensures asked.ready.1 (length_fields _ _ _ h.2) h.3
 
-pub write_array-put_number-next-requires : goal.write_array-put_number-next-requires
-write_array-put_number-next-requires t c = c.requires.0.capped
-
-pub write_array-overflow_add-row : goal.write_array-overflow_add-row
-write_array-overflow_add-row t c =
-    let at_count = (goal.at.write_array-overflow_add-row t c).In-Found in
-    omega (arith, (write-array-row t at_count).inside, at_count.well_formed.1.0)
+pub write_array-returns-in_err-says : goal.write_array-returns-in_err-says
+write_array-returns-in_err-says t c = shown-refused _ _ _ _ (handed c.from_residual.ensures.1) (row-absent c.row_due.ensures _ _ _ c.in_err-says.was)
 
 pub write_array-write_elements-requires : goal.write_array-write_elements-requires
 write_array-write_elements-requires t c =
-    let at_count = (goal.at.write_array-write_elements-requires t c).In-Found in
-    let asked = at_count.requires in
+    let at_says = (goal.at.write_array-write_elements-requires t c).In_ok-says in
+    let asked = at_says.requires in
     let put-number = c.put_number-next in
-    let row = write-array-row t at_count in (
+    let row = write-array-row t at_says in (
       omega (arith, c.decreases),
       (
         onward asked.0 (omega (arith, row.inside)) put-number.ensures.capped put-number.auto.out (parts-accepted row _),
@@ -132,20 +127,13 @@ write_array-write_elements-requires t c =
       ),
     )
 
-pub write_array-returns-in-Missing : goal.write_array-returns-in-Missing
-write_array-returns-in-Missing t c = shown-refused _ _ _ _ c.refused.ensures (row-absent c.row_due.ensures _ _ _ c.in-Missing.is)
-
-pub write_array-shape_of-out : goal.write_array-shape_of-out
-write_array-shape_of-out t c = c.write_elements.auto.out ∙ c.put_number-next.auto.out
-
-pub write_array-returns-in-Found : goal.write_array-returns-in-Found
-write_array-returns-in-Found t c =
-    let at_count = (goal.at.write_array-returns-in-Found t c).In-Found in
-    let asked = at_count.requires in
-    renamed (parts-start (write-array-row t at_count) _ asked.0.small c.put_number-next.ensures) c.write_elements.ensures
+pub write_array-returns : goal.write_array-returns
+write_array-returns t c =
+    let at_says = (goal.at.write_array-returns t c).In_ok-says in
+    renamed (parts-start (write-array-row t at_says) _ at_says.requires.0.small c.put_number-next.ensures) c.write_elements.ensures
 
 pub write_composite-returns-then-depth-eq0 : goal.write_composite-returns-then-depth-eq0
-write_composite-returns-then-depth-eq0 t c = shown-refused _ _ _ _ c.refused.ensures (show-deep _ _ _ _ _ c.if-depth-eq0.true)
+write_composite-returns-then-depth-eq0 t c = shown-refused _ _ _ _ c.at.ensures (show-deep _ _ _ _ _ c.if-depth-eq0.true)
 
 pub write_composite-write_array-requires : goal.write_composite-write_array-requires
 write_composite-write_array-requires t c =
@@ -162,12 +150,6 @@ write_composite-write_array-requires t c =
       ),
     )
 
-pub write_composite-shape_of-out-then-kind-eq-ARRAY : goal.write_composite-shape_of-out-then-kind-eq-ARRAY
-write_composite-shape_of-out-then-kind-eq-ARRAY t c = c.write_array.auto.out
-
-pub write_composite-returns-then-kind-eq-ARRAY : goal.write_composite-returns-then-kind-eq-ARRAY
-write_composite-returns-then-kind-eq-ARRAY t c = walked-deeper _ _ c.if-depth-eq0.false _ _ _ _ c.write_array.ensures
-
 pub write_composite-write_map-requires : goal.write_composite-write_map-requires
 write_composite-write_map-requires t c =
     let asked = c.requires in
@@ -175,20 +157,11 @@ write_composite-write_map-requires t c =
     let deep = c.if-depth-eq0.false in
     (omega (arith, c.decreases, deep), (onward h h.inside h.capped refl (accepted-deeper _ _ deep _ _), asked.1, c.if-kind-eq-MAP.true))
 
-pub write_composite-shape_of-out-then-kind-eq-MAP : goal.write_composite-shape_of-out-then-kind-eq-MAP
-write_composite-shape_of-out-then-kind-eq-MAP t c = c.write_map.auto.out
-
-pub write_composite-returns-then-kind-eq-MAP : goal.write_composite-returns-then-kind-eq-MAP
-write_composite-returns-then-kind-eq-MAP t c = walked-deeper _ _ c.if-depth-eq0.false _ _ _ _ c.write_map.ensures
-
 pub write_composite-write_run-requires : goal.write_composite-write_run-requires
 write_composite-write_run-requires t c =
     let asked = c.requires in
     let h = asked.0 in
     (omega (arith, c.decreases), (onward h h.inside h.capped refl (one-accepted _ _ _), asked.1, c.if-kind-eq-STRUCT.true, omega (arith, c.if-depth-eq0.false)))
-
-pub write_composite-shape_of-out-then-kind-eq-STRUCT : goal.write_composite-shape_of-out-then-kind-eq-STRUCT
-write_composite-shape_of-out-then-kind-eq-STRUCT t c = c.write_run.auto.out
 
 pub write_composite-returns-then-kind-eq-STRUCT : goal.write_composite-returns-then-kind-eq-STRUCT
 write_composite-returns-then-kind-eq-STRUCT t c = renamed (one_end _ _ _ _ _ _) c.write_run.ensures
@@ -198,38 +171,7 @@ write_composite-returns t c =
     let args = c.args in
     let asked = c.requires in
     let past : 16 < args.t.kind = omega (arith, asked.2, c.if-kind-eq-ARRAY.false, c.if-kind-eq-MAP.false, c.if-kind-eq-STRUCT.false) in
-    shown-refused _ _ _ _ c.refused-2.ensures (show-unknown _ _ c.if-depth-eq0.false _ _ _ (shape-past (table_of args.s.now) args.ty _ asked.1 past))
-
-pub write_elements-known_row-t-requires : goal.write_elements-known_row-t-requires
-write_elements-known_row-t-requires t c = (c.requires.0.good, c.requires.1)
-
-pub write_elements-write_leaves-requires : goal.write_elements-write_leaves-requires
-write_elements-write_leaves-requires t c =
-    let asked = c.requires in
-    let row = c.known_row-t.ensures in
-    record { ready = asked.0; kind_nonzero = (rw row asked.1, ap (λ (r : TypeRow). r.kind) row, c.if-kind-lt-ARRAY.true) }
-
-pub write_elements-shape_of-out-then-kind-lt-ARRAY : goal.write_elements-shape_of-out-then-kind-lt-ARRAY
-write_elements-shape_of-out-then-kind-lt-ARRAY t c = c.write_leaves.auto.out
-
-pub write_elements-returns-then-kind-lt-ARRAY : goal.write_elements-returns-then-kind-lt-ARRAY
-write_elements-returns-then-kind-lt-ARRAY t c = c.write_leaves.ensures
-
-pub write_elements-write_run-requires : goal.write_elements-write_run-requires
-write_elements-write_run-requires t c =
-    let asked = c.requires in
-    let row = c.known_row-t in
-    let held = structs-held row.result.kind c.args.depth c.if-kind-depth.true in
-    (omega (arith, c.decreases), (asked.0, row.ensures, held.0, held.1))
-
-pub write_elements-shape_of-out-then-kind-depth : goal.write_elements-shape_of-out-then-kind-depth
-write_elements-shape_of-out-then-kind-depth t c = c.write_run.auto.out
-
-pub write_elements-returns-then-kind-depth : goal.write_elements-returns-then-kind-depth
-write_elements-returns-then-kind-depth t c = c.write_run.ensures
-
-pub write_elements-loop-left-init : goal.write_elements-loop-left-init
-write_elements-loop-left-init t c = writing-first c.requires.0
+    shown-refused _ _ _ _ c.at-2.ensures (show-unknown _ _ c.if-depth-eq0.false _ _ _ (shape-past (table_of args.s.now) args.ty _ asked.1 past))
 
 pub write_elements-write_composite-requires : goal.write_elements-write_composite-requires
 write_elements-write_composite-requires t c = (
@@ -241,72 +183,17 @@ write_elements-write_composite-requires t c = (
   ),
 )
 
-pub write_elements-shape_of-out-in-Refused : goal.write_elements-shape_of-out-in-Refused
-write_elements-shape_of-out-in-Refused t c = c.write_composite.auto.out ∙ c.loop-left.invariant.long
-
-pub write_elements-returns-in-Refused : goal.write_elements-returns-in-Refused
-write_elements-returns-in-Refused t c = writing-stop c.loop-left.invariant (elements-some _ _ c.loop-left-test.true) c.write_composite.ensures c.in-Refused.is refl
+pub write_elements-returns-in_err-past : goal.write_elements-returns-in_err-past
+write_elements-returns-in_err-past t c = writing-stop c.loop-left.invariant (elements-some _ _ c.loop-left-test.true) c.write_composite.ensures c.in_err-past.was (handed c.from_residual.ensures.1)
 
 pub write_elements-loop-left-preserved : goal.write_elements-loop-left-preserved
-write_elements-loop-left-preserved t c = writing-on c.loop-left.invariant (elements-some _ _ c.loop-left-test.true) c.write_composite.ensures c.in-Past.is c.write_composite.auto.out
-
-pub write_elements-shape_of-out : goal.write_elements-shape_of-out
-write_elements-shape_of-out t c = c.loop-left.invariant.long
+write_elements-loop-left-preserved t c = writing-on c.loop-left.invariant (elements-some _ _ c.loop-left-test.true) c.write_composite.ensures c.in_ok-past.was c.write_composite.auto.out
 
 pub write_elements-returns : goal.write_elements-returns
 write_elements-returns t c = writing-done c.loop-left.invariant (elements-none _ _ c.loop-left-test.false)
 
-pub write_value-known_row-t-requires : goal.write_value-known_row-t-requires
-write_value-known_row-t-requires t c = (c.requires.0.good, c.requires.1)
-
-pub write_value-write_composite-requires : goal.write_value-write_composite-requires
-write_value-write_composite-requires t c =
-    let asked = c.requires in
-    (omega (arith, c.decreases), (asked.0, c.known_row-t.ensures, c.if-kind-ge-ARRAY.true))
-
-pub write_value-shape_of-out-then-kind-ge-ARRAY : goal.write_value-shape_of-out-then-kind-ge-ARRAY
-write_value-shape_of-out-then-kind-ge-ARRAY t c = c.write_composite.auto.out
-
-pub write_value-returns-then-kind-ge-ARRAY : goal.write_value-returns-then-kind-ge-ARRAY
-write_value-returns-then-kind-ge-ARRAY t c = c.write_composite.ensures
-
-pub write_value-returns-then-depth-eq0 : goal.write_value-returns-then-depth-eq0
-write_value-returns-then-depth-eq0 t c = shown-refused _ _ _ _ c.refused.ensures (show-deep _ _ _ _ _ c.if-depth-eq0.true)
-
-pub write_value-leaf_row-requires : goal.write_value-leaf_row-requires
-write_value-leaf_row-requires t c =
-    let asked = c.requires in
-    λ j. leaf-accepted _ _ c.if-depth-eq0.false _ _ (write-value-leaf t (goal.at.write_value-leaf_row-requires t c).Else-kind-ge-ARRAY) (asked.0.judged j)
-
-pub write_value-put_content-next-requires : goal.write_value-put_content-next-requires
-write_value-put_content-next-requires t c =
-    let asked = c.requires.0 in
-    let own = leaf_in c.leaf_row.ensures c.in-At.is in
-    (asked.capped, asked.small, own.3)
-
-pub write_value-overflow_add-result : goal.write_value-overflow_add-result
-write_value-overflow_add-result t c =
-    let own = leaf_in c.leaf_row.ensures c.in-At.is in
-    omega (arith, own.0, c.well_formed.1.0)
-
-pub write_value-returns-in-Refused : goal.write_value-returns-in-Refused
-write_value-returns-in-Refused t c = shown-refused _ _ _ _ c.refused-in-Refused.ensures (leaf-failed c.leaf_row.ensures _ (write-value-leaf t (goal.at.write_value-returns-in-Refused t c).Else-kind-ge-ARRAY) c.if-depth-eq0.false c.in-Refused.is)
-
-pub write_value-shape_of-out : goal.write_value-shape_of-out
-write_value-shape_of-out t c = c.put_content-next.auto.out
-
-pub write_value-returns-in-At : goal.write_value-returns-in-At
-write_value-returns-in-At t c = leaf-past c.leaf_row.ensures _ (write-value-leaf t (goal.at.write_value-returns-in-At t c).Else-kind-ge-ARRAY) c.if-depth-eq0.false c.in-At.is c.put_content-next.ensures
-
 pub write_fields-layout_of-l-requires : goal.write_fields-layout_of-l-requires
 write_fields-layout_of-l-requires t c = good-shaped _ c.requires.ready.good
-
-pub write_fields-loop-bits-init : goal.write_fields-loop-bits-init
-write_fields-loop-bits-init t c =
-    let args = c.args in
-    let asked = c.requires in
-    let all : args.first + args.n - args.first ≡ args.n = omega arith in
-    (rw all (writing-first asked.ready), standing-first asked.n_bound.0 asked.n_bound.1)
 
 pub write_fields-field_row-f-requires : goal.write_fields-field_row-f-requires
 write_fields-field_row-f-requires t c = good-laid _ _ c.requires.ready.good c.layout_of-l.ensures
@@ -324,32 +211,23 @@ write_fields-write_value-requires t c =
       ),
     )
 
-pub write_fields-shape_of-out-in-Refused : goal.write_fields-shape_of-out-in-Refused
-write_fields-shape_of-out-in-Refused t c = c.write_value.auto.out ∙ c.loop-bits.invariant.0.long
-
-pub write_fields-returns-in-Refused : goal.write_fields-returns-in-Refused
-write_fields-returns-in-Refused t c =
-    let field = (goal.at.write_fields-returns-in-Refused t c).After-field_row-f in
-    writing-stop field.loop-bits.invariant.0 (write-fields-first t field) c.write_value.ensures c.in-Refused.is refl
+pub write_fields-returns-in_err-past : goal.write_fields-returns-in_err-past
+write_fields-returns-in_err-past t c =
+    let field = (goal.at.write_fields-returns-in_err-past t c).After-field_row-f in
+    writing-stop field.loop-bits.invariant.0 (write-fields-first t field) c.write_value.ensures c.in_err-past.was (handed c.from_residual.ensures.1)
 
 pub write_fields-overflow_add-i : goal.write_fields-overflow_add-i
 write_fields-overflow_add-i t c =
     let asked = c.requires in
     omega (arith, c.loop-bits.invariant.1.last, asked.n_bound.2, few-fields _ asked.ready.good)
 
-pub write_fields-loop-bits-smaller-then-bits-eq1 : goal.write_fields-loop-bits-smaller-then-bits-eq1
-write_fields-loop-bits-smaller-then-bits-eq1 t c = omega (arith, c.loop-bits-test.true)
-
 pub write_fields-loop-bits-preserved-then-bits-eq1 : goal.write_fields-loop-bits-preserved-then-bits-eq1
 write_fields-loop-bits-preserved-then-bits-eq1 t c =
     let field = (goal.at.write_fields-loop-bits-preserved-then-bits-eq1 t c).After-field_row-f in
     let inv = field.loop-bits.invariant in (
-      writing-on inv.0 (write-fields-first t field) c.write_value.ensures c.in-Past.is c.write_value.auto.out,
+      writing-on inv.0 (write-fields-first t field) c.write_value.ensures c.in_ok-past.was c.write_value.auto.out,
       standing-next inv.1 (omega (arith, field.loop-bits-test.true)),
     )
-
-pub write_fields-overflow_shr-bits : goal.write_fields-overflow_shr-bits
-write_fields-overflow_shr-bits t c = standing-shift c.loop-bits.invariant.1 (omega (arith, c.loop-bits-test.true)) c.zeros_in-k.ensures.0
 
 pub write_fields-overflow_add-i-else-bits-eq1 : goal.write_fields-overflow_add-i-else-bits-eq1
 write_fields-overflow_add-i-else-bits-eq1 t c =
@@ -365,42 +243,19 @@ write_fields-loop-bits-preserved t c =
     let some : 0 < c.loop-bits.bits = omega (arith, c.loop-bits-test.true) in
     (rw (standing-same inv.1 some c.zeros_in-k.ensures.0 (table_of c.args.s.now)) inv.0, standing-skip inv.1 some c.zeros_in-k.ensures.0)
 
-pub write_fields-shape_of-out : goal.write_fields-shape_of-out
-write_fields-shape_of-out t c = c.loop-bits.invariant.0.long
-
 pub write_fields-returns : goal.write_fields-returns
 write_fields-returns t c =
     let args = c.args in
     writing-done c.loop-bits.invariant.0 (standing-end (table_of args.s.now) args.first args.n c.loop-bits.i c.loop-bits-test.false)
 
-pub write_many_pairs-write_pairs-requires : goal.write_many_pairs-write_pairs-requires
-write_many_pairs-write_pairs-requires t c =
-    let asked = c.requires in
-    let h = c.requires in
-    (omega (arith, c.decreases), (h.0, h.1, omega (arith, h.2), h.2))
-
-pub write_many_pairs-shape_of-out : goal.write_many_pairs-shape_of-out
-write_many_pairs-shape_of-out t c = c.write_pairs.auto.out
-
-pub write_many_pairs-returns : goal.write_many_pairs-returns
-write_many_pairs-returns t c = c.write_pairs.ensures
+pub write_map-returns-in_err-n : goal.write_map-returns-in_err-n
+write_map-returns-in_err-n t c = shown-refused _ _ _ _ (handed c.from_residual.ensures.1) (row-absent c.row_due.ensures _ _ _ c.in_err-n.was)
 
 pub write_map-returns-then-n-gt-MOST_PAIRS : goal.write_map-returns-then-n-gt-MOST_PAIRS
 write_map-returns-then-n-gt-MOST_PAIRS t c =
     let asked = c.requires in
     let is = shape-map (table_of c.args.s.now) c.args.ty _ asked.1 asked.2 in
-    shown-refused _ _ _ _ c.refused-then-n-gt-MOST_PAIRS.ensures (map-many c.row_due.ensures c.in-Found.is _ _ is c.if-n-gt-MOST_PAIRS.true _)
-
-pub write_map-put_number-next-requires : goal.write_map-put_number-next-requires
-write_map-put_number-next-requires t c = c.requires.0.capped
-
-pub write_map-overflow_add-result : goal.write_map-overflow_add-result
-write_map-overflow_add-result t c =
-    let at-if1 = (goal.at.write_map-overflow_add-result t c).Else-n-gt-MOST_PAIRS in
-    omega (arith, (write-map-row t at-if1).inside, at-if1.well_formed.1.0)
-
-pub write_map-shape_of-out-then-n-eq0 : goal.write_map-shape_of-out-then-n-eq0
-write_map-shape_of-out-then-n-eq0 t c = c.put_number-next.auto.out
+    shown-refused _ _ _ _ c.at.ensures (map-many c.row_due.ensures c.in_ok-n.was _ _ is c.if-n-gt-MOST_PAIRS.true _)
 
 pub write_map-returns-then-n-eq0 : goal.write_map-returns-then-n-eq0
 write_map-returns-then-n-eq0 t c =
@@ -408,12 +263,7 @@ write_map-returns-then-n-eq0 t c =
     let put-number = c.put_number-next in
     let row = write-map-row t at-if1 in
     let from = parts-start row _ c.requires.0.small put-number.ensures in
-    walk-done _ _ _ (pairs-none c.args.t.a c.args.t.b at-if1.in-Found.n (omega (arith, c.if-n-eq0.true))) from (omega (arith, row.inside)) put-number.ensures.capped
-
-pub write_map-overflow_add-row : goal.write_map-overflow_add-row
-write_map-overflow_add-row t c =
-    let at-if1 = (goal.at.write_map-overflow_add-row t c).Else-n-gt-MOST_PAIRS in
-    omega (arith, (write-map-row t at-if1).inside, at-if1.well_formed.1.0)
+    walk-done _ _ _ (pairs-none c.args.t.a c.args.t.b at-if1.in_ok-n.field-0.count (omega (arith, c.if-n-eq0.true))) from (omega (arith, row.inside)) put-number.ensures.capped
 
 pub write_map-write_many_pairs-requires : goal.write_map-write_many_pairs-requires
 write_map-write_many_pairs-requires t c =
@@ -429,18 +279,10 @@ write_map-write_many_pairs-requires t c =
       ),
     )
 
-pub write_map-shape_of-out-then-n-gt-FEW_KEYS : goal.write_map-shape_of-out-then-n-gt-FEW_KEYS
-write_map-shape_of-out-then-n-gt-FEW_KEYS t c = c.write_many_pairs.auto.out ∙ c.put_number-next.auto.out
-
 pub write_map-returns-then-n-gt-FEW_KEYS : goal.write_map-returns-then-n-gt-FEW_KEYS
 write_map-returns-then-n-gt-FEW_KEYS t c =
     let at-if1 = (goal.at.write_map-returns-then-n-gt-FEW_KEYS t c).Else-n-gt-MOST_PAIRS in
     renamed (parts-start (write-map-row t at-if1) _ c.requires.0.small c.put_number-next.ensures) c.write_many_pairs.ensures
-
-pub write_map-overflow_add-row-in-Found : goal.write_map-overflow_add-row-in-Found
-write_map-overflow_add-row-in-Found t c =
-    let at-if1 = (goal.at.write_map-overflow_add-row-in-Found t c).Else-n-gt-MOST_PAIRS in
-    omega (arith, (write-map-row t at-if1).inside, at-if1.well_formed.1.0)
 
 pub write_map-write_pairs-requires : goal.write_map-write_pairs-requires
 write_map-write_pairs-requires t c =
@@ -457,22 +299,10 @@ write_map-write_pairs-requires t c =
       ),
     )
 
-pub write_map-returns-in-Missing : goal.write_map-returns-in-Missing
-write_map-returns-in-Missing t c = shown-refused _ _ _ _ c.refused.ensures (row-absent c.row_due.ensures _ _ _ c.in-Missing.is)
-
-pub write_map-shape_of-out : goal.write_map-shape_of-out
-write_map-shape_of-out t c = c.write_pairs.auto.out ∙ c.put_number-next.auto.out
-
-pub write_map-returns-else-n-gt-FEW_KEYS : goal.write_map-returns-else-n-gt-FEW_KEYS
-write_map-returns-else-n-gt-FEW_KEYS t c =
-    let at-if1 = (goal.at.write_map-returns-else-n-gt-FEW_KEYS t c).Else-n-gt-MOST_PAIRS in
+pub write_map-returns : goal.write_map-returns
+write_map-returns t c =
+    let at-if1 = (goal.at.write_map-returns t c).Else-n-gt-MOST_PAIRS in
     renamed (parts-start (write-map-row t at-if1) _ c.requires.0.small c.put_number-next.ensures) c.write_pairs.ensures
-
-pub write_pairs-known_row-k-requires : goal.write_pairs-known_row-k-requires
-write_pairs-known_row-k-requires t c = let h = c.requires in (h.0.good, h.1.0)
-
-pub write_pairs-known_row-v-requires : goal.write_pairs-known_row-v-requires
-write_pairs-known_row-v-requires t c = let h = c.requires in (h.0.good, h.1.2)
 
 pub write_pairs-loop-i-init : goal.write_pairs-loop-i-init
 write_pairs-loop-i-init t c =
@@ -497,21 +327,15 @@ write_pairs-write_key-requires t c =
       );
     }
 
-pub write_pairs-shape_of-out-in-Refused : goal.write_pairs-shape_of-out-in-Refused
-write_pairs-shape_of-out-in-Refused t c = write-pairs-out t (goal.at.write_pairs-shape_of-out-in-Refused t c).After-write_key
-
-pub write_pairs-shape_of-keys-in-Refused : goal.write_pairs-shape_of-keys-in-Refused
-write_pairs-shape_of-keys-in-Refused t c = c.write_key.auto.keys ∙ c.loop-i.invariant.2
-
-pub write_pairs-returns-in-Refused : goal.write_pairs-returns-in-Refused
-write_pairs-returns-in-Refused t c = as_stopped (key-was (write-pairs-turn t (goal.at.write_pairs-returns-in-Refused t c).After-write_key) c.in-Refused.is).same
+pub write_pairs-returns-in_err-past : goal.write_pairs-returns-in_err-past
+write_pairs-returns-in_err-past t c = as_refused (handed c.from_residual.ensures.1) (key-was (write-pairs-turn t (goal.at.write_pairs-returns-in_err-past t c).After-write_key) c.in_err-past.was).same
 
 pub write_pairs-write_composite-requires : goal.write_pairs-write_composite-requires
 write_pairs-write_composite-requires t c =
     let at-write-key = (goal.at.write_pairs-write_composite-requires t c).After-write_key in
     let asked = c.requires in
     let turn = write-pairs-turn t at-write-key in
-    let past = c.in-Past.is in
+    let past = c.in_ok-past.was in
     let within = (key-was turn past).within in (
       omega (arith, c.decreases),
       (
@@ -521,17 +345,11 @@ write_pairs-write_composite-requires t c =
       ),
     )
 
-pub write_pairs-shape_of-out-in-Refused-write_composite : goal.write_pairs-shape_of-out-in-Refused-write_composite
-write_pairs-shape_of-out-in-Refused-write_composite t c = c.write_composite.auto.out ∙ write-pairs-out t (goal.at.write_pairs-shape_of-out-in-Refused-write_composite t c).After-write_key
-
-pub write_pairs-shape_of-keys-in-Refused-write_composite : goal.write_pairs-shape_of-keys-in-Refused-write_composite
-write_pairs-shape_of-keys-in-Refused-write_composite t c = c.write_key.auto.keys ∙ c.loop-i.invariant.2
-
-pub write_pairs-returns-in-Refused-write_composite : goal.write_pairs-returns-in-Refused-write_composite
-write_pairs-returns-in-Refused-write_composite t c =
-    let at-write-key = (goal.at.write_pairs-returns-in-Refused-write_composite t c).After-write_key in
-    let w = was c.write_composite.ensures c.in-Refused-write_composite.is in
-    as_stopped (pair-stop (write-pairs-turn t at-write-key) c.in-Past.is w.same)
+pub write_pairs-returns-in_err-past-2 : goal.write_pairs-returns-in_err-past-2
+write_pairs-returns-in_err-past-2 t c =
+    let at-write-key = (goal.at.write_pairs-returns-in_err-past-2 t c).After-write_key in
+    let w = was c.write_composite.ensures c.in_err-past-2.was in
+    as_refused (handed c.from_residual-in_err-past-2.ensures.1) (pair-stop (write-pairs-turn t at-write-key) c.in_ok-past.was w.same)
 
 pub write_pairs-leaf_row-requires : goal.write_pairs-leaf_row-requires
 write_pairs-leaf_row-requires t c =
@@ -539,57 +357,34 @@ write_pairs-leaf_row-requires t c =
     let at-known-row2 = (goal.at.write_pairs-leaf_row-requires t c).After-known_row-v in
     let asked = at-known-row2.requires in
     let turn = write-pairs-turn t at-write-key in
-    let past = c.in-Past.is in
+    let past = c.in_ok-past.was in
     let some = (key-was turn past).within.2 in
     let leaf = write-pairs-values t at-known-row2 (omega (arith, c.if-v-gt-BYTES.false)) in
     λ j. leaf-accepted _ _ (omega (arith, some)) _ _ leaf (pair-accepted turn past _ _ _ _ refl (asked.0.judged j))
 
-pub write_pairs-shape_of-out-in-Refused-leaf_row : goal.write_pairs-shape_of-out-in-Refused-leaf_row
-write_pairs-shape_of-out-in-Refused-leaf_row t c = write-pairs-out t (goal.at.write_pairs-shape_of-out-in-Refused-leaf_row t c).After-write_key
-
-pub write_pairs-shape_of-keys-in-Refused-leaf_row : goal.write_pairs-shape_of-keys-in-Refused-leaf_row
-write_pairs-shape_of-keys-in-Refused-leaf_row t c = c.write_key.auto.keys ∙ c.loop-i.invariant.2
-
-pub write_pairs-returns-in-Refused-leaf_row : goal.write_pairs-returns-in-Refused-leaf_row
-write_pairs-returns-in-Refused-leaf_row t c =
-    let at-write-key = (goal.at.write_pairs-returns-in-Refused-leaf_row t c).After-write_key in
+pub write_pairs-returns-in_err-placed : goal.write_pairs-returns-in_err-placed
+write_pairs-returns-in_err-placed t c =
+    let at-write-key = (goal.at.write_pairs-returns-in_err-placed t c).After-write_key in
     let turn = write-pairs-turn t at-write-key in
-    let past = c.in-Past.is in
+    let past = c.in_ok-past.was in
     let some = (key-was turn past).within.2 in
-    let leaf = write-pairs-values t (goal.at.write_pairs-returns-in-Refused-leaf_row t c).After-known_row-v (omega (arith, c.if-v-gt-BYTES.false)) in
-    let failed = leaf-failed c.leaf_row.ensures _ leaf (omega (arith, some)) c.in-Refused-leaf_row.is in
-    as_refused c.refused.ensures (pair-stop turn past (shown-stopped _ _ _ _ failed))
-
-pub write_pairs-put_content-to-requires : goal.write_pairs-put_content-to-requires
-write_pairs-put_content-to-requires t c =
-    let at-write-key = (goal.at.write_pairs-put_content-to-requires t c).After-write_key in
-    let own = leaf_in c.leaf_row.ensures c.in-At.is in
-    ((key-was (write-pairs-turn t at-write-key) c.in-Past.is).within.1, rw (write-pairs-out t at-write-key) c.requires.0.small, own.3)
-
-pub write_pairs-overflow_add-at : goal.write_pairs-overflow_add-at
-write_pairs-overflow_add-at t c =
-    let own = leaf_in c.leaf_row.ensures c.in-At.is in
-    omega (arith, own.0, c.well_formed.1.0)
-
-pub write_pairs-overflow_add-i : goal.write_pairs-overflow_add-i
-write_pairs-overflow_add-i t c = omega (arith, c.loop-i-test.true, c.ranges.n)
-
-pub write_pairs-loop-i-smaller : goal.write_pairs-loop-i-smaller
-write_pairs-loop-i-smaller t c = omega (arith, c.loop-i-test.true)
+    let leaf = write-pairs-values t (goal.at.write_pairs-returns-in_err-placed t c).After-known_row-v (omega (arith, c.if-v-gt-BYTES.false)) in
+    let failed = leaf-failed c.leaf_row.ensures _ leaf (omega (arith, some)) c.in_err-placed.was in
+    as_refused (handed c.from_residual-in_err-placed.ensures.1) (pair-stop turn past (shown-stopped _ _ _ _ failed))
 
 pub write_pairs-loop-i-preserved : goal.write_pairs-loop-i-preserved
 write_pairs-loop-i-preserved t c =
     let at-write-key = (goal.at.write_pairs-loop-i-preserved t c).After-write_key in
     let turn = write-pairs-turn t at-write-key in
-    let past = c.in-Past.is in
+    let past = c.in_ok-past.was in
     let within = (key-was turn past).within in
     let long = write-pairs-out t at-write-key in
     let joined = c.if-v-gt-BYTES in
     let turned = pair-past turn past (rw long c.requires.0.small) joined.at joined.to joined.out (elim joined.branch [
-      | write_pairs-then-v-gt-BYTES+in-Past-write_composite w ↦ came-by (was w.write_composite.ensures w.in-Past-write_composite.is) w.write_composite.auto.out w.at-is w.to-is w.out-is
-      | write_pairs-else-v-gt-BYTES+in-At w ↦
+      | write_pairs-then-v-gt-BYTES+in_ok-past-2 w ↦ came-by (was w.write_composite.ensures w.in_ok-past-2.was) w.write_composite.auto.out w.at-is w.to-is w.out-is
+      | write_pairs-else-v-gt-BYTES+in_ok-placed w ↦
           let leaf = write-pairs-values t (goal.at.write_pairs-loop-i-preserved t c).After-known_row-v (omega (arith, w.if-v-gt-BYTES.false)) in
-          came-by (leaf-past w.leaf_row.ensures _ leaf (omega (arith, within.2)) w.in-At.is w.put_content-to.ensures) w.put_content-to.auto.out w.at-is w.to-is w.out-is
+          came-by (leaf-past w.leaf_row.ensures _ leaf (omega (arith, within.2)) w.in_ok-placed.was w.put_content-to.ensures) w.put_content-to.auto.out w.at-is w.to-is w.out-is
     ]) in
     let inv = c.loop-i.invariant in (
       record { asked = inv.0.asked; same = turned.0; inside = turned.1; capped = turned.2; long = turned.3 ∙ long },
@@ -598,19 +393,10 @@ write_pairs-loop-i-preserved t c =
       within.3,
     )
 
-pub write_pairs-shape_of-out : goal.write_pairs-shape_of-out
-write_pairs-shape_of-out t c = c.loop-i.invariant.0.long
-
-pub write_pairs-shape_of-keys : goal.write_pairs-shape_of-keys
-write_pairs-shape_of-keys t c = c.loop-i.invariant.2
-
 pub write_pairs-returns : goal.write_pairs-returns
 write_pairs-returns t c =
     let args = c.args in
     writing-done c.loop-i.invariant.0 (pairs-none args.t.a args.t.b (args.n - c.loop-i.i) (omega (arith, c.loop-i-test.false)))
-
-pub write_run-overflow_sub-depth : goal.write_run-overflow_sub-depth
-write_run-overflow_sub-depth t c = omega (arith, c.requires.3)
 
 pub write_run-write_structs-requires : goal.write_run-write_structs-requires
 write_run-write_structs-requires t c =
@@ -628,32 +414,14 @@ write_run-write_structs-requires t c =
       ),
     )
 
-pub write_run-shape_of-out : goal.write_run-shape_of-out
-write_run-shape_of-out t c = c.write_structs.auto.out
-
 pub write_run-returns : goal.write_run-returns
 write_run-returns t c = items-shallower _ _ (omega (arith, c.requires.3)) _ _ _ _ c.write_structs.ensures
 
-pub write_struct-struct_bits-requires : goal.write_struct-struct_bits-requires
-write_struct-struct_bits-requires t c =
-    let asked = c.requires in
-    (asked.n_nonzero.1, (due_in c.row_due.ensures c.in-Found.is).3)
+pub write_struct-returns-in_err-says : goal.write_struct-returns-in_err-says
+write_struct-returns-in_err-says t c = shown-refused _ _ _ _ (handed c.from_residual.ensures.1) (row-absent c.row_due.ensures _ _ _ c.in_err-says.was)
 
-pub write_struct-overflow_add-n : goal.write_struct-overflow_add-n
-write_struct-overflow_add-n t c =
-    let asked = c.requires in
-    omega (arith, asked.n_nonzero.1)
-
-pub write_struct-put_bits-next-requires : goal.write_struct-put_bits-next-requires
-write_struct-put_bits-next-requires t c =
-    let asked = c.requires in
-    (asked.ready.0.capped, omega (arith, asked.n_nonzero.1))
-
-pub write_struct-overflow_add-row : goal.write_struct-overflow_add-row
-write_struct-overflow_add-row t c =
-    let at-struct-bits = (goal.at.write_struct-overflow_add-row t c).After-struct_bits in
-    let sound = at-struct-bits.well_formed in
-    omega (arith, (write-struct-head t at-struct-bits).inside, sound.1.0)
+pub write_struct-returns-in_err-known : goal.write_struct-returns-in_err-known
+write_struct-returns-in_err-known t c = shown-refused _ _ _ _ (handed c.from_residual-in_err-known.ensures.1) (struct-fault (write-struct-head t (goal.at.write_struct-returns-in_err-known t c).After-struct_bits) c.in_err-known.was _)
 
 pub write_struct-write_fields-requires : goal.write_struct-write_fields-requires
 write_struct-write_fields-requires t c =
@@ -661,7 +429,7 @@ write_struct-write_fields-requires t c =
     let asked = at-struct-bits.requires in
     let h = asked.n_nonzero in
     let put-bits = c.put_bits-next in
-    let bits = c.in-Bits.is in
+    let bits = c.in_ok-known.was in
     let head = write-struct-head t at-struct-bits in (
       omega (arith, c.decreases),
       (
@@ -670,20 +438,11 @@ write_struct-write_fields-requires t c =
       ),
     )
 
-pub write_struct-returns-in-Missing : goal.write_struct-returns-in-Missing
-write_struct-returns-in-Missing t c = shown-refused _ _ _ _ c.refused.ensures (row-absent c.row_due.ensures _ _ _ c.in-Missing.is)
-
-pub write_struct-returns-in-Refused : goal.write_struct-returns-in-Refused
-write_struct-returns-in-Refused t c = shown-refused _ _ _ _ c.refused-in-Refused.ensures (struct-fault (write-struct-head t (goal.at.write_struct-returns-in-Refused t c).After-struct_bits) c.in-Refused.is _)
-
-pub write_struct-shape_of-out : goal.write_struct-shape_of-out
-write_struct-shape_of-out t c = c.write_fields.auto.out ∙ c.put_bits-next.auto.out
-
-pub write_struct-returns-in-Bits : goal.write_struct-returns-in-Bits
-write_struct-returns-in-Bits t c =
-    let at-struct-bits = (goal.at.write_struct-returns-in-Bits t c).After-struct_bits in
+pub write_struct-returns : goal.write_struct-returns
+write_struct-returns t c =
+    let at-struct-bits = (goal.at.write_struct-returns t c).After-struct_bits in
     let asked = at-struct-bits.requires in
-    let start = struct-start (write-struct-head t at-struct-bits) c.in-Bits.is _ asked.ready.0.small c.put_bits-next.ensures in
+    let start = struct-start (write-struct-head t at-struct-bits) c.in_ok-known.was _ asked.ready.0.small c.put_bits-next.ensures in
     renamed start c.write_fields.ensures
 
 pub write_structs-layout_of-requires : goal.write_structs-layout_of-requires
@@ -694,9 +453,6 @@ write_structs-required_of-required-requires t c =
     let asked = c.requires in
     let good = asked.ready.0.good in
     (good, good-laid _ _ good c.layout_of.ensures, asked.n_nonzero.1, asked.n_nonzero.2)
-
-pub write_structs-loop-left-init : goal.write_structs-loop-left-init
-write_structs-loop-left-init t c = writing-first c.requires.ready.0
 
 pub write_structs-write_struct-requires : goal.write_structs-write_struct-requires
 write_structs-write_struct-requires t c =
@@ -709,17 +465,25 @@ write_structs-write_struct-requires t c =
       ),
     )
 
-pub write_structs-shape_of-out-in-Refused : goal.write_structs-shape_of-out-in-Refused
-write_structs-shape_of-out-in-Refused t c = c.write_struct.auto.out ∙ c.loop-left.invariant.long
-
-pub write_structs-returns-in-Refused : goal.write_structs-returns-in-Refused
-write_structs-returns-in-Refused t c = writing-stop c.loop-left.invariant (elements-some _ _ c.loop-left-test.true) c.write_struct.ensures c.in-Refused.is refl
+pub write_structs-returns-in_err-past : goal.write_structs-returns-in_err-past
+write_structs-returns-in_err-past t c = writing-stop c.loop-left.invariant (elements-some _ _ c.loop-left-test.true) c.write_struct.ensures c.in_err-past.was (handed c.from_residual.ensures.1)
 
 pub write_structs-loop-left-preserved : goal.write_structs-loop-left-preserved
-write_structs-loop-left-preserved t c = writing-on c.loop-left.invariant (elements-some _ _ c.loop-left-test.true) c.write_struct.ensures c.in-Past.is c.write_struct.auto.out
-
-pub write_structs-shape_of-out : goal.write_structs-shape_of-out
-write_structs-shape_of-out t c = c.loop-left.invariant.long
+write_structs-loop-left-preserved t c = writing-on c.loop-left.invariant (elements-some _ _ c.loop-left-test.true) c.write_struct.ensures c.in_ok-past.was c.write_struct.auto.out
 
 pub write_structs-returns : goal.write_structs-returns
 write_structs-returns t c = writing-done c.loop-left.invariant (elements-none _ _ c.loop-left-test.false)
+
+pub write_value-returns-then-depth-eq0 : goal.write_value-returns-then-depth-eq0
+write_value-returns-then-depth-eq0 t c = shown-refused _ _ _ _ c.at.ensures (show-deep _ _ _ _ _ c.if-depth-eq0.true)
+
+pub write_value-leaf_row-requires : goal.write_value-leaf_row-requires
+write_value-leaf_row-requires t c =
+    let asked = c.requires in
+    λ j. leaf-accepted _ _ c.if-depth-eq0.false _ _ (write-value-leaf t (goal.at.write_value-leaf_row-requires t c).Else-kind-ge-ARRAY) (asked.0.judged j)
+
+pub write_value-returns-in_err-placed : goal.write_value-returns-in_err-placed
+write_value-returns-in_err-placed t c = shown-refused _ _ _ _ (handed c.from_residual.ensures.1) (leaf-failed c.leaf_row.ensures _ (write-value-leaf t (goal.at.write_value-returns-in_err-placed t c).Else-kind-ge-ARRAY) c.if-depth-eq0.false c.in_err-placed.was)
+
+pub write_value-returns : goal.write_value-returns
+write_value-returns t c = leaf-past c.leaf_row.ensures _ (write-value-leaf t (goal.at.write_value-returns t c).Else-kind-ge-ARRAY) c.if-depth-eq0.false c.in_ok-placed.was c.put_content-next.ensures
