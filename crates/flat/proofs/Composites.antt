@@ -24,15 +24,11 @@ use Rattle.value.proofs.Comparisons.{comparisons-half, comparisons-few}
 use Rattle.walks.specs.Shape.{fields_from}
 use Rattle.walks.proofs.Presence.{length_fields}
 use Rattle.walks.proofs.Items.{pairs-some, pairs-none, item-accepted, item-stop, key-known, key-again, pair-stop, pair-past}
-use Rattle.flat.specs.declared.leaf.Count.{Count}
-use Rattle.flat.specs.declared.leaf.Count.TheVariants.{Is, Refused as CountRefused}
-use Rattle.flat.specs.declared.leaf.Head.{Head}
-use Rattle.flat.specs.declared.leaf.Head.TheVariants.{Bits, Refused as HeadRefused}
-use Rattle.flat.specs.declared.Walk.{Walk}
-use Rattle.flat.specs.declared.Walk.TheVariants.{Past}
+use Rattle.flat.specs.Count.{Count, Is, Refused as CountRefused}
+use Rattle.flat.specs.Head.{Head, Bits, Refused as HeadRefused}
+use Rattle.flat.specs.Walk.{Walk, Past, first_fields, told, told_held, noted, note, done, stopped, walk_of, Walked}
 use Rattle.flat.specs.Sheet.{put_row}
 use Rattle.flat.specs.Leaf.{between, count_of, CountIn, CountRead, head_of, HeadIn, Headed}
-use Rattle.flat.specs.Walk.{first_fields, told, told_held, noted, note, done, stopped, walk_of, Walked}
 use Rattle.flat.proofs.Steps.{ahead, telling, tip-told, later, renamed, further, composite_past, as_told, span_row, parse-refused, parse-whole, own-accepted}
 
 -- ---- heads

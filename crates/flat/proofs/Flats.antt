@@ -18,11 +18,8 @@ use Rattle.value.specs.Read.{parts, bitmap, own, parse}
 use Rattle.walks.specs.Shape.{fields_from, shape_in}
 use Rattle.walks.proofs.Tables.{struct_row, shape-struct}
 use Rattle.flat.specs.declared.elements.Prepared.{Prepared}
-use Rattle.flat.specs.declared.elements.InnerHead.{InnerHead}
-use Rattle.flat.specs.declared.elements.InnerHead.TheVariants.{Bits, Refused}
-use Rattle.flat.specs.declared.Walk.{Walk}
-use Rattle.flat.specs.declared.Walk.TheVariants.{Refused as Stopped}
-use Rattle.flat.specs.Walk.{value_in, whole_in, told, Walked, Ready}
+use Rattle.flat.specs.InnerHead.{InnerHead, Bits, Refused}
+use Rattle.flat.specs.Walk.{Walk, Refused as Stopped, value_in, whole_in, told, Walked, Ready}
 use Rattle.flat.specs.Flat.{LeavesIn, IsFlat, Described, inner_head_of, InnerHeaded, ValuedFlat, HeldFields, FieldsReady}
 use Rattle.flat.proofs.Steps.{renamed, as_refused, further, as_told, parse-refused, parse-whole}
 

@@ -15,7 +15,7 @@ use Rattle.schema.specs.Table.{Table}
 use Rattle.value.specs.Read.{required_set, bitmap}
 use Rattle.walks.specs.Shape.{fields_from}
 use Rattle.walks.proofs.Presence.{length_fields, bits-read}
-use Rattle.flat.specs.declared.leaf.Head.TheVariants.{Bits, Refused}
+use Rattle.flat.specs.Head.{Bits, Refused}
 use Rattle.flat.specs.Leaf.{Headed}
 
 module _ (p : List ℕ) (T : Table) (first n at : ℕ) (room : first + n ≤ length T.fields) where

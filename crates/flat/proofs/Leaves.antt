@@ -8,9 +8,13 @@ use native.Mathlib.Omega.{arith}
 use borrow.Author.Tests.{eq-eqb}
 use lib.Dec.{ltb, eqb}
 use lib.ListN.{length, get_or, length-drop, length-take}
+use Rattle.std.proofs.Common.{Err}
 use Rattle.buffer.specs.Span.{span}
 use Rattle.wire.specs.Little.{little}
-use Rattle.wire.specs.Varuint.{varuint, Number, Cut, Malformed}
+use Rattle.constants.specs.Number.{number_of}
+use Rattle.wire.specs.declared.varuint.VarUIntError.{VarUIntError}
+use Rattle.wire.specs.declared.varuint.VarUIntError.TheVariants.{Cut as CutError, Malformed as MalformedError}
+use Rattle.wire.specs.Varuint.{varuint, told, refusal_of, Number, Cut, Malformed}
 use Rattle.utf8.specs.Utf8.{utf8}
 use Rattle.wire.proofs.Varuints.{varuint-inside}
 use Rattle.parse.specs.Reader.{seen, and_then, check, cursor_at, block, Accepted, count}
@@ -19,9 +23,8 @@ use Rattle.parse.proofs.Places.{var_here, cut-here, malformed-here, block_here, 
 use Rattle.schema.specs.Table.{scalar, text, width}
 use Rattle.value.specs.Read.{plain, own}
 use Rattle.value.proofs.Spans.{scalar_untrue}
-use Rattle.flat.specs.declared.leaf.Count.{Count}
-use Rattle.flat.specs.declared.leaf.Count.TheVariants.{Is, Refused as CountRefused}
-use Rattle.flat.specs.declared.leaf.Span.TheVariants.{At, Refused as SpanRefused}
+use Rattle.flat.specs.Count.{Count, Is, Refused as CountRefused}
+use Rattle.flat.specs.Span.{At, Refused as SpanRefused}
 use Rattle.flat.specs.Leaf.{between, count_of, CountIn, CountRead, Spanned}
 
 -- ---- parts of the payload
@@ -41,6 +44,11 @@ module _ (p : List ℕ) (at : ℕ) where
 
     pub count-malformed : varuint p at ≡ Malformed → CountRead p at least (count least (cursor_at p at)) (CountRefused 21)
     count-malformed e = record { same = sym (count-stops p at least 21 at (malformed-here p at e)); within = tt }
+
+    -- why no count is read, by its number
+    pub count-fault : (e : VarUIntError) → varuint p at ≡ told (Err e) → CountRead p at least (count least (cursor_at p at)) (CountRefused (number_of (refusal_of e)))
+    count-fault CutError e = count_cut e
+    count-fault MalformedError e = count-malformed e
 
     module _ (n next : ℕ) (is : varuint p at ≡ Number n next) where
       pub count-large : length p - next < least * n → CountRead p at least (count least (cursor_at p at)) (CountRefused 20)

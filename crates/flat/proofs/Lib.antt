@@ -1,3 +1,4 @@
+pub mod Told
 pub mod Sheets
 pub mod Leaves
 pub mod Heads

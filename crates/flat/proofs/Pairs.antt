@@ -19,15 +19,11 @@ use Rattle.walks.specs.Keys.{keys_in, Kept}
 use Rattle.walks.proofs.Keys.{keys_none}
 use Rattle.walks.proofs.Items.{pairs-none}
 use Rattle.walks.proofs.Walks.{deep, deeper, shallower}
-use Rattle.flat.specs.declared.leaf.Span.{Span}
-use Rattle.flat.specs.declared.leaf.Span.TheVariants.{At, Refused as SpanRefused}
-use Rattle.flat.specs.declared.leaf.Count.{Count}
-use Rattle.flat.specs.declared.leaf.Count.TheVariants.{Is, Refused as CountRefused}
-use Rattle.flat.specs.declared.Walk.{Walk}
-use Rattle.flat.specs.declared.Walk.TheVariants.{Past, Refused}
+use Rattle.flat.specs.Span.{Span, At, Refused as SpanRefused}
+use Rattle.flat.specs.Count.{Count, Is, Refused as CountRefused}
+use Rattle.flat.specs.Walk.{Walk, Past, Refused, value_in, whole_in, told, told_held, done, stopped, walk_of, Walked, Ready}
 use Rattle.flat.specs.Sheet.{put_row}
 use Rattle.flat.specs.Leaf.{between, Spanned, CountRead}
-use Rattle.flat.specs.Walk.{value_in, whole_in, told, told_held, done, stopped, walk_of, Walked, Ready}
 use Rattle.flat.specs.Flat.{PairsReady, KeyTold, KeyTaken, ValuedFlat, HeldPairs}
 use Rattle.flat.proofs.Sheets.{length-put}
 use Rattle.flat.proofs.Steps.{ahead, was, walk-length, as_refused, composite_past, composite_stop, rest-accepted, parse-deep, span_row, span_in, IsLeaf, is_leaf, leaf-asked, leaf-failed, leaf-stop, leaf_parsed, leaf-past}

@@ -29,10 +29,8 @@ use Rattle.value.proofs.Pruned.{pruned-first}
 use Rattle.value.proofs.Narrowed.{go_on, walk-append}
 use Rattle.walks.specs.Shape.{fields_from, shape_in}
 use Rattle.walks.proofs.Presence.{length_fields}
-use Rattle.flat.specs.declared.Walk.{Walk}
-use Rattle.flat.specs.declared.Walk.TheVariants.{Past, Refused}
+use Rattle.flat.specs.Walk.{Walk, Past, Refused, whole_in, told, told_all, told_held, done, walk_of, Walked, Ready}
 use Rattle.flat.specs.Sheet.{put_row, put_rows}
-use Rattle.flat.specs.Walk.{whole_in, told, told_all, told_held, done, walk_of, Walked, Ready}
 use Rattle.flat.specs.Flat.{HeldFields, FieldsReady}
 use Rattle.flat.proofs.Sheets.{put-twice}
 use Rattle.flat.proofs.Steps.{done-eq, renamed, was, as_refused, refused-of}

@@ -22,13 +22,10 @@ use Rattle.walks.specs.Shape.{leaf_shape, shape_in}
 use Rattle.walks.proofs.Tables.{shape-leaf}
 use Rattle.walks.proofs.Walks.{deep, deeper}
 use Rattle.walks.proofs.Items.{ended_is, stopped-is, accepted-along, Sink}
-use Rattle.flat.specs.declared.leaf.Span.{Span}
-use Rattle.flat.specs.declared.leaf.Span.TheVariants.{At, Refused as SpanRefused}
-use Rattle.flat.specs.declared.Walk.{Walk}
-use Rattle.flat.specs.declared.Walk.TheVariants.{Past, Refused}
+use Rattle.flat.specs.Span.{Span, At, Refused as SpanRefused}
+use Rattle.flat.specs.Walk.{Walk, Past, Refused, value_in, Told, told, told_all, told_held, Noted, noted, note, Final, done, stopped, walk_of, Walked, Ready}
 use Rattle.flat.specs.Sheet.{put_row, put_rows}
 use Rattle.flat.specs.Leaf.{between, span_of, Spanned}
-use Rattle.flat.specs.Walk.{value_in, Told, told, told_all, told_held, Noted, noted, note, Final, done, stopped, walk_of, Walked, Ready}
 use Rattle.flat.proofs.Sheets.{rows_append, length-rows}
 use Rattle.flat.proofs.Leaves.{length-between}
 

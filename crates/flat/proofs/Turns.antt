@@ -23,13 +23,10 @@ use Rattle.walks.proofs.Tables.{few-fields, shape-leaf, shape-array, shape-struc
 use Rattle.walks.proofs.Items.{item-accepted, item-stop, item-past}
 use Rattle.walks.proofs.Walks.{deeper, shallower}
 use Rattle.flat.specs.declared.elements.Prepared.{Prepared}
-use Rattle.flat.specs.declared.leaf.Span.{Span}
-use Rattle.flat.specs.declared.leaf.Span.TheVariants.{At, Refused as SpanRefused}
-use Rattle.flat.specs.declared.Walk.{Walk}
-use Rattle.flat.specs.declared.Walk.TheVariants.{Past, Refused}
+use Rattle.flat.specs.Span.{Span, At, Refused as SpanRefused}
+use Rattle.flat.specs.Walk.{Walk, Past, Refused, value_in, whole_in, first_fields, told, told_held, noted, Final, Walked, Ready}
 use Rattle.flat.specs.Sheet.{put_row}
 use Rattle.flat.specs.Leaf.{Spanned}
-use Rattle.flat.specs.Walk.{value_in, whole_in, first_fields, told, told_held, noted, Final, Walked, Ready}
 use Rattle.flat.specs.Flat.{LeavesIn, IsFlat, Described, HeldFields, FieldsReady}
 use Rattle.flat.proofs.Steps.{ahead, telling, was, later, walk-length, as_refused, parse-deep, composite_past, composite_stop, rest-accepted, span_row, IsLeaf, is_leaf, leaf-asked, leaf-stop, leaf-past}
 use Rattle.flat.proofs.Composites.{first-of, first-whole}

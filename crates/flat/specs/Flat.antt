@@ -10,14 +10,11 @@ use Rattle.walks.specs.Shape.{fields_from, shape_in}
 use Rattle.walks.specs.Required.{Requires}
 use Rattle.walks.specs.Keys.{keys_in, Kept}
 use Rattle.flat.specs.declared.elements.Prepared.{Prepared}
-use Rattle.flat.specs.declared.elements.InnerHead.{InnerHead}
-use Rattle.flat.specs.declared.elements.InnerHead.TheVariants.{Bits, Refused}
-use Rattle.flat.specs.declared.Walk.{Walk}
-use Rattle.flat.specs.declared.leaf.Span.{Span}
-use Rattle.flat.specs.declared.leaf.Span.TheVariants.{At, Refused as SpanRefused}
+use Rattle.flat.specs.InnerHead.{InnerHead, Bits, Refused}
+use Rattle.flat.specs.Walk.{Walk, value_in, whole_in, told, told_held, Walked, Ready}
+use Rattle.flat.specs.Span.{Span, At, Refused as SpanRefused}
 use Rattle.flat.specs.Sheet.{put_row}
 use Rattle.flat.specs.Leaf.{between, Spanned}
-use Rattle.flat.specs.Walk.{value_in, whole_in, told, told_held, Walked, Ready}
 
 -- The fields from one number up to another are scalars, strings or bytes.
 abbrev pub LeavesIn : Table → (first end : ℕ) → Type 0

@@ -3,12 +3,9 @@ use Rattle.std.specs.Prelude.{◌≡◌, List, ℕ, ◌+◌, ◌-◌, ◌*◌, �
 use Rattle.parse.specs.Reader.{Answer, refused, seen, cursor_at}
 use Rattle.schema.specs.declared.Field.{Field}
 use Rattle.value.specs.Read.{Own, plain, present, known_bits, unknown_bits}
-use Rattle.flat.specs.declared.leaf.Count.{Count}
-use Rattle.flat.specs.declared.leaf.Count.TheVariants.{Is, Refused as CountRefused}
-use Rattle.flat.specs.declared.leaf.Span.{Span}
-use Rattle.flat.specs.declared.leaf.Span.TheVariants.{At, Refused as SpanRefused}
-use Rattle.flat.specs.declared.leaf.Head.{Head}
-use Rattle.flat.specs.declared.leaf.Head.TheVariants.{Bits, Refused as HeadRefused}
+use Rattle.flat.specs.Count.{Count, Is, Refused as CountRefused}
+use Rattle.flat.specs.Span.{Span, At, Refused as SpanRefused}
+use Rattle.flat.specs.Head.{Head, Bits, Refused as HeadRefused}
 
 -- The bytes from one place up to another.
 abbrev pub between : List ℕ → ℕ → ℕ → List ℕ

@@ -1,4 +1,4 @@
--- The sheet (01's term) as a list of cells: rows of four, of which only whole ones count.
+-- The sheet as a list of cells: rows of four, of which only whole ones count.
 use Rattle.std.specs.Prelude.{cond, List, [], ◌∷◌, ◌++◌, ℕ, ◌+◌, ◌*◌, leb, length, set, drop}
 use Rattle.value.specs.declared.Row.{Row}
 use Rattle.value.specs.Sheet.{cells_of}

@@ -14,8 +14,6 @@ use Rattle.value.specs.Narrow.{first_of}
 use Rattle.walks.specs.Shape.{shape_in}
 use Rattle.walks.specs.Sink.{FinalOf, ended, final_of}
 pub use Rattle.walks.specs.Sink.{stopped}
-use Rattle.flat.specs.declared.Walk.{Walk}
-use Rattle.flat.specs.declared.Walk.TheVariants.{Past, Refused}
 use Rattle.flat.specs.Sheet.{put_rows}
 
 -- ---- the readings of the crate `value`, by the table in the file s, at a place of the payload p
@@ -63,6 +61,11 @@ abbrev pub held_in : (shown s : List ℕ) → Shape → (head : ℕ) → Tree �
 held_in shown s sh head = told_held (first_fields shown (shape_in s)) (shape_in s) (map_comparisons sh head) (plan sh head)
 
 -- ---- what a walker answers
+
+-- The key comparisons due in what was read, and the place and the row after it; or a refusal.
+pub data Walk : Type 0 where
+  Past : (due next row : ℕ) → Walk
+  Refused : (number place : ℕ) → Walk
 
 -- What a walk leaves: the comparisons due so far, the number of the next row, and the sheet.
 pub data Noted : Type 0 where

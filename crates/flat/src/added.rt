@@ -6,12 +6,14 @@ ghost use Rattle.schema.specs.Check.{IsGood};
 ghost use Rattle.walks.specs.Shape.{fields_from, shape_in};
 ghost use Rattle.flat.specs.Walk.{value_in, whole_in, Ready};
 ghost use Rattle.flat.specs.Flat.{IsFlat, Described, HeldFields, FieldsReady, HeldFirst, ValuedPartial, HeldPartial};
+ghost use Rattle.flat.specs.Told.{told_walk};
 
-use crate::Walk;
-use crate::elements::{InnerHead, Prepared, are_leaves, inner_presence, prepared_of};
-use crate::leaf::{Span, content, ones_in, shown_of};
+use crate::Past;
+use crate::elements::{Prepared, are_leaves, inner_presence, prepared_of};
+use crate::leaf::{content, ones_in, shown_of};
 use crate::sheet::put_row;
-use constants::{kind, limit, refusal};
+use constants::refusal::{Refusal, Refused};
+use constants::{kind, limit};
 use schema::Layout;
 use table::access::type_row;
 use table::rows::{field_row, row as row_at};
@@ -52,9 +54,9 @@ fn leaf_fields(
     depth: usize,
     row: usize,
     judging: bool,
-) -> Walk
+) -> Result<Past, Refused>
     requires { FieldsReady s.now p.now depth ty first n place known start row judging × Laid s.now l }
-    ensures { HeldFields s.now p.now depth ty first n place known start row sheet.old result sheet.new }
+    ensures { HeldFields s.now p.now depth ty first n place known start row sheet.old (told_walk result) sheet.new }
 {
     let mut i = first;
     let mut bits = known;
@@ -64,16 +66,17 @@ fn leaf_fields(
         if bits % 2 == 1 {
             let d = field_row(s, l, i);
             let t = row_at(s, l, d.ty as usize);
-            match content(p, t.kind as usize, here, judging) {
-                Span::Refused { number, place } => {
-                    return Walk::Refused { number, place };
-                }
-                Span::At { from, to } => {
-                    put_row(sheet, below, d.ty, from, to - from, 0);
-                    here = to;
-                    below = below + 1;
-                }
-            }
+            let content = content(p, t.kind as usize, here, judging)?;
+            put_row(
+                sheet,
+                below,
+                d.ty,
+                content.from,
+                content.to - content.from,
+                0,
+            );
+            here = content.to;
+            below = below + 1;
             bits = bits / 2;
             i = i + 1;
         } else {
@@ -83,11 +86,11 @@ fn leaf_fields(
         }
     }
     put_row(sheet, row, ty, place, here - place, below - row - 1);
-    Walk::Past {
+    Ok(Past {
         due: 0,
         next: here,
         row: below,
-    }
+    })
 }
 
 // The fields of a struct from field m on, from a place on. They are given no rows.
@@ -104,9 +107,9 @@ fn added_fields(
     depth: usize,
     row: usize,
     judging: bool,
-) -> Walk
+) -> Result<Past, Refused>
     requires { FieldsReady s.now p.now depth ty (first + m) (n - m) at (known / 2 ^ m % 2 ^ (n - m)) at row judging × Laid s.now l × (m < n) × (n ≤ 64) }
-    ensures { (sheet after : List ℕ) × HeldFields s.now p.now depth ty (first + m) (n - m) at (known / 2 ^ m % 2 ^ (n - m)) at row sheet result after }
+    ensures { (sheet after : List ℕ) × HeldFields s.now p.now depth ty (first + m) (n - m) at (known / 2 ^ m % 2 ^ (n - m)) at row sheet (told_walk result) after }
 {
     let mut none = [0u32; 1];
     let rest = low_bits(known >> m, n - m);
@@ -143,31 +146,34 @@ fn partial_fields(
     depth: usize,
     row: usize,
     judging: bool,
-) -> Walk
+) -> Result<Past, Refused>
     requires { FieldsReady s.now p.now depth ty first n place known start row judging × Laid s.now l × (m < n) × (shape_in s.now ty ≡ struct (fields_from (table_of s.now) first n)) }
-    ensures { HeldFirst s.now p.now depth ty first n m place known start row sheet.old result sheet.new }
+    ensures { HeldFirst s.now p.now depth ty first n m place known start row sheet.old (told_walk result) sheet.new }
 {
     let mine = low_bits(known, m);
-    match leaf_fields(
+    let first_part = leaf_fields(
         s, l, p, sheet, ty, first, m, mine, place, start, depth, row, judging,
-    ) {
-        Walk::Refused { number, place } => Walk::Refused { number, place },
-        Walk::Past {
-            due: sum,
-            next: here,
-            row: below,
-        } => match added_fields(s, l, p, ty, first, n, m, known, here, depth, row, judging) {
-            Walk::Refused { number, place } => Walk::Refused { number, place },
-            Walk::Past { due, next, row: _ } => {
-                put_row(sheet, row, ty, place, next - place, ones_in(mine));
-                Walk::Past {
-                    due: sum + due,
-                    next: next,
-                    row: below,
-                }
-            }
-        },
-    }
+    )?;
+    let rest = added_fields(
+        s,
+        l,
+        p,
+        ty,
+        first,
+        n,
+        m,
+        known,
+        first_part.next,
+        depth,
+        row,
+        judging,
+    )?;
+    put_row(sheet, row, ty, place, rest.next - place, ones_in(mine));
+    Ok(Past {
+        due: first_part.due + rest.due,
+        next: rest.next,
+        row: first_part.row,
+    })
 }
 
 // A struct of which the first m fields are shown.
@@ -181,20 +187,16 @@ fn partial_struct(
     depth: usize,
     row: usize,
     judging: bool,
-) -> Walk
+) -> Result<Past, Refused>
     requires { Ready s.now p.now at row judging (value_in s.now p.now (suc depth) f.ty at) × Described s.now f.ty f × IsFlat s.now (suc depth) f.ty × (f.row.kind ≡ 16) × (m < f.row.b) }
-    ensures { ValuedPartial s.now p.now (suc depth) f.ty m at row sheet.old result sheet.new }
+    ensures { ValuedPartial s.now p.now (suc depth) f.ty m at row sheet.old (told_walk result) sheet.new }
 {
     let first = f.row.a as usize;
     let n = f.row.b as usize;
-    match inner_presence(p, f.required, n, at) {
-        InnerHead::Refused { number } => Walk::Refused { number, place: at },
-        InnerHead::Bits { known, start } => {
-            partial_fields(
-                s, f.layout, p, sheet, f.ty, first, n, m, known, at, start, depth, row, judging,
-            )
-        }
-    }
+    let head = inner_presence(p, f.required, n, at)?;
+    partial_fields(
+        s, f.layout, p, sheet, f.ty, first, n, m, head.known, at, head.start, depth, row, judging,
+    )
 }
 
 // The n elements of an array from a place on, structs of the type elem, of which the first m fields are shown.
@@ -210,10 +212,10 @@ pub fn read_structs(
     depth: usize,
     row: usize,
     judging: bool,
-) -> Walk
+) -> Result<Past, Refused>
     requires ready { Ready s.now p.now start (row + 1) judging (whole_in s.now p.now depth ty (array elem) start n start) × IsFlat s.now depth elem × (n ≤ 16384) }
     requires elem_value { ((row_at (table_of s.now) elem).kind ≡ 16) × (m < (row_at (table_of s.now) elem).b) }
-    ensures { HeldPartial s.now p.now depth ty elem m start n start row sheet.old result sheet.new }
+    ensures { HeldPartial s.now p.now depth ty elem m start n start row sheet.old (told_walk result) sheet.new }
 {
     let f = prepared_of(s, elem);
     let mut left = n;
@@ -222,27 +224,18 @@ pub fn read_structs(
     let mut sum: u32 = 0;
     while 0 < left {
         if depth == 0 {
-            return Walk::Refused {
-                number: refusal::TOO_DEEP,
-                place: here,
-            };
+            return Refusal::TooDeep.at(here);
         }
-        match partial_struct(s, f, m, p, sheet, here, depth - 1, below, judging) {
-            Walk::Refused { number, place } => {
-                return Walk::Refused { number, place };
-            }
-            Walk::Past { due, next, row } => {
-                here = next;
-                below = row;
-                sum = sum + due;
-            }
-        }
+        let past = partial_struct(s, f, m, p, sheet, here, depth - 1, below, judging)?;
+        here = past.next;
+        below = past.row;
+        sum = sum + past.due;
         left = left - 1;
     }
     put_row(sheet, row, ty, start, here - start, n);
-    Walk::Past {
+    Ok(Past {
         due: sum,
         next: here,
         row: below,
-    }
+    })
 }

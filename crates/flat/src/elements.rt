@@ -1,17 +1,19 @@
 // Arrays whose elements hold nothing but scalars, strings and bytes: these themselves, arrays of them, and structs of them.
 // What the elements' type says is read once an array; what reads an element has one call site, and is inlined there.
-ghost use Rattle.std.specs.Prelude.{◌≡◌, true, suc, ◌+◌, ◌≤◌, ◌<◌, length};
+ghost use Rattle.std.specs.Prelude.{◌≡◌, true, suc, ◌+◌, ◌≤◌, ◌<◌, length, IfErr};
 ghost use Rattle.schema.specs.Table.{row_at, array};
 ghost use Rattle.schema.specs.File.{Laid, table_of};
 ghost use Rattle.schema.specs.Check.{IsGood};
 ghost use Rattle.walks.specs.Shape.{shape_in};
 ghost use Rattle.flat.specs.Walk.{value_in, whole_in, first_fields, Ready};
 ghost use Rattle.flat.specs.Flat.{LeavesIn, IsFlat, Described, InnerHeaded, ValuedFlat, HeldFlat, HeldLeaves, HeldFields, FieldsReady};
+ghost use Rattle.flat.specs.Told.{told_inner, told_walk};
 
-use crate::Walk;
-use crate::leaf::{Count, Span, content, read_count, shown_of};
+use crate::Past;
+use crate::leaf::{content, read_count, shown_of};
 use crate::sheet::put_row;
-use constants::{kind, limit, refusal};
+use constants::refusal::{Refusal, Refused};
+use constants::{kind, limit};
 use schema::{Layout, TypeRow};
 use table::access::type_row;
 use table::file::layout_of;
@@ -28,11 +30,11 @@ pub struct Prepared {
     pub layout: Layout,
 }
 
-// What the bitmap of an inner struct says: its bits, all of known fields, and the place after it; or a refusal at the bitmap's own place.
+// What the bitmap of an inner struct says: its bits, all of known fields, and the place after it.
 #[derive(Clone, Copy)]
-pub enum InnerHead {
-    Bits { known: u64, start: usize },
-    Refused { number: u32 },
+pub struct InnerBits {
+    pub known: u64,
+    pub start: usize,
 }
 
 // Whether each of n fields from the first on is a scalar, a string or bytes.
@@ -101,32 +103,27 @@ pub fn prepared_of(s: &[u8], ty: u32) -> Prepared
     }
 }
 
-// The bitmap of an inner struct that has n fields, of which those with bits in `required` have to be there.
-pub fn inner_presence(p: &[u8], required: u64, n: usize, at: usize) -> InnerHead
+// The bitmap of an inner struct that has n fields, of which those with bits in `required` have to be there; a refusal is at its own place.
+pub fn inner_presence(p: &[u8], required: u64, n: usize, at: usize) -> Result<InnerBits, Refused>
     requires { (0 < n) × (n ≤ 64) × (at ≤ length p.now) }
-    ensures { InnerHeaded p.now required n at result }
+    ensures told { InnerHeaded p.now required n at (told_inner result) }
+    ensures place { IfErr result (λ e. e.place ≡ at) }
 {
     let size = (n + bitmap::SPARE_BITS) / bitmap::BYTE_BITS;
     if p.len() - at < size {
-        return InnerHead::Refused {
-            number: refusal::CUT,
-        };
+        return Refusal::Cut.at(at);
     }
     let b = bitmap::read(p, at, n);
     if required & b.bits != required {
-        return InnerHead::Refused {
-            number: refusal::ABSENT_FIELD,
-        };
+        return Refusal::AbsentField.at(at);
     }
     if b.bits != b.known {
-        return InnerHead::Refused {
-            number: refusal::UNKNOWN_BIT,
-        };
+        return Refusal::UnknownBit.at(at);
     }
-    InnerHead::Bits {
+    Ok(InnerBits {
         known: b.known,
         start: at + size,
-    }
+    })
 }
 
 // The n elements of an array from a place on that are scalars, strings or bytes.
@@ -141,10 +138,10 @@ fn read_leaves(
     depth: usize,
     row: usize,
     judging: bool,
-) -> Walk
+) -> Result<Past, Refused>
     requires ready { Ready s.now p.now start (row + 1) judging (whole_in s.now p.now depth ty (array elem) start n start) }
     requires kind_nonzero { (0 < (row_at (table_of s.now) elem).kind) × ((row_at (table_of s.now) elem).kind < 14) × (n ≤ 16384) }
-    ensures { HeldLeaves s.now p.now depth ty elem start n start row sheet.old result sheet.new }
+    ensures { HeldLeaves s.now p.now depth ty elem start n start row sheet.old (told_walk result) sheet.new }
 {
     let t = type_row(s, elem as usize);
     let kind = t.kind as usize;
@@ -153,29 +150,27 @@ fn read_leaves(
     let mut below = row + 1;
     while 0 < left {
         if depth == 0 {
-            return Walk::Refused {
-                number: refusal::TOO_DEEP,
-                place: here,
-            };
+            return Refusal::TooDeep.at(here);
         }
-        match content(p, kind, here, judging) {
-            Span::Refused { number, place } => {
-                return Walk::Refused { number, place };
-            }
-            Span::At { from, to } => {
-                put_row(sheet, below, elem, from, to - from, 0);
-                here = to;
-                below = below + 1;
-            }
-        }
+        let content = content(p, kind, here, judging)?;
+        put_row(
+            sheet,
+            below,
+            elem,
+            content.from,
+            content.to - content.from,
+            0,
+        );
+        here = content.to;
+        below = below + 1;
         left = left - 1;
     }
     put_row(sheet, row, ty, start, here - start, n);
-    Walk::Past {
+    Ok(Past {
         due: 0,
         next: here,
         row: below,
-    }
+    })
 }
 
 // The fields of a struct whose bits are set in `known`, from `start` on, and the struct's own row: its bitmap stands at `place`. The loop of
@@ -191,9 +186,9 @@ fn flat_fields(
     depth: usize,
     row: usize,
     judging: bool,
-) -> Walk
+) -> Result<Past, Refused>
     requires { FieldsReady s.now p.now depth f.ty f.row.a f.row.b place known start row judging × Laid s.now f.layout }
-    ensures { HeldFields s.now p.now depth f.ty f.row.a f.row.b place known start row sheet.old result sheet.new }
+    ensures { HeldFields s.now p.now depth f.ty f.row.a f.row.b place known start row sheet.old (told_walk result) sheet.new }
 {
     let mut i = f.row.a as usize;
     let mut bits = known;
@@ -203,16 +198,17 @@ fn flat_fields(
         if bits % 2 == 1 {
             let d = field_row(s, f.layout, i);
             let t = row_at(s, f.layout, d.ty as usize);
-            match content(p, t.kind as usize, here, judging) {
-                Span::Refused { number, place } => {
-                    return Walk::Refused { number, place };
-                }
-                Span::At { from, to } => {
-                    put_row(sheet, below, d.ty, from, to - from, 0);
-                    here = to;
-                    below = below + 1;
-                }
-            }
+            let content = content(p, t.kind as usize, here, judging)?;
+            put_row(
+                sheet,
+                below,
+                d.ty,
+                content.from,
+                content.to - content.from,
+                0,
+            );
+            here = content.to;
+            below = below + 1;
             bits = bits / 2;
             i = i + 1;
         } else {
@@ -222,11 +218,11 @@ fn flat_fields(
         }
     }
     put_row(sheet, row, f.ty, place, here - place, below - row - 1);
-    Walk::Past {
+    Ok(Past {
         due: 0,
         next: here,
         row: below,
-    }
+    })
 }
 
 // A struct of scalars, strings and bytes.
@@ -239,16 +235,14 @@ fn flat_struct(
     depth: usize,
     row: usize,
     judging: bool,
-) -> Walk
+) -> Result<Past, Refused>
     requires { Ready s.now p.now at row judging (value_in s.now p.now (suc depth) f.ty at) × Described s.now f.ty f × IsFlat s.now (suc depth) f.ty × (f.row.kind ≡ 16) }
-    ensures { ValuedFlat s.now p.now (suc depth) f.ty at row sheet.old result sheet.new }
+    ensures { ValuedFlat s.now p.now (suc depth) f.ty at row sheet.old (told_walk result) sheet.new }
 {
-    match inner_presence(p, f.required, f.row.b as usize, at) {
-        InnerHead::Refused { number } => Walk::Refused { number, place: at },
-        InnerHead::Bits { known, start } => {
-            flat_fields(s, f, p, sheet, known, at, start, depth, row, judging)
-        }
-    }
+    let head = inner_presence(p, f.required, f.row.b as usize, at)?;
+    flat_fields(
+        s, f, p, sheet, head.known, at, head.start, depth, row, judging,
+    )
 }
 
 // An array of scalars, strings or bytes.
@@ -261,16 +255,23 @@ fn flat_array(
     depth: usize,
     row: usize,
     judging: bool,
-) -> Walk
+) -> Result<Past, Refused>
     requires { Ready s.now p.now at row judging (value_in s.now p.now (suc depth) f.ty at) × Described s.now f.ty f × IsFlat s.now (suc depth) f.ty × (f.row.kind ≡ 14) }
-    ensures { ValuedFlat s.now p.now (suc depth) f.ty at row sheet.old result sheet.new }
+    ensures { ValuedFlat s.now p.now (suc depth) f.ty at row sheet.old (told_walk result) sheet.new }
 {
-    match read_count(p, at, 1) {
-        Count::Refused { number } => Walk::Refused { number, place: at },
-        Count::Is { n, start } => {
-            read_leaves(s, p, sheet, f.ty, f.row.a, n, start, depth, row, judging)
-        }
-    }
+    let count = read_count(p, at, 1)?;
+    read_leaves(
+        s,
+        p,
+        sheet,
+        f.ty,
+        f.row.a,
+        count.n,
+        count.start,
+        depth,
+        row,
+        judging,
+    )
 }
 
 // An element of a flat type: a scalar, a string or bytes, or a struct or an array of them.
@@ -283,9 +284,9 @@ fn element(
     depth: usize,
     row: usize,
     judging: bool,
-) -> Walk
+) -> Result<Past, Refused>
     requires { Ready s.now p.now at row judging (value_in s.now p.now (suc depth) f.ty at) × Described s.now f.ty f × IsFlat s.now (suc depth) f.ty }
-    ensures { ValuedFlat s.now p.now (suc depth) f.ty at row sheet.old result sheet.new }
+    ensures { ValuedFlat s.now p.now (suc depth) f.ty at row sheet.old (told_walk result) sheet.new }
 {
     if f.row.kind == kind::STRUCT {
         return flat_struct(s, f, p, sheet, at, depth, row, judging);
@@ -293,17 +294,13 @@ fn element(
     if f.row.kind == kind::ARRAY {
         return flat_array(s, f, p, sheet, at, depth, row, judging);
     }
-    match content(p, f.row.kind as usize, at, judging) {
-        Span::Refused { number, place } => Walk::Refused { number, place },
-        Span::At { from, to } => {
-            put_row(sheet, row, f.ty, from, to - from, 0);
-            Walk::Past {
-                due: 0,
-                next: to,
-                row: row + 1,
-            }
-        }
-    }
+    let content = content(p, f.row.kind as usize, at, judging)?;
+    put_row(sheet, row, f.ty, content.from, content.to - content.from, 0);
+    Ok(Past {
+        due: 0,
+        next: content.to,
+        row: row + 1,
+    })
 }
 
 // The n elements of an array from a place on.
@@ -318,9 +315,9 @@ pub fn read_elements(
     depth: usize,
     row: usize,
     judging: bool,
-) -> Walk
+) -> Result<Past, Refused>
     requires { Ready s.now p.now start (row + 1) judging (whole_in s.now p.now depth ty (array elem) start n start) × IsFlat s.now depth elem × (n ≤ 16384) }
-    ensures { HeldFlat s.now p.now depth ty elem start n start row sheet.old result sheet.new }
+    ensures { HeldFlat s.now p.now depth ty elem start n start row sheet.old (told_walk result) sheet.new }
 {
     let f = prepared_of(s, elem);
     let mut left = n;
@@ -329,27 +326,18 @@ pub fn read_elements(
     let mut sum: u32 = 0;
     while 0 < left {
         if depth == 0 {
-            return Walk::Refused {
-                number: refusal::TOO_DEEP,
-                place: here,
-            };
+            return Refusal::TooDeep.at(here);
         }
-        match element(s, f, p, sheet, here, depth - 1, below, judging) {
-            Walk::Refused { number, place } => {
-                return Walk::Refused { number, place };
-            }
-            Walk::Past { due, next, row } => {
-                here = next;
-                below = row;
-                sum = sum + due;
-            }
-        }
+        let past = element(s, f, p, sheet, here, depth - 1, below, judging)?;
+        here = past.next;
+        below = past.row;
+        sum = sum + past.due;
         left = left - 1;
     }
     put_row(sheet, row, ty, start, here - start, n);
-    Walk::Past {
+    Ok(Past {
         due: sum,
         next: here,
         row: below,
-    }
+    })
 }

@@ -1,5 +1,5 @@
 // A value's own bytes: counts, contents of leaves, and presence bits. A leaf is a value of a kind that holds no other: a scalar, a string or bytes.
-ghost use Rattle.std.specs.Prelude.{◌≡◌, true, false, ◌+◌, ◌≤◌, ◌<◌, length, get_or};
+ghost use Rattle.std.specs.Prelude.{◌≡◌, true, false, ◌+◌, ◌≤◌, ◌<◌, length, get_or, IfErr};
 ghost use Rattle.std.specs.Int.Count.{ones};
 ghost use Rattle.buffer.specs.Span.{span};
 ghost use Rattle.utf8.specs.Utf8.{utf8};
@@ -10,11 +10,12 @@ ghost use Rattle.schema.specs.Check.{IsGood};
 ghost use Rattle.value.specs.Read.{own, bitmap};
 ghost use Rattle.walks.specs.Shape.{leaf_shape, fields_from};
 ghost use Rattle.flat.specs.Leaf.{CountRead, Uncounted, Spanned, Headed};
+ghost use Rattle.flat.specs.Told.{told_count, told_span, told_head};
 
-use constants::{kind, limit, refusal};
+use constants::refusal::{Refusal, Refused};
+use constants::{kind, limit};
 use table::kind::width_of;
 use walks::is_complete;
-use wire::varuint::VarUIntError;
 use wire::{bitmap, varuint};
 
 // Kinds as `usize`.
@@ -22,67 +23,52 @@ const BOOL: usize = kind::BOOL as usize;
 
 const STRING: usize = kind::STRING as usize;
 
-// A count and where what it counts starts, or a refusal at the count's own place.
+// A count and where what it counts starts.
 #[derive(Clone, Copy)]
-pub enum Count {
-    Is { n: usize, start: usize },
-    Refused { number: u32 },
+pub struct Counted {
+    pub n: usize,
+    pub start: usize,
 }
 
-// Where a content starts and ends, or a refusal. The refusal's place comes first, as the start does: an answer so laid out stays in registers.
+// Where a content starts and ends.
 #[derive(Clone, Copy)]
-pub enum Span {
-    At { from: usize, to: usize },
-    Refused { place: usize, number: u32 },
+pub struct Extent {
+    pub from: usize,
+    pub to: usize,
 }
 
-// A bitmap's word, the known fields' bits of it and their count, the number of unknown bits set, and the place after it;
-// or a refusal at the bitmap's own place.
+// A bitmap's word, the known fields' bits of it and their count, the number of unknown bits set, and the place after it.
 #[derive(Clone, Copy)]
-pub enum Head {
-    Bits {
-        word: u64,
-        known: u64,
-        ones: usize,
-        unknown: usize,
-        start: usize,
-    },
-    Refused {
-        number: u32,
-    },
+pub struct PresenceBits {
+    pub word: u64,
+    pub known: u64,
+    pub ones: usize,
+    pub unknown: usize,
+    pub start: usize,
 }
 
-// A count of what takes at least `least` bytes each.
-pub fn read_count(p: &[u8], at: usize, least: usize) -> Count
+// A count of what takes at least `least` bytes each; a refusal is at its own place.
+pub fn read_count(p: &[u8], at: usize, least: usize) -> Result<Counted, Refused>
     requires { (length p.now ≤ 16384) × (0 < least) × (least ≤ 2) }
-    ensures { CountRead p.now at least (count least (cursor_at p.now at)) result }
+    ensures told { CountRead p.now at least (count least (cursor_at p.now at)) (told_count result) }
+    ensures place { IfErr result (λ e. e.place ≡ at) }
 {
-    match varuint::read(p, at) {
-        Err(VarUIntError::Cut) => Count::Refused {
-            number: refusal::CUT,
-        },
-        Err(VarUIntError::Malformed) => Count::Refused {
-            number: refusal::VARUINT,
-        },
-        Ok(size) => {
-            let rest = p.len() - size.next;
-            if (rest as u64) < size.value {
-                return Count::Refused {
-                    number: refusal::CUT,
-                };
-            }
-            let n = size.value as usize;
-            if rest < least * n {
-                return Count::Refused {
-                    number: refusal::CUT,
-                };
-            }
-            Count::Is {
-                n: n,
-                start: size.next,
-            }
-        }
+    let size = match varuint::read(p, at) {
+        Ok(size) => size,
+        Err(error) => return Refusal::from(error).at(at),
+    };
+    let rest = p.len() - size.next;
+    if (rest as u64) < size.value {
+        return Refusal::Cut.at(at);
     }
+    let n = size.value as usize;
+    if rest < least * n {
+        return Refusal::Cut.at(at);
+    }
+    Ok(Counted {
+        n,
+        start: size.next,
+    })
 }
 
 // The byte at a place.
@@ -94,18 +80,16 @@ fn byte_at(s: &[u8], i: usize) -> usize
 }
 
 // The count of a map, whose pairs take at least two bytes each. Up to 64 it is a single byte, which is answered at once.
-pub fn map_count(p: &[u8], at: usize) -> Count
+pub fn map_count(p: &[u8], at: usize) -> Result<Counted, Refused>
     requires { length p.now ≤ 16384 }
-    ensures { CountRead p.now at 2 (count 2 (cursor_at p.now at)) result }
+    ensures told { CountRead p.now at 2 (count 2 (cursor_at p.now at)) (told_count result) }
+    ensures place { IfErr result (λ e. e.place ≡ at) }
 {
     if at < p.len() {
         let n = byte_at(p, at);
         if n <= limit::PAIRS {
             if 2 * n <= p.len() - at - 1 {
-                return Count::Is {
-                    n: n,
-                    start: at + 1,
-                };
+                return Ok(Counted { n, start: at + 1 });
             }
         }
     }
@@ -126,29 +110,23 @@ pub fn is_empty_map(p: &[u8], kind: u32, at: usize) -> bool
 }
 
 // A scalar's content.
-fn scalar(p: &[u8], kind: usize, at: usize) -> Span
+fn scalar(p: &[u8], kind: usize, at: usize) -> Result<Extent, Refused>
     requires { (at ≤ length p.now) × (0 < kind) × (kind < 12) }
-    ensures { Spanned p.now at (own (scalar kind) (cursor_at p.now at)) result }
+    ensures { Spanned p.now at (own (scalar kind) (cursor_at p.now at)) (told_span result) }
 {
     let w = width_of(kind);
     if p.len() - at < w {
-        return Span::Refused {
-            number: refusal::CUT,
-            place: at,
-        };
+        return Refusal::Cut.at(at);
     }
     if kind == BOOL {
         if 1 < p[at] {
-            return Span::Refused {
-                number: refusal::BOOL,
-                place: at,
-            };
+            return Refusal::Bool.at(at);
         }
     }
-    Span::At {
+    Ok(Extent {
         from: at,
         to: at + w,
-    }
+    })
 }
 
 // Whether a content is one of its kind: a string's is UTF-8. A walk that does not judge knows that it is.
@@ -166,31 +144,25 @@ fn is_of_kind(source: &[u8], kind: usize, from: usize, n: usize, judging: bool) 
 }
 
 // The content of a string or of bytes.
-fn text(p: &[u8], kind: usize, at: usize, judging: bool) -> Span
+fn text(p: &[u8], kind: usize, at: usize, judging: bool) -> Result<Extent, Refused>
     requires { (length p.now ≤ 16384) × (judging ≡ false → Accepted (own (text kind) (cursor_at p.now at))) }
-    ensures { Spanned p.now at (own (text kind) (cursor_at p.now at)) result }
+    ensures { Spanned p.now at (own (text kind) (cursor_at p.now at)) (told_span result) }
 {
-    match read_count(p, at, 1) {
-        Count::Refused { number } => Span::Refused { number, place: at },
-        Count::Is { n, start } => {
-            if !is_of_kind(p, kind, start, n, judging) {
-                return Span::Refused {
-                    number: refusal::UTF8,
-                    place: start,
-                };
-            }
-            Span::At {
-                from: start,
-                to: start + n,
-            }
-        }
+    let count = read_count(p, at, 1)?;
+    let to = count.start + count.n;
+    if !is_of_kind(p, kind, count.start, count.n, judging) {
+        return Refusal::Utf8.at(count.start);
     }
+    Ok(Extent {
+        from: count.start,
+        to,
+    })
 }
 
 // The content of a scalar, a string or bytes, of a kind from 1 to 13.
-pub fn content(p: &[u8], kind: usize, at: usize, judging: bool) -> Span
+pub fn content(p: &[u8], kind: usize, at: usize, judging: bool) -> Result<Extent, Refused>
     requires { (length p.now ≤ 16384) × (at ≤ length p.now) × (0 < kind) × (kind < 14) × (judging ≡ false → Accepted (own (leaf_shape kind) (cursor_at p.now at))) }
-    ensures { Spanned p.now at (own (leaf_shape kind) (cursor_at p.now at)) result }
+    ensures { Spanned p.now at (own (leaf_shape kind) (cursor_at p.now at)) (told_span result) }
 {
     if kind < STRING {
         scalar(p, kind, at)
@@ -214,28 +186,32 @@ pub fn shown_of(shown: &[u8; limit::TYPES], ty: u32) -> usize
     byte_at(shown, ty as usize)
 }
 
-// The bitmap of a struct that has n fields from the first on.
-pub fn presence(s: &[u8], p: &[u8], first: usize, n: usize, at: usize, judging: bool) -> Head
+// The bitmap of a struct that has n fields from the first on; a refusal is at its own place.
+pub fn presence(
+    s: &[u8],
+    p: &[u8],
+    first: usize,
+    n: usize,
+    at: usize,
+    judging: bool,
+) -> Result<PresenceBits, Refused>
     requires { IsGood s.now × (0 < n) × (n ≤ 64) × (first + n ≤ length (table_of s.now).fields) × (at ≤ length p.now) × (judging ≡ false → Accepted (bitmap (fields_from (table_of s.now) first n) (cursor_at p.now at))) }
-    ensures { Headed p.now at (fields_from (table_of s.now) first n) (bitmap (fields_from (table_of s.now) first n) (cursor_at p.now at)) result }
+    ensures told { Headed p.now at (fields_from (table_of s.now) first n) (bitmap (fields_from (table_of s.now) first n) (cursor_at p.now at)) (told_head result) }
+    ensures place { IfErr result (λ e. e.place ≡ at) }
 {
     let size = (n + bitmap::SPARE_BITS) / bitmap::BYTE_BITS;
     if p.len() - at < size {
-        return Head::Refused {
-            number: refusal::CUT,
-        };
+        return Refusal::Cut.at(at);
     }
     let b = bitmap::read(p, at, n);
     if !is_complete(s, first, n, b.bits, judging) {
-        return Head::Refused {
-            number: refusal::ABSENT_FIELD,
-        };
+        return Refusal::AbsentField.at(at);
     }
-    Head::Bits {
+    Ok(PresenceBits {
         word: b.bits,
         known: b.known,
         ones: b.ones as usize,
         unknown: b.unknown as usize,
         start: at + size,
-    }
+    })
 }

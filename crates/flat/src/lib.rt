@@ -8,10 +8,11 @@ pub mod leaf;
 pub mod maps;
 pub mod sheet;
 
-// The place and the row after what was read, and the key comparisons due in it; or a refusal.
+// What a walker read: the key comparisons due in it, and the place and the row after it.
 // The 32-bit number comes first: two 64-bit ones side by side would be copied as one, which waits for both.
 #[derive(Clone, Copy)]
-pub enum Walk {
-    Past { due: u32, next: usize, row: usize },
-    Refused { number: u32, place: usize },
+pub struct Past {
+    pub due: u32,
+    pub next: usize,
+    pub row: usize,
 }

@@ -10,12 +10,14 @@ ghost use Rattle.walks.specs.Shape.{leaf_shape, shape_in};
 ghost use Rattle.walks.specs.Keys.{Kept};
 ghost use Rattle.flat.specs.Walk.{value_in, whole_in, Ready};
 ghost use Rattle.flat.specs.Flat.{PairsIn, PairsReady, KeyTaken, ValuedFlat, HeldFlat, HeldPairs};
+ghost use Rattle.flat.specs.Told.{told_span, told_walk};
 
-use crate::Walk;
+use crate::Past;
 use crate::keys::is_repeated;
-use crate::leaf::{Count, Span, content, map_count};
+use crate::leaf::{Extent, content, map_count};
 use crate::sheet::put_row;
-use constants::{kind, refusal};
+use constants::kind;
+use constants::refusal::{Refusal, Refused};
 use schema::TypeRow;
 use table::access::{known_row, type_row};
 use value::MOST_PAIRS;
@@ -55,24 +57,18 @@ fn next_key(
     at: usize,
     row: usize,
     judging: bool,
-) -> Span
+) -> Result<Extent, Refused>
     requires p_len_bound { (length p.now ≤ 16384) × (at ≤ length p.now) × (0 < kind) × (kind < 14) × (judging ≡ false → Accepted (own (leaf_shape kind) (cursor_at p.now at))) × (row ≤ 16384) }
     requires i_in_bounds { judging ≡ true → (i + 4 < length keys.old / 2) × Kept p.now keys.old true i }
-    ensures { KeyTaken p.now at (own (leaf_shape kind) (cursor_at p.now at)) judging ty i row sheet.old keys.old result sheet.new keys.new }
+    ensures { KeyTaken p.now at (own (leaf_shape kind) (cursor_at p.now at)) judging ty i row sheet.old keys.old (told_span result) sheet.new keys.new }
 {
-    match content(p, kind, at, judging) {
-        Span::Refused { number, place } => Span::Refused { number, place },
-        Span::At { from, to } => {
-            if is_repeated(p, keys, i, from, to - from, judging) {
-                return Span::Refused {
-                    number: refusal::REPEATED_KEY,
-                    place: at,
-                };
-            }
-            put_row(sheet, row, ty, from, to - from, 0);
-            Span::At { from, to }
-        }
+    let content = content(p, kind, at, judging)?;
+    let length = content.to - content.from;
+    if is_repeated(p, keys, i, content.from, length, judging) {
+        return Refusal::RepeatedKey.at(at);
     }
+    put_row(sheet, row, ty, content.from, length, 0);
+    Ok(content)
 }
 
 // The n pairs of a map of type ty from a place on. What `keys` holds afterwards means nothing.
@@ -89,10 +85,10 @@ fn leaf_pairs(
     depth: usize,
     row: usize,
     judging: bool,
-) -> Walk
+) -> Result<Past, Refused>
     requires pairs_ready { PairsReady s.now p.now depth ty key val n start row judging × (judging ≡ true → n + 4 ≤ length keys.old / 2) }
     requires kind_nonzero { (0 < (row_at (table_of s.now) val).kind) × ((row_at (table_of s.now) val).kind < 14) }
-    ensures { HeldPairs s.now p.now depth ty key val start n start row sheet.old result sheet.new }
+    ensures { HeldPairs s.now p.now depth ty key val start n start row sheet.old (told_walk result) sheet.new }
 {
     let k = known_row(s, key as usize).kind as usize;
     let v = known_row(s, val as usize).kind as usize;
@@ -101,34 +97,28 @@ fn leaf_pairs(
     let mut below = row + 1;
     while i < n {
         if depth == 0 {
-            return Walk::Refused {
-                number: refusal::TOO_DEEP,
-                place: here,
-            };
+            return Refusal::TooDeep.at(here);
         }
-        match next_key(p, sheet, keys, key, k, i, here, below, judging) {
-            Span::Refused { number, place } => {
-                return Walk::Refused { number, place };
-            }
-            Span::At { from: _, to } => match content(p, v, to, judging) {
-                Span::Refused { number, place } => {
-                    return Walk::Refused { number, place };
-                }
-                Span::At { from, to } => {
-                    put_row(sheet, below + 1, val, from, to - from, 0);
-                    here = to;
-                    below = below + 2;
-                }
-            },
-        }
+        let key_content = next_key(p, sheet, keys, key, k, i, here, below, judging)?;
+        let content = content(p, v, key_content.to, judging)?;
+        put_row(
+            sheet,
+            below + 1,
+            val,
+            content.from,
+            content.to - content.from,
+            0,
+        );
+        here = content.to;
+        below = below + 2;
         i = i + 1;
     }
     put_row(sheet, row, ty, start, here - start, n);
-    Walk::Past {
+    Ok(Past {
         due: key_comparisons(n),
         next: here,
         row: below,
-    }
+    })
 }
 
 // A map of type ty.
@@ -144,42 +134,32 @@ fn leaf_map(
     depth: usize,
     row: usize,
     judging: bool,
-) -> Walk
+) -> Result<Past, Refused>
     requires ready { Ready s.now p.now at row judging (value_in s.now p.now depth ty at) × (shape_in s.now ty ≡ map key val) }
     requires pairs_in { PairsIn (table_of s.now) key val × (68 ≤ length keys.old / 2) }
-    ensures { ValuedFlat s.now p.now depth ty at row sheet.old result sheet.new }
+    ensures { ValuedFlat s.now p.now depth ty at row sheet.old (told_walk result) sheet.new }
 {
     if depth == 0 {
-        return Walk::Refused {
-            number: refusal::TOO_DEEP,
-            place: at,
-        };
+        return Refusal::TooDeep.at(at);
     }
-    match map_count(p, at) {
-        Count::Refused { number } => Walk::Refused { number, place: at },
-        Count::Is { n, start } => {
-            if MOST_PAIRS < n {
-                return Walk::Refused {
-                    number: refusal::MAP_TOO_LONG,
-                    place: at,
-                };
-            }
-            leaf_pairs(
-                s,
-                p,
-                sheet,
-                keys,
-                ty,
-                key,
-                val,
-                n,
-                start,
-                depth - 1,
-                row,
-                judging,
-            )
-        }
+    let count = map_count(p, at)?;
+    if MOST_PAIRS < count.n {
+        return Refusal::MapTooLong.at(at);
     }
+    leaf_pairs(
+        s,
+        p,
+        sheet,
+        keys,
+        ty,
+        key,
+        val,
+        count.n,
+        count.start,
+        depth - 1,
+        row,
+        judging,
+    )
 }
 
 // The n elements of an array from a place on, maps of the type elem. They share one slice for their keys, whose flags are cleared before each.
@@ -196,10 +176,10 @@ pub fn read_maps(
     depth: usize,
     row: usize,
     judging: bool,
-) -> Walk
+) -> Result<Past, Refused>
     requires ready { Ready s.now p.now start (row + 1) judging (whole_in s.now p.now depth ty (array elem) start n start) × (shape_in s.now elem ≡ map key val) × (n ≤ 16384) }
     requires pairs_in { PairsIn (table_of s.now) key val }
-    ensures { HeldFlat s.now p.now depth ty elem start n start row sheet.old result sheet.new }
+    ensures { HeldFlat s.now p.now depth ty elem start n start row sheet.old (told_walk result) sheet.new }
 {
     let mut keys = [0usize; 2 * (MOST_PAIRS + FLAG_CELLS)];
     let mut left = n;
@@ -208,24 +188,18 @@ pub fn read_maps(
     let mut sum: u32 = 0;
     while 0 < left {
         clear_flags(&mut keys);
-        match leaf_map(
+        let past = leaf_map(
             s, p, sheet, &mut keys, elem, key, val, here, depth, below, judging,
-        ) {
-            Walk::Refused { number, place } => {
-                return Walk::Refused { number, place };
-            }
-            Walk::Past { due, next, row } => {
-                here = next;
-                below = row;
-                sum = sum + due;
-            }
-        }
+        )?;
+        here = past.next;
+        below = past.row;
+        sum = sum + past.due;
         left = left - 1;
     }
     put_row(sheet, row, ty, start, here - start, n);
-    Walk::Past {
+    Ok(Past {
         due: sum,
         next: here,
         row: below,
-    }
+    })
 }

@@ -1,6 +1,15 @@
 -- `flat::added::partial_struct` meets its contract.
+use mathlib.Core.Path.{◌≡◌, ap}
+use Rattle.flat.specs.Told.{told_inner}
+use Rattle.flat.specs.InnerHead.{Bits}
+use Rattle.std.proofs.lemmas.Result.{IfErr-at_err, err_from_is_err_and}
 use Rattle.flat.proofs.Flats.{struct_is, inner-asked, inner-refused, inner-ready, inner-told}
+use Rattle.flat.proofs.added.partial_struct.Goals.{In_ok-head}
 use Rattle.flat.proofs.added.partial_struct.Goals as goal
+
+-- What the bitmap says.
+headed : (c : In_ok-head) → told_inner c.inner_presence.result ≡ Bits c.in_ok-head.head.known c.in_ok-head.head.start
+headed c = ap told_inner c.in_ok-head.was
 
 pub inner_presence-requires : goal.inner_presence-requires
 inner_presence-requires c = let pre = c.requires in inner-asked pre.0 pre.1 pre.2 pre.3
@@ -8,19 +17,17 @@ inner_presence-requires c = let pre = c.requires in inner-asked pre.0 pre.1 pre.
 pub partial_fields-requires : goal.partial_fields-requires
 partial_fields-requires c =
     let pre = c.requires in
-    (inner-ready pre.0 pre.1 pre.2 pre.3 c.inner_presence.ensures c.in-Bits.is, pre.1.laid, pre.4, struct_is pre.0 pre.1 pre.2 pre.3)
+    let is = headed (goal.at.partial_fields-requires c).In_ok-head in
+    (inner-ready pre.0 pre.1 pre.2 pre.3 c.inner_presence.ensures.told is, pre.1.laid, pre.4, struct_is pre.0 pre.1 pre.2 pre.3)
 
-pub returns-in-Refused : goal.returns-in-Refused
-returns-in-Refused c R shown =
-    let c3 = c in
-    let c9 = c3.before in
-    let pre = c9.requires in inner-refused pre.0 pre.1 pre.2 pre.3 c3.inner_presence.ensures c.in-Refused.is R
+pub returns-in_err-head : goal.returns-in_err-head
+returns-in_err-head c =
+    let place = IfErr-at_err (λ e. e.place ≡ c.args.at) c.in_err-head.was c.inner_presence.ensures.place in
+    let (_, is, same) = err_from_is_err_and c.from_residual.result c.from_residual.ensures.1 in
+    rw (is, same, place)
+    (λ R shown. let pre = c.requires in inner-refused pre.0 pre.1 pre.2 pre.3 c.inner_presence.ensures.told (ap told_inner c.in_err-head.was) R)
 
-pub returns-in-Bits : goal.returns-in-Bits
-returns-in-Bits c R shown =
-    let c2 = c in
-    let c5 = c2.before in
-    let c7 = c5.before in
-    let c13 = c7.before in
-    let pre = c13.requires in
-    inner-told pre.0 pre.1 pre.2 pre.3 c7.inner_presence.ensures c5.in-Bits.is R _ (c2.partial_fields.ensures R (rw pre.1.is shown))
+pub returns : goal.returns
+returns c R shown =
+    let pre = c.requires in
+    inner-told pre.0 pre.1 pre.2 pre.3 c.inner_presence.ensures.told (headed (goal.at.returns c).In_ok-head) R _ (c.partial_fields.ensures R (rw pre.1.is shown))

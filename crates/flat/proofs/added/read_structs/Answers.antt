@@ -1,5 +1,5 @@
 -- `flat::added::read_structs` meets its contract. The invariant: what is left of the elements gives the same end, whatever else is shown.
-use mathlib.Core.Path.{◌≡◌, refl, ◌∙◌}
+use mathlib.Core.Path.{◌≡◌, refl, ap, ◌∙◌}
 use Prim.Native.Nat.{ℕ, suc, ◌+◌, ◌-◌}
 use native.Mathlib.Omega.{arith}
 use Rattle.schema.specs.Table.{Shape}
@@ -9,6 +9,8 @@ use Rattle.flat.specs.Walk.{value_in, told, Walked}
 use Rattle.flat.proofs.Turns.{described_own, lifted, reading-below, reading-deep, reading-end, reading-first, reading-on, reading-own, reading-stop, reading-sum}
 use Rattle.walks.proofs.Items.{elements-none, elements-some}
 use Rattle.flat.proofs.added.read_structs.Goals.{After-partial_struct}
+use Rattle.flat.specs.Told.{told_walk}
+use Rattle.std.proofs.lemmas.Result.{err_from_is_err_and}
 use Rattle.flat.proofs.added.read_structs.Goals as goal
 
 -- After an element, which was read by what was prepared.
@@ -17,7 +19,7 @@ walked : (c : After-partial_struct) →
     let loop = c.loop-left in
     (R : ℕ → Shape) → R args.elem ≡ first_shape args.s.now args.elem args.m
     → Walked args.p.now (loop.here + 1) (told R (shape_in args.s.now) args.elem) (value_in args.s.now args.p.now args.depth args.elem loop.here) loop.below
-    loop.sheet c.partial_struct.result c.partial_struct.new.sheet
+    loop.sheet (told_walk c.partial_struct.result) c.partial_struct.new.sheet
 walked c =
     let args = c.args in
     let same = c.prepared_of-f.ensures.same in
@@ -37,7 +39,7 @@ pub shape_of-sheet-then-depth-eq0 : goal.shape_of-sheet-then-depth-eq0
 shape_of-sheet-then-depth-eq0 c = c.loop-left.invariant.long
 
 pub returns-then-depth-eq0 : goal.returns-then-depth-eq0
-returns-then-depth-eq0 c = reading-deep c.loop-left.invariant (elements-some _ _ c.loop-left-test.true) c.if-depth-eq0.true
+returns-then-depth-eq0 c = rw c.at.ensures (reading-deep c.loop-left.invariant (elements-some _ _ c.loop-left-test.true) c.if-depth-eq0.true)
 
 pub partial_struct-requires : goal.partial_struct-requires
 partial_struct-requires c =
@@ -54,23 +56,22 @@ partial_struct-requires c =
       rw f.ensures.is pre.elem_value.1,
     )
 
-pub shape_of-sheet-in-Refused : goal.shape_of-sheet-in-Refused
-shape_of-sheet-in-Refused c = c.partial_struct.auto.sheet ∙ c.loop-left.invariant.long
-
-pub returns-in-Refused : goal.returns-in-Refused
-returns-in-Refused c =
-    let call = (goal.at.returns-in-Refused c).After-partial_struct in
-    reading-stop call.loop-left.invariant (elements-some _ _ call.loop-left-test.true) (walked call) c.in-Refused.is
+pub returns-in_err-past : goal.returns-in_err-past
+returns-in_err-past c =
+    let call = (goal.at.returns-in_err-past c).After-partial_struct in
+    let (_, is, same) = err_from_is_err_and c.from_residual.result c.from_residual.ensures.1 in
+    rw (is, same)
+    (reading-stop call.loop-left.invariant (elements-some _ _ call.loop-left-test.true) (walked call) (ap told_walk c.in_err-past.was))
 
 pub overflow_add-sum : goal.overflow_add-sum
 overflow_add-sum c =
     let call = (goal.at.overflow_add-sum c).After-partial_struct in
-    let most = reading-sum call.loop-left.invariant (elements-some _ _ call.loop-left-test.true) (walked call) c.in-Past.is in omega (arith, most)
+    let most = reading-sum call.loop-left.invariant (elements-some _ _ call.loop-left-test.true) (walked call) (ap told_walk c.in_ok-past.was) in omega (arith, most)
 
 pub loop-left-preserved : goal.loop-left-preserved
 loop-left-preserved c =
     let call = (goal.at.loop-left-preserved c).After-partial_struct in
-    reading-on call.loop-left.invariant (elements-some _ _ call.loop-left-test.true) (walked call) c.in-Past.is
+    reading-on call.loop-left.invariant (elements-some _ _ call.loop-left-test.true) (walked call) (ap told_walk c.in_ok-past.was)
 
 pub overflow_sub-here : goal.overflow_sub-here
 overflow_sub-here c = omega (arith, c.loop-left.invariant.forth)

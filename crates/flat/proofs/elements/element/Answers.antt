@@ -4,6 +4,9 @@ use native.Mathlib.Omega.{arith}
 use Rattle.flat.proofs.Steps.{span_in, span-put, IsLeaf, is_leaf, leaf-asked, leaf-stop, leaf-past}
 use Rattle.flat.proofs.Turns.{leaf-left}
 use Rattle.flat.proofs.elements.element.Goals.{Else-f-eq-ARRAY}
+use mathlib.Core.Path.{ap}
+use Rattle.flat.specs.Told.{told_span}
+use Rattle.std.proofs.lemmas.Result.{err_from_is_err_and}
 use Rattle.flat.proofs.elements.element.Goals as goal
 
 -- Where it is neither a struct nor an array.
@@ -16,16 +19,19 @@ leaf c =
 pub content-requires : goal.content-requires
 content-requires c = leaf-asked (leaf (goal.at.content-requires c).Else-f-eq-ARRAY) (omega arith) c.requires.0
 
-pub overflow_sub-to : goal.overflow_sub-to
-overflow_sub-to c = (span_in c.content.ensures c.in-At.is).0
+pub overflow_sub-content : goal.overflow_sub-content
+overflow_sub-content c = (span_in c.content.ensures (ap told_span c.in_ok-content.was)).0
 
 pub put_row-requires : goal.put_row-requires
 put_row-requires c =
     let pre = c.requires.0 in
-    span-put c.content.ensures c.in-At.is pre.small (omega (arith, pre.small, pre.inside, pre.behind))
+    span-put c.content.ensures (ap told_span c.in_ok-content.was) pre.small (omega (arith, pre.small, pre.inside, pre.behind))
 
-pub returns-in-Refused : goal.returns-in-Refused
-returns-in-Refused c = λ R shown. leaf-stop (leaf (goal.at.returns-in-Refused c).Else-f-eq-ARRAY) (omega arith) c.content.ensures c.in-Refused.is R
+pub returns-in_err-content : goal.returns-in_err-content
+returns-in_err-content c =
+    let (_, is, same) = err_from_is_err_and c.from_residual.result c.from_residual.ensures.1 in
+    rw (is, same)
+    (λ R shown. leaf-stop (leaf (goal.at.returns-in_err-content c).Else-f-eq-ARRAY) (omega arith) c.content.ensures (ap told_span c.in_err-content.was) R)
 
-pub returns-in-At : goal.returns-in-At
-returns-in-At c = λ R shown. leaf-past (leaf (goal.at.returns-in-At c).Else-f-eq-ARRAY) (omega arith) c.content.ensures c.in-At.is c.requires.0.behind c.put_row.ensures R
+pub returns : goal.returns
+returns c = λ R shown. leaf-past (leaf (goal.at.returns c).Else-f-eq-ARRAY) (omega arith) c.content.ensures (ap told_span c.in_ok-content.was) c.requires.0.behind c.put_row.ensures R

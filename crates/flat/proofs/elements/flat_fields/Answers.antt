@@ -1,9 +1,11 @@
 -- `flat::elements::flat_fields` meets its contract. The invariant: what is left of the fields gives the same end, whatever is known.
-use mathlib.Core.Path.{◌∙◌}
+use mathlib.Core.Path.{ap, ◌∙◌}
 use native.Mathlib.Omega.{arith}
 use Rattle.walks.proofs.Masks.{standing-shift, standing-less}
 use Rattle.flat.proofs.Steps.{span_in, span-put}
 use Rattle.flat.proofs.Turns.{going-first, going-few, going-skip, going-asked, going-stop, going_on, going-rows, going-own, going_end}
+use Rattle.flat.specs.Told.{told_span}
+use Rattle.std.proofs.lemmas.Result.{err_from_is_err_and}
 use Rattle.flat.proofs.elements.flat_fields.Goals as goal
 
 pub overflow_add-below : goal.overflow_add-below
@@ -23,26 +25,22 @@ content-requires c =
     let field = c in
     going-asked field.loop-bits.invariant field.loop-bits-test.true field.field_row-d.ensures c.row-t.ensures field.if-bits-eq1.true
 
-pub shape_of-sheet-in-Refused : goal.shape_of-sheet-in-Refused
-shape_of-sheet-in-Refused c = c.loop-bits.invariant.at.long
+pub returns-in_err-content : goal.returns-in_err-content
+returns-in_err-content c =
+    let (_, is, same) = err_from_is_err_and c.from_residual.result c.from_residual.ensures.1 in
+    rw (is, same)
+    (going-stop c.loop-bits.invariant c.loop-bits-test.true c.field_row-d.ensures c.row-t.ensures c.if-bits-eq1.true c.content.ensures (ap told_span c.in_err-content.was))
 
-pub returns-in-Refused : goal.returns-in-Refused
-returns-in-Refused c =
-    let read = c in
-    let field = read.before in
-    going-stop field.loop-bits.invariant field.loop-bits-test.true field.field_row-d.ensures read.row-t.ensures field.if-bits-eq1.true
-    read.content.ensures c.in-Refused.is
-
-pub overflow_sub-to : goal.overflow_sub-to
-overflow_sub-to c = (span_in c.content.ensures c.in-At.is).0
+pub overflow_sub-content : goal.overflow_sub-content
+overflow_sub-content c = (span_in c.content.ensures (ap told_span c.in_ok-content.was)).0
 
 pub put_row-requires : goal.put_row-requires
 put_row-requires c =
     let inv = c.loop-bits.invariant in
-    span-put c.content.ensures c.in-At.is inv.asked.ready.small (going-few inv).1
+    span-put c.content.ensures (ap told_span c.in_ok-content.was) inv.asked.ready.small (going-few inv).1
 
-pub overflow_add-below-in-At : goal.overflow_add-below-in-At
-overflow_add-below-in-At c = omega (arith, going-few c.loop-bits.invariant)
+pub overflow_add-below-then-bits-eq1 : goal.overflow_add-below-then-bits-eq1
+overflow_add-below-then-bits-eq1 c = omega (arith, going-few c.loop-bits.invariant)
 
 pub overflow_add-i : goal.overflow_add-i
 overflow_add-i c = omega (arith, going-few c.loop-bits.invariant)
@@ -52,11 +50,8 @@ loop-bits-smaller-then-bits-eq1 c = omega (arith, c.loop-bits-test.true)
 
 pub loop-bits-preserved-then-bits-eq1 : goal.loop-bits-preserved-then-bits-eq1
 loop-bits-preserved-then-bits-eq1 c =
-    let span = c in
-    let read = span.before in
-    let field = read.before in
-    going_on field.loop-bits.invariant field.loop-bits-test.true field.field_row-d.ensures read.row-t.ensures field.if-bits-eq1.true
-    read.content.ensures span.in-At.is c.put_row.ensures
+    going_on c.loop-bits.invariant c.loop-bits-test.true c.field_row-d.ensures c.row-t.ensures c.if-bits-eq1.true
+    c.content.ensures (ap told_span c.in_ok-content.was) c.put_row.ensures
 
 pub overflow_shr-bits : goal.overflow_shr-bits
 overflow_shr-bits c = standing-shift c.loop-bits.invariant.on (omega (arith, c.loop-bits-test.true)) c.zeros_in-k.ensures.0

@@ -1,11 +1,13 @@
 -- `flat::elements::read_leaves` meets its contract. The invariant: what is left of the elements gives the same end, whatever is shown.
-use mathlib.Core.Path.{refl, ◌∙◌}
+use mathlib.Core.Path.{refl, ap, ◌∙◌}
 use native.Mathlib.Omega.{arith}
 use Rattle.walks.specs.Shape.{shape_in}
 use Rattle.flat.proofs.Steps.{span_in, span-put, IsLeaf, is_leaf, leaf-asked, leaf-stop, leaf-past}
 use Rattle.flat.proofs.Turns.{reading-deep, reading-end, reading-first, reading-on, reading-own, reading-ready, reading-stop}
 use Rattle.walks.proofs.Items.{elements-none, elements-some}
 use Rattle.flat.proofs.elements.read_leaves.Goals.{After-type_row-t}
+use Rattle.flat.specs.Told.{told_span}
+use Rattle.std.proofs.lemmas.Result.{err_from_is_err_and}
 use Rattle.flat.proofs.elements.read_leaves.Goals as goal
 
 -- The elements' type.
@@ -28,40 +30,34 @@ pub shape_of-sheet-then-depth-eq0 : goal.shape_of-sheet-then-depth-eq0
 shape_of-sheet-then-depth-eq0 c = c.loop-left.invariant.long
 
 pub returns-then-depth-eq0 : goal.returns-then-depth-eq0
-returns-then-depth-eq0 c = λ R. reading-deep c.loop-left.invariant (elements-some _ _ c.loop-left-test.true) c.if-depth-eq0.true R tt
+returns-then-depth-eq0 c = rw c.at.ensures λ R. reading-deep c.loop-left.invariant (elements-some _ _ c.loop-left-test.true) c.if-depth-eq0.true R tt
 
 pub content-requires : goal.content-requires
 content-requires c = let loop = c in leaf-asked (leaf (goal.at.content-requires c).After-type_row-t) c.if-depth-eq0.false (reading-ready loop.loop-left.invariant (elements-some _ _ c.loop-left-test.true))
 
-pub shape_of-sheet-in-Refused : goal.shape_of-sheet-in-Refused
-shape_of-sheet-in-Refused c = c.loop-left.invariant.long
+pub returns-in_err-content : goal.returns-in_err-content
+returns-in_err-content c =
+    let stop = leaf-stop (leaf (goal.at.returns-in_err-content c).After-type_row-t) c.if-depth-eq0.false c.content.ensures (ap told_span c.in_err-content.was) in
+    let (_, is, same) = err_from_is_err_and c.from_residual.result c.from_residual.ensures.1 in
+    rw (is, same)
+    (λ R. reading-stop c.loop-left.invariant (elements-some _ _ c.loop-left-test.true) {m = c.loop-left.sheet} (λ R ok. stop R) refl R tt)
 
-pub returns-in-Refused : goal.returns-in-Refused
-returns-in-Refused c =
-    let test = c in
-    let loop = test.before in
-    let stop = leaf-stop (leaf (goal.at.returns-in-Refused c).After-type_row-t) test.if-depth-eq0.false c.content.ensures c.in-Refused.is in
-    λ R. reading-stop loop.loop-left.invariant (elements-some _ _ test.loop-left-test.true) {m = loop.loop-left.sheet} (λ R ok. stop R) refl R tt
-
-pub overflow_sub-to : goal.overflow_sub-to
-overflow_sub-to c = (span_in c.content.ensures c.in-At.is).0
+pub overflow_sub-content : goal.overflow_sub-content
+overflow_sub-content c = (span_in c.content.ensures (ap told_span c.in_ok-content.was)).0
 
 pub put_row-requires : goal.put_row-requires
 put_row-requires c =
     let inv = c.loop-left.invariant in
-    span-put c.content.ensures c.in-At.is inv.asked.small (omega (arith, inv.behind, inv.inside, inv.asked.small))
+    span-put c.content.ensures (ap told_span c.in_ok-content.was) inv.asked.small (omega (arith, inv.behind, inv.inside, inv.asked.small))
 
-pub overflow_add-below-in-At : goal.overflow_add-below-in-At
-overflow_add-below-in-At c = let inv = c.loop-left.invariant in omega (arith, inv.behind, inv.inside, inv.asked.small)
+pub overflow_add-below-in-loop-left : goal.overflow_add-below-in-loop-left
+overflow_add-below-in-loop-left c = let inv = c.loop-left.invariant in omega (arith, inv.behind, inv.inside, inv.asked.small)
 
 pub loop-left-preserved : goal.loop-left-preserved
 loop-left-preserved c =
-    let put = c.put_row in
-    let span = c in
-    let test = span.before in
-    let loop = test.before in
-    let past = leaf-past (leaf (goal.at.loop-left-preserved c).After-type_row-t) test.if-depth-eq0.false span.content.ensures span.in-At.is loop.loop-left.invariant.behind put.ensures in
-    reading-on loop.loop-left.invariant (elements-some _ _ test.loop-left-test.true) (λ R ok. past R) refl
+    let past = leaf-past (leaf (goal.at.loop-left-preserved c).After-type_row-t) c.if-depth-eq0.false
+    c.content.ensures (ap told_span c.in_ok-content.was) c.loop-left.invariant.behind c.put_row.ensures in
+    reading-on c.loop-left.invariant (elements-some _ _ c.loop-left-test.true) (λ R ok. past R) refl
 
 pub overflow_sub-here : goal.overflow_sub-here
 overflow_sub-here c = omega (arith, c.loop-left.invariant.forth)

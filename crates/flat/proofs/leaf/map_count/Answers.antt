@@ -13,4 +13,4 @@ returns-then-n-p c =
     let byte = c.byte_at-n in
     let is = first-number args.p.now args.at byte.result c.if-at-p.true byte.ensures (omega (arith, c.if-n-le-PAIRS.true)) in
     let room : 2 * byte.result ≤ length args.p.now - (args.at + 1) = omega (arith, c.if-n-p.true) in
-    count-is args.p.now args.at 2 _ _ (sym is) room
+    record { told = count-is args.p.now args.at 2 _ _ (sym is) room; place = tt }

@@ -8,10 +8,10 @@ use Rattle.flat.proofs.leaf.scalar.Goals.{else-kind-eq-BOOL, then-kind-eq-BOOL+e
 use Rattle.flat.proofs.leaf.scalar.Goals as goal
 
 pub returns-then-p-at : goal.returns-then-p-at
-returns-then-p-at c = scalar-cut _ c.args.kind _ _ c.width_of-w.ensures.0 c.if-p-at.true
+returns-then-p-at c = rw c.at.ensures (scalar-cut _ c.args.kind _ _ c.width_of-w.ensures.0 c.if-p-at.true)
 
 pub returns-then-p-at-gt1 : goal.returns-then-p-at-gt1
-returns-then-p-at-gt1 c = scalar_bad _ c.args.kind _ _ c.width_of-w.ensures.0 (omega arith) c.if-kind-eq-BOOL.true c.if-p-at-gt1.true
+returns-then-p-at-gt1 c = rw c.at-then-p-at-gt1.ensures (scalar_bad _ c.args.kind _ _ c.width_of-w.ensures.0 (omega arith) c.if-kind-eq-BOOL.true c.if-p-at-gt1.true)
 
 pub returns : goal.returns
 returns c =

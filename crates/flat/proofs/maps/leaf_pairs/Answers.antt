@@ -1,21 +1,23 @@
 -- `flat::maps::leaf_pairs` meets its contract. The invariant: what is left of the pairs gives the same end, whatever is shown, and where keys are
 -- judged those behind are kept.
-use mathlib.Core.Path.{refl, ◌∙◌}
+use mathlib.Core.Path.{refl, ap, ◌∙◌}
 use Prim.Native.Nat.{◌+◌}
 use native.Mathlib.Omega.{arith}
 use Rattle.walks.specs.Shape.{shape_in}
 use Rattle.flat.proofs.Pairs.{Midway, along-first, along-own, along-end, along-deep, key-asked, key-room, key-failed, key-past, leaf-stops, leaf-turn}
 use Rattle.flat.proofs.Steps.{span_in, span-put, IsLeaf, is_leaf, leaf-asked}
 use Rattle.flat.proofs.Turns.{Any}
-use Rattle.flat.proofs.maps.leaf_pairs.Goals.{After-known_row-v, In-At}
+use Rattle.flat.proofs.maps.leaf_pairs.Goals.{After-known_row-v, In_ok-key_content}
+use Rattle.flat.specs.Told.{told_span}
+use Rattle.std.proofs.lemmas.Result.{err_from_is_err_and}
 use Rattle.flat.proofs.maps.leaf_pairs.Goals as goal
 
 -- After a pair's key.
-keyed : (c : In-At) →
+keyed : (c : In_ok-key_content) →
     let args = c.args in
     Midway Any args.s.now args.p.now args.depth args.ty args.key args.val args.n args.start args.row args.judging args.sheet.now
-    c.next_key.new.keys c.loop-i.i c.in-At.to 0 (c.loop-i.below + 1) c.next_key.new.sheet
-keyed c = key-past c.loop-i.invariant.0 c.loop-i-test.true c.if-depth-eq0.false c.known_row-k.ensures c.next_key.ensures c.in-At.is
+    c.next_key.new.keys c.loop-i.i c.in_ok-key_content.key_content.to 0 (c.loop-i.below + 1) c.next_key.new.sheet
+keyed c = key-past c.loop-i.invariant.0 c.loop-i-test.true c.if-depth-eq0.false c.known_row-k.ensures c.next_key.ensures (ap told_span c.in_ok-key_content.was)
 
 -- The type of the values.
 leaf : (c : After-known_row-v) → let args = c.args in IsLeaf args.s.now args.val c.known_row-v.result
@@ -43,9 +45,7 @@ pub shape_of-keys-then-depth-eq0 : goal.shape_of-keys-then-depth-eq0
 shape_of-keys-then-depth-eq0 c = c.loop-i.invariant.1
 
 pub returns-then-depth-eq0 : goal.returns-then-depth-eq0
-returns-then-depth-eq0 c =
-    let loop = c in
-    λ R. along-deep loop.loop-i.invariant.0 c.loop-i-test.true c.if-depth-eq0.true R tt
+returns-then-depth-eq0 c = rw c.at.ensures λ R. along-deep c.loop-i.invariant.0 c.loop-i-test.true c.if-depth-eq0.true R tt
 
 pub next_key-requires : goal.next_key-requires
 next_key-requires c =
@@ -57,51 +57,40 @@ next_key-requires c =
     let pre = loop.requires.pairs_ready in
     record { p_len_bound = key-asked inv.0 some d0 k; i_in_bounds = key-room inv.0 some d0 k inv.1 pre.1 }
 
-pub shape_of-sheet-in-Refused : goal.shape_of-sheet-in-Refused
-shape_of-sheet-in-Refused c = let next = c in next.next_key.auto.sheet ∙ next.loop-i.invariant.0.long
-
-pub shape_of-keys-in-Refused : goal.shape_of-keys-in-Refused
-shape_of-keys-in-Refused c = let next = c in next.next_key.auto.keys ∙ next.loop-i.invariant.1
-
-pub returns-in-Refused : goal.returns-in-Refused
-returns-in-Refused c = λ R. key-failed c.loop-i.invariant.0 c.loop-i-test.true c.if-depth-eq0.false c.known_row-k.ensures c.next_key.ensures c.in-Refused.is R tt
+pub returns-in_err-key_content : goal.returns-in_err-key_content
+returns-in_err-key_content c =
+    let (_, is, same) = err_from_is_err_and c.from_residual.result c.from_residual.ensures.1 in
+    rw (is, same)
+    (λ R. key-failed c.loop-i.invariant.0 c.loop-i-test.true c.if-depth-eq0.false c.known_row-k.ensures c.next_key.ensures (ap told_span c.in_err-key_content.was) R tt)
 
 pub content-requires : goal.content-requires
 content-requires c =
     let at = goal.at.content-requires c in
-    leaf-asked (leaf at.After-known_row-v) c.if-depth-eq0.false (keyed at.In-At).ready
+    leaf-asked (leaf at.After-known_row-v) c.if-depth-eq0.false (keyed at.In_ok-key_content).ready
 
-pub shape_of-sheet-in-Refused-content : goal.shape_of-sheet-in-Refused-content
-shape_of-sheet-in-Refused-content c =
-    let next = c in
-    next.next_key.auto.sheet ∙ next.loop-i.invariant.0.long
+pub returns-in_err-content : goal.returns-in_err-content
+returns-in_err-content c =
+    let at = goal.at.returns-in_err-content c in
+    let (_, is, same) = err_from_is_err_and c.from_residual-in_err-content.result c.from_residual-in_err-content.ensures.1 in
+    rw (is, same)
+    (λ R. leaf-stops (keyed at.In_ok-key_content) c.if-depth-eq0.false (leaf at.After-known_row-v) c.content.ensures (ap told_span c.in_err-content.was) R tt)
 
-pub shape_of-keys-in-Refused-content : goal.shape_of-keys-in-Refused-content
-shape_of-keys-in-Refused-content c =
-    let next = c in
-    next.next_key.auto.keys ∙ next.loop-i.invariant.1
-
-pub returns-in-Refused-content : goal.returns-in-Refused-content
-returns-in-Refused-content c =
-    let at = goal.at.returns-in-Refused-content c in
-    λ R. leaf-stops (keyed at.In-At) c.if-depth-eq0.false (leaf at.After-known_row-v) c.content.ensures c.in-Refused-content.is R tt
-
-pub overflow_add-below-in-At-content : goal.overflow_add-below-in-At-content
-overflow_add-below-in-At-content c =
+pub overflow_add-below-in-loop-i : goal.overflow_add-below-in-loop-i
+overflow_add-below-in-loop-i c =
     let loop = c in
     let a = loop.loop-i.invariant.0 in omega (arith, a.inside, a.behind, a.asked.ready.small)
 
-pub overflow_sub-to : goal.overflow_sub-to
-overflow_sub-to c = (span_in c.content.ensures c.in-At-content.is).0
+pub overflow_sub-content : goal.overflow_sub-content
+overflow_sub-content c = (span_in c.content.ensures (ap told_span c.in_ok-content.was)).0
 
 pub put_row-requires : goal.put_row-requires
 put_row-requires c =
     let read = c in
-    let ready = (keyed (goal.at.put_row-requires c).In-At).ready in
-    span-put read.content.ensures c.in-At-content.is ready.small (omega (arith, ready.small, ready.inside, ready.behind))
+    let ready = (keyed (goal.at.put_row-requires c).In_ok-key_content).ready in
+    span-put read.content.ensures (ap told_span c.in_ok-content.was) ready.small (omega (arith, ready.small, ready.inside, ready.behind))
 
-pub overflow_add-below-in-At-content-2 : goal.overflow_add-below-in-At-content-2
-overflow_add-below-in-At-content-2 c =
+pub overflow_add-below-in-loop-i-2 : goal.overflow_add-below-in-loop-i-2
+overflow_add-below-in-loop-i-2 c =
     let loop = c in
     let a = loop.loop-i.invariant.0 in omega (arith, a.inside, a.behind, a.asked.ready.small)
 
@@ -116,7 +105,7 @@ loop-i-smaller c = omega (arith, c.loop-i-test.true)
 pub loop-i-preserved : goal.loop-i-preserved
 loop-i-preserved c =
     let at = goal.at.loop-i-preserved c in (
-      leaf-turn (keyed at.In-At) c.if-depth-eq0.false (leaf at.After-known_row-v) c.content.ensures c.in-At-content.is (omega arith) c.put_row.ensures,
+      leaf-turn (keyed at.In_ok-key_content) c.if-depth-eq0.false (leaf at.After-known_row-v) c.content.ensures (ap told_span c.in_ok-content.was) (omega arith) c.put_row.ensures,
       c.next_key.auto.keys ∙ c.loop-i.invariant.1,
     )
 

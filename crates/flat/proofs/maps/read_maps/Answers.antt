@@ -1,9 +1,11 @@
 -- `flat::maps::read_maps` meets its contract. The invariant: what is left of the elements gives the same end, whatever is shown.
-use mathlib.Core.Path.{refl, sym, ◌∙◌}
+use mathlib.Core.Path.{refl, sym, ap, ◌∙◌}
 use native.Mathlib.Omega.{arith}
 use Rattle.walks.specs.Shape.{shape_in}
 use Rattle.flat.proofs.Turns.{reading-end, reading-first, reading-on, reading-own, reading-ready, reading-stop, reading-sum}
 use Rattle.walks.proofs.Items.{elements-none, elements-some}
+use Rattle.flat.specs.Told.{told_walk}
+use Rattle.std.proofs.lemmas.Result.{err_from_is_err_and}
 use Rattle.flat.proofs.maps.read_maps.Goals as goal
 
 pub overflow_add-below : goal.overflow_add-below
@@ -28,28 +30,21 @@ leaf_map-requires c =
     let pre = loop.requires in
     record { ready = (reading-ready loop.loop-left.invariant.0 (elements-some _ _ clear.loop-left-test.true), pre.ready.1); pairs_in = (pre.pairs_in, omega (arith, clear.clear_flags.auto.keys, loop.loop-left.invariant.1)) }
 
-pub shape_of-sheet-in-Refused : goal.shape_of-sheet-in-Refused
-shape_of-sheet-in-Refused c = c.leaf_map.auto.sheet ∙ c.loop-left.invariant.0.long
-
-pub returns-in-Refused : goal.returns-in-Refused
-returns-in-Refused c =
-    let call = c in
-    reading-stop call.loop-left.invariant.0 (elements-some _ _ call.loop-left-test.true) call.leaf_map.ensures c.in-Refused.is
+pub returns-in_err-past : goal.returns-in_err-past
+returns-in_err-past c =
+    let (_, is, same) = err_from_is_err_and c.from_residual.result c.from_residual.ensures.1 in
+    rw (is, same)
+    (reading-stop c.loop-left.invariant.0 (elements-some _ _ c.loop-left-test.true) c.leaf_map.ensures (ap told_walk c.in_err-past.was))
 
 pub overflow_add-sum : goal.overflow_add-sum
 overflow_add-sum c =
-    let call = c in
-    let test = call.before in
-    omega (arith, reading-sum test.loop-left.invariant.0 (elements-some _ _ test.loop-left-test.true) call.leaf_map.ensures c.in-Past.is)
+    omega (arith, reading-sum c.loop-left.invariant.0 (elements-some _ _ c.loop-left-test.true) c.leaf_map.ensures (ap told_walk c.in_ok-past.was))
 
 pub loop-left-preserved : goal.loop-left-preserved
-loop-left-preserved c =
-    let call = c in
-    let clear = call.before in
-    let loop = clear.before in (
-      reading-on loop.loop-left.invariant.0 (elements-some _ _ clear.loop-left-test.true) call.leaf_map.ensures c.in-Past.is,
-      call.leaf_map.auto.keys ∙ clear.clear_flags.auto.keys ∙ loop.loop-left.invariant.1,
-    )
+loop-left-preserved c = (
+  reading-on c.loop-left.invariant.0 (elements-some _ _ c.loop-left-test.true) c.leaf_map.ensures (ap told_walk c.in_ok-past.was),
+  c.leaf_map.auto.keys ∙ c.clear_flags.auto.keys ∙ c.loop-left.invariant.1,
+)
 
 pub overflow_sub-here : goal.overflow_sub-here
 overflow_sub-here c = omega (arith, c.loop-left.invariant.0.forth)
