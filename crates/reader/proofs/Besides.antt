@@ -19,7 +19,7 @@ use Rattle.schema.specs.File.{layout_of, table_of}
 use Rattle.schema.specs.Check.{IsGood, no_row}
 use Rattle.schema.specs.Extend.{widened, Grows}
 use Rattle.schema.proofs.Checks.{good-laid}
-use Rattle.table.proofs.Files.{laid-types}
+use Rattle.table.proofs.Files.{laid_types}
 use Rattle.schema.proofs.Goods.{good-table}
 use Rattle.schema.proofs.Shapes as shapes
 use Rattle.schema.proofs.Extending.{widens-iff, grows}
@@ -91,7 +91,7 @@ module _ (s : List ℕ) (good : IsGood s) where
 
   pub types-few : (l : Layout) → l ≡ layout_of s → (l.types ≡ length (table_of s).types) × (l.types ≤ 256)
   types-few l is =
-      let same = laid-types s l (good-laid s l good is) in
+      let same = laid_types s l (good-laid s l good is) in
       (same, omega (arith, same, (good-table s good).few_types))
 
   -- 64 are all fields of any struct

@@ -11,14 +11,14 @@ pub struct TypeRow {
 }
 
 // A field entry: its type number, and 1 where the field is optional, else 0.
-#[derive(Clone, Copy)]
+#[derive(Clone, Copy, PartialEq, Eq)]
 pub struct Field {
     pub ty: u32,
     pub optional: u32,
 }
 
 // A method entry: three identifiers, the form, and the types of input, output, input stream and output stream.
-#[derive(Clone, Copy)]
+#[derive(Clone, Copy, PartialEq, Eq)]
 pub struct Method {
     pub package: u32,
     pub service: u32,

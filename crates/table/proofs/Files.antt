@@ -45,14 +45,14 @@ module _ (s : List ℕ) (l : Layout) (h : Laid s l) where
       let f = filled s h.shape in
       rw h.is (record { types = omega arith; fields = omega arith; methods = omega arith })
 
-  pub laid-types : l.types ≡ length (table_of s).types
-  laid-types = ap (λ (x : Layout). x.types) h.is ∙ sym (type-count s h.shape)
+  pub laid_types : l.types ≡ length (table_of s).types
+  laid_types = ap (λ (x : Layout). x.types) h.is ∙ sym (type-count s h.shape)
 
-  pub laid-fields : l.fields ≡ length (table_of s).fields
-  laid-fields = ap (λ (x : Layout). x.fields) h.is ∙ sym (field-count s h.shape)
+  pub laid_fields : l.fields ≡ length (table_of s).fields
+  laid_fields = ap (λ (x : Layout). x.fields) h.is ∙ sym (field-count s h.shape)
 
-  pub laid-methods : l.methods ≡ length (table_of s).methods
-  laid-methods = ap (λ (x : Layout). x.methods) h.is ∙ sym (method-count s h.shape)
+  pub laid_methods : l.methods ≡ length (table_of s).methods
+  laid_methods = ap (λ (x : Layout). x.methods) h.is ∙ sym (method-count s h.shape)
 
   module _ (i : ℕ) where
     pub laid-row : i < l.types → type_at s (12 * i) ≡ row_at (table_of s) i

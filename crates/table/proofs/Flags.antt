@@ -16,8 +16,8 @@ unfolding flag_of mixed
 of-below true p s m = top_below 12 52 _
 of-below false p s m = top_below 12 52 _
 
-pub flag-below : (k : ℕ) (b : Bool) (p s m : ℕ) → k ≡ flag_of b p s m → k < 4096
-flag-below k b p s m e = subst⁻¹ (λ (n : ℕ). n < 4096) e (of-below b p s m)
+pub flag_below : (k : ℕ) (b : Bool) (p s m : ℕ) → k ≡ flag_of b p s m → k < 4096
+flag_below k b p s m e = subst⁻¹ (λ (n : ℕ). n < 4096) e (of-below b p s m)
 
 -- a flag that is set stays set
 pub set-kept : (seen : List Bool) (i j : ℕ) → get_or seen j false ≡ true → get_or (set seen i true) j false ≡ true
@@ -47,7 +47,7 @@ module _ (T : Table) (b : Bool) (seen : List Bool) (i : ℕ) (f : MethodsFlagged
         let low = ltb-false j i l in
         let last : j ≡ i = omega arith in
         let here : flag b (method_row T j) ≡ k = ap (λ (n : ℕ). flag b (method_row T n)) last ∙ sym (e ∙ ap (flag b) is) in
-        ap (λ (n : ℕ). get_or (set seen k true) n false) here ∙ get_or-set_same seen k true false (omega (arith, flag-below k b m.«package» m.service m.method e, f.wide)))
+        ap (λ (n : ℕ). get_or (set seen k true) n false) here ∙ get_or-set_same seen k true false (omega (arith, flag_below k b m.«package» m.service m.method e, f.wide)))
         (cases (ltb j i));
     wide = length-set seen k true ∙ f.wide;
   }

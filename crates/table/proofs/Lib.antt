@@ -4,3 +4,4 @@ pub mod Checks
 pub mod Products
 pub mod Flags
 pub mod Extensions
+pub mod Told

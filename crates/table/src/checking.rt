@@ -1,133 +1,95 @@
 // The check of a schema file: its shape, its counts, then each type row, field and method, the lowest at fault.
-ghost use Rattle.std.specs.Prelude.{◌≡◌, true, false, not, ◌||◌};
-ghost use Rattle.schema.specs.File.{Laid, table_of};
-ghost use Rattle.schema.specs.Check.{plain_row, array_row, map_row, struct_row, good_row, good_field, letter_fits, formed, find_among, is_missing, good_method, good_entry, bad_entry, bad_method, checked_table, checked};
+ghost use Rattle.std.specs.Prelude.{◌≡◌, ◌<◌, false, not, ◌||◌, cond, eqb, MatchOption};
+ghost use Rattle.schema.specs.File.{table_of};
+ghost use Rattle.schema.specs.Check.{plain_row, array_row, map_row, struct_row, good_row, good_field, is_struct, formed, find_among, is_missing, good_method, bad_row, bad_field, bad_method, checked_table, checked};
 ghost use Rattle.table.specs.Flags.{flag_of};
 ghost use Rattle.table.specs.Told.{told};
 
-use crate::file::{is_shaped, layout_of};
+use crate::file::is_shaped;
 use crate::product::{HALF, mixed, wrapping_mul};
-use crate::rows::{field_row, find_among, method_row, row};
+use crate::rows::{Names, Sections};
+use crate::search::lowest;
+use constants::kind::Kind;
 use constants::refusal::{Refusal, Refused};
-use constants::{format, kind, limit};
-use schema::{Layout, Method, TypeRow};
+use constants::{format, limit};
+use schema::{Method, TypeRow};
 use std::num::wrapping_add_u64;
 
 fn is_plain(r: TypeRow) -> bool
     ensures { result ≡ plain_row r }
 {
-    ((kind::BOOL <= r.kind) & (r.kind <= kind::BYTES)) & ((r.a == 0) & (r.b == 0))
+    ((Kind::Bool as u32 <= r.kind) & (r.kind <= Kind::Bytes as u32)) & ((r.a == 0) & (r.b == 0))
 }
 
 fn is_array(types: usize, r: TypeRow) -> bool
     ensures { result ≡ array_row types r }
 {
-    (r.kind == kind::ARRAY) & (((r.a as usize) < types) & (r.b == 0))
+    (r.kind == Kind::Array as u32) & (((r.a as usize) < types) & (r.b == 0))
 }
 
 fn is_map(types: usize, key: u32, r: TypeRow) -> bool
     ensures { result ≡ map_row types key r }
 {
-    (r.kind == kind::MAP)
-        & ((((kind::BOOL <= key) & (key <= kind::UINT64))
-            | ((key == kind::STRING) | (key == kind::BYTES)))
+    (r.kind == Kind::Map as u32)
+        & ((((Kind::Bool as u32 <= key) & (key <= Kind::Uint64 as u32))
+            | ((key == Kind::String as u32) | (key == Kind::Bytes as u32)))
             & ((r.b as usize) < types))
 }
 
 fn is_struct(fields: usize, r: TypeRow) -> bool
     ensures { result ≡ struct_row fields r }
 {
-    (r.kind == kind::STRUCT)
+    (r.kind == Kind::Struct as u32)
         & (((1 <= r.b) & (r.b <= limit::STRUCT_FIELDS))
             & ((r.a as usize) + (r.b as usize) <= fields))
 }
 
-fn row_is_good(s: &[u8], l: Layout, t: usize) -> bool
-    requires { Laid s.now l }
-    ensures { result ≡ good_row (table_of s.now) t }
+fn row_is_good(file: &Sections, t: usize) -> bool
+    ensures { result ≡ good_row (table_of file.now.bytes.now) t }
 {
-    let r = row(s, l, t);
-    let a = r.a as usize;
-    let key = row(s, l, a);
-    is_plain(r) | (is_array(l.types, r) | (is_map(l.types, key.kind, r) | is_struct(l.fields, r)))
+    let r = file.row(t);
+    let key = file.row(r.a as usize);
+    let types = file.layout.types;
+    is_plain(r)
+        | (is_array(types, r) | (is_map(types, key.kind, r) | is_struct(file.layout.fields, r)))
 }
 
-fn field_is_good(s: &[u8], l: Layout, i: usize) -> bool
-    requires { Laid s.now l }
-    ensures { result ≡ good_field (table_of s.now) i }
+#[tactic(auto, using(crate::proofs::Files::laid_types), unfolding(schema::specs::Check::good_field))]
+fn field_is_good(file: &Sections, i: usize) -> bool
+    ensures { result ≡ good_field (table_of file.now.bytes.now) i }
 {
-    let f = field_row(s, l, i);
-    ((f.ty as usize) < l.types) & (f.optional <= 1)
+    let f = file.field(i);
+    ((f.ty as usize) < file.layout.types) & (f.optional <= 1)
 }
 
-// Whether a letter of a form fits its type: Y (1) has a struct type, N (0) has none.
-fn letter_fits(s: &[u8], l: Layout, bit: u32, t: u32) -> bool
-    requires { Laid s.now l }
-    ensures { result ≡ letter_fits (table_of s.now) bit t }
+// Whether a letter of a form fits its type: a Y has a struct type, an N has none.
+fn letter_fits(file: &Sections, yes: bool, t: u32) -> bool
+    ensures { result ≡ cond yes (is_struct (table_of file.now.bytes.now) t) (eqb t 4294967295) }
 {
-    if bit == 1 {
-        let r = row(s, l, t as usize);
-        r.kind == kind::STRUCT
+    if yes {
+        file.row(t as usize).kind == Kind::Struct as u32
     } else {
         t == format::NO_TYPE
     }
 }
 
-fn is_formed(s: &[u8], l: Layout, m: Method) -> bool
-    requires { Laid s.now l }
-    ensures { result ≡ formed (table_of s.now) m }
+// The letters of a form count 8, 4, 2 and 1, where they are Y.
+fn is_formed(file: &Sections, m: Method) -> bool
+    ensures { result ≡ formed (table_of file.now.bytes.now) m }
 {
     (m.form <= limit::LAST_FORM)
-        & (letter_fits(s, l, m.form / 8 % 2, m.input)
-            & (letter_fits(s, l, m.form / 4 % 2, m.output)
-                & (letter_fits(s, l, m.form / 2 % 2, m.input_stream)
-                    & letter_fits(s, l, m.form % 2, m.output_stream))))
+        & (letter_fits(file, m.form / 8 % 2 == 1, m.input)
+            & (letter_fits(file, m.form / 4 % 2 == 1, m.output)
+                & (letter_fits(file, m.form / 2 % 2 == 1, m.input_stream)
+                    & letter_fits(file, m.form % 2 == 1, m.output_stream))))
 }
 
-fn is_missing(f: Option<usize>) -> bool
-    ensures { result ≡ is_missing f }
+#[tactic(auto, unfolding(schema::specs::Check::good_method))]
+fn method_is_good(file: &Sections, i: usize) -> bool
+    ensures { result ≡ good_method (table_of file.now.bytes.now) i }
 {
-    match f {
-        Some(_) => false,
-        None => true,
-    }
-}
-
-fn method_is_good(s: &[u8], l: Layout, i: usize) -> bool
-    requires { Laid s.now l }
-    ensures { result ≡ good_method (table_of s.now) i }
-{
-    let m = method_row(s, l, i);
-    is_formed(s, l, m) & is_missing(find_among(s, l, i, m.package, m.service, m.method))
-}
-
-// Whether entry i of a section (0 the types, 1 the fields, 2 the methods) is good.
-fn is_good(s: &[u8], l: Layout, section: u32, i: usize) -> bool
-    requires { Laid s.now l }
-    ensures { result ≡ good_entry (table_of s.now) section i }
-{
-    if section == 0 {
-        return row_is_good(s, l, i);
-    }
-    if section == 1 {
-        return field_is_good(s, l, i);
-    }
-    method_is_good(s, l, i)
-}
-
-// The lowest of the n entries of a section that is at fault. Each method is compared with all before it.
-fn bad_entry(s: &[u8], l: Layout, section: u32, n: usize) -> Option<usize>
-    requires { Laid s.now l }
-    ensures { result ≡ bad_entry (table_of s.now) section n }
-{
-    let mut i = 0;
-    while i < n {
-        if !is_good(s, l, section, i) {
-            return Some(i);
-        }
-        i += 1;
-    }
-    None
+    let m = file.method(i);
+    is_formed(file, m) & file.find_among(i, Names::of(m)).is_none()
 }
 
 // What package and service, as one number, and the method are multiplied by: odd, with ones all over.
@@ -139,27 +101,27 @@ const METHOD_FACTOR: u64 = 0xD6E8_FEB8_6659_FD93;
 const FLAG_SHIFT: u64 = 52;
 
 // The flag of three identifiers, one of 4,096: the top bits of a sum of products, by which those of ordinary tables differ, or of the numbers mixed.
-fn flag_of(package: u32, service: u32, method: u32, mixing: bool) -> usize
-    ensures { result ≡ flag_of mixing «package» service method }
+#[tactic(auto, using(crate::proofs::Flags::flag_below), unfolding(crate::specs::Flags::flag_of))]
+fn flag_of(names: Names, mixing: bool) -> usize
+    ensures { (result ≡ flag_of mixing names.«package» names.service names.method) × (result < 4096) }
 {
-    let names = (package as u64) + (service as u64) * HALF;
+    let pair = (names.package as u64) + (names.service as u64) * HALF;
     if mixing {
-        return (mixed(wrapping_add_u64(mixed(names), method as u64)) >> FLAG_SHIFT) as usize;
+        return (mixed(wrapping_add_u64(mixed(pair), names.method as u64)) >> FLAG_SHIFT) as usize;
     }
     let sum = wrapping_add_u64(
-        wrapping_mul(names, NAMES_FACTOR),
-        wrapping_mul(method as u64, METHOD_FACTOR),
+        wrapping_mul(pair, NAMES_FACTOR),
+        wrapping_mul(names.method as u64, METHOD_FACTOR),
     );
     (sum >> FLAG_SHIFT) as usize
 }
 
-// Whether none of the first i methods has the identifiers of m. They are looked through only where its flag is taken: else none of them has.
-fn is_new(s: &[u8], l: Layout, i: usize, m: Method, taken: bool) -> bool
-    requires { Laid s.now l }
-    ensures { result ≡ (not taken || is_missing (find_among (table_of s.now) i m.«package» m.service m.method)) }
+// Whether none of the first i methods has these identifiers. They are looked through only where the flag is taken: else none of them has.
+fn is_new(file: &Sections, i: usize, names: Names, taken: bool) -> bool
+    ensures { result ≡ (not taken || is_missing (find_among (table_of file.now.bytes.now) i names.«package» names.service names.method)) }
 {
     if taken {
-        is_missing(find_among(s, l, i, m.package, m.service, m.method))
+        file.find_among(i, names).is_none()
     } else {
         true
     }
@@ -172,106 +134,95 @@ const MOST_SEARCHES: usize = 16;
 
 const FEW_METHODS: usize = 12;
 
-// The lowest method at fault, unless the search was abandoned, since many flags were taken.
-#[derive(Clone, Copy)]
-struct Sought {
-    abandoned: bool,
-    bad: Option<usize>,
-}
-
-// Looks for the lowest method at fault, where a method is compared with those before it only if one of them has its flag. That is abandoned where
-// too many are, unless the flags are of numbers mixed.
-fn bad_by_flags(s: &[u8], l: Layout, mixing: bool) -> Sought
-    requires { Laid s.now l }
-    ensures { (result.abandoned ≡ false → result.bad ≡ bad_method (table_of s.now)) × (mixing ≡ true → result.abandoned ≡ false) }
+// The lowest method at fault, where a method is compared with those before it only if one of them has its flag. That is abandoned where too many are,
+// unless the flags are of numbers mixed: then there is no answer.
+fn bad_by_flags(file: &Sections, mixing: bool) -> Option<Option<usize>>
+    ensures { MatchOption result (mixing ≡ false) (λ bad. bad ≡ bad_method (table_of file.now.bytes.now)) }
 {
     let mut seen = [false; FLAGS];
     let mut searches: usize = 0;
-    let mut i: usize = 0;
-    while i < l.methods {
-        let m = method_row(s, l, i);
-        let formed = is_formed(s, l, m);
-        let flag = flag_of(m.package, m.service, m.method, mixing);
+    for i in 0..file.layout.methods {
+        let m = file.method(i);
+        let names = Names::of(m);
+        let flag = flag_of(names, mixing);
         let taken = seen[flag];
         if taken {
             if (searches == MOST_SEARCHES) & !mixing {
-                return Sought {
-                    abandoned: true,
-                    bad: None,
-                };
+                return None;
             }
             searches += 1;
         }
-        if !(formed & is_new(s, l, i, m, taken)) {
-            return Sought {
-                abandoned: false,
-                bad: Some(i),
-            };
+        if !(is_formed(file, m) & is_new(file, i, names, taken)) {
+            return Some(Some(i));
         }
         seen[flag] = true;
-        i += 1;
     }
-    Sought {
-        abandoned: false,
-        bad: None,
-    }
+    Some(None)
 }
 
 // The lowest method at fault.
-fn bad_of_many(s: &[u8], l: Layout) -> Option<usize>
-    requires { Laid s.now l }
-    ensures { result ≡ bad_method (table_of s.now) }
+fn bad_of_many(file: &Sections) -> Option<usize>
+    ensures { result ≡ bad_method (table_of file.now.bytes.now) }
 {
-    let first = bad_by_flags(s, l, false);
-    if first.abandoned {
-        let second = bad_by_flags(s, l, true);
-        second.bad
-    } else {
-        first.bad
+    match bad_by_flags(file, false) {
+        Some(bad) => bad,
+        None => bad_by_flags(file, true).flatten(),
     }
 }
 
-fn bad_method(s: &[u8], l: Layout) -> Option<usize>
-    requires { Laid s.now l }
-    ensures { result ≡ bad_method (table_of s.now) }
+fn bad_method(file: &Sections) -> Option<usize>
+    ensures { result ≡ bad_method (table_of file.now.bytes.now) }
 {
-    if l.methods <= FEW_METHODS {
-        bad_entry(s, l, 2, l.methods)
+    let n = file.layout.methods;
+    if n <= FEW_METHODS {
+        lowest(n, |i| !method_is_good(file, i))
     } else {
-        bad_of_many(s, l)
+        bad_of_many(file)
     }
+}
+
+fn bad_row(file: &Sections) -> Option<usize>
+    ensures { result ≡ bad_row (table_of file.now.bytes.now) }
+{
+    lowest(file.layout.types, |t| !row_is_good(file, t))
+}
+
+fn bad_field(file: &Sections) -> Option<usize>
+    ensures { result ≡ bad_field (table_of file.now.bytes.now) }
+{
+    lowest(file.layout.fields, |i| !field_is_good(file, i))
 }
 
 // The counts, then the rows.
-fn check_rows(s: &[u8], l: Layout) -> Result<(), Refused>
-    requires { Laid s.now l }
-    ensures { told result ≡ checked_table (table_of s.now) }
+#[tactic(auto, using(crate::proofs::Checks::small_judged), unfolding(schema::specs::Check::checked_table))]
+fn check_rows(file: &Sections) -> Result<(), Refused>
+    ensures { told result ≡ checked_table (table_of file.now.bytes.now) }
 {
+    let l = file.layout;
     if !((l.types <= limit::TYPES)
         & ((l.fields <= limit::FIELDS) & (l.methods <= limit::METHODS)))
     {
         return Refusal::TooManyRows.at(0);
     }
-    let types = bad_entry(s, l, 0, l.types);
-    if let Some(i) = types {
-        return Refusal::TypeRow.at(i);
+    if let Some(t) = bad_row(file) {
+        return Refusal::TypeRow.at(t);
     }
-    let fields = bad_entry(s, l, 1, l.fields);
-    if let Some(i) = fields {
+    if let Some(i) = bad_field(file) {
         return Refusal::Field.at(i);
     }
-    match bad_method(s, l) {
-        Some(i) => Refusal::Method.at(i),
-        None => Ok(()),
+    if let Some(i) = bad_method(file) {
+        return Refusal::Method.at(i);
     }
+    Ok(())
 }
 
 // The verdict on a file, whatever its bytes.
+#[tactic(auto, unfolding(schema::specs::Check::checked))]
 pub fn check(schema: &[u8]) -> Result<(), Refused>
     ensures { told result ≡ checked schema.now }
 {
     if is_shaped(schema) {
-        check_rows(schema, layout_of(schema))
+        check_rows(&Sections::of(schema))
     } else {
         Refusal::SchemaShape.at(0)
     }

@@ -7,7 +7,7 @@ ghost use Rattle.table.specs.Told.{told};
 
 use crate::checking::check;
 use crate::file::{TYPE, layout_of, type_at};
-use crate::rows::{field_row, find_among, method_row, row};
+use crate::rows::{Names, Sections};
 use constants::refusal::Refused;
 use schema::{Field, Layout, Method, TypeRow};
 
@@ -42,10 +42,17 @@ impl<'a> Schema<'a> {
         layout_of(self.bytes)
     }
 
+    // The file with its layout at hand.
+    pub fn sections(&self) -> Sections<'a>
+        ensures { result.bytes ≡ self.now.bytes }
+    {
+        Sections::of(self.bytes)
+    }
+
     pub fn type_row(&self, t: usize) -> TypeRow
         ensures { result ≡ row_at (table_of self.now.bytes.now) t }
     {
-        row(self.bytes, self.layout(), t)
+        self.sections().row(t)
     }
 
     // The row of a type that the table has, found without the layout.
@@ -59,27 +66,31 @@ impl<'a> Schema<'a> {
     pub fn field(&self, i: usize) -> Field
         ensures { result ≡ field_row_of (table_of self.now.bytes.now) i }
     {
-        field_row(self.bytes, self.layout(), i)
+        self.sections().field(i)
     }
 
     pub fn method_count(&self) -> usize
         ensures { result ≡ length (table_of self.now.bytes.now).methods }
     {
-        let l = self.layout();
-        l.methods
+        self.layout().methods
     }
 
     pub fn method(&self, i: usize) -> Method
         ensures { result ≡ method_row (table_of self.now.bytes.now) i }
     {
-        method_row(self.bytes, self.layout(), i)
+        self.sections().method(i)
     }
 
     // The first method with these three identifiers.
     pub fn find_method(&self, package: u32, service: u32, method: u32) -> Option<usize>
         ensures { result ≡ find_method (table_of self.now.bytes.now) «package» service method }
     {
-        let l = self.layout();
-        find_among(self.bytes, l, l.methods, package, service, method)
+        let names = Names {
+            package,
+            service,
+            method,
+        };
+        let file = self.sections();
+        file.find_among(file.layout.methods, names)
     }
 }

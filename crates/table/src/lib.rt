@@ -9,3 +9,4 @@ pub mod good;
 pub mod kind;
 pub mod product;
 pub mod rows;
+pub mod search;

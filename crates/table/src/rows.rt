@@ -1,11 +1,77 @@
 // The entries of a file by number, where its layout is at hand. Past the last there is an entry of zeros.
-ghost use Rattle.std.specs.Prelude.{◌≡◌};
+ghost use Rattle.std.specs.Prelude.{◌≡◌, true};
 ghost use Rattle.schema.specs.Table.{row_at};
-ghost use Rattle.schema.specs.File.{Laid, table_of};
+ghost use Rattle.schema.specs.File.{Laid, shaped, table_of};
 ghost use Rattle.schema.specs.Check.{field_row_of, method_row, named, find_among};
 
-use crate::file::{FIELD, METHOD, TYPE, field_at, method_at, type_at};
+use crate::file::{FIELD, METHOD, TYPE, field_at, layout_of, method_at, type_at};
+use crate::search::lowest;
 use schema::{Field, Layout, Method, TypeRow};
+
+// A file of the right shape, and where its sections lie.
+#[derive(Clone, Copy)]
+pub struct Sections<'a> {
+    pub bytes: &'a [u8],
+    pub layout: Layout,
+    ghost laid: { Laid bytes.now layout },
+}
+
+// The three identifiers by which a method is found.
+#[derive(Clone, Copy, PartialEq, Eq)]
+pub struct Names {
+    pub package: u32,
+    pub service: u32,
+    pub method: u32,
+}
+
+impl Names {
+    pub fn of(m: Method) -> Names
+        ensures { result ≡ record { «package» = m.«package»; service = m.service; method = m.method } }
+    {
+        Names {
+            package: m.package,
+            service: m.service,
+            method: m.method,
+        }
+    }
+}
+
+impl<'a> Sections<'a> {
+    pub fn of(bytes: &'a [u8]) -> Sections<'a>
+        requires { shaped bytes.now ≡ true }
+        ensures { result.bytes ≡ bytes.entry }
+    {
+        Sections {
+            bytes,
+            layout: layout_of(bytes),
+        }
+    }
+
+    pub fn row(&self, t: usize) -> TypeRow
+        ensures { result ≡ row_at (table_of self.now.bytes.now) t }
+    {
+        row(self.bytes, self.layout, t)
+    }
+
+    pub fn field(&self, i: usize) -> Field
+        ensures { result ≡ field_row_of (table_of self.now.bytes.now) i }
+    {
+        field_row(self.bytes, self.layout, i)
+    }
+
+    pub fn method(&self, i: usize) -> Method
+        ensures { result ≡ method_row (table_of self.now.bytes.now) i }
+    {
+        method_row(self.bytes, self.layout, i)
+    }
+
+    // The first of the first n methods with these three identifiers.
+    pub fn find_among(&self, n: usize, names: Names) -> Option<usize>
+        ensures { result ≡ find_among (table_of self.now.bytes.now) n names.«package» names.service names.method }
+    {
+        lowest(n, |i| Names::of(self.method(i)) == names)
+    }
+}
 
 pub fn row(s: &[u8], l: Layout, t: usize) -> TypeRow
     requires { Laid s.now l }
@@ -57,28 +123,10 @@ pub fn method_row(s: &[u8], l: Layout, i: usize) -> Method
 pub fn is_named(m: Method, package: u32, service: u32, method: u32) -> bool
     ensures { result ≡ named «package» service method m }
 {
-    (m.package == package) & ((m.service == service) & (m.method == method))
-}
-
-// The first of the first n methods with these three identifiers.
-pub fn find_among(
-    s: &[u8],
-    l: Layout,
-    n: usize,
-    package: u32,
-    service: u32,
-    method: u32,
-) -> Option<usize>
-    requires { Laid s.now l }
-    ensures { result ≡ find_among (table_of s.now) n «package» service method }
-{
-    let mut i = 0;
-    while i < n {
-        let m = method_row(s, l, i);
-        if is_named(m, package, service, method) {
-            return Some(i);
+    Names::of(m)
+        == Names {
+            package,
+            service,
+            method,
         }
-        i += 1;
-    }
-    None
 }

@@ -5,8 +5,6 @@ use Rattle.table.proofs.checking.row_is_good.Goals as goal
 
 pub returns : goal.returns
 returns c =
-    let a = c in
-    let e = c in
-    let f = c in
+    let file = c.args.file.now in
     (λ i. c.is_plain.ensures i || (c.is_array.ensures i || (c.is_map.ensures i || c.is_struct.ensures i)))
-    ∙ row-judged a.args.s.now a.args.l a.requires a.args.t e.row-r.result f.row-key.result e.row-r.ensures f.row-key.ensures
+    ∙ row-judged file.bytes.now file.layout file.laid c.args.t c.row-r.result c.row-key.result c.row-r.ensures c.row-key.ensures

@@ -1,0 +1,14 @@
+-- `table::checking::bad_row` meets its contract.
+use Rattle.std.proofs.Common.{rules, ℕ, not, ap, ◌∙◌}
+use Rattle.schema.specs.File.{table_of}
+use Rattle.schema.specs.Check.{lowest, good_row, bad_row}
+use Rattle.table.proofs.Files.{laid_types}
+use Rattle.table.proofs.Lowest.{lowest-is}
+use Rattle.table.proofs.checking.bad_row.Goals as goal
+
+pub returns : goal.returns
+unfolding bad_row
+returns c =
+    let file = c.args.file.now in
+    lowest-is c.lowest.ensures _ (λ k b h t. search rules)
+    ∙ ap (λ (n : ℕ). lowest (λ i. not (good_row (table_of file.bytes.now) i)) 0 n) (laid_types _ _ file.laid)
