@@ -18,10 +18,10 @@ use Rattle.schema.specs.Checked as check
 use Rattle.schema.specs.Extended.{Extended}
 use Rattle.schema.specs.Extended.{Yes, No, Refused as Faulty}
 use Rattle.arf.specs.Numbers.{check_number, extend_number, write_number}
-use Rattle.frame.specs.declared.FrameRead.{FrameRead}
-use Rattle.frame.specs.declared.FrameRead.TheVariants as frame
-use Rattle.frame.specs.declared.FrameWritten.{FrameWritten}
-use Rattle.frame.specs.declared.FrameWritten.TheVariants as written
+use Rattle.frame.specs.FrameRead.{FrameRead}
+use Rattle.frame.specs.FrameRead as frame
+use Rattle.frame.specs.FrameWritten.{FrameWritten}
+use Rattle.frame.specs.FrameWritten as written
 use Rattle.frame.specs.Frame as read
 use Rattle.frame.specs.Written as wrote
 use Rattle.reader.specs.declared.Reading.{Reading}

@@ -6,9 +6,9 @@ use Rattle.schema.specs.Extended.{Extended}
 use Rattle.schema.specs.Check.{checked}
 use Rattle.arf.specs.Numbers.{check_place, extend_place, extend_answer}
 use Rattle.frame.specs.declared.Header.{Header}
-use Rattle.frame.specs.declared.FrameRead.{FrameRead}
-use Rattle.frame.specs.declared.FrameRead.TheVariants as frame
-use Rattle.frame.specs.declared.FrameWritten.{FrameWritten}
+use Rattle.frame.specs.FrameRead.{FrameRead}
+use Rattle.frame.specs.FrameRead as frame
+use Rattle.frame.specs.FrameWritten.{FrameWritten}
 use Rattle.frame.specs.Written.{written_of, write_length}
 use Rattle.value.specs.declared.Row.{Row}
 use Rattle.reader.specs.declared.Reading.{Reading}

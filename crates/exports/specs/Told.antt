@@ -5,10 +5,10 @@ use Rattle.schema.specs.Checked.{Checked}
 use Rattle.schema.specs.Checked as check
 use Rattle.schema.specs.Extended.{Extended}
 use Rattle.schema.specs.Extended.{Yes, No, Refused as Faulty}
-use Rattle.frame.specs.declared.FrameRead.{FrameRead}
-use Rattle.frame.specs.declared.FrameRead.TheVariants as frame
-use Rattle.frame.specs.declared.FrameWritten.{FrameWritten}
-use Rattle.frame.specs.declared.FrameWritten.TheVariants as written
+use Rattle.frame.specs.FrameRead.{FrameRead}
+use Rattle.frame.specs.FrameRead as frame
+use Rattle.frame.specs.FrameWritten.{FrameWritten}
+use Rattle.frame.specs.FrameWritten as written
 use Rattle.reader.specs.declared.Reading.{Reading}
 use Rattle.reader.specs.declared.Reading.TheVariants as reader
 use Rattle.writer.specs.Writing.{Writing}

@@ -8,7 +8,7 @@ use Rattle.wire.specs.Little.{little, bytes}
 use Rattle.wire.specs.Varuint.{groups, front_var_u_int}
 use Rattle.wire.proofs.Varuints.{one_byte}
 use Rattle.frame.specs.declared.Header.{Header}
-use Rattle.frame.specs.declared.FrameRead.TheVariants.{More, Frame, Refused}
+use Rattle.frame.specs.FrameRead.{More, Frame, Refused}
 use Rattle.frame.specs.Frame.{once_whole, frame_payload, frame_of}
 use Rattle.frame.specs.Written.{front_bytes, frame_bytes}
 use Rattle.frame.proofs.Theorems.{frame-read}

@@ -14,8 +14,7 @@ use Rattle.wire.specs.Varuint.{VarUInt, Number, Cut, Malformed, front_var_u_int,
 use Rattle.wire.proofs.Cases.{differ}
 use Rattle.wire.proofs.Varuints.{spelled-reads, read-spelled, spelled-cut, cut_completed, malformed-iff}
 use Rattle.frame.specs.declared.Header.{Header}
-use Rattle.frame.specs.declared.FrameRead.{FrameRead}
-use Rattle.frame.specs.declared.FrameRead.TheVariants.{More, Frame, Refused}
+use Rattle.frame.specs.FrameRead.{FrameRead, More, Frame, Refused}
 use Rattle.frame.specs.Frame.{is_magic, known_kind, frame_payload, frame_of, read_number}
 use Rattle.frame.specs.Places.{header_at}
 use Rattle.frame.specs.Faults.{IsKind, RightHeader, header, Faulty, magic, version, kind, flags, spare-group, tenth-byte, too_long, FrameFault}

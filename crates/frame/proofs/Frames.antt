@@ -15,8 +15,7 @@ use Rattle.wire.proofs.Varuints.{spelled-reads, read-spelled}
 use Rattle.wire.proofs.Cases.{chosen, differ}
 use Rattle.parse.specs.Test.{test}
 use Rattle.frame.specs.declared.Header.{Header}
-use Rattle.frame.specs.declared.FrameRead.{FrameRead}
-use Rattle.frame.specs.declared.FrameRead.TheVariants.{More, Frame, Refused}
+use Rattle.frame.specs.FrameRead.{FrameRead, More, Frame, Refused}
 use Rattle.frame.specs.Frame.{once_whole, is_magic, known_kind, frame_payload, frame_of}
 use Rattle.frame.specs.Places.{number_at, header_at}
 use Rattle.frame.specs.IsFrame.{IsNumber, IsFrame, frame, Starts}

@@ -9,3 +9,4 @@ pub mod Answers
 pub mod ReadBack
 pub mod Numbers
 pub mod Examples
+pub mod Told

@@ -5,10 +5,8 @@ use mathlib.Core.List.{List}
 use Prim.Native.Nat.{ℕ, ◌+◌, ◌<◌}
 use native.Mathlib.Omega.{arith}
 use Rattle.frame.specs.declared.Header.{Header}
-use Rattle.frame.specs.declared.FrameRead.{FrameRead}
-use Rattle.frame.specs.declared.FrameRead.TheVariants.{More, Frame, Refused}
-use Rattle.frame.specs.declared.FrameWritten.{FrameWritten}
-use Rattle.frame.specs.declared.FrameWritten.TheVariants.{Written, Refused as Unframed}
+use Rattle.frame.specs.FrameRead.{FrameRead, More, Frame, Refused}
+use Rattle.frame.specs.FrameWritten.{FrameWritten, Written, Refused as Unframed}
 use Rattle.frame.specs.Frame.{frame_of}
 use Rattle.frame.specs.IsFrame.{Starts}
 use Rattle.frame.specs.Faults.{FrameFault, CutFrame}

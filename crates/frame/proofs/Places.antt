@@ -1,20 +1,23 @@
 -- The reading of a frame by places, as the code goes.
-use mathlib.Core.Path.{◌≡◌, refl}
+use mathlib.Core.Path.{◌≡◌, refl, ap}
 use mathlib.Core.Bool.{Bool, true, false, cond}
 use mathlib.Core.List.{List}
-use Prim.Native.Nat.{ℕ, ◌+◌, ◌-◌, ◌<◌, ◌≤◌}
+use Prim.Native.Nat.{ℕ, zero, suc, ◌+◌, ◌-◌, ◌<◌, ◌≤◌}
 use native.Mathlib.Decide.{dec_le}
 use native.Mathlib.Omega.{arith}
 use borrow.Author.Tests.{le-leb, lt-leb}
 use lib.Dec.{leb, eqb, lit<, lit≤}
 use lib.ListN.{length, take, drop, length-drop}
 use lib.Seq.{get_or-take, drop-drop}
+use Rattle.constants.specs.declared.refusal.Refusal.{Refusal}
+use Rattle.constants.specs.Number.{number_of}
+use Rattle.constants.proofs.Number.{named, named-number_of}
+use Rattle.wire.proofs.Cases.{differ}
 use Rattle.wire.specs.Varuint.{varuint}
 use Rattle.parse.specs.Test.{test}
-use Rattle.frame.specs.declared.FrameRead.{FrameRead}
-use Rattle.frame.specs.declared.FrameRead.TheVariants.{More, Refused}
+use Rattle.frame.specs.FrameRead.{FrameRead, More, Refused}
 use Rattle.frame.specs.Frame.{once_whole, is_magic, known_kind, frame_payload, frame_of}
-use Rattle.frame.specs.Places.{number_at, header_at}
+use Rattle.frame.specs.Places.{number_at, header_at, judged}
 
 -- a field that ends at e
 unfoldable pub field : List ℕ → ℕ → Bool → ℕ → FrameRead → FrameRead
@@ -32,6 +35,15 @@ module _ (s : List ℕ) (e : ℕ) (right : Bool) (number : ℕ) (next : FrameRea
   pub passed : e ≤ length s → right ≡ true → field s e right number next ≡ next
   unfolding field
   passed h w = rw (le-leb e (length s) h, w)
+
+-- The header's judgement refuses with its own number: no refusal has the number 0 or 1.
+pub judged_refusal : (e : Refusal) (next : FrameRead) → judged (number_of e) next ≡ Refused (number_of e)
+judged_refusal e next = go (number_of e) (ap number_of (named-number_of e))
+  where
+    go : (n : ℕ) → number_of (named n) ≡ n → judged n next ≡ Refused n
+    go zero h = differ cc
+    go (suc zero) h = differ cc
+    go (suc (suc n)) h = refl
 
 abbrev pub from_length : List ℕ → FrameRead
 from_length s = cond (leb 25 (length s)) (frame_payload (length s) (header_at s) (varuint s 25)) More

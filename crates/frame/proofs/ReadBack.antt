@@ -15,8 +15,8 @@ use Rattle.wire.proofs.Numbers.{length-bytes, little-bytes, bytes-little, bytes-
 use Rattle.wire.proofs.Varuints.{shortest-spelled, spelled_is}
 use Rattle.wire.proofs.Cases.{chosen, differ}
 use Rattle.frame.specs.declared.Header.{Header}
-use Rattle.frame.specs.declared.FrameRead.TheVariants.{Frame}
-use Rattle.frame.specs.declared.FrameWritten.TheVariants.{Written, Refused}
+use Rattle.frame.specs.FrameRead.{Frame}
+use Rattle.frame.specs.FrameWritten.{Written, Refused}
 use Rattle.frame.specs.Frame.{known_kind, frame_of}
 use Rattle.frame.specs.Written.{front_bytes, frame_bytes, written_of, output_of, Accepted, Unwritten, kind, long, full, ReadBack}
 use Rattle.frame.specs.IsFrame.{IsNumber, IsFrame, frame, HeaderFits}

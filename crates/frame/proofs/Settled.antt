@@ -14,8 +14,7 @@ use Rattle.wire.proofs.Varuints.{front-settled}
 use Rattle.wire.proofs.Cases.{differ}
 use Rattle.parse.specs.Test.{test}
 use Rattle.frame.specs.declared.Header.{Header}
-use Rattle.frame.specs.declared.FrameRead.{FrameRead}
-use Rattle.frame.specs.declared.FrameRead.TheVariants.{More, Frame, Refused}
+use Rattle.frame.specs.FrameRead.{FrameRead, More, Frame, Refused}
 use Rattle.frame.specs.Frame.{is_magic, known_kind, frame_payload, frame_of}
 use Rattle.frame.specs.Places.{number_at, header_at}
 use Rattle.frame.proofs.Places.{field, from_length, by-places}

@@ -8,8 +8,7 @@ use lib.ListN.{length, take, drop, length-append, take-append-drop}
 use lib.Seq.{take_at, drop_at, length-take-le}
 use Rattle.wire.proofs.Cases.{differ}
 use Rattle.frame.specs.declared.Header.{Header}
-use Rattle.frame.specs.declared.FrameRead.{FrameRead}
-use Rattle.frame.specs.declared.FrameRead.TheVariants.{More, Frame}
+use Rattle.frame.specs.FrameRead.{FrameRead, More, Frame}
 use Rattle.frame.specs.Frame.{frame_of}
 use Rattle.frame.specs.IsFrame.{IsFrame, frame, Starts}
 use Rattle.frame.proofs.Settled.{Before, more, same, answer-before, settled}

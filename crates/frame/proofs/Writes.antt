@@ -13,7 +13,7 @@ use Rattle.wire.specs.Little.{bytes}
 use Rattle.wire.specs.Varuint.{varuint_bytes}
 use Rattle.wire.proofs.Numbers.{length-bytes}
 use Rattle.frame.specs.declared.Header.{Header}
-use Rattle.frame.specs.declared.FrameWritten.TheVariants.{Written, Refused}
+use Rattle.frame.specs.FrameWritten.{Written, Refused}
 use Rattle.frame.specs.Frame.{known_kind}
 use Rattle.frame.specs.Written.{front_bytes, frame_bytes, written_of, output_of}
 

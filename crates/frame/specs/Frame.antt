@@ -4,8 +4,7 @@ use Rattle.wire.specs.Little.{little}
 use Rattle.wire.specs.Varuint.{VarUInt, Number, Cut, Malformed, front_var_u_int}
 use Rattle.parse.specs.Test.{test}
 use Rattle.frame.specs.declared.Header.{Header}
-use Rattle.frame.specs.declared.FrameRead.{FrameRead}
-use Rattle.frame.specs.declared.FrameRead.TheVariants.{More, Frame, Refused}
+use Rattle.frame.specs.FrameRead.{FrameRead, More, Frame, Refused}
 
 -- Goes on with the n bytes at the front of s, once they are there, and with what is left after them.
 unfoldable pub once_whole : ℕ → List ℕ → (List ℕ → List ℕ → FrameRead) → FrameRead

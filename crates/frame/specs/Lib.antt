@@ -1,6 +1,9 @@
+pub mod FrameRead
+pub mod FrameWritten
 pub mod Frame
 pub mod Places
 pub mod Written
 pub mod IsFrame
 pub mod Faults
 pub mod Numbers
+pub mod Told

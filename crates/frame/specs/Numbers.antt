@@ -1,8 +1,7 @@
 -- The numbers and values that come back for each case of the frame reader's answer.
 use Rattle.std.specs.Prelude.{ℕ, ◌+◌}
 use Rattle.frame.specs.declared.Header.{Header}
-use Rattle.frame.specs.declared.FrameRead.{FrameRead}
-use Rattle.frame.specs.declared.FrameRead.TheVariants.{More, Frame, Refused}
+use Rattle.frame.specs.FrameRead.{FrameRead, More, Frame, Refused}
 
 -- No header: zeros.
 abbrev pub no_header : Header

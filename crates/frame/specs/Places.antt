@@ -2,8 +2,7 @@
 use Rattle.std.specs.Prelude.{ℕ, zero, suc, List, take, drop}
 use Rattle.wire.specs.Little.{little}
 use Rattle.frame.specs.declared.Header.{Header}
-use Rattle.frame.specs.declared.FrameRead.{FrameRead}
-use Rattle.frame.specs.declared.FrameRead.TheVariants.{More, Refused}
+use Rattle.frame.specs.FrameRead.{FrameRead, More, Refused}
 
 -- The number in the n bytes from `at` on.
 abbrev pub number_at : List ℕ → ℕ → ℕ → ℕ

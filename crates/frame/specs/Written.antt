@@ -4,9 +4,8 @@ use Rattle.wire.specs.Little.{bytes}
 use Rattle.wire.specs.Varuint.{varuint_bytes}
 use Rattle.parse.specs.Test.{test, ◌>>◌}
 use Rattle.frame.specs.declared.Header.{Header}
-use Rattle.frame.specs.declared.FrameRead.TheVariants.{Frame}
-use Rattle.frame.specs.declared.FrameWritten.{FrameWritten}
-use Rattle.frame.specs.declared.FrameWritten.TheVariants.{Written, Refused}
+use Rattle.frame.specs.FrameRead.{Frame}
+use Rattle.frame.specs.FrameWritten.{FrameWritten, Written, Refused}
 use Rattle.frame.specs.Frame.{known_kind, frame_of}
 
 -- All before a payload of n bytes.

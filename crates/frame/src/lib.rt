@@ -3,11 +3,12 @@
 
 pub mod layout;
 
-ghost use Rattle.std.specs.Prelude.{◌≡◌, [], ◌∷◌, ◌+◌, ◌≤◌, length};
+ghost use Rattle.std.specs.Prelude.{◌≡◌, [], ◌∷◌, ◌+◌, ◌≤◌, length, true, Ok};
 ghost use Rattle.buffer.specs.Store.{written};
 ghost use Rattle.wire.specs.Varuint.{varuint, varuint_bytes};
 ghost use Rattle.frame.specs.Frame.{known_kind, frame_payload, frame_of};
 ghost use Rattle.frame.specs.Places.{number_at, header_at, judged};
+ghost use Rattle.frame.specs.Told.{told, told_header, told_written};
 ghost use Rattle.frame.specs.Written.{front_bytes, written_of, output_of};
 
 use crate::layout::{
@@ -15,7 +16,8 @@ use crate::layout::{
     METHOD_AT, PACKAGE_AT, SERVICE_AT, VERSION_AT,
 };
 use buffer::copy;
-use constants::{format, frame_kind, limit, refusal};
+use constants::refusal::Refusal;
+use constants::{format, frame_kind, limit};
 use wire::little::{store, u32_at};
 use wire::varuint::VarUIntError;
 
@@ -49,26 +51,20 @@ pub struct Header {
     pub correlation: u64,
 }
 
+// A whole frame: its header, and the payload's place and length in the bytes.
+#[derive(Clone, Copy)]
+pub struct WholeFrame {
+    pub header: Header,
+    pub place: usize,
+    pub length: usize,
+}
+
+// What stands at the front of bytes that are not refused.
 #[derive(Clone, Copy)]
 pub enum FrameRead {
     // More bytes are needed.
     More,
-    // A whole frame: its header, and the payload's place and length in the bytes.
-    Frame {
-        header: Header,
-        place: usize,
-        length: usize,
-    },
-    // A refusal's number, 2 to 7.
-    Refused(u32),
-}
-
-#[derive(Clone, Copy)]
-pub enum FrameWritten {
-    // The frame's length.
-    Written(usize),
-    // A refusal's number: 4, 7 or 52.
-    Refused(u32),
+    Whole(WholeFrame),
 }
 
 // Whether it is one of the eight kinds.
@@ -117,78 +113,71 @@ fn header_at(s: &[u8]) -> Header
 }
 
 // From the payload's length on: malformed is 6, above 16,384 is 7, whether or not the payload is there.
-fn read_payload(s: &[u8]) -> FrameRead
+fn read_payload(s: &[u8]) -> Result<FrameRead, Refusal>
     requires { 25 ≤ length s.now }
-    ensures { result ≡ frame_payload (length s.now) (header_at s.now) (varuint s.now 25) }
+    ensures { told result ≡ frame_payload (length s.now) (header_at s.now) (varuint s.now 25) }
 {
     match wire::varuint::read(s, format::HEADER) {
         Ok(size) => {
             if LONGEST < size.value {
-                return FrameRead::Refused(refusal::PAYLOAD_TOO_LONG);
+                return Err(Refusal::PayloadTooLong);
             }
             let length = size.value as usize;
             if s.len() - size.next < length {
-                return FrameRead::More;
+                return Ok(FrameRead::More);
             }
-            FrameRead::Frame {
+            Ok(FrameRead::Whole(WholeFrame {
                 header: header_at(s),
                 place: size.next,
                 length,
-            }
+            }))
         }
-        Err(VarUIntError::Cut) => FrameRead::More,
-        Err(VarUIntError::Malformed) => FrameRead::Refused(refusal::LENGTH),
+        Err(VarUIntError::Cut) => Ok(FrameRead::More),
+        Err(VarUIntError::Malformed) => Err(Refusal::Length),
     }
 }
 
-// What the header says as far as it is there, each field judged once it is whole: a refusal's number, 1 where more bytes are needed,
-// and 0 where the header is whole and right.
-fn judge_header(bytes: &[u8]) -> u32
-    ensures { (judged result (frame_payload (length bytes.now) (header_at bytes.now) (varuint bytes.now 25)) ≡ frame_of bytes.now) × (result ≡ 0 → 25 ≤ length bytes.now) }
+// Whether the header is whole, as far as it is there, each field judged once it is whole.
+fn judge_header(bytes: &[u8]) -> Result<bool, Refusal>
+    ensures { (judged (told_header result) (frame_payload (length bytes.now) (header_at bytes.now) (varuint bytes.now 25)) ≡ frame_of bytes.now) × (result ≡ Ok true → 25 ≤ length bytes.now) }
 {
     let n = bytes.len();
     if n < VERSION_AT {
-        return refusal::MORE;
+        return Ok(false);
     }
     if !((bytes[MAGIC_AT] == format::MAGIC) & (bytes[MAGIC_2_AT] == format::MAGIC_2)) {
-        return refusal::MAGIC;
+        return Err(Refusal::Magic);
     }
     if n < KIND_AT {
-        return refusal::MORE;
+        return Ok(false);
     }
     if byte(bytes, VERSION_AT) != VERSION {
-        return refusal::VERSION;
+        return Err(Refusal::Version);
     }
     if n < FLAGS_AT {
-        return refusal::MORE;
+        return Ok(false);
     }
     if !known_kind(byte(bytes, KIND_AT)) {
-        return refusal::KIND;
+        return Err(Refusal::Kind);
     }
     if n < PACKAGE_AT {
-        return refusal::MORE;
+        return Ok(false);
     }
     if byte(bytes, FLAGS_AT) != FLAGS {
-        return refusal::FLAGS;
+        return Err(Refusal::Flags);
     }
-    if n < format::HEADER {
-        return refusal::MORE;
-    }
-    refusal::ACCEPTED
+    Ok(format::HEADER <= n)
 }
 
 // Reads the frame at the front of the bytes. Bytes after the frame are not looked at.
-pub fn read_frame(bytes: &[u8]) -> FrameRead
-    ensures { result ≡ frame_of bytes.now }
+#[tactic(auto, using(crate::proofs::Places::judged_refusal))]
+pub fn read_frame(bytes: &[u8]) -> Result<FrameRead, Refusal>
+    ensures { told result ≡ frame_of bytes.now }
 {
-    let number = judge_header(bytes);
-    if number == refusal::ACCEPTED {
-        return read_payload(bytes);
+    if !judge_header(bytes)? {
+        return Ok(FrameRead::More);
     }
-    if number == refusal::MORE {
-        return FrameRead::More;
-    }
-    FrameRead::Refused(number)
+    read_payload(bytes)
 }
 
 // The first five bytes of a frame: magic, version, kind and flags.
@@ -224,21 +213,21 @@ pub fn write_front(out: &mut [u8], header: Header, n: u64)
 }
 
 // Writes the frame of a header and a payload. A refusal (4, 7, 52 in this order) leaves the output as it was.
-pub fn write_frame(header: Header, payload: &[u8], out: &mut [u8]) -> FrameWritten
-    ensures { (result ≡ written_of header payload.now (length out.old)) × (out.new ≡ output_of result header payload.now out.old) }
+pub fn write_frame(header: Header, payload: &[u8], out: &mut [u8]) -> Result<usize, Refusal>
+    ensures { (told_written result ≡ written_of header payload.now (length out.old)) × (out.new ≡ output_of (told_written result) header payload.now out.old) }
 {
     if !known_kind(header.kind) {
-        return FrameWritten::Refused(refusal::KIND);
+        return Err(Refusal::Kind);
     }
     let n = payload.len();
     if limit::PAYLOAD < n {
-        return FrameWritten::Refused(refusal::PAYLOAD_TOO_LONG);
+        return Err(Refusal::PayloadTooLong);
     }
     let place = payload_place(n as u64);
     if out.len() < place + n {
-        return FrameWritten::Refused(refusal::OUTPUT_TOO_SHORT);
+        return Err(Refusal::OutputTooShort);
     }
     write_front(out, header, n as u64);
     copy(out, place, payload);
-    FrameWritten::Written(place + n)
+    Ok(place + n)
 }

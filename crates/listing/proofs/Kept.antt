@@ -13,7 +13,7 @@ use Rattle.schema.specs.File.{table_of}
 use Rattle.schema.specs.Check.{IsGood}
 use Rattle.schema.proofs.Bools.{cases, or_left, or-neither}
 use Rattle.frame.specs.declared.Header.{Header}
-use Rattle.frame.specs.declared.FrameRead.{FrameRead}
+use Rattle.frame.specs.FrameRead.{FrameRead}
 use Rattle.frame.specs.Frame.{frame_of, read_used}
 use Rattle.frame.specs.IsFrame.{IsFrame}
 use Rattle.frame.proofs.Theorems.{frame-read, starts}

@@ -12,7 +12,7 @@ use borrow.Author.Tests.{ne_eqb}
 use Rattle.schema.specs.File.{table_of}
 use Rattle.schema.proofs.Bools.{is_false}
 use Rattle.wire.proofs.Cases.{differ}
-use Rattle.frame.specs.declared.FrameRead.TheVariants.{More, Frame as Whole, Refused}
+use Rattle.frame.specs.FrameRead.{More, Frame as Whole, Refused}
 use Rattle.frame.specs.Frame.{frame_of, read_used}
 use Rattle.frame.proofs.Answers.{read-bounds}
 use Rattle.frame.proofs.Faults.{refused-iff, more-iff}

@@ -21,7 +21,7 @@ use Rattle.schema.proofs.Faults.{refused-iff as schema-refused}
 use Rattle.schema.proofs.Numbered.{listed as schema-listed, listed-bounds}
 use Rattle.schema.proofs.Shapes.{shape-struct}
 use Rattle.frame.specs.declared.Header.{Header}
-use Rattle.frame.specs.declared.FrameRead.TheVariants.{Frame as Whole}
+use Rattle.frame.specs.FrameRead.{Frame as Whole}
 use Rattle.frame.specs.Frame.{frame_of}
 use Rattle.frame.proofs.Answers.{read-bounds}
 use Rattle.calls.specs.declared.Call.{Call}

@@ -13,8 +13,7 @@ use Rattle.schema.specs.File.{table_of}
 use Rattle.schema.specs.Check.{checked, IsGood}
 use Rattle.schema.proofs.Bools.{or-false}
 use Rattle.frame.specs.declared.Header.{Header}
-use Rattle.frame.specs.declared.FrameRead.{FrameRead}
-use Rattle.frame.specs.declared.FrameRead.TheVariants.{More, Frame as Whole, Refused}
+use Rattle.frame.specs.FrameRead.{FrameRead, More, Frame as Whole, Refused}
 use Rattle.frame.specs.Frame.{frame_of}
 use Rattle.frame.proofs.Answers.{read-bounds}
 use Rattle.wire.proofs.Cases.{differ}

@@ -16,8 +16,7 @@ use Rattle.schema.specs.File.{table_of}
 use Rattle.schema.specs.Check.{IsGood}
 use Rattle.schema.proofs.Bools.{cases, clash, is_false, or_cases}
 use Rattle.schema.proofs.Goods.{good-table}
-use Rattle.frame.specs.declared.FrameRead.{FrameRead}
-use Rattle.frame.specs.declared.FrameRead.TheVariants.{More, Frame as Whole, Refused}
+use Rattle.frame.specs.FrameRead.{FrameRead, More, Frame as Whole, Refused}
 use Rattle.frame.specs.Frame.{frame_of, read_used}
 use Rattle.frame.proofs.Faults.{refused-iff, more-iff}
 use Rattle.calls.specs.declared.Call.{Call}

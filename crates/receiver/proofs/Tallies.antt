@@ -17,8 +17,7 @@ use Rattle.schema.specs.Check.{IsGood, find_method, method_row}
 use Rattle.schema.proofs.Faults.{refused-iff as schema-refused}
 use Rattle.schema.proofs.Goods.{good-table}
 use Rattle.frame.specs.declared.Header.{Header}
-use Rattle.frame.specs.declared.FrameRead.{FrameRead}
-use Rattle.frame.specs.declared.FrameRead.TheVariants.{More, Frame as Whole, Refused}
+use Rattle.frame.specs.FrameRead.{FrameRead, More, Frame as Whole, Refused}
 use Rattle.frame.specs.Frame.{frame_of}
 use Rattle.frame.proofs.Faults.{refused-iff, more-iff}
 use Rattle.calls.specs.declared.Call.{Call}

@@ -18,8 +18,7 @@ use Rattle.schema.proofs.Bools.{clash, is_false}
 use Rattle.schema.proofs.Faults.{refused-iff as schema-refused}
 use Rattle.schema.proofs.Numbered.{listed, listed-bounds}
 use Rattle.frame.specs.declared.Header.{Header}
-use Rattle.frame.specs.declared.FrameRead.{FrameRead}
-use Rattle.frame.specs.declared.FrameRead.TheVariants.{More, Frame as Whole, Refused}
+use Rattle.frame.specs.FrameRead.{FrameRead, More, Frame as Whole, Refused}
 use Rattle.frame.specs.Frame.{frame_of}
 use Rattle.frame.proofs.Answers.{refused-numbers}
 use Rattle.frame.proofs.Faults.{refused-iff, more-iff}

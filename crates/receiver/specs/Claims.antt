@@ -5,7 +5,7 @@ use Rattle.schema.specs.File.{table_of}
 use Rattle.schema.specs.Check.{IsGood}
 use Rattle.schema.specs.Faults.{TableFault}
 use Rattle.frame.specs.declared.Header.{Header}
-use Rattle.frame.specs.declared.FrameRead.TheVariants.{Frame as Whole}
+use Rattle.frame.specs.FrameRead.{Frame as Whole}
 use Rattle.frame.specs.Frame.{frame_of}
 use Rattle.frame.specs.Faults.{FrameFault, CutFrame}
 use Rattle.calls.specs.declared.Call.{Call}

@@ -2,8 +2,7 @@
 use Rattle.std.specs.Prelude.{Bool, List, [], ◌∷◌, ℕ, eqb, length, replicate}
 use Rattle.schema.specs.Table.{Table}
 use Rattle.schema.specs.File.{table_of}
-use Rattle.frame.specs.declared.FrameRead.{FrameRead}
-use Rattle.frame.specs.declared.FrameRead.TheVariants.{More, Frame as Whole, Refused}
+use Rattle.frame.specs.FrameRead.{FrameRead, More, Frame as Whole, Refused}
 use Rattle.frame.specs.Frame.{frame_of}
 use Rattle.calls.specs.declared.Call.{Call}
 use Rattle.calls.specs.declared.Frame.{Frame}

@@ -12,8 +12,7 @@ use lib.Seq.{take_at}
 use Rattle.wire.proofs.Varuints.{spelled-pos}
 use Rattle.schema.proofs.Bools.{or_cases}
 use Rattle.frame.specs.declared.Header.{Header}
-use Rattle.frame.specs.declared.FrameRead.{FrameRead}
-use Rattle.frame.specs.declared.FrameRead.TheVariants.{More, Frame, Refused}
+use Rattle.frame.specs.FrameRead.{FrameRead, More, Frame, Refused}
 use Rattle.frame.specs.Frame.{frame_of}
 use Rattle.frame.specs.IsFrame as frame
 use Rattle.frame.proofs.Frames.{read-is-frame}

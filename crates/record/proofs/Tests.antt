@@ -7,8 +7,7 @@ use native.Mathlib.Omega.{arith}
 use lib.ListN.{length, get_or, take, drop, length-drop}
 use lib.Seq.{take_all}
 use Rattle.frame.specs.declared.Header.{Header}
-use Rattle.frame.specs.declared.FrameRead.{FrameRead}
-use Rattle.frame.specs.declared.FrameRead.TheVariants.{Frame}
+use Rattle.frame.specs.FrameRead.{FrameRead, Frame}
 use Rattle.frame.specs.Frame.{frame_of}
 use Rattle.frame.proofs.Answers.{read-bounds}
 use Rattle.record.specs.Entry.{is_side, size_of, entry_length}

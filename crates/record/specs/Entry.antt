@@ -1,8 +1,7 @@
 -- An entry of a record (01's terms), at the front of some bytes: a side byte, C or S, and then a whole frame that passes 2 to 7. Nothing is asked of a
 -- schema, nor whether the side suits the frame's kind.
 use Rattle.std.specs.Prelude.{ℕ, ◌+◌, Bool, cond, ◌||◌, List, [], ◌∷◌, eqb}
-use Rattle.frame.specs.declared.FrameRead.{FrameRead}
-use Rattle.frame.specs.declared.FrameRead.TheVariants.{More, Frame, Refused}
+use Rattle.frame.specs.FrameRead.{FrameRead, More, Frame, Refused}
 use Rattle.frame.specs.Frame.{frame_of}
 
 -- The byte is C (67) or S (83).

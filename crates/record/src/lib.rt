@@ -28,12 +28,7 @@ pub fn entry_length(bytes: &[u8]) -> usize
         return 0;
     }
     match frame::read_frame(&bytes[FRAME_AT..]) {
-        FrameRead::Frame {
-            header: _,
-            place,
-            length,
-        } => FRAME_AT + place + length,
-        FrameRead::More => 0,
-        FrameRead::Refused(_) => 0,
+        Ok(FrameRead::Whole(frame)) => FRAME_AT + frame.place + frame.length,
+        Ok(FrameRead::More) | Err(_) => 0,
     }
 }

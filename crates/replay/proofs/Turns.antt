@@ -11,8 +11,7 @@ use lib.ListN.{length, take, drop, length-replicate}
 use Rattle.schema.specs.File.{table_of}
 use Rattle.schema.proofs.Bools.{cases, clash, and_i, or_left, or_right, or-false, or-neither, not_i}
 use Rattle.frame.specs.declared.Header.{Header}
-use Rattle.frame.specs.declared.FrameRead.{FrameRead}
-use Rattle.frame.specs.declared.FrameRead.TheVariants.{More, Frame, Refused}
+use Rattle.frame.specs.FrameRead.{FrameRead, More, Frame, Refused}
 use Rattle.frame.specs.Frame.{frame_of, read_used}
 use Rattle.frame.proofs.Frames.{read-is-frame}
 use Rattle.frame.proofs.Answers.{used-inside}

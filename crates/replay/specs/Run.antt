@@ -2,7 +2,7 @@
 -- where the run stopped.
 use Rattle.std.specs.Prelude.{Bool, cond, not, ◌&&◌, ◌||◌, List, [], ◌∷◌, ℕ, zero, suc, ◌+◌, eqb, length, drop, replicate}
 use Rattle.frame.specs.declared.Header.{Header}
-use Rattle.frame.specs.declared.FrameRead.{FrameRead}
+use Rattle.frame.specs.FrameRead.{FrameRead}
 use Rattle.frame.specs.Frame.{frame_of}
 use Rattle.frame.specs.Numbers.{numbers}
 use Rattle.calls.specs.declared.Call.{Call}

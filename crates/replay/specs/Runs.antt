@@ -1,6 +1,6 @@
 -- Runs as a relation, beside the function and without a bound on the number of entries; and what an entry of a run has in the record.
 use Rattle.std.specs.Prelude.{◌≡◌, List, [], ◌∷◌, ◌⊎◌, ℕ, ◌+◌, ◌<◌, length, get_or, drop}
-use Rattle.frame.specs.declared.FrameRead.TheVariants.{Frame}
+use Rattle.frame.specs.FrameRead.{Frame}
 use Rattle.frame.specs.Frame.{frame_of}
 use Rattle.calls.specs.declared.Call.{Call}
 use Rattle.receiver.specs.declared.Received.{Received}

@@ -15,7 +15,7 @@ use Rattle.schema.specs.Table.{Table, shape, struct}
 use Rattle.schema.specs.Good.{GoodSchema}
 use Rattle.schema.specs.declared.Field.{Field}
 use Rattle.frame.specs.Frame.{frame_of, read_number}
-use Rattle.frame.specs.declared.FrameRead.TheVariants.{Refused as frame-Refused, More}
+use Rattle.frame.specs.FrameRead.{Refused as frame-Refused, More}
 use Rattle.frame.specs.Faults.{FrameFault, CutFrame, Faulty, FrameNumber}
 use Rattle.calls.specs.declared.Tally.{Tally}
 use Rattle.calls.specs.declared.Call.{Call}

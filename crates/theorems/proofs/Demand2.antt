@@ -13,10 +13,10 @@ use Rattle.schema.specs.File.{table_of}
 use Rattle.schema.specs.Good.{GoodSchema}
 use Rattle.frame.specs.declared.Header.{Header}
 use Rattle.frame.specs.Frame.{frame_of}
-use Rattle.frame.specs.declared.FrameRead.TheVariants.{Frame as frame-Frame}
+use Rattle.frame.specs.FrameRead.{Frame as frame-Frame}
 use Rattle.frame.specs.IsFrame.{Starts as frame-Starts, HeaderFits, IsFrame}
 use Rattle.frame.specs.Written.{written_of, Accepted as frame-Accepted, ReadBack, output_of, frame_bytes}
-use Rattle.frame.specs.declared.FrameWritten.TheVariants.{Written as frame-Written}
+use Rattle.frame.specs.FrameWritten.{Written as frame-Written}
 use Rattle.calls.specs.Order.{Past, Ruling, Ruled, Releases, closed, Lawful, LawfulRecord}
 use Rattle.calls.specs.declared.Frame.{Frame as calls-Frame}
 use Rattle.connection.specs.Step.{fresh_table}

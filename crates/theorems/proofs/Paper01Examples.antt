@@ -6,7 +6,7 @@ use mathlib.Core.Path.{◌≡◌}
 use mathlib.Core.Bool.{false}
 use mathlib.Core.Logic.{◌↔◌, ◌⊎◌}
 use Rattle.frame.specs.Frame.{frame_of}
-use Rattle.frame.specs.declared.FrameRead.TheVariants.{Frame as frame-Frame}
+use Rattle.frame.specs.FrameRead.{Frame as frame-Frame}
 use Rattle.text.specs.Decimal.{IsDecimal, decimal}
 use Rattle.calls.specs.declared.Call.{Call}
 use Rattle.reader.specs.Entry.{room}

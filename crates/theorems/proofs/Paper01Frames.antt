@@ -13,7 +13,7 @@ use Rattle.schema.specs.Table.{Table}
 use Rattle.frame.specs.declared.Header.{Header}
 use Rattle.frame.specs.IsFrame.{IsFrame}
 use Rattle.frame.specs.Frame.{frame_of}
-use Rattle.frame.specs.declared.FrameRead.TheVariants.{More}
+use Rattle.frame.specs.FrameRead.{More}
 use Rattle.calls.specs.Judge.{right_side, verdict_of, payload_of, typed, judge_of}
 use Rattle.calls.specs.declared.Tally.{Tally}
 use Rattle.calls.specs.declared.Call.{Call}

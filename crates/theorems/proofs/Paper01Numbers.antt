@@ -12,7 +12,7 @@ use Rattle.frame.specs.Frame.{frame_of, read_used}
 use Rattle.frame.specs.IsFrame.{Starts as frame-Starts}
 use Rattle.frame.specs.Faults.{CutFrame}
 use Rattle.frame.specs.Written.{written_of, Unwritten as frame-Unwritten}
-use Rattle.frame.specs.declared.FrameWritten.TheVariants.{Refused as frame-Refused}
+use Rattle.frame.specs.FrameWritten.{Refused as frame-Refused}
 use Rattle.calls.specs.declared.Tally.{Tally}
 use Rattle.calls.specs.declared.Call.{Call}
 use Rattle.calls.specs.declared.Frame.{Frame as calls-Frame}

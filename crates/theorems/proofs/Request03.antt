@@ -9,7 +9,7 @@ use Rattle.wire.specs.Little.{Bytes}
 use Rattle.schema.proofs.Examples.{file}
 use Rattle.frame.specs.Frame.{frame_of}
 use Rattle.frame.proofs.Examples.{invoke-bytes, payload, invoke}
-use Rattle.frame.specs.declared.FrameRead.TheVariants.{More, Refused as frame-Refused, Frame as frame-Frame}
+use Rattle.frame.specs.FrameRead.{More, Refused as frame-Refused, Frame as frame-Frame}
 use Rattle.promises.specs.Cases.{Hold as promises-Hold, lent as promises-lent, worked as promises-worked}
 use Rattle.wire.proofs.Varuints as wire-Varuints
 use Rattle.frame.proofs.Examples as frame-Examples

@@ -12,7 +12,7 @@ use Rattle.schema.specs.File.{table_of}
 use Rattle.schema.specs.Table.{Table}
 use Rattle.frame.specs.declared.Header.{Header}
 use Rattle.frame.specs.Frame.{frame_of}
-use Rattle.frame.specs.declared.FrameRead.TheVariants.{Frame as frame-Frame}
+use Rattle.frame.specs.FrameRead.{Frame as frame-Frame}
 use Rattle.calls.specs.declared.Call.{Call}
 use Rattle.calls.specs.Slots.{own_of, good_table}
 use Rattle.connection.specs.Step.{fresh_table}

@@ -9,7 +9,7 @@ use Rattle.schema.specs.Check.{IsGood}
 use Rattle.schema.specs.File.{table_of}
 use Rattle.frame.specs.declared.Header.{Header}
 use Rattle.frame.specs.Frame.{frame_of}
-use Rattle.frame.specs.declared.FrameRead.TheVariants.{Frame as frame-Frame}
+use Rattle.frame.specs.FrameRead.{Frame as frame-Frame}
 use Rattle.record.specs.Entry.{entry_length}
 use Rattle.record.specs.IsEntry.{Starts as record-Starts, NoEntry, Entries}
 use Rattle.salvage.specs.Cover.{Cover, ListedSpan, Accepted as salvage-Accepted, Refuses as salvage-Refuses}

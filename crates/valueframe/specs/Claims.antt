@@ -3,7 +3,7 @@ use Rattle.std.specs.Prelude.{◌≡◌, List, [], ℕ, ◌≤◌, ◌<◌, leng
 use Rattle.schema.specs.Check.{IsGood}
 use Rattle.schema.specs.Faults.{TableFault}
 use Rattle.frame.specs.declared.Header.{Header}
-use Rattle.frame.specs.declared.FrameWritten.TheVariants.{Written as Framed, Refused as Unframed}
+use Rattle.frame.specs.FrameWritten.{Written as Framed, Refused as Unframed}
 use Rattle.frame.specs.Written.{written_of, output_of}
 use Rattle.writer.specs.Writing.{Written, Refused}
 use Rattle.writer.specs.Entry.{outcome, file_outcome}

@@ -1,13 +1,19 @@
 -- `frame::judge_header` meets its contract: field by field, what is left to be judged gives the answer to the whole.
-use mathlib.Core.Path.{◌≡◌, sym, ap, ◌∙◌}
-use mathlib.Core.Bool.{true}
+use mathlib.Core.Path.{◌≡◌, refl, sym, ap, ◌∙◌}
+use mathlib.Core.Bool.{Bool, true, false, cond}
 use mathlib.Core.List.{List}
 use Prim.Native.Nat.{ℕ, ◌≤◌}
 use native.Mathlib.Omega.{arith}
-use borrow.Author.Tests.{le-leb, lt-leb, eq-eqb, ne_eqb}
+use borrow.Author.Tests.{leb-true, eq-eqb, ne_eqb}
+use lib.Dec.{leb}
+use Rattle.wire.specs.Varuint.{varuint}
 use lib.ListN.{length}
-use Rattle.frame.specs.Frame.{is_magic, known_kind, frame_of}
-use Rattle.frame.specs.Places.{number_at}
+use Rattle.std.proofs.Common.{Ok}
+use Rattle.wire.proofs.Cases.{differ}
+use Rattle.frame.specs.FrameRead.{FrameRead, More}
+use Rattle.frame.specs.Told.{told_header}
+use Rattle.frame.specs.Frame.{is_magic, known_kind, frame_payload, frame_of}
+use Rattle.frame.specs.Places.{number_at, header_at, judged}
 use Rattle.frame.proofs.Places.{short, wrong, passed, from_length, from_flags, from_kind, from_version, by-places}
 use Rattle.frame.proofs.judge_header.Goals as goal
 
@@ -24,55 +30,56 @@ flags : (s : List ℕ) → 5 ≤ length s → is_magic s ≡ true → number_at 
     → frame_of s ≡ from_length s
 flags s l m v k f = kind s (omega arith) m v k ∙ passed s 5 _ 5 _ l (eq-eqb _ _ f)
 
+-- of a right header, whether it is whole
+whole : (b : Bool) (next : FrameRead) → judged (told_header (Ok b)) next ≡ cond b next More
+whole true next = refl
+whole false next = refl
+
 pub returns-then-n-lt-VERSION_AT : goal.returns-then-n-lt-VERSION_AT
-returns-then-n-lt-VERSION_AT c = (sym (by-places _ ∙ short _ 2 _ 2 _ c.if-n-lt-VERSION_AT.true), λ e. absurd (omega arith))
+returns-then-n-lt-VERSION_AT c = (sym (by-places _ ∙ short _ 2 _ 2 _ c.if-n-lt-VERSION_AT.true), λ e. differ cc)
 
 pub returns-then-not-bytes : goal.returns-then-not-bytes
-returns-then-not-bytes c = (sym (by-places _ ∙ wrong _ 2 _ 2 _ c.if-n-lt-VERSION_AT.false c.if-not-bytes.true), λ e. absurd (omega arith))
+returns-then-not-bytes c = (sym (by-places _ ∙ wrong _ 2 _ 2 _ c.if-n-lt-VERSION_AT.false c.if-not-bytes.true), λ e. differ cc)
 
 pub returns-then-n-lt-KIND_AT : goal.returns-then-n-lt-KIND_AT
 returns-then-n-lt-KIND_AT c =
-    (sym (magic _ c.if-n-lt-VERSION_AT.false c.if-not-bytes.false ∙ short _ 3 _ 3 _ c.if-n-lt-KIND_AT.true), λ e. absurd (omega arith))
+    (sym (magic _ c.if-n-lt-VERSION_AT.false c.if-not-bytes.false ∙ short _ 3 _ 3 _ c.if-n-lt-KIND_AT.true), λ e. differ cc)
 
 pub returns-then-byte-ne-VERSION : goal.returns-then-byte-ne-VERSION
 returns-then-byte-ne-VERSION c =
     let wrong_one = ne_eqb _ _ (λ e. c.if-byte-ne-VERSION.true (c.byte.ensures ∙ e)) in
-    (sym (magic _ c.if-n-lt-VERSION_AT.false c.if-not-bytes.false ∙ wrong _ 3 _ 3 _ c.if-n-lt-KIND_AT.false wrong_one), λ e. absurd (omega arith))
+    (sym (magic _ c.if-n-lt-VERSION_AT.false c.if-not-bytes.false ∙ wrong _ 3 _ 3 _ c.if-n-lt-KIND_AT.false wrong_one), λ e. differ cc)
 
 pub returns-then-n-lt-FLAGS_AT : goal.returns-then-n-lt-FLAGS_AT
 returns-then-n-lt-FLAGS_AT c =
     let v = sym c.byte.ensures ∙ c.if-byte-ne-VERSION.false in
-    (sym (version _ c.if-n-lt-KIND_AT.false c.if-not-bytes.false v ∙ short _ 4 _ 4 _ c.if-n-lt-FLAGS_AT.true), λ e. absurd (omega arith))
+    (sym (version _ c.if-n-lt-KIND_AT.false c.if-not-bytes.false v ∙ short _ 4 _ 4 _ c.if-n-lt-FLAGS_AT.true), λ e. differ cc)
 
 pub returns-then-not-known_kind : goal.returns-then-not-known_kind
 returns-then-not-known_kind c =
     let v = sym c.byte.ensures ∙ c.if-byte-ne-VERSION.false in
     let none = ap known_kind (sym c.byte-2.ensures) ∙ sym c.known_kind.ensures ∙ c.if-not-known_kind.true in
-    (sym (version _ c.if-n-lt-KIND_AT.false c.if-not-bytes.false v ∙ wrong _ 4 _ 4 _ c.if-n-lt-FLAGS_AT.false none), λ e. absurd (omega arith))
+    (sym (version _ c.if-n-lt-KIND_AT.false c.if-not-bytes.false v ∙ wrong _ 4 _ 4 _ c.if-n-lt-FLAGS_AT.false none), λ e. differ cc)
 
 pub returns-then-n-lt-PACKAGE_AT : goal.returns-then-n-lt-PACKAGE_AT
 returns-then-n-lt-PACKAGE_AT c =
     let v = sym c.byte.ensures ∙ c.if-byte-ne-VERSION.false in
     let k = ap known_kind (sym c.byte-2.ensures) ∙ sym c.known_kind.ensures ∙ c.if-not-known_kind.false in
-    (sym (kind _ c.if-n-lt-FLAGS_AT.false c.if-not-bytes.false v k ∙ short _ 5 _ 5 _ c.if-n-lt-PACKAGE_AT.true), λ e. absurd (omega arith))
+    (sym (kind _ c.if-n-lt-FLAGS_AT.false c.if-not-bytes.false v k ∙ short _ 5 _ 5 _ c.if-n-lt-PACKAGE_AT.true), λ e. differ cc)
 
 pub returns-then-byte-ne-FLAGS : goal.returns-then-byte-ne-FLAGS
 returns-then-byte-ne-FLAGS c =
     let v = sym c.byte.ensures ∙ c.if-byte-ne-VERSION.false in
     let k = ap known_kind (sym c.byte-2.ensures) ∙ sym c.known_kind.ensures ∙ c.if-not-known_kind.false in
     let wrong_one = ne_eqb _ _ (λ e. c.if-byte-ne-FLAGS.true (c.byte-3.ensures ∙ e)) in
-    (sym (kind _ c.if-n-lt-FLAGS_AT.false c.if-not-bytes.false v k ∙ wrong _ 5 _ 5 _ c.if-n-lt-PACKAGE_AT.false wrong_one), λ e. absurd (omega arith))
-
-pub returns-then-n-lt-HEADER : goal.returns-then-n-lt-HEADER
-returns-then-n-lt-HEADER c =
-    let v = sym c.byte.ensures ∙ c.if-byte-ne-VERSION.false in
-    let k = ap known_kind (sym c.byte-2.ensures) ∙ sym c.known_kind.ensures ∙ c.if-not-known_kind.false in
-    let f = sym c.byte-3.ensures ∙ c.if-byte-ne-FLAGS.false in
-    (sym (flags _ c.if-n-lt-PACKAGE_AT.false c.if-not-bytes.false v k f ∙ rw (lt-leb 25 _ c.if-n-lt-HEADER.true)), λ e. absurd (omega arith))
+    (sym (kind _ c.if-n-lt-FLAGS_AT.false c.if-not-bytes.false v k ∙ wrong _ 5 _ 5 _ c.if-n-lt-PACKAGE_AT.false wrong_one), λ e. differ cc)
 
 pub returns : goal.returns
 returns c =
     let v = sym c.byte.ensures ∙ c.if-byte-ne-VERSION.false in
     let k = ap known_kind (sym c.byte-2.ensures) ∙ sym c.known_kind.ensures ∙ c.if-not-known_kind.false in
     let f = sym c.byte-3.ensures ∙ c.if-byte-ne-FLAGS.false in
-    (sym (flags _ c.if-n-lt-PACKAGE_AT.false c.if-not-bytes.false v k f ∙ rw (le-leb 25 _ c.if-n-lt-HEADER.false)), λ e. omega arith)
+    let s = c.args.bytes.now in (
+      whole (leb 25 (length s)) (frame_payload (length s) (header_at s) (varuint s 25)) ∙ sym (flags _ c.if-n-lt-PACKAGE_AT.false c.if-not-bytes.false v k f),
+      λ e. leb-true 25 (length s) cc,
+    )

@@ -2,7 +2,7 @@
 use mathlib.Core.Path.{ap, ◌∙◌}
 use mathlib.Core.List.{[], ◌∷◌}
 use Prim.Native.Nat.{ℕ}
-use Rattle.frame.specs.declared.FrameWritten.{FrameWritten}
+use Rattle.frame.specs.FrameWritten.{FrameWritten}
 use Rattle.frame.specs.Written.{write_number, output_of}
 use Rattle.exports.specs.Answers.{header_of, written_cells}
 use Rattle.cells.proofs.Stores.{told}
