@@ -2,17 +2,22 @@
 use mathlib.Core.Path.{◌≡◌, refl, sym, ap, ◌∙◌}
 use mathlib.Core.Bool.{true, false}
 use mathlib.Core.List.{List, [], ◌∷◌}
-use Prim.Native.Nat.{ℕ, ◌+◌, ◌-◌, ◌≤◌}
+use Prim.Native.Nat.{ℕ, zero, suc, ◌+◌, ◌-◌, ◌≤◌, ◌<◌}
 use native.Mathlib.Omega.{arith}
 use lib.ListN.{length, get_or, take, drop, length-drop}
 use lib.Seq.{take_all}
+use Rattle.std.proofs.Common.{Some}
 use Rattle.frame.specs.declared.Header.{Header}
 use Rattle.frame.specs.FrameRead.{FrameRead, Frame}
 use Rattle.frame.specs.Frame.{frame_of}
 use Rattle.frame.proofs.Answers.{read-bounds}
-use Rattle.record.specs.Entry.{is_side, size_of, entry_length}
+use Rattle.record.specs.Entry.{is_side, size_of, answered, entry_length}
 
-pub no_bytes : (s : List ℕ) → length s ≡ 0 → 0 ≡ entry_length s
+pub answered-some : (n : ℕ) → 0 < n → Some n ≡ answered n
+answered-some zero h = absurd (omega arith)
+answered-some (suc n) h = refl
+
+pub no_bytes : (s : List ℕ) → length s < 1 → 0 ≡ entry_length s
 unfolding entry_length
 no_bytes [] h = refl
 no_bytes (b ∷ s) h = absurd (omega arith)

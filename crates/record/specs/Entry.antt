@@ -1,6 +1,6 @@
 -- An entry of a record (01's terms), at the front of some bytes: a side byte, C or S, and then a whole frame that passes 2 to 7. Nothing is asked of a
 -- schema, nor whether the side suits the frame's kind.
-use Rattle.std.specs.Prelude.{ℕ, ◌+◌, Bool, cond, ◌||◌, List, [], ◌∷◌, eqb}
+use Rattle.std.specs.Prelude.{ℕ, zero, suc, Option, Some, None, ◌+◌, Bool, cond, ◌||◌, List, [], ◌∷◌, eqb}
 use Rattle.frame.specs.FrameRead.{FrameRead, More, Frame, Refused}
 use Rattle.frame.specs.Frame.{frame_of}
 
@@ -18,3 +18,8 @@ size_of (Refused number) = 0
 unfoldable pub entry_length : List ℕ → ℕ
 entry_length [] = 0
 entry_length (side ∷ bytes) = cond (is_side side) (size_of (frame_of bytes)) 0
+
+-- A length as it is answered: none where it is 0.
+abbrev pub answered : ℕ → Option ℕ
+answered zero = None
+answered (suc n) = Some (suc n)

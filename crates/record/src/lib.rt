@@ -2,7 +2,7 @@
 #![tactic(auto)]
 
 ghost use Rattle.std.specs.Prelude.{◌≡◌};
-ghost use Rattle.record.specs.Entry.{is_side, entry_length};
+ghost use Rattle.record.specs.Entry.{is_side, entry_length, answered};
 
 use constants::side;
 use frame::FrameRead;
@@ -17,18 +17,19 @@ fn is_side(byte: u8) -> bool
     (byte == side::CLIENT) | (byte == side::SERVER)
 }
 
-// The length of the entry that starts at the front of the bytes, or 0 where none does.
-pub fn entry_length(bytes: &[u8]) -> usize
-    ensures { result ≡ entry_length bytes.now }
+// The length of the entry that starts at the front of the bytes, where one does.
+pub fn entry_length(bytes: &[u8]) -> Option<usize>
+    ensures { result ≡ answered (entry_length bytes.now) }
 {
-    if bytes.len() == 0 {
-        return 0;
+    let [side, rest @ ..] = bytes else {
+        return None;
+    };
+    if !is_side(*side) {
+        return None;
     }
-    if !is_side(bytes[0]) {
-        return 0;
-    }
-    match frame::read_frame(&bytes[FRAME_AT..]) {
-        Ok(FrameRead::Whole(frame)) => FRAME_AT + frame.place + frame.length,
-        Ok(FrameRead::More) | Err(_) => 0,
+    match frame::read_frame(rest) {
+        Ok(FrameRead::Whole(frame)) => Some(FRAME_AT + frame.place + frame.length),
+        Ok(FrameRead::More) => None,
+        Err(_) => None,
     }
 }
