@@ -3,7 +3,7 @@
 use mathlib.Core.Path.{◌≡◌, refl, sym, ◌∙◌, ap, subst}
 use mathlib.Core.Bool.{Bool, true, false, not, ◌&&◌, ◌||◌}
 use mathlib.Core.List.{List, [], ◌∷◌}
-use Prim.Native.Nat.{ℕ, zero, suc, ◌-◌, ◌<◌, ◌≤◌}
+use Prim.Native.Nat.{ℕ, zero, suc, ◌+◌, ◌-◌, ◌<◌, ◌≤◌}
 use native.Mathlib.Omega.{arith}
 use lib.ListN.{length, get_or, take, drop, set, length-set, length-drop, drop_of_length-le}
 use lib.Seq.{take_all, drop-nil, drop-cons, get_or-set_same}
@@ -16,10 +16,10 @@ use Rattle.schema.proofs.Bools.{clash}
 use Rattle.table.proofs.Flags.{set-kept}
 use Rattle.table.proofs.Products.{top_below}
 
-pub flag-below : (b : Bool) (x : ℕ) → flag_of_number b x < 1024
+pub flag_below : (b : Bool) (x : ℕ) → flag_of_number b x < 1024
 unfolding flag_of_number mixed
-flag-below true x = top_below 10 54 _
-flag-below false x = top_below 10 54 _
+flag_below true x = top_below 10 54 _
+flag_below false x = top_below 10 54 _
 
 abbrev bits : (mixing : Bool) → List Bool → ℕ → Bool
 bits b seen x = get_or seen (flag_of_number b x) false
@@ -81,11 +81,13 @@ module _ (l : List ℕ) (b : Bool) (seen : List Bool) (i : ℕ) (a : DistinctFro
 
   -- the number is among the later ones, as the code asks it: the part runs to the end of the list
   abbrev again : Bool
-  again = get_or seen k false && contains x (take (length l - i) (drop i l))
+  again = get_or seen k false && contains x (take (length l - (i - 1 + 1)) (drop (i - 1 + 1) l))
 
   again-contains : again ≡ contains x (drop i l)
   again-contains =
-      (λ j. get_or seen (e j) false && contains x (take_all (length l - i) (drop i l) (omega (arith, length-drop i l)) j))
+      let same : i - 1 + 1 ≡ i = omega (arith, h) in
+      (λ j. get_or seen k false && contains x (take (length l - same j) (drop (same j) l)))
+      ∙ (λ j. get_or seen (e j) false && contains x (take_all (length l - i) (drop i l) (omega (arith, length-drop i l)) j))
       ∙ looked b seen x (drop i l) a.seen_bits
 
   before : drop (i - 1) l ≡ x ∷ drop i l
@@ -99,7 +101,7 @@ module _ (l : List ℕ) (b : Bool) (seen : List Bool) (i : ℕ) (a : DistinctFro
 
   pub distinct-next : again ≡ false → DistinctFrom l b (set seen k true) (i - 1)
   distinct-next t =
-      let w : flag_of_number b x < length seen = omega (arith, a.wide, flag-below b x) in
+      let w : flag_of_number b x < length seen = omega (arith, a.wide, flag_below b x) in
       record {
         differ = rw (before, sym again-contains ∙ t) a.differ;
         seen_bits = rw before (subst (λ (j : ℕ). Seen b (set seen j true) (x ∷ drop i l)) (sym e) (get_or-set_same seen (flag_of_number b x) true false w, seen-kept b seen (flag_of_number b x) (drop i l) a.seen_bits));

@@ -32,8 +32,8 @@ pub const TABLE_1: [FormRow; ROWS] = [
 ];
 
 // The row of a form in that table; there is none past 15, and nothing is allowed then. The table is a parameter, so that a loop lays it out once.
-pub fn row_in(table: [FormRow; ROWS], form: u32) -> FormRow
-    requires { table ≡ table_one }
+pub fn row_in(table: &[FormRow; ROWS], form: u32) -> FormRow
+    requires { table.now ≡ table_one }
     ensures { result ≡ row_of_form form }
 {
     if form < limit::FORMS {
@@ -47,5 +47,5 @@ pub fn row_in(table: [FormRow; ROWS], form: u32) -> FormRow
 pub fn row_of(form: u32) -> FormRow
     ensures { result ≡ row_of_form form }
 {
-    row_in(TABLE_1, form)
+    row_in(&TABLE_1, form)
 }

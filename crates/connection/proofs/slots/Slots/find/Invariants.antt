@@ -1,0 +1,8 @@
+-- `Slots::find` meets its contract. The loop's invariant: the first record that passes is the first of the rest.
+use Rattle.std.proofs.Common.{◌≡◌, drop}
+use Rattle.calls.specs.Record.{is_call}
+use Rattle.calls.specs.Slots.{first_slot}
+use Rattle.connection.proofs.slots.Slots.find.Given as goal
+
+abbrev pub invariant-loop-i : goal.invariant-loop-i
+invariant-loop-i g l = first_slot (is_call l.id) 0 (g.Self.Slots.slots l.self) ≡ first_slot (is_call l.id) l.i (drop l.i (g.Self.Slots.slots l.self))
