@@ -1,3 +1,4 @@
 pub mod Long
 pub mod Scan
 pub mod Distinct
+pub mod NoKind

@@ -1,11 +1,15 @@
 // The record of a call: all that depends on its members.
 ghost use Rattle.std.specs.Prelude.{◌≡◌, true, false, ◌<◌};
 ghost use Rattle.constants.specs.Number.{number_of};
-ghost use Rattle.calls.specs.Record.{is_call, is_free, opened_call, complete, allowed, not_allowed, counting, at_limit, marked, after_frame, zero_call, good_open};
+ghost use Rattle.constants.specs.Kinds.{byte_of_side, number_of_frame_kind};
+ghost use Rattle.calls.specs.Judge.{right_side};
+ghost use Rattle.calls.specs.Record.{is_call, is_free, opened_call, complete, allowed, not_allowed, at_limit, marked, after_frame, zero_call, good_open};
 
 use calls::{Call, FormRow};
+use constants::frame_kind::FrameKind;
+use constants::limit;
 use constants::refusal::Refusal;
-use constants::{frame_kind, limit};
+use constants::side::Side;
 
 pub const EMPTY: Call = Call {
     correlation: 0,
@@ -19,14 +23,6 @@ pub const EMPTY: Call = Call {
     output_elements: 0,
 };
 
-// One element more, where one is counted.
-fn more(n: u16, counted: bool) -> u16
-    requires { counted ≡ true → n < 65535 }
-    ensures { result ≡ counting counted n }
-{
-    if counted { n + 1 } else { n }
-}
-
 // The record that INVOKE makes.
 pub fn opened(method: u32, correlation: u64) -> Call
     ensures { result ≡ opened_call method correlation }
@@ -35,12 +31,7 @@ pub fn opened(method: u32, correlation: u64) -> Call
         correlation,
         method,
         open: true,
-        responded: false,
-        input_closed: false,
-        output_closed: false,
-        cancelled: false,
-        input_elements: 0,
-        output_elements: 0,
+        ..EMPTY
     }
 }
 
@@ -65,65 +56,85 @@ pub fn is_complete(call: Call, row: FormRow) -> bool
 }
 
 // Whether a frame that is no INVOKE is allowed.
-pub fn allows(call: Call, row: FormRow, kind: u8) -> bool
-    ensures { result ≡ allowed row kind call }
+pub fn allows(call: Call, row: FormRow, kind: FrameKind) -> bool
+    ensures { result ≡ allowed row (number_of_frame_kind kind) call }
 {
-    (kind == frame_kind::ERROR)
-        | (!call.cancelled
-            & (((kind == frame_kind::IN_STREAM) & (row.0 & !call.input_closed))
-                | (((kind == frame_kind::IN_CLOSE) & (row.1 & !call.input_closed))
-                    | (((kind == frame_kind::OUT_STREAM)
-                        & (row.2 & (call.responded & !call.output_closed)))
-                        | (((kind == frame_kind::OUT_CLOSE)
-                            & (row.3 & (call.responded & !call.output_closed)))
-                            | (((kind == frame_kind::RESPONSE) & !call.responded)
-                                | (kind == frame_kind::CANCEL)))))))
+    let input = !call.input_closed;
+    let output = call.responded & !call.output_closed;
+    match kind {
+        FrameKind::Error => true,
+        FrameKind::InStream => !call.cancelled & row.0 & input,
+        FrameKind::InClose => !call.cancelled & row.1 & input,
+        FrameKind::OutStream => !call.cancelled & row.2 & output,
+        FrameKind::OutClose => !call.cancelled & row.3 & output,
+        FrameKind::Response => !call.cancelled & !call.responded,
+        FrameKind::Cancel => !call.cancelled,
+        FrameKind::Invoke => false,
+    }
 }
 
-// The number of a frame that is not allowed now: a server frame of a cancelled call is dropped.
-pub fn not_allowed(call: Call, kind: u8) -> Refusal
-    ensures { number_of result ≡ not_allowed kind call }
+// Why a frame is not allowed now: a server frame of a cancelled call is dropped.
+pub fn not_allowed(call: Call, kind: FrameKind) -> Refusal
+    ensures { number_of result ≡ not_allowed (number_of_frame_kind kind) call }
 {
-    if call.cancelled & ((frame_kind::OUT_STREAM <= kind) & (kind <= frame_kind::ERROR)) {
+    if call.cancelled & (sender(kind) == Side::Server) {
         Refusal::Dropped
     } else {
         Refusal::NotNow
     }
 }
 
-// Whether an element of this kind would be one above 65,535.
-pub fn at_limit(call: Call, kind: u8) -> bool
-    ensures { result ≡ at_limit kind call }
+// The side that sends frames of this kind.
+pub fn sender(kind: FrameKind) -> Side
+    ensures { right_side (byte_of_side result) (number_of_frame_kind kind) ≡ true }
 {
-    ((kind == frame_kind::IN_STREAM) & (call.input_elements == limit::ELEMENTS))
-        | ((kind == frame_kind::OUT_STREAM) & (call.output_elements == limit::ELEMENTS))
-}
-
-// The record with the mark of an accepted frame, and a stream element counted.
-fn mark(call: Call, kind: u8) -> Call
-    requires { at_limit kind call ≡ false }
-    ensures { result ≡ marked kind call }
-{
-    Call {
-        correlation: call.correlation,
-        method: call.method,
-        open: true,
-        responded: call.responded | (kind == frame_kind::RESPONSE),
-        input_closed: call.input_closed | (kind == frame_kind::IN_CLOSE),
-        output_closed: call.output_closed | (kind == frame_kind::OUT_CLOSE),
-        cancelled: call.cancelled | (kind == frame_kind::CANCEL),
-        input_elements: more(call.input_elements, kind == frame_kind::IN_STREAM),
-        output_elements: more(call.output_elements, kind == frame_kind::OUT_STREAM),
+    match kind {
+        FrameKind::Invoke | FrameKind::InStream | FrameKind::InClose | FrameKind::Cancel => {
+            Side::Client
+        }
+        FrameKind::OutStream | FrameKind::OutClose | FrameKind::Response | FrameKind::Error => {
+            Side::Server
+        }
     }
 }
 
+// Whether an element of this kind would be one above 65,535.
+pub fn at_limit(call: Call, kind: FrameKind) -> bool
+    ensures { result ≡ at_limit (number_of_frame_kind kind) call }
+{
+    match kind {
+        FrameKind::InStream => call.input_elements == limit::ELEMENTS,
+        FrameKind::OutStream => call.output_elements == limit::ELEMENTS,
+        _ => false,
+    }
+}
+
+// The record with the mark of an accepted frame, or a stream element counted.
+fn mark(call: Call, kind: FrameKind) -> Call
+    requires { at_limit (number_of_frame_kind kind) call ≡ false }
+    ensures { result ≡ marked (number_of_frame_kind kind) call }
+{
+    let mut next = call;
+    next.open = true;
+    match kind {
+        FrameKind::InStream => next.input_elements += 1,
+        FrameKind::InClose => next.input_closed = true,
+        FrameKind::OutStream => next.output_elements += 1,
+        FrameKind::OutClose => next.output_closed = true,
+        FrameKind::Response => next.responded = true,
+        FrameKind::Cancel => next.cancelled = true,
+        FrameKind::Invoke | FrameKind::Error => {}
+    }
+    next
+}
+
 // The record after an accepted frame; an ended one is zeroed.
-pub fn after(call: Call, row: FormRow, kind: u8) -> Call
-    requires { at_limit kind call ≡ false }
-    ensures { result ≡ after_frame row kind call }
+pub fn after(call: Call, row: FormRow, kind: FrameKind) -> Call
+    requires { at_limit (number_of_frame_kind kind) call ≡ false }
+    ensures { result ≡ after_frame row (number_of_frame_kind kind) call }
 {
     let next = mark(call, kind);
-    if (kind == frame_kind::ERROR) | is_complete(next, row) {
+    if (kind == FrameKind::Error) | is_complete(next, row) {
         EMPTY
     } else {
         next

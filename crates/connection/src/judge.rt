@@ -3,30 +3,22 @@ ghost use Rattle.std.specs.Prelude.{◌≡◌};
 ghost use Rattle.schema.specs.File.{table_of};
 ghost use Rattle.schema.specs.Check.{IsGood, is_missing};
 ghost use Rattle.calls.specs.Slots.{slot_of};
-ghost use Rattle.calls.specs.Judge.{right_side, typed, payload_of, call_verdict, open_verdict, invoke_verdict, other_verdict, method_of, release_verdict, placed};
+ghost use Rattle.calls.specs.Judge.{typed, payload_of, call_verdict, open_verdict, invoke_verdict, other_verdict, method_of, release_verdict, placed};
 ghost use Rattle.calls.specs.OwnSlots.{judged_at};
 ghost use Rattle.calls.specs.Told.{told};
 ghost use Rattle.constants.specs.Number.{number_of};
+ghost use Rattle.constants.specs.Kinds.{number_of_frame_kind};
+ghost use Rattle.connection.specs.Judge.{named_verdict};
 
-use crate::call_record::{EMPTY, after, allows, at_limit, not_allowed, opened};
+use crate::call_record::{EMPTY, after, allows, at_limit, not_allowed, opened, sender};
 use crate::forms::row_of;
 use calls::{Allowed, Call, Frame, OwnSlot, Payload};
+use constants::frame_kind::FrameKind;
 use constants::refusal::Refusal;
-use constants::{format, frame_kind, limit, side};
+use constants::{format, limit};
 use schema::Method;
-use table::access::{find_method, method};
+use table::good::Schema;
 use table::rows::is_named;
-
-// Whether the kind comes from this side, the byte C or S.
-pub fn right_side(side: u8, kind: u8) -> bool
-    ensures { result ≡ right_side side kind }
-{
-    ((side == side::CLIENT)
-        & (((frame_kind::INVOKE <= kind) & (kind <= frame_kind::IN_CLOSE))
-            | (kind == frame_kind::CANCEL)))
-        | ((side == side::SERVER)
-            & ((frame_kind::OUT_STREAM <= kind) & (kind <= frame_kind::ERROR)))
-}
 
 // What a type number of a method asks for: a value of that struct, or for 4294967295 nothing.
 fn of_type(t: u32) -> Payload
@@ -41,16 +33,16 @@ fn of_type(t: u32) -> Payload
 
 // What the payload of a frame to a call of this method holds.
 #[tactic(auto, unfolding(calls::specs::Judge::payload_of))]
-pub fn payload_of(m: Method, kind: u8) -> Payload
-    ensures { result ≡ payload_of m kind }
+pub fn payload_of(m: Method, kind: FrameKind) -> Payload
+    ensures { result ≡ payload_of m (number_of_frame_kind kind) }
 {
     match kind {
-        frame_kind::INVOKE => of_type(m.input),
-        frame_kind::IN_STREAM => of_type(m.input_stream),
-        frame_kind::OUT_STREAM => of_type(m.output_stream),
-        frame_kind::RESPONSE => of_type(m.output),
-        frame_kind::ERROR => Payload::Unread,
-        _ => Payload::Empty,
+        FrameKind::Invoke => of_type(m.input),
+        FrameKind::InStream => of_type(m.input_stream),
+        FrameKind::OutStream => of_type(m.output_stream),
+        FrameKind::Response => of_type(m.output),
+        FrameKind::Error => Payload::Unread,
+        FrameKind::InClose | FrameKind::OutClose | FrameKind::Cancel => Payload::Empty,
     }
 }
 
@@ -58,82 +50,87 @@ pub fn payload_of(m: Method, kind: u8) -> Payload
 fn slot_of(found: Option<usize>) -> usize
     ensures { result ≡ slot_of found }
 {
-    match found {
-        Some(i) => i,
-        None => limit::CALLS,
-    }
+    found.unwrap_or(limit::CALLS)
 }
 
-// A frame that is no INVOKE, to this open call of method m at slot i.
+// A frame of this kind, to this open call of method m at slot i, which its identifiers name.
+fn judge_named(call: Call, m: Method, kind: FrameKind, i: usize) -> Result<Allowed, Refusal>
+    ensures { told number_of result ≡ placed i (named_verdict m (number_of_frame_kind kind) call) }
+{
+    let row = row_of(m.form);
+    if !allows(call, row, kind) {
+        return Err(not_allowed(call, kind));
+    }
+    if at_limit(call, kind) {
+        return Err(Refusal::TooManyElements);
+    }
+    Ok(Allowed::Goes(i, after(call, row, kind), payload_of(m, kind)))
+}
+
+// A frame that is no INVOKE, to this open call of method m at slot i. No frame has a kind past the last; such a one is not allowed.
 pub fn judge_call(call: Call, m: Method, f: Frame, i: usize) -> Result<Allowed, Refusal>
     ensures { told number_of result ≡ placed i (call_verdict m f call) }
 {
     if !is_named(m, f.package, f.service, f.method) {
         return Err(Refusal::OtherMethod);
     }
-    let row = row_of(m.form);
-    if !allows(call, row, f.kind) {
-        return Err(not_allowed(call, f.kind));
+    match FrameKind::try_from(f.kind) {
+        Ok(kind) => judge_named(call, m, kind, i),
+        Err(_) => Err(Refusal::NotNow),
     }
-    if at_limit(call, f.kind) {
-        return Err(Refusal::TooManyElements);
-    }
-    Ok(Allowed::Goes(i, after(call, row, f.kind), payload_of(m, f.kind)))
 }
 
 // An INVOKE that would make this record.
 fn judge_opening(seen: OwnSlot, new: Call, payload: Payload) -> Result<Allowed, Refusal>
     ensures { told number_of result ≡ placed (slot_of seen.slot) (open_verdict new payload seen.own (is_missing seen.slot)) }
 {
-    let own = seen.own;
-    let slot = seen.slot;
-    match own {
-        Some(_) => Err(Refusal::CallOpen),
-        None => match slot {
-            Some(j) => Ok(Allowed::Opens(j, new, payload)),
-            None => Err(Refusal::TooManyCalls),
-        },
+    match (seen.own, seen.slot) {
+        (Some(_), _) => Err(Refusal::CallOpen),
+        (None, Some(j)) => Ok(Allowed::Opens(j, new, payload)),
+        (None, None) => Err(Refusal::TooManyCalls),
     }
 }
 
-fn judge_invoke(seen: OwnSlot, s: &[u8], f: Frame) -> Result<Allowed, Refusal>
-    requires { IsGood s.now }
-    ensures { told number_of result ≡ placed (slot_of seen.slot) (invoke_verdict (table_of s.now) f.correlation (method_of (table_of s.now) f) seen.own (is_missing seen.slot)) }
+fn judge_invoke(seen: OwnSlot, schema: &Schema, f: Frame) -> Result<Allowed, Refusal>
+    ensures { told number_of result ≡ placed (slot_of seen.slot) (invoke_verdict (table_of schema.now.bytes.now) f.correlation (method_of (table_of schema.now.bytes.now) f) seen.own (is_missing seen.slot)) }
 {
-    match find_method(s, f.package, f.service, f.method) {
+    match schema.find_method(f.package, f.service, f.method) {
         None => Err(Refusal::UnknownMethod),
         Some(m) => {
-            let payload = payload_of(method(s, m), frame_kind::INVOKE);
+            let payload = payload_of(schema.method(m), FrameKind::Invoke);
             judge_opening(seen, opened(m as u32, f.correlation), payload)
         }
     }
 }
 
-fn judge_other(seen: OwnSlot, s: &[u8], f: Frame) -> Result<Allowed, Refusal>
-    requires { IsGood s.now }
-    ensures { told number_of result ≡ placed (slot_of seen.slot) (other_verdict (table_of s.now) f seen.own) }
+fn judge_other(seen: OwnSlot, schema: &Schema, f: Frame) -> Result<Allowed, Refusal>
+    ensures { told number_of result ≡ placed (slot_of seen.slot) (other_verdict (table_of schema.now.bytes.now) f seen.own) }
 {
-    let own = seen.own;
-    let slot = seen.slot;
-    match own {
+    match seen.own {
         None => Err(Refusal::CallNotOpen),
-        Some(call) => judge_call(call, method(s, call.method as usize), f, slot_of(slot)),
+        Some(call) => judge_call(
+            call,
+            schema.method(call.method as usize),
+            f,
+            slot_of(seen.slot),
+        ),
     }
 }
 
-// A frame before its payload is read, against a good schema table.
+// A frame before its payload is read, against a good schema table. Side and kind may be any numbers: no side sends what is none.
 #[tactic(auto, unfolding(calls::specs::OwnSlots::judged_at, calls::specs::Judge::verdict_of))]
 pub fn judge_frame(seen: OwnSlot, s: &[u8], f: Frame) -> Result<Allowed, Refusal>
     requires { IsGood s.now }
     ensures { told number_of result ≡ judged_at (table_of s.now) f seen }
 {
-    if !right_side(f.side, f.kind) {
-        return Err(Refusal::WrongSide);
-    }
-    if f.kind == frame_kind::INVOKE {
-        judge_invoke(seen, s, f)
-    } else {
-        judge_other(seen, s, f)
+    let schema = Schema::of_good(s);
+    match FrameKind::try_from(f.kind) {
+        Ok(kind) if f.side == sender(kind) as u8 => if kind == FrameKind::Invoke {
+            judge_invoke(seen, &schema, f)
+        } else {
+            judge_other(seen, &schema, f)
+        },
+        _ => Err(Refusal::WrongSide),
     }
 }
 
@@ -141,16 +138,11 @@ pub fn judge_frame(seen: OwnSlot, s: &[u8], f: Frame) -> Result<Allowed, Refusal
 pub fn judge_release(seen: OwnSlot) -> Result<Allowed, Refusal>
     ensures { told number_of result ≡ placed (slot_of seen.slot) (release_verdict seen.own) }
 {
-    let own = seen.own;
-    let slot = seen.slot;
-    match own {
+    match seen.own {
         None => Err(Refusal::CallNotOpen),
-        Some(call) => {
-            if call.cancelled {
-                Ok(Allowed::Goes(slot_of(slot), EMPTY, Payload::Unread))
-            } else {
-                Err(Refusal::NotNow)
-            }
+        Some(call) if call.cancelled => {
+            Ok(Allowed::Goes(slot_of(seen.slot), EMPTY, Payload::Unread))
         }
+        Some(_) => Err(Refusal::NotNow),
     }
 }

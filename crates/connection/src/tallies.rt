@@ -7,8 +7,9 @@ ghost use Rattle.calls.specs.Apart.{verdict, verdict_rise, verdict_release_rise}
 
 use crate::numbers::ends_call;
 use calls::{Allowed, Call, Figure, Rise, Tally};
+use constants::frame_kind::FrameKind;
+use constants::limit;
 use constants::refusal::Refusal;
-use constants::{frame_kind, limit};
 
 // A fresh row.
 pub const NO_TALLY: Tally = Tally {
@@ -29,20 +30,16 @@ const NO_RISE: Rise = Rise {
 fn ending(call: Call, kind: u8, next: Call) -> Figure
     ensures { result ≡ ending kind call next }
 {
-    let error = kind == frame_kind::ERROR;
-    let late = call.cancelled;
-    if error {
-        if late {
+    if kind == FrameKind::Error as u8 {
+        if call.cancelled {
             Figure::Cancelled
         } else {
             Figure::Errored
         }
+    } else if next.open {
+        Figure::Nothing
     } else {
-        if next.open {
-            Figure::Nothing
-        } else {
-            Figure::Completed
-        }
+        Figure::Completed
     }
 }
 
@@ -50,21 +47,18 @@ fn ending(call: Call, kind: u8, next: Call) -> Figure
 pub fn rise_of(own: Option<Call>, kind: u8, judged: Result<Allowed, Refusal>) -> Rise
     ensures { result ≡ verdict_rise kind own (verdict (told number_of judged)) }
 {
-    match judged {
-        Err(_) => NO_RISE,
-        Ok(Allowed::Opens(_, call, _)) => Rise {
+    match (judged, own) {
+        (Ok(Allowed::Opens(_, call, _)), _) => Rise {
             row: call.method as usize,
             accepted: Figure::Opened,
             refused: Figure::Nothing,
         },
-        Ok(Allowed::Goes(_, next, _)) => match own {
-            None => NO_RISE,
-            Some(call) => Rise {
-                row: call.method as usize,
-                accepted: ending(call, kind, next),
-                refused: Figure::Failed,
-            },
+        (Ok(Allowed::Goes(_, next, _)), Some(call)) => Rise {
+            row: call.method as usize,
+            accepted: ending(call, kind, next),
+            refused: Figure::Failed,
         },
+        _ => NO_RISE,
     }
 }
 
@@ -72,22 +66,13 @@ pub fn rise_of(own: Option<Call>, kind: u8, judged: Result<Allowed, Refusal>) ->
 pub fn release_rise(own: Option<Call>, judged: Result<Allowed, Refusal>) -> Rise
     ensures { result ≡ verdict_release_rise own (verdict (told number_of judged)) }
 {
-    match judged {
-        Err(_) => NO_RISE,
-        Ok(Allowed::Opens(_, _, _)) => NO_RISE,
-        Ok(Allowed::Goes(_, _, _)) => match own {
-            None => NO_RISE,
-            Some(call) => {
-                let row = call.method as usize;
-                let accepted = Figure::Cancelled;
-                let refused = Figure::Nothing;
-                Rise {
-                    row,
-                    accepted,
-                    refused,
-                }
-            }
+    match (judged, own) {
+        (Ok(Allowed::Goes(_, _, _)), Some(call)) => Rise {
+            row: call.method as usize,
+            accepted: Figure::Cancelled,
+            refused: Figure::Nothing,
         },
+        _ => NO_RISE,
     }
 }
 

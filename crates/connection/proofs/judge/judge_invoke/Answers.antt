@@ -8,7 +8,7 @@ use Rattle.connection.proofs.judge.judge_invoke.Goals as goal
 
 pub overflow_cast-m : goal.overflow_cast-m
 overflow_cast-m c =
-    let s = c.args.s.now in
+    let s = c.args.schema.now in
     let f = c.args.f in
     let named = sym c.find_method.ensures ∙ c.in-Some.is in
-    omega (arith, (good-table s c.requires).few_methods, (found-named (table_of s) f.«package» f.service f.method c.in-Some.m named).0)
+    omega (arith, (good-table s.bytes.now s.good).few_methods, (found-named (table_of s.bytes.now) f.«package» f.service f.method c.in-Some.m named).0)
