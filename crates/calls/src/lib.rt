@@ -9,7 +9,7 @@ ghost use Rattle.calls.specs.Told.{number_of_stop};
 use constants::refusal::{MORE, Refusal};
 
 // The record of a call. A free slot is zero in every member.
-#[derive(Clone, Copy)]
+#[derive(Clone, Copy, PartialEq, Eq)]
 pub struct Call {
     pub correlation: u64,
     pub method: u32,

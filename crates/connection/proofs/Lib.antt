@@ -1,4 +1,3 @@
-pub mod Long
 pub mod Scan
 pub mod Distinct
 pub mod NoKind

@@ -1,5 +1,5 @@
 -- What the searches of a call table share.
-use Rattle.std.specs.Prelude.{Bool, true, cond, ◌&&◌, List, length, ℕ, zero, suc, Option, Some, None}
+use Rattle.std.specs.Prelude.{Bool, true, cond, ◌&&◌, List, ℕ, zero, suc, Option, Some, None}
 use Rattle.schema.specs.Table.{Table}
 use Rattle.calls.specs.declared.Call.{Call}
 use Rattle.calls.specs.Slots.{count_open, good_table}

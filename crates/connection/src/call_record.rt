@@ -141,16 +141,14 @@ pub fn after(call: Call, row: FormRow, kind: FrameKind) -> Call
     }
 }
 
+// Whether a record is zero in every member but the mark that it is open.
 pub fn is_zero(call: Call) -> bool
     ensures { result ≡ zero_call call }
 {
-    (call.correlation == 0)
-        & ((call.method == 0)
-            & (!call.responded
-                & (!call.input_closed
-                    & (!call.output_closed
-                        & (!call.cancelled
-                            & ((call.input_elements == 0) & (call.output_elements == 0)))))))
+    Call {
+        open: false,
+        ..call
+    } == EMPTY
 }
 
 // Whether an open record is good by itself, where the schema has so many methods and its own has this form.

@@ -1,4 +1,4 @@
-// Table 1 of the draft, one row a form.
+// The table of the forms (docs/FORMAT.md), one row a form.
 ghost use Rattle.std.specs.Prelude.{◌≡◌};
 ghost use Rattle.calls.specs.Forms.{table_one, row_of_form};
 
@@ -32,13 +32,13 @@ pub const TABLE_1: [FormRow; ROWS] = [
 ];
 
 // The row of a form in that table; there is none past 15, and nothing is allowed then. The table is a parameter, so that a loop lays it out once.
+#[tactic(auto, unfolding(calls::specs::Forms::row_of_form))]
 pub fn row_in(table: &[FormRow; ROWS], form: u32) -> FormRow
     requires { table.now ≡ table_one }
     ensures { result ≡ row_of_form form }
 {
     if form < limit::FORMS {
-        let i = form as usize;
-        table[i]
+        table[form as usize]
     } else {
         FormRow(N, N, N, N)
     }

@@ -3,6 +3,7 @@ ghost use Rattle.std.specs.Prelude.{◌≡◌, ◌≤◌, ◌<◌, ℕ, Bool, tr
 ghost use Rattle.calls.specs.declared.Call as call;
 ghost use Rattle.calls.specs.Record.{is_call, is_free};
 ghost use Rattle.calls.specs.Slots.{slot, record_at, first_slot, count_open, good_call, good_table};
+ghost use Rattle.calls.specs.Forms.{table_one};
 ghost use Rattle.calls.specs.OwnSlots.{own_slot_of};
 ghost use Rattle.schema.specs.File.{table_of};
 ghost use Rattle.schema.specs.Check.{IsGood};
@@ -11,10 +12,10 @@ ghost use Rattle.connection.specs.Step.{fresh_table};
 
 use crate::CallTable;
 use crate::call_record::{EMPTY, is_call};
-use crate::forms::TABLE_1;
+use crate::forms::{ROWS, TABLE_1};
 use crate::good::{distinct, is_good_call};
 use arrayvec::ArrayVec;
-use calls::{Call, OwnSlot};
+use calls::{Call, FormRow, OwnSlot};
 use constants::limit;
 use table::good::Schema;
 
@@ -50,9 +51,9 @@ pub trait Slots {
         requires { i < 128 }
         ensures { result ≡ (slot (slots self.now) i).correlation };
 
-    // Whether the record at a slot fits the table's form, and is good by a schema table.
-    fn is_good_at(&self, i: usize, schema: &Schema) -> bool
-        requires { i < 128 }
+    // Whether the record at a slot fits the table's form, and is good by a schema table and that of the forms.
+    fn is_good_at(&self, i: usize, schema: &Schema, forms: &[FormRow; ROWS]) -> bool
+        requires { (i < 128) × (forms.now ≡ table_one) }
         ensures { result ≡ (fits self.now i && good_call (table_of schema.now.bytes.now) (slot (slots self.now) i)) };
 
     // The record at a slot, and an empty one past the last.
@@ -129,9 +130,10 @@ pub trait Slots {
     final fn good_count(&self, schema: &Schema) -> Option<usize>
         ensures { result ≡ good_count (fits self.now) (table_of schema.now.bytes.now) (slots self.now) }
     {
+        let forms = TABLE_1;
         let mut ids: ArrayVec<u64, { limit::CALLS }> = ArrayVec::new();
         for i in 0..self.slot_count() {
-            if !self.is_good_at(i, schema) {
+            if !self.is_good_at(i, schema, &forms) {
                 return None;
             }
             if self.is_open(i) {
@@ -171,8 +173,8 @@ impl Slots for CallTable {
         self.slots[i].correlation
     }
 
-    fn is_good_at(&self, i: usize, schema: &Schema) -> bool {
-        is_good_call(self.slots[i], schema, &TABLE_1)
+    fn is_good_at(&self, i: usize, schema: &Schema, forms: &[FormRow; ROWS]) -> bool {
+        is_good_call(self.slots[i], schema, forms)
     }
 }
 

@@ -1,5 +1,5 @@
 -- `good::distinct_by_flags` meets its contract. The loop's invariant: the numbers from place i on differ, and their flags are seen.
-use Rattle.std.proofs.Common.{◌≡◌, sym, ◌∙◌, arith}
+use Rattle.std.proofs.Common.{sym, ◌∙◌, arith}
 use Rattle.connection.proofs.Distinct.{distinct-here, distinct-next}
 use Rattle.connection.proofs.good.distinct_by_flags.Goals.{else-taken, then-taken+else-searches-mixing}
 use Rattle.connection.proofs.good.distinct_by_flags.Goals as goal

@@ -1,5 +1,5 @@
 -- `judge::judge_call` meets its contract: what no frame's kind is, is not allowed.
-use Rattle.std.proofs.Common.{◌≡◌, sym, ◌∙◌}
+use Rattle.std.proofs.Common.{sym, ◌∙◌}
 use Rattle.connection.proofs.NoKind.{allowed-none, late-none}
 use Rattle.connection.proofs.judge.judge_call.Goals as goal
 

@@ -1,5 +1,5 @@
 -- `Slots::good_count` meets its contract. The loop's invariant: the records passed fit and are good, and ids holds the correlations of the open ones.
-use Rattle.std.proofs.Common.{◌≡◌, sym, ap, ◌∙◌, arith}
+use Rattle.std.proofs.Common.{sym, ap, ◌∙◌, arith}
 use Rattle.calls.specs.Slots.{distinct}
 use Rattle.connection.proofs.Scan.{gathered-bad, gathered-open, gathered-free, gathered-end, gathered-same}
 use Rattle.connection.proofs.slots.Slots.good_count.Goals.{then-is_open, else-is_open}
