@@ -24,9 +24,5 @@ pub fn copy_cells(sheet: &mut [u32], other: &[u32], n: usize)
     requires { (n ≤ length sheet.old) × (n ≤ length other.now) }
     ensures { sheet.new ≡ paste sheet.old 0 other.now n }
 {
-    let mut i = 0;
-    while i < n {
-        sheet[i] = other[i];
-        i = i + 1;
-    }
+    sheet[..n].copy_from_slice(&other[..n]);
 }
