@@ -218,11 +218,10 @@ pub fn read_structs(
     ensures { HeldPartial s.now p.now depth ty elem m start n start row sheet.old (told_walk result) sheet.new }
 {
     let f = prepared_of(s, elem);
-    let mut left = n;
     let mut here = start;
     let mut below = row + 1;
     let mut sum: u32 = 0;
-    while 0 < left {
+    for _ in 0..n {
         if depth == 0 {
             return Refusal::TooDeep.at(here);
         }
@@ -230,7 +229,6 @@ pub fn read_structs(
         here = past.next;
         below = past.row;
         sum = sum + past.due;
-        left = left - 1;
     }
     put_row(sheet, row, ty, start, here - start, n);
     Ok(Past {

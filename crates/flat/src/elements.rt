@@ -43,15 +43,12 @@ pub fn are_leaves(s: &[u8], first: usize, n: usize) -> bool
     ensures { result ≡ true → LeavesIn (table_of s.now) first (first + n) }
 {
     let l = layout_of(s);
-    let end = first + n;
-    let mut i = first;
-    while i < end {
+    for i in first..first + n {
         let f = field_row(s, l, i);
         let t = row_at(s, l, f.ty as usize);
         if kind::BYTES < t.kind {
             return false;
         }
-        i = i + 1;
     }
     true
 }
@@ -145,10 +142,9 @@ fn read_leaves(
 {
     let t = type_row(s, elem as usize);
     let kind = t.kind as usize;
-    let mut left = n;
     let mut here = start;
     let mut below = row + 1;
-    while 0 < left {
+    for _ in 0..n {
         if depth == 0 {
             return Refusal::TooDeep.at(here);
         }
@@ -163,7 +159,6 @@ fn read_leaves(
         );
         here = content.to;
         below = below + 1;
-        left = left - 1;
     }
     put_row(sheet, row, ty, start, here - start, n);
     Ok(Past {
@@ -320,11 +315,10 @@ pub fn read_elements(
     ensures { HeldFlat s.now p.now depth ty elem start n start row sheet.old (told_walk result) sheet.new }
 {
     let f = prepared_of(s, elem);
-    let mut left = n;
     let mut here = start;
     let mut below = row + 1;
     let mut sum: u32 = 0;
-    while 0 < left {
+    for _ in 0..n {
         if depth == 0 {
             return Refusal::TooDeep.at(here);
         }
@@ -332,7 +326,6 @@ pub fn read_elements(
         here = past.next;
         below = past.row;
         sum = sum + past.due;
-        left = left - 1;
     }
     put_row(sheet, row, ty, start, here - start, n);
     Ok(Past {

@@ -92,10 +92,9 @@ fn leaf_pairs(
 {
     let k = known_row(s, key as usize).kind as usize;
     let v = known_row(s, val as usize).kind as usize;
-    let mut i = 0;
     let mut here = start;
     let mut below = row + 1;
-    while i < n {
+    for i in 0..n {
         if depth == 0 {
             return Refusal::TooDeep.at(here);
         }
@@ -111,7 +110,6 @@ fn leaf_pairs(
         );
         here = content.to;
         below = below + 2;
-        i = i + 1;
     }
     put_row(sheet, row, ty, start, here - start, n);
     Ok(Past {
@@ -182,11 +180,10 @@ pub fn read_maps(
     ensures { HeldFlat s.now p.now depth ty elem start n start row sheet.old (told_walk result) sheet.new }
 {
     let mut keys = [0usize; 2 * (MOST_PAIRS + FLAG_CELLS)];
-    let mut left = n;
     let mut here = start;
     let mut below = row + 1;
     let mut sum: u32 = 0;
-    while 0 < left {
+    for _ in 0..n {
         clear_flags(&mut keys);
         let past = leaf_map(
             s, p, sheet, &mut keys, elem, key, val, here, depth, below, judging,
@@ -194,7 +191,6 @@ pub fn read_maps(
         here = past.next;
         below = past.row;
         sum = sum + past.due;
-        left = left - 1;
     }
     put_row(sheet, row, ty, start, here - start, n);
     Ok(Past {

@@ -10,8 +10,8 @@ use Rattle.flat.proofs.elements.are_leaves.Goals as goal
 pub layout_of-l-requires : goal.layout_of-l-requires
 layout_of-l-requires c = good-shaped _ c.requires.0
 
-pub overflow_add-end : goal.overflow_add-end
-overflow_add-end c = let pre = c.requires in omega (arith, few-fields _ pre.0, pre.1)
+pub overflow_add-i-end : goal.overflow_add-i-end
+overflow_add-i-end c = let pre = c.requires in omega (arith, few-fields _ pre.0, pre.1)
 
 pub loop-i-init : goal.loop-i-init
 loop-i-init c = (omega arith, omega arith, λ i a b. absurd (omega arith))
@@ -24,11 +24,6 @@ row-t-requires c = good-laid _ _ c.requires.0 c.layout_of-l.ensures
 
 pub returns-then-t-gt-BYTES : goal.returns-then-t-gt-BYTES
 returns-then-t-gt-BYTES c e = absurd (false≢true e)
-
-pub overflow_add-i : goal.overflow_add-i
-overflow_add-i c =
-    let back = c in
-    omega (arith, few-fields _ back.requires.0, back.requires.1, c.loop-i-test.true)
 
 pub loop-i-preserved : goal.loop-i-preserved
 loop-i-preserved c =

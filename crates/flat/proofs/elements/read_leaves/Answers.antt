@@ -1,10 +1,12 @@
 -- `flat::elements::read_leaves` meets its contract. The invariant: what is left of the elements gives the same end, whatever is shown.
 use mathlib.Core.Path.{refl, ap, ◌∙◌}
+use Prim.Native.Nat.{◌-◌}
+use Rattle.std.proofs.Math.Nat.{sub-zero}
 use native.Mathlib.Omega.{arith}
 use Rattle.walks.specs.Shape.{shape_in}
 use Rattle.flat.proofs.Steps.{span_in, span-put, IsLeaf, is_leaf, leaf-asked, leaf-stop, leaf-past}
 use Rattle.flat.proofs.Turns.{reading-deep, reading-end, reading-first, reading-on, reading-own, reading-ready, reading-stop}
-use Rattle.walks.proofs.Items.{elements-none, elements-some}
+use Rattle.walks.proofs.Items.{elements-none, elements-more}
 use Rattle.flat.proofs.elements.read_leaves.Goals.{After-type_row-t}
 use Rattle.flat.specs.Told.{told_span}
 use Rattle.std.proofs.lemmas.Result.{err_from_is_err_and}
@@ -23,52 +25,52 @@ type_row-t-requires c = c.requires.ready.good
 pub overflow_add-below : goal.overflow_add-below
 overflow_add-below c = let pre = c.requires.ready in omega (arith, pre.small, pre.inside, pre.behind)
 
-pub loop-left-init : goal.loop-left-init
-loop-left-init c = let start = c in reading-first start.requires.ready (shape_in start.args.s.now) tt _
+pub loop-init : goal.loop-init
+loop-init c = let start = c in rw (sub-zero c.args.n) (reading-first start.requires.ready (shape_in start.args.s.now) tt _)
 
 pub shape_of-sheet-then-depth-eq0 : goal.shape_of-sheet-then-depth-eq0
-shape_of-sheet-then-depth-eq0 c = c.loop-left.invariant.long
+shape_of-sheet-then-depth-eq0 c = c.loop.invariant.long
 
 pub returns-then-depth-eq0 : goal.returns-then-depth-eq0
-returns-then-depth-eq0 c = rw c.at.ensures λ R. reading-deep c.loop-left.invariant (elements-some _ _ c.loop-left-test.true) c.if-depth-eq0.true R tt
+returns-then-depth-eq0 c = rw c.at.ensures λ R. reading-deep c.loop.invariant (elements-more _ c.loop-test.true) c.if-depth-eq0.true R tt
 
 pub content-requires : goal.content-requires
-content-requires c = let loop = c in leaf-asked (leaf (goal.at.content-requires c).After-type_row-t) c.if-depth-eq0.false (reading-ready loop.loop-left.invariant (elements-some _ _ c.loop-left-test.true))
+content-requires c = let loop = c in leaf-asked (leaf (goal.at.content-requires c).After-type_row-t) c.if-depth-eq0.false (reading-ready loop.loop.invariant (elements-more _ c.loop-test.true))
 
 pub returns-in_err-content : goal.returns-in_err-content
 returns-in_err-content c =
     let stop = leaf-stop (leaf (goal.at.returns-in_err-content c).After-type_row-t) c.if-depth-eq0.false c.content.ensures (ap told_span c.in_err-content.was) in
     let (_, is, same) = err_from_is_err_and c.from_residual.result c.from_residual.ensures.1 in
     rw (is, same)
-    (λ R. reading-stop c.loop-left.invariant (elements-some _ _ c.loop-left-test.true) {m = c.loop-left.sheet} (λ R ok. stop R) refl R tt)
+    (λ R. reading-stop c.loop.invariant (elements-more _ c.loop-test.true) {m = c.loop.sheet} (λ R ok. stop R) refl R tt)
 
 pub overflow_sub-content : goal.overflow_sub-content
 overflow_sub-content c = (span_in c.content.ensures (ap told_span c.in_ok-content.was)).0
 
 pub put_row-requires : goal.put_row-requires
 put_row-requires c =
-    let inv = c.loop-left.invariant in
+    let inv = c.loop.invariant in
     span-put c.content.ensures (ap told_span c.in_ok-content.was) inv.asked.small (omega (arith, inv.behind, inv.inside, inv.asked.small))
 
-pub overflow_add-below-in-loop-left : goal.overflow_add-below-in-loop-left
-overflow_add-below-in-loop-left c = let inv = c.loop-left.invariant in omega (arith, inv.behind, inv.inside, inv.asked.small)
+pub overflow_add-below-in-loop : goal.overflow_add-below-in-loop
+overflow_add-below-in-loop c = let inv = c.loop.invariant in omega (arith, inv.behind, inv.inside, inv.asked.small)
 
-pub loop-left-preserved : goal.loop-left-preserved
-loop-left-preserved c =
-    let past = leaf-past (leaf (goal.at.loop-left-preserved c).After-type_row-t) c.if-depth-eq0.false
-    c.content.ensures (ap told_span c.in_ok-content.was) c.loop-left.invariant.behind c.put_row.ensures in
-    reading-on c.loop-left.invariant (elements-some _ _ c.loop-left-test.true) (λ R ok. past R) refl
+pub loop-preserved : goal.loop-preserved
+loop-preserved c =
+    let past = leaf-past (leaf (goal.at.loop-preserved c).After-type_row-t) c.if-depth-eq0.false
+    c.content.ensures (ap told_span c.in_ok-content.was) c.loop.invariant.behind c.put_row.ensures in
+    reading-on c.loop.invariant (elements-more _ c.loop-test.true) (λ R ok. past R) refl
 
 pub overflow_sub-here : goal.overflow_sub-here
-overflow_sub-here c = omega (arith, c.loop-left.invariant.forth)
+overflow_sub-here c = omega (arith, c.loop.invariant.forth)
 
 pub put_row-requires-2 : goal.put_row-requires-2
-put_row-requires-2 c = reading-own c.loop-left.invariant (omega arith) c.requires.kind_nonzero.2
+put_row-requires-2 c = reading-own c.loop.invariant (omega arith) c.requires.kind_nonzero.2
 
 pub shape_of-sheet : goal.shape_of-sheet
-shape_of-sheet c = c.put_row-2.auto.sheet ∙ c.loop-left.invariant.long
+shape_of-sheet c = c.put_row-2.auto.sheet ∙ c.loop.invariant.long
 
 pub returns : goal.returns
 returns c =
-    let inv = c.loop-left.invariant in
-    λ R. reading-end inv (elements-none _ _ c.loop-left-test.false) c.put_row-2.ensures (omega arith) inv.forth R tt
+    let inv = c.loop.invariant in
+    λ R. reading-end inv (elements-none _ (c.args.n - c.loop.counter) (omega (arith, c.loop-test.false))) c.put_row-2.ensures (omega arith) inv.forth R tt

@@ -1,12 +1,10 @@
 -- `flat::elements::read_leaves` meets its contract. The invariant: what is left of the elements gives the same end, whatever is shown.
+use Prim.Native.Nat.{◌-◌}
 use lib.ListN.{replicate}
 use Rattle.schema.specs.Table.{array}
 use Rattle.value.specs.Read.{plain_item}
 use Rattle.flat.proofs.Turns.{Any, ReadingItems}
 use Rattle.flat.proofs.elements.read_leaves.Given as goal
 
-abbrev pub invariant-loop-left : goal.invariant-loop-left
-invariant-loop-left l = ReadingItems Any l.s l.p l.depth l.ty (array l.elem) l.start l.n l.start l.row l.judging l.initial.sheet (replicate l.left (plain_item l.elem)) l.here 0 l.below l.sheet
-
-abbrev pub decreases-loop-left : goal.decreases-loop-left
-decreases-loop-left l = l.left
+abbrev pub invariant-loop : goal.invariant-loop
+invariant-loop l = ReadingItems Any l.s l.p l.depth l.ty (array l.elem) l.start l.n l.start l.row l.judging l.initial.sheet (replicate (l.n - l.counter) (plain_item l.elem)) l.here 0 l.below l.sheet

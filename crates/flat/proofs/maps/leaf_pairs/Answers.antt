@@ -94,14 +94,6 @@ overflow_add-below-in-loop-i-2 c =
     let loop = c in
     let a = loop.loop-i.invariant.0 in omega (arith, a.inside, a.behind, a.asked.ready.small)
 
-pub overflow_add-i : goal.overflow_add-i
-overflow_add-i c =
-    let test = c in
-    omega (arith, test.loop-i-test.true, test.requires.pairs_ready.0.most)
-
-pub loop-i-smaller : goal.loop-i-smaller
-loop-i-smaller c = omega (arith, c.loop-i-test.true)
-
 pub loop-i-preserved : goal.loop-i-preserved
 loop-i-preserved c =
     let at = goal.at.loop-i-preserved c in (

@@ -1,7 +1,6 @@
 -- `flat::maps::leaf_pairs` meets its contract. The invariant: what is left of the pairs gives the same end, whatever is shown, and where keys are
 -- judged those behind are kept.
 use mathlib.Core.Path.{◌≡◌}
-use Prim.Native.Nat.{◌-◌}
 use lib.ListN.{length}
 use Rattle.flat.proofs.Pairs.{Along}
 use Rattle.flat.proofs.Turns.{Any}
@@ -9,6 +8,3 @@ use Rattle.flat.proofs.maps.leaf_pairs.Given as goal
 
 abbrev pub invariant-loop-i : goal.invariant-loop-i
 invariant-loop-i l = Along Any l.s l.p l.depth l.ty l.key l.val l.n l.start l.row l.judging l.initial.sheet l.keys l.i l.here 0 l.below l.sheet × (length l.keys ≡ length l.initial.keys)
-
-abbrev pub decreases-loop-i : goal.decreases-loop-i
-decreases-loop-i l = l.n - l.i

@@ -1,5 +1,6 @@
 -- `flat::maps::read_maps` meets its contract. The invariant: what is left of the elements gives the same end, whatever is shown.
 use mathlib.Core.Path.{◌≡◌}
+use Prim.Native.Nat.{◌-◌}
 use lib.ListN.{length, replicate}
 use Rattle.schema.specs.Table.{array}
 use Rattle.value.specs.Read.{plain_item}
@@ -7,9 +8,6 @@ use Rattle.walks.specs.Shape.{shape_in}
 use Rattle.flat.proofs.Turns.{ReadingItems}
 use Rattle.flat.proofs.maps.read_maps.Given as goal
 
-abbrev pub invariant-loop-left : goal.invariant-loop-left
-invariant-loop-left l = ReadingItems (λ R. R l.elem ≡ shape_in l.s l.elem) l.s l.p l.depth l.ty
-    (array l.elem) l.start l.n l.start l.row l.judging l.initial.sheet (replicate l.left (plain_item l.elem)) l.here l.sum l.below l.sheet × (length l.keys ≡ 136)
-
-abbrev pub decreases-loop-left : goal.decreases-loop-left
-decreases-loop-left l = l.left
+abbrev pub invariant-loop : goal.invariant-loop
+invariant-loop l = ReadingItems (λ R. R l.elem ≡ shape_in l.s l.elem) l.s l.p l.depth l.ty
+    (array l.elem) l.start l.n l.start l.row l.judging l.initial.sheet (replicate (l.n - l.counter) (plain_item l.elem)) l.here l.sum l.below l.sheet × (length l.keys ≡ 136)
