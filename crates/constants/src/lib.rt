@@ -6,6 +6,7 @@ pub mod format;
 pub mod frame_kind;
 pub mod kind;
 pub mod limit;
+pub mod numbered;
 pub mod papers;
 pub mod refusal;
 pub mod side;
