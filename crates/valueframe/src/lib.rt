@@ -4,17 +4,18 @@
 ghost use Rattle.std.specs.Prelude.{◌≡◌, ◌+◌, ◌≤◌, length};
 ghost use Rattle.schema.specs.Check.{IsGood};
 ghost use Rattle.value.specs.Sheet.{rows_of};
+ghost use Rattle.writer.specs.Told.{told};
 ghost use Rattle.writer.specs.Entry.{outcome, outcome_of, length_of, payload_by};
 ghost use Rattle.valueframe.specs.Entry.{empty_by, frame_in, value_frame, frame_outcome};
 ghost use Rattle.valueframe.specs.Part.{belongs, part_after};
 
-use constants::refusal::Refused;
-use constants::{format, limit, refusal};
+use constants::refusal::{Refusal, Refused};
+use constants::{format, limit};
 use frame::{Header, known_kind, payload_place, write_front};
 use table::checking::check;
 use writer::leaf::wide;
 use writer::put::put_span;
-use writer::{FEW_CELLS, SHORT, Writing, make, put_payload};
+use writer::{FEW_CELLS, SHORT, make, put_payload};
 
 // A part of the output, from one place up to another.
 #[derive(Clone, Copy)]
@@ -79,17 +80,13 @@ fn part_for(g: Guess, room: usize) -> Part
 }
 
 // Whether a payload was written whose place in the frame is `start`, with no more than so many bytes.
-fn is_there(answer: Writing, start: usize, size: usize) -> bool
-    ensures { result ≡ belongs answer start size }
+#[tactic(auto, unfolding(crate::specs::Part::belongs))]
+fn is_there(answer: Result<usize, Refused>, start: usize, size: usize) -> bool
+    ensures { result ≡ belongs (told answer) start size }
 {
     match answer {
-        Writing::Refused {
-            number: _,
-            place: _,
-        } => false,
-        Writing::Written { length } => {
-            (payload_place(length as u64) == start) & (length <= size)
-        }
+        Err(_) => false,
+        Ok(length) => (payload_place(length as u64) == start) & (length <= size),
     }
 }
 
@@ -103,9 +100,9 @@ fn put_first(
     start: usize,
     kept: &mut [u8],
     part: &mut [u8],
-) -> Writing
+) -> Result<usize, Refused>
     requires { IsGood s.now × (length part.old ≤ length kept.old) × (length kept.old ≤ 16384) }
-    ensures value { result ≡ length_of (payload_by s.now ty sheet.now source.now) }
+    ensures value { told result ≡ length_of (payload_by s.now ty sheet.now source.now) }
     ensures part_after { part.new ≡ part_after (payload_by s.now ty sheet.now source.now) start part.old }
 {
     let n = part.len();
@@ -128,52 +125,39 @@ fn write_keeping(
     g: Guess,
     kept: &mut [u8],
     out: &mut [u8],
-) -> Writing
+) -> Result<usize, Refused>
     requires { IsGood s.now × (header.kind ≤ 8) × (g.kept ≤ length kept.old) × (length kept.old ≤ 16384) }
-    ensures { outcome result out.new ≡ frame_in header out.old (payload_by s.now ty sheet.now source.now) }
+    ensures { outcome (told result) out.new ≡ frame_in header out.old (payload_by s.now ty sheet.now source.now) }
 {
     let Part { start, end: until } = part_for(g, out.len());
     let answer = put_first(s, ty, sheet, source, start, kept, &mut out[start..until]);
-    match answer {
-        Writing::Refused { number, place } => Writing::Refused { number, place },
-        Writing::Written { length } => {
-            let place = payload_place(length as u64);
-            let end = place + length;
-            if out.len() < end {
-                return Writing::Refused {
-                    number: refusal::OUTPUT_TOO_SHORT,
-                    place: 0,
-                };
-            }
-            write_front(out, header, length as u64);
-            if !is_there(answer, start, until - start) {
-                put_payload(s, ty, sheet, source, &mut out[place..end]);
-            }
-            Writing::Written { length: end }
-        }
+    let length = answer?;
+    let place = payload_place(length as u64);
+    let end = place + length;
+    if out.len() < end {
+        return Refusal::OutputTooShort.at(0);
     }
+    write_front(out, header, length as u64);
+    if !is_there(answer, start, until - start) {
+        put_payload(s, ty, sheet, source, &mut out[place..end]);
+    }
+    Ok(end)
 }
 
 // The frame of a header of a known kind without a value. A row is left over.
-fn write_empty(header: Header, sheet: &[u32], out: &mut [u8]) -> Writing
+fn write_empty(header: Header, sheet: &[u32], out: &mut [u8]) -> Result<usize, Refused>
     requires { header.kind ≤ 8 }
-    ensures { outcome result out.new ≡ frame_in header out.old (empty_by (rows_of sheet.now)) }
+    ensures { outcome (told result) out.new ≡ frame_in header out.old (empty_by (rows_of sheet.now)) }
 {
     if sheet.len() < format::ROW_CELLS {
         let place = payload_place(0);
         if out.len() < place {
-            return Writing::Refused {
-                number: refusal::OUTPUT_TOO_SHORT,
-                place: 0,
-            };
+            return Refusal::OutputTooShort.at(0);
         }
         write_front(out, header, 0);
-        return Writing::Written { length: place };
+        return Ok(place);
     }
-    Writing::Refused {
-        number: refusal::SHEET,
-        place: 0,
-    }
+    Refusal::Sheet.at(0)
 }
 
 // The frame of a header and the value that the sheet's rows show over the source, by a good table.
@@ -184,15 +168,12 @@ fn write_frame(
     sheet: &[u32],
     source: &[u8],
     out: &mut [u8],
-) -> Writing
+) -> Result<usize, Refused>
     requires { IsGood s.now }
-    ensures { outcome result out.new ≡ outcome_of out.old (value_frame header s.now ty sheet.now source.now (length out.old)) }
+    ensures { outcome (told result) out.new ≡ outcome_of out.old (value_frame header s.now ty sheet.now source.now (length out.old)) }
 {
     if !known_kind(header.kind) {
-        return Writing::Refused {
-            number: refusal::KIND,
-            place: 0,
-        };
+        return Refusal::Kind.at(0);
     }
     if ty == format::NO_TYPE {
         return write_empty(header, sheet, out);
@@ -207,6 +188,7 @@ fn write_frame(
 }
 
 // The same by any table: its own refusals come first.
+#[tactic(auto, unfolding(crate::specs::Entry::frame_outcome))]
 pub fn write_value_frame(
     header: Header,
     schema: &[u8],
@@ -214,14 +196,9 @@ pub fn write_value_frame(
     sheet: &[u32],
     source: &[u8],
     out: &mut [u8],
-) -> Writing
-    ensures { outcome result out.new ≡ frame_outcome header schema.now ty sheet.now source.now out.old }
+) -> Result<usize, Refused>
+    ensures { outcome (told result) out.new ≡ frame_outcome header schema.now ty sheet.now source.now out.old }
 {
-    match check(schema) {
-        Err(Refused { place, refusal }) => Writing::Refused {
-            number: refusal as u32,
-            place,
-        },
-        Ok(()) => write_frame(header, schema, ty, sheet, source, out),
-    }
+    check(schema)?;
+    write_frame(header, schema, ty, sheet, source, out)
 }

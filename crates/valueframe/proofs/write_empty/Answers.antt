@@ -10,7 +10,8 @@ use Rattle.valueframe.proofs.write_empty.Goals as goal
 pub returns-then-out-place : goal.returns-then-out-place
 returns-then-out-place c =
     let args = c.args in
-    in_room args.header args.out.now (empty_by (rows_of args.sheet.now)) 0 _ (ap length_of (empty-none args.sheet.now c.if-sheet-lt-ROW_CELLS.true)) c.payload_place-place.ensures.0 (omega (arith, c.if-out-place.true))
+    rw c.at.ensures
+    (in_room args.header args.out.now (empty_by (rows_of args.sheet.now)) 0 _ (ap length_of (empty-none args.sheet.now c.if-sheet-lt-ROW_CELLS.true)) c.payload_place-place.ensures.0 (omega (arith, c.if-out-place.true)))
 
 pub returns-then-sheet-lt-ROW_CELLS : goal.returns-then-sheet-lt-ROW_CELLS
 returns-then-sheet-lt-ROW_CELLS c =
@@ -21,4 +22,5 @@ returns-then-sheet-lt-ROW_CELLS c =
 pub returns : goal.returns
 returns c =
     let args = c.args in
-    in_refused args.header args.out.now (empty_by (rows_of args.sheet.now)) 50 0 (ap length_of (empty-surplus args.sheet.now c.if-sheet-lt-ROW_CELLS.false))
+    rw c.at-2.ensures
+    (in_refused args.header args.out.now (empty_by (rows_of args.sheet.now)) 50 0 (ap length_of (empty-surplus args.sheet.now c.if-sheet-lt-ROW_CELLS.false)))

@@ -8,7 +8,8 @@ use Rattle.valueframe.proofs.write_frame.Goals as goal
 pub returns-then-not-known_kind : goal.returns-then-not-known_kind
 returns-then-not-known_kind c =
     let args = c.args in
-    frame-kind args.header args.s.now args.ty args.sheet.now args.source.now args.out.now (sym c.known_kind.ensures ∙ c.if-not-known_kind.true)
+    rw c.at.ensures
+    (frame-kind args.header args.s.now args.ty args.sheet.now args.source.now args.out.now (sym c.known_kind.ensures ∙ c.if-not-known_kind.true))
 
 pub write_empty-requires : goal.write_empty-requires
 write_empty-requires c =
