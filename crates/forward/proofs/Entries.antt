@@ -1,4 +1,5 @@
 -- Laws of the entries: what each of their returns shows of the whole forwarding.
+use Rattle.std.specs.Prelude.{Result, Ok, Err}
 use mathlib.Core.Path.{◌≡◌, refl, sym, ap, ap₂, ◌∙◌}
 use mathlib.Core.Logic.{⊎_elim}
 use mathlib.Core.Bool.{Bool, true, false, cond}
@@ -39,8 +40,12 @@ use Rattle.walks.proofs.Tables.{no-struct}
 use Rattle.walks.proofs.Walks.{nothing-before}
 use Rattle.writer.specs.Writing.{Writing}
 use Rattle.writer.specs.Writing.{Written, Refused}
-use Rattle.writer.specs.declared.walk.Walk.{Walk}
-use Rattle.writer.specs.declared.walk.Walk.TheVariants.{Past, Refused as Stopped}
+use Rattle.constants.specs.Number.{number_of}
+use Rattle.constants.specs.declared.refusal.Refusal.{Refusal}
+use Rattle.constants.specs.declared.refusal.Refusal.TheVariants.{Magic}
+use Rattle.constants.specs.declared.refusal.Refused as error
+use Rattle.constants.proofs.Number.{named, named-number_of}
+use Rattle.writer.specs.declared.walk.Past.{Past}
 use Rattle.writer.specs.Emit.{cap, done, stopped, emit}
 use Rattle.writer.specs.Leaf.{rows_at}
 use Rattle.writer.specs.Walk.{end_of, Walked}
@@ -148,10 +153,12 @@ put-joined bits plain tail out pos l b h =
     ∙ sym (append_assoc front tail (drop (pos + length tail) out))
     ∙ ap (λ (x : List ℕ). x ++ drop (pos + length tail) out) (append_assoc bits (drop (length bits) plain) tail)
 
--- ---- a refusal that names no row
-
-pub as_refused : {w : Writing} {k q : ℕ} {out : List ℕ} {x : Outcome} → w ≡ Refused k q → outcome (Refused k q) out ≡ x → outcome w out ≡ x
-as_refused {w} {k} {q} {out} e h = ap (λ (a : Writing). outcome a out) e ∙ h
+-- no refusal has the number 0
+number-above : (r : Refusal) → number_of r ≡ 0 → ⊥
+number-above r e =
+    let first : r ≡ Magic = sym (named-number_of r) ∙ ap named e in
+    let two : number_of r ≡ 2 = ap number_of first in
+    omega (arith, e, two)
 
 -- ---- a type that is no struct
 
@@ -165,7 +172,7 @@ entry_other s good ty cells B place n out r is h =
 -- ---- the two walks
 
 module _ (s : List ℕ) (ty : ℕ) (cells B : List ℕ) (place n : ℕ) (out : List ℕ) (fs : List Field) (is : shape (table_of s) ty ≡ struct fs)
-    (o o' : List ℕ) (r : Walk) (walked : Walked cells (emit (shape (table_of s)) ty (show_root (shape (table_of s)) B ty fs (rows_at cells 0)) 0 o) r o') (z : length o' ≡ 0) where
+    (o o' : List ℕ) (r : Result Past error.Refused) (walked : Walked cells (emit (shape (table_of s)) ty (show_root (shape (table_of s)) B ty fs (rows_at cells 0)) 0 o) r o') (z : length o' ≡ 0) where
   same_out : o' ++ out ≡ out
   same_out = nothing-before o' out z
 
@@ -173,12 +180,20 @@ module _ (s : List ℕ) (ty : ℕ) (cells B : List ℕ) (place n : ℕ) (out : L
   unfolding sheet_forwarded forward
   entry-stopped k q e = rw (is, e)
 
-  pub entry-refused : (k q : ℕ) → r ≡ Stopped k q → outcome (Refused k q) (o' ++ out) ≡ sheet_forwarded s ty cells B place n out
-  entry-refused k q e =
+  pub entry-refused : {f : error.Refused} → r ≡ Err f → outcome (Refused (number_of f.refusal) f.place) (o' ++ out) ≡ sheet_forwarded s ty cells B place n out
+  entry-refused {f} e =
+      let k = number_of f.refusal in
+      let q = f.place in
       let w : stopped k q ≡ emit (shape (table_of s)) ty (show_root (shape (table_of s)) B ty fs (rows_at cells 0)) 0 o = rw e at walked.same in
       rw same_out (entry-stopped k q (emit-stopped (shape (table_of s)) ty _ k q o w))
 
-  module _ (row pos : ℕ) (e : r ≡ Past row pos) where
+  module _ (past : Past) (e : r ≡ Ok past) where
+    abbrev row : ℕ
+    row = past.row
+
+    abbrev pos : ℕ
+    pos = past.pos
+
     shown : (tree : Tree) × (show_root (shape (table_of s)) B ty fs (rows_at cells 0) ≡ seen tree (rows_at cells row))
         × (pos ≡ cap (length (encode (shape (table_of s)) (value tree) ty)))
         × (o' ≡ put o 0 (encode (shape (table_of s)) (value tree) ty))
@@ -250,11 +265,14 @@ module _ (s : List ℕ) (ty : ℕ) (cells B : List ℕ) (place n : ℕ) (out : L
             (refusal 51 0)
         tests = ⊎_elim (λ a. rw (a, whole_length (leb-true (place + n) (length B) a))) (λ a. rw a) (cases (inside B place n))
 
-        pub entry-fault : (k ≡ 0 → ⊥) → outcome (Refused k 0) (o' ++ out) ≡ sheet_forwarded s ty cells B place n out
+        faulty : (k ≡ 0 → ⊥) → outcome (Refused k 0) (o' ++ out) ≡ sheet_forwarded s ty cells B place n out
         unfolding fault_of
-        entry-fault h =
+        faulty h =
             let f = test-refused (inside B place n) (suits (root_unknown fs (rows_of cells) B) n) (leb (length plain + n) 16384) (leb (length plain + n) (length out)) (spliced bits plain tail) k fault-plain h in
             rw (same_out, entry-by, tests) (ap (outcome_of out) f)
+
+        pub entry-fault : (f : error.Refused) → k ≡ number_of f.refusal → f.place ≡ 0 → outcome (Refused (number_of f.refusal) f.place) (o' ++ out) ≡ sheet_forwarded s ty cells B place n out
+        entry-fault f same first = rw (← same, first) (faulty (λ z. number-above f.refusal (sym same ∙ z)))
 
         module _ (none : k ≡ 0) where
           passed : (inside B place n ≡ true) × (suits (root_unknown fs (rows_of cells) B) n ≡ true) × (leb (length plain + n) 16384 ≡ true) × (leb (length plain + n) (length out) ≡ true)
@@ -275,7 +293,7 @@ module _ (s : List ℕ) (ty : ℕ) (cells B : List ℕ) (place n : ℕ) (out : L
           entry-fits = let h = entry-room in omega arith
 
           -- the second walk writes what the plain writer writes,
-          second-bytes : (r₂ : Walk) (o₂ : List ℕ)
+          second-bytes : (r₂ : Result Past error.Refused) (o₂ : List ℕ)
               → Walked cells (emit (shape (table_of s)) ty (show_root (shape (table_of s)) B ty fs (rows_at cells 0)) 0 (take pos (o' ++ out))) r₂ o₂
               → (length plain ≡ pos) × (o₂ ≡ plain)
           second-bytes r₂ o₂ w =
@@ -287,10 +305,10 @@ module _ (s : List ℕ) (ty : ℕ) (cells B : List ℕ) (place n : ℕ) (out : L
               again : (t t' : Tree) (c c' : CursorOf Row) (m : AnswerOf Row Tree) → m ≡ seen t c → m ≡ seen t' c' → t' ≡ t
               again t t' c c' m e e' = cc
 
-              go : length plain ≡ pos → (r₂ : Walk)
+              go : length plain ≡ pos → (r₂ : Result Past error.Refused)
                   → end_of cells r₂ o₂ ≡ emit (shape (table_of s)) ty (show_root (shape (table_of s)) B ty fs (rows_at cells 0)) 0 (take pos (o' ++ out)) → o₂ ≡ plain
-              go long (Past row₂ pos₂) e₂ =
-                  let (tree₂, seen₂, _, puts) = emit-done (shape (table_of s)) ty _ (rows_at cells row₂) pos₂ (take pos (o' ++ out)) o₂ e₂ in
+              go long (Ok past₂) e₂ =
+                  let (tree₂, seen₂, _, puts) = emit-done (shape (table_of s)) ty _ (rows_at cells past₂.row) past₂.pos (take pos (o' ++ out)) o₂ e₂ in
                   let same : tree₂ ≡ tree = again tree tree₂ _ _ _ seen-tree seen₂ in
                   let k : length (take pos (o' ++ out)) ≡ pos = length-take-le pos (o' ++ out) entry-fits in
                   puts
@@ -298,13 +316,13 @@ module _ (s : List ℕ) (ty : ℕ) (cells B : List ℕ) (place n : ℕ) (out : L
                   ∙ put_whole (take pos (o' ++ out)) plain (omega (arith, k, long))
                   ∙ ap (λ (x : List ℕ). plain ++ x) (drop_of_length-le (take pos (o' ++ out)) {i = length plain} (omega (arith, k, long)))
                   ∙ append-nil plain
-              go long (Stopped _ _) e₂ =
+              go long (Err _) e₂ =
                   let f = emit-stopped (shape (table_of s)) ty _ _ _ (take pos (o' ++ out)) e₂ in
                   let g = sym seen-tree ∙ f in
                   differ cc
 
           -- and the bits and the tail are put over it
-          pub entry-written : (r₂ : Walk) (o₂ : List ℕ)
+          pub entry-written : (r₂ : Result Past error.Refused) (o₂ : List ℕ)
               → Walked cells (emit (shape (table_of s)) ty (show_root (shape (table_of s)) B ty fs (rows_at cells 0)) 0 (take pos (o' ++ out))) r₂ o₂
               → (out₃ : List ℕ) → out₃ ≡ put (put (o₂ ++ drop pos (o' ++ out)) 0 (span B p ((m + 7) / 8))) pos tail
               → outcome (Written (pos + n)) out₃ ≡ sheet_forwarded s ty cells B place n out

@@ -3,3 +3,4 @@ pub mod Forward
 pub mod Entry
 pub mod Claims
 pub mod Cases
+pub mod Told

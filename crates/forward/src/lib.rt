@@ -1,7 +1,7 @@
 // The forwarding writer: the rows of a sheet over their bytes, written as a payload with the root's unknown bits kept and a tail after the known fields.
 #![tactic(auto)]
 
-ghost use Rattle.std.specs.Prelude.{◌≡◌, List, ◌+◌, ◌/◌, ◌≤◌, ◌<◌, length};
+ghost use Rattle.std.specs.Prelude.{◌≡◌, List, ◌+◌, ◌/◌, ◌≤◌, ◌<◌, length, IfErr};
 ghost use Rattle.buffer.specs.Span.{span};
 ghost use Rattle.buffer.specs.Store.{put};
 ghost use Rattle.wire.specs.Little.{little};
@@ -10,27 +10,20 @@ ghost use Rattle.schema.specs.Table.{bitmap_bytes};
 ghost use Rattle.schema.specs.Check.{IsGood};
 ghost use Rattle.value.specs.Sheet.{rows_of};
 ghost use Rattle.value.specs.Read.{unknown_bits};
-ghost use Rattle.writer.specs.declared.Writing.TheVariants.{Refused};
+ghost use Rattle.writer.specs.Told.{told};
 ghost use Rattle.writer.specs.Entry.{outcome};
 ghost use Rattle.forward.specs.Forward.{root_place, suits, fault_of};
+ghost use Rattle.forward.specs.Told.{told_fault};
 ghost use Rattle.forward.specs.Entry.{sheet_forwarded, forward_outcome};
 
-use constants::refusal::Refused;
-use constants::{format, kind, limit, refusal};
+use constants::refusal::{Refusal, Refused};
+use constants::{format, kind, limit};
 use table::access::type_row;
 use table::checking::check;
 use wire::bitmap;
-use writer::Writing;
 use writer::leaf::wide;
 use writer::put::put_span;
-use writer::walk::{Walk, root};
-
-// A refusal that names no row.
-fn refused(number: u32) -> Writing
-    ensures { result ≡ Refused number 0 }
-{
-    Writing::Refused { number, place: 0 }
-}
+use writer::walk::root;
 
 // The place of the root's row; without a row 0.
 fn root_place(sheet: &[u32]) -> usize
@@ -57,7 +50,7 @@ fn is_suiting(unknown: usize, n: usize) -> bool
     (unknown <= n) & ((unknown != 0) | (n == 0))
 }
 
-// The number of the first fault of a tail in so many bytes, or of the whole with it: 51, 50, 7 or 52; or 0.
+// The first fault of a tail in so many bytes, or of the whole with it: it names no row.
 fn fault_of(
     size: usize,
     unknown: usize,
@@ -65,28 +58,29 @@ fn fault_of(
     tail_length: usize,
     plain: usize,
     room: usize,
-) -> u32
-    ensures { result ≡ fault_of size unknown tail_place tail_length plain room }
+) -> Result<(), Refused>
+    ensures fault { told_fault result ≡ fault_of size unknown tail_place tail_length plain room }
+    ensures place { IfErr result (λ e. e.place ≡ 0) }
 {
     if size < tail_place {
-        return refusal::OUTSIDE;
+        return Refusal::Outside.at(0);
     }
     if size - tail_place < tail_length {
-        return refusal::OUTSIDE;
+        return Refusal::Outside.at(0);
     }
     if !is_suiting(unknown, tail_length) {
-        return refusal::SHEET;
+        return Refusal::Sheet.at(0);
     }
     if limit::PAYLOAD < plain {
-        return refusal::PAYLOAD_TOO_LONG;
+        return Refusal::PayloadTooLong.at(0);
     }
     if limit::PAYLOAD - plain < tail_length {
-        return refusal::PAYLOAD_TOO_LONG;
+        return Refusal::PayloadTooLong.at(0);
     }
     if room < plain + tail_length {
-        return refusal::OUTPUT_TOO_SHORT;
+        return Refusal::OutputTooShort.at(0);
     }
-    refusal::ACCEPTED
+    Ok(())
 }
 
 // Puts the presence bytes, as they stand at the root's place, over those that the plain writer wrote, and the tail after all that it wrote, at pos.
@@ -116,50 +110,42 @@ pub fn forward_sheet(
     tail_place: usize,
     tail_length: usize,
     out: &mut [u8],
-) -> Writing
+) -> Result<usize, Refused>
     requires { IsGood s.now }
-    ensures { outcome result out.new ≡ sheet_forwarded s.now ty sheet.now source.now tail_place tail_length out.old }
+    ensures { outcome (told result) out.new ≡ sheet_forwarded s.now ty sheet.now source.now tail_place tail_length out.old }
 {
     let t = type_row(s, ty as usize);
     if t.kind != kind::STRUCT {
-        return refused(refusal::NO_STRUCT);
+        return Refusal::NoStruct.at(0);
     }
     let first = t.a as usize;
     let n = t.b as usize;
-    match root(s, sheet, source, &mut out[..0], ty, first, n, true) {
-        Walk::Refused { number, place } => Writing::Refused { number, place },
-        Walk::Past { row: _, pos } => {
-            let place = root_place(sheet);
-            let unknown = unknown_at(source, place, n);
-            let fault = fault_of(
-                source.len(),
-                unknown,
-                tail_place,
-                tail_length,
-                pos,
-                out.len(),
-            );
-            if fault != refusal::ACCEPTED {
-                return refused(fault);
-            }
-            root(s, sheet, source, &mut out[..pos], ty, first, n, false);
-            keep(
-                out,
-                pos,
-                source,
-                place,
-                (n + bitmap::SPARE_BITS) / bitmap::BYTE_BITS,
-                tail_place,
-                tail_length,
-            );
-            Writing::Written {
-                length: pos + tail_length,
-            }
-        }
-    }
+    let pos = root(s, sheet, source, &mut out[..0], ty, first, n, true)?.pos;
+    let place = root_place(sheet);
+    let unknown = unknown_at(source, place, n);
+    fault_of(
+        source.len(),
+        unknown,
+        tail_place,
+        tail_length,
+        pos,
+        out.len(),
+    )?;
+    let _ = root(s, sheet, source, &mut out[..pos], ty, first, n, false);
+    keep(
+        out,
+        pos,
+        source,
+        place,
+        (n + bitmap::SPARE_BITS) / bitmap::BYTE_BITS,
+        tail_place,
+        tail_length,
+    );
+    Ok(pos + tail_length)
 }
 
 // The same by any table: its own refusals come first.
+#[tactic(auto, unfolding(crate::specs::Entry::forward_outcome))]
 pub fn forward(
     s: &[u8],
     ty: u32,
@@ -168,14 +154,9 @@ pub fn forward(
     tail_place: usize,
     tail_length: usize,
     out: &mut [u8],
-) -> Writing
-    ensures { outcome result out.new ≡ forward_outcome s.now ty sheet.now source.now tail_place tail_length out.old }
+) -> Result<usize, Refused>
+    ensures { outcome (told result) out.new ≡ forward_outcome s.now ty sheet.now source.now tail_place tail_length out.old }
 {
-    match check(s) {
-        Err(Refused { place, refusal }) => Writing::Refused {
-            number: refusal as u32,
-            place,
-        },
-        Ok(()) => forward_sheet(s, ty, sheet, source, tail_place, tail_length, out),
-    }
+    check(s)?;
+    forward_sheet(s, ty, sheet, source, tail_place, tail_length, out)
 }

@@ -1,5 +1,7 @@
 -- `forward::forward_sheet` meets its contract.
-use mathlib.Core.Path.{sym}
+use Rattle.std.proofs.lemmas.Result.{IfErr-at_err}
+use Rattle.constants.specs.declared.refusal.Refused.{Refused}
+use mathlib.Core.Path.{◌≡◌, sym, ap}
 use mathlib.Core.Bool.{false≢true}
 use native.Mathlib.Omega.{arith}
 use lib.Seq.{length-take-le}
@@ -7,8 +9,9 @@ use Rattle.schema.specs.File.{table_of}
 use Rattle.walks.specs.Shape.{fields_from}
 use Rattle.walks.proofs.Presence.{length_fields}
 use Rattle.walks.proofs.Tables.{shape-struct, struct_row}
+use Rattle.writer.proofs.Steps.{handed}
+use Rattle.forward.specs.Told.{told_fault}
 use Rattle.forward.proofs.Entries.{
-  as_refused,
   entry_other,
   entry-refused,
   entry-accepted,
@@ -25,7 +28,7 @@ pub returns-then-t-ne-STRUCT : goal.returns-then-t-ne-STRUCT
 returns-then-t-ne-STRUCT c =
     let args = c.args in
     let type_row = c.type_row-t in
-    as_refused c.refused.ensures
+    rw c.at.ensures
     (entry_other args.s.now c.requires args.ty args.sheet.now args.source.now
     args.tail_place args.tail_length args.out.now _ type_row.ensures c.if-t-ne-STRUCT.true)
 
@@ -62,12 +65,12 @@ unknown_at-unknown-requires c =
     let there = struct_row args.s.now asked args.ty _ type_row.ensures if1.false in
     let many = length_fields T type_row.result.a type_row.result.b there.2 in
     let within = entry-inside args.s.now args.ty args.sheet.now args.source.now args.tail_place args.tail_length args.out.now fs is
-    _ _ _ c.root.ensures c.root.auto.out _ _ c.in-Past.is
+    _ _ _ c.root.ensures c.root.auto.out _ c.in_ok-pos.was
     placed.result _ placed.ensures many in
     (there.1, within)
 
-pub returns-then-fault-ne-ACCEPTED : goal.returns-then-fault-ne-ACCEPTED
-returns-then-fault-ne-ACCEPTED c =
+pub returns-in_err-fault_of : goal.returns-in_err-fault_of
+returns-in_err-fault_of c =
     let unknown = c.unknown_at-unknown in
     let placed = c.root_place-place in
     let args = c.args in
@@ -79,13 +82,13 @@ returns-then-fault-ne-ACCEPTED c =
     let fs = fields_from T type_row.result.a type_row.result.b in
     let there = struct_row args.s.now asked args.ty _ type_row.ensures if1.false in
     let many = length_fields T type_row.result.a type_row.result.b there.2 in
-    as_refused c.refused-then-fault-ne-ACCEPTED.ensures
+    rw (handed c.from_residual-in_err-fault_of.ensures.1)
     (entry-fault args.s.now args.ty args.sheet.now args.source.now args.tail_place args.tail_length args.out.now fs is
-    _ _ _ c.root.ensures c.root.auto.out _ _ c.in-Past.is
-    placed.result _ placed.ensures many _ unknown.ensures _ c.fault_of-fault.ensures c.if-fault-ne-ACCEPTED.true)
+    _ _ _ c.root.ensures c.root.auto.out _ c.in_ok-pos.was
+    placed.result _ placed.ensures many _ unknown.ensures _ c.fault_of.ensures.fault _ (ap told_fault c.in_err-fault_of.was) (IfErr-at_err (λ (e : Refused). e.place ≡ 0) c.in_err-fault_of.was c.fault_of.ensures.place))
 
-pub slice_bounds-root-end-in-Past : goal.slice_bounds-root-end-in-Past
-slice_bounds-root-end-in-Past c =
+pub slice_bounds-root-end-3 : goal.slice_bounds-root-end-3
+slice_bounds-root-end-3 c =
     let unknown = c.unknown_at-unknown in
     let placed = c.root_place-place in
     let args = c.args in
@@ -98,11 +101,11 @@ slice_bounds-root-end-in-Past c =
     let there = struct_row args.s.now asked args.ty _ type_row.ensures if1.false in
     let many = length_fields T type_row.result.a type_row.result.b there.2 in
     entry-fits args.s.now args.ty args.sheet.now args.source.now args.tail_place args.tail_length args.out.now fs is
-    _ _ _ c.root.ensures c.root.auto.out _ _ c.in-Past.is
-    placed.result _ placed.ensures many _ unknown.ensures _ c.fault_of-fault.ensures c.if-fault-ne-ACCEPTED.false
+    _ _ _ c.root.ensures c.root.auto.out _ c.in_ok-pos.was
+    placed.result _ placed.ensures many _ unknown.ensures _ c.fault_of.ensures.fault (ap told_fault c.in_ok-fault_of.was)
 
-pub slice_bounds-root-end-in-Past-2 : goal.slice_bounds-root-end-in-Past-2
-slice_bounds-root-end-in-Past-2 c =
+pub slice_bounds-root-end-4 : goal.slice_bounds-root-end-4
+slice_bounds-root-end-4 c =
     let unknown = c.unknown_at-unknown in
     let placed = c.root_place-place in
     let args = c.args in
@@ -116,11 +119,11 @@ slice_bounds-root-end-in-Past-2 c =
     let many = length_fields T type_row.result.a type_row.result.b there.2 in
     sym (length-take-le _ _
     (entry-fits args.s.now args.ty args.sheet.now args.source.now args.tail_place args.tail_length args.out.now fs is
-    _ _ _ c.root.ensures c.root.auto.out _ _ c.in-Past.is
-    placed.result _ placed.ensures many _ unknown.ensures _ c.fault_of-fault.ensures c.if-fault-ne-ACCEPTED.false))
+    _ _ _ c.root.ensures c.root.auto.out _ c.in_ok-pos.was
+    placed.result _ placed.ensures many _ unknown.ensures _ c.fault_of.ensures.fault (ap told_fault c.in_ok-fault_of.was)))
 
-pub root-requires-in-Past : goal.root-requires-in-Past
-root-requires-in-Past c =
+pub root-requires-2 : goal.root-requires-2
+root-requires-2 c =
     let unknown = c.unknown_at-unknown in
     let placed = c.root_place-place in
     let args = c.args in
@@ -133,13 +136,13 @@ root-requires-in-Past c =
     let there = struct_row args.s.now asked args.ty _ type_row.ensures if1.false in
     let many = length_fields T type_row.result.a type_row.result.b there.2 in
     let room = entry-fits args.s.now args.ty args.sheet.now args.source.now args.tail_place args.tail_length args.out.now fs is
-    _ _ _ c.root.ensures c.root.auto.out _ _ c.in-Past.is
-    placed.result _ placed.ensures many _ unknown.ensures _ c.fault_of-fault.ensures c.if-fault-ne-ACCEPTED.false in
+    _ _ _ c.root.ensures c.root.auto.out _ c.in_ok-pos.was
+    placed.result _ placed.ensures many _ unknown.ensures _ c.fault_of.ensures.fault (ap told_fault c.in_ok-fault_of.was) in
     let short = entry-short args.s.now args.ty args.sheet.now args.source.now args.tail_place args.tail_length args.out.now fs is
-    _ _ _ c.root.ensures c.root.auto.out _ _ c.in-Past.is
-    placed.result _ placed.ensures many _ unknown.ensures _ c.fault_of-fault.ensures c.if-fault-ne-ACCEPTED.false in
+    _ _ _ c.root.ensures c.root.auto.out _ c.in_ok-pos.was
+    placed.result _ placed.ensures many _ unknown.ensures _ c.fault_of.ensures.fault (ap told_fault c.in_ok-fault_of.was) in
     let shown = entry-accepted args.s.now args.ty args.sheet.now args.source.now args.tail_place args.tail_length args.out.now fs is
-    _ _ _ c.root.ensures c.root.auto.out _ _ c.in-Past.is in record {
+    _ _ _ c.root.ensures c.root.auto.out _ c.in_ok-pos.was in record {
       ready = (
         record {
           good = asked;
@@ -166,16 +169,16 @@ keep-requires c =
     let fs = fields_from T type_row.result.a type_row.result.b in
     let there = struct_row args.s.now asked args.ty _ type_row.ensures if1.false in
     let many = length_fields T type_row.result.a type_row.result.b there.2 in
-    let none = c.if-fault-ne-ACCEPTED.false in
+    let none = ap told_fault c.in_ok-fault_of.was in
     let short = entry-short args.s.now args.ty args.sheet.now args.source.now args.tail_place args.tail_length args.out.now fs is
-    _ _ _ c.root.ensures c.root.auto.out _ _ c.in-Past.is
-    placed.result _ placed.ensures many _ unknown.ensures _ c.fault_of-fault.ensures none in
+    _ _ _ c.root.ensures c.root.auto.out _ c.in_ok-pos.was
+    placed.result _ placed.ensures many _ unknown.ensures _ c.fault_of.ensures.fault none in
     let within = entry-inside args.s.now args.ty args.sheet.now args.source.now args.tail_place args.tail_length args.out.now fs is
-    _ _ _ c.root.ensures c.root.auto.out _ _ c.in-Past.is
+    _ _ _ c.root.ensures c.root.auto.out _ c.in_ok-pos.was
     placed.result _ placed.ensures many in
     let tail = entry-tail args.s.now args.ty args.sheet.now args.source.now args.tail_place args.tail_length args.out.now fs is
-    _ _ _ c.root.ensures c.root.auto.out _ _ c.in-Past.is
-    placed.result _ placed.ensures many _ unknown.ensures _ c.fault_of-fault.ensures none in
+    _ _ _ c.root.ensures c.root.auto.out _ c.in_ok-pos.was
+    placed.result _ placed.ensures many _ unknown.ensures _ c.fault_of.ensures.fault none in
     (omega (arith, short), within, tail)
 
 pub overflow_add-result : goal.overflow_add-result
@@ -192,12 +195,12 @@ overflow_add-result c =
     let there = struct_row args.s.now asked args.ty _ type_row.ensures if1.false in
     let many = length_fields T type_row.result.a type_row.result.b there.2 in
     let short = entry-short args.s.now args.ty args.sheet.now args.source.now args.tail_place args.tail_length args.out.now fs is
-    _ _ _ c.root.ensures c.root.auto.out _ _ c.in-Past.is
-    placed.result _ placed.ensures many _ unknown.ensures _ c.fault_of-fault.ensures c.if-fault-ne-ACCEPTED.false in
+    _ _ _ c.root.ensures c.root.auto.out _ c.in_ok-pos.was
+    placed.result _ placed.ensures many _ unknown.ensures _ c.fault_of.ensures.fault (ap told_fault c.in_ok-fault_of.was) in
     omega (arith, short)
 
-pub returns-in-Refused : goal.returns-in-Refused
-returns-in-Refused c =
+pub returns-in_err-pos : goal.returns-in_err-pos
+returns-in_err-pos c =
     let args = c.args in
     let asked = c.requires in
     let if1 = c.if-t-ne-STRUCT in
@@ -205,11 +208,12 @@ returns-in-Refused c =
     let T = table_of args.s.now in
     let is = shape-struct T args.ty _ type_row.ensures if1.false in
     let fs = fields_from T type_row.result.a type_row.result.b in
-    entry-refused args.s.now args.ty args.sheet.now args.source.now args.tail_place args.tail_length args.out.now fs is
-    _ _ _ c.root.ensures c.root.auto.out _ _ c.in-Refused.is
+    rw (handed c.from_residual.ensures.1)
+    (entry-refused args.s.now args.ty args.sheet.now args.source.now args.tail_place args.tail_length args.out.now fs is
+    _ _ _ c.root.ensures c.root.auto.out c.in_err-pos.was)
 
-pub returns-else-fault-ne-ACCEPTED : goal.returns-else-fault-ne-ACCEPTED
-returns-else-fault-ne-ACCEPTED c =
+pub returns : goal.returns
+returns c =
     let unknown = c.unknown_at-unknown in
     let placed = c.root_place-place in
     let args = c.args in
@@ -221,8 +225,8 @@ returns-else-fault-ne-ACCEPTED c =
     let fs = fields_from T type_row.result.a type_row.result.b in
     let there = struct_row args.s.now asked args.ty _ type_row.ensures if1.false in
     let many = length_fields T type_row.result.a type_row.result.b there.2 in
-    let root2 = c.root-in-Past in
+    let root2 = c.root-2 in
     entry-written args.s.now args.ty args.sheet.now args.source.now args.tail_place args.tail_length args.out.now fs is
-    _ _ _ c.root.ensures c.root.auto.out _ _ c.in-Past.is
-    placed.result _ placed.ensures many _ unknown.ensures _ c.fault_of-fault.ensures c.if-fault-ne-ACCEPTED.false
+    _ _ _ c.root.ensures c.root.auto.out _ c.in_ok-pos.was
+    placed.result _ placed.ensures many _ unknown.ensures _ c.fault_of.ensures.fault (ap told_fault c.in_ok-fault_of.was)
     _ _ root2.ensures _ c.keep.ensures
