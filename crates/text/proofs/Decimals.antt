@@ -9,8 +9,6 @@ use native.Mathlib.Decide.{dec_le}
 use borrow.Author.Tests.{lt-ltb, le-ltb}
 use lib.ListN.{length, get_or, length-append}
 use Rattle.text.specs.Decimal.{digits, decimal, decimal_value, Digits, IsDecimal}
-use Rattle.text.specs.Text.{Added}
-use Rattle.text.proofs.Texts.{added_then}
 
 -- ---- one digit more
 
@@ -34,29 +32,29 @@ digits-enough (suc j) (suc k) n h g = elim (dec_le 10 n) [
       ∙ sym (digits_more k n l)
 ]
 
-decimal-small : (n : ℕ) → n < 10 → decimal n ≡ (48 + n) ∷ []
+pub decimal_small : (n : ℕ) → n < 10 → decimal n ≡ (48 + n) ∷ []
 unfolding decimal
-decimal-small n h = digits-small n n h
+decimal_small n h = digits-small n n h
 
-decimal-more : (n : ℕ) → 10 ≤ n → decimal n ≡ decimal (n / 10) ++ ((48 + n % 10) ∷ [])
+pub decimal_more : (n : ℕ) → 10 ≤ n → decimal n ≡ decimal (n / 10) ++ ((48 + n % 10) ∷ [])
 unfolding decimal
-decimal-more n h =
+decimal_more n h =
     digits_more n n h
     ∙ ap (λ (ds : List ℕ). ds ++ ((48 + n % 10) ∷ [])) (digits-enough n (suc (n / 10)) (n / 10) (omega arith) (omega arith))
 
 -- ---- how many digits
 
 decimal-length : (k n : ℕ) → n < 10 ^ suc k → length (decimal n) ≤ suc k
-decimal-length zero n h = rw (decimal-small n (omega arith)) (omega arith)
+decimal-length zero n h = rw (decimal_small n (omega arith)) (omega arith)
 decimal-length (suc k) n h = elim (dec_le 10 n) [
-  | no l ↦ rw (decimal-small n (omega arith)) (omega arith)
+  | no l ↦ rw (decimal_small n (omega arith)) (omega arith)
   | yes l ↦
       let p : n < 10 * 10 ^ suc k = rw pow-succ' at h in
       let q : n / 10 < 10 ^ suc k = omega arith in
-      rw (decimal-more n l, length-append) (omega (arith, decimal-length k (n / 10) q))
+      rw (decimal_more n l, length-append) (omega (arith, decimal-length k (n / 10) q))
 ]
 
-twenty : (n : ℕ) → n < 2 ^ 64 → length (decimal n) ≤ 20
+pub twenty : (n : ℕ) → n < 2 ^ 64 → length (decimal n) ≤ 20
 twenty n h = decimal-length 19 n (omega arith)
 
 -- ---- the text is n in decimal
@@ -92,22 +90,10 @@ is-more n h ds w =
 is-decimal : (k n : ℕ) → n < k → IsDecimal n (decimal n)
 is-decimal zero n h = absurd (omega arith)
 is-decimal (suc k) n h = elim (dec_le 10 n) [
-  | no g ↦ subst (IsDecimal n) (sym (decimal-small n (omega arith))) (is-small n (omega arith))
-  | yes l ↦ subst (IsDecimal n) (sym (decimal-more n l)) (is-more n l (decimal (n / 10)) (is-decimal k (n / 10) (omega arith)))
+  | no g ↦ subst (IsDecimal n) (sym (decimal_small n (omega arith))) (is-small n (omega arith))
+  | yes l ↦ subst (IsDecimal n) (sym (decimal_more n l)) (is-more n l (decimal (n / 10)) (is-decimal k (n / 10) (omega arith)))
 ]
 
 -- Digits only, which give n, the first of them 0 only in the text of 0.
 pub decimal-right : (n : ℕ) → IsDecimal n (decimal n)
 decimal-right n = is-decimal (suc n) n (omega arith)
-
--- ---- as the code puts it
-
-pub put_small : (n : ℕ) {out after : List ℕ} {pos next : ℕ} → n < 10 → Added out pos ((48 + n) ∷ []) next after → Added out pos (decimal n) next after
-put_small n h f = rw (decimal-small n h) f
-
-pub put-more : (n : ℕ) {out mid after : List ℕ} {pos at next : ℕ} → 10 ≤ n → Added out pos (decimal (n / 10)) at mid → Added mid at ((48 + n % 10) ∷ []) next after
-    → Added out pos (decimal n) next after
-put-more n h f g = rw (decimal-more n h) (added_then f g)
-
-pub within-twenty : (n : ℕ) {out after : List ℕ} {pos next : ℕ} → n < 2 ^ 64 → Added out pos (decimal n) next after → next ≤ pos + 20
-within-twenty n h f = omega (arith, f.end, twenty n h)

@@ -1,5 +1,6 @@
 -- Laws of a page's lines: each turn of the code that looks for a line and puts it, and that a page of single lines has just these.
-use mathlib.Core.Path.{◌≡◌, refl, sym, ap, subst, ◌∙◌}
+use Rattle.std.specs.Prelude.{◌≢◌}
+use mathlib.Core.Path.{◌≡◌, refl, ap, ◌∙◌}
 use mathlib.Core.Bool.{Bool, true, false, not, ◌&&◌, false≢true}
 use mathlib.Core.List.{List, [], ◌∷◌, ◌++◌}
 use Prim.Native.Nat.{ℕ, zero, suc, ◌+◌, ◌-◌, ◌≤◌, ◌<◌}
@@ -8,9 +9,7 @@ use borrow.Author.Tests.{eq-eqb, ne_eqb, not-true}
 use lib.Dec.{eqb}
 use lib.ListN.{length, get_or, drop, drop_of_length-le}
 use lib.Seq.{drop-cons}
-use Rattle.text.specs.Text.{Added}
 use Rattle.text.specs.Page.{line_of, page_of, one_line, one_lines, page_entry}
-use Rattle.text.proofs.Texts.{added_none, added_then}
 
 -- ---- no byte is left
 
@@ -19,8 +18,8 @@ unfolding line_of
 line-none zero = refl
 line-none (suc n) = refl
 
-pub line-past : (page : List ℕ) (n at : ℕ) → length page ≤ at → line_of n (drop at page) ≡ []
-line-past page n at h = ap (line_of n) (drop_of_length-le page h) ∙ line-none n
+pub line_past : (page : List ℕ) (n at : ℕ) → length page ≤ at → line_of n (drop at page) ≡ []
+line_past page n at h = ap (line_of n) (drop_of_length-le page h) ∙ line-none n
 
 -- ---- one byte
 
@@ -29,33 +28,28 @@ module _ (page : List ℕ) (at : ℕ) (h : at < length page) where
   split = let e : at + 1 ≡ suc at = omega arith in rw e (drop-cons page at 0 h)
 
   -- the end of a line that is passed
-  pub pass-end : (n : ℕ) → 0 < n → get_or page at 0 ≡ 10 → line_of (n - 1) (drop (at + 1) page) ≡ line_of n (drop at page)
+  pub pass_end : (n : ℕ) → 0 < n → get_or page at 0 ≡ 10 → line_of n (drop at page) ≡ line_of (n - 1) (drop (at + 1) page)
   unfolding line_of
-  pass-end zero l e = absurd (omega arith)
-  pass-end (suc n) l e = let k : suc n - 1 ≡ n = omega arith in rw (k, split, eq-eqb (get_or page at 0) 10 e)
+  pass_end zero l e = absurd (omega arith)
+  pass_end (suc n) l e = let k : suc n - 1 ≡ n = omega arith in rw (k, split, eq-eqb (get_or page at 0) 10 e)
 
   -- another byte of such a line
-  pub pass-byte : (n : ℕ) → 0 < n → (get_or page at 0 ≡ 10 → ⊥) → line_of n (drop (at + 1) page) ≡ line_of n (drop at page)
+  pub pass_byte : (n : ℕ) → 0 < n → get_or page at 0 ≢ 10 → line_of n (drop at page) ≡ line_of n (drop (at + 1) page)
   unfolding line_of
-  pass-byte zero l e = absurd (omega arith)
-  pass-byte (suc n) l e = rw (split, ne_eqb (get_or page at 0) 10 e)
+  pass_byte zero l e = absurd (omega arith)
+  pass_byte (suc n) l e = rw (split, ne_eqb (get_or page at 0) 10 e)
 
   -- the end of the line that is put, and another byte of it
-  pub put-end : get_or page at 0 ≡ 10 → line_of 0 (drop at page) ≡ []
+  pub put_end : (n : ℕ) → n ≡ 0 → get_or page at 0 ≡ 10 → line_of n (drop at page) ≡ []
   unfolding line_of
-  put-end e = rw (split, eq-eqb (get_or page at 0) 10 e)
+  put_end n z e = rw (z, split, eq-eqb (get_or page at 0) 10 e)
 
-  put_byte : (get_or page at 0 ≡ 10 → ⊥) → line_of 0 (drop at page) ≡ (get_or page at 0 ∷ []) ++ line_of 0 (drop (at + 1) page)
+  pub put_byte : (n : ℕ) → n ≡ 0 → get_or page at 0 ≢ 10 → line_of n (drop at page) ≡ (get_or page at 0 ∷ []) ++ line_of n (drop (at + 1) page)
   unfolding line_of
-  put_byte e = rw (split, ne_eqb (get_or page at 0) 10 e)
+  put_byte n z e = rw (z, split, ne_eqb (get_or page at 0) 10 e)
 
-  -- What is left of the line is put after the byte.
-  pub line-turn : (get_or page at 0 ≡ 10 → ⊥) → {out mid after : List ℕ} {pos p next : ℕ} → Added out pos (get_or page at 0 ∷ []) p mid
-      → Added mid p (line_of 0 (drop (at + 1) page)) next after → Added out pos (line_of 0 (drop at page)) next after
-  line-turn e {out} {mid} {after} {pos} {p} {next} f g = subst (λ (t : List ℕ). Added out pos t next after) (sym (put_byte e)) (added_then f g)
-
-pub line-done : (page : List ℕ) (at : ℕ) (out : List ℕ) (pos : ℕ) → line_of 0 (drop at page) ≡ [] → Added out pos (line_of 0 (drop at page)) pos out
-line-done page at out pos e = subst (λ (t : List ℕ). Added out pos t pos out) (sym e) (added_none out pos)
+-- Each turn of the code that looks for a line and puts it.
+pub ruleset line_turns = (line_past, pass_end, pass_byte, put_end, put_byte)
 
 -- ---- a page of single lines
 

@@ -1,43 +1,45 @@
--- Laws of texts in a buffer, each stored after the one before it.
+-- Laws of texts put on a page, each after the one before it.
 use mathlib.Core.Path.{◌≡◌, sym, ap, ◌∙◌}
-use mathlib.Core.List.{List, [], ◌∷◌, ◌++◌}
-use Prim.Native.Nat.{ℕ, ◌≤◌}
+use mathlib.Core.List.{List, [], ◌++◌}
+use Prim.Native.Nat.{ℕ, ◌+◌, ◌≤◌}
 use native.Mathlib.Omega.{arith}
 use lib.ListN.{length, take, drop, length-append}
 use lib.Seq.{length-take-le}
 use Rattle.buffer.proofs.Stores.{put-end, put-append, length-put, put_whole}
-use Rattle.text.specs.Decimal.{decimal}
-use Rattle.text.specs.Text.{field, Added}
+use Rattle.buffer.specs.Store.{put}
+use Rattle.text.specs.declared.Page.{Page}
+use Rattle.text.specs.Text.{Shown, put_on, AddedTo}
 
-pub added_none : (out : List ℕ) (pos : ℕ) → Added out pos [] pos out
-added_none out pos = record { holds = sym (put-end out pos); end = omega arith }
+-- A text, and then another; and none.
+pub put_both : (p : Shown) (a b : List ℕ) → put_on (put_on p a) b ≡ put_on p (a ++ b)
+unfolding put_on
+put_both p a b =
+    rw (put-append p.bytes p.len a b, length-append) (let e : p.len + length a + length b ≡ p.len + (length a + length b) = omega arith in rw e)
 
--- A text, and then another.
-pub added_then : {out mid after a b : List ℕ} {pos p next : ℕ} → Added out pos a p mid → Added mid p b next after → Added out pos (a ++ b) next after
-added_then {out} {mid} {after} {a} {b} {pos} {p} {next} f g =
-    record {
-      holds = g.holds ∙ rw (f.holds, f.end, put-append out pos a b);
-      end = let e = f.end in let h = g.end in rw length-append (omega arith);
-    }
+pub put_none : (p : Shown) → put_on p [] ≡ p
+unfolding put_on
+put_none p = let e : p.len + 0 ≡ p.len = omega arith in rw (e, put-end p.bytes p.len)
 
-pub added-length : {out after text : List ℕ} {pos next : ℕ} → Added out pos text next after → length after ≡ length out
-added-length {out} {after} {text} {pos} f = ap length f.holds ∙ length-put out pos text
-
--- ---- a field
-
-pub added-field : (n : ℕ) {out mid after : List ℕ} {pos at next : ℕ} → Added out pos (32 ∷ []) at mid → Added mid at (decimal n) next after → Added out pos (field n) next after
-unfolding field
-added-field n a b = added_then a b
+pub added_len : (p q : Page) (text : List ℕ) → AddedTo p q text → q.len ≡ p.len + length text
+unfolding put_on
+added_len p q text f = ap (λ (s : Shown). s.len) f
 
 -- ---- the whole buffer
 
 -- A buffer with room for a text from its start on holds it whole, and is as it was after it.
-module _ (out text : List ℕ) {next : ℕ} {after : List ℕ} (f : Added out 0 text next after) where
-  pub text-length : next ≡ length text
-  text-length = omega (arith, f.end)
+module _ (p q : Page) (text : List ℕ) (f : AddedTo p q text) (start : p.len ≡ 0) where
+  pub text_length : q.len ≡ length text
+  text_length = omega (arith, added_len p q text f)
 
-  pub text-whole : next ≤ length out → after ≡ text ++ drop next out
-  text-whole h = f.holds ∙ put_whole out text (rw (← text-length) h) ∙ ap (λ (n : ℕ). text ++ drop n out) (sym text-length)
+  put_at-start : q.out.now ≡ put p.out.now 0 text
+  unfolding put_on
+  put_at-start = rw start at (ap (λ (s : Shown). s.bytes) f)
 
-  pub text-counts : next ≤ length out → (next ≤ length after) × (next ≡ length (take next after))
-  text-counts h = let l : next ≤ length after = rw (added-length f) h in (l, sym (length-take-le next after l))
+  pub text_whole : q.len ≤ length p.out.now → q.out.now ≡ text ++ drop q.len p.out.now
+  text_whole h = put_at-start ∙ put_whole p.out.now text (rw (← text_length) h) ∙ ap (λ (n : ℕ). text ++ drop n p.out.now) (sym text_length)
+
+  pub text_counts : q.len ≤ length p.out.now → (q.len ≤ length q.out.now) × (q.len ≡ length (take q.len q.out.now))
+  text_counts h =
+      let e : length q.out.now ≡ length p.out.now = ap length put_at-start ∙ length-put p.out.now 0 text in
+      let l : q.len ≤ length q.out.now = rw e h in
+      (l, sym (length-take-le q.len q.out.now l))

@@ -1,66 +1,72 @@
 // A number in words, and a refusal.
+#![tactic(auto, using(text::proofs::Texts::put_both), unfolding(text::specs::Codes::codes))]
+
 ghost use Rattle.std.specs.Prelude.{◌+◌, ◌≤◌};
-ghost use Rattle.text.specs.Text.{Added};
+ghost use Rattle.text.specs.Text.{AddedTo};
 ghost use Rattle.words.specs.Words.{meaning_of, advice_of, unknown, explained, refusal};
 
 use crate::page::{advices, meanings};
-use text::{put_byte, put_decimal, put_field, put_line, put_word};
+use text::Page;
 
 // What a number means.
-fn put_meaning(out: &mut [u8], pos: usize, number: u64) -> usize
-    requires { pos ≤ 500000 }
-    ensures added { Added out.old pos (meaning_of number) result out.new }
-    ensures upper_bound { result ≤ pos + 2048 }
+#[tactic(auto, using(crate::proofs::Texts::meaning_line))]
+fn put_meaning(page: &mut Page, number: u64)
+    requires { page.old.len ≤ 500000 }
+    ensures added { AddedTo page.old page.new (meaning_of number) }
+    ensures upper_bound { page.new.len ≤ page.old.len + 2048 }
 {
-    let page = meanings();
-    put_line(out, pos, &page, number)
+    page.put_line(meanings(), number);
 }
 
 // What to do about it.
-fn put_advice(out: &mut [u8], pos: usize, number: u64) -> usize
-    requires { pos ≤ 500000 }
-    ensures added { Added out.old pos (advice_of number) result out.new }
-    ensures upper_bound { result ≤ pos + 5800 }
+#[tactic(auto, using(crate::proofs::Texts::advice_line))]
+fn put_advice(page: &mut Page, number: u64)
+    requires { page.old.len ≤ 500000 }
+    ensures added { AddedTo page.old page.new (advice_of number) }
+    ensures upper_bound { page.new.len ≤ page.old.len + 5800 }
 {
-    let page = advices();
-    put_line(out, pos, &page, number)
+    page.put_line(advices(), number);
 }
 
 // A number that means nothing.
-fn put_unknown(out: &mut [u8], pos: usize, number: u64) -> usize
-    requires { pos ≤ 500000 }
-    ensures added { Added out.old pos (unknown number) result out.new }
-    ensures upper_bound { result ≤ pos + 64 }
+#[tactic(auto, using(text::proofs::Texts::put_both), unfolding(text::specs::Codes::codes, crate::specs::Words::unknown))]
+fn put_unknown(page: &mut Page, number: u64)
+    requires { page.old.len ≤ 500000 }
+    ensures added { AddedTo page.old page.new (unknown number) }
+    ensures upper_bound { page.new.len ≤ page.old.len + 64 }
 {
-    let at = put_decimal(out, pos, number);
-    put_word(out, at, b": no number of this format\n")
+    page.put_decimal(number);
+    page.put_word(b": no number of this format\n");
 }
 
 // A number in words, a line for its meaning and one for what to do about it.
-pub fn put_explained(out: &mut [u8], pos: usize, number: u64) -> usize
-    requires { pos ≤ 100000 }
-    ensures added { Added out.old pos (explained number) result out.new }
-    ensures upper_bound { result ≤ pos + 8000 }
+pub fn put_explained(page: &mut Page, number: u64)
+    requires { page.old.len ≤ 100000 }
+    ensures added { AddedTo page.old page.new (explained number) }
+    ensures upper_bound { page.new.len ≤ page.old.len + 8000 }
 {
-    let at = put_meaning(out, pos, number);
-    if at == pos {
-        return put_unknown(out, pos, number);
+    let start = page.len;
+    put_meaning(page, number);
+    if page.len == start {
+        put_unknown(page, number);
+        return;
     }
-    let mut next = put_byte(out, at, b'\n');
-    next = put_advice(out, next, number);
-    put_byte(out, next, b'\n')
+    page.put_byte(b'\n');
+    put_advice(page, number);
+    page.put_byte(b'\n');
 }
 
 // A refusal: its number and place, and the number in words.
-pub fn put_refusal(out: &mut [u8], pos: usize, number: u32, place: usize) -> usize
-    requires { pos ≤ 1000 }
-    ensures added { Added out.old pos (refusal number place) result out.new }
-    ensures upper_bound { result ≤ pos + 8100 }
+#[tactic(auto, using(text::proofs::Texts::put_both), unfolding(text::specs::Codes::codes, crate::specs::Words::refusal))]
+pub fn put_refusal(page: &mut Page, number: u32, place: usize)
+    requires { page.old.len ≤ 1000 }
+    ensures added { AddedTo page.old page.new (refusal number place) }
+    ensures upper_bound { page.new.len ≤ page.old.len + 8100 }
 {
-    let mut at = put_word(out, pos, b"refused");
-    at = put_field(out, at, number as u64);
-    at = put_word(out, at, b" place");
-    at = put_field(out, at, place as u64);
-    at = put_byte(out, at, b'\n');
-    put_explained(out, at, number as u64)
+    page.put_word(b"refused");
+    page.put_field(number as u64);
+    page.put_word(b" place");
+    page.put_field(place as u64);
+    page.put_byte(b'\n');
+    put_explained(page, number as u64);
 }

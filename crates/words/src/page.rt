@@ -3,7 +3,7 @@
 ghost use Rattle.std.specs.Prelude.{◌≡◌, length};
 ghost use Rattle.words.specs.Words.{meanings_page, advices_page};
 
-const MEANINGS: [u8; 1703] = *b"\
+const MEANINGS: &[u8] = b"\
     0: accepted\n\
     1: more bytes are needed\n\
     2: the frame does not begin with AF 01\n\
@@ -73,7 +73,7 @@ const MEANINGS: [u8; 1703] = *b"\
     66: the index is for a record of another length\n\
 ";
 
-const ADVICES: [u8; 5233] = *b"\
+const ADVICES: &[u8] = b"\
     Nothing to do.\n\
     The frame is not whole. Where a record stops here, it was cut at its end: salvage it. On a connection, wait for more bytes.\n\
     These bytes are no frame. Where a record stops here, it is damaged: salvage it, and list the copy. On a connection, end it.\n\
@@ -144,15 +144,15 @@ const ADVICES: [u8; 5233] = *b"\
 ";
 
 // What each number means.
-pub fn meanings() -> [u8; 1703]
-    ensures { (result ≡ meanings_page) × (1703 ≡ length result) }
+pub fn meanings() -> &'static [u8]
+    ensures { (result.now ≡ meanings_page) × (length result.now ≡ 1703) }
 {
     MEANINGS
 }
 
 // What to do about it.
-pub fn advices() -> [u8; 5233]
-    ensures { (result ≡ advices_page) × (5233 ≡ length result) }
+pub fn advices() -> &'static [u8]
+    ensures { (result.now ≡ advices_page) × (length result.now ≡ 5233) }
 {
     ADVICES
 }
