@@ -5,7 +5,7 @@ use crate::failure::{Failure, both};
 use crate::print::{holds, print};
 use index::Finding;
 use std::rt::{Env, Files};
-use words::number::{Parsed, number_of};
+use words::number::number_of;
 
 // More than the longest text: 22 bytes for each of 8,191 rows, and 24.
 pub const TEXT: usize = 180300;
@@ -25,10 +25,7 @@ fn show(rt: &impl Print, index: &[u8], record: &[u8], correlation: u64) -> Resul
 fn call(env: &impl Env) -> Result<u64, Failure> {
     let mut text = files::buffer();
     let n = env.arg(THIRD, &mut text).map_err(|_| Failure::Call)?;
-    match number_of(&text[..n]) {
-        Parsed::Number(correlation) => Ok(correlation),
-        Parsed::Nothing => Err(Failure::Call),
-    }
+    number_of(&text[..n]).ok_or(Failure::Call)
 }
 
 pub fn find<R: Env + Files + Print>(rt: &R) -> Result<(), Failure> {

@@ -1,6 +1,6 @@
 -- Laws of texts put on a page, each after the one before it.
-use mathlib.Core.Path.{◌≡◌, sym, ap, ◌∙◌}
-use mathlib.Core.List.{List, [], ◌++◌}
+use mathlib.Core.Path.{◌≡◌, ap}
+use mathlib.Core.List.{List, [], ◌∷◌, ◌++◌}
 use Prim.Native.Nat.{ℕ, ◌+◌, ◌≤◌}
 use native.Mathlib.Omega.{arith}
 use lib.ListN.{length, take, drop, length-append}
@@ -20,6 +20,10 @@ pub put_none : (p : Shown) → put_on p [] ≡ p
 unfolding put_on
 put_none p = let e : p.len + 0 ≡ p.len = omega arith in rw (e, put-end p.bytes p.len)
 
+pub put_nothing : (p : Shown) (text : List ℕ) → length text ≡ 0 → put_on p text ≡ p
+put_nothing p [] h = put_none p
+put_nothing p (b ∷ text) h = absurd (omega (arith, h))
+
 pub added_len : (p q : Page) (text : List ℕ) → AddedTo p q text → q.len ≡ p.len + length text
 unfolding put_on
 added_len p q text f = ap (λ (s : Shown). s.len) f
@@ -27,19 +31,13 @@ added_len p q text f = ap (λ (s : Shown). s.len) f
 -- ---- the whole buffer
 
 -- A buffer with room for a text from its start on holds it whole, and is as it was after it.
-module _ (p q : Page) (text : List ℕ) (f : AddedTo p q text) (start : p.len ≡ 0) where
-  pub text_length : q.len ≡ length text
-  text_length = omega (arith, added_len p q text f)
+pub whole : (out text : List ℕ) → length text ≤ length out → put out 0 text ≡ text ++ drop (length text) out
+whole out text h = put_whole out text h
 
-  put_at-start : q.out.now ≡ put p.out.now 0 text
-  unfolding put_on
-  put_at-start = rw start at (ap (λ (s : Shown). s.bytes) f)
+pub same_length : (out : List ℕ) (pos : ℕ) (text : List ℕ) → length (put out pos text) ≡ length out
+same_length out pos text = length-put out pos text
 
-  pub text_whole : q.len ≤ length p.out.now → q.out.now ≡ text ++ drop q.len p.out.now
-  text_whole h = put_at-start ∙ put_whole p.out.now text (rw (← text_length) h) ∙ ap (λ (n : ℕ). text ++ drop n p.out.now) (sym text_length)
+pub counted : (s : List ℕ) (n : ℕ) → n ≤ length s → length (take n s) ≡ n
+counted s n h = length-take-le n s h
 
-  pub text_counts : q.len ≤ length p.out.now → (q.len ≤ length q.out.now) × (q.len ≡ length (take q.len q.out.now))
-  text_counts h =
-      let e : length q.out.now ≡ length p.out.now = ap length put_at-start ∙ length-put p.out.now 0 text in
-      let l : q.len ≤ length q.out.now = rw e h in
-      (l, sym (length-take-le q.len q.out.now l))
+pub ruleset whole_text = (whole, same_length, counted)

@@ -19,6 +19,14 @@ pub struct Page<'a> {
 }
 
 impl<'a> Page<'a> {
+    // The page on a whole buffer, with nothing put.
+    pub fn on(out: &'a mut [u8]) -> Page<'a>
+        ensures empty { (result.len ≡ 0) × (result.out.now ≡ out.old) }
+        ensures name { result.out.ghost_name ≡ out.entry.ghost_name }
+    {
+        Page { out, len: 0 }
+    }
+
     #[tactic(auto, unfolding(crate::specs::Text::put_on))]
     pub fn put_byte(&mut self, b: u8)
         requires { self.old.len + 1 ≤ 18446744073709551615 }

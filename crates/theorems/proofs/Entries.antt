@@ -43,7 +43,7 @@ use Rattle.exports.specs.Answers.{check_cells, extend_cells, frame_cells, writte
 use Rattle.exports.specs.Answers.{received_cells, call_cells, releasing, released_cells, not_calls, not_released}
 use Rattle.exports.specs.Run.{Cells, state_of, run_cells}
 use Rattle.words.specs.Number.{parsed_of}
-use Rattle.words.specs.declared.number.Parsed.TheVariants.{Number}
+use Rattle.std.specs.Prelude.{Some}
 use Rattle.promises.proofs.Refusals as promises-Refusals
 use Rattle.promises.proofs.Beside as promises-Beside
 use Rattle.promises.proofs.Forwarding as promises-Forwarding
@@ -57,11 +57,11 @@ use Rattle.words.proofs.Numbers as words-Numbers
 -- `words::number::number_of`: the answer is `words/specs/Number.parsed_of` of the word.
 
 -- What is written in decimal is read as the same number, below 2^64.
-pub decimal-read : (n : ℕ) → n < 2 ^ 64 → parsed_of (decimal n) ≡ Number n
+pub decimal-read : (n : ℕ) → n < 2 ^ 64 → parsed_of (decimal n) ≡ Some n
 decimal-read = words-Numbers.decimal-read
 
 -- What is read has digits alone, at least one, and they give the number.
-pub read-decimal : (n : ℕ) (word : List ℕ) → parsed_of word ≡ Number n → (0 < length word) × Digits word × (decimal_value 0 word ≡ n)
+pub read-decimal : (n : ℕ) (word : List ℕ) → parsed_of word ≡ Some n → (0 < length word) × Digits word × (decimal_value 0 word ≡ n)
 read-decimal = words-Numbers.read-decimal
 
 -- For programs in other languages, of each entry: number and cells determine the answer.

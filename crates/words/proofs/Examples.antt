@@ -14,7 +14,7 @@ use Rattle.text.specs.Decimal as decimal
 use Rattle.text.specs.Text as text
 use Rattle.text.specs.Page as page
 use Rattle.words.specs.Reasons.{meanings, advices}
-use Rattle.words.specs.declared.number.Parsed.TheVariants.{Number, Nothing}
+use Rattle.std.specs.Prelude.{Some, None}
 use Rattle.words.specs.Number as number
 use Rattle.words.specs.Words as words
 use Rattle.words.specs.Numbered as numbered
@@ -26,7 +26,7 @@ pub meanings-numbered : numbered.numbered 0 (words.all_codes meanings) ≡ true
 unfolding codes words.all_codes numbered.starts_with numbered.numbered decimal.digits decimal.decimal
 meanings-numbered = refl
 
--- The numbers that have a meaning: 01's, and 16 to 19, 31, 47, 53, 65 and 66 of paper 02. Just these have advice.
+-- The numbers that have a meaning (docs/FORMAT.md, "Numbers that come back"). Just these have advice.
 abbrev pub numbers : List ℕ
 numbers =
     0 ∷ 1 ∷ 2 ∷ 3 ∷ 4 ∷ 5 ∷ 6 ∷ 7 ∷ 8 ∷ 9 ∷ 10 ∷ 11 ∷ 12 ∷ 13 ∷ 14 ∷ 15 ∷ 16 ∷ 17 ∷ 18 ∷ 19 ∷
@@ -43,9 +43,9 @@ advices-present = refl
 
 -- ---- numbers read
 
-pub numbers-read : (number.parsed_of (codes "26") ≡ Number 26) × (number.parsed_of (codes "026") ≡ Number 26)
-    × (number.parsed_of (codes "18446744073709551615") ≡ Number 18446744073709551615) × (number.parsed_of (codes "18446744073709551616") ≡ Nothing)
-    × (number.parsed_of (codes "") ≡ Nothing) × (number.parsed_of (codes "2x") ≡ Nothing) × (number.parsed_of (codes "-2") ≡ Nothing)
+pub numbers-read : (number.parsed_of (codes "26") ≡ Some 26) × (number.parsed_of (codes "026") ≡ Some 26)
+    × (number.parsed_of (codes "18446744073709551615") ≡ Some 18446744073709551615) × (number.parsed_of (codes "18446744073709551616") ≡ None)
+    × (number.parsed_of (codes "") ≡ None) × (number.parsed_of (codes "2x") ≡ None) × (number.parsed_of (codes "-2") ≡ None)
 unfolding codes number.number_from number.parsed_of
 numbers-read = (refl, refl, refl, refl, refl, refl, refl)
 

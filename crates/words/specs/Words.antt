@@ -1,5 +1,5 @@
 -- The texts of the verbs check, extends and explain, as ASCII codes. Each line ends in one LF.
-use Rattle.std.specs.Prelude.{cond, List, [], ◌∷◌, ◌++◌, ℕ, eqb, ltb, length}
+use Rattle.std.specs.Prelude.{Option, Some, None, cond, List, [], ◌∷◌, ◌++◌, ℕ, eqb, ltb, length}
 use Prim.Native.String.{String}
 use Rattle.schema.specs.Checked.{Checked}
 use Rattle.schema.specs.Checked.{Good, Refused as Faulty}
@@ -11,8 +11,6 @@ use Rattle.text.specs.Codes.{codes}
 use Rattle.text.specs.Decimal.{decimal}
 use Rattle.text.specs.Text.{field}
 use Rattle.text.specs.Page.{page_entry, page_of}
-use Rattle.words.specs.declared.number.Parsed.{Parsed}
-use Rattle.words.specs.declared.number.Parsed.TheVariants.{Number, Nothing}
 use Rattle.words.specs.Reasons.{meanings, advices}
 use Rattle.words.specs.Number.{parsed_of}
 
@@ -78,9 +76,9 @@ extends_text old new =
 
 -- ---- explain
 
-abbrev pub by_number : Parsed → List ℕ
-by_number (Number n) = explained n
-by_number Nothing = codes "no number\n"
+abbrev pub by_number : Option ℕ → List ℕ
+by_number (Some n) = explained n
+by_number None = codes "no number\n"
 
 unfoldable pub explain_text : (word : List ℕ) → List ℕ
 explain_text word = by_number (parsed_of word)

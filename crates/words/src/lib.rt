@@ -1,5 +1,5 @@
 // The texts of the program's verbs but list and find, in a lent buffer; and a number in decimal, read.
-#![tactic(auto)]
+#![tactic(auto, using(text::proofs::Texts::whole_text), unfolding(text::specs::Text::put_on))]
 
 mod lines;
 mod made;
@@ -11,6 +11,8 @@ ghost use Rattle.std.specs.Prelude.{◌≡◌, ◌++◌, ◌≤◌, length, take
 ghost use Rattle.words.specs.Words.{refusal, check_text, extends_text, explain_text};
 ghost use Rattle.words.specs.Made.{kept_text, left_text, indexed_text};
 
+use text::Page;
+
 // Any of these texts has fewer bytes.
 pub const MOST: usize = 8192;
 
@@ -20,7 +22,9 @@ pub fn check(schema: &[u8], out: &mut [u8; MOST]) -> usize
     ensures out_after { out.new ≡ check_text schema.now ++ drop result out.old }
     ensures upper_bound { (result ≤ length out.new) × (result ≡ length (take result out.new)) }
 {
-    verbs::put_check(schema, out)
+    let mut page = Page::on(out);
+    verbs::put_check(&mut page, schema);
+    page.len
 }
 
 // Puts whether a new schema file extends an old one at the start of the buffer, likewise.
@@ -29,7 +33,9 @@ pub fn extends(old: &[u8], new: &[u8], out: &mut [u8; MOST]) -> usize
     ensures out_after { out.new ≡ extends_text old.now new.now ++ drop result out.old }
     ensures upper_bound { (result ≤ length out.new) × (result ≡ length (take result out.new)) }
 {
-    verbs::put_extends(old, new, out)
+    let mut page = Page::on(out);
+    verbs::put_extends(&mut page, old, new);
+    page.len
 }
 
 // Puts what a number in decimal means, and what to do about it, at the start of the buffer, likewise.
@@ -38,7 +44,9 @@ pub fn explain(word: &[u8], out: &mut [u8; MOST]) -> usize
     ensures out_after { out.new ≡ explain_text word.now ++ drop result out.old }
     ensures upper_bound { (result ≤ length out.new) × (result ≡ length (take result out.new)) }
 {
-    verbs::put_explain(word, out)
+    let mut page = Page::on(out);
+    verbs::put_explain(&mut page, word);
+    page.len
 }
 
 // Puts a refusal, its number and place and the number in words, at the start of the buffer, likewise.
@@ -47,7 +55,9 @@ pub fn refused(number: u32, place: usize, out: &mut [u8; MOST]) -> usize
     ensures out_after { out.new ≡ refusal number place ++ drop result out.old }
     ensures upper_bound { (result ≤ length out.new) × (result ≡ length (take result out.new)) }
 {
-    lines::put_refusal(out, 0, number, place)
+    let mut page = Page::on(out);
+    lines::put_refusal(&mut page, number, place);
+    page.len
 }
 
 // Puts how many entries and bytes a salvage has kept, and how many spans it has left out, at the start of the buffer, likewise.
@@ -56,7 +66,9 @@ pub fn kept(entries: usize, bytes: usize, spans: usize, out: &mut [u8; MOST]) ->
     ensures out_after { out.new ≡ kept_text entries bytes spans ++ drop result out.old }
     ensures upper_bound { (result ≤ length out.new) × (result ≡ length (take result out.new)) }
 {
-    made::put_kept(out, entries as u64, bytes as u64, spans as u64)
+    let mut page = Page::on(out);
+    made::put_kept(&mut page, entries as u64, bytes as u64, spans as u64);
+    page.len
 }
 
 // Puts which span a salvage has left out at the start of the buffer, likewise.
@@ -65,7 +77,9 @@ pub fn left_out(place: u32, bytes: u32, out: &mut [u8; MOST]) -> usize
     ensures out_after { out.new ≡ left_text place bytes ++ drop result out.old }
     ensures upper_bound { (result ≤ length out.new) × (result ≡ length (take result out.new)) }
 {
-    made::put_left(out, place as u64, bytes as u64)
+    let mut page = Page::on(out);
+    made::put_left(&mut page, place as u64, bytes as u64);
+    page.len
 }
 
 // Puts how many entries an index covers, and its length, at the start of the buffer, likewise.
@@ -74,5 +88,7 @@ pub fn indexed(entries: usize, bytes: usize, out: &mut [u8; MOST]) -> usize
     ensures out_after { out.new ≡ indexed_text entries bytes ++ drop result out.old }
     ensures upper_bound { (result ≤ length out.new) × (result ≡ length (take result out.new)) }
 {
-    made::put_indexed(out, entries as u64, bytes as u64)
+    let mut page = Page::on(out);
+    made::put_indexed(&mut page, entries as u64, bytes as u64);
+    page.len
 }

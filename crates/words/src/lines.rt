@@ -2,10 +2,12 @@
 #![tactic(auto, using(text::proofs::Texts::put_both), unfolding(text::specs::Codes::codes))]
 
 ghost use Rattle.std.specs.Prelude.{◌+◌, ◌≤◌};
+ghost use Rattle.constants.specs.Number.{number_of};
 ghost use Rattle.text.specs.Text.{AddedTo};
 ghost use Rattle.words.specs.Words.{meaning_of, advice_of, unknown, explained, refusal};
 
 use crate::page::{advices, meanings};
+use constants::refusal::Refused;
 use text::Page;
 
 // What a number means.
@@ -69,4 +71,13 @@ pub fn put_refusal(page: &mut Page, number: u32, place: usize)
     page.put_field(place as u64);
     page.put_byte(b'\n');
     put_explained(page, number as u64);
+}
+
+// The same of a refusal as it is answered.
+pub fn put_refused(page: &mut Page, refused: Refused)
+    requires { page.old.len ≤ 1000 }
+    ensures added { AddedTo page.old page.new (refusal (number_of refused.refusal) refused.place) }
+    ensures upper_bound { page.new.len ≤ page.old.len + 8100 }
+{
+    put_refusal(page, refused.refusal.into(), refused.place);
 }

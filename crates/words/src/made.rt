@@ -1,51 +1,54 @@
 // What is said of files that were made.
+#![tactic(auto, using(text::proofs::Texts::put_both), unfolding(text::specs::Codes::codes, crate::specs::Made::kept_text, crate::specs::Made::left_text, crate::specs::Made::indexed_text))]
+
 ghost use Rattle.std.specs.Prelude.{◌+◌, ◌≤◌, length};
-ghost use Rattle.text.specs.Text.{Added};
+ghost use Rattle.text.specs.Text.{AddedTo};
 ghost use Rattle.words.specs.Made.{count_text, kept_text, left_text, indexed_text};
 
-use text::{put_decimal, put_word};
+use text::Page;
 
 // A number of things, with the word for one or that for any other number.
-fn put_counted(out: &mut [u8], pos: usize, n: u64, one: &[u8], many: &[u8]) -> usize
-    requires { (pos ≤ 1000) × (length one.now ≤ 64) × (length many.now ≤ 64) }
-    ensures added { Added out.old pos (count_text n one.now many.now) result out.new }
-    ensures upper_bound { result ≤ pos + 84 }
+#[tactic(auto, using(text::proofs::Texts::put_both), unfolding(crate::specs::Made::count_text))]
+fn put_counted(page: &mut Page, n: u64, one: &[u8], many: &[u8])
+    requires { (page.old.len ≤ 1000) × (length one.now ≤ 64) × (length many.now ≤ 64) }
+    ensures added { AddedTo page.old page.new (count_text n one.now many.now) }
+    ensures upper_bound { page.new.len ≤ page.old.len + 84 }
 {
-    let at = put_decimal(out, pos, n);
-    if n == 1 {
-        return put_word(out, at, one);
-    }
-    put_word(out, at, many)
+    page.put_decimal(n);
+    page.put_word(if n == 1 { one } else { many });
 }
 
 // The entries and the bytes that a salvage has kept, and the spans that it has left out.
-pub fn put_kept(out: &mut [u8], entries: u64, bytes: u64, spans: u64) -> usize
-    ensures added { Added out.old 0 (kept_text entries bytes spans) result out.new }
-    ensures upper_bound { result ≤ 8192 }
+pub fn put_kept(page: &mut Page, entries: u64, bytes: u64, spans: u64)
+    requires { page.old.len ≤ 64 }
+    ensures added { AddedTo page.old page.new (kept_text entries bytes spans) }
+    ensures upper_bound { page.new.len ≤ page.old.len + 512 }
 {
-    let mut at = put_word(out, 0, b"kept ");
-    at = put_counted(out, at, entries, b" entry, ", b" entries, ");
-    at = put_counted(out, at, bytes, b" byte; left out ", b" bytes; left out ");
-    put_counted(out, at, spans, b" span\n", b" spans\n")
+    page.put_word(b"kept ");
+    put_counted(page, entries, b" entry, ", b" entries, ");
+    put_counted(page, bytes, b" byte; left out ", b" bytes; left out ");
+    put_counted(page, spans, b" span\n", b" spans\n");
 }
 
 // A span that was left out.
-pub fn put_left(out: &mut [u8], place: u64, bytes: u64) -> usize
-    ensures added { Added out.old 0 (left_text place bytes) result out.new }
-    ensures upper_bound { result ≤ 8192 }
+pub fn put_left(page: &mut Page, place: u64, bytes: u64)
+    requires { page.old.len ≤ 64 }
+    ensures added { AddedTo page.old page.new (left_text place bytes) }
+    ensures upper_bound { page.new.len ≤ page.old.len + 512 }
 {
-    let mut at = put_word(out, 0, b"left out ");
-    at = put_counted(out, at, bytes, b" byte from place ", b" bytes from place ");
-    at = put_decimal(out, at, place);
-    put_word(out, at, b" on\n")
+    page.put_word(b"left out ");
+    put_counted(page, bytes, b" byte from place ", b" bytes from place ");
+    page.put_decimal(place);
+    page.put_word(b" on\n");
 }
 
 // The entries that an index covers, and its bytes.
-pub fn put_indexed(out: &mut [u8], entries: u64, bytes: u64) -> usize
-    ensures added { Added out.old 0 (indexed_text entries bytes) result out.new }
-    ensures upper_bound { result ≤ 8192 }
+pub fn put_indexed(page: &mut Page, entries: u64, bytes: u64)
+    requires { page.old.len ≤ 64 }
+    ensures added { AddedTo page.old page.new (indexed_text entries bytes) }
+    ensures upper_bound { page.new.len ≤ page.old.len + 512 }
 {
-    let mut at = put_word(out, 0, b"indexed ");
-    at = put_counted(out, at, entries, b" entry, ", b" entries, ");
-    put_counted(out, at, bytes, b" byte\n", b" bytes\n")
+    page.put_word(b"indexed ");
+    put_counted(page, entries, b" entry, ", b" entries, ");
+    put_counted(page, bytes, b" byte\n", b" bytes\n");
 }

@@ -5,15 +5,6 @@ ghost use Rattle.words.specs.Number.{is_digit as digitTest, parsed_of};
 // The base of a decimal.
 const BASE: u64 = 10;
 
-// The greatest number of 64 bits.
-const GREATEST: u64 = 18446744073709551615;
-
-#[derive(Clone, Copy)]
-pub enum Parsed {
-    Number(u64),
-    Nothing,
-}
-
 fn is_digit(b: u8) -> bool
     ensures { result ≡ digitTest b }
 {
@@ -21,25 +12,19 @@ fn is_digit(b: u8) -> bool
 }
 
 // The number that a word stands for, of at most 64 bits; none where it is empty or another byte than a digit is in it.
-pub fn number_of(word: &[u8]) -> Parsed
+#[tactic(auto, using(crate::proofs::Numbers::number_turns))]
+pub fn number_of(word: &[u8]) -> Option<u64>
     ensures { result ≡ parsed_of word.now }
 {
-    if word.len() == 0 {
-        return Parsed::Nothing;
+    if word.is_empty() {
+        return None;
     }
     let mut n: u64 = 0;
-    let mut i = 0;
-    while i < word.len() {
-        let b = word[i];
+    for &b in word {
         if !is_digit(b) {
-            return Parsed::Nothing;
+            return None;
         }
-        let digit = (b - b'0') as u64;
-        if (GREATEST - digit) / BASE < n {
-            return Parsed::Nothing;
-        }
-        n = BASE * n + digit;
-        i += 1;
+        n = n.checked_mul(BASE)?.checked_add((b - b'0') as u64)?;
     }
-    Parsed::Number(n)
+    Some(n)
 }

@@ -1,4 +1,5 @@
 // The numbers in words: a line for each number from 0 on, and an empty one for a number that means nothing.
+#![tactic(auto, unfolding(text::specs::Codes::codes, text::specs::Page::page_of, crate::specs::Words::all_codes, crate::specs::Words::meanings_page, crate::specs::Words::advices_page))]
 
 ghost use Rattle.std.specs.Prelude.{◌≡◌, length};
 ghost use Rattle.words.specs.Words.{meanings_page, advices_page};

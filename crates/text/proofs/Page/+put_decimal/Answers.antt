@@ -1,6 +1,5 @@
 -- `text::Page::put_decimal` puts at most twenty digits: those of n / 10, and one more.
-use Rattle.std.proofs.Common.{◌≡◌, ap, ◌+◌, ◌/◌, length, length-append, arith}
-use Rattle.text.specs.Decimal.{decimal}
+use Rattle.std.proofs.Common.{ap, length, length-append, arith}
 use Rattle.text.proofs.Texts.{added_len}
 use Rattle.text.proofs.Decimals.{twenty, decimal_more}
 use Rattle.text.proofs.Page.+put_decimal.Goals as goal
