@@ -11,7 +11,7 @@ ghost use Rattle.index.specs.Index.{outcome, make_index};
 ghost use Rattle.index.specs.LookUp as look;
 
 use crate::judge::judge;
-use crate::print::put_text;
+use crate::print::{measure, print};
 use constants::refusal::Refused;
 use constants::{limit, refusal};
 use table::checking::check;
@@ -62,14 +62,13 @@ pub fn look_up(index: &[u8], entries: &[u8], correlation: u64, out: &mut [u8]) -
     ensures { look.outcome result out.new ≡ look.look_up index.now entries.now correlation out.old }
 {
     let judged = judge(index, entries.len());
-    let mut none = [0u8; 1];
-    let length = put_text(index, judged, correlation, &mut none[..0]);
+    let length = measure(index, judged, correlation);
     if out.len() < length {
         return Finding::Refused {
             number: refusal::OUTPUT_TOO_SHORT,
         };
     }
-    put_text(index, judged, correlation, out);
+    print(index, judged, correlation, out);
     Finding::Printed {
         number: judged.number,
         length,

@@ -1,5 +1,5 @@
 -- Laws of the listing's entries: each turn of the listing, by the run that it prints.
-use mathlib.Core.Path.{◌≡◌, refl, sym, ap, subst, ◌∙◌}
+use mathlib.Core.Path.{◌≡◌, refl, sym, ap, ◌∙◌}
 use mathlib.Core.Bool.{true, false}
 use mathlib.Core.List.{List, [], ◌∷◌, ◌++◌, append_assoc}
 use mathlib.Core.Logic.{⊎_elim}
@@ -14,8 +14,8 @@ use Rattle.calls.specs.declared.Call.{Call}
 use Rattle.connection.specs.declared.CallTable.{CallTable}
 use Rattle.connection.specs.Step.{fresh_table}
 use Rattle.receiver.specs.declared.Received.{Received}
-use Rattle.text.specs.Text.{Added}
-use Rattle.text.proofs.Texts.{added_then}
+use Rattle.text.specs.Text.{Shown, put_on}
+use Rattle.text.proofs.Texts.{put_both}
 use Rattle.replay.specs.Run.{fresh_calls, answer_to, header_in, stops, Run, onward, entry_of, run_from, run_of}
 use Rattle.replay.proofs.Replays as replay
 use Rattle.listing.specs.Text.{line_text, stopped_text}
@@ -73,27 +73,22 @@ pub end-turn : (s : List ℕ) (k entry : ℕ) (l : List Call) → entries_text s
 unfolding entries_text
 end-turn s k entry l = ap (run_text entry) (replay.run_end s k 0 l) ∙ text-halted entry 0 0
 
--- What is left of the entries, from a place on, gives the same end as all of them; k more entries are enough.
-pub record Rest (s entries : List ℕ) (whole : (next : ℕ) (after : List ℕ) → Type 0) (out : List ℕ) (pos entry at : ℕ) (l : List Call) : Type 0 where
+-- What is left of the entries, from a place on, put on the page as it is gives the whole; k more entries are enough.
+pub record Rest (s entries : List ℕ) (whole page : Shown) (entry at : ℕ) (l : List Call) : Type 0 where
   pub most : ℕ
   pub enough : length entries ≤ at + most
-  pub ends : (next : ℕ) (after : List ℕ) → Added out pos (entries_text s most entry (drop at entries) l) next after → whole next after
+  pub ends : put_on page (entries_text s most entry (drop at entries) l) ≡ whole
 
-pub rest-first : (s entries out : List ℕ) (pos : ℕ) (t : CallTable) → t ≡ fresh_table
-    → Rest s entries (Added out pos (run_text 1 (run_of s entries))) out pos 1 0 t.slots
+pub rest_first : (s entries : List ℕ) (page : Shown) (t : CallTable) → t ≡ fresh_table
+    → Rest s entries (put_on page (run_text 1 (run_of s entries))) page 1 0 t.slots
 unfolding fresh_calls entries_text run_of
-rest-first s entries out pos t e =
-    record {
-      most = length entries;
-      enough = omega arith;
-      ends = λ next after f. subst (λ (k : CallTable). Added out pos (entries_text s (length entries) 1 entries k.slots) next after) e f;
-    }
+rest_first s entries page t e =
+    record { most = length entries; enough = omega arith; ends = ap (λ (k : CallTable). put_on page (entries_text s (length entries) 1 entries k.slots)) e }
 
-module _ (s entries : List ℕ) (whole : (next : ℕ) (after : List ℕ) → Type 0) (out : List ℕ) (pos entry at : ℕ) (l : List Call)
-    (w : Rest s entries whole out pos entry at l) where
-  pub rest_end : length entries ≤ at → (next : ℕ) (after : List ℕ) → Added out pos (stopped_text 0 0) next after → whole next after
-  rest_end h next after f =
-      w.ends next after (subst (λ (t : List ℕ). Added out pos t next after) (sym (ap (λ (left : List ℕ). entries_text s w.most entry left l) (drop_of_length-le entries h) ∙ end-turn s w.most entry l)) f)
+module _ (s entries : List ℕ) (whole page : Shown) (entry at : ℕ) (l : List Call) (w : Rest s entries whole page entry at l) where
+  pub rest_end : length entries ≤ at → put_on page (stopped_text 0 0) ≡ whole
+  rest_end h =
+      ap (put_on page) (sym (ap (λ (left : List ℕ). entries_text s w.most entry left l) (drop_of_length-le entries h) ∙ end-turn s w.most entry l)) ∙ w.ends
 
   -- the entry at the place
   module _ (h : at < length entries) (bytes : List ℕ) (tail : bytes ≡ drop (at + 1) entries) (side : ℕ) (first : side ≡ get_or entries at 0)
@@ -107,31 +102,31 @@ module _ (s entries : List ℕ) (whole : (next : ℕ) (after : List ℕ) → Typ
     some : w.most ≡ suc (w.most - 1)
     some = omega (arith, w.enough)
 
-    pub rest-stop : stops side r.number r.used ≡ true → (next : ℕ) (after : List ℕ)
-        → Added out pos (stopped_text r.number (length entries - at)) next after → whole next after
-    rest-stop e next after f =
-        w.ends next after
-        (subst (λ (t : List ℕ). Added out pos t next after)
-        (sym (ap (λ (n : ℕ). entries_text s n entry (drop at entries) l) some
+    pub rest_stop : stops side r.number r.used ≡ true → put_on page (stopped_text r.number (length entries - at)) ≡ whole
+    rest_stop e =
+        ap (put_on page)
+        (ap (λ (n : ℕ). stopped_text r.number n) left-long
+        ∙ sym (ap (λ (n : ℕ). entries_text s n entry (drop at entries) l) some
         ∙ ap (λ (left : List ℕ). entries_text s (suc (w.most - 1)) entry left l) split
-        ∙ stop-turn s (w.most - 1) entry side bytes l (rw is at e)))
-        (rw (left-long, is) at f))
+        ∙ stop-turn s (w.most - 1) entry side bytes l (rw is at e)
+        ∙ ap (λ (x : Received). stopped_text x.number (length (side ∷ bytes))) (sym is)))
+        ∙ w.ends
 
-    pub rest-line : stops side r.number r.used ≡ false → (26 ≤ r.used) → (x : Header) → x ≡ header_in (frame_of bytes) → (mid : List ℕ) (next : ℕ)
-        → Added out pos (line_text entry side x r) next mid
-        → Rest s entries whole mid next (entry + 1) (at + 1 + r.used) r.table.slots
-    rest-line e least x header mid next f =
+    pub rest_line : stops side r.number r.used ≡ false → (26 ≤ r.used) → (x : Header) → x ≡ header_in (frame_of bytes)
+        → Rest s entries whole (put_on page (line_text entry side x r)) (entry + 1) (at + 1 + r.used) r.table.slots
+    rest_line e least x header =
         record {
           most = w.most - 1;
           enough = omega (arith, w.enough);
-          ends = λ end after g.
-              w.ends end after
-              (subst (λ (t : List ℕ). Added out pos t end after)
-              (sym (ap (λ (n : ℕ). entries_text s n entry (drop at entries) l) some
+          ends =
+              put_both page (line_text entry side x r) (entries_text s (w.most - 1) (entry + 1) (drop (at + 1 + r.used) entries) r.table.slots)
+              ∙ ap (put_on page)
+              (ap (λ (y : Header). line_text entry side y r ++ entries_text s (w.most - 1) (entry + 1) (drop (at + 1 + r.used) entries) r.table.slots) header
+              ∙ sym (ap (λ (n : ℕ). entries_text s n entry (drop at entries) l) some
               ∙ ap (λ (left : List ℕ). entries_text s (suc (w.most - 1)) entry left l) split
               ∙ line-turn s (w.most - 1) entry side bytes l (rw is at e)
               ∙ ap (λ (x : Received). line_text entry side (header_in (frame_of bytes)) x ++ entries_text s (w.most - 1) (entry + 1) (drop x.used bytes) x.table.slots) (sym is)
               ∙ ap (λ (left : List ℕ). line_text entry side (header_in (frame_of bytes)) r ++ entries_text s (w.most - 1) (entry + 1) left r.table.slots)
               (ap (drop r.used) tail ∙ drop-drop r.used (at + 1) entries)))
-              (added_then (subst (λ (y : Header). Added out pos (line_text entry side y r) next mid) header f) g));
+              ∙ w.ends;
         }

@@ -1,30 +1,35 @@
 // The listing of a record of frames, as text in a lent buffer.
-#![tactic(auto)]
+#![tactic(auto, using(text::proofs::Texts::whole_text), unfolding(text::specs::Text::put_on))]
 
 mod entries;
 mod lines;
 
 ghost use Rattle.std.specs.Prelude.{◌≡◌, ◌++◌, ◌≤◌, length, take, drop};
-ghost use Rattle.text.specs.Text.{Added};
+ghost use Rattle.text.specs.Text.{AddedTo};
 ghost use Rattle.listing.specs.Listing.{listing};
 
-use constants::{limit, refusal};
+use constants::limit;
+use constants::refusal::Refusal;
+use text::Page;
 
 // Any listing has fewer bytes: a line has at most 149, and its entry at least 27 of the record's 65,536.
 pub const MOST: usize = 362000;
 
 // The listing, as far as the buffer has room.
-fn put_all(schema: &[u8], entries: &[u8], out: &mut [u8]) -> usize
-    ensures added { Added out.old 0 (listing schema.now entries.now) result out.new }
-    ensures upper_bound { result ≤ 362000 }
+#[tactic(auto, using(text::proofs::Texts::put_both), unfolding(crate::specs::Listing::listing))]
+fn put_all(schema: &[u8], entries: &[u8], page: &mut Page)
+    requires { page.old.len ≡ 0 }
+    ensures added { AddedTo page.old page.new (listing schema.now entries.now) }
+    ensures upper_bound { page.new.len ≤ 362000 }
 {
-    let pos = lines::put_heading(out);
+    lines::put_heading(page);
     if (limit::FILE < schema.len()) | (limit::FILE < entries.len()) {
-        return lines::put_stopped(out, pos, refusal::FILE_TOO_LONG, 0);
+        lines::put_stopped(page, Refusal::FileTooLong.into(), 0);
+        return;
     }
     match arf::check_table(schema) {
-        Err(refused) => lines::put_stopped(out, pos, refused.refusal as u32, entries.len()),
-        Ok(()) => entries::put_entries(schema, entries, out, pos),
+        Err(refused) => lines::put_stopped(page, refused.refusal.into(), entries.len()),
+        Ok(()) => entries::put_entries(schema, entries, page),
     }
 }
 
@@ -34,5 +39,7 @@ pub fn list(schema: &[u8], entries: &[u8], out: &mut [u8; MOST]) -> usize
     ensures out_after { out.new ≡ listing schema.now entries.now ++ drop result out.old }
     ensures upper_bound { (result ≤ length out.new) × (result ≡ length (take result out.new)) }
 {
-    put_all(schema, entries, out)
+    let mut page = Page::on(out);
+    put_all(schema, entries, &mut page);
+    page.len
 }

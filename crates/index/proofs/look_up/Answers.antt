@@ -1,5 +1,8 @@
 -- `index::look_up` meets its contract: the text is measured first, and then put where it fits.
+use mathlib.Core.Path.{ap, ◌∙◌}
 use lib.ListN.{length}
+use Rattle.index.specs.declared.Finding.TheVariants.{Printed}
+use Rattle.index.specs.LookUp.{outcome}
 use Rattle.index.proofs.Shapes.{JudgedAs}
 use Rattle.index.proofs.Prints.{no_room, printed}
 use Rattle.index.proofs.look_up.Goals.{After-judge-judged}
@@ -15,11 +18,11 @@ pub returns-then-out-length : goal.returns-then-out-length
 returns-then-out-length c =
     let at-judge = (goal.at.returns-then-out-length c).After-judge-judged in
     let a = at-judge.args in
-    no_room a.index.now a.entries.now a.correlation a.out.now _ _ (judged at-judge) _ _ _ c.put_text-length.ensures c.if-out-length.true
+    no_room a.index.now a.entries.now a.correlation a.out.now _ _ (judged at-judge) _ c.measure-length.ensures c.if-out-length.true
 
 pub returns : goal.returns
 returns c =
     let at-judge = (goal.at.returns c).After-judge-judged in
     let a = at-judge.args in
-    printed a.index.now a.entries.now a.correlation a.out.now _ _ (judged at-judge) _ _ _ c.put_text-length.ensures c.if-out-length.false
-    _ _ c.put_text.ensures
+    ap (outcome (Printed c.judge-judged.result.number c.measure-length.result)) c.print.ensures
+    ∙ printed a.index.now a.entries.now a.correlation a.out.now _ _ (judged at-judge) _ c.measure-length.ensures c.if-out-length.false

@@ -4,9 +4,10 @@ use mathlib.Core.Path.{refl, sym, ap, ◌∙◌}
 use Prim.Native.Nat.{◌+◌, ◌≤◌}
 use native.Mathlib.Omega.{arith}
 use lib.ListN.{length}
+use Rattle.text.specs.Text.{shown}
 use Rattle.replay.specs.Run.{header_in}
 use Rattle.replay.proofs.Replays.{tail_of, entry-bounds}
-use Rattle.listing.proofs.Turns.{rest-first, rest_end, rest-stop, rest-line}
+use Rattle.listing.proofs.Turns.{rest_first, rest_end, rest_stop, rest_line}
 use Rattle.listing.proofs.entries.put_from_first.Goals.{After-struct_known-1}
 use Rattle.listing.proofs.entries.put_from_first.Goals as goal
 
@@ -14,11 +15,10 @@ pub loop-at-init : goal.loop-at-init
 loop-at-init c =
     let a = c.args in (
       c.requires.2,
-      refl,
       omega arith,
       omega (arith, c.requires.0, c.requires.1),
       omega arith,
-      rest-first a.schema.now a.entries.now a.out.now a.start c.fresh-table.result c.fresh-table.ensures,
+      rest_first a.schema.now a.entries.now (shown a.page.now) c.fresh-table.result c.fresh-table.ensures,
     )
 
 pub step-r-requires : goal.step-r-requires
@@ -28,19 +28,16 @@ pub shape_of-sheet-then-stops : goal.shape_of-sheet-then-stops
 shape_of-sheet-then-stops c =
     c.step-r.auto.sheet ∙ c.loop-at.invariant.0 ∙ sym c.requires.2
 
-pub shape_of-out-then-stops : goal.shape_of-out-then-stops
-shape_of-out-then-stops c = c.put_stopped.auto.out ∙ c.loop-at.invariant.1
-
 pub returns-then-stops : goal.returns-then-stops
 returns-then-stops c =
     let a = c.args in
     let here = c.loop-at in
     let step = c.step-r in record {
-      added = rest-stop a.schema.now a.entries.now _ here.out here.pos here.entry here.at here.table.slots here.invariant.5
+      added = c.put_stopped.ensures.added
+          ∙ rest_stop a.schema.now a.entries.now _ (shown here.page) here.entry here.at here.table.slots here.invariant.4
           c.loop-at-test.true _ (tail_of a.entries.now here.at) _ refl step.result.answer step.ensures.0
-          (sym c.stops.ensures ∙ c.if-stops.true)
-          c.put_stopped.result _ c.put_stopped.ensures.added;
-      upper_bound = omega (arith, here.invariant.3, c.put_stopped.ensures.upper_bound);
+          (sym c.stops.ensures ∙ c.if-stops.true);
+      upper_bound = omega (arith, here.invariant.2, c.put_stopped.ensures.upper_bound);
     }
 
 -- the entry that was listed lies in the record
@@ -56,7 +53,7 @@ bounds c =
 
 pub overflow_add-entry : goal.overflow_add-entry
 overflow_add-entry c =
-    omega (arith, c.loop-at.invariant.4, c.loop-at-test.true, c.requires.1)
+    omega (arith, c.loop-at.invariant.3, c.loop-at-test.true, c.requires.1)
 
 pub loop-at-preserved : goal.loop-at-preserved
 loop-at-preserved c =
@@ -66,29 +63,25 @@ loop-at-preserved c =
     let header = c.header in
     let b = bounds c in (
       step.auto.sheet ∙ here.invariant.0,
-      c.put_line-pos.auto.out ∙ here.invariant.1,
       b.1,
-      omega (arith, here.invariant.3, b.0, b.1, c.put_line-pos.ensures.upper_bound),
-      omega (arith, here.invariant.4, b.0),
-      rest-line a.schema.now a.entries.now _ here.out here.pos here.entry here.at here.table.slots here.invariant.5
+      omega (arith, here.invariant.2, b.0, b.1, c.put_line.ensures.upper_bound),
+      omega (arith, here.invariant.3, b.0),
+      rw c.put_line.ensures.added (rest_line a.schema.now a.entries.now _ (shown here.page) here.entry here.at here.table.slots here.invariant.4
           c.loop-at-test.true _ (tail_of a.entries.now here.at) _ refl step.result.answer step.ensures.0
           (sym c.stops.ensures ∙ c.if-stops.false) b.0
-          header.result (header.ensures ∙ ap header_in step.ensures.1) _ c.put_line-pos.result c.put_line-pos.ensures.added,
+          header.result (header.ensures ∙ ap header_in step.ensures.1)),
     )
 
 pub shape_of-sheet : goal.shape_of-sheet
 shape_of-sheet c = c.loop-at.invariant.0 ∙ sym c.requires.2
 
-pub shape_of-out : goal.shape_of-out
-shape_of-out c = c.put_stopped-2.auto.out ∙ c.loop-at.invariant.1
-
 pub returns : goal.returns
 returns c =
     let a = c.args in
     let here = c.loop-at in record {
-      added = rest_end a.schema.now a.entries.now _ here.out here.pos here.entry here.at here.table.slots here.invariant.5 c.loop-at-test.false
-          c.put_stopped-2.result _ c.put_stopped-2.ensures.added;
-      upper_bound = omega (arith, here.invariant.3, c.put_stopped-2.ensures.upper_bound);
+      added = c.put_stopped-2.ensures.added
+          ∙ rest_end a.schema.now a.entries.now _ (shown here.page) here.entry here.at here.table.slots here.invariant.4 c.loop-at-test.false;
+      upper_bound = omega (arith, here.invariant.2, c.put_stopped-2.ensures.upper_bound);
     }
 
 pub overflow_add-at : goal.overflow_add-at

@@ -3,7 +3,7 @@
 use mathlib.Core.Path.{◌≡◌}
 use Prim.Native.Nat.{◌+◌, ◌*◌, ◌-◌, ◌≤◌}
 use lib.ListN.{length}
-use Rattle.text.specs.Text.{Added}
+use Rattle.text.specs.Text.{put_on, shown}
 use Rattle.replay.specs.Run.{run_of}
 use Rattle.listing.specs.Listing.{run_text}
 use Rattle.listing.proofs.Turns.{Rest}
@@ -12,11 +12,10 @@ use Rattle.listing.proofs.entries.put_from_first.Given as goal
 abbrev pub invariant-loop-at : goal.invariant-loop-at
 invariant-loop-at l =
     (length l.sheet ≡ 16384)
-    × (length l.out ≡ length l.initial.out)
     × (l.at ≤ length l.entries)
-    × (27 * l.pos + 149 * (length l.entries - l.at) ≤ 9766052)
+    × (27 * l.page.len + 149 * (length l.entries - l.at) ≤ 9766052)
     × (l.entry ≤ l.at + 1)
-    × Rest l.schema l.entries (Added l.initial.out l.start (run_text 1 (run_of l.schema l.entries))) l.out l.pos l.entry l.at l.table.slots
+    × Rest l.schema l.entries (put_on (shown l.initial.page) (run_text 1 (run_of l.schema l.entries))) (shown l.page) l.entry l.at l.table.slots
 
 abbrev pub decreases-loop-at : goal.decreases-loop-at
 decreases-loop-at l = length l.entries - l.at

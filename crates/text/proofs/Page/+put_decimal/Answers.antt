@@ -7,4 +7,4 @@ use Rattle.text.proofs.Page.+put_decimal.Goals as goal
 pub returns-clause-upper_bound : goal.returns-clause-upper_bound
 returns-clause-upper_bound t c =
     let n = c.args.n in
-    omega (arith, twenty n (omega arith), simp length-append at (ap length (decimal_more n c.if-n-lt-BASE.false)), added_len c.args.self.now c.put_decimal.new.self _ c.put_decimal.ensures.added)
+    omega (arith, twenty n (omega arith), simp length-append at (ap length (decimal_more n (omega arith))), added_len c.args.self.now c.put_decimal.new.self _ c.put_decimal.ensures.added)
