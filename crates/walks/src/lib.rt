@@ -23,17 +23,13 @@ pub fn is_complete(s: &[u8], first: usize, n: usize, word: u64, judging: bool) -
     if !judging {
         return true;
     }
-    let mut i = first;
-    let mut left = n;
     let mut bits = word;
-    while 0 < left {
+    for i in first..first + n {
         let f = table::access::field(s, i);
         if !((f.optional == 1) | (bits % 2 == 1)) {
             return false;
         }
         bits = bits / 2;
-        i = i + 1;
-        left = left - 1;
     }
     true
 }
@@ -53,10 +49,8 @@ pub fn required_of(s: &[u8], l: Layout, first: usize, n: usize) -> u64
     requires { IsGood s.now × Laid s.now l × (n ≤ 64) × (first + n ≤ length (table_of s.now).fields) }
     ensures { Requires result (fields_from (table_of s.now) first n) }
 {
-    let mut i = n;
     let mut required: u64 = 0;
-    while 0 < i {
-        i = i - 1;
+    for i in (0..n).rev() {
         let f = field_row(s, l, first + i);
         required = 2 * required + bit_of(f.optional);
     }

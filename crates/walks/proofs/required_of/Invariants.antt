@@ -7,6 +7,3 @@ use Rattle.walks.proofs.required_of.Given as goal
 
 abbrev pub invariant-loop-i : goal.invariant-loop-i
 invariant-loop-i l = (l.i ≤ l.n) × (l.required < 2 ^ (l.n - l.i)) × Requires l.required (fields_from (table_of l.s) (l.first + l.i) (l.n - l.i))
-
-abbrev pub decreases-loop-i : goal.decreases-loop-i
-decreases-loop-i l = l.i
