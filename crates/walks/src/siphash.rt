@@ -124,10 +124,8 @@ pub fn hash(s: &[u8], place: usize, n: usize) -> usize
         v2: START_2,
         v3: START_3,
     };
-    let mut i = 0;
-    while i < words {
+    for i in 0..words {
         v = compress(v, number(s, place + WORD * i, WORD) as usize);
-        i = i + 1;
     }
     finalize(compress(v, last_word(s, place + WORD * words, n)))
 }
