@@ -63,10 +63,8 @@ fn has_digest(keys: &[usize], n: usize, d: usize) -> bool
     ensures { result ≡ has_digest keys.now n d }
 {
     let mut found = false;
-    let mut i = 0;
-    while i < n {
-        found = found | (keys[i] == d);
-        i = i + 1;
+    for kept in &keys[..n] {
+        found = found | (*kept == d);
     }
     found
 }
@@ -79,12 +77,10 @@ fn is_same(s: &[u8], a: usize, n: usize, b: usize, m: usize) -> bool
     if n != m {
         return false;
     }
-    let mut i = 0;
-    while i < n {
+    for i in 0..n {
         if s[a + i] != s[b + i] {
             return false;
         }
-        i = i + 1;
     }
     true
 }
@@ -121,9 +117,7 @@ fn is_among(
     if !has_digest(keys, held, d) {
         return false;
     }
-    let mut j = held;
-    while 0 < j {
-        j = j - 1;
+    for j in (0..held).rev() {
         if is_key(s, keys, j, place, n, d) {
             return true;
         }

@@ -7,6 +7,3 @@ use Rattle.walks.proofs.key.is_among.Given as goal
 
 abbrev pub invariant-loop-j : goal.invariant-loop-j
 invariant-loop-j l = (among (span l.s l.place l.n) (keys_in l.s l.keys l.j) ≡ among (span l.s l.place l.n) (keys_in l.s l.keys l.held)) × (l.j ≤ l.held)
-
-abbrev pub decreases-loop-j : goal.decreases-loop-j
-decreases-loop-j l = l.j

@@ -6,6 +6,3 @@ use Rattle.walks.proofs.key.is_same.Given as goal
 
 abbrev pub invariant-loop-i : goal.invariant-loop-i
 invariant-loop-i l = (same (span l.s (l.a + l.i) (l.n - l.i)) (span l.s (l.b + l.i) (l.m - l.i)) ≡ same (span l.s l.a l.n) (span l.s l.b l.m)) × (l.i ≤ l.n)
-
-abbrev pub decreases-loop-i : goal.decreases-loop-i
-decreases-loop-i l = l.n - l.i
