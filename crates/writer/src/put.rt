@@ -37,6 +37,7 @@ pub fn put_number(out: &mut [u8], pos: usize, x: u64) -> usize
 {
     let mut y = x;
     let mut at = pos;
+    // How many groups x has is known only when the last is put.
     while GROUP <= y {
         put_byte(out, at, (y % GROUP + GROUP) as u8);
         y = y / GROUP;
@@ -52,11 +53,9 @@ pub fn put_bits(out: &mut [u8], pos: usize, n: usize, x: u64) -> usize
     ensures { PutAt out.old pos (bytes n x) result out.new }
 {
     let mut y = x;
-    let mut i = 0;
-    while i < n {
+    for i in 0..n {
         put_byte(out, pos + i, (y % BYTE) as u8);
         y = y / BYTE;
-        i = i + 1;
     }
     further(pos, n)
 }

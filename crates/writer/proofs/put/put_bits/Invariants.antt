@@ -8,6 +8,3 @@ use Rattle.writer.proofs.put.put_bits.Given as goal
 
 abbrev pub invariant-loop-i : goal.invariant-loop-i
 invariant-loop-i l = (put l.out (l.pos + l.i) (bytes (l.n - l.i) l.y) ≡ put l.initial.out l.pos (bytes l.n l.x)) × (l.i ≤ l.n) × (length l.out ≡ length l.initial.out)
-
-abbrev pub decreases-loop-i : goal.decreases-loop-i
-decreases-loop-i l = l.n - l.i
