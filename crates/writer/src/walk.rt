@@ -113,17 +113,15 @@ fn write_leaves(
     requires kind_nonzero { (0 < kind) × (kind ≡ (row_at (table_of s.now) elem).kind) × (kind < 14) }
     ensures { Walked sheet.now (items_end s.now source.now sheet.now depth [] (replicate n (plain_item elem)) start pos out.old) result out.new }
 {
-    let mut left = n;
     let mut here = start;
     let mut to = pos;
-    while 0 < left {
+    for _ in 0..n {
         if depth == 0 {
             return Refusal::TooDeep.at(here);
         }
         let past = write_leaf(s, sheet, source, out, kind, elem, here, to, depth, judging)?;
         here = past.row;
         to = past.pos;
-        left = left - 1;
     }
     Ok(Past { row: here, pos: to })
 }
@@ -188,14 +186,12 @@ fn write_elements(
     if (kind == STRUCT) & (0 < depth) {
         return write_run(s, sheet, source, out, ty, t, n, start, pos, depth, judging);
     }
-    let mut left = n;
     let mut here = start;
     let mut to = pos;
-    while 0 < left {
+    for _ in 0..n {
         let past = write_composite(s, sheet, source, out, ty, t, here, to, depth, judging)?;
         here = past.row;
         to = past.pos;
-        left = left - 1;
     }
     Ok(Past { row: here, pos: to })
 }
@@ -321,10 +317,9 @@ fn write_pairs(
 {
     let k = known_row(s, t.a as usize).kind as usize;
     let v = known_row(s, t.b as usize);
-    let mut i = 0;
     let mut at = start;
     let mut to = pos;
-    while i < n {
+    for i in 0..n {
         let past = write_key(sheet, source, out, keys, i, k, t.a, at, to, depth, judging)?;
         at = past.row;
         to = past.pos;
@@ -344,7 +339,6 @@ fn write_pairs(
             );
             at = at + 1;
         }
-        i = i + 1;
     }
     Ok(Past { row: at, pos: to })
 }
@@ -405,16 +399,14 @@ fn write_structs(
     ensures { Walked sheet.now (items_end s.now source.now sheet.now (suc depth) [] (replicate count (plain_item ty)) start pos out.old) result out.new }
 {
     let required = required_of(s, layout_of(s), first, n);
-    let mut left = count;
     let mut here = start;
     let mut to = pos;
-    while 0 < left {
+    for _ in 0..count {
         let past = write_struct(
             s, sheet, source, out, ty, first, n, required, here, to, depth, judging,
         )?;
         here = past.row;
         to = past.pos;
-        left = left - 1;
     }
     Ok(Past { row: here, pos: to })
 }
@@ -513,6 +505,7 @@ fn write_fields(
     let mut bits = known;
     let mut here = start;
     let mut to = pos;
+    // A turn takes the next field that is there, and goes on by as many bits as it passes: there is no count to go by.
     while bits != 0 {
         if bits % 2 == 1 {
             let f = field_row(s, l, i);

@@ -16,7 +16,7 @@ use Rattle.walks.proofs.Keys.{keys_none}
 use Rattle.walks.proofs.Tables.{few-fields, struct_row, array_row, map_row, map-value, shape-array, shape-map, shape-struct, shape-past, shape-leaf}
 use Rattle.walks.proofs.Presence.{length_fields}
 use Rattle.walks.proofs.Masks.{bits_left, standing-first, standing-field, standing-kind, standing-next, standing-shift, standing-less, standing-skip, standing-same, standing-end}
-use Rattle.walks.proofs.Items.{elements-none, elements-some, pairs-none}
+use Rattle.walks.proofs.Items.{elements-none, elements-more, pairs-none}
 use Rattle.writer.specs.Walk.{items_end, MapRow}
 use Rattle.writer.proofs.Steps.{handed, was, renamed, as_refused, shown-stopped, shown-refused, onward, walk-done}
 use Rattle.writer.proofs.Steps.{show-deep, accepted-deeper, walked-deeper, items-deeper, items-shallower, leaf-accepted, show-unknown}
@@ -177,20 +177,20 @@ pub write_elements-write_composite-requires : goal.write_elements-write_composit
 write_elements-write_composite-requires t c = (
   omega (arith, c.decreases),
   (
-    writing-ready c.loop-left.invariant (elements-some _ _ c.loop-left-test.true),
+    writing-ready c.loop.invariant (elements-more _ c.loop-test.true),
     c.known_row-t.ensures,
     omega (arith, c.if-kind-lt-ARRAY.false),
   ),
 )
 
 pub write_elements-returns-in_err-past : goal.write_elements-returns-in_err-past
-write_elements-returns-in_err-past t c = writing-stop c.loop-left.invariant (elements-some _ _ c.loop-left-test.true) c.write_composite.ensures c.in_err-past.was (handed c.from_residual.ensures.1)
+write_elements-returns-in_err-past t c = writing-stop c.loop.invariant (elements-more _ c.loop-test.true) c.write_composite.ensures c.in_err-past.was (handed c.from_residual.ensures.1)
 
-pub write_elements-loop-left-preserved : goal.write_elements-loop-left-preserved
-write_elements-loop-left-preserved t c = writing-on c.loop-left.invariant (elements-some _ _ c.loop-left-test.true) c.write_composite.ensures c.in_ok-past.was c.write_composite.auto.out
+pub write_elements-loop-preserved : goal.write_elements-loop-preserved
+write_elements-loop-preserved t c = writing-on c.loop.invariant (elements-more _ c.loop-test.true) c.write_composite.ensures c.in_ok-past.was c.write_composite.auto.out
 
 pub write_elements-returns : goal.write_elements-returns
-write_elements-returns t c = writing-done c.loop-left.invariant (elements-none _ _ c.loop-left-test.false)
+write_elements-returns t c = writing-done c.loop.invariant (elements-none _ (c.args.n - c.loop.counter) (omega (arith, c.loop-test.false)))
 
 pub write_fields-layout_of-l-requires : goal.write_fields-layout_of-l-requires
 write_fields-layout_of-l-requires t c = good-shaped _ c.requires.ready.good
@@ -460,19 +460,19 @@ write_structs-write_struct-requires t c =
     let h = asked.n_nonzero in (
       omega (arith, c.decreases),
       (
-        (writing-ready c.loop-left.invariant (elements-some _ _ c.loop-left-test.true), asked.ready.1),
+        (writing-ready c.loop.invariant (elements-more _ c.loop-test.true), asked.ready.1),
         (h.0, h.1, h.2, c.required_of-required.ensures),
       ),
     )
 
 pub write_structs-returns-in_err-past : goal.write_structs-returns-in_err-past
-write_structs-returns-in_err-past t c = writing-stop c.loop-left.invariant (elements-some _ _ c.loop-left-test.true) c.write_struct.ensures c.in_err-past.was (handed c.from_residual.ensures.1)
+write_structs-returns-in_err-past t c = writing-stop c.loop.invariant (elements-more _ c.loop-test.true) c.write_struct.ensures c.in_err-past.was (handed c.from_residual.ensures.1)
 
-pub write_structs-loop-left-preserved : goal.write_structs-loop-left-preserved
-write_structs-loop-left-preserved t c = writing-on c.loop-left.invariant (elements-some _ _ c.loop-left-test.true) c.write_struct.ensures c.in_ok-past.was c.write_struct.auto.out
+pub write_structs-loop-preserved : goal.write_structs-loop-preserved
+write_structs-loop-preserved t c = writing-on c.loop.invariant (elements-more _ c.loop-test.true) c.write_struct.ensures c.in_ok-past.was c.write_struct.auto.out
 
 pub write_structs-returns : goal.write_structs-returns
-write_structs-returns t c = writing-done c.loop-left.invariant (elements-none _ _ c.loop-left-test.false)
+write_structs-returns t c = writing-done c.loop.invariant (elements-none _ (c.args.count - c.loop.counter) (omega (arith, c.loop-test.false)))
 
 pub write_value-returns-then-depth-eq0 : goal.write_value-returns-then-depth-eq0
 write_value-returns-then-depth-eq0 t c = shown-refused _ _ _ _ c.at.ensures (show-deep _ _ _ _ _ c.if-depth-eq0.true)

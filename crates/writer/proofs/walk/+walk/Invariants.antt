@@ -45,11 +45,8 @@ decreases-write_struct l = 6 * l.depth + 4
 abbrev pub decreases-write_structs : goal.decreases-write_structs
 decreases-write_structs l = 6 * l.depth + 5
 
-abbrev pub invariant-write_elements-loop-left : goal.invariant-write_elements-loop-left
-invariant-write_elements-loop-left l = WritingItems l.s l.source l.sheet l.depth (replicate l.n (plain_item l.ty)) l.start l.pos l.judging l.initial.out [] (replicate l.left (plain_item l.ty)) l.here l.to l.out
-
-abbrev pub decreases-write_elements-loop-left : goal.decreases-write_elements-loop-left
-decreases-write_elements-loop-left l = l.left
+abbrev pub invariant-write_elements-loop : goal.invariant-write_elements-loop
+invariant-write_elements-loop l = WritingItems l.s l.source l.sheet l.depth (replicate l.n (plain_item l.ty)) l.start l.pos l.judging l.initial.out [] (replicate (l.n - l.counter) (plain_item l.ty)) l.here l.to l.out
 
 abbrev pub invariant-write_fields-loop-bits : goal.invariant-write_fields-loop-bits
 invariant-write_fields-loop-bits l = WritingItems l.s l.source l.sheet l.depth (present (fields_from (table_of l.s) l.first l.n) l.known) l.start l.pos l.judging l.initial.out []
@@ -58,16 +55,10 @@ invariant-write_fields-loop-bits l = WritingItems l.s l.source l.sheet l.depth (
 abbrev pub decreases-write_fields-loop-bits : goal.decreases-write_fields-loop-bits
 decreases-write_fields-loop-bits l = l.bits
 
-abbrev pub invariant-write_structs-loop-left : goal.invariant-write_structs-loop-left
-invariant-write_structs-loop-left l = WritingItems l.s l.source l.sheet (suc l.depth) (replicate l.count (plain_item l.ty)) l.start l.pos l.judging l.initial.out [] (replicate l.left (plain_item l.ty)) l.here l.to l.out
-
-abbrev pub decreases-write_structs-loop-left : goal.decreases-write_structs-loop-left
-decreases-write_structs-loop-left l = l.left
+abbrev pub invariant-write_structs-loop : goal.invariant-write_structs-loop
+invariant-write_structs-loop l = WritingItems l.s l.source l.sheet (suc l.depth) (replicate l.count (plain_item l.ty)) l.start l.pos l.judging l.initial.out [] (replicate (l.count - l.counter) (plain_item l.ty)) l.here l.to l.out
 
 abbrev pub invariant-write_pairs-loop-i : goal.invariant-write_pairs-loop-i
 invariant-write_pairs-loop-i l =
     WritingItems l.s l.source l.sheet l.depth (pairs l.n l.t.a l.t.b) l.start l.pos l.judging l.initial.out (keys_in l.source l.keys l.i) (pairs (l.n - l.i) l.t.a l.t.b) l.at l.to l.out
     × (l.i ≤ l.n) × (length l.keys ≡ length l.initial.keys) × Kept l.source l.keys l.judging l.i
-
-abbrev pub decreases-write_pairs-loop-i : goal.decreases-write_pairs-loop-i
-decreases-write_pairs-loop-i l = l.n - l.i
