@@ -6,6 +6,7 @@ ghost use Rattle.std.specs.Prelude.{◌≡◌};
 ghost use Rattle.calls.specs.declared.Stop.TheVariants.{Refused};
 ghost use Rattle.calls.specs.Told.{number_of_stop};
 
+use constants::numbered::Numbered;
 use constants::refusal::{MORE, Refusal};
 
 // The record of a call. A free slot is zero in every member.
@@ -78,11 +79,11 @@ impl From<Refusal> for Stop {
     }
 }
 
-impl From<Stop> for u32 {
-    ghost from_gives = { λ stop number. number ≡ number_of_stop stop };
+impl Numbered for Stop {
+    ghost number = { number_of_stop };
 
-    fn from(stop: Stop) -> u32 {
-        match stop {
+    fn number(&self) -> u32 {
+        match *self {
             Stop::More => MORE,
             Stop::Refused(refusal) => refusal as u32,
         }

@@ -4,7 +4,7 @@ use Rattle.calls.specs.declared.Call.{Call}
 use Rattle.calls.specs.Judged.{Judged}
 use Rattle.calls.specs.Slots.{fresh_slots}
 use Rattle.calls.specs.Step.{after_judged}
-use Rattle.calls.specs.Told.{number_of_stop, told_number}
+use Rattle.calls.specs.Told.{told_number}
 use Rattle.connection.specs.declared.CallTable.{CallTable}
 use Rattle.connection.specs.declared.Stepped as answered
 
@@ -21,5 +21,5 @@ unfoldable pub step_of : Judged → (payload : ℕ) → List Call → Stepped
 step_of J p l = record { number = (after_judged J p l).number; table = record { slots = (after_judged J p l).slots } }
 
 -- What the code's answer tells.
-abbrev pub told_step : answered.Stepped → Stepped
-told_step s = record { number = told_number number_of_stop s.answer; table = s.table }
+abbrev pub told_step : {E : Type 0} → (number : E → ℕ) → answered.Stepped E → Stepped
+told_step number s = record { number = told_number number s.answer; table = s.table }

@@ -10,7 +10,7 @@ pub mod slots;
 pub mod step;
 pub mod tallies;
 
-use calls::{Call, Stop};
+use calls::Call;
 use constants::limit;
 
 #[derive(Clone, Copy)]
@@ -20,7 +20,7 @@ pub struct CallTable {
 
 // The answer and the next table.
 #[derive(Clone, Copy)]
-pub struct Stepped {
-    pub answer: Result<(), Stop>,
+pub struct Stepped<E> {
+    pub answer: Result<(), E>,
     pub table: CallTable,
 }

@@ -5,11 +5,12 @@ ghost use Rattle.calls.specs.Told.{told, told_number};
 ghost use Rattle.constants.specs.Number.{number_of};
 ghost use Rattle.calls.specs.Apart.{verdict, verdict_rise, verdict_release_rise};
 
-use crate::numbers::ends_call;
+use crate::numbers::{ends_call, number_in};
 use calls::{Allowed, Call, Figure, Rise, Tally};
 use constants::frame_kind::FrameKind;
 use constants::limit;
-use constants::refusal::Refusal;
+use constants::numbered::Numbered;
+use constants::refusal::{ACCEPTED, Refusal};
 
 // A fresh row.
 pub const NO_TALLY: Tally = Tally {
@@ -78,13 +79,16 @@ pub fn release_rise(own: Option<Call>, judged: Result<Allowed, Refusal>) -> Rise
 
 // The figure that rises, by what reading the payload gave.
 #[tactic(auto, unfolding(calls::specs::Counting::figure_by))]
-pub fn figure_by(rise: Rise, payload: Result<(), Refusal>) -> Figure
-    ensures { result ≡ figure_by rise (told_number number_of payload) }
+pub fn figure_by<E: Numbered + Copy>(rise: Rise, payload: Result<(), E>) -> Figure
+    ensures { result ≡ figure_by rise (told_number E.number payload) }
 {
-    match payload {
-        Ok(()) => rise.accepted,
-        Err(refusal) if ends_call(refusal) => rise.refused,
-        Err(_) => Figure::Nothing,
+    let number = number_in(payload);
+    if number == ACCEPTED {
+        rise.accepted
+    } else if ends_call(number) {
+        rise.refused
+    } else {
+        Figure::Nothing
     }
 }
 
