@@ -14,7 +14,7 @@ use Rattle.schema.specs.Table.{Table}
 use Rattle.schema.specs.File.{cell, type_at, field_at, method_at, trailer_at, fields_at_of, methods_at_of, shaped, layout_of, tabulate, sections, table_of}
 use Rattle.schema.specs.Good.{HasShape}
 use Rattle.schema.specs.Encoded.{type_numbers, field_numbers, method_numbers, joined, in_bytes, type_bytes, field_bytes, method_bytes, trailer_bytes, file_of}
-use Rattle.schema.proofs.Files.{tests-of, filled, table_is}
+use Rattle.schema.proofs.Files.{tests_of, filled, table_is}
 use Rattle.schema.proofs.Goods.{of-shape}
 
 -- ---- the numbers that stand in a file from one place to another
@@ -130,7 +130,7 @@ length-in_bytes (n ∷ ns) = length-append (bytes 4 n) (in_bytes ns) ∙ omega (
 pub file-made : (s : List ℕ) → Bytes s → HasShape s → file_of (table_of s) ≡ s
 file-made s b shape =
     let h = of-shape s shape in
-    let t = tests-of s h in
+    let t = tests_of s h in
     let S = sections s in
     let types = joined type_numbers S.types in
     let fields = joined field_numbers S.fields in

@@ -26,9 +26,9 @@ module _ (s : List ℕ) where
     pub whole_fields : (methods_at_of s - fields_at_of s) % 8 ≡ 0
     pub whole_methods : (trailer_at s - methods_at_of s) % 32 ≡ 0
 
-  pub tests-of : shaped s ≡ true → Tests
+  pub tests_of : shaped s ≡ true → Tests
   unfolding shaped
-  tests-of h =
+  tests_of h =
       let h1 = and_right (leb 16 (length s)) _ h in
       let h2 = and_right (leb (fields_at_of s) (methods_at_of s)) _ h1 in
       let h3 = and_right (leb (methods_at_of s) (trailer_at s)) _ h2 in
@@ -55,7 +55,7 @@ module _ (s : List ℕ) where
   pub filled : shaped s ≡ true → Filled
   unfolding layout_of
   filled h =
-      let t = tests-of h in
+      let t = tests_of h in
       record { types = omega arith; fields = omega arith; methods = omega arith }
 
 -- ---- rows by number

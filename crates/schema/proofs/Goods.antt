@@ -20,7 +20,7 @@ use Rattle.schema.specs.Check.{formed, named, find_among, is_missing, good_metho
 use Rattle.schema.specs.Good.{HasShape, KeyKind, GoodRow, GoodField, Letter, GoodMethod, SameNames, GoodSchema, GoodFile}
 use Rattle.schema.specs.Faults.{FewRows, RowOk, FieldOk, MethodOk, RowsOk, FieldsOk}
 use Rattle.schema.proofs.Bools.{cases, clash, and_left, and_right, and_i, or_left, or_right, or_cases}
-use Rattle.schema.proofs.Files.{tests-of}
+use Rattle.schema.proofs.Files.{tests_of}
 use Rattle.schema.proofs.Checks.{faultless, no-faults, in_shape, good-shaped, good-checked}
 use Rattle.schema.proofs.Lowest.{missing-is, none_below, below_none, all-good}
 
@@ -31,7 +31,7 @@ ruleset tests = (and_left, and_right, eqb-true, ltb-true, leb-true)
 module _ (s : List ℕ) where
   pub shape_of : shaped s ≡ true → HasShape s
   shape_of h =
-      let t = tests-of s h in
+      let t = tests_of s h in
       record {
         types = fields_at_of s / 12;
         fields = (methods_at_of s - fields_at_of s) / 8;

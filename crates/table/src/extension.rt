@@ -1,6 +1,6 @@
 // Whether a new table extends an old one, so that what was written by the old can be read by the new.
 ghost use Rattle.std.specs.Prelude.{◌≡◌, ◌^◌, ◌<◌};
-ghost use Rattle.schema.specs.Table.{bitmap_bytes};
+ghost use Rattle.schema.specs.Table.{row_at, bitmap_bytes};
 ghost use Rattle.schema.specs.File.{table_of};
 ghost use Rattle.schema.specs.Check.{IsGood};
 ghost use Rattle.schema.specs.Extend.{same_field, field_kept, struct_kept, row_kept_of, rows_kept, same_method, method_kept, methods_kept, widened, bitmap_kept, bitmaps_kept, extended, extension};
@@ -40,10 +40,13 @@ fn keeps_struct(old: &Sections, new: &Sections, r: TypeRow, q: TypeRow) -> bool
     (r.b <= q.b) && every(q.b as usize, |i| keeps_field(old, new, r, q, i))
 }
 
+// Whether the row of a type is kept.
 #[tactic(auto, unfolding(schema::specs::Extend::row_kept_of))]
-fn keeps_row(old: &Sections, new: &Sections, r: TypeRow, q: TypeRow) -> bool
-    ensures { result ≡ row_kept_of (table_of old.now.bytes.now) (table_of new.now.bytes.now) r q }
+fn keeps_row(old: &Sections, new: &Sections, t: usize) -> bool
+    ensures { result ≡ row_kept_of (table_of old.now.bytes.now) (table_of new.now.bytes.now) (row_at (table_of old.now.bytes.now) t) (row_at (table_of new.now.bytes.now) t) }
 {
+    let r = old.row(t);
+    let q = new.row(t);
     if q.kind != r.kind {
         return false;
     }
@@ -57,10 +60,7 @@ fn keeps_row(old: &Sections, new: &Sections, r: TypeRow, q: TypeRow) -> bool
 fn keeps_rows(old: &Sections, new: &Sections) -> bool
     ensures { result ≡ rows_kept (table_of old.now.bytes.now) (table_of new.now.bytes.now) }
 {
-    every(
-        old.layout.types,
-        |t| keeps_row(old, new, old.row(t), new.row(t)),
-    )
+    every(old.layout.types, |t| keeps_row(old, new, t))
 }
 
 fn same_method(m: Method, n: Method) -> bool
@@ -99,17 +99,19 @@ fn bitmap_bytes(n: u32) -> usize
     ((n as usize) + SPARE_BITS) / BYTE_BITS
 }
 
+// Whether the bitmap of a type keeps its length, if the type is a struct.
 #[tactic(auto, unfolding(schema::specs::Extend::bitmap_kept))]
-fn keeps_bitmap(r: TypeRow, q: TypeRow) -> bool
-    ensures { result ≡ bitmap_kept r q }
+fn keeps_bitmap(old: &Sections, new: &Sections, t: usize) -> bool
+    ensures { result ≡ bitmap_kept (row_at (table_of old.now.bytes.now) t) (row_at (table_of new.now.bytes.now) t) }
 {
-    (r.kind != Kind::Struct as u32) | (bitmap_bytes(q.b) == bitmap_bytes(r.b))
+    let r = old.row(t);
+    (r.kind != Kind::Struct as u32) | (bitmap_bytes(new.row(t).b) == bitmap_bytes(r.b))
 }
 
 fn keeps_bitmaps(old: &Sections, new: &Sections) -> bool
     ensures { result ≡ bitmaps_kept (table_of old.now.bytes.now) (table_of new.now.bytes.now) }
 {
-    every(old.layout.types, |t| keeps_bitmap(old.row(t), new.row(t)))
+    every(old.layout.types, |t| keeps_bitmap(old, new, t))
 }
 
 impl<'a> Schema<'a> {

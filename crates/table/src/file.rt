@@ -15,6 +15,7 @@ pub const METHOD: usize = 32;
 const TRAILER: usize = 16;
 
 // The 32-bit number at a place.
+#[tactic(auto, unfolding(schema::specs::File::cell))]
 pub fn cell(s: &[u8], at: usize) -> u32
     requires { at + 4 ≤ length s.now }
     ensures { result ≡ cell s.now at }
@@ -60,6 +61,7 @@ pub fn method_at(s: &[u8], at: usize) -> Method
 }
 
 // Whether the file has the shape of a schema file.
+#[tactic(auto, unfolding(schema::specs::File::shaped))]
 pub fn is_shaped(s: &[u8]) -> bool
     ensures { result ≡ shaped s.now }
 {
@@ -84,6 +86,7 @@ pub fn is_shaped(s: &[u8]) -> bool
 }
 
 // The layout of a file that has the shape.
+#[tactic(auto, using(schema::proofs::Files::tests_of), unfolding(schema::specs::File::layout_of))]
 pub fn layout_of(s: &[u8]) -> Layout
     requires { shaped s.now ≡ true }
     ensures { result ≡ layout_of s.now }

@@ -69,6 +69,7 @@ impl<'a> Schema<'a> {
         self.sections().field(i)
     }
 
+    #[tactic(auto, using(crate::proofs::Files::laid_methods))]
     pub fn method_count(&self) -> usize
         ensures { result ≡ length (table_of self.now.bytes.now).methods }
     {

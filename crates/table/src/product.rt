@@ -19,6 +19,7 @@ const SECOND_SHIFT: u64 = 27;
 const SECOND_FACTOR: u64 = 0x94D0_49BB_1331_11EB;
 
 // a * b, modulo 2^64, by the halves of both.
+#[tactic(auto, using(crate::proofs::Products::halves_fit, crate::proofs::Products::by_halves))]
 pub fn wrapping_mul(a: u64, b: u64) -> u64
     ensures { result ≡ a * b % 2 ^ 64 }
 {
@@ -27,6 +28,7 @@ pub fn wrapping_mul(a: u64, b: u64) -> u64
 }
 
 // A number mixed as the generator splitmix64 mixes its state (Steele, Lea, Flood 2014), but for its last step, which leaves the top bits as they are.
+#[tactic(auto, unfolding(crate::specs::Flags::mixed))]
 pub fn mixed(x: u64) -> u64
     ensures { result ≡ mixed x }
 {

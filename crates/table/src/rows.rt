@@ -73,6 +73,7 @@ impl<'a> Sections<'a> {
     }
 }
 
+#[tactic(auto, using(crate::proofs::Files::reach, crate::proofs::Files::laid_row, crate::proofs::Files::laid_no_row))]
 pub fn row(s: &[u8], l: Layout, t: usize) -> TypeRow
     requires { Laid s.now l }
     ensures { result ≡ row_at (table_of s.now) t }
@@ -88,6 +89,7 @@ pub fn row(s: &[u8], l: Layout, t: usize) -> TypeRow
     }
 }
 
+#[tactic(auto, using(crate::proofs::Files::reach, crate::proofs::Files::laid_field, crate::proofs::Files::laid_no_field))]
 pub fn field_row(s: &[u8], l: Layout, i: usize) -> Field
     requires { Laid s.now l }
     ensures { result ≡ field_row_of (table_of s.now) i }
@@ -99,6 +101,7 @@ pub fn field_row(s: &[u8], l: Layout, i: usize) -> Field
     }
 }
 
+#[tactic(auto, using(crate::proofs::Files::reach, crate::proofs::Files::laid_method, crate::proofs::Files::laid_no_method))]
 pub fn method_row(s: &[u8], l: Layout, i: usize) -> Method
     requires { Laid s.now l }
     ensures { result ≡ method_row (table_of s.now) i }
