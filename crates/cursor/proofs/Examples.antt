@@ -7,8 +7,8 @@ use Rattle.wire.specs.Little.{little}
 use Rattle.wire.specs.Varuint.{groups, front_var_u_int}
 use Rattle.parse.specs.Reader.{and_then, check, block, var_u_int, count}
 use Rattle.cursor.specs.declared.item.Width.TheVariants.{One, Two, Four}
-use Rattle.cursor.specs.declared.item.Number.TheVariants as Number
-use Rattle.cursor.specs.declared.item.Span.TheVariants as Span
+use Rattle.cursor.specs.Number as Number
+use Rattle.cursor.specs.Span as Span
 use Rattle.cursor.specs.Item.{fixed_number, span_item, varuint_at, fixed_number_at, span_at}
 
 -- the payload P1 of 01

@@ -7,14 +7,18 @@ use native.Mathlib.Omega.{arith}
 use borrow.Author.Tests.{leb-true, leb-false}
 use lib.Dec.{leb}
 use lib.ListN.{length, take, drop}
+use Rattle.std.proofs.Common.{Err}
+use Rattle.constants.specs.Number.{number_of}
 use Rattle.wire.specs.Little.{little}
-use Rattle.wire.specs.Varuint.{varuint, VarUInt, Number, Cut, Malformed}
+use Rattle.wire.specs.declared.varuint.VarUIntError.{VarUIntError}
+use Rattle.wire.specs.declared.varuint.VarUIntError.TheVariants.{Cut as CutError, Malformed as MalformedError}
+use Rattle.wire.specs.Varuint.{varuint, told, refusal_of, VarUInt, Number, Cut, Malformed}
 use Rattle.wire.proofs.Varuints.{varuint-inside}
 use Rattle.wire.proofs.Cases.{differ}
 use Rattle.parse.specs.Reader.{Answer, refused, seen, and_then, cursor_at, var_u_int, count}
 use Rattle.parse.proofs.Places.{var_here, cut-here, malformed-here, block_here, block-short, count-stops, count-short, count-here}
-use Rattle.cursor.specs.declared.item.NumberStep.{NumberStep}
-use Rattle.cursor.specs.declared.item.Number.TheVariants.{Is, Refused}
+use Rattle.cursor.specs.Number.{NumberStep}
+use Rattle.cursor.specs.Number.{Is, Refused}
 use Rattle.cursor.specs.Item.{fixed_number, span_item, number_step_of, varuint_at, Fair, cut, malformed, past}
 
 module _ (p : List ℕ) (from : ℕ) where
@@ -29,6 +33,11 @@ module _ (p : List ℕ) (from : ℕ) where
           rw (var_here p from n next e) (past i.0 i.1)
       go Cut e = rw (cut-here p from e) cut
       go Malformed e = rw (malformed-here p from e) malformed
+
+  -- No VarUInt: the refusal by its number, at the place.
+  pub no-varuint : (e : VarUIntError) → varuint p from ≡ told (Err e) → record { item = Refused (number_of (refusal_of e)) from; next = from } ≡ varuint_at p from
+  no-varuint CutError is = ap (number_step_of from) (sym (cut-here p from is))
+  no-varuint MalformedError is = ap (number_step_of from) (sym (malformed-here p from is))
 
   -- ---- numbers
 

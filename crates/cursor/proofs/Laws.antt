@@ -14,8 +14,8 @@ use Rattle.parse.specs.Reader.{Cursor, Answer, refused, seen, Reader, and_then, 
 use Rattle.schema.specs.Table.{scalar, width}
 use Rattle.value.specs.Read.{plain, own}
 use Rattle.cursor.specs.declared.Reader.{Reader as Lent}
-use Rattle.cursor.specs.declared.item.Number.TheVariants as Number
-use Rattle.cursor.specs.declared.item.Span.TheVariants as Span
+use Rattle.cursor.specs.Number as Number
+use Rattle.cursor.specs.Span as Span
 use Rattle.cursor.specs.Item.{ContentSpan, content_of, fixed_number, number_step_of, span_step, varuint_at, span_at, Fair, cut, malformed, past}
 use Rattle.cursor.specs.Lent.{standing}
 use Rattle.cursor.proofs.Items.{step-seen, whole-span}

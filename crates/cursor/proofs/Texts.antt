@@ -13,8 +13,8 @@ use Rattle.parse.specs.Reader.{Answer, refused, seen, and_then, check, cursor_at
 use Rattle.parse.proofs.Places.{block_here}
 use Rattle.schema.specs.Table.{text}
 use Rattle.value.specs.Read.{own}
-use Rattle.cursor.specs.declared.item.Span.{Span}
-use Rattle.cursor.specs.declared.item.Span.TheVariants.{At, Refused}
+use Rattle.cursor.specs.Span.{Span}
+use Rattle.cursor.specs.Span.{At, Refused}
 use Rattle.cursor.specs.Item.{ContentSpan, span_item, span_step, span_at, content_checked, content_judged, text_span, text_from}
 use Rattle.cursor.proofs.Items.{Sized, large, broken, room, count-sized, span-refused, span-here}
 

@@ -7,11 +7,11 @@ use Rattle.schema.specs.Table.{text}
 use Rattle.value.specs.Read.{Own, plain, parts, own}
 use Rattle.cursor.specs.declared.item.Width.{Width}
 use Rattle.cursor.specs.declared.item.Width.TheVariants.{One, Two, Four, Eight}
-use Rattle.cursor.specs.declared.item.Number.TheVariants as Number
-use Rattle.cursor.specs.declared.item.Span.{Span}
-use Rattle.cursor.specs.declared.item.Span.TheVariants as Span'
-use Rattle.cursor.specs.declared.item.NumberStep.{NumberStep}
-use Rattle.cursor.specs.declared.item.SpanStep.{SpanStep}
+use Rattle.cursor.specs.Number as Number
+use Rattle.cursor.specs.Span.{Span}
+use Rattle.cursor.specs.Span as Span'
+use Rattle.cursor.specs.Number.{NumberStep}
+use Rattle.cursor.specs.Span.{SpanStep}
 
 -- How many bytes a width has.
 abbrev pub width_bytes : Width → ℕ

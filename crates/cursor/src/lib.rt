@@ -6,9 +6,10 @@ pub mod item;
 ghost use Rattle.std.specs.Prelude.{◌≡◌, ◌-◌, length};
 ghost use Rattle.cursor.specs.Item.{varuint_at, fixed_number_at, span_at, text_from};
 ghost use Rattle.cursor.specs.Lent.{on, moved_to};
+ghost use Rattle.cursor.specs.Told.{told_number, told_span};
 
-use crate::item::{Number, Span, Width};
-use constants::refusal;
+use crate::item::{Content, Width};
+use constants::refusal::{Refusal, Refused};
 
 // The payload and the position in it. Beyond the payload's end nothing is left.
 #[derive(Clone, Copy)]
@@ -17,7 +18,7 @@ pub struct Reader<'a> {
     pub at: usize,
 }
 
-// Each method takes the reader apart and leaves the work to a function of `item`. An item that is read moves the position past it, a refusal leaves it.
+// An item that is read moves the position past it, a refusal leaves it.
 impl<'a> Reader<'a> {
     // A reader at a place of a payload.
     pub fn new(payload: &'a [u8], at: usize) -> Reader<'a>
@@ -34,56 +35,47 @@ impl<'a> Reader<'a> {
     }
 
     // The next VarUInt.
-    pub fn varuint(&mut self) -> Number
-        ensures { (result ≡ (on varuint_at self.old).item) × (self.new ≡ moved_to self.old (on varuint_at self.old).next) }
+    pub fn varuint(&mut self) -> Result<u64, Refused>
+        ensures { (told_number result ≡ (on varuint_at self.old).item) × (self.new ≡ moved_to self.old (on varuint_at self.old).next) }
     {
-        let step = item::varuint_at(self.payload, self.at);
-        self.at = step.next;
-        step.item
+        let past = item::varuint_at(self.payload, self.at)?;
+        self.at = past.next;
+        Ok(past.value)
     }
 
     // The next number of a width.
-    pub fn number(&mut self, width: Width) -> Number
-        ensures { (result ≡ (on (fixed_number_at width) self.old).item) × (self.new ≡ moved_to self.old (on (fixed_number_at width) self.old).next) }
+    pub fn number(&mut self, width: Width) -> Result<u64, Refused>
+        ensures { (told_number result ≡ (on (fixed_number_at width) self.old).item) × (self.new ≡ moved_to self.old (on (fixed_number_at width) self.old).next) }
     {
-        let step = item::number_at(self.payload, self.at, width);
-        self.at = step.next;
-        step.item
+        let past = item::number_at(self.payload, self.at, width)?;
+        self.at = past.next;
+        Ok(past.value)
     }
 
     // The next span: a length, and that many bytes.
-    pub fn span(&mut self) -> Span
-        ensures { (result ≡ (on span_at self.old).item) × (self.new ≡ moved_to self.old (on span_at self.old).next) }
+    pub fn span(&mut self) -> Result<Content, Refused>
+        ensures { (told_span result ≡ (on span_at self.old).item) × (self.new ≡ moved_to self.old (on span_at self.old).next) }
     {
-        let step = item::span_at(self.payload, self.at);
-        self.at = step.next;
-        step.item
+        let content = item::span_at(self.payload, self.at)?;
+        self.at = content.place + content.length;
+        Ok(content)
     }
 }
 
 // The span at a place, by way of a reader. Its parameters are plain: whoever calls it holds no reader.
-pub fn span_from(payload: &[u8], at: usize) -> Span
-    ensures { result ≡ (span_at payload.now at).item }
+pub fn span_from(payload: &[u8], at: usize) -> Result<Content, Refused>
+    ensures { told_span result ≡ (span_at payload.now at).item }
 {
-    let mut r = Reader::new(payload, at);
-    r.span()
+    Reader::new(payload, at).span()
 }
 
 // The string at a place: a span whose content is UTF-8.
-pub fn text_from(payload: &[u8], at: usize) -> Span
-    ensures { result ≡ text_from payload.now at }
+pub fn text_from(payload: &[u8], at: usize) -> Result<Content, Refused>
+    ensures { told_span result ≡ text_from payload.now at }
 {
-    let found = span_from(payload, at);
-    match found {
-        Span::Refused { number, place } => Span::Refused { number, place },
-        Span::At { place, length } => {
-            if !utf8::valid(payload, place, place + length) {
-                return Span::Refused {
-                    number: refusal::UTF8,
-                    place,
-                };
-            }
-            Span::At { place, length }
-        }
+    let content = span_from(payload, at)?;
+    if !utf8::valid(payload, content.place, content.place + content.length) {
+        return Refusal::Utf8.at(content.place);
     }
+    Ok(content)
 }

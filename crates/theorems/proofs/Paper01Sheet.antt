@@ -20,8 +20,8 @@ use Rattle.value.specs.Value.{Value, size, Tree}
 use Rattle.value.specs.Fits.{Shows, told, used}
 use Rattle.value.specs.Write.{write}
 use Rattle.cursor.specs.Item.{span_item, content_judged, fixed_number, content_of, Fair, number_step_of, ContentSpan as cursor-Content, span_step, varuint_at, span_at}
-use Rattle.cursor.specs.declared.item.Number.TheVariants.{Refused as number-Refused, Is}
-use Rattle.cursor.specs.declared.item.Span.TheVariants.{Refused as span-Refused, At as span-At}
+use Rattle.cursor.specs.Number.{Refused as number-Refused, Is}
+use Rattle.cursor.specs.Span.{Refused as span-Refused, At as span-At}
 use Rattle.reader.specs.Entry.{read_outcome, outcome as reader-outcome, room}
 use Rattle.reader.specs.declared.Reading.TheVariants.{Shown, Refused as reader-Refused}
 use Rattle.flat.specs.Sheet.{shown_in}
