@@ -24,8 +24,8 @@ use Rattle.frame.specs.FrameWritten.{FrameWritten}
 use Rattle.frame.specs.FrameWritten as written
 use Rattle.frame.specs.Frame as read
 use Rattle.frame.specs.Written as wrote
-use Rattle.reader.specs.declared.Reading.{Reading}
-use Rattle.reader.specs.declared.Reading.TheVariants as reader
+use Rattle.reader.specs.Reading.{Reading}
+use Rattle.reader.specs.Reading as reader
 use Rattle.writer.specs.Writing.{Writing}
 use Rattle.writer.specs.Writing as writer
 use Rattle.index.specs.declared.Indexing.{Indexing}

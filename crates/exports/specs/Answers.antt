@@ -11,7 +11,7 @@ use Rattle.frame.specs.FrameRead as frame
 use Rattle.frame.specs.FrameWritten.{FrameWritten}
 use Rattle.frame.specs.Written.{written_of, write_length}
 use Rattle.value.specs.declared.Row.{Row}
-use Rattle.reader.specs.declared.Reading.{Reading}
+use Rattle.reader.specs.Reading.{Reading}
 use Rattle.reader.specs.Beside.{beside_outcome}
 use Rattle.reader.specs.Entry.{reading_in, sheet_in, read_outcome, numbers}
 use Rattle.writer.specs.Writing.{Writing}

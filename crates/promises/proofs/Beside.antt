@@ -35,7 +35,7 @@ use Rattle.value.proofs.Telling.{shows-known}
 use Rattle.value.proofs.Reading.{sized}
 use Rattle.value.proofs.Sheets.{length-rows}
 use Rattle.value.proofs.BesideStatements as value
-use Rattle.reader.specs.declared.Reading.TheVariants.{Shown, Refused}
+use Rattle.reader.specs.Reading.{Shown, Refused}
 use Rattle.flat.specs.Sheet.{shown_in}
 use Rattle.reader.specs.Entry.{Outcome, outcome, outcome_of, room, read_outcome}
 use Rattle.reader.specs.Beside.{beside_payload, beside_outcome}

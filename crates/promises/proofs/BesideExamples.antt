@@ -25,7 +25,7 @@ use Rattle.value.specs.Read.{refusal, accepted, read}
 use Rattle.value.specs.Beside.{pruned, read_beside}
 use Rattle.value.specs.Sheet.{cells_of}
 use Rattle.value.proofs.Examples.{inner_added, answers}
-use Rattle.reader.specs.declared.Reading.TheVariants.{Shown, Refused}
+use Rattle.reader.specs.Reading.{Shown, Refused}
 use Rattle.flat.specs.Sheet.{shown_in}
 use Rattle.reader.specs.Entry.{outcome, outcome_of, room, read_outcome}
 use Rattle.reader.specs.Beside.{beside_outcome}

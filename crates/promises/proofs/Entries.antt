@@ -22,7 +22,7 @@ use Rattle.value.specs.Fits.{Shows}
 use Rattle.value.specs.Claims.{ReadAs}
 use Rattle.value.proofs.Sheets.{length-cells, rows-cells}
 use Rattle.value.proofs.Reading.{sized, accepts, root_in}
-use Rattle.reader.specs.declared.Reading.TheVariants.{Shown, Refused}
+use Rattle.reader.specs.Reading.{Shown, Refused}
 use Rattle.flat.specs.Sheet.{shown_in}
 use Rattle.reader.specs.Entry.{outcome, outcome_of, room, payload_outcome, by_table, read_outcome}
 use Rattle.promises.specs.Claims.{shapes, first_rows, ReadsAs}

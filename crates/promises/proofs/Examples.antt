@@ -28,7 +28,7 @@ use Rattle.value.specs.Spell as spell
 use Rattle.value.specs.Write as write
 use Rattle.value.proofs.Reading.{accepts, accepted-of}
 use Rattle.value.proofs.Examples.{inner_added, root_added}
-use Rattle.reader.specs.declared.Reading.TheVariants.{Shown, Refused}
+use Rattle.reader.specs.Reading.{Shown, Refused}
 use Rattle.flat.specs.Sheet.{shown_in}
 use Rattle.reader.specs.Entry.{outcome, outcome_of, room, read_outcome}
 use Rattle.writer.specs.Entry as writer

@@ -39,7 +39,7 @@ use Rattle.value.proofs.Delimited.{root-delimits}
 use Rattle.value.proofs.Reading.{root_in}
 use Rattle.value.proofs.Without.{spelled_kept}
 use Rattle.value.proofs.Statements as value
-use Rattle.reader.specs.declared.Reading.TheVariants.{Shown}
+use Rattle.reader.specs.Reading.{Shown}
 use Rattle.reader.specs.Entry.{outcome, outcome_of, room, read_outcome}
 use Rattle.writer.specs.Writing.{Written}
 use Rattle.writer.specs.Entry as writer

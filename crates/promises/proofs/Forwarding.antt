@@ -26,7 +26,7 @@ use Rattle.value.specs.Spell.{TailFits, RootSpells, encode}
 use Rattle.value.specs.Write.{written, write}
 use Rattle.value.specs.Fits.{Shows}
 use Rattle.value.proofs.Numbers.{sheet-reason-number, write-number-above}
-use Rattle.reader.specs.declared.Reading.TheVariants.{Shown}
+use Rattle.reader.specs.Reading.{Shown}
 use Rattle.reader.specs.Entry.{outcome, room, read_outcome}
 use Rattle.writer.specs.Writing.{Written, Refused}
 use Rattle.writer.specs.Entry as writer

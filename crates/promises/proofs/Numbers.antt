@@ -16,7 +16,7 @@ use Rattle.value.specs.Beside.{DelimitedBeside}
 use Rattle.value.specs.Sheet.{rows_of}
 use Rattle.value.specs.Claims.{Writes}
 use Rattle.frame.specs.declared.Header.{Header}
-use Rattle.reader.specs.declared.Reading.TheVariants.{Shown, Refused}
+use Rattle.reader.specs.Reading.{Shown, Refused}
 use Rattle.flat.specs.Sheet.{shown_in}
 use Rattle.reader.specs.Entry as reading
 use Rattle.reader.specs.Beside.{beside_outcome}

@@ -22,7 +22,7 @@ use Rattle.value.specs.Fits.{Shows}
 use Rattle.value.specs.Claims.{Writes}
 use Rattle.value.proofs.Sheets.{length-rows}
 use Rattle.value.proofs.Statements as value
-use Rattle.reader.specs.declared.Reading.TheVariants.{Shown}
+use Rattle.reader.specs.Reading.{Shown}
 use Rattle.reader.specs.Entry.{outcome, room, read_outcome}
 use Rattle.writer.specs.Writing.{Written, Refused}
 use Rattle.writer.specs.Entry as writer

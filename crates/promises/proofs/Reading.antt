@@ -24,8 +24,8 @@ use Rattle.value.proofs.Shapes.{good-solid}
 use Rattle.value.proofs.Reading.{as_root, accepts}
 use Rattle.value.proofs.Determined.{determined}
 use Rattle.value.proofs.Statements as value
-use Rattle.reader.specs.declared.Reading.{Reading}
-use Rattle.reader.specs.declared.Reading.TheVariants.{Shown, Refused}
+use Rattle.reader.specs.Reading.{Reading}
+use Rattle.reader.specs.Reading.{Shown, Refused}
 use Rattle.flat.specs.Sheet.{shown_in}
 use Rattle.reader.specs.Entry.{Outcome, outcome, reading_in, sheet_in, outcome_of, room, read_outcome, Numbers, numbers}
 use Rattle.reader.proofs.Entries.{read-within}

@@ -20,7 +20,7 @@ use Rattle.value.specs.Sheet.{rows_of}
 use Rattle.value.specs.Reasons.{RootFault, Reason, Settles}
 use Rattle.value.proofs.Numbers.{reason-number, sheet-reason-number, read-number-above, write-number-above}
 use Rattle.value.proofs.Statements as value
-use Rattle.reader.specs.declared.Reading.TheVariants.{Refused}
+use Rattle.reader.specs.Reading.{Refused}
 use Rattle.reader.specs.Entry.{outcome, outcome_of, room, by_table, read_outcome, payload_outcome}
 use Rattle.writer.specs.Writing.{Refused as Unwritten}
 use Rattle.writer.specs.Entry as writer

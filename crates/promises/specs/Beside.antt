@@ -9,7 +9,7 @@ use Rattle.value.specs.Comparisons as due
 use Rattle.value.specs.Fits.{ShowsKnown}
 use Rattle.value.specs.Added.{without}
 use Rattle.value.specs.Beside.{BesideReason}
-use Rattle.reader.specs.declared.Reading.TheVariants.{Shown, Refused}
+use Rattle.reader.specs.Reading.{Shown, Refused}
 use Rattle.reader.specs.Entry.{outcome, room}
 use Rattle.reader.specs.Beside.{beside_outcome}
 use Rattle.promises.specs.Claims.{shapes, first_rows}

@@ -2,7 +2,7 @@
 -- afterwards, with the files that they need beside T's; and a relay, entry by entry.
 use Rattle.std.specs.Prelude.{◌≡◌, List, [], ◌∷◌, ◌++◌, map, ℕ, zero, suc, ◌+◌, ◌*◌, length, take, drop, replicate}
 use Rattle.value.specs.declared.Row.{Row}
-use Rattle.reader.specs.declared.Reading.TheVariants.{Shown}
+use Rattle.reader.specs.Reading.{Shown}
 use Rattle.reader.specs.Entry.{Outcome, outcome, read_outcome, Numbers, numbers}
 use Rattle.reader.specs.Beside.{beside_outcome}
 use Rattle.writer.specs.Writing.{Written}

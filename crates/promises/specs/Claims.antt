@@ -18,7 +18,7 @@ use Rattle.value.specs.Delimits.{RootDelimits}
 use Rattle.value.specs.Reasons.{Reason}
 use Rattle.value.specs.SheetReasons.{SheetReason}
 use Rattle.value.specs.Added.{inner, first_added, root_carries, without, added_items, added_values}
-use Rattle.reader.specs.declared.Reading.TheVariants.{Shown, Refused}
+use Rattle.reader.specs.Reading.{Shown, Refused}
 use Rattle.reader.specs.Entry.{outcome, reading_in, sheet_in, room, read_outcome, numbers}
 use Rattle.forward.specs.Claims.{TailReason}
 

@@ -7,7 +7,7 @@ use Rattle.frame.specs.declared.Header.{Header}
 use Rattle.value.specs.Value.{Value}
 use Rattle.value.specs.Sheet.{rows_of}
 use Rattle.value.specs.Fits.{Shows}
-use Rattle.reader.specs.declared.Reading.TheVariants.{Shown}
+use Rattle.reader.specs.Reading.{Shown}
 use Rattle.reader.specs.Entry.{outcome, read_outcome}
 use Rattle.calls.specs.declared.Payload.TheVariants.{Struct, Empty, Unread}
 use Rattle.calls.specs.Slots.{count_open}

@@ -33,7 +33,7 @@ use Rattle.value.proofs.Beside.{beside_same}
 use Rattle.walks.specs.Shape.{shape_in}
 use Rattle.walks.proofs.Tables.{struct_row, struct_type, shape-struct, shape-none, no-struct}
 use Rattle.walks.proofs.Presence.{length_fields}
-use Rattle.reader.specs.declared.Reading.TheVariants.{Refused}
+use Rattle.reader.specs.Reading.{Refused}
 use Rattle.reader.specs.Entry.{outcome, outcome_of, room, payload_outcome}
 use Rattle.reader.specs.Beside.{Knows, shown_outcome, beside_payload}
 use Rattle.flat.specs.Walk.{first_fields}

@@ -13,14 +13,11 @@ use Rattle.schema.specs.Check.{IsGood}
 use Rattle.walks.specs.Shape.{shape_in, fields_from}
 use Rattle.walks.proofs.Tables.{shape-map, shape-struct, map_row, map-value, struct_row, struct_type}
 use Rattle.walks.proofs.Walks.{shallower, deeper}
-use Rattle.flat.specs.declared.leaf.Count.{Count}
-use Rattle.flat.specs.declared.leaf.Count.TheVariants.{Is, Refused as CountRefused}
-use Rattle.flat.specs.declared.Walk.{Walk}
-use Rattle.flat.specs.declared.Walk.TheVariants.{Past, Refused}
+use Rattle.flat.specs.Count.{Count, Is, Refused as CountRefused}
+use Rattle.flat.specs.Walk.{Walk, Past, Refused, first_fields, value_in, whole_in, told, Walked, Valued, Held, Ready}
 use Rattle.flat.specs.Sheet.{put_row}
 use Rattle.flat.specs.Leaf.{CountRead}
 use Rattle.flat.specs.Flat.{PairsIn, PairsReady, first_shape}
-use Rattle.flat.specs.Walk.{first_fields, value_in, whole_in, told, Walked, Valued, Held, Ready}
 use Rattle.flat.proofs.Steps.{as_refused}
 use Rattle.flat.proofs.Composites.{count_in, array-refused, array_whole, array-valued, map-refused, map-many, map-none, map_whole, map-valued, first-of, first_part}
 use Rattle.schema.specs.declared.Field.{Field}

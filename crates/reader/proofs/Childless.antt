@@ -13,8 +13,7 @@ use Rattle.schema.specs.File.{table_of}
 use Rattle.value.specs.Read.{own}
 use Rattle.walks.specs.Shape.{leaf_shape, shape_in}
 use Rattle.walks.proofs.Tables.{shape-leaf, shape-map}
-use Rattle.flat.specs.declared.leaf.Span.{Span}
-use Rattle.flat.specs.declared.leaf.Span.TheVariants.{At, Refused as SpanRefused}
+use Rattle.flat.specs.Span.{Span, At, Refused as SpanRefused}
 use Rattle.flat.specs.Leaf.{Uncounted, Spanned}
 use Rattle.flat.specs.Sheet.{put_row}
 use Rattle.flat.specs.Walk.{first_fields, value_in, Valued, Ready}

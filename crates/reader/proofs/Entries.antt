@@ -24,11 +24,9 @@ use Rattle.value.specs.Beside.{shown_rows}
 use Rattle.value.proofs.Statements.{comparisons-within}
 use Rattle.walks.specs.Shape.{shape_in, fields_from}
 use Rattle.walks.proofs.Tables.{shape-struct, no-struct}
-use Rattle.reader.specs.declared.Reading.TheVariants.{Shown, Refused}
-use Rattle.flat.specs.declared.Walk.{Walk}
-use Rattle.flat.specs.declared.Walk.TheVariants.{Past, Refused as Stop}
+use Rattle.reader.specs.Reading.{Shown, Refused}
+use Rattle.flat.specs.Walk.{Walk, Past, Refused as Stop, Told, told, first_fields, done, walk_of, end_of, root_in, Walked}
 use Rattle.flat.specs.Sheet.{put_rows, shown_in}
-use Rattle.flat.specs.Walk.{Told, told, first_fields, done, walk_of, end_of, root_in, Walked}
 use Rattle.reader.specs.Entry.{Outcome, outcome, reading_in, outcome_of, room, payload_outcome, by_table, read_outcome, numbers, number_in}
 use Rattle.reader.specs.Beside.{shown_outcome, beside_payload, beside_outcome}
 use Rattle.flat.proofs.Sheets.{rows-shown, rows-copied}

@@ -4,3 +4,4 @@ mod Childless
 mod Structs
 pub mod Besides
 pub mod Entries
+pub mod Told

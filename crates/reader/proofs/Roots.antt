@@ -15,12 +15,9 @@ use Rattle.schema.proofs.Bools.{and_left, and_right}
 use Rattle.schema.specs.Table.{Shape, struct}
 use Rattle.value.specs.Value.{Tree, branch, Forest}
 use Rattle.value.specs.Read.{row_count, plan, bitmap, parts, walk, node_row, whole_value, parse, root_ending, root_struct}
-use Rattle.flat.specs.declared.leaf.Head.{Head}
-use Rattle.flat.specs.declared.leaf.Head.TheVariants.{Bits, Refused as HeadRefused}
-use Rattle.flat.specs.declared.Walk.{Walk}
-use Rattle.flat.specs.declared.Walk.TheVariants.{Past, Refused}
+use Rattle.flat.specs.Head.{Head, Bits, Refused as HeadRefused}
+use Rattle.flat.specs.Walk.{Walk, Past, Refused, Told, done, stopped, walk_of, Walked}
 use Rattle.flat.specs.Leaf.{head_of, HeadIn, Headed}
-use Rattle.flat.specs.Walk.{Told, done, stopped, walk_of, Walked}
 use Rattle.reader.specs.Root.{Ended, whole, faulty}
 
 -- ---- what follows the known fields

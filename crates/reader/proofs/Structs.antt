@@ -17,13 +17,10 @@ use Rattle.value.specs.Read.{plain_item, present, node_row, bitmap, parse}
 use Rattle.walks.specs.Shape.{fields_from, shape_in}
 use Rattle.walks.proofs.Presence.{present-set, present-clear, present-end}
 use Rattle.walks.proofs.Tables.{few-fields, field_row, struct_row, struct_type, shape-struct}
-use Rattle.flat.specs.declared.leaf.Head.{Head}
-use Rattle.flat.specs.declared.leaf.Head.TheVariants.{Bits, Refused as HeadRefused}
-use Rattle.flat.specs.declared.Walk.{Walk}
-use Rattle.flat.specs.declared.Walk.TheVariants.{Past, Refused}
+use Rattle.flat.specs.Head.{Head, Bits, Refused as HeadRefused}
+use Rattle.flat.specs.Walk.{Walk, Past, Refused, first_fields, value_in, Valued, Ready}
 use Rattle.flat.specs.Leaf.{Headed}
 use Rattle.flat.specs.Sheet.{put_row}
-use Rattle.flat.specs.Walk.{first_fields, value_in, Valued, Ready}
 use Rattle.flat.proofs.Steps.{as_refused, as_told}
 use Rattle.flat.proofs.Composites.{bitmap-accepted, struct-refused, head_in, struct-unknown, struct-whole, struct-valued, first-whole, first_part}
 use Rattle.flat.proofs.Turns.{ReadingItems, reading-first, reading-own, reading-end, reading-ready, reading-stop, reading-sum, reading-on}

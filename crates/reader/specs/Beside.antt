@@ -7,7 +7,7 @@ use Rattle.value.specs.Read.{root_of, reading_as}
 use Rattle.value.specs.Beside.{shown_rows, read_beside}
 use Rattle.value.specs.Narrow.{fields_in}
 use Rattle.walks.specs.Shape.{shape_in}
-use Rattle.reader.specs.declared.Reading.TheVariants.{Refused}
+use Rattle.reader.specs.Reading.{Refused}
 use Rattle.reader.specs.Entry.{Outcome, outcome, outcome_of, after_table, room}
 use Rattle.flat.specs.Walk.{first_fields}
 

@@ -6,10 +6,8 @@ use Rattle.schema.specs.Table.{row_at}
 use Rattle.schema.specs.File.{table_of}
 use Rattle.value.specs.Read.{own}
 use Rattle.walks.specs.Shape.{leaf_shape}
-use Rattle.flat.specs.declared.leaf.Span.{Span}
-use Rattle.flat.specs.declared.leaf.Span.TheVariants.{At, Refused as SpanRefused}
-use Rattle.flat.specs.declared.Walk.{Walk}
-use Rattle.flat.specs.declared.Walk.TheVariants.{Past, Refused}
+use Rattle.flat.specs.Span.{Span, At, Refused as SpanRefused}
+use Rattle.flat.specs.Walk.{Walk, Past, Refused}
 use Rattle.flat.specs.Leaf.{Uncounted}
 use Rattle.flat.specs.Flat.{ValuedFlat}
 

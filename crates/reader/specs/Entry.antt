@@ -5,8 +5,7 @@ use Rattle.schema.specs.Checked.{Good, Refused as Faulty}
 use Rattle.schema.specs.File.{table_of}
 use Rattle.schema.specs.Check.{checked}
 use Rattle.value.specs.Read as value
-use Rattle.reader.specs.declared.Reading.{Reading}
-use Rattle.reader.specs.declared.Reading.TheVariants.{Shown, Refused}
+use Rattle.reader.specs.Reading.{Reading, Shown, Refused}
 use Rattle.flat.specs.Sheet.{shown_in}
 
 -- An answer with the sheet as it is left.

@@ -1,4 +1,6 @@
 -- What the entries of the reader answer.
+pub mod Reading
+pub mod Told
 pub mod Entry
 pub mod Beside
 pub mod Root

@@ -2,8 +2,7 @@
 use Rattle.std.specs.Prelude.{◌≡◌, List, ℕ}
 use Rattle.parse.specs.Reader.{refused, seen, cursor_at}
 use Rattle.value.specs.Read.{root_ending}
-use Rattle.flat.specs.declared.Walk.{Walk}
-use Rattle.flat.specs.declared.Walk.TheVariants.{Past, Refused}
+use Rattle.flat.specs.Walk.{Walk, Past, Refused}
 
 -- The answer for a root whose known fields end at `next`, with so many unknown bits set.
 pub data Ended (p : List ℕ) (comparisons next row unknown : ℕ) : Walk → Type 0 where

@@ -5,8 +5,7 @@ use Rattle.schema.specs.Table.{struct}
 use Rattle.schema.specs.File.{table_of}
 use Rattle.value.specs.Read.{present}
 use Rattle.walks.specs.Shape.{fields_from, shape_in}
-use Rattle.flat.specs.declared.Walk.{Walk}
-use Rattle.flat.specs.Walk.{whole_in, Held, Shown, Ready}
+use Rattle.flat.specs.Walk.{Walk, whole_in, Held, Shown, Ready}
 use Rattle.reader.specs.declared.walk.Fields.{Fields}
 
 abbrev pub fields_of : (s : List ℕ) → Fields → List Field

@@ -7,14 +7,17 @@ ghost use Rattle.schema.specs.Check.{field_row_of};
 ghost use Rattle.walks.specs.Shape.{fields_from, shape_in};
 ghost use Rattle.reader.specs.Root.{Ended};
 ghost use Rattle.reader.specs.Structs.{OfType, OfCount, added_to, HeldBy, ShownBy, ReadyFor};
+ghost use Rattle.flat.specs.Told.{told_walk};
 ghost use Rattle.flat.specs.Walk.{value_in, whole_in, root_in, Valued, Held, Rooted, Ready};
 
-use crate::pairs::{needs_walker, read_childless, read_key, too_deep};
-use constants::{kind, limit, refusal};
-use flat::Walk;
+use crate::pairs::{needs_walker, read_childless, read_key};
+use constants::kind::Kind;
+use constants::limit;
+use constants::refusal::{Refusal, Refused};
+use flat::Past;
 use flat::added::{is_partly_shown, read_structs};
 use flat::elements::{is_flat, read_elements};
-use flat::leaf::{Count, Head, Span, content, map_count, ones_in, presence, read_count, shown_of};
+use flat::leaf::{content, map_count, ones_in, presence, read_count, shown_of};
 use flat::maps::{holds_leaves, read_maps};
 use flat::sheet::put_row;
 use schema::{Layout, TypeRow};
@@ -43,25 +46,21 @@ fn read_composite(
     depth: usize,
     row: usize,
     judging: bool,
-) -> Walk
+) -> Result<Past, Refused>
     requires { Ready s.now p.now at row judging (value_in s.now p.now (suc depth) ty at) × (t ≡ row_at (table_of s.now) ty) × (13 < t.kind) }
-    ensures { Valued shown.now s.now p.now (suc depth) ty at row sheet.old result sheet.new }
+    ensures { Valued shown.now s.now p.now (suc depth) ty at row sheet.old (told_walk result) sheet.new }
 {
-    let kind = t.kind;
-    if kind == kind::ARRAY {
+    if t.kind == Kind::Array as u32 {
         return read_array(shown, s, p, sheet, ty, t.a, at, depth, row, judging);
     }
-    if kind == kind::MAP {
+    if t.kind == Kind::Map as u32 {
         return read_map(shown, s, p, sheet, ty, t, at, depth, row, judging);
     }
-    if kind == kind::STRUCT {
+    if t.kind == Kind::Struct as u32 {
         return read_struct(shown, s, p, sheet, ty, t, at, depth, row, judging);
     }
     // A good table has no composite of another kind: this is never reached, and 42 is what the definition has for a type that there is not.
-    Walk::Refused {
-        number: refusal::TYPE_ROW,
-        place: 0,
-    }
+    Refusal::TypeRow.at(0)
 }
 
 // An array of type ty, whose elements have the type elem.
@@ -77,33 +76,30 @@ fn read_array(
     depth: usize,
     row: usize,
     judging: bool,
-) -> Walk
+) -> Result<Past, Refused>
     requires { Ready s.now p.now at row judging (value_in s.now p.now (suc depth) ty at) × (shape_in s.now ty ≡ array elem) × (0 < (row_at (table_of s.now) elem).kind) }
-    ensures { Valued shown.now s.now p.now (suc depth) ty at row sheet.old result sheet.new }
+    ensures { Valued shown.now s.now p.now (suc depth) ty at row sheet.old (told_walk result) sheet.new }
 {
-    match read_count(p, at, 1) {
-        Count::Refused { number } => Walk::Refused { number, place: at },
-        Count::Is { n, start } => {
-            let t = type_row(s, elem as usize);
-            let kind = t.kind;
-            if kind < kind::ARRAY {
-                return read_elements(s, p, sheet, ty, elem, n, start, depth, row, judging);
-            }
-            if is_flat(shown, s, elem, depth) {
-                return read_elements(s, p, sheet, ty, elem, n, start, depth, row, judging);
-            }
-            if is_partly_shown(shown, s, elem, depth) {
-                let m = shown_of(shown, elem);
-                return read_structs(s, p, sheet, ty, elem, m, n, start, depth, row, judging);
-            }
-            if holds_leaves(s, t) {
-                return read_maps(
-                    s, p, sheet, ty, elem, t.a, t.b, n, start, depth, row, judging,
-                );
-            }
-            read_composites(shown, s, p, sheet, ty, elem, n, start, depth, row, judging)
-        }
+    let count = read_count(p, at, 1)?;
+    let n = count.n;
+    let start = count.start;
+    let t = type_row(s, elem as usize);
+    if t.kind < Kind::Array as u32 {
+        return read_elements(s, p, sheet, ty, elem, n, start, depth, row, judging);
     }
+    if is_flat(shown, s, elem, depth) {
+        return read_elements(s, p, sheet, ty, elem, n, start, depth, row, judging);
+    }
+    if is_partly_shown(shown, s, elem, depth) {
+        let m = shown_of(shown, elem);
+        return read_structs(s, p, sheet, ty, elem, m, n, start, depth, row, judging);
+    }
+    if holds_leaves(s, t) {
+        return read_maps(
+            s, p, sheet, ty, elem, t.a, t.b, n, start, depth, row, judging,
+        );
+    }
+    read_composites(shown, s, p, sheet, ty, elem, n, start, depth, row, judging)
 }
 
 // The n elements of an array, composites of the type elem.
@@ -120,39 +116,30 @@ fn read_composites(
     depth: usize,
     row: usize,
     judging: bool,
-) -> Walk
+) -> Result<Past, Refused>
     requires ready { Ready s.now p.now start (row + 1) judging (whole_in s.now p.now depth ty (array elem) start n start) × (n ≤ 16384) }
     requires bound { 13 < (row_at (table_of s.now) elem).kind }
-    ensures { Held shown.now s.now p.now depth ty (array elem) start n start row sheet.old result sheet.new }
+    ensures { Held shown.now s.now p.now depth ty (array elem) start n start row sheet.old (told_walk result) sheet.new }
 {
     let t = known_row(s, elem as usize);
-    let mut left = n;
     let mut here = start;
     let mut below = row + 1;
     let mut sum: u32 = 0;
-    while 0 < left {
+    for _ in 0..n {
         if depth == 0 {
-            return Walk::Refused {
-                number: refusal::TOO_DEEP,
-                place: here,
-            };
+            return Refusal::TooDeep.at(here);
         }
-        match read_composite(shown, s, p, sheet, elem, t, here, depth - 1, below, judging) {
-            Walk::Refused { number, place } => return Walk::Refused { number, place },
-            Walk::Past { due, next, row } => {
-                here = next;
-                below = row;
-                sum = sum + due;
-            }
-        }
-        left = left - 1;
+        let past = read_composite(shown, s, p, sheet, elem, t, here, depth - 1, below, judging)?;
+        here = past.next;
+        below = past.row;
+        sum = sum + past.due;
     }
     put_row(sheet, row, ty, start, here - start, n);
-    Walk::Past {
+    Ok(Past {
         due: sum,
         next: here,
         row: below,
-    }
+    })
 }
 
 // A map of type ty, whose row is t, of at most 64 pairs.
@@ -168,36 +155,31 @@ fn read_map(
     depth: usize,
     row: usize,
     judging: bool,
-) -> Walk
+) -> Result<Past, Refused>
     requires { Ready s.now p.now at row judging (value_in s.now p.now (suc depth) ty at) × (t ≡ row_at (table_of s.now) ty) × (t.kind ≡ 15) }
-    ensures { Valued shown.now s.now p.now (suc depth) ty at row sheet.old result sheet.new }
+    ensures { Valued shown.now s.now p.now (suc depth) ty at row sheet.old (told_walk result) sheet.new }
 {
-    match map_count(p, at) {
-        Count::Refused { number } => Walk::Refused { number, place: at },
-        Count::Is { n, start } => {
-            if MOST_PAIRS < n {
-                return Walk::Refused {
-                    number: refusal::MAP_TOO_LONG,
-                    place: at,
-                };
-            }
-            if n == 0 {
-                put_row(sheet, row, ty, start, 0, 0);
-                return Walk::Past {
-                    due: 0,
-                    next: start,
-                    row: row + 1,
-                };
-            }
-            if n <= TWO_KEYS {
-                let mut keys = [0usize; 2 * (TWO_KEYS + FLAG_CELLS)];
-                return read_pairs(
-                    shown, s, p, sheet, &mut keys, ty, t.a, t.b, n, start, depth, row, judging,
-                );
-            }
-            read_more_pairs(shown, s, p, sheet, ty, t, n, start, depth, row, judging)
-        }
+    let count = map_count(p, at)?;
+    let n = count.n;
+    let start = count.start;
+    if MOST_PAIRS < n {
+        return Refusal::MapTooLong.at(at);
     }
+    if n == 0 {
+        put_row(sheet, row, ty, start, 0, 0);
+        return Ok(Past {
+            due: 0,
+            next: start,
+            row: row + 1,
+        });
+    }
+    if n <= TWO_KEYS {
+        let mut keys = [0usize; 2 * (TWO_KEYS + FLAG_CELLS)];
+        return read_pairs(
+            shown, s, p, sheet, &mut keys, ty, t.a, t.b, n, start, depth, row, judging,
+        );
+    }
+    read_more_pairs(shown, s, p, sheet, ty, t, n, start, depth, row, judging)
 }
 
 // The n pairs of a map, more than two: the longer arrays of keys stand here, so that no other map has to clear them.
@@ -214,10 +196,10 @@ fn read_more_pairs(
     depth: usize,
     row: usize,
     judging: bool,
-) -> Walk
+) -> Result<Past, Refused>
     requires ready { Ready s.now p.now start (row + 1) judging (whole_in s.now p.now depth ty (map t.a t.b) start n start) }
     requires kind_nonzero { (0 < (row_at (table_of s.now) t.a).kind) × ((row_at (table_of s.now) t.a).kind < 14) × (0 < (row_at (table_of s.now) t.b).kind) × (0 < n) × (n ≤ 64) }
-    ensures { Held shown.now s.now p.now depth ty (map t.a t.b) start n start row sheet.old result sheet.new }
+    ensures { Held shown.now s.now p.now depth ty (map t.a t.b) start n start row sheet.old (told_walk result) sheet.new }
 {
     if n <= FEW_KEYS {
         let mut keys = [0usize; 2 * (FEW_KEYS + FLAG_CELLS)];
@@ -247,51 +229,41 @@ fn read_pairs(
     depth: usize,
     row: usize,
     judging: bool,
-) -> Walk
+) -> Result<Past, Refused>
     requires ready { Ready s.now p.now start (row + 1) judging (whole_in s.now p.now depth ty (map key val) start n start) }
     requires kind_nonzero { (0 < (row_at (table_of s.now) key).kind) × ((row_at (table_of s.now) key).kind < 14) × (0 < (row_at (table_of s.now) val).kind) × (0 < n) × (n ≤ 64) }
     requires n_in_bounds { judging ≡ true → n + 4 ≤ length keys.old / 2 }
-    ensures { Held shown.now s.now p.now depth ty (map key val) start n start row sheet.old result sheet.new }
+    ensures { Held shown.now s.now p.now depth ty (map key val) start n start row sheet.old (told_walk result) sheet.new }
 {
     let k = known_row(s, key as usize);
     let v = known_row(s, val as usize);
-    let mut i = 0;
     let mut here = start;
     let mut below = row + 1;
     let mut sum: u32 = 0;
-    while i < n {
+    for i in 0..n {
         if depth == 0 {
-            return too_deep(here);
+            return Refusal::TooDeep.at(here);
         }
-        match read_key(p, sheet, keys, key, k, i, here, below, judging) {
-            Span::Refused { number, place } => return Walk::Refused { number, place },
-            Span::At { from: _, to } => here = to,
-        }
+        let key_content = read_key(p, sheet, keys, key, k, i, here, below, judging)?;
+        here = key_content.to;
         below = below + 1;
         if needs_walker(p, v, here) {
-            match read_composite(shown, s, p, sheet, val, v, here, depth - 1, below, judging) {
-                Walk::Refused { number, place } => return Walk::Refused { number, place },
-                Walk::Past { due, next, row } => {
-                    here = next;
-                    below = row;
-                    sum = sum + due;
-                }
-            }
+            let past = read_composite(shown, s, p, sheet, val, v, here, depth - 1, below, judging)?;
+            here = past.next;
+            below = past.row;
+            sum = sum + past.due;
         } else {
-            match read_childless(p, sheet, val, v, here, below, judging) {
-                Span::Refused { number, place } => return Walk::Refused { number, place },
-                Span::At { from: _, to } => here = to,
-            }
+            let content = read_childless(p, sheet, val, v, here, below, judging)?;
+            here = content.to;
             below = below + 1;
         }
-        i = i + 1;
     }
     put_row(sheet, row, ty, start, here - start, n);
-    Walk::Past {
+    Ok(Past {
         due: sum + (n * (n - 1) / 2) as u32,
         next: here,
         row: below,
-    }
+    })
 }
 
 // The fields of a struct of type ty: n from the first on, those whose bits are set in `known`, `ones` of them. Its bitmap stands at `place`, its fields from
@@ -320,42 +292,29 @@ fn read_struct(
     depth: usize,
     row: usize,
     judging: bool,
-) -> Walk
+) -> Result<Past, Refused>
     requires { Ready s.now p.now at row judging (value_in s.now p.now (suc depth) ty at) × (t ≡ row_at (table_of s.now) ty) × (t.kind ≡ 16) }
-    ensures { Valued shown.now s.now p.now (suc depth) ty at row sheet.old result sheet.new }
+    ensures { Valued shown.now s.now p.now (suc depth) ty at row sheet.old (told_walk result) sheet.new }
 {
     let first = t.a as usize;
     let n = t.b as usize;
-    match presence(s, p, first, n, at, judging) {
-        Head::Refused { number } => Walk::Refused { number, place: at },
-        Head::Bits {
-            word: _,
-            known,
-            ones,
-            unknown,
-            start,
-        } => {
-            if unknown != 0 {
-                return Walk::Refused {
-                    number: refusal::UNKNOWN_BIT,
-                    place: at,
-                };
-            }
-            let f = Fields {
-                ty,
-                first,
-                n,
-                known,
-                ones,
-                place: at,
-                start,
-            };
-            if shown_of(shown, ty) < n {
-                return read_shown_fields(shown, s, p, sheet, f, depth, row, judging);
-            }
-            read_fields(shown, s, p, sheet, f, depth, row, judging)
-        }
+    let bits = presence(s, p, first, n, at, judging)?;
+    if bits.unknown != 0 {
+        return Refusal::UnknownBit.at(at);
     }
+    let f = Fields {
+        ty,
+        first,
+        n,
+        known: bits.known,
+        ones: bits.ones,
+        place: at,
+        start: bits.start,
+    };
+    if shown_of(shown, ty) < n {
+        return read_shown_fields(shown, s, p, sheet, f, depth, row, judging);
+    }
+    read_fields(shown, s, p, sheet, f, depth, row, judging)
 }
 
 // The fields of a struct, and its own row.
@@ -369,9 +328,9 @@ fn read_fields(
     depth: usize,
     row: usize,
     judging: bool,
-) -> Walk
+) -> Result<Past, Refused>
     requires { ReadyFor s.now p.now depth f row judging × OfCount s.now f }
-    ensures { HeldBy shown.now s.now p.now depth f row sheet.old result sheet.new }
+    ensures { HeldBy shown.now s.now p.now depth f row sheet.old (told_walk result) sheet.new }
 {
     let l = layout_of(s);
     let mut i = f.first;
@@ -382,27 +341,21 @@ fn read_fields(
     let mut sum: u32 = 0;
     while 0 < left {
         if bits % 2 == 1 {
-            match read_field(shown, s, l, p, sheet, i, here, depth, below, judging) {
-                Walk::Refused { number, place } => {
-                    return Walk::Refused { number, place };
-                }
-                Walk::Past { due, next, row } => {
-                    here = next;
-                    below = row;
-                    sum = sum + due;
-                }
-            }
+            let past = read_field(shown, s, l, p, sheet, i, here, depth, below, judging)?;
+            here = past.next;
+            below = past.row;
+            sum = sum + past.due;
         }
         bits = bits / 2;
         i = i + 1;
         left = left - 1;
     }
     put_row(sheet, row, f.ty, f.place, here - f.place, f.ones);
-    Walk::Past {
+    Ok(Past {
         due: sum,
         next: here,
         row: below,
-    }
+    })
 }
 
 // The field i of a struct. Most fields are scalars, strings or bytes: these are read here, without a call of their own.
@@ -418,35 +371,25 @@ fn read_field(
     depth: usize,
     row: usize,
     judging: bool,
-) -> Walk
+) -> Result<Past, Refused>
     requires { Ready s.now p.now at row judging (value_in s.now p.now depth (field_row_of (table_of s.now) i).ty at) × Laid s.now l × (0 < (row_at (table_of s.now) (field_row_of (table_of s.now) i).ty).kind) }
-    ensures { Valued shown.now s.now p.now depth (field_row_of (table_of s.now) i).ty at row sheet.old result sheet.new }
+    ensures { Valued shown.now s.now p.now depth (field_row_of (table_of s.now) i).ty at row sheet.old (told_walk result) sheet.new }
 {
     if depth == 0 {
-        return Walk::Refused {
-            number: refusal::TOO_DEEP,
-            place: at,
-        };
+        return Refusal::TooDeep.at(at);
     }
     let ty = field_row(s, l, i).ty;
     let t = known_row(s, ty as usize);
-    if kind::BYTES < t.kind {
-        return match read_composite(shown, s, p, sheet, ty, t, at, depth - 1, row, judging) {
-            Walk::Refused { number, place } => Walk::Refused { number, place },
-            Walk::Past { due, next, row } => Walk::Past { due, next, row },
-        };
+    if t.kind > Kind::Bytes as u32 {
+        return read_composite(shown, s, p, sheet, ty, t, at, depth - 1, row, judging);
     }
-    match content(p, t.kind as usize, at, judging) {
-        Span::Refused { number, place } => Walk::Refused { number, place },
-        Span::At { from, to } => {
-            put_row(sheet, row, ty, from, to - from, 0);
-            Walk::Past {
-                due: 0,
-                next: to,
-                row: row + 1,
-            }
-        }
-    }
+    let content = content(p, t.kind as usize, at, judging)?;
+    put_row(sheet, row, ty, content.from, content.to - content.from, 0);
+    Ok(Past {
+        due: 0,
+        next: content.to,
+        row: row + 1,
+    })
 }
 
 // The fields of a struct of which fewer are shown than it has: the others are read without a row. The struct's own row is written again, with its whole length.
@@ -460,9 +403,9 @@ fn read_shown_fields(
     depth: usize,
     row: usize,
     judging: bool,
-) -> Walk
+) -> Result<Past, Refused>
     requires { ReadyFor s.now p.now depth f row judging × OfType s.now f × (get_or shown.now f.ty 0 < f.n) }
-    ensures { ShownBy shown.now s.now p.now depth f row sheet.old result sheet.new }
+    ensures { ShownBy shown.now s.now p.now depth f row sheet.old (told_walk result) sheet.new }
 {
     let m = shown_of(shown, f.ty);
     let mine = low_bits(f.known, m);
@@ -476,24 +419,14 @@ fn read_shown_fields(
         place: f.place,
         start: f.start,
     };
-    match read_fields(shown, s, p, sheet, ours, depth, row, judging) {
-        Walk::Refused { number, place } => Walk::Refused { number, place },
-        Walk::Past {
-            due: sum,
-            next: at,
-            row: below,
-        } => match read_added(shown, s, p, f, at, depth, row, judging) {
-            Walk::Refused { number, place } => Walk::Refused { number, place },
-            Walk::Past { due, next, row: _ } => {
-                put_row(sheet, row, f.ty, f.place, next - f.place, ones);
-                Walk::Past {
-                    due: sum + due,
-                    next: next,
-                    row: below,
-                }
-            }
-        },
-    }
+    let past = read_fields(shown, s, p, sheet, ours, depth, row, judging)?;
+    let added = read_added(shown, s, p, f, past.next, depth, row, judging)?;
+    put_row(sheet, row, f.ty, f.place, added.next - f.place, ones);
+    Ok(Past {
+        due: past.due + added.due,
+        next: added.next,
+        row: past.row,
+    })
 }
 
 // The fields of a struct after those that are shown, from a place on. They have no rows: none is lent to write them into.
@@ -507,10 +440,10 @@ fn read_added(
     depth: usize,
     row: usize,
     judging: bool,
-) -> Walk
+) -> Result<Past, Refused>
     requires ready_for { ReadyFor s.now p.now depth (added_to f (get_or shown.now f.ty 0) at) row judging }
     requires ty_bound { (f.ty < 256) × (f.n ≤ 64) × (get_or shown.now f.ty 0 < f.n) }
-    ensures { (l : List ℕ) × (after : List ℕ) × HeldBy shown.now s.now p.now depth (added_to f (get_or shown.now f.ty 0) at) row l result after }
+    ensures { (l : List ℕ) × (after : List ℕ) × HeldBy shown.now s.now p.now depth (added_to f (get_or shown.now f.ty 0) at) row l (told_walk result) after }
 {
     let m = shown_of(shown, f.ty);
     let rest = low_bits(f.known >> m, f.n - m);
@@ -527,25 +460,19 @@ fn read_added(
     read_fields(shown, s, p, &mut none[..0], added, depth, row, judging)
 }
 
-// The root after its known fields, which end at `next`. Each unknown bit asks for a byte or more of a tail; without one there is none.
-fn end_root(p: &[u8], due: u32, next: usize, row: usize, unknown: usize) -> Walk
-    requires { next ≤ length p.now }
-    ensures { Ended p.now due next row unknown result }
+// The root after its known fields, as these were read. Each unknown bit asks for a byte or more of a tail; without one there is none.
+fn end_root(p: &[u8], past: Past, unknown: usize) -> Result<Past, Refused>
+    requires { past.next ≤ length p.now }
+    ensures { Ended p.now past.due past.next past.row unknown (told_walk result) }
 {
-    let rest = p.len() - next;
+    let rest = p.len() - past.next;
     if (unknown == 0) & (rest != 0) {
-        return Walk::Refused {
-            number: refusal::SURPLUS,
-            place: next,
-        };
+        return Refusal::Surplus.at(past.next);
     }
     if rest < unknown {
-        return Walk::Refused {
-            number: refusal::CUT,
-            place: next,
-        };
+        return Refusal::Cut.at(past.next);
     }
-    Walk::Past { due, next, row }
+    Ok(past)
 }
 
 // The fields of the root, all of them or those that are shown. `read_struct` chooses for itself: a function with two callers would copy the fields once more.
@@ -556,9 +483,9 @@ fn read_root_fields(
     sheet: &mut [u32],
     f: Fields,
     judging: bool,
-) -> Walk
+) -> Result<Past, Refused>
     requires { ReadyFor s.now p.now 15 f 0 judging × OfType s.now f × OfCount s.now f }
-    ensures { ShownBy shown.now s.now p.now 15 f 0 sheet.old result sheet.new }
+    ensures { ShownBy shown.now s.now p.now 15 f 0 sheet.old (told_walk result) sheet.new }
 {
     if shown_of(shown, f.ty) < f.n {
         return read_shown_fields(shown, s, p, sheet, f, limit::BELOW_ROOT, 0, judging);
@@ -576,33 +503,21 @@ pub fn root(
     first: usize,
     n: usize,
     judging: bool,
-) -> Walk
+) -> Result<Past, Refused>
     requires ready { Ready s.now p.now 0 0 judging (root_in s.now p.now ty (fields_from (table_of s.now) first n)) }
     requires ty_value { (shape_in s.now ty ≡ struct (fields_from (table_of s.now) first n)) × (0 < n) × (n ≤ 64) × (first + n ≤ length (table_of s.now).fields) }
-    ensures { Rooted shown.now s.now p.now ty (fields_from (table_of s.now) first n) sheet.old result sheet.new }
+    ensures { Rooted shown.now s.now p.now ty (fields_from (table_of s.now) first n) sheet.old (told_walk result) sheet.new }
 {
-    match presence(s, p, first, n, 0, judging) {
-        Head::Refused { number } => Walk::Refused { number, place: 0 },
-        Head::Bits {
-            word: _,
-            known,
-            ones,
-            unknown,
-            start,
-        } => {
-            let f = Fields {
-                ty,
-                first,
-                n,
-                known,
-                ones,
-                place: 0,
-                start,
-            };
-            match read_root_fields(shown, s, p, sheet, f, judging) {
-                Walk::Refused { number, place } => Walk::Refused { number, place },
-                Walk::Past { due, next, row } => end_root(p, due, next, row, unknown),
-            }
-        }
-    }
+    let bits = presence(s, p, first, n, 0, judging)?;
+    let f = Fields {
+        ty,
+        first,
+        n,
+        known: bits.known,
+        ones: bits.ones,
+        place: 0,
+        start: bits.start,
+    };
+    let past = read_root_fields(shown, s, p, sheet, f, judging)?;
+    end_root(p, past, bits.unknown)
 }

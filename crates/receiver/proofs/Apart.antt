@@ -22,7 +22,7 @@ use Rattle.calls.specs.Apart.{verdict, verdict_due, verdict_number, call_method,
 use Rattle.calls.proofs.Goodness.{good-clauses, good-test}
 use Rattle.calls.proofs.Apart as calls
 use Rattle.calls.proofs.Rises.{rise-by, rise-method}
-use Rattle.reader.specs.declared.Reading.{Reading}
+use Rattle.reader.specs.Reading.{Reading}
 use Rattle.reader.specs.Entry.{Outcome, reading_in, room, numbers}
 use Rattle.receiver.specs.declared.Next.{Next}
 use Rattle.receiver.specs.declared.Next.TheVariants as next

@@ -16,8 +16,8 @@ use Rattle.calls.specs.Judge.{judge_of}
 use Rattle.calls.specs.declared.Rise.{Rise}
 use Rattle.calls.specs.Step.{due_of}
 use Rattle.calls.specs.Counting.{no_tally, rise_of, figure_by, full_at}
-use Rattle.reader.specs.declared.Reading.{Reading}
-use Rattle.reader.specs.declared.Reading.TheVariants.{Shown, Refused}
+use Rattle.reader.specs.Reading.{Reading}
+use Rattle.reader.specs.Reading.{Shown, Refused}
 use Rattle.reader.specs.Entry.{Outcome, outcome, numbers}
 use Rattle.reader.proofs.Entries.{comparisons_in, payload-within}
 use Rattle.receiver.specs.Answer.{Effect, stopped, payload_read, number_in, tallied}

@@ -32,7 +32,7 @@ use Rattle.calls.proofs.Goodness.{good-clauses}
 use Rattle.calls.specs.Limits.{FewIn}
 use Rattle.calls.proofs.Limits.{few-more as step-more, few-below}
 use Rattle.calls.proofs.Counted.{full-iff}
-use Rattle.reader.specs.declared.Reading.TheVariants.{Refused as Failed}
+use Rattle.reader.specs.Reading.{Refused as Failed}
 use Rattle.reader.specs.Entry.{Outcome, outcome, reading_in, sheet_in, room}
 use Rattle.receiver.specs.declared.Next.{Next}
 use Rattle.receiver.specs.declared.Next.TheVariants.{Refused as NextRefused, Settle}

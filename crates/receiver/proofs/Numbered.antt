@@ -49,8 +49,8 @@ use Rattle.value.specs.Value as value-tree
 use Rattle.value.specs.Read as value
 use Rattle.value.specs.Numbered.{ValueFault, within-list, many-pairs}
 use Rattle.value.proofs.Numbers.{Numbered, refuses, goes_on, root-numbered}
-use Rattle.reader.specs.declared.Reading.{Reading}
-use Rattle.reader.specs.declared.Reading.TheVariants.{Shown, Refused}
+use Rattle.reader.specs.Reading.{Reading}
+use Rattle.reader.specs.Reading.{Shown, Refused}
 use Rattle.reader.specs.Entry.{Outcome, outcome, reading_in, outcome_of, room, payload_outcome, numbers}
 use Rattle.calls.proofs.Counted.{full-iff}
 use Rattle.receiver.specs.Answer.{Effect, stopped, payload_read, number_in, tallied}

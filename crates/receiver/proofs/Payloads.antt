@@ -17,8 +17,8 @@ use Rattle.calls.specs.declared.Payload.{Payload}
 use Rattle.calls.specs.declared.Payload.TheVariants.{Struct, Empty, Unread}
 use Rattle.value.specs.declared.Row.{Row}
 use Rattle.value.specs.Read as value
-use Rattle.reader.specs.declared.Reading.{Reading}
-use Rattle.reader.specs.declared.Reading.TheVariants.{Shown, Refused}
+use Rattle.reader.specs.Reading.{Reading}
+use Rattle.reader.specs.Reading.{Shown, Refused}
 use Rattle.value.specs.Sheet.{cells_of}
 use Rattle.flat.specs.Sheet.{shown_in}
 use Rattle.reader.specs.Entry.{Outcome, outcome, reading_in, sheet_in, outcome_of, room, payload_outcome, numbers}

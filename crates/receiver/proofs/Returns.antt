@@ -34,8 +34,8 @@ use Rattle.connection.specs.Step.{step_of}
 use Rattle.calls.specs.Counting.{release_rise, figure_by, full_at, raised}
 use Rattle.calls.specs.OwnSlots.{own_slot_of}
 use Rattle.calls.proofs.OwnSlots.{judged-by-slot, rise-by-slot, release-by-slot, release-rise-by-slot}
-use Rattle.reader.specs.declared.Reading.{Reading}
-use Rattle.reader.specs.declared.Reading.TheVariants.{Shown, Refused as Failed}
+use Rattle.reader.specs.Reading.{Reading}
+use Rattle.reader.specs.Reading.{Shown, Refused as Failed}
 use Rattle.reader.specs.Entry.{Outcome, outcome, numbers}
 use Rattle.receiver.specs.declared.Received.{Received}
 use Rattle.receiver.specs.declared.SettledRelease.{SettledRelease}

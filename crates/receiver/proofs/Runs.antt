@@ -54,7 +54,7 @@ use Rattle.calls.proofs.Ordered.{ruling_of, CountsAs, ruled, own-reflects, rises
 use Rattle.calls.proofs.Pasts.{some-past}
 use Rattle.calls.proofs.Used.{uses-iff, not_ending}
 use Rattle.calls.proofs.Once.{may_not, ruled-once, release-once}
-use Rattle.reader.specs.declared.Reading.TheVariants.{Shown, Refused as Failed}
+use Rattle.reader.specs.Reading.{Shown, Refused as Failed}
 use Rattle.reader.specs.Entry.{Outcome, outcome, read_outcome}
 use Rattle.receiver.specs.Answer.{Effect, in_row, empty_read, payload_read, number_in, tallied, used_of}
 use Rattle.receiver.specs.Planning.{frame_from}

@@ -9,8 +9,8 @@ use Rattle.connection.specs.declared.Stepped.{Stepped}
 use Rattle.calls.specs.Numbers.{uses_frame}
 use Rattle.calls.specs.Slots.{count_open}
 use Rattle.calls.specs.Counting.{figure_by, full_at}
-use Rattle.reader.specs.declared.Reading.{Reading}
-use Rattle.reader.specs.declared.Reading.TheVariants.{Shown, Refused}
+use Rattle.reader.specs.Reading.{Reading}
+use Rattle.reader.specs.Reading.{Shown, Refused}
 use Rattle.reader.specs.Entry.{Outcome, outcome, payload_outcome, Numbers, numbers}
 pub use Rattle.reader.specs.Entry.{number_in}
 use Rattle.connection.specs.Step.{step_of}

@@ -12,7 +12,7 @@ use Rattle.calls.specs.Event.{frame}
 use Rattle.calls.specs.Order.{Elements, Past, since, Ruling, comes, Ruled, Releases, Reflects}
 use Rattle.calls.specs.Order as rules
 use Rattle.calls.specs.Figures.{event_as, method_in, Full}
-use Rattle.reader.specs.declared.Reading.TheVariants.{Shown, Refused}
+use Rattle.reader.specs.Reading.{Shown, Refused}
 use Rattle.reader.specs.Entry.{Outcome, outcome, reading_in, sheet_in, read_outcome, Numbers, numbers}
 use Rattle.receiver.specs.Answer.{Effect, numbers_of}
 use Rattle.receiver.specs.Claims.{row_for}

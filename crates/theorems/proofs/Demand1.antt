@@ -32,7 +32,7 @@ use Rattle.value.specs.SheetReasons.{SheetReason}
 use Rattle.value.specs.Sheet.{rows_of}
 use Rattle.value.specs.Numbered.{ReadNumber, WriteNumber}
 use Rattle.reader.specs.Entry.{read_outcome, outcome as reader-outcome, room}
-use Rattle.reader.specs.declared.Reading.TheVariants.{Refused as reader-Refused}
+use Rattle.reader.specs.Reading.{Refused as reader-Refused}
 use Rattle.scalar.specs.Scalar.{scalar_by}
 use Rattle.scalar.specs.Answer.{Refused as scalar-Refused}
 use Rattle.scalar.specs.Reasons.{Reason as scalar-Reason}

@@ -30,7 +30,7 @@ use Rattle.value.specs.Fits.{Shows}
 use Rattle.value.specs.Read.{unknown_bits, root_bits}
 use Rattle.value.specs.Spell.{Spells, encode, RootSpells}
 use Rattle.reader.specs.Entry.{room, read_outcome, outcome as reader-outcome}
-use Rattle.reader.specs.declared.Reading.TheVariants.{Shown}
+use Rattle.reader.specs.Reading.{Shown}
 use Rattle.writer.specs.Entry.{file_outcome, outcome as writer-outcome}
 use Rattle.writer.specs.Writing.{Written as writer-Written}
 use Rattle.receiver.specs.Run.{State, Event as receiver-Event, Input, answer_after, full_after, past_in, rows_after, calls_after, fresh_tallies}

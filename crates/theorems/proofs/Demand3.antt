@@ -17,7 +17,7 @@ use Rattle.value.specs.Delimits.{RootDelimits}
 use Rattle.value.specs.Read.{unknown_bits, root_bits}
 use Rattle.value.specs.Added.{without, NoneAdded}
 use Rattle.reader.specs.Entry.{read_outcome, outcome as reader-outcome, room}
-use Rattle.reader.specs.declared.Reading.TheVariants.{Shown, Refused as reader-Refused}
+use Rattle.reader.specs.Reading.{Shown, Refused as reader-Refused}
 use Rattle.flat.specs.Sheet.{shown_in}
 use Rattle.writer.specs.Entry.{file_outcome, outcome as writer-outcome}
 use Rattle.writer.specs.Writing.{Written as writer-Written}

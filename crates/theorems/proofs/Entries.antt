@@ -19,8 +19,8 @@ use Rattle.calls.specs.declared.Tally.{Tally}
 use Rattle.calls.specs.declared.Call.{Call}
 use Rattle.connection.specs.Step.{fresh_table}
 use Rattle.value.specs.declared.Row.{Row as value-Row}
-use Rattle.reader.specs.declared.Reading.{Reading}
-use Rattle.reader.specs.declared.Reading.TheVariants.{Refused as reader-Refused}
+use Rattle.reader.specs.Reading.{Reading}
+use Rattle.reader.specs.Reading.{Refused as reader-Refused}
 use Rattle.reader.specs.Entry.{read_outcome, outcome as reader-outcome}
 use Rattle.reader.specs.Beside.{beside_outcome}
 use Rattle.scalar.specs.Scalar.{scalar_by, scalar_number}

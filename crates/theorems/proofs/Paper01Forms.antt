@@ -27,10 +27,10 @@ use Rattle.value.specs.declared.Row.{Row as value-Row}
 use Rattle.value.specs.Beside.{DelimitedBeside}
 use Rattle.value.specs.Sheet.{rows_of}
 use Rattle.reader.specs.Entry.{room, numbers as reader-numbers, reading_in, read_outcome, outcome as reader-outcome, sheet_in}
-use Rattle.reader.specs.declared.Reading.TheVariants.{Refused as reader-Refused, Shown}
+use Rattle.reader.specs.Reading.{Refused as reader-Refused, Shown}
 use Rattle.reader.specs.Beside.{beside_outcome}
 use Rattle.flat.specs.Sheet.{shown_in}
-use Rattle.reader.specs.declared.Reading.{Reading}
+use Rattle.reader.specs.Reading.{Reading}
 use Rattle.writer.specs.Numbers.{numbers as writer-numbers}
 use Rattle.writer.specs.Entry.{file_outcome, Outcome as writer-Outcome, outcome as writer-outcome}
 use Rattle.writer.specs.Writing.{Refused as writer-Refused, Written as writer-Written}

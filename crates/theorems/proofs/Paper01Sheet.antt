@@ -23,7 +23,7 @@ use Rattle.cursor.specs.Item.{span_item, content_judged, fixed_number, content_o
 use Rattle.cursor.specs.Number.{Refused as number-Refused, Is}
 use Rattle.cursor.specs.Span.{Refused as span-Refused, At as span-At}
 use Rattle.reader.specs.Entry.{read_outcome, outcome as reader-outcome, room}
-use Rattle.reader.specs.declared.Reading.TheVariants.{Shown, Refused as reader-Refused}
+use Rattle.reader.specs.Reading.{Shown, Refused as reader-Refused}
 use Rattle.flat.specs.Sheet.{shown_in}
 use Rattle.scalar.specs.Leaves.{EachLeaf, ShowsLeaf}
 use Rattle.scalar.specs.Scalar.{scalar_of, Content, identity, value_of, scalar_number, scalar_by, place_of as scalar-placeOf}

@@ -28,7 +28,7 @@ use Rattle.value.specs.Spell.{RootSpells}
 use Rattle.value.specs.Read.{unknown_bits, root_bits}
 use Rattle.reader.specs.Entry.{room, read_outcome, outcome as reader-outcome}
 use Rattle.reader.specs.Beside.{beside_outcome}
-use Rattle.reader.specs.declared.Reading.TheVariants.{Refused as reader-Refused, Shown}
+use Rattle.reader.specs.Reading.{Refused as reader-Refused, Shown}
 use Rattle.flat.specs.Sheet.{shown_in}
 use Rattle.writer.specs.Entry.{file_outcome, outcome as writer-outcome}
 use Rattle.writer.specs.Writing.{Written as writer-Written}

@@ -21,7 +21,7 @@ use Rattle.value.specs.Comparisons.{key_comparisons, pairs_among, map_comparison
 use Rattle.value.specs.Read.{plan, parse, read, accepted}
 use Rattle.value.specs.Write.{show}
 use Rattle.reader.specs.Entry.{read_outcome, outcome as reader-outcome}
-use Rattle.reader.specs.declared.Reading.TheVariants.{Shown}
+use Rattle.reader.specs.Reading.{Shown}
 use Rattle.receiver.specs.Receive.{received}
 use Rattle.promises.specs.Claims.{shapes, first_rows}
 use Rattle.calls.proofs.Used as calls-Used

@@ -22,7 +22,7 @@ use Rattle.value.specs.declared.Row.{Row as value-Row}
 use Rattle.value.specs.Read.{read, accepted}
 use Rattle.value.specs.Write.{written, refusal as write-refusal}
 use Rattle.reader.specs.Entry.{read_outcome, outcome as reader-outcome, room}
-use Rattle.reader.specs.declared.Reading.TheVariants.{Shown}
+use Rattle.reader.specs.Reading.{Shown}
 use Rattle.writer.specs.Entry.{outcome as writer-outcome, file_outcome}
 use Rattle.writer.specs.Writing.{Written as writer-Written, Refused as writer-Refused}
 use Rattle.forward.specs.Entry.{forward_outcome}

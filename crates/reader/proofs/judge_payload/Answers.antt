@@ -5,11 +5,8 @@ use Rattle.reader.specs.Entry.{number_in}
 use Rattle.reader.proofs.Besides.{shown-all}
 use Rattle.reader.proofs.judge_payload.Goals as goal
 
-pub judge_shown-requires : goal.judge_shown-requires
-judge_shown-requires c = c.requires
-
 pub returns : goal.returns
 returns c =
     let args = c.args in
     c.judge_shown.ensures
-    ∙ ap number_in (shown-all args.schema.now c.requires args.ty args.payload.now args.sheet.now _ (λ t l. get_or-replicate 256 t 64 0 l))
+    ∙ ap number_in (shown-all args.schema.now.bytes.now args.schema.now.good args.ty args.payload.now args.sheet.now _ (λ t l. get_or-replicate 256 t 64 0 l))

@@ -5,29 +5,30 @@ use native.Mathlib.Omega.{arith}
 use Rattle.schema.specs.File.{table_of}
 use Rattle.walks.proofs.Tables.{struct_row, shape-struct}
 use Rattle.reader.specs.Entry.{number_in}
+use Rattle.flat.specs.Told.{told_walk}
 use Rattle.flat.proofs.Steps.{was}
 use Rattle.reader.proofs.Entries.{entry-type, entry-long, entry-refused, entry-short, entry-fits}
 use Rattle.reader.proofs.judge_shown.Goals as goal
 
-pub returns-then-t-ne-STRUCT : goal.returns-then-t-ne-STRUCT
-returns-then-t-ne-STRUCT c =
+pub returns-then-t : goal.returns-then-t
+returns-then-t c =
     let a = c.args in
     let t = c.type_row-t in
-    ap number_in (entry-type a.shown.now a.schema.now a.ty a.payload.now a.sheet.now t.result t.ensures c.requires c.if-t-ne-STRUCT.true)
+    ap number_in (entry-type a.shown.now a.schema.now.bytes.now a.ty a.payload.now a.sheet.now t.result t.ensures a.schema.now.good c.if-t.true)
 
 pub returns-then-payload-gt-PAYLOAD : goal.returns-then-payload-gt-PAYLOAD
 returns-then-payload-gt-PAYLOAD c =
     let a = c.args in
     let t = c.type_row-t in
-    ap number_in (entry-long a.shown.now a.schema.now a.ty a.payload.now a.sheet.now t.result t.ensures c.if-t-ne-STRUCT.false c.if-payload-gt-PAYLOAD.true)
+    ap number_in (entry-long a.shown.now a.schema.now.bytes.now a.ty a.payload.now a.sheet.now t.result t.ensures c.if-t.false c.if-payload-gt-PAYLOAD.true)
 
 pub root-requires : goal.root-requires
 root-requires c =
-    let good = c.requires in
+    let good = c.args.schema.now.good in
     let a = c.args in
     let t = c.type_row-t in
-    let kind = c.if-t-ne-STRUCT.false in
-    let row = struct_row a.schema.now good a.ty _ t.ensures kind in record {
+    let kind = c.if-t.false in
+    let row = struct_row a.schema.now.bytes.now good a.ty _ t.ensures kind in record {
       ready = record {
         good = good;
         small = c.if-payload-gt-PAYLOAD.false;
@@ -35,27 +36,27 @@ root-requires c =
         behind = omega arith;
         judged = λ j. absurd (false≢true (sym j));
       };
-      ty_value = (shape-struct (table_of a.schema.now) a.ty _ t.ensures kind, row.0, row.1, row.2);
+      ty_value = (shape-struct (table_of a.schema.now.bytes.now) a.ty _ t.ensures kind, row.0, row.1, row.2);
     }
 
-pub returns-then-row-sheet : goal.returns-then-row-sheet
-returns-then-row-sheet c =
+pub returns-then-past-sheet : goal.returns-then-past-sheet
+returns-then-past-sheet c =
     let a = c.args in
     let t = c.type_row-t in
-    entry-fits a.shown.now a.schema.now a.ty a.payload.now a.sheet.now t.result t.ensures c.if-t-ne-STRUCT.false c.if-payload-gt-PAYLOAD.false
-    _ _ _ _ _ (was c.root.ensures c.in-Past.is) c.if-row-sheet.true
+    entry-fits a.shown.now a.schema.now.bytes.now a.ty a.payload.now a.sheet.now t.result t.ensures c.if-t.false c.if-payload-gt-PAYLOAD.false
+    _ _ _ _ _ (was c.root.ensures (ap told_walk c.in-Ok.is)) c.if-past-sheet.true
 
-pub returns-in-Refused : goal.returns-in-Refused
-returns-in-Refused c =
+pub returns-in-Err : goal.returns-in-Err
+returns-in-Err c =
     let a = c.args in
     let t = c.type_row-t in
     ap number_in
-    (entry-refused a.shown.now a.schema.now a.ty a.payload.now a.sheet.now t.result t.ensures c.if-t-ne-STRUCT.false c.if-payload-gt-PAYLOAD.false
-    _ _ _ _ (was c.root.ensures c.in-Refused.is))
+    (entry-refused a.shown.now a.schema.now.bytes.now a.ty a.payload.now a.sheet.now t.result t.ensures c.if-t.false c.if-payload-gt-PAYLOAD.false
+    _ _ _ _ (was c.root.ensures (ap told_walk c.in-Err.is)))
 
-pub returns-else-row-sheet : goal.returns-else-row-sheet
-returns-else-row-sheet c =
+pub returns-else-past-sheet : goal.returns-else-past-sheet
+returns-else-past-sheet c =
     let a = c.args in
     let t = c.type_row-t in
-    entry-short a.shown.now a.schema.now a.ty a.payload.now a.sheet.now t.result t.ensures c.if-t-ne-STRUCT.false c.if-payload-gt-PAYLOAD.false
-    _ _ _ _ _ (was c.root.ensures c.in-Past.is) c.if-row-sheet.false
+    entry-short a.shown.now a.schema.now.bytes.now a.ty a.payload.now a.sheet.now t.result t.ensures c.if-t.false c.if-payload-gt-PAYLOAD.false
+    _ _ _ _ _ (was c.root.ensures (ap told_walk c.in-Ok.is)) c.if-past-sheet.false

@@ -4,10 +4,7 @@ use lib.ListN.{get_or-replicate}
 use Rattle.reader.proofs.Besides.{shown-all}
 use Rattle.reader.proofs.read_payload.Goals as goal
 
-pub read_shown-requires : goal.read_shown-requires
-read_shown-requires c = c.requires
-
 pub returns : goal.returns
 returns c =
     let args = c.args in
-    c.read_shown.ensures ∙ shown-all args.schema.now c.requires args.ty args.payload.now args.sheet.now _ (λ t l. get_or-replicate 256 t 64 0 l)
+    c.read_shown.ensures ∙ shown-all args.schema.now.bytes.now args.schema.now.good args.ty args.payload.now args.sheet.now _ (λ t l. get_or-replicate 256 t 64 0 l)

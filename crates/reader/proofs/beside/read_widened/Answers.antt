@@ -1,29 +1,20 @@
 -- `reader::beside::read_widened` meets its contract.
-use mathlib.Core.Path.{◌∙◌}
+use mathlib.Core.Path.{ap, ◌∙◌}
+use Rattle.reader.specs.Told.{told}
 use Rattle.reader.proofs.Besides.{beside-type, beside-shown}
 use Rattle.reader.proofs.beside.read_widened.Goals as goal
 
-pub type_row-t-requires : goal.type_row-t-requires
-type_row-t-requires c = c.requires.0
-
-pub returns-then-t-ne-STRUCT : goal.returns-then-t-ne-STRUCT
-returns-then-t-ne-STRUCT c =
-    let args = c.args in
-    let asked = c.requires in
-    let t = c.type_row-t in
-    beside-type args.ours.now args.theirs.now asked.0 asked.1 args.ty args.payload.now args.sheet.now t.result t.ensures c.if-t-ne-STRUCT.true
-
-pub known_fields-shown-requires : goal.known_fields-shown-requires
-known_fields-shown-requires c = c.requires.0
-
-pub read_shown-requires : goal.read_shown-requires
-read_shown-requires c = c.requires.1
+pub returns-then-type_row : goal.returns-then-type_row
+returns-then-type_row c =
+    let a = c.args in
+    let t = c.type_row in
+    rw c.at.ensures
+    (beside-type a.ours.now.bytes.now a.theirs.now.bytes.now a.ours.now.good a.theirs.now.good a.ty a.payload.now a.sheet.now t.result t.ensures c.if-type_row.true)
 
 pub returns : goal.returns
 returns c =
-    let args = c.args in
-    let asked = c.requires in
-    let t = c.type_row-t in
+    let a = c.args in
+    let t = c.type_row in
     c.read_shown.ensures
-    ∙ beside-shown args.ours.now args.theirs.now asked.0 asked.1 args.ty args.payload.now args.sheet.now t.result t.ensures
-    c.if-t-ne-STRUCT.false asked.2 _ c.known_fields-shown.ensures
+    ∙ beside-shown a.ours.now.bytes.now a.theirs.now.bytes.now a.ours.now.good a.theirs.now.good a.ty a.payload.now a.sheet.now t.result t.ensures
+    c.if-type_row.false c.requires _ c.known_fields-shown.ensures

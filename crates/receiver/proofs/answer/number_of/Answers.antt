@@ -1,6 +1,6 @@
 -- `receiver::answer::number_of` meets its contract: each case of the answer is the one that was met.
 use mathlib.Core.Path.{sym, ap}
-use Rattle.reader.specs.declared.Reading.{Reading}
+use Rattle.reader.specs.Reading.{Reading}
 use Rattle.reader.specs.Entry.{numbers}
 use Rattle.receiver.proofs.answer.number_of.Goals as goal
 
