@@ -34,8 +34,8 @@ use Rattle.index.specs.declared.Finding.TheVariants as find
 use Rattle.index.specs.Index as making
 use Rattle.index.specs.LookUp as look
 use Rattle.index.proofs.Statements.{refused-above as index-above, verdict-known}
-use Rattle.salvage.specs.declared.Salvaging.{Salvaging}
-use Rattle.salvage.specs.declared.Salvaging.TheVariants as salvage
+use Rattle.salvage.specs.Salvaging.{Salvaging}
+use Rattle.salvage.specs.Salvaging as salvage
 use Rattle.salvage.specs.Salvage as salvaging
 use Rattle.salvage.proofs.Statements.{refused-bounds}
 use Rattle.calls.specs.declared.Call.{Call}

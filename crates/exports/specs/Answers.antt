@@ -23,7 +23,7 @@ use Rattle.index.specs.declared.Indexing.{Indexing}
 use Rattle.index.specs.declared.Finding.{Finding}
 use Rattle.index.specs.Index.{index_place, index_length}
 use Rattle.index.specs.LookUp.{find_length}
-use Rattle.salvage.specs.declared.Salvaging.{Salvaging}
+use Rattle.salvage.specs.Salvaging.{Salvaging}
 use Rattle.salvage.specs.Salvage.{salvage_entries, salvage_bytes, salvage_spans}
 use Rattle.calls.specs.declared.Call.{Call}
 use Rattle.calls.specs.declared.Tally.{Tally}

@@ -17,8 +17,8 @@ use Rattle.index.specs.declared.Indexing.{Indexing}
 use Rattle.index.specs.declared.Indexing.TheVariants as index
 use Rattle.index.specs.declared.Finding.{Finding}
 use Rattle.index.specs.declared.Finding.TheVariants as find
-use Rattle.salvage.specs.declared.Salvaging.{Salvaging}
-use Rattle.salvage.specs.declared.Salvaging.TheVariants as salvage
+use Rattle.salvage.specs.Salvaging.{Salvaging}
+use Rattle.salvage.specs.Salvaging as salvage
 use Rattle.receiver.specs.declared.Received.{Received}
 use Rattle.receiver.specs.declared.Released.{Released}
 use Rattle.cells.specs.Records.{calls_of}

@@ -20,7 +20,7 @@ use Rattle.frame.proofs.Theorems.{frame-read, starts}
 use Rattle.frame.proofs.Frames.{frame-reads}
 use Rattle.record.specs.IsEntry.{Side, client, server, entry as made_of, Entries, no_more, one_more}
 use Rattle.record.proofs.Entries.{frame-least}
-use Rattle.salvage.specs.declared.Salvaging.TheVariants.{Salvaged}
+use Rattle.salvage.specs.Salvaging.{Salvaged}
 use Rattle.salvage.specs.Pieces.{pieces_of, entries_in, copy_of}
 use Rattle.salvage.specs.Salvage.{outcome, salvage_of}
 use Rattle.salvage.proofs.Covers.{covered, one-cover}

@@ -7,7 +7,7 @@ use lib.ListN.{length, get_or, drop, length-append}
 use lib.Seq.{drop-append-add}
 use Rattle.record.specs.IsEntry.{NoEntry}
 use Rattle.record.proofs.Entries.{entry-least}
-use Rattle.salvage.specs.declared.Salvaging.TheVariants.{Salvaged}
+use Rattle.salvage.specs.Salvaging.{Salvaged}
 use Rattle.salvage.specs.Pieces.{Piece, spans_of}
 use Rattle.salvage.specs.Salvage.{outcome, salvage_of}
 use Rattle.salvage.specs.Cover.{NoSpan, Cover, end, entry, span, ListedSpan}

@@ -7,7 +7,7 @@ use Rattle.wire.specs.Little as little
 use Rattle.wire.specs.Varuint as varuint
 use Rattle.frame.specs.Frame as frame
 use Rattle.record.specs.Entry.{entry_length}
-use Rattle.salvage.specs.declared.Salvaging.TheVariants.{Salvaged, Refused}
+use Rattle.salvage.specs.Salvaging.{Salvaged, Refused}
 use Rattle.salvage.specs.Pieces.{keep, skip, span_length, first_piece, pieces, pieces_of, entries_in, copy_of, span_count, spans_of}
 use Rattle.salvage.specs.Salvage.{outcome, done, salvage_of}
 

@@ -8,3 +8,4 @@ pub mod Rooms
 pub mod Examples
 pub mod Cells
 pub mod Numbers
+pub mod Told

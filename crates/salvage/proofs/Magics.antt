@@ -1,12 +1,12 @@
 -- Where no magic stands one byte after a place, no entry starts there.
-use mathlib.Core.Path.{◌≡◌, refl, sym, ap, subst, ◌∙◌}
+use mathlib.Core.Path.{◌≡◌, refl, sym, subst, ◌∙◌}
 use mathlib.Core.Bool.{Bool, true, false, not, ◌||◌}
 use mathlib.Core.List.{List, ◌++◌}
-use Prim.Native.Nat.{ℕ, zero, suc, ◌+◌, ◌-◌, ◌≤◌, ◌<◌, min}
+use Prim.Native.Nat.{ℕ, zero, suc, ◌+◌, ◌≤◌, ◌<◌, min}
 use native.Mathlib.Omega.{arith}
 use borrow.Author.Tests.{not-true, not-false, eq-eqb, eqb-true, eqb-false}
 use lib.Dec.{eqb}
-use lib.ListN.{length, take, drop}
+use lib.ListN.{length, drop}
 use lib.Seq.{get_or-drop}
 use Rattle.wire.proofs.Cases.{differ}
 use Rattle.schema.proofs.Bools.{or-false}
@@ -16,7 +16,7 @@ use Rattle.record.specs.IsEntry.{IsEntry, entry}
 use Rattle.record.proofs.Entries.{entry-there}
 use Rattle.salvage.specs.Pieces.{span_length, magic_after, magic_among}
 use Rattle.salvage.proofs.Splits.{by-entry}
-use Rattle.salvage.proofs.Turns.{rest_of, place-passed, place_found}
+use Rattle.salvage.proofs.Turns.{place-passed, place_found}
 
 -- an entry has the magic after its side byte
 entry-magic : {e : List ℕ} → IsEntry e → (rest : List ℕ) → magic_after (e ++ rest) 0 ≡ true
@@ -42,9 +42,6 @@ module _ (s : List ℕ) (at : ℕ) where
   pub no_start : (b : Bool) → b ≡ magic_after s at → b ≡ false → false ≡ not (eqb (entry_length (drop at s)) 0)
   no_start b is h = rw (eq-eqb (entry_length (drop at s)) 0 (none-starts s at (sym is ∙ h)))
 
-  pub by_length : (n : ℕ) → n ≡ entry_length (take (length s - at) (drop at s)) → not (eqb n 0) ≡ not (eqb (entry_length (drop at s)) 0)
-  by_length n is = ap (λ (k : ℕ). not (eqb k 0)) (is ∙ ap entry_length (rest_of s at))
-
   -- what the answer tells
   module _ (far : ℕ) (sofar : at + span_length (drop at s) ≡ far) (b : Bool) (is : b ≡ not (eqb (entry_length (drop at s)) 0)) where
     pub start-found : b ≡ true → at ≡ far
@@ -62,9 +59,6 @@ among_first s at = refl
 pub among-step : (s : List ℕ) (at i : ℕ) (found : Bool) → found ≡ magic_among s at i → (b : Bool) → b ≡ magic_after s (at + i) → (found || b) ≡ magic_among s at (i + 1)
 unfolding magic_among
 among-step s at i found e b q = let next : i + 1 ≡ suc i = omega arith in rw (next, e, q)
-
-pub among-end : (s : List ℕ) (at i n : ℕ) → i ≤ n → n ≤ i → magic_among s at i ≡ magic_among s at n
-among-end s at i n l h = let e : i ≡ n = omega arith in rw e
 
 -- none starts at any of them
 none-among : (s : List ℕ) (at n far : ℕ) → magic_among s at n ≡ false → at + n ≤ length s → at + span_length (drop at s) ≡ far → (at + n) + span_length (drop (at + n) s) ≡ far

@@ -4,8 +4,8 @@ use mathlib.Core.Logic.{◌↔◌}
 use mathlib.Core.List.{List}
 use Prim.Native.Nat.{ℕ, ◌<◌}
 use native.Mathlib.Omega.{arith}
-use Rattle.salvage.specs.declared.Salvaging.{Salvaging}
-use Rattle.salvage.specs.declared.Salvaging.TheVariants.{Salvaged, Refused}
+use Rattle.salvage.specs.Salvaging.{Salvaging}
+use Rattle.salvage.specs.Salvaging.{Salvaged, Refused}
 use Rattle.salvage.specs.Salvage.{Outcome, outcome, salvage_of, salvage_number, salvage_entries, salvage_bytes, salvage_spans}
 use Rattle.salvage.specs.Cover.{Accepted, Refuses}
 use Rattle.salvage.proofs.Statements.{salvaged_iff, refused-iff, refused-bounds}

@@ -5,8 +5,8 @@ use Prim.Native.Nat.{ℕ, ◌+◌, ◌*◌, ◌≤◌, ◌<◌}
 use native.Mathlib.Omega.{arith}
 use borrow.Author.Tests.{lt-ltb, le-ltb}
 use lib.ListN.{length, length-append}
-use Rattle.salvage.specs.declared.Measure.{Measure}
-use Rattle.salvage.specs.declared.Salvaging.TheVariants.{Salvaged, Refused}
+use Rattle.salvage.specs.declared.Salvaged.{Salvaged as Measure}
+use Rattle.salvage.specs.Salvaging.{Salvaged, Refused}
 use Rattle.salvage.specs.Pieces.{Piece, keep, skip, pieces_of, copy_of, span_count, spans_of}
 use Rattle.salvage.specs.Salvage.{outcome, filled, done, salvage_of, measure_of}
 use Rattle.salvage.specs.Cover.{Cover, end, entry, span}

@@ -9,8 +9,8 @@ use borrow.Author.Tests.{lt-ltb, le-ltb, ltb-true, ltb-false, leb-true}
 use lib.Dec.{ltb, leb}
 use lib.ListN.{length}
 use Rattle.schema.proofs.Bools.{and_left, and_right}
-use Rattle.salvage.specs.declared.Measure.{Measure}
-use Rattle.salvage.specs.declared.Salvaging.TheVariants.{Refused}
+use Rattle.salvage.specs.declared.Salvaged.{Salvaged as Measure}
+use Rattle.salvage.specs.Salvaging.{Refused}
 use Rattle.salvage.specs.Pieces.{Piece, pieces_of, copy_of, spans_of}
 use Rattle.salvage.specs.Salvage.{outcome, salvage_of, measure_of, most_cells, room_for_any, room_fault}
 use Rattle.salvage.proofs.Covers.{covered}

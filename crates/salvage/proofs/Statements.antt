@@ -10,7 +10,7 @@ use lib.Seq.{take_at}
 use Rattle.wire.proofs.Cases.{differ}
 use Rattle.record.specs.IsEntry.{Entries, no_more, one_more}
 use Rattle.record.proofs.Entries.{entry-least}
-use Rattle.salvage.specs.declared.Salvaging.TheVariants.{Salvaged, Refused}
+use Rattle.salvage.specs.Salvaging.{Salvaged, Refused}
 use Rattle.salvage.specs.Pieces.{Piece, keep, skip, pieces_of, bytes_of, entries_in, copy_of, span_count, spans_of}
 use Rattle.salvage.specs.Salvage.{Outcome, outcome, filled, done, salvage_of}
 use Rattle.salvage.specs.Cover.{NoSpan, Cover, end, entry, span, Accepted, Refuses, too_long, copy-small, list-small}

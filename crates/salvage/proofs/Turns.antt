@@ -2,14 +2,15 @@
 use mathlib.Core.Path.{◌≡◌, refl, sym, ap, ◌∙◌}
 use mathlib.Core.Bool.{Bool, true, false}
 use mathlib.Core.List.{List, [], ◌∷◌, ◌++◌}
-use Prim.Native.Nat.{ℕ, suc, ◌+◌, ◌-◌, ◌≤◌, ◌<◌}
+use Prim.Native.Nat.{ℕ, zero, suc, ◌+◌, ◌-◌, ◌≤◌, ◌<◌}
 use native.Mathlib.Omega.{arith}
 use lib.ListN.{length, take, drop, get_or, length-append, length-drop, drop_of_length-le}
 use lib.Seq.{take_all, drop-cons, drop-drop, length-take-le, sets, length-sets, sets-eq}
 use Rattle.buffer.specs.Store.{written}
 use Rattle.buffer.proofs.Stores.{sets-written, sets-append}
 use Rattle.wire.proofs.Cases.{differ}
-use Rattle.record.specs.Entry.{entry_length}
+use Rattle.std.specs.Prelude.{Option, Some, None, is_some}
+use Rattle.record.specs.Entry.{entry_length, answered}
 use Rattle.record.proofs.Entries.{entry-inside}
 use Rattle.salvage.specs.Pieces.{Piece, keep, skip, bytes_in, is_kept, span_length, first_piece, pieces_of, entries_in, copy_of, span_count, spans_of}
 use Rattle.salvage.specs.Salvage.{filled, measure_of}
@@ -18,6 +19,26 @@ use Rattle.salvage.proofs.Splits.{forward-step, forward-stop, forward-end, forwa
 -- the bytes from a place on
 pub rest_of : (s : List ℕ) (i : ℕ) → take (length s - i) (drop i s) ≡ drop i s
 rest_of s i = take_all (length s - i) (drop i s) (omega (arith, length-drop i s))
+
+-- ---- what the answer to whether an entry starts tells of its length
+
+no_answer : (n : ℕ) → is_some (answered n) ≡ false → n ≡ 0
+no_answer zero e = refl
+no_answer (suc n) e = differ cc
+
+an-answer : (n : ℕ) → is_some (answered n) ≡ true → n ≡ 0 → ⊥
+an-answer zero e z = differ cc
+an-answer (suc n) e z = absurd (omega (arith, z))
+
+none-is : (n : ℕ) → None ≡ answered n → n ≡ 0
+none-is n e = no_answer n (ap is_some (sym e))
+
+some-is : (n k : ℕ) → Some k ≡ answered n → (k ≡ n) × (n ≡ 0 → ⊥)
+some-is n k e = (value n e, an-answer n (ap is_some (sym e)))
+  where
+    value : (n : ℕ) → Some k ≡ answered n → k ≡ n
+    value zero e = cc
+    value (suc n) e = cc
 
 -- ---- forward
 
@@ -37,16 +58,16 @@ module _ (s : List ℕ) (i far : ℕ) (sofar : i + span_length (drop i s) ≡ fa
   pub forward-over : length s ≤ i → i ≡ far
   forward-over h = omega (arith, ap span_length (drop_of_length-le s h) ∙ forward-end, sofar)
 
-  -- by the length of the entry there
-  module _ (n : ℕ) (is : n ≡ entry_length (take (length s - i) (drop i s))) where
-    here : n ≡ entry_length (drop i s)
-    here = is ∙ ap entry_length (rest_of s i)
+  -- by the answer whether an entry starts there
+  module _ (r : Option ℕ) (is : r ≡ answered (entry_length (take (length s - i) (drop i s)))) where
+    here : r ≡ answered (entry_length (drop i s))
+    here = is ∙ ap (λ (l : List ℕ). answered (entry_length l)) (rest_of s i)
 
-    pub forward-on : i < length s → n ≡ 0 → (i + 1) + span_length (drop (i + 1) s) ≡ far
-    forward-on h z = place-passed h (sym here ∙ z)
+    pub forward-on : i < length s → is_some r ≡ false → (i + 1) + span_length (drop (i + 1) s) ≡ far
+    forward-on h e = place-passed h (no_answer (entry_length (drop i s)) (rw here at e))
 
-    pub forward-found : (n ≡ 0 → ⊥) → i ≡ far
-    forward-found z = place_found (λ e. z (here ∙ e))
+    pub forward-found : is_some r ≡ true → i ≡ far
+    forward-found e = place_found (an-answer (entry_length (drop i s)) (rw here at e))
 
   -- past so many places at once
   pub forward-past : (n : ℕ) → n ≤ span_length (drop i s) → (i + n) + span_length (drop (i + n) s) ≡ far
@@ -58,14 +79,15 @@ module _ (s : List ℕ) (i far : ℕ) (sofar : i + span_length (drop i s) ≡ fa
 -- ---- the first piece
 
 module _ (s : List ℕ) where
-  pub piece-skipped : (n : ℕ) → n ≡ entry_length s → n ≡ 0 → (m : ℕ) → m ≡ span_length s
+  pub piece-skipped : None ≡ answered (entry_length s) → (m : ℕ) → m ≡ span_length s
       → (false ≡ is_kept (first_piece s)) × (m ≡ length (bytes_in (first_piece s)))
-  piece-skipped n is z m far =
-      rw (first-skip s (sym is ∙ z)) (refl, far ∙ sym (length-take-le (span_length s) s (forward-inside s)))
+  piece-skipped e m far =
+      rw (first-skip s (none-is (entry_length s) e)) (refl, far ∙ sym (length-take-le (span_length s) s (forward-inside s)))
 
-  pub piece-kept : (n : ℕ) → n ≡ entry_length s → (n ≡ 0 → ⊥) → (true ≡ is_kept (first_piece s)) × (n ≡ length (bytes_in (first_piece s)))
-  piece-kept n is z =
-      rw (first-keep s (λ e. z (is ∙ e))) (refl, is ∙ sym (length-take-le (entry_length s) s (entry-inside s)))
+  pub piece-kept : (n : ℕ) → Some n ≡ answered (entry_length s) → (true ≡ is_kept (first_piece s)) × (n ≡ length (bytes_in (first_piece s)))
+  piece-kept n e =
+      let k = some-is (entry_length s) n e in
+      rw (first-keep s k.1) (refl, k.0 ∙ sym (length-take-le (entry_length s) s (entry-inside s)))
 
 as_kept : (p : Piece) → is_kept p ≡ true → p ≡ keep (bytes_in p)
 as_kept (keep e) h = refl

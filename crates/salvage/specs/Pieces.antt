@@ -1,4 +1,4 @@
--- The pieces of a torn record, in order: entries that are kept, and between them the spans (02's term) that are left out. From the first place where no entry
+-- The pieces of a torn record, in order: entries that are kept, and between them the spans (docs/FORMAT.md, "Salvage") that are left out. From the first place where no entry
 -- starts it goes forward to the next place where one does.
 use Rattle.std.specs.Prelude.{ℕ, zero, suc, ◌+◌, Bool, true, false, cond, ◌&&◌, ◌||◌, List, [], ◌∷◌, ◌++◌, eqb, length, get_or, take, drop}
 use Rattle.record.specs.Entry.{entry_length}

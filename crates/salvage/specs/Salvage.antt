@@ -1,8 +1,8 @@
 -- What a salvage answers and leaves in the lent buffers: 45, 52 for the copy, 53 for the list, in this order; a refusal leaves both as they were.
 use Rattle.std.specs.Prelude.{ℕ, ◌+◌, ◌*◌, ◌/◌, Bool, cond, ◌&&◌, List, ◌++◌, leb, ltb, length, drop}
-use Rattle.salvage.specs.declared.Measure.{Measure}
-use Rattle.salvage.specs.declared.Salvaging.{Salvaging}
-use Rattle.salvage.specs.declared.Salvaging.TheVariants.{Salvaged, Refused}
+use Rattle.salvage.specs.declared.Salvaged as taken
+use Rattle.salvage.specs.Salvaging.{Salvaging}
+use Rattle.salvage.specs.Salvaging.{Salvaged, Refused}
 use Rattle.salvage.specs.Pieces.{Piece, pieces_of, entries_in, copy_of, span_count, spans_of}
 
 -- An answer, with the copy and the list as they are left.
@@ -53,7 +53,7 @@ salvage_spans (Refused number) = 0
 
 -- ---- for the code: the pieces counted, and the room for them
 
-abbrev pub measure_of : List Piece → Measure
+abbrev pub measure_of : List Piece → taken.Salvaged
 measure_of ps = record { entries = length (entries_in ps); bytes = length (copy_of ps); spans = span_count ps }
 
 -- The most cells that are listed of so many bytes: two for each 28, a span of one byte and an entry of 27, where the last entry may be missing.

@@ -6,60 +6,51 @@ mod pieces;
 ghost use Rattle.std.specs.Prelude.{◌≡◌, [], ◌∷◌, ◌+◌, ◌≤◌, length};
 ghost use Rattle.std.proofs.lemmas.List.Edits.{sets};
 ghost use Rattle.salvage.specs.Pieces.{pieces_of, copy_of, spans_of};
+ghost use Rattle.salvage.specs.Told.{told, told_fault};
 ghost use Rattle.salvage.specs.Salvage.{measure_of, filled, outcome, room_for_any, room_fault, salvage_of};
 
-use crate::pieces::first_piece;
-use constants::{limit, refusal};
+use crate::pieces::{Piece, first_piece};
+use constants::limit;
+use constants::refusal::Refusal;
 
 // Cells of a listed span: its place and its length.
 pub const SPAN_CELLS: usize = 2;
 
-#[derive(Clone, Copy)]
-pub enum Salvaging {
-    // Entries kept, bytes copied, and spans listed.
-    Salvaged {
-        entries: usize,
-        bytes: usize,
-        spans: usize,
-    },
-    // A refusal's number: 45, 52 or 53.
-    Refused {
-        number: u32,
-    },
+// What a salvage takes: entries kept, bytes copied, and spans listed.
+#[derive(Clone, Copy, Debug, PartialEq, Eq)]
+pub struct Salvaged {
+    pub entries: usize,
+    pub bytes: usize,
+    pub spans: usize,
 }
 
-// What a salvage takes: entries, their bytes, and spans.
-#[derive(Clone, Copy)]
-struct Measure {
-    entries: usize,
-    bytes: usize,
-    spans: usize,
-}
+const NOTHING: Salvaged = Salvaged {
+    entries: 0,
+    bytes: 0,
+    spans: 0,
+};
 
-// The pieces of a record, counted.
-fn count(torn: &[u8]) -> Measure
+// The pieces of a record, counted. A `while`: the length of a piece is what was read of it.
+fn count(torn: &[u8]) -> Salvaged
     requires { length torn.now ≤ 65536 }
     ensures { result ≡ measure_of (pieces_of torn.now) }
 {
-    let mut entries: usize = 0;
-    let mut bytes = 0;
-    let mut spans: usize = 0;
+    let mut m = NOTHING;
     let mut at = 0;
     while at < torn.len() {
-        let piece = first_piece(&torn[at..]);
-        if piece.kept {
-            entries += 1;
-            bytes += piece.length;
-        } else {
-            spans += 1;
+        match first_piece(&torn[at..]) {
+            Piece::Entry(n) => {
+                m.entries += 1;
+                m.bytes += n;
+                at += n;
+            }
+            Piece::Span(n) => {
+                m.spans += 1;
+                at += n;
+            }
         }
-        at += piece.length;
     }
-    Measure {
-        entries,
-        bytes,
-        spans,
-    }
+    m
 }
 
 // Stores a span into the list, its place and its length.
@@ -71,35 +62,31 @@ fn put_span(spans: &mut [u32], row: usize, place: usize, size: usize)
     spans[row + 1] = size as u32;
 }
 
-// The pieces of a record, copied, listed and counted.
-fn put_pieces(torn: &[u8], copy: &mut [u8], spans: &mut [u32]) -> Measure
+// The pieces of a record, copied, listed and counted. A `while`, likewise.
+fn put_pieces(torn: &[u8], copy: &mut [u8], spans: &mut [u32]) -> Salvaged
     requires { (length torn.now ≤ 65536) × (length (copy_of (pieces_of torn.now)) ≤ length copy.old) × (length (spans_of 0 (pieces_of torn.now)) ≤ length spans.old) }
     ensures value { result ≡ measure_of (pieces_of torn.now) }
     ensures copy_after { copy.new ≡ filled copy.old (copy_of (pieces_of torn.now)) }
     ensures spans_after { spans.new ≡ filled spans.old (spans_of 0 (pieces_of torn.now)) }
 {
-    let mut entries: usize = 0;
-    let mut pos = 0;
-    let mut listed: usize = 0;
+    let mut m = NOTHING;
     let mut at = 0;
     while at < torn.len() {
-        let piece = first_piece(&torn[at..]);
-        let next = at + piece.length;
-        if piece.kept {
-            buffer::copy(copy, pos, &torn[at..next]);
-            pos += piece.length;
-            entries += 1;
-        } else {
-            put_span(spans, SPAN_CELLS * listed, at, piece.length);
-            listed += 1;
+        match first_piece(&torn[at..]) {
+            Piece::Entry(n) => {
+                buffer::copy(copy, m.bytes, &torn[at..at + n]);
+                m.bytes += n;
+                m.entries += 1;
+                at += n;
+            }
+            Piece::Span(n) => {
+                put_span(spans, SPAN_CELLS * m.spans, at, n);
+                m.spans += 1;
+                at += n;
+            }
         }
-        at = next;
     }
-    Measure {
-        entries,
-        bytes: pos,
-        spans: listed,
-    }
+    m
 }
 
 // The bytes of the shortest entry, and of a span before it.
@@ -115,42 +102,32 @@ fn has_room(torn: usize, copy: usize, spans: usize) -> bool
     (torn <= copy) & ((torn + ENTRY) / SPAN_AND_ENTRY * SPAN_CELLS <= spans)
 }
 
-// What a copy and a list of these lengths are refused for, 52 or 53, or 0 where both have room. Nothing is counted where every record has room.
-fn room_fault(torn: &[u8], copy: usize, spans: usize) -> u32
+// Whether a copy and a list of these lengths have room, or are refused (52, 53). Nothing is counted where every record has room.
+fn room_fault(torn: &[u8], copy: usize, spans: usize) -> Result<(), Refusal>
     requires { length torn.now ≤ 65536 }
-    ensures { result ≡ room_fault (pieces_of torn.now) copy spans }
+    ensures { told_fault result ≡ room_fault (pieces_of torn.now) copy spans }
 {
     if has_room(torn.len(), copy, spans) {
-        return refusal::ACCEPTED;
+        return Ok(());
     }
     let m = count(torn);
     if copy < m.bytes {
-        return refusal::OUTPUT_TOO_SHORT;
+        return Err(Refusal::OutputTooShort);
     }
     if spans < SPAN_CELLS * m.spans {
-        return refusal::LIST_TOO_SHORT;
+        return Err(Refusal::ListTooShort);
     }
-    refusal::ACCEPTED
+    Ok(())
 }
 
 // Copies every entry of a record that can be kept, and lists the spans left out, place and length of each.
 // A refusal (45, 52 for the copy, 53 for the list, in this order) leaves both as they were; what stands past the copy and the list stays in any case.
-pub fn salvage(torn: &[u8], copy: &mut [u8], spans: &mut [u32]) -> Salvaging
-    ensures { outcome result copy.new spans.new ≡ salvage_of torn.now copy.old spans.old }
+pub fn salvage(torn: &[u8], copy: &mut [u8], spans: &mut [u32]) -> Result<Salvaged, Refusal>
+    ensures { outcome (told result) copy.new spans.new ≡ salvage_of torn.now copy.old spans.old }
 {
     if limit::FILE < torn.len() {
-        return Salvaging::Refused {
-            number: refusal::FILE_TOO_LONG,
-        };
+        return Err(Refusal::FileTooLong);
     }
-    let number = room_fault(torn, copy.len(), spans.len());
-    if number != refusal::ACCEPTED {
-        return Salvaging::Refused { number };
-    }
-    let m = put_pieces(torn, copy, spans);
-    Salvaging::Salvaged {
-        entries: m.entries,
-        bytes: m.bytes,
-        spans: m.spans,
-    }
+    room_fault(torn, copy.len(), spans.len())?;
+    Ok(put_pieces(torn, copy, spans))
 }

@@ -1,6 +1,7 @@
 // The first piece of what is left of a record.
 ghost use Rattle.std.specs.Prelude.{◌≡◌, not, ◌+◌, ◌≤◌, min, eqb, length, drop};
 ghost use Rattle.record.specs.Entry.{entry_length};
+ghost use Rattle.salvage.specs.Told.{is_entry, size_of};
 ghost use Rattle.salvage.specs.Pieces.{span_length, first_piece, is_kept, bytes_in, magic_after, magic_among};
 
 use constants::format;
@@ -17,11 +18,11 @@ const BLOCK: usize = 32;
 
 const BLOCK_BYTES: usize = BLOCK + MAGIC_2_AT;
 
-// An entry that is kept, or a span that is left out.
-#[derive(Clone, Copy)]
-pub struct Piece {
-    pub kept: bool,
-    pub length: usize,
+// An entry that is kept, or a span that is left out, and its length.
+#[derive(Clone, Copy, Debug, PartialEq, Eq)]
+pub enum Piece {
+    Entry(usize),
+    Span(usize),
 }
 
 // Whether a frame's magic stands one byte after a place.
@@ -38,10 +39,8 @@ fn has_magics(bytes: &[u8], at: usize) -> bool
     ensures { result ≡ magic_among bytes.now at 32 }
 {
     let mut found = false;
-    let mut i: usize = 0;
-    while i < BLOCK {
+    for i in 0..BLOCK {
         found = found | has_magic(bytes, at + i);
-        i += 1;
     }
     found
 }
@@ -54,7 +53,7 @@ fn starts(bytes: &[u8], at: usize) -> bool
     if !has_magic(bytes, at) {
         return false;
     }
-    entry_length(&bytes[at..]) != 0
+    entry_length(&bytes[at..]).is_some()
 }
 
 // The first of a block's places where an entry starts, or the place after them.
@@ -65,14 +64,12 @@ fn within_block(bytes: &[u8], from: usize) -> usize
     if !has_magics(bytes, from) {
         return from + BLOCK;
     }
-    let mut i = from;
-    while i < from + BLOCK {
+    for i in from..from + BLOCK {
         if starts(bytes, i) {
             return i;
         }
-        i += 1;
     }
-    i
+    from + BLOCK
 }
 
 // From a place on, the next place where an entry starts, or the end; place after place.
@@ -80,17 +77,15 @@ fn in_rest(bytes: &[u8], from: usize) -> usize
     requires { from ≤ length bytes.now }
     ensures { result ≡ from + span_length (drop from bytes.now) }
 {
-    let mut i = from;
-    while i < bytes.len() {
-        if entry_length(&bytes[i..]) != 0 {
+    for i in from..bytes.len() {
+        if entry_length(&bytes[i..]).is_some() {
             return i;
         }
-        i += 1;
     }
-    i
+    bytes.len()
 }
 
-// How far it is forward to the next place where an entry starts, or to the end.
+// How far it is forward to the next place where an entry starts, or to the end. A `while`: a block is passed only where a whole one is left.
 fn forward(bytes: &[u8]) -> usize
     ensures { result ≡ span_length bytes.now }
 {
@@ -107,17 +102,10 @@ fn forward(bytes: &[u8]) -> usize
 
 // The entry at the front of the bytes, or the span up to the next one.
 pub fn first_piece(bytes: &[u8]) -> Piece
-    ensures { (result.kept ≡ is_kept (first_piece bytes.now)) × (result.length ≡ length (bytes_in (first_piece bytes.now))) }
+    ensures { (is_entry result ≡ is_kept (first_piece bytes.now)) × (size_of result ≡ length (bytes_in (first_piece bytes.now))) }
 {
-    let n = entry_length(bytes);
-    if n == 0 {
-        return Piece {
-            kept: false,
-            length: forward(bytes),
-        };
-    }
-    Piece {
-        kept: true,
-        length: n,
+    match entry_length(bytes) {
+        Some(n) => Piece::Entry(n),
+        None => Piece::Span(forward(bytes)),
     }
 }

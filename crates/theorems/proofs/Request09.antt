@@ -15,7 +15,7 @@ use Rattle.record.specs.IsEntry.{Starts as record-Starts, NoEntry, Entries}
 use Rattle.salvage.specs.Cover.{Cover, ListedSpan, Accepted as salvage-Accepted, Refuses as salvage-Refuses}
 use Rattle.salvage.specs.Pieces.{pieces_of, Piece, bytes_of, spans_of, skip, span_count, copy_of, keep, entries_in}
 use Rattle.salvage.specs.Salvage.{salvage_of, outcome as salvage-outcome}
-use Rattle.salvage.specs.declared.Salvaging.TheVariants.{Salvaged, Refused as salvage-Refused}
+use Rattle.salvage.specs.Salvaging.{Salvaged, Refused as salvage-Refused}
 use Rattle.calls.specs.declared.Call.{Call}
 use Rattle.calls.specs.Slots.{good_table}
 use Rattle.calls.specs.Limits.{FewIn}

@@ -2,10 +2,8 @@
 use Rattle.salvage.proofs.Turns.{piece-skipped, piece-kept}
 use Rattle.salvage.proofs.pieces.first_piece.Goals as goal
 
-pub returns-then-n-eq0 : goal.returns-then-n-eq0
-returns-then-n-eq0 c =
-    let e = c.entry_length-n in
-    piece-skipped c.args.bytes.now e.result e.ensures c.if-n-eq0.true c.forward.result c.forward.ensures
+pub returns-in-Some : goal.returns-in-Some
+returns-in-Some c = piece-kept c.args.bytes.now c.in-Some.n c.in-Some.ensures
 
-pub returns : goal.returns
-returns c = let e = c.entry_length-n in piece-kept c.args.bytes.now e.result e.ensures c.if-n-eq0.false
+pub returns-in-None : goal.returns-in-None
+returns-in-None c = piece-skipped c.args.bytes.now c.in-None.ensures c.forward.result c.forward.ensures

@@ -1,13 +1,8 @@
 -- `salvage::pieces::starts` meets its contract.
-use Rattle.salvage.proofs.Magics.{no_start, by_length}
+use Rattle.salvage.proofs.Magics.{no_start}
 use Rattle.salvage.proofs.pieces.starts.Goals as goal
 
 pub returns-then-not-has_magic : goal.returns-then-not-has_magic
 returns-then-not-has_magic c =
     let m = c.has_magic in let a = c.args in
     no_start a.bytes.now a.at m.result m.ensures c.if-not-has_magic.true
-
-pub returns : goal.returns
-returns c =
-    let a = c.args in
-    by_length a.bytes.now a.at c.entry_length.result c.entry_length.ensures

@@ -13,19 +13,11 @@ returns-then-not-has_magics c =
 pub returns-then-starts : goal.returns-then-starts
 returns-then-starts c =
     let l = c.loop-i in
-    let a = c.args in
     let r = c.starts in
-    omega (arith, start-found a.bytes.now l.i _ l.invariant.1 r.result r.ensures c.if-starts.true, l.invariant.0)
+    omega (arith, start-found c.args.bytes.now l.i _ l.invariant r.result r.ensures c.if-starts.true)
 
 pub loop-i-preserved : goal.loop-i-preserved
 loop-i-preserved c =
     let l = c.loop-i in
-    let a = c.args in
     let r = c.starts in
-    (omega arith, start-passed a.bytes.now l.i _ l.invariant.1 r.result r.ensures (omega arith) c.if-starts.false)
-
-pub loop-i-init : goal.loop-i-init
-loop-i-init c = (omega arith, omega arith)
-
-pub returns : goal.returns
-returns c = omega (arith, c.loop-i-test.false, c.loop-i.invariant)
+    start-passed c.args.bytes.now l.i _ l.invariant r.result r.ensures (omega arith) c.if-starts.false

@@ -1,12 +1,9 @@
 -- `salvage::pieces::within_block` meets its contract: what is left is as far as it is from the first place, less what was passed.
 use mathlib.Core.Path.{◌≡◌}
-use Prim.Native.Nat.{◌+◌, ◌-◌, ◌≤◌}
+use Prim.Native.Nat.{◌+◌}
 use lib.ListN.{drop}
 use Rattle.salvage.specs.Pieces.{span_length}
 use Rattle.salvage.proofs.pieces.within_block.Given as goal
 
 abbrev pub invariant-loop-i : goal.invariant-loop-i
-invariant-loop-i l = ((l.from ≤ l.i) × (l.i ≤ l.from + 32)) × (l.i + span_length (drop l.i l.bytes) ≡ l.from + span_length (drop l.from l.bytes))
-
-abbrev pub decreases-loop-i : goal.decreases-loop-i
-decreases-loop-i l = l.from + 32 - l.i
+invariant-loop-i l = (l.i + span_length (drop l.i l.bytes) ≡ l.from + span_length (drop l.from l.bytes))
