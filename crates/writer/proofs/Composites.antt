@@ -28,10 +28,11 @@ use Rattle.constants.specs.Number.{number_of}
 use Rattle.constants.specs.declared.refusal.Refused.{Refused}
 use Rattle.writer.specs.declared.leaf.RowSays.{RowSays}
 use Rattle.writer.specs.declared.leaf.Placed.{Placed}
+use Rattle.writer.specs.declared.rows.Rows.{Rows}
 use Rattle.writer.specs.declared.walk.Past.{Past}
 use Rattle.writer.specs.Emit.{cap, PutAt, emitted, Final, emit, emit_all}
 use Rattle.writer.specs.Leaf.{rows_at, due_answer, DueRow, leaf_of, LeafIn, LeafRow, head_of}
-use Rattle.writer.specs.Walk.{value_in, items_in, value_end, items_end, Walked, Ready}
+use Rattle.writer.specs.Walk.{shapes_of, value_in, items_in, value_end, items_end, Walked, Ready}
 use Rattle.writer.proofs.Leaves.{due_in, row_read}
 use Rattle.writer.proofs.Heads.{HeadRow}
 use Rattle.writer.proofs.Steps.{ahead, was, as_refused, shown-along, walk-done, done-put, emitting, branch-bytes, tip-bytes, show-refused, show_bad, show-parts, leaf-shown, leaf-refused}
@@ -145,45 +146,45 @@ module _ {S : ℕ → Shape} {B cells : List ℕ} {row t n : ℕ} {fs : List Fie
 -- ---- a loop over items: elements of an array, fields of a struct, pairs of a map
 
 -- Where it stands: the items left, from a row on, end as all of them do. What was asked of all is kept.
-pub record WritingItems (s B cells : List ℕ) (depth : ℕ) (all : List Item) (start pos₀ : ℕ) (judging : Bool) (out₀ : List ℕ) (keys : List (List ℕ)) (left : List Item) (row pos : ℕ) (out : List ℕ) : Type 0 where
-  pub asked : Ready s cells out₀ start pos₀ judging (items_in s B cells depth [] all start)
-  pub same : items_end s B cells depth keys left row pos out ≡ items_end s B cells depth [] all start pos₀ out₀
-  pub inside : row ≤ length cells / 4
+pub record WritingItems (rows : Rows) (depth : ℕ) (all : List Item) (start pos₀ : ℕ) (out₀ : List ℕ) (keys : List (List ℕ)) (left : List Item) (row pos : ℕ) (out : List ℕ) : Type 0 where
+  pub asked : Ready rows out₀ start pos₀ (items_in rows depth [] all start)
+  pub same : items_end rows depth keys left row pos out ≡ items_end rows depth [] all start pos₀ out₀
+  pub inside : row ≤ length rows.sheet.now / 4
   pub capped : pos ≤ 16385
   pub long : length out ≡ length out₀
 
-module _ {s B cells : List ℕ} {depth : ℕ} {all : List Item} {start pos₀ : ℕ} {judging : Bool} {out₀ : List ℕ} where
-  pub writing-first : Ready s cells out₀ start pos₀ judging (items_in s B cells depth [] all start) → WritingItems s B cells depth all start pos₀ judging out₀ [] all start pos₀ out₀
+module _ {rows : Rows} {depth : ℕ} {all : List Item} {start pos₀ : ℕ} {out₀ : List ℕ} where
+  pub writing-first : Ready rows out₀ start pos₀ (items_in rows depth [] all start) → WritingItems rows depth all start pos₀ out₀ [] all start pos₀ out₀
   writing-first q = record { asked = q; same = refl; inside = q.inside; capped = q.capped; long = refl }
 
-  module _ {keys : List (List ℕ)} {left : List Item} {row pos : ℕ} {out : List ℕ} (g : WritingItems s B cells depth all start pos₀ judging out₀ keys left row pos out) where
+  module _ {keys : List (List ℕ)} {left : List Item} {row pos : ℕ} {out : List ℕ} (g : WritingItems rows depth all start pos₀ out₀ keys left row pos out) where
     pub writing-small : length out ≤ 16384
     writing-small = rw g.long g.asked.small
 
-    pub writing-known : judging ≡ false → Accepted (items_in s B cells depth keys left row)
+    pub writing-known : rows.judging ≡ false → Accepted (items_in rows depth keys left row)
     writing-known j = shown-along _ _ _ _ _ _ _ _ _ g.same (g.asked.judged j)
 
     -- no item is left
-    pub writing-done : left ≡ [] → Walked cells (items_end s B cells depth [] all start pos₀ out₀) (Ok (record { row = row; pos = pos })) out
+    pub writing-done : left ≡ [] → Walked rows.sheet.now (items_end rows depth [] all start pos₀ out₀) (Ok (record { row = row; pos = pos })) out
     writing-done none = walk-done _ _ _ none g.same g.inside g.capped
 
     -- an element or a field, and those after it
     module _ {e : ℕ} {rest : List Item} (first : left ≡ plain_item e ∷ rest) where
-      pub writing-ready : Ready s cells out row pos judging (value_in s B cells depth e row)
-      writing-ready = record { good = g.asked.good; inside = g.inside; capped = g.capped; small = writing-small; judged = λ j. item-accepted _ _ first _ (writing-known j) }
+      pub writing-ready : Ready rows out row pos (value_in rows depth e row)
+      writing-ready = record { inside = g.inside; capped = g.capped; small = writing-small; judged = λ j. item-accepted _ _ first _ (writing-known j) }
 
-      module _ {r : Result Past Refused} {mid : List ℕ} (w : Walked cells (value_end s B cells depth e row pos out) r mid) where
-        pub writing-stop : {e : Refused} → r ≡ Err e → {r' : Result Past Refused} {after : List ℕ} → r' ≡ Err e → Walked cells (items_end s B cells depth [] all start pos₀ out₀) r' after
+      module _ {r : Result Past Refused} {mid : List ℕ} (w : Walked rows.sheet.now (value_end rows depth e row pos out) r mid) where
+        pub writing-stop : {e : Refused} → r ≡ Err e → {r' : Result Past Refused} {after : List ℕ} → r' ≡ Err e → Walked rows.sheet.now (items_end rows depth [] all start pos₀ out₀) r' after
         unfolding emit emit_all
-        writing-stop h h' = as_refused h' (item-stop (emitting (shape_in s)) (show (shape_in s) B depth) keys first (rows_at cells row) (emitted pos out) _ (was w h).same ∙ g.same)
+        writing-stop h h' = as_refused h' (item-stop (emitting (shapes_of rows)) (show (shapes_of rows) rows.source.now depth) keys first (rows_at rows.sheet.now row) (emitted pos out) _ (was w h).same ∙ g.same)
 
-        pub writing-on : {p : Past} → r ≡ Ok p → length mid ≡ length out → WritingItems s B cells depth all start pos₀ judging out₀ keys rest p.row p.pos mid
+        pub writing-on : {p : Past} → r ≡ Ok p → length mid ≡ length out → WritingItems rows depth all start pos₀ out₀ keys rest p.row p.pos mid
         unfolding emit emit_all
         writing-on h long =
             let v = was w h in
             record {
               asked = g.asked;
-              same = sym (item-past (emitting (shape_in s)) (show (shape_in s) B depth) keys first (rows_at cells row) (emitted pos out) writing-small v.same) ∙ g.same;
+              same = sym (item-past (emitting (shapes_of rows)) (show (shapes_of rows) rows.source.now depth) keys first (rows_at rows.sheet.now row) (emitted pos out) writing-small v.same) ∙ g.same;
               inside = v.within.0;
               capped = v.within.1;
               long = long ∙ g.long;

@@ -181,7 +181,7 @@ module _ (cells B : List ℕ) (kind t k : ℕ) (d : Result RowSays Refused) (due
           let i = due_in due e in
           record {
             same = sym (row-says ∙ sym (judged.same (rows_at cells (k + 1))) ∙ ap (said_of B w.place w.length (rows_at cells (k + 1))) f);
-            within = (i.0, i.1, i.2, h);
+            within = (i.0, i.1, i.2, h, i.3, i.4);
           }
 
       pub leaf_bad : {fault : Refused} → v ≡ Err fault → LeafRow cells B kind t k (Err fault)

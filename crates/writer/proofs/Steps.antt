@@ -23,6 +23,7 @@ use Rattle.walks.specs.Sink.{ended}
 use Rattle.walks.proofs.Items.{accepted-along, Sink}
 use Rattle.constants.specs.Number.{number_of}
 use Rattle.constants.specs.declared.refusal.Refused.{Refused}
+use Rattle.writer.specs.declared.rows.Rows.{Rows}
 use Rattle.writer.specs.declared.walk.Past.{Past}
 use Rattle.writer.specs.Emit.{cap, PutAt, Emitted, emitted, append, Final, done, stopped, emit, emit_all}
 use Rattle.writer.specs.Leaf.{rows_at, row_says}
@@ -93,11 +94,10 @@ unfolding emit_all
 shown-along S is is' o o' pos pos' l m e h = accepted-along ((emitting S).all is) ((emitting S).all is') o o' _ _ e h
 
 -- what a walker may assume of the next one
-pub onward : {A A' : Type 0} {s cells out out' : List ℕ} {row row' pos pos' : ℕ} {judging : Bool} {o : AnswerOf Row A} {o' : AnswerOf Row A'}
-    → Ready s cells out row pos judging o → row' ≤ length cells / 4 → pos' ≤ 16385 → length out' ≡ length out → (Accepted o → Accepted o')
-    → Ready s cells out' row' pos' judging o'
-onward w inside capped long held =
-    record { good = w.good; inside = inside; capped = capped; small = rw long w.small; judged = λ j. held (w.judged j) }
+pub onward : {A A' : Type 0} {rows : Rows} {out out' : List ℕ} {row row' pos pos' : ℕ} {o : AnswerOf Row A} {o' : AnswerOf Row A'}
+    → Ready rows out row pos o → row' ≤ length rows.sheet.now / 4 → pos' ≤ 16385 → length out' ≡ length out → (Accepted o → Accepted o')
+    → Ready rows out' row' pos' o'
+onward w inside capped long held = record { inside = inside; capped = capped; small = rw long w.small; judged = λ j. held (w.judged j) }
 
 pub branch-bytes : (S : ℕ → Shape) (t : ℕ) (r : Row) (h : ℕ) (ts : Forest) → encode S (value (branch r h ts)) t ≡ head_bytes (S t) h ++ encode_all S (values ts) (plan (S t) h)
 unfolding encode value

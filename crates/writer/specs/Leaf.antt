@@ -68,7 +68,7 @@ leaf_of cells B k (Ok x) = seen (plain (span B x.place x.length)) (rows_at cells
 leaf_of cells B k (Err e) = refused (number_of e.refusal) e.place
 
 abbrev pub LeafIn : (cells B : List ℕ) (k : ℕ) → Result Placed Refused → Type 0
-LeafIn cells B k (Ok x) = (k < length cells / 4) × (x.place ≡ place_at cells k) × (x.length ≡ length_at cells k) × (x.place + x.length ≤ length B)
+LeafIn cells B k (Ok x) = (k < length cells / 4) × (x.place ≡ place_at cells k) × (x.length ≡ length_at cells k) × (x.place + x.length ≤ length B) × (x.place < 4294967296) × (x.length < 4294967296)
 LeafIn cells B k (Err e) = Unit {0}
 
 pub record LeafRow (cells B : List ℕ) (kind t k : ℕ) (r : Result Placed Refused) : Type 0 where

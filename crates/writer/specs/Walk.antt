@@ -3,9 +3,8 @@ use Rattle.std.specs.Prelude.{◌≡◌, Bool, true, false, cond, List, ◌∷�
 use Rattle.parse.specs.Reader.{AnswerOf, Accepted}
 use Rattle.schema.specs.declared.Field.{Field}
 use Rattle.schema.specs.declared.TypeRow.{TypeRow}
-use Rattle.schema.specs.Table.{Shape, row_at}
+use Rattle.schema.specs.Table.{Table, Shape, row_at}
 use Rattle.schema.specs.File.{table_of}
-use Rattle.schema.specs.Check.{IsGood}
 use Rattle.value.specs.declared.Row.{Row}
 use Rattle.value.specs.Value.{Tree, Forest}
 use Rattle.value.specs.Read.{Item, walk}
@@ -15,31 +14,38 @@ use Rattle.walks.specs.Keys.{keys_in, Kept}
 use Rattle.walks.specs.Sink.{ended}
 use Rattle.constants.specs.Number.{number_of}
 use Rattle.constants.specs.declared.refusal.Refused.{Refused}
+use Rattle.writer.specs.declared.rows.Rows.{Rows}
 use Rattle.writer.specs.declared.walk.Past.{Past}
 use Rattle.writer.specs.Emit.{Final, done, stopped, emit, emit_all}
 use Rattle.writer.specs.Leaf.{rows_at}
 
--- ---- what the rows show, by the table in the file s over the bytes B, from a row of the sheet's cells on
+-- ---- what the rows show, by the table in the file over the bytes, from a row of the sheet's cells on
 
-abbrev pub value_in : (s B cells : List ℕ) (depth ty row : ℕ) → AnswerOf Row Tree
-value_in s B cells depth ty row = show (shape_in s) B depth ty (rows_at cells row)
+abbrev pub table_in : Rows → Table
+table_in rows = table_of rows.schema.bytes.now
 
-abbrev pub items_in : (s B cells : List ℕ) (depth : ℕ) → List (List ℕ) → List Item → (row : ℕ) → AnswerOf Row Forest
-items_in s B cells depth keys is row = walk (show (shape_in s) B depth) keys is (rows_at cells row)
+abbrev pub shapes_of : Rows → ℕ → Shape
+shapes_of rows = shape_in rows.schema.bytes.now
 
-abbrev pub root_in : (s B cells : List ℕ) (ty : ℕ) → List Field → AnswerOf Row Tree
-root_in s B cells ty fs = show_root (shape_in s) B ty fs (rows_at cells 0)
+abbrev pub value_in : Rows → (depth ty row : ℕ) → AnswerOf Row Tree
+value_in rows depth ty row = show (shapes_of rows) rows.source.now depth ty (rows_at rows.sheet.now row)
+
+abbrev pub items_in : Rows → (depth : ℕ) → List (List ℕ) → List Item → (row : ℕ) → AnswerOf Row Forest
+items_in rows depth keys is row = walk (show (shapes_of rows) rows.source.now depth) keys is (rows_at rows.sheet.now row)
+
+abbrev pub root_in : Rows → (ty : ℕ) → List Field → AnswerOf Row Tree
+root_in rows ty fs = show_root (shapes_of rows) rows.source.now ty fs (rows_at rows.sheet.now 0)
 
 -- ---- where a walk over them ends
 
-abbrev pub value_end : (s B cells : List ℕ) (depth ty row pos : ℕ) → List ℕ → Final
-value_end s B cells depth ty row pos out = emit (shape_in s) ty (value_in s B cells depth ty row) pos out
+abbrev pub value_end : Rows → (depth ty row pos : ℕ) → List ℕ → Final
+value_end rows depth ty row pos out = emit (shapes_of rows) ty (value_in rows depth ty row) pos out
 
-abbrev pub items_end : (s B cells : List ℕ) (depth : ℕ) → List (List ℕ) → List Item → (row pos : ℕ) → List ℕ → Final
-items_end s B cells depth keys is row pos out = emit_all (shape_in s) is (items_in s B cells depth keys is row) pos out
+abbrev pub items_end : Rows → (depth : ℕ) → List (List ℕ) → List Item → (row pos : ℕ) → List ℕ → Final
+items_end rows depth keys is row pos out = emit_all (shapes_of rows) is (items_in rows depth keys is row) pos out
 
-abbrev pub root_end : (s B cells : List ℕ) (ty : ℕ) → List Field → List ℕ → Final
-root_end s B cells ty fs out = emit (shape_in s) ty (root_in s B cells ty fs) 0 out
+abbrev pub root_end : Rows → (ty : ℕ) → List Field → List ℕ → Final
+root_end rows ty fs out = emit (shapes_of rows) ty (root_in rows ty fs) 0 out
 
 -- A walk over a whole sheet leaves no row over.
 unfoldable pub whole_end : Final → Final
@@ -63,12 +69,11 @@ pub record Walked (cells : List ℕ) (end : Final) (r : Result Past Refused) (ou
   pub within : Within cells r
 
 -- What a walker may assume. A walk that does not judge has been judged: its answer is known to accept.
-pub record Ready {A : Type 0} (s cells out : List ℕ) (row pos : ℕ) (judging : Bool) (o : AnswerOf Row A) : Type 0 where
-  pub good : IsGood s
-  pub inside : row ≤ length cells / 4
+pub record Ready {A : Type 0} (rows : Rows) (out : List ℕ) (row pos : ℕ) (o : AnswerOf Row A) : Type 0 where
+  pub inside : row ≤ length rows.sheet.now / 4
   pub capped : pos ≤ 16385
   pub small : length out ≤ 16384
-  pub judged : judging ≡ false → Accepted o
+  pub judged : rows.judging ≡ false → Accepted o
 
 -- ---- the pairs of a map
 

@@ -5,6 +5,7 @@ ghost use Rattle.schema.specs.Table.{width};
 ghost use Rattle.walks.specs.Shape.{leaf_shape};
 ghost use Rattle.writer.specs.Leaf.{rows_at, DueRow, Judged, row_says, LeafRow, HeadedBy};
 
+use crate::rows::Rows;
 use constants::refusal::{Refusal, Refused};
 use constants::{format, kind};
 use wire::bitmap;
@@ -170,26 +171,19 @@ pub fn struct_bits(
 }
 
 // A row of a value of type ty, which is of a kind from 1 to 13. A walk that does not judge knows that it is right.
-pub fn leaf_row(
-    sheet: &[u32],
-    source: &[u8],
-    kind: usize,
-    ty: u32,
-    row: usize,
-    judging: bool,
-) -> Result<Placed, Refused>
-    requires { judging ≡ false → Accepted (row_says source.now ty (leaf_shape kind) (rows_at sheet.now row)) }
-    ensures { LeafRow sheet.now source.now kind ty row result }
+pub fn leaf_row(rows: &Rows, kind: usize, ty: u32, row: usize) -> Result<Placed, Refused>
+    requires { rows.now.judging ≡ false → Accepted (row_says rows.now.source.now ty (leaf_shape kind) (rows_at rows.now.sheet.now row)) }
+    ensures { LeafRow rows.now.sheet.now rows.now.source.now kind ty row result }
 {
-    if !judging {
+    if !rows.judging {
         let k = format::ROW_CELLS * row;
         return Ok(Placed {
-            place: wide(sheet[k + 1]),
-            length: wide(sheet[k + 2]),
+            place: wide(rows.sheet[k + 1]),
+            length: wide(rows.sheet[k + 2]),
         });
     }
-    let says = row_due(sheet, row, ty)?;
-    content(source, kind, says.place, says.length, says.count, row)?;
+    let says = row_due(rows.sheet, row, ty)?;
+    content(rows.source, kind, says.place, says.length, says.count, row)?;
     Ok(Placed {
         place: says.place,
         length: says.length,

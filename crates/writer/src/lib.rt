@@ -3,6 +3,7 @@
 
 pub mod leaf;
 pub mod put;
+pub mod rows;
 pub mod walk;
 
 ghost use Rattle.std.specs.Prelude.{◌≡◌, ◌≤◌, length};
@@ -13,11 +14,12 @@ ghost use Rattle.writer.specs.Told.{told};
 ghost use Rattle.writer.specs.Entry.{outcome, length_of, payload_by, Fronts, sheet_outcome, file_outcome};
 
 use crate::put::put_span;
+use crate::rows::Rows;
 use crate::walk::root;
 use constants::refusal::{Refusal, Refused};
 use constants::{kind, limit};
-use table::access::type_row;
 use table::checking::check;
+use table::good::Schema;
 
 // A sheet of so many cells at most is likely written to a payload of so many bytes at most.
 pub const FEW_CELLS: usize = 256;
@@ -37,20 +39,18 @@ pub fn make(
     ensures value { told result ≡ length_of (payload_by s.now ty sheet.now source.now) }
     ensures fronts { Fronts (payload_by s.now ty sheet.now source.now) scratch.old scratch.new }
 {
-    let t = type_row(s, ty as usize);
+    let schema = Schema::of_good(s);
+    let t = schema.type_row(ty as usize);
     if t.kind != kind::STRUCT {
         return Refusal::NoStruct.at(0);
     }
-    let past = root(
-        s,
+    let rows = Rows {
+        schema,
         sheet,
         source,
-        scratch,
-        ty,
-        t.a as usize,
-        t.b as usize,
-        true,
-    )?;
+        judging: true,
+    };
+    let past = root(&rows, scratch, ty, t.a as usize, t.b as usize)?;
     if limit::PAYLOAD < past.pos {
         return Refusal::PayloadTooLong.at(0);
     }
@@ -63,8 +63,15 @@ pub fn put_payload(s: &[u8], ty: u32, sheet: &[u32], source: &[u8], out: &mut [u
     requires source_value { length_of (payload_by s.now ty sheet.now source.now) ≡ Written (length out.old) }
     ensures { payload_by s.now ty sheet.now source.now ≡ written out.new }
 {
-    let t = type_row(s, ty as usize);
-    let _ = root(s, sheet, source, out, ty, t.a as usize, t.b as usize, false);
+    let schema = Schema::of_good(s);
+    let t = schema.type_row(ty as usize);
+    let rows = Rows {
+        schema,
+        sheet,
+        source,
+        judging: false,
+    };
+    let _ = root(&rows, out, ty, t.a as usize, t.b as usize);
 }
 
 // The sheet's rows over the source, written as a struct of type ty by a good table: made in the scratch memory, and copied where all is right and fits.

@@ -1,21 +1,18 @@
-// The walkers go over the rows of the sheet by the schema table s and put each value's encoding into the output, from `pos` on, where it has a place.
+// The walkers go over the rows of the sheet by the schema table and put each value's encoding into the output, from `pos` on, where it has a place.
 // They call each other in a cycle, in which the depth still allowed falls; a walk that does not judge skips tests that would read contents or keys again.
 ghost use Rattle.std.specs.Prelude.{◌≡◌, [], suc, ◌+◌, ◌/◌, ◌^◌, ◌≤◌, ◌<◌, length, replicate};
 ghost use Rattle.schema.specs.Table.{row_at, array, struct};
-ghost use Rattle.schema.specs.File.{table_of};
 ghost use Rattle.value.specs.Read.{plain_item, pairs, present};
-ghost use Rattle.walks.specs.Shape.{fields_from, shape_in};
+ghost use Rattle.walks.specs.Shape.{fields_from};
 ghost use Rattle.walks.specs.Required.{Requires};
-ghost use Rattle.writer.specs.Walk.{value_in, items_in, root_in, value_end, items_end, root_end, whole_end, Walked, Ready, MapRow, KeyReady, KeyPut};
+ghost use Rattle.writer.specs.Walk.{table_in, shapes_of, value_in, items_in, root_in, value_end, items_end, root_end, whole_end, Walked, Ready, MapRow, KeyReady, KeyPut};
 
 use crate::leaf::{leaf_row, row_due, struct_bits};
 use crate::put::{put_bits, put_content, put_number};
+use crate::rows::Rows;
 use constants::refusal::{Refusal, Refused};
 use constants::{format, kind, limit};
 use schema::TypeRow;
-use table::access::known_row;
-use table::file::layout_of;
-use table::rows::field_row;
 use value::MOST_PAIRS;
 use walks::key::{FLAG_CELLS, is_repeated};
 use walks::{required_of, zeros_in};
@@ -39,32 +36,29 @@ pub struct Past {
 // An array, a map or a struct of type ty in a row, whose type row is t.
 #[cycle(walk)]
 fn write_composite(
-    s: &[u8],
-    sheet: &[u32],
-    source: &[u8],
+    rows: &Rows,
     out: &mut [u8],
     ty: u32,
     t: TypeRow,
     row: usize,
     pos: usize,
     depth: usize,
-    judging: bool,
 ) -> Result<Past, Refused>
-    requires { Ready s.now sheet.now out.old row pos judging (value_in s.now source.now sheet.now depth ty row) × (t ≡ row_at (table_of s.now) ty) × (13 < t.kind) }
-    ensures { Walked sheet.now (value_end s.now source.now sheet.now depth ty row pos out.old) result out.new }
+    requires { Ready rows.now out.old row pos (value_in rows.now depth ty row) × (t ≡ row_at (table_in rows.now) ty) × (13 < t.kind) }
+    ensures { Walked rows.now.sheet.now (value_end rows.now depth ty row pos out.old) result out.new }
 {
     if depth == 0 {
         return Refusal::TooDeep.at(row);
     }
     let kind = t.kind;
     if kind == kind::ARRAY {
-        return write_array(s, sheet, source, out, ty, t.a, row, pos, depth - 1, judging);
+        return write_array(rows, out, ty, t.a, row, pos, depth - 1);
     }
     if kind == kind::MAP {
-        return write_map(s, sheet, source, out, ty, t, row, pos, depth - 1, judging);
+        return write_map(rows, out, ty, t, row, pos, depth - 1);
     }
     if kind == kind::STRUCT {
-        return write_run(s, sheet, source, out, ty, t, 1, row, pos, depth, judging);
+        return write_run(rows, out, ty, t, 1, row, pos, depth);
     }
     // A good table has no composite of another kind: this is never reached, and 50 is what the definition has for a type that there is not.
     Refusal::Sheet.at(row)
@@ -72,23 +66,20 @@ fn write_composite(
 
 // A leaf, which is a scalar, a string or bytes, of a kind in a row.
 fn write_leaf(
-    s: &[u8],
-    sheet: &[u32],
-    source: &[u8],
+    rows: &Rows,
     out: &mut [u8],
     kind: usize,
     ty: u32,
     row: usize,
     pos: usize,
     depth: usize,
-    judging: bool,
 ) -> Result<Past, Refused>
-    requires ready { Ready s.now sheet.now out.old row pos judging (value_in s.now source.now sheet.now depth ty row) }
-    requires kind_nonzero { (0 < kind) × (kind ≡ (row_at (table_of s.now) ty).kind) × (kind < 14) × (0 < depth) }
-    ensures { Walked sheet.now (value_end s.now source.now sheet.now depth ty row pos out.old) result out.new }
+    requires ready { Ready rows.now out.old row pos (value_in rows.now depth ty row) }
+    requires kind_nonzero { (0 < kind) × (kind ≡ (row_at (table_in rows.now) ty).kind) × (kind < 14) × (0 < depth) }
+    ensures { Walked rows.now.sheet.now (value_end rows.now depth ty row pos out.old) result out.new }
 {
-    let placed = leaf_row(sheet, source, kind, ty, row, judging)?;
-    let next = put_content(out, pos, kind, source, placed.place, placed.length);
+    let placed = leaf_row(rows, kind, ty, row)?;
+    let next = put_content(out, pos, kind, rows.source, placed.place, placed.length);
     Ok(Past {
         row: row + 1,
         pos: next,
@@ -97,9 +88,7 @@ fn write_leaf(
 
 // So many elements of an array from a row on, which are leaves of a kind: a loop without the cycle of walkers.
 fn write_leaves(
-    s: &[u8],
-    sheet: &[u32],
-    source: &[u8],
+    rows: &Rows,
     out: &mut [u8],
     kind: usize,
     elem: u32,
@@ -107,11 +96,10 @@ fn write_leaves(
     start: usize,
     pos: usize,
     depth: usize,
-    judging: bool,
 ) -> Result<Past, Refused>
-    requires ready { Ready s.now sheet.now out.old start pos judging (items_in s.now source.now sheet.now depth [] (replicate n (plain_item elem)) start) }
-    requires kind_nonzero { (0 < kind) × (kind ≡ (row_at (table_of s.now) elem).kind) × (kind < 14) }
-    ensures { Walked sheet.now (items_end s.now source.now sheet.now depth [] (replicate n (plain_item elem)) start pos out.old) result out.new }
+    requires ready { Ready rows.now out.old start pos (items_in rows.now depth [] (replicate n (plain_item elem)) start) }
+    requires kind_nonzero { (0 < kind) × (kind ≡ (row_at (table_in rows.now) elem).kind) × (kind < 14) }
+    ensures { Walked rows.now.sheet.now (items_end rows.now depth [] (replicate n (plain_item elem)) start pos out.old) result out.new }
 {
     let mut here = start;
     let mut to = pos;
@@ -119,7 +107,7 @@ fn write_leaves(
         if depth == 0 {
             return Refusal::TooDeep.at(here);
         }
-        let past = write_leaf(s, sheet, source, out, kind, elem, here, to, depth, judging)?;
+        let past = write_leaf(rows, out, kind, elem, here, to, depth)?;
         here = past.row;
         to = past.pos;
     }
@@ -129,67 +117,48 @@ fn write_leaves(
 // An array of type ty, whose elements have the type elem and so many levels of depth.
 #[cycle(walk)]
 fn write_array(
-    s: &[u8],
-    sheet: &[u32],
-    source: &[u8],
+    rows: &Rows,
     out: &mut [u8],
     ty: u32,
     elem: u32,
     row: usize,
     pos: usize,
     depth: usize,
-    judging: bool,
 ) -> Result<Past, Refused>
-    requires { Ready s.now sheet.now out.old row pos judging (value_in s.now source.now sheet.now (suc depth) ty row) × (shape_in s.now ty ≡ array elem) × (0 < (row_at (table_of s.now) elem).kind) }
-    ensures { Walked sheet.now (value_end s.now source.now sheet.now (suc depth) ty row pos out.old) result out.new }
+    requires { Ready rows.now out.old row pos (value_in rows.now (suc depth) ty row) × (shapes_of rows.now ty ≡ array elem) × (0 < (row_at (table_in rows.now) elem).kind) }
+    ensures { Walked rows.now.sheet.now (value_end rows.now (suc depth) ty row pos out.old) result out.new }
 {
-    let says = row_due(sheet, row, ty)?;
+    let says = row_due(rows.sheet, row, ty)?;
     let next = put_number(out, pos, says.count as u64);
-    write_elements(
-        s,
-        sheet,
-        source,
-        out,
-        elem,
-        says.count,
-        row + 1,
-        next,
-        depth,
-        judging,
-    )
+    write_elements(rows, out, elem, says.count, row + 1, next, depth)
 }
 
 // The n elements of an array from a row on, which have the type ty.
 #[cycle(walk)]
 fn write_elements(
-    s: &[u8],
-    sheet: &[u32],
-    source: &[u8],
+    rows: &Rows,
     out: &mut [u8],
     ty: u32,
     n: usize,
     start: usize,
     pos: usize,
     depth: usize,
-    judging: bool,
 ) -> Result<Past, Refused>
-    requires { Ready s.now sheet.now out.old start pos judging (items_in s.now source.now sheet.now depth [] (replicate n (plain_item ty)) start) × (0 < (row_at (table_of s.now) ty).kind) }
-    ensures { Walked sheet.now (items_end s.now source.now sheet.now depth [] (replicate n (plain_item ty)) start pos out.old) result out.new }
+    requires { Ready rows.now out.old start pos (items_in rows.now depth [] (replicate n (plain_item ty)) start) × (0 < (row_at (table_in rows.now) ty).kind) }
+    ensures { Walked rows.now.sheet.now (items_end rows.now depth [] (replicate n (plain_item ty)) start pos out.old) result out.new }
 {
-    let t = known_row(s, ty as usize);
+    let t = rows.schema.known_row(ty as usize);
     let kind = t.kind as usize;
     if kind < ARRAY {
-        return write_leaves(
-            s, sheet, source, out, kind, ty, n, start, pos, depth, judging,
-        );
+        return write_leaves(rows, out, kind, ty, n, start, pos, depth);
     }
     if (kind == STRUCT) & (0 < depth) {
-        return write_run(s, sheet, source, out, ty, t, n, start, pos, depth, judging);
+        return write_run(rows, out, ty, t, n, start, pos, depth);
     }
     let mut here = start;
     let mut to = pos;
     for _ in 0..n {
-        let past = write_composite(s, sheet, source, out, ty, t, here, to, depth, judging)?;
+        let past = write_composite(rows, out, ty, t, here, to, depth)?;
         here = past.row;
         to = past.pos;
     }
@@ -199,21 +168,18 @@ fn write_elements(
 // A map of type ty, whose type row is t; one of more than 64 pairs is refused at its row.
 #[cycle(walk)]
 fn write_map(
-    s: &[u8],
-    sheet: &[u32],
-    source: &[u8],
+    rows: &Rows,
     out: &mut [u8],
     ty: u32,
     t: TypeRow,
     row: usize,
     pos: usize,
     depth: usize,
-    judging: bool,
 ) -> Result<Past, Refused>
-    requires { Ready s.now sheet.now out.old row pos judging (value_in s.now source.now sheet.now (suc depth) ty row) × (t ≡ row_at (table_of s.now) ty) × (t.kind ≡ 15) }
-    ensures { Walked sheet.now (value_end s.now source.now sheet.now (suc depth) ty row pos out.old) result out.new }
+    requires { Ready rows.now out.old row pos (value_in rows.now (suc depth) ty row) × (t ≡ row_at (table_in rows.now) ty) × (t.kind ≡ 15) }
+    ensures { Walked rows.now.sheet.now (value_end rows.now (suc depth) ty row pos out.old) result out.new }
 {
-    let n = row_due(sheet, row, ty)?.count;
+    let n = row_due(rows.sheet, row, ty)?.count;
     if MOST_PAIRS < n {
         return Refusal::MapTooLong.at(row);
     }
@@ -225,51 +191,33 @@ fn write_map(
         });
     }
     if FEW_KEYS < n {
-        return write_many_pairs(s, sheet, source, out, t, n, row + 1, next, depth, judging);
+        return write_many_pairs(rows, out, t, n, row + 1, next, depth);
     }
     let mut keys = [0usize; 2 * (FEW_KEYS + FLAG_CELLS)];
-    write_pairs(
-        s,
-        sheet,
-        source,
-        out,
-        &mut keys,
-        t,
-        n,
-        row + 1,
-        next,
-        depth,
-        judging,
-    )
+    write_pairs(rows, out, &mut keys, t, n, row + 1, next, depth)
 }
 
 // The n pairs of a map, of more than a few. The long array stands here, so that no other map has to make room for it.
 #[cycle(walk)]
 fn write_many_pairs(
-    s: &[u8],
-    sheet: &[u32],
-    source: &[u8],
+    rows: &Rows,
     out: &mut [u8],
     t: TypeRow,
     n: usize,
     start: usize,
     pos: usize,
     depth: usize,
-    judging: bool,
 ) -> Result<Past, Refused>
-    requires { Ready s.now sheet.now out.old start pos judging (items_in s.now source.now sheet.now depth [] (pairs n t.a t.b) start) × MapRow s.now t × (n ≤ 64) }
-    ensures { Walked sheet.now (items_end s.now source.now sheet.now depth [] (pairs n t.a t.b) start pos out.old) result out.new }
+    requires { Ready rows.now out.old start pos (items_in rows.now depth [] (pairs n t.a t.b) start) × MapRow rows.now.schema.bytes.now t × (n ≤ 64) }
+    ensures { Walked rows.now.sheet.now (items_end rows.now depth [] (pairs n t.a t.b) start pos out.old) result out.new }
 {
     let mut keys = [0usize; 2 * (MOST_PAIRS + FLAG_CELLS)];
-    write_pairs(
-        s, sheet, source, out, &mut keys, t, n, start, pos, depth, judging,
-    )
+    write_pairs(rows, out, &mut keys, t, n, start, pos, depth)
 }
 
 // Key i of a map, of a kind from 1 to 13, in a row. It is kept in `keys`.
 fn write_key(
-    sheet: &[u32],
-    source: &[u8],
+    rows: &Rows,
     out: &mut [u8],
     keys: &mut [usize],
     i: usize,
@@ -278,19 +226,25 @@ fn write_key(
     row: usize,
     pos: usize,
     depth: usize,
-    judging: bool,
 ) -> Result<Past, Refused>
-    requires { KeyReady source.now sheet.now out.old keys.old i kind key row pos depth judging }
-    ensures { KeyPut source.now sheet.now out.old keys.old i kind key row pos depth judging result out.new keys.new }
+    requires { KeyReady rows.now.source.now rows.now.sheet.now out.old keys.old i kind key row pos depth rows.now.judging }
+    ensures { KeyPut rows.now.source.now rows.now.sheet.now out.old keys.old i kind key row pos depth rows.now.judging result out.new keys.new }
 {
     if depth == 0 {
         return Refusal::TooDeep.at(row);
     }
-    let placed = leaf_row(sheet, source, kind, key, row, judging)?;
-    if is_repeated(source, keys, i, placed.place, placed.length, judging) {
+    let placed = leaf_row(rows, kind, key, row)?;
+    if is_repeated(
+        rows.source,
+        keys,
+        i,
+        placed.place,
+        placed.length,
+        rows.judging,
+    ) {
         return Refusal::RepeatedKey.at(row);
     }
-    let next = put_content(out, pos, kind, source, placed.place, placed.length);
+    let next = put_content(out, pos, kind, rows.source, placed.place, placed.length);
     Ok(Past {
         row: row + 1,
         pos: next,
@@ -300,9 +254,7 @@ fn write_key(
 // The n pairs of a map from a row on. What `keys` holds afterwards means nothing.
 #[cycle(walk)]
 fn write_pairs(
-    s: &[u8],
-    sheet: &[u32],
-    source: &[u8],
+    rows: &Rows,
     out: &mut [u8],
     keys: &mut [usize],
     t: TypeRow,
@@ -310,30 +262,29 @@ fn write_pairs(
     start: usize,
     pos: usize,
     depth: usize,
-    judging: bool,
 ) -> Result<Past, Refused>
-    requires { Ready s.now sheet.now out.old start pos judging (items_in s.now source.now sheet.now depth [] (pairs n t.a t.b) start) × MapRow s.now t × (n + 4 ≤ length keys.old / 2) × (n ≤ 64) }
-    ensures { Walked sheet.now (items_end s.now source.now sheet.now depth [] (pairs n t.a t.b) start pos out.old) result out.new }
+    requires { Ready rows.now out.old start pos (items_in rows.now depth [] (pairs n t.a t.b) start) × MapRow rows.now.schema.bytes.now t × (n + 4 ≤ length keys.old / 2) × (n ≤ 64) }
+    ensures { Walked rows.now.sheet.now (items_end rows.now depth [] (pairs n t.a t.b) start pos out.old) result out.new }
 {
-    let k = known_row(s, t.a as usize).kind as usize;
-    let v = known_row(s, t.b as usize);
+    let k = rows.schema.known_row(t.a as usize).kind as usize;
+    let v = rows.schema.known_row(t.b as usize);
     let mut at = start;
     let mut to = pos;
     for i in 0..n {
-        let past = write_key(sheet, source, out, keys, i, k, t.a, at, to, depth, judging)?;
+        let past = write_key(rows, out, keys, i, k, t.a, at, to, depth)?;
         at = past.row;
         to = past.pos;
         if kind::BYTES < v.kind {
-            let past = write_composite(s, sheet, source, out, t.b, v, at, to, depth, judging)?;
+            let past = write_composite(rows, out, t.b, v, at, to, depth)?;
             at = past.row;
             to = past.pos;
         } else {
-            let placed = leaf_row(sheet, source, v.kind as usize, t.b, at, judging)?;
+            let placed = leaf_row(rows, v.kind as usize, t.b, at)?;
             to = put_content(
                 out,
                 to,
                 v.kind as usize,
-                source,
+                rows.source,
                 placed.place,
                 placed.length,
             );
@@ -347,9 +298,7 @@ fn write_pairs(
 // outright, the arguments of that call would be copied for arrays and maps too.
 #[cycle(walk)]
 fn write_run(
-    s: &[u8],
-    sheet: &[u32],
-    source: &[u8],
+    rows: &Rows,
     out: &mut [u8],
     ty: u32,
     t: TypeRow,
@@ -357,15 +306,12 @@ fn write_run(
     row: usize,
     pos: usize,
     depth: usize,
-    judging: bool,
 ) -> Result<Past, Refused>
-    requires { Ready s.now sheet.now out.old row pos judging (items_in s.now source.now sheet.now depth [] (replicate n (plain_item ty)) row) × (t ≡ row_at (table_of s.now) ty) × (t.kind ≡ 16) × (0 < depth) }
-    ensures { Walked sheet.now (items_end s.now source.now sheet.now depth [] (replicate n (plain_item ty)) row pos out.old) result out.new }
+    requires { Ready rows.now out.old row pos (items_in rows.now depth [] (replicate n (plain_item ty)) row) × (t ≡ row_at (table_in rows.now) ty) × (t.kind ≡ 16) × (0 < depth) }
+    ensures { Walked rows.now.sheet.now (items_end rows.now depth [] (replicate n (plain_item ty)) row pos out.old) result out.new }
 {
     write_structs(
-        s,
-        sheet,
-        source,
+        rows,
         out,
         ty,
         t.a as usize,
@@ -374,16 +320,13 @@ fn write_run(
         row,
         pos,
         depth - 1,
-        judging,
     )
 }
 
 // So many structs of one type from a row on, each of n fields from the first on. Which bits are required is found once for all.
 #[cycle(walk)]
 fn write_structs(
-    s: &[u8],
-    sheet: &[u32],
-    source: &[u8],
+    rows: &Rows,
     out: &mut [u8],
     ty: u32,
     first: usize,
@@ -392,19 +335,16 @@ fn write_structs(
     start: usize,
     pos: usize,
     depth: usize,
-    judging: bool,
 ) -> Result<Past, Refused>
-    requires ready { Ready s.now sheet.now out.old start pos judging (items_in s.now source.now sheet.now (suc depth) [] (replicate count (plain_item ty)) start) × (shape_in s.now ty ≡ struct (fields_from (table_of s.now) first n)) }
-    requires n_nonzero { (0 < n) × (n ≤ 64) × (first + n ≤ length (table_of s.now).fields) }
-    ensures { Walked sheet.now (items_end s.now source.now sheet.now (suc depth) [] (replicate count (plain_item ty)) start pos out.old) result out.new }
+    requires ready { Ready rows.now out.old start pos (items_in rows.now (suc depth) [] (replicate count (plain_item ty)) start) × (shapes_of rows.now ty ≡ struct (fields_from (table_in rows.now) first n)) }
+    requires n_nonzero { (0 < n) × (n ≤ 64) × (first + n ≤ length (table_in rows.now).fields) }
+    ensures { Walked rows.now.sheet.now (items_end rows.now (suc depth) [] (replicate count (plain_item ty)) start pos out.old) result out.new }
 {
-    let required = required_of(s, layout_of(s), first, n);
+    let required = required_of(rows.schema.bytes, rows.schema.layout(), first, n);
     let mut here = start;
     let mut to = pos;
     for _ in 0..count {
-        let past = write_struct(
-            s, sheet, source, out, ty, first, n, required, here, to, depth, judging,
-        )?;
+        let past = write_struct(rows, out, ty, first, n, required, here, to, depth)?;
         here = past.row;
         to = past.pos;
     }
@@ -414,9 +354,7 @@ fn write_structs(
 // An inner struct of type ty, which has n fields from the first on, of which those with bits in `required` have to be there. An unknown bit is refused.
 #[cycle(walk)]
 fn write_struct(
-    s: &[u8],
-    sheet: &[u32],
-    source: &[u8],
+    rows: &Rows,
     out: &mut [u8],
     ty: u32,
     first: usize,
@@ -425,56 +363,40 @@ fn write_struct(
     row: usize,
     pos: usize,
     depth: usize,
-    judging: bool,
 ) -> Result<Past, Refused>
-    requires ready { Ready s.now sheet.now out.old row pos judging (value_in s.now source.now sheet.now (suc depth) ty row) × (shape_in s.now ty ≡ struct (fields_from (table_of s.now) first n)) }
-    requires n_nonzero { (0 < n) × (n ≤ 64) × (first + n ≤ length (table_of s.now).fields) × Requires required (fields_from (table_of s.now) first n) }
-    ensures { Walked sheet.now (value_end s.now source.now sheet.now (suc depth) ty row pos out.old) result out.new }
+    requires ready { Ready rows.now out.old row pos (value_in rows.now (suc depth) ty row) × (shapes_of rows.now ty ≡ struct (fields_from (table_in rows.now) first n)) }
+    requires n_nonzero { (0 < n) × (n ≤ 64) × (first + n ≤ length (table_in rows.now).fields) × Requires required (fields_from (table_in rows.now) first n) }
+    ensures { Walked rows.now.sheet.now (value_end rows.now (suc depth) ty row pos out.old) result out.new }
 {
-    let says = row_due(sheet, row, ty)?;
-    let known = struct_bits(source, required, n, says.place, says.count, true, row)?;
+    let says = row_due(rows.sheet, row, ty)?;
+    let known = struct_bits(rows.source, required, n, says.place, says.count, true, row)?;
     let next = put_bits(out, pos, (n + SPARE_BITS) / BYTE_BITS, known);
-    write_fields(
-        s,
-        sheet,
-        source,
-        out,
-        first,
-        n,
-        known,
-        row + 1,
-        next,
-        depth,
-        judging,
-    )
+    write_fields(rows, out, first, n, known, row + 1, next, depth)
 }
 
 // A value of type ty in a row. It has one call site, into which it is inlined, since most fields are scalars, strings or bytes.
 #[cycle(walk)]
 fn write_value(
-    s: &[u8],
-    sheet: &[u32],
-    source: &[u8],
+    rows: &Rows,
     out: &mut [u8],
     ty: u32,
     row: usize,
     pos: usize,
     depth: usize,
-    judging: bool,
 ) -> Result<Past, Refused>
-    requires { Ready s.now sheet.now out.old row pos judging (value_in s.now source.now sheet.now depth ty row) × (0 < (row_at (table_of s.now) ty).kind) }
-    ensures { Walked sheet.now (value_end s.now source.now sheet.now depth ty row pos out.old) result out.new }
+    requires { Ready rows.now out.old row pos (value_in rows.now depth ty row) × (0 < (row_at (table_in rows.now) ty).kind) }
+    ensures { Walked rows.now.sheet.now (value_end rows.now depth ty row pos out.old) result out.new }
 {
-    let t = known_row(s, ty as usize);
+    let t = rows.schema.known_row(ty as usize);
     let kind = t.kind as usize;
     if ARRAY <= kind {
-        return write_composite(s, sheet, source, out, ty, t, row, pos, depth, judging);
+        return write_composite(rows, out, ty, t, row, pos, depth);
     }
     if depth == 0 {
         return Refusal::TooDeep.at(row);
     }
-    let placed = leaf_row(sheet, source, kind, ty, row, judging)?;
-    let next = put_content(out, pos, kind, source, placed.place, placed.length);
+    let placed = leaf_row(rows, kind, ty, row)?;
+    let next = put_content(out, pos, kind, rows.source, placed.place, placed.length);
     Ok(Past {
         row: row + 1,
         pos: next,
@@ -484,9 +406,7 @@ fn write_value(
 // The fields of a struct whose bits are set in `known`, from the row `start` on.
 #[cycle(walk)]
 fn write_fields(
-    s: &[u8],
-    sheet: &[u32],
-    source: &[u8],
+    rows: &Rows,
     out: &mut [u8],
     first: usize,
     n: usize,
@@ -494,13 +414,12 @@ fn write_fields(
     start: usize,
     pos: usize,
     depth: usize,
-    judging: bool,
 ) -> Result<Past, Refused>
-    requires ready { Ready s.now sheet.now out.old start pos judging (items_in s.now source.now sheet.now depth [] (present (fields_from (table_of s.now) first n) known) start) }
-    requires n_bound { (n ≤ 64) × (known < 2 ^ n) × (first + n ≤ length (table_of s.now).fields) }
-    ensures { Walked sheet.now (items_end s.now source.now sheet.now depth [] (present (fields_from (table_of s.now) first n) known) start pos out.old) result out.new }
+    requires ready { Ready rows.now out.old start pos (items_in rows.now depth [] (present (fields_from (table_in rows.now) first n) known) start) }
+    requires n_bound { (n ≤ 64) × (known < 2 ^ n) × (first + n ≤ length (table_in rows.now).fields) }
+    ensures { Walked rows.now.sheet.now (items_end rows.now depth [] (present (fields_from (table_in rows.now) first n) known) start pos out.old) result out.new }
 {
-    let l = layout_of(s);
+    let file = rows.schema.sections();
     let mut i = first;
     let mut bits = known;
     let mut here = start;
@@ -508,8 +427,8 @@ fn write_fields(
     // A turn takes the next field that is there, and goes on by as many bits as it passes: there is no count to go by.
     while bits != 0 {
         if bits % 2 == 1 {
-            let f = field_row(s, l, i);
-            let past = write_value(s, sheet, source, out, f.ty, here, to, depth, judging)?;
+            let f = file.field(i);
+            let past = write_value(rows, out, f.ty, here, to, depth)?;
             here = past.row;
             to = past.pos;
             bits = bits / 2;
@@ -525,57 +444,33 @@ fn write_fields(
 
 // The known fields of the root from row 1 on, of those that it has from the first on. No row is left over.
 fn root_fields(
-    s: &[u8],
-    sheet: &[u32],
-    source: &[u8],
+    rows: &Rows,
     out: &mut [u8],
     first: usize,
     n: usize,
     known: u64,
     to: usize,
-    judging: bool,
 ) -> Result<Past, Refused>
-    requires ready { Ready s.now sheet.now out.old 1 to judging (items_in s.now source.now sheet.now 15 [] (present (fields_from (table_of s.now) first n) known) 1) }
-    requires n_bound { (n ≤ 64) × (known < 2 ^ n) × (first + n ≤ length (table_of s.now).fields) }
-    ensures { Walked sheet.now (whole_end (items_end s.now source.now sheet.now 15 [] (present (fields_from (table_of s.now) first n) known) 1 to out.old)) result out.new }
+    requires ready { Ready rows.now out.old 1 to (items_in rows.now 15 [] (present (fields_from (table_in rows.now) first n) known) 1) }
+    requires n_bound { (n ≤ 64) × (known < 2 ^ n) × (first + n ≤ length (table_in rows.now).fields) }
+    ensures { Walked rows.now.sheet.now (whole_end (items_end rows.now 15 [] (present (fields_from (table_in rows.now) first n) known) 1 to out.old)) result out.new }
 {
-    let past = write_fields(
-        s,
-        sheet,
-        source,
-        out,
-        first,
-        n,
-        known,
-        1,
-        to,
-        limit::BELOW_ROOT,
-        judging,
-    )?;
-    if past.row < sheet.len() / format::ROW_CELLS {
+    let past = write_fields(rows, out, first, n, known, 1, to, limit::BELOW_ROOT)?;
+    if past.row < rows.sheet.len() / format::ROW_CELLS {
         return Refusal::Sheet.at(past.row);
     }
     Ok(past)
 }
 
 // The root, a struct of type ty that has n fields from the first on, in row 0. Its unknown bits are left out, and no row is left over.
-pub fn root(
-    s: &[u8],
-    sheet: &[u32],
-    source: &[u8],
-    out: &mut [u8],
-    ty: u32,
-    first: usize,
-    n: usize,
-    judging: bool,
-) -> Result<Past, Refused>
-    requires ready { Ready s.now sheet.now out.old 0 0 judging (root_in s.now source.now sheet.now ty (fields_from (table_of s.now) first n)) × (shape_in s.now ty ≡ struct (fields_from (table_of s.now) first n)) }
-    requires n_nonzero { (0 < n) × (n ≤ 64) × (first + n ≤ length (table_of s.now).fields) }
-    ensures { Walked sheet.now (root_end s.now source.now sheet.now ty (fields_from (table_of s.now) first n) out.old) result out.new }
+pub fn root(rows: &Rows, out: &mut [u8], ty: u32, first: usize, n: usize) -> Result<Past, Refused>
+    requires ready { Ready rows.now out.old 0 0 (root_in rows.now ty (fields_from (table_in rows.now) first n)) × (shapes_of rows.now ty ≡ struct (fields_from (table_in rows.now) first n)) }
+    requires n_nonzero { (0 < n) × (n ≤ 64) × (first + n ≤ length (table_in rows.now).fields) }
+    ensures { Walked rows.now.sheet.now (root_end rows.now ty (fields_from (table_in rows.now) first n) out.old) result out.new }
 {
-    let says = row_due(sheet, 0, ty)?;
-    let required = required_of(s, layout_of(s), first, n);
-    let known = struct_bits(source, required, n, says.place, says.count, false, 0)?;
+    let says = row_due(rows.sheet, 0, ty)?;
+    let required = required_of(rows.schema.bytes, rows.schema.layout(), first, n);
+    let known = struct_bits(rows.source, required, n, says.place, says.count, false, 0)?;
     let next = put_bits(out, 0, (n + SPARE_BITS) / BYTE_BITS, known);
-    root_fields(s, sheet, source, out, first, n, known, next, judging)
+    root_fields(rows, out, first, n, known, next)
 }

@@ -9,6 +9,7 @@ use lib.ListN.{length}
 use Rattle.schema.specs.declared.TypeRow.{TypeRow}
 use Rattle.schema.specs.Table.{row_at, array, map}
 use Rattle.schema.specs.File.{table_of}
+use Rattle.schema.specs.Check.{field_row_of}
 use Rattle.schema.proofs.Checks.{good-shaped, good-laid}
 use Rattle.value.specs.Read.{plain_item, pairs}
 use Rattle.walks.specs.Shape.{fields_from, shape_in, leaf_shape}
@@ -26,76 +27,80 @@ use Rattle.writer.proofs.Composites.{leaf-failed, leaf_in, leaf-past, row-absent
 use Rattle.writer.proofs.Composites.{PartsRow, parts-start, parts-accepted, array-found, map-many, map_found, struct-fault, struct-found, struct-start}
 use Rattle.writer.proofs.Composites.{writing-first, writing-small, writing-known, writing-done, writing-ready, writing-stop, writing-on, structs-held, one-accepted, one_end}
 use Rattle.writer.proofs.Keys.{AfterKey, after-key, key-was, pair-first, pair-accepted, pair-stop, pair-past}
-use Rattle.writer.proofs.walk.+walk.Goals.{write_array-In_ok-says, write_fields-After-field_row-f, write_map-Else-n-gt-MOST_PAIRS, write_map-Start, write_pairs-After-known_row-k, write_pairs-After-known_row-v, write_pairs-After-write_key, write_struct-After-struct_bits, write_value-Else-kind-ge-ARRAY}
+use Rattle.writer.proofs.walk.+walk.Goals.{write_array-In_ok-says, write_fields-After-field-f, write_map-Else-n-gt-MOST_PAIRS, write_map-Start, write_pairs-After-known_row-k, write_pairs-After-known_row-v, write_pairs-After-write_key, write_struct-After-struct_bits, write_value-Else-kind-ge-ARRAY}
 use Rattle.writer.proofs.walk.+walk.Goals.{write_pairs-then-v-gt-BYTES+in_ok-past-2, write_pairs-else-v-gt-BYTES+in_ok-placed}
 use Rattle.writer.proofs.walk.+walk.Goals as goal
 
 -- an array's row, once it was found
 write-array-row : (t : ℕ) (c : write_array-In_ok-says t)
     → let args = c.args in
-    PartsRow (shape_in args.s.now) args.source.now args.sheet.now args.row args.ty (array args.elem) c.in_ok-says.says.count
+    PartsRow (shape_in args.rows.now.schema.bytes.now) args.rows.now.source.now args.rows.now.sheet.now args.row args.ty (array args.elem) c.in_ok-says.says.count
 write-array-row t c = array-found c.row_due.ensures c.in_ok-says.was _ _ c.requires.1
 
 -- a type below the arrays is that of a leaf
 write-value-leaf : (t : ℕ) (c : write_value-Else-kind-ge-ARRAY t)
     → let args = c.args in
-    shape_in args.s.now args.ty ≡ leaf_shape c.known_row-t.result.kind
+    shape_in args.rows.now.schema.bytes.now args.ty ≡ leaf_shape c.known_row-t.result.kind
 write-value-leaf t c =
     let row = c.known_row-t in
-    shape-leaf (table_of c.args.s.now) c.args.ty row.result row.ensures (rw row.ensures c.requires.1) (omega (arith, c.if-kind-ge-ARRAY.false))
+    shape-leaf (table_of c.args.rows.now.schema.bytes.now) c.args.ty row.result row.ensures (rw row.ensures c.requires.1) (omega (arith, c.if-kind-ge-ARRAY.false))
+
+-- the field looked up is that of the table
+write-fields-row : (t : ℕ) (c : write_fields-After-field-f t) → c.field-f.result ≡ field_row_of (table_of c.args.rows.now.schema.bytes.now) c.loop-bits.i
+write-fields-row t c = rw c.sections-file.ensures at c.field-f.ensures
 
 -- the next of the fields left, once it was looked up
-write-fields-first : (t : ℕ) (c : write_fields-After-field_row-f t)
+write-fields-first : (t : ℕ) (c : write_fields-After-field-f t)
     → let loop = c.loop-bits in
     let args = c.args in
-    let T = table_of args.s.now in
-    bits_left T args.first args.n loop.i loop.bits ≡ plain_item c.field_row-f.result.ty ∷ bits_left T args.first args.n (loop.i + 1) (loop.bits / 2)
+    let T = table_of args.rows.now.schema.bytes.now in
+    bits_left T args.first args.n loop.i loop.bits ≡ plain_item c.field-f.result.ty ∷ bits_left T args.first args.n (loop.i + 1) (loop.bits / 2)
 write-fields-first t c =
     let loop = c.loop-bits in
     let some : 0 < loop.bits = omega (arith, c.loop-bits-test.true) in
-    standing-field loop.invariant.1 some (table_of c.args.s.now) c.requires.n_bound.2 c.field_row-f.result c.field_row-f.ensures c.if-bits-eq1.true
+    standing-field loop.invariant.1 some (table_of c.args.rows.now.schema.bytes.now) c.requires.n_bound.2 c.field-f.result (write-fields-row t c) c.if-bits-eq1.true
 
 -- a map's row, once it was found to be of few enough pairs
 write-map-row : (t : ℕ) (c : write_map-Else-n-gt-MOST_PAIRS t)
     → let args = c.args in
-    PartsRow (shape_in args.s.now) args.source.now args.sheet.now args.row args.ty (map args.t.a args.t.b) c.in_ok-n.field-0.count
+    PartsRow (shape_in args.rows.now.schema.bytes.now) args.rows.now.source.now args.rows.now.sheet.now args.row args.ty (map args.t.a args.t.b) c.in_ok-n.field-0.count
 write-map-row t c =
     let asked = c.requires in
-    map_found c.row_due.ensures c.in_ok-n.was _ _ (shape-map (table_of c.args.s.now) c.args.ty _ asked.1 asked.2) c.if-n-gt-MOST_PAIRS.false
+    map_found c.row_due.ensures c.in_ok-n.was _ _ (shape-map (table_of c.args.rows.now.schema.bytes.now) c.args.ty _ asked.1 asked.2) c.if-n-gt-MOST_PAIRS.false
 
 -- the types of its keys and values
-write-map-types : (t : ℕ) (c : write_map-Start t) → MapRow c.args.s.now c.args.t
+write-map-types : (t : ℕ) (c : write_map-Start t) → MapRow c.args.rows.now.schema.bytes.now c.args.t
 write-map-types t c =
     let h = c.requires in
-    let key = map_row c.args.s.now h.0.good c.args.ty _ h.1 h.2 in
-    (key.0, key.1, map-value c.args.s.now h.0.good c.args.ty _ h.1 h.2)
+    let key = map_row c.args.rows.now.schema.bytes.now c.args.rows.now.schema.good c.args.ty _ h.1 h.2 in
+    (key.0, key.1, map-value c.args.rows.now.schema.bytes.now c.args.rows.now.schema.good c.args.ty _ h.1 h.2)
 
 -- the shapes of a map's keys, and of its values where they are leaves
 write-pairs-keys : (t : ℕ) (c : write_pairs-After-known_row-k t)
     → let args = c.args in
-    shape_in args.s.now args.t.a ≡ leaf_shape c.known_row-k.result.kind
+    shape_in args.rows.now.schema.bytes.now args.t.a ≡ leaf_shape c.known_row-k.result.kind
 write-pairs-keys t c =
     let types = c.requires.1 in
     let k = c.known_row-k in
-    shape-leaf (table_of c.args.s.now) c.args.t.a k.result k.ensures (rw k.ensures types.0) (rw k.ensures types.1)
+    shape-leaf (table_of c.args.rows.now.schema.bytes.now) c.args.t.a k.result k.ensures (rw k.ensures types.0) (rw k.ensures types.1)
 
 write-pairs-values : (t : ℕ) (c : write_pairs-After-known_row-v t)
     → let args = c.args in
-    c.known_row-v.result.kind < 14 → shape_in args.s.now args.t.b ≡ leaf_shape c.known_row-v.result.kind
+    c.known_row-v.result.kind < 14 → shape_in args.rows.now.schema.bytes.now args.t.b ≡ leaf_shape c.known_row-v.result.kind
 write-pairs-values t c below =
     let v = c.known_row-v in
-    shape-leaf (table_of c.args.s.now) c.args.t.b v.result v.ensures (rw v.ensures c.requires.1.2) below
+    shape-leaf (table_of c.args.rows.now.schema.bytes.now) c.args.t.b v.result v.ensures (rw v.ensures c.requires.1.2) below
 
 -- a turn of the loop, once its key was written
 write-pairs-turn : (t : ℕ) (c : write_pairs-After-write_key t)
     → let args = c.args in
-    let end = items_end args.s.now args.source.now args.sheet.now args.depth [] (pairs args.n args.t.a args.t.b) args.start args.pos args.out.now in
-    AfterKey (shape_in args.s.now) args.source.now args.sheet.now c.write_key.new.keys c.loop-i.i args.t.a args.t.b args.n args.depth args.judging
+    let end = items_end args.rows.now args.depth [] (pairs args.n args.t.a args.t.b) args.start args.pos args.out.now in
+    AfterKey (shape_in args.rows.now.schema.bytes.now) args.rows.now.source.now args.rows.now.sheet.now c.write_key.new.keys c.loop-i.i args.t.a args.t.b args.n args.depth args.rows.now.judging
     c.write_key.result c.write_key.new.out end
 write-pairs-turn t c =
     let types = c.requires.1 in
     let k = c.known_row-k in
-    let keys = shape-leaf (table_of c.args.s.now) c.args.t.a k.result k.ensures (rw k.ensures types.0) (rw k.ensures types.1) in
+    let keys = shape-leaf (table_of c.args.rows.now.schema.bytes.now) c.args.t.a k.result k.ensures (rw k.ensures types.0) (rw k.ensures types.1) in
     after-key _ c.write_key.ensures keys _ c.loop-i-test.true c.loop-i.invariant.0.same
 
 write-pairs-out : (t : ℕ) (c : write_pairs-After-write_key t)
@@ -105,7 +110,7 @@ write-pairs-out t c = c.write_key.auto.out ∙ c.loop-i.invariant.0.long
 -- a struct's row and its bits, once both were read
 write-struct-head : (t : ℕ) (c : write_struct-After-struct_bits t)
     → let args = c.args in
-    HeadRow true (shape_in args.s.now) args.source.now args.sheet.now args.row args.ty args.n (fields_from (table_of args.s.now) args.first args.n) c.struct_bits.result
+    HeadRow true (shape_in args.rows.now.schema.bytes.now) args.rows.now.source.now args.rows.now.sheet.now args.row args.ty args.n (fields_from (table_of args.rows.now.schema.bytes.now) args.first args.n) c.struct_bits.result
 write-struct-head t c =
     let asked = c.requires in
     let h = asked.n_nonzero in
@@ -145,8 +150,8 @@ write_composite-write_array-requires t c =
       omega (arith, c.decreases, deep),
       (
         onward h h.inside h.capped refl (accepted-deeper _ _ deep _ _),
-        shape-array (table_of args.s.now) args.ty _ asked.1 kind,
-        array_row args.s.now h.good args.ty _ asked.1 kind,
+        shape-array (table_of args.rows.now.schema.bytes.now) args.ty _ asked.1 kind,
+        array_row args.rows.now.schema.bytes.now c.args.rows.now.schema.good args.ty _ asked.1 kind,
       ),
     )
 
@@ -171,7 +176,7 @@ write_composite-returns t c =
     let args = c.args in
     let asked = c.requires in
     let past : 16 < args.t.kind = omega (arith, asked.2, c.if-kind-eq-ARRAY.false, c.if-kind-eq-MAP.false, c.if-kind-eq-STRUCT.false) in
-    shown-refused _ _ _ _ c.at-2.ensures (show-unknown _ _ c.if-depth-eq0.false _ _ _ (shape-past (table_of args.s.now) args.ty _ asked.1 past))
+    shown-refused _ _ _ _ c.at-2.ensures (show-unknown _ _ c.if-depth-eq0.false _ _ _ (shape-past (table_of args.rows.now.schema.bytes.now) args.ty _ asked.1 past))
 
 pub write_elements-write_composite-requires : goal.write_elements-write_composite-requires
 write_elements-write_composite-requires t c = (
@@ -192,38 +197,32 @@ write_elements-loop-preserved t c = writing-on c.loop.invariant (elements-more _
 pub write_elements-returns : goal.write_elements-returns
 write_elements-returns t c = writing-done c.loop.invariant (elements-none _ (c.args.n - c.loop.counter) (omega (arith, c.loop-test.false)))
 
-pub write_fields-layout_of-l-requires : goal.write_fields-layout_of-l-requires
-write_fields-layout_of-l-requires t c = good-shaped _ c.requires.ready.good
-
-pub write_fields-field_row-f-requires : goal.write_fields-field_row-f-requires
-write_fields-field_row-f-requires t c = good-laid _ _ c.requires.ready.good c.layout_of-l.ensures
-
 pub write_fields-write_value-requires : goal.write_fields-write_value-requires
 write_fields-write_value-requires t c =
     let asked = c.requires in
     let loop = c.loop-bits in
-    let f = c.field_row-f in
+    let f = c.field-f in
     let some : 0 < loop.bits = omega (arith, c.loop-bits-test.true) in (
       omega (arith, c.decreases),
       (
-        writing-ready loop.invariant.0 (write-fields-first t (goal.at.write_fields-write_value-requires t c).After-field_row-f),
-        standing-kind loop.invariant.1 some c.args.s.now asked.ready.good asked.n_bound.2 f.result f.ensures (row_at (table_of c.args.s.now) f.result.ty) refl,
+        writing-ready loop.invariant.0 (write-fields-first t (goal.at.write_fields-write_value-requires t c).After-field-f),
+        standing-kind loop.invariant.1 some c.args.rows.now.schema.bytes.now c.args.rows.now.schema.good asked.n_bound.2 f.result (write-fields-row t (goal.at.write_fields-write_value-requires t c).After-field-f) (row_at (table_of c.args.rows.now.schema.bytes.now) f.result.ty) refl,
       ),
     )
 
 pub write_fields-returns-in_err-past : goal.write_fields-returns-in_err-past
 write_fields-returns-in_err-past t c =
-    let field = (goal.at.write_fields-returns-in_err-past t c).After-field_row-f in
+    let field = (goal.at.write_fields-returns-in_err-past t c).After-field-f in
     writing-stop field.loop-bits.invariant.0 (write-fields-first t field) c.write_value.ensures c.in_err-past.was (handed c.from_residual.ensures.1)
 
 pub write_fields-overflow_add-i : goal.write_fields-overflow_add-i
 write_fields-overflow_add-i t c =
     let asked = c.requires in
-    omega (arith, c.loop-bits.invariant.1.last, asked.n_bound.2, few-fields _ asked.ready.good)
+    omega (arith, c.loop-bits.invariant.1.last, asked.n_bound.2, few-fields _ c.args.rows.now.schema.good)
 
 pub write_fields-loop-bits-preserved-then-bits-eq1 : goal.write_fields-loop-bits-preserved-then-bits-eq1
 write_fields-loop-bits-preserved-then-bits-eq1 t c =
-    let field = (goal.at.write_fields-loop-bits-preserved-then-bits-eq1 t c).After-field_row-f in
+    let field = (goal.at.write_fields-loop-bits-preserved-then-bits-eq1 t c).After-field-f in
     let inv = field.loop-bits.invariant in (
       writing-on inv.0 (write-fields-first t field) c.write_value.ensures c.in_ok-past.was c.write_value.auto.out,
       standing-next inv.1 (omega (arith, field.loop-bits-test.true)),
@@ -232,7 +231,7 @@ write_fields-loop-bits-preserved-then-bits-eq1 t c =
 pub write_fields-overflow_add-i-else-bits-eq1 : goal.write_fields-overflow_add-i-else-bits-eq1
 write_fields-overflow_add-i-else-bits-eq1 t c =
     let asked = c.requires in
-    omega (arith, c.loop-bits.invariant.1.last, asked.n_bound.2, few-fields _ asked.ready.good, c.zeros_in-k.ensures.1)
+    omega (arith, c.loop-bits.invariant.1.last, asked.n_bound.2, few-fields _ c.args.rows.now.schema.good, c.zeros_in-k.ensures.1)
 
 pub write_fields-loop-bits-smaller : goal.write_fields-loop-bits-smaller
 write_fields-loop-bits-smaller t c = standing-less c.loop-bits.invariant.1 (omega (arith, c.loop-bits-test.true)) c.zeros_in-k.ensures.0 c.if-bits-eq1.false
@@ -241,12 +240,12 @@ pub write_fields-loop-bits-preserved : goal.write_fields-loop-bits-preserved
 write_fields-loop-bits-preserved t c =
     let inv = c.loop-bits.invariant in
     let some : 0 < c.loop-bits.bits = omega (arith, c.loop-bits-test.true) in
-    (rw (standing-same inv.1 some c.zeros_in-k.ensures.0 (table_of c.args.s.now)) inv.0, standing-skip inv.1 some c.zeros_in-k.ensures.0)
+    (rw (standing-same inv.1 some c.zeros_in-k.ensures.0 (table_of c.args.rows.now.schema.bytes.now)) inv.0, standing-skip inv.1 some c.zeros_in-k.ensures.0)
 
 pub write_fields-returns : goal.write_fields-returns
 write_fields-returns t c =
     let args = c.args in
-    writing-done c.loop-bits.invariant.0 (standing-end (table_of args.s.now) args.first args.n c.loop-bits.i c.loop-bits-test.false)
+    writing-done c.loop-bits.invariant.0 (standing-end (table_of args.rows.now.schema.bytes.now) args.first args.n c.loop-bits.i c.loop-bits-test.false)
 
 pub write_map-returns-in_err-n : goal.write_map-returns-in_err-n
 write_map-returns-in_err-n t c = shown-refused _ _ _ _ (handed c.from_residual.ensures.1) (row-absent c.row_due.ensures _ _ _ c.in_err-n.was)
@@ -254,7 +253,7 @@ write_map-returns-in_err-n t c = shown-refused _ _ _ _ (handed c.from_residual.e
 pub write_map-returns-then-n-gt-MOST_PAIRS : goal.write_map-returns-then-n-gt-MOST_PAIRS
 write_map-returns-then-n-gt-MOST_PAIRS t c =
     let asked = c.requires in
-    let is = shape-map (table_of c.args.s.now) c.args.ty _ asked.1 asked.2 in
+    let is = shape-map (table_of c.args.rows.now.schema.bytes.now) c.args.ty _ asked.1 asked.2 in
     shown-refused _ _ _ _ c.at.ensures (map-many c.row_due.ensures c.in_ok-n.was _ _ is c.if-n-gt-MOST_PAIRS.true _)
 
 pub write_map-returns-then-n-eq0 : goal.write_map-returns-then-n-eq0
@@ -307,7 +306,7 @@ write_map-returns t c =
 pub write_pairs-loop-i-init : goal.write_pairs-loop-i-init
 write_pairs-loop-i-init t c =
     let all : c.args.n - 0 ≡ c.args.n = omega arith in
-    (rw (all, keys_none c.args.source.now c.args.keys.now) (writing-first c.requires.0), omega arith, refl, λ j l. absurd (omega arith))
+    (rw (all, keys_none c.args.rows.now.source.now c.args.keys.now) (writing-first c.requires.0), omega arith, refl, λ j l. absurd (omega arith))
 
 pub write_pairs-write_key-requires : goal.write_pairs-write_key-requires
 write_pairs-write_key-requires t c =
@@ -321,7 +320,7 @@ write_pairs-write_key-requires t c =
       small = writing-small loop.invariant.0;
       kept = loop.invariant.3;
       judged = λ j. (
-        shape_in c.args.s.now,
+        shape_in c.args.rows.now.schema.bytes.now,
         write-pairs-keys t at-known-row,
         (_, pair-first _ _ c.args.t.b _ _ some (writing-known loop.invariant.0 j)),
       );
@@ -403,14 +402,14 @@ write_run-write_structs-requires t c =
     let args = c.args in
     let asked = c.requires in
     let h = c.requires in
-    let s = args.s.now in (
+    let s = args.rows.now.schema.bytes.now in (
       omega (arith, c.decreases, h.3),
       (
         (
           onward h.0 h.0.inside h.0.capped refl (items-deeper _ _ (omega (arith, h.3)) _ _),
           shape-struct (table_of s) args.ty _ h.1 h.2,
         ),
-        struct_row s h.0.good args.ty _ h.1 h.2,
+        struct_row s c.args.rows.now.schema.good args.ty _ h.1 h.2,
       ),
     )
 
@@ -445,14 +444,11 @@ write_struct-returns t c =
     let start = struct-start (write-struct-head t at-struct-bits) c.in_ok-known.was _ asked.ready.0.small c.put_bits-next.ensures in
     renamed start c.write_fields.ensures
 
-pub write_structs-layout_of-requires : goal.write_structs-layout_of-requires
-write_structs-layout_of-requires t c = good-shaped _ c.requires.ready.0.good
-
 pub write_structs-required_of-required-requires : goal.write_structs-required_of-required-requires
 write_structs-required_of-required-requires t c =
     let asked = c.requires in
-    let good = asked.ready.0.good in
-    (good, good-laid _ _ good c.layout_of.ensures, asked.n_nonzero.1, asked.n_nonzero.2)
+    let good = c.args.rows.now.schema.good in
+    (good, c.layout.ensures, asked.n_nonzero.1, asked.n_nonzero.2)
 
 pub write_structs-write_struct-requires : goal.write_structs-write_struct-requires
 write_structs-write_struct-requires t c =

@@ -4,7 +4,7 @@ use mathlib.Core.Path.{◌≡◌}
 use mathlib.Core.List.{[]}
 use Prim.Native.Nat.{suc, ◌+◌, ◌-◌, ◌*◌, ◌≤◌}
 use lib.ListN.{length, replicate}
-use Rattle.schema.specs.File.{table_of}
+use Rattle.writer.specs.Walk.{table_in}
 use Rattle.value.specs.Read.{plain_item, pairs, present}
 use Rattle.walks.specs.Shape.{fields_from}
 use Rattle.walks.specs.Keys.{keys_in, Kept}
@@ -46,19 +46,19 @@ abbrev pub decreases-write_structs : goal.decreases-write_structs
 decreases-write_structs l = 6 * l.depth + 5
 
 abbrev pub invariant-write_elements-loop : goal.invariant-write_elements-loop
-invariant-write_elements-loop l = WritingItems l.s l.source l.sheet l.depth (replicate l.n (plain_item l.ty)) l.start l.pos l.judging l.initial.out [] (replicate (l.n - l.counter) (plain_item l.ty)) l.here l.to l.out
+invariant-write_elements-loop l = WritingItems l.rows l.depth (replicate l.n (plain_item l.ty)) l.start l.pos l.initial.out [] (replicate (l.n - l.counter) (plain_item l.ty)) l.here l.to l.out
 
 abbrev pub invariant-write_fields-loop-bits : goal.invariant-write_fields-loop-bits
-invariant-write_fields-loop-bits l = WritingItems l.s l.source l.sheet l.depth (present (fields_from (table_of l.s) l.first l.n) l.known) l.start l.pos l.judging l.initial.out []
-    (bits_left (table_of l.s) l.first l.n l.i l.bits) l.here l.to l.out × Standing l.first l.n l.i l.bits
+invariant-write_fields-loop-bits l = WritingItems l.rows l.depth (present (fields_from (table_in l.rows) l.first l.n) l.known) l.start l.pos l.initial.out []
+    (bits_left (table_in l.rows) l.first l.n l.i l.bits) l.here l.to l.out × Standing l.first l.n l.i l.bits
 
 abbrev pub decreases-write_fields-loop-bits : goal.decreases-write_fields-loop-bits
 decreases-write_fields-loop-bits l = l.bits
 
 abbrev pub invariant-write_structs-loop : goal.invariant-write_structs-loop
-invariant-write_structs-loop l = WritingItems l.s l.source l.sheet (suc l.depth) (replicate l.count (plain_item l.ty)) l.start l.pos l.judging l.initial.out [] (replicate (l.count - l.counter) (plain_item l.ty)) l.here l.to l.out
+invariant-write_structs-loop l = WritingItems l.rows (suc l.depth) (replicate l.count (plain_item l.ty)) l.start l.pos l.initial.out [] (replicate (l.count - l.counter) (plain_item l.ty)) l.here l.to l.out
 
 abbrev pub invariant-write_pairs-loop-i : goal.invariant-write_pairs-loop-i
 invariant-write_pairs-loop-i l =
-    WritingItems l.s l.source l.sheet l.depth (pairs l.n l.t.a l.t.b) l.start l.pos l.judging l.initial.out (keys_in l.source l.keys l.i) (pairs (l.n - l.i) l.t.a l.t.b) l.at l.to l.out
-    × (l.i ≤ l.n) × (length l.keys ≡ length l.initial.keys) × Kept l.source l.keys l.judging l.i
+    WritingItems l.rows l.depth (pairs l.n l.t.a l.t.b) l.start l.pos l.initial.out (keys_in l.rows.source.now l.keys l.i) (pairs (l.n - l.i) l.t.a l.t.b) l.at l.to l.out
+    × (l.i ≤ l.n) × (length l.keys ≡ length l.initial.keys) × Kept l.rows.source.now l.keys l.rows.judging l.i

@@ -16,7 +16,7 @@ use Rattle.writer.proofs.walk.root.Goals as goal
 -- the root's row and its bits, once both were read
 root-head : (c : After-struct_bits)
     → let args = c.args in
-    HeadRow false (shape_in args.s.now) args.source.now args.sheet.now 0 args.ty args.n (fields_from (table_of args.s.now) args.first args.n) c.struct_bits.result
+    HeadRow false (shape_in args.rows.now.schema.bytes.now) args.rows.now.source.now args.rows.now.sheet.now 0 args.ty args.n (fields_from (table_of args.rows.now.schema.bytes.now) args.first args.n) c.struct_bits.result
 root-head c =
     let asked = c.requires in
     head-row c.row_due.ensures c.in_ok-says.was c.struct_bits.ensures asked.ready.1 (length_fields _ _ _ asked.n_nonzero.2) c.required_of-required.ensures
@@ -24,13 +24,10 @@ root-head c =
 pub returns-in_err-says : goal.returns-in_err-says
 returns-in_err-says c = shown-refused _ _ _ _ (handed c.from_residual.ensures.1) (root-absent _ _ _ c.row_due.ensures c.in_err-says.was)
 
-pub layout_of-requires : goal.layout_of-requires
-layout_of-requires c = good-shaped _ c.requires.ready.0.good
-
 pub required_of-required-requires : goal.required_of-required-requires
 required_of-required-requires c =
     let asked = c.requires in
-    (asked.ready.0.good, good-laid _ _ asked.ready.0.good c.layout_of.ensures, asked.n_nonzero.1, asked.n_nonzero.2)
+    (c.args.rows.now.schema.good, c.layout.ensures, asked.n_nonzero.1, asked.n_nonzero.2)
 
 pub returns-in_err-known : goal.returns-in_err-known
 returns-in_err-known c = shown-refused _ _ _ _ (handed c.from_residual-in_err-known.ensures.1) (root-fault (root-head (goal.at.returns-in_err-known c).After-struct_bits) c.in_err-known.was)

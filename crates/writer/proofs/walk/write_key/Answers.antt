@@ -1,6 +1,7 @@
 -- `writer::walk::write_key` meets its contract.
 use Rattle.std.proofs.Common.{sym, ◌∙◌}
 use Rattle.writer.proofs.Steps.{handed}
+use Rattle.writer.proofs.Composites.{leaf_in}
 use Rattle.writer.proofs.Keys.{key-deep, key-failed, key_twice, key-done, key-says, key-once}
 use Rattle.writer.proofs.walk.write_key.Goals as goal
 
@@ -12,6 +13,11 @@ leaf_row-requires c = key-says _ _ _ _ _ _ _ _ _ _ _ c.requires c.if-depth-eq0.f
 
 pub returns-in_err-placed : goal.returns-in_err-placed
 returns-in_err-placed c = key-failed _ _ _ _ _ _ _ _ _ _ _ c.leaf_row.ensures c.if-depth-eq0.false c.in_err-placed.was (handed c.from_residual.ensures.1)
+
+pub is_repeated-requires-clause-i_in_bounds : goal.is_repeated-requires-clause-i_in_bounds
+is_repeated-requires-clause-i_in_bounds c =
+    let own = leaf_in c.leaf_row.ensures c.in_ok-placed.was in
+    (c.requires.keys-fit, own.4, own.5, own.3, c.requires.kept)
 
 pub is_repeated-requires-clause-i_value : goal.is_repeated-requires-clause-i_value
 is_repeated-requires-clause-i_value c = λ j. key-once _ _ _ _ _ _ _ _ _ _ _ c.requires c.if-depth-eq0.false j c.leaf_row.ensures c.in_ok-placed.was

@@ -12,7 +12,7 @@ pub leaf_row-requires : goal.leaf_row-requires
 leaf_row-requires c =
     let asked = c.requires in
     let args = c.args in
-    let T = table_of args.s.now in
+    let T = table_of args.rows.now.schema.bytes.now in
     let S = shape T in
     let some : args.depth ≡ 0 → ⊥ = λ q. omega (arith, q, asked.kind_nonzero.3) in
     let kind = shape-kind T args.ty args.kind asked.kind_nonzero.1 asked.kind_nonzero.0 asked.kind_nonzero.2 in
@@ -22,7 +22,7 @@ pub returns-in_err-placed : goal.returns-in_err-placed
 returns-in_err-placed c =
     let args = c.args in
     let asked = c.requires in
-    let T = table_of args.s.now in
+    let T = table_of args.rows.now.schema.bytes.now in
     let S = shape T in
     let kind = shape-kind T args.ty args.kind asked.kind_nonzero.1 asked.kind_nonzero.0 asked.kind_nonzero.2 in
     let some : args.depth ≡ 0 → ⊥ = λ q. omega (arith, q, asked.kind_nonzero.3) in
@@ -33,7 +33,7 @@ returns c =
     let args = c.args in
     let asked = c.requires in
     let leaf-row = c.leaf_row in
-    let T = table_of args.s.now in
+    let T = table_of args.rows.now.schema.bytes.now in
     let S = shape T in
     let kind = shape-kind T args.ty args.kind asked.kind_nonzero.1 asked.kind_nonzero.0 asked.kind_nonzero.2 in
     let some : args.depth ≡ 0 → ⊥ = λ q. omega (arith, q, asked.kind_nonzero.3) in

@@ -7,4 +7,4 @@ use Rattle.writer.proofs.Composites.{WritingItems}
 use Rattle.writer.proofs.walk.write_leaves.Given as goal
 
 abbrev pub invariant-loop : goal.invariant-loop
-invariant-loop l = WritingItems l.s l.source l.sheet l.depth (replicate l.n (plain_item l.elem)) l.start l.pos l.judging l.initial.out [] (replicate (l.n - l.counter) (plain_item l.elem)) l.here l.to l.out
+invariant-loop l = WritingItems l.rows l.depth (replicate l.n (plain_item l.elem)) l.start l.pos l.initial.out [] (replicate (l.n - l.counter) (plain_item l.elem)) l.here l.to l.out
