@@ -7,7 +7,6 @@ ghost use Rattle.buffer.specs.Store.{put};
 ghost use Rattle.wire.specs.Little.{little};
 ghost use Rattle.schema.specs.declared.Field.{Field};
 ghost use Rattle.schema.specs.Table.{bitmap_bytes};
-ghost use Rattle.schema.specs.Check.{IsGood};
 ghost use Rattle.value.specs.Sheet.{rows_of};
 ghost use Rattle.value.specs.Read.{unknown_bits};
 ghost use Rattle.writer.specs.Told.{told};
@@ -18,11 +17,11 @@ ghost use Rattle.forward.specs.Entry.{sheet_forwarded, forward_outcome};
 
 use constants::refusal::{Refusal, Refused};
 use constants::{format, kind, limit};
-use table::access::type_row;
-use table::checking::check;
+use table::good::Schema;
 use wire::bitmap;
 use writer::leaf::wide;
 use writer::put::put_span;
+use writer::rows::Rows;
 use writer::walk::root;
 
 // The place of the root's row; without a row 0.
@@ -103,7 +102,7 @@ fn keep(
 // The sheet's rows over the source, with a tail in the source, forwarded as a struct of type ty by a good table. The first walk judges and measures;
 // the second writes what the plain writer writes, where all fits.
 pub fn forward_sheet(
-    s: &[u8],
+    schema: &Schema,
     ty: u32,
     sheet: &[u32],
     source: &[u8],
@@ -111,16 +110,21 @@ pub fn forward_sheet(
     tail_length: usize,
     out: &mut [u8],
 ) -> Result<usize, Refused>
-    requires { IsGood s.now }
-    ensures { outcome (told result) out.new ≡ sheet_forwarded s.now ty sheet.now source.now tail_place tail_length out.old }
+    ensures { outcome (told result) out.new ≡ sheet_forwarded schema.now.bytes.now ty sheet.now source.now tail_place tail_length out.old }
 {
-    let t = type_row(s, ty as usize);
+    let t = schema.type_row(ty as usize);
     if t.kind != kind::STRUCT {
         return Refusal::NoStruct.at(0);
     }
     let first = t.a as usize;
     let n = t.b as usize;
-    let pos = root(s, sheet, source, &mut out[..0], ty, first, n, true)?.pos;
+    let judged = Rows {
+        schema: *schema,
+        sheet,
+        source,
+        judging: true,
+    };
+    let pos = root(&judged, &mut out[..0], ty, first, n)?.pos;
     let place = root_place(sheet);
     let unknown = unknown_at(source, place, n);
     fault_of(
@@ -131,7 +135,11 @@ pub fn forward_sheet(
         pos,
         out.len(),
     )?;
-    let _ = root(s, sheet, source, &mut out[..pos], ty, first, n, false);
+    let known = Rows {
+        judging: false,
+        ..judged
+    };
+    let _ = root(&known, &mut out[..pos], ty, first, n);
     keep(
         out,
         pos,
@@ -157,6 +165,6 @@ pub fn forward(
 ) -> Result<usize, Refused>
     ensures { outcome (told result) out.new ≡ forward_outcome s.now ty sheet.now source.now tail_place tail_length out.old }
 {
-    check(s)?;
-    forward_sheet(s, ty, sheet, source, tail_place, tail_length, out)
+    let schema = Schema::check(s)?;
+    forward_sheet(&schema, ty, sheet, source, tail_place, tail_length, out)
 }

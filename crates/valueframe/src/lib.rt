@@ -2,7 +2,6 @@
 #![tactic(auto)]
 
 ghost use Rattle.std.specs.Prelude.{◌≡◌, ◌+◌, ◌≤◌, length};
-ghost use Rattle.schema.specs.Check.{IsGood};
 ghost use Rattle.value.specs.Sheet.{rows_of};
 ghost use Rattle.writer.specs.Told.{told};
 ghost use Rattle.writer.specs.Entry.{outcome, outcome_of, length_of, payload_by};
@@ -12,7 +11,7 @@ ghost use Rattle.valueframe.specs.Part.{belongs, part_after};
 use constants::refusal::{Refusal, Refused};
 use constants::{format, limit};
 use frame::{Header, known_kind, payload_place, write_front};
-use table::checking::check;
+use table::good::Schema;
 use writer::leaf::wide;
 use writer::put::put_span;
 use writer::{FEW_CELLS, SHORT, make, put_payload};
@@ -93,7 +92,7 @@ fn is_there(answer: Result<usize, Refused>, start: usize, size: usize) -> bool
 // Writes the payload into a part of the output that starts at a place of the frame. What stood there is kept until the value is known to be right
 // and to belong there, and is put back otherwise.
 fn put_first(
-    s: &[u8],
+    schema: &Schema,
     ty: u32,
     sheet: &[u32],
     source: &[u8],
@@ -101,13 +100,13 @@ fn put_first(
     kept: &mut [u8],
     part: &mut [u8],
 ) -> Result<usize, Refused>
-    requires { IsGood s.now × (length part.old ≤ length kept.old) × (length kept.old ≤ 16384) }
-    ensures value { told result ≡ length_of (payload_by s.now ty sheet.now source.now) }
-    ensures part_after { part.new ≡ part_after (payload_by s.now ty sheet.now source.now) start part.old }
+    requires { (length part.old ≤ length kept.old) × (length kept.old ≤ 16384) }
+    ensures value { told result ≡ length_of (payload_by schema.now.bytes.now ty sheet.now source.now) }
+    ensures part_after { part.new ≡ part_after (payload_by schema.now.bytes.now ty sheet.now source.now) start part.old }
 {
     let n = part.len();
     put_span(kept, 0, part, 0, n);
-    let answer = make(s, ty, sheet, source, part);
+    let answer = make(schema.bytes, ty, sheet, source, part);
     if !is_there(answer, start, n) {
         put_span(part, 0, kept, 0, n);
     }
@@ -118,7 +117,7 @@ fn put_first(
 // written first takes a second walk, which writes it into its place.
 fn write_keeping(
     header: Header,
-    s: &[u8],
+    schema: &Schema,
     ty: u32,
     sheet: &[u32],
     source: &[u8],
@@ -126,11 +125,19 @@ fn write_keeping(
     kept: &mut [u8],
     out: &mut [u8],
 ) -> Result<usize, Refused>
-    requires { IsGood s.now × (header.kind ≤ 8) × (g.kept ≤ length kept.old) × (length kept.old ≤ 16384) }
-    ensures { outcome (told result) out.new ≡ frame_in header out.old (payload_by s.now ty sheet.now source.now) }
+    requires { (header.kind ≤ 8) × (g.kept ≤ length kept.old) × (length kept.old ≤ 16384) }
+    ensures { outcome (told result) out.new ≡ frame_in header out.old (payload_by schema.now.bytes.now ty sheet.now source.now) }
 {
     let Part { start, end: until } = part_for(g, out.len());
-    let answer = put_first(s, ty, sheet, source, start, kept, &mut out[start..until]);
+    let answer = put_first(
+        schema,
+        ty,
+        sheet,
+        source,
+        start,
+        kept,
+        &mut out[start..until],
+    );
     let length = answer?;
     let place = payload_place(length as u64);
     let end = place + length;
@@ -139,7 +146,7 @@ fn write_keeping(
     }
     write_front(out, header, length as u64);
     if !is_there(answer, start, until - start) {
-        put_payload(s, ty, sheet, source, &mut out[place..end]);
+        put_payload(schema.bytes, ty, sheet, source, &mut out[place..end]);
     }
     Ok(end)
 }
@@ -163,14 +170,13 @@ fn write_empty(header: Header, sheet: &[u32], out: &mut [u8]) -> Result<usize, R
 // The frame of a header and the value that the sheet's rows show over the source, by a good table.
 fn write_frame(
     header: Header,
-    s: &[u8],
+    schema: &Schema,
     ty: u32,
     sheet: &[u32],
     source: &[u8],
     out: &mut [u8],
 ) -> Result<usize, Refused>
-    requires { IsGood s.now }
-    ensures { outcome (told result) out.new ≡ outcome_of out.old (value_frame header s.now ty sheet.now source.now (length out.old)) }
+    ensures { outcome (told result) out.new ≡ outcome_of out.old (value_frame header schema.now.bytes.now ty sheet.now source.now (length out.old)) }
 {
     if !known_kind(header.kind) {
         return Refusal::Kind.at(0);
@@ -181,10 +187,10 @@ fn write_frame(
     let g = guess_of(sheet);
     if g.kept <= SHORT {
         let mut kept = [0u8; SHORT];
-        return write_keeping(header, s, ty, sheet, source, g, &mut kept, out);
+        return write_keeping(header, schema, ty, sheet, source, g, &mut kept, out);
     }
     let mut kept = [0u8; limit::PAYLOAD];
-    write_keeping(header, s, ty, sheet, source, g, &mut kept, out)
+    write_keeping(header, schema, ty, sheet, source, g, &mut kept, out)
 }
 
 // The same by any table: its own refusals come first.
@@ -199,6 +205,6 @@ pub fn write_value_frame(
 ) -> Result<usize, Refused>
     ensures { outcome (told result) out.new ≡ frame_outcome header schema.now ty sheet.now source.now out.old }
 {
-    check(schema)?;
-    write_frame(header, schema, ty, sheet, source, out)
+    let schema = Schema::check(schema)?;
+    write_frame(header, &schema, ty, sheet, source, out)
 }

@@ -18,7 +18,6 @@ use crate::rows::Rows;
 use crate::walk::root;
 use constants::refusal::{Refusal, Refused};
 use constants::{kind, limit};
-use table::checking::check;
 use table::good::Schema;
 
 // A sheet of so many cells at most is likely written to a payload of so many bytes at most.
@@ -77,22 +76,22 @@ pub fn put_payload(s: &[u8], ty: u32, sheet: &[u32], source: &[u8], out: &mut [u
 // The sheet's rows over the source, written as a struct of type ty by a good table: made in the scratch memory, and copied where all is right and fits.
 // A payload that is too long for the scratch memory takes a second walk, which writes.
 fn write_through(
-    s: &[u8],
+    schema: &Schema,
     ty: u32,
     sheet: &[u32],
     source: &[u8],
     scratch: &mut [u8],
     out: &mut [u8],
 ) -> Result<usize, Refused>
-    requires { IsGood s.now × (length scratch.old ≤ 16384) }
-    ensures { outcome (told result) out.new ≡ sheet_outcome s.now ty sheet.now source.now out.old }
+    requires { length scratch.old ≤ 16384 }
+    ensures { outcome (told result) out.new ≡ sheet_outcome schema.now.bytes.now ty sheet.now source.now out.old }
 {
-    let length = make(s, ty, sheet, source, scratch)?;
+    let length = make(schema.bytes, ty, sheet, source, scratch)?;
     if out.len() < length {
         return Refusal::OutputTooShort.at(0);
     }
     if scratch.len() < length {
-        put_payload(s, ty, sheet, source, &mut out[..length]);
+        put_payload(schema.bytes, ty, sheet, source, &mut out[..length]);
     } else {
         put_span(out, 0, scratch, 0, length);
     }
@@ -101,21 +100,20 @@ fn write_through(
 
 // The same with scratch memory of its own: little where there are few rows, and elsewhere enough for every payload.
 pub fn write_sheet(
-    s: &[u8],
+    schema: &Schema,
     ty: u32,
     sheet: &[u32],
     source: &[u8],
     out: &mut [u8],
 ) -> Result<usize, Refused>
-    requires { IsGood s.now }
-    ensures { outcome (told result) out.new ≡ sheet_outcome s.now ty sheet.now source.now out.old }
+    ensures { outcome (told result) out.new ≡ sheet_outcome schema.now.bytes.now ty sheet.now source.now out.old }
 {
     if sheet.len() <= FEW_CELLS {
         let mut scratch = [0u8; SHORT];
-        return write_through(s, ty, sheet, source, &mut scratch, out);
+        return write_through(schema, ty, sheet, source, &mut scratch, out);
     }
     let mut scratch = [0u8; limit::PAYLOAD];
-    write_through(s, ty, sheet, source, &mut scratch, out)
+    write_through(schema, ty, sheet, source, &mut scratch, out)
 }
 
 // The same by any table: its own refusals come first.
@@ -129,6 +127,6 @@ pub fn write(
 ) -> Result<usize, Refused>
     ensures { outcome (told result) out.new ≡ file_outcome s.now ty sheet.now source.now out.old }
 {
-    check(s)?;
-    write_sheet(s, ty, sheet, source, out)
+    let schema = Schema::check(s)?;
+    write_sheet(&schema, ty, sheet, source, out)
 }

@@ -29,19 +29,17 @@ returns-then-t-ne-STRUCT c =
     let args = c.args in
     let type_row = c.type_row-t in
     rw c.at.ensures
-    (entry_other args.s.now c.requires args.ty args.sheet.now args.source.now
+    (entry_other args.schema.now.bytes.now c.args.schema.now.good args.ty args.sheet.now args.source.now
     args.tail_place args.tail_length args.out.now _ type_row.ensures c.if-t-ne-STRUCT.true)
 
 pub root-requires : goal.root-requires
 root-requires c =
     let args = c.args in
-    let asked = c.requires in
     let type_row = c.type_row-t in
     let if1 = c.if-t-ne-STRUCT in
-    let is = shape-struct (table_of args.s.now) args.ty _ type_row.ensures if1.false in record {
+    let is = shape-struct (table_of args.schema.now.bytes.now) args.ty _ type_row.ensures if1.false in record {
       ready = (
         record {
-          good = asked;
           inside = omega arith;
           capped = omega arith;
           small = omega arith;
@@ -49,22 +47,21 @@ root-requires c =
         },
         is,
       );
-      n_nonzero = struct_row args.s.now asked args.ty _ type_row.ensures if1.false;
+      n_nonzero = struct_row args.schema.now.bytes.now c.args.schema.now.good args.ty _ type_row.ensures if1.false;
     }
 
 pub unknown_at-unknown-requires : goal.unknown_at-unknown-requires
 unknown_at-unknown-requires c =
     let placed = c.root_place-place in
     let args = c.args in
-    let asked = c.requires in
     let if1 = c.if-t-ne-STRUCT in
     let type_row = c.type_row-t in
-    let T = table_of args.s.now in
+    let T = table_of args.schema.now.bytes.now in
     let is = shape-struct T args.ty _ type_row.ensures if1.false in
     let fs = fields_from T type_row.result.a type_row.result.b in
-    let there = struct_row args.s.now asked args.ty _ type_row.ensures if1.false in
+    let there = struct_row args.schema.now.bytes.now c.args.schema.now.good args.ty _ type_row.ensures if1.false in
     let many = length_fields T type_row.result.a type_row.result.b there.2 in
-    let within = entry-inside args.s.now args.ty args.sheet.now args.source.now args.tail_place args.tail_length args.out.now fs is
+    let within = entry-inside args.schema.now.bytes.now args.ty args.sheet.now args.source.now args.tail_place args.tail_length args.out.now fs is
     _ _ _ c.root.ensures c.root.auto.out _ c.in_ok-pos.was
     placed.result _ placed.ensures many in
     (there.1, within)
@@ -74,16 +71,15 @@ returns-in_err-fault_of c =
     let unknown = c.unknown_at-unknown in
     let placed = c.root_place-place in
     let args = c.args in
-    let asked = c.requires in
     let if1 = c.if-t-ne-STRUCT in
     let type_row = c.type_row-t in
-    let T = table_of args.s.now in
+    let T = table_of args.schema.now.bytes.now in
     let is = shape-struct T args.ty _ type_row.ensures if1.false in
     let fs = fields_from T type_row.result.a type_row.result.b in
-    let there = struct_row args.s.now asked args.ty _ type_row.ensures if1.false in
+    let there = struct_row args.schema.now.bytes.now c.args.schema.now.good args.ty _ type_row.ensures if1.false in
     let many = length_fields T type_row.result.a type_row.result.b there.2 in
     rw (handed c.from_residual-in_err-fault_of.ensures.1)
-    (entry-fault args.s.now args.ty args.sheet.now args.source.now args.tail_place args.tail_length args.out.now fs is
+    (entry-fault args.schema.now.bytes.now args.ty args.sheet.now args.source.now args.tail_place args.tail_length args.out.now fs is
     _ _ _ c.root.ensures c.root.auto.out _ c.in_ok-pos.was
     placed.result _ placed.ensures many _ unknown.ensures _ c.fault_of.ensures.fault _ (ap told_fault c.in_err-fault_of.was) (IfErr-at_err (λ (e : Refused). e.place ≡ 0) c.in_err-fault_of.was c.fault_of.ensures.place))
 
@@ -92,15 +88,14 @@ slice_bounds-root-end-3 c =
     let unknown = c.unknown_at-unknown in
     let placed = c.root_place-place in
     let args = c.args in
-    let asked = c.requires in
     let if1 = c.if-t-ne-STRUCT in
     let type_row = c.type_row-t in
-    let T = table_of args.s.now in
+    let T = table_of args.schema.now.bytes.now in
     let is = shape-struct T args.ty _ type_row.ensures if1.false in
     let fs = fields_from T type_row.result.a type_row.result.b in
-    let there = struct_row args.s.now asked args.ty _ type_row.ensures if1.false in
+    let there = struct_row args.schema.now.bytes.now c.args.schema.now.good args.ty _ type_row.ensures if1.false in
     let many = length_fields T type_row.result.a type_row.result.b there.2 in
-    entry-fits args.s.now args.ty args.sheet.now args.source.now args.tail_place args.tail_length args.out.now fs is
+    entry-fits args.schema.now.bytes.now args.ty args.sheet.now args.source.now args.tail_place args.tail_length args.out.now fs is
     _ _ _ c.root.ensures c.root.auto.out _ c.in_ok-pos.was
     placed.result _ placed.ensures many _ unknown.ensures _ c.fault_of.ensures.fault (ap told_fault c.in_ok-fault_of.was)
 
@@ -109,16 +104,15 @@ slice_bounds-root-end-4 c =
     let unknown = c.unknown_at-unknown in
     let placed = c.root_place-place in
     let args = c.args in
-    let asked = c.requires in
     let if1 = c.if-t-ne-STRUCT in
     let type_row = c.type_row-t in
-    let T = table_of args.s.now in
+    let T = table_of args.schema.now.bytes.now in
     let is = shape-struct T args.ty _ type_row.ensures if1.false in
     let fs = fields_from T type_row.result.a type_row.result.b in
-    let there = struct_row args.s.now asked args.ty _ type_row.ensures if1.false in
+    let there = struct_row args.schema.now.bytes.now c.args.schema.now.good args.ty _ type_row.ensures if1.false in
     let many = length_fields T type_row.result.a type_row.result.b there.2 in
     sym (length-take-le _ _
-    (entry-fits args.s.now args.ty args.sheet.now args.source.now args.tail_place args.tail_length args.out.now fs is
+    (entry-fits args.schema.now.bytes.now args.ty args.sheet.now args.source.now args.tail_place args.tail_length args.out.now fs is
     _ _ _ c.root.ensures c.root.auto.out _ c.in_ok-pos.was
     placed.result _ placed.ensures many _ unknown.ensures _ c.fault_of.ensures.fault (ap told_fault c.in_ok-fault_of.was)))
 
@@ -127,25 +121,23 @@ root-requires-2 c =
     let unknown = c.unknown_at-unknown in
     let placed = c.root_place-place in
     let args = c.args in
-    let asked = c.requires in
     let if1 = c.if-t-ne-STRUCT in
     let type_row = c.type_row-t in
-    let T = table_of args.s.now in
+    let T = table_of args.schema.now.bytes.now in
     let is = shape-struct T args.ty _ type_row.ensures if1.false in
     let fs = fields_from T type_row.result.a type_row.result.b in
-    let there = struct_row args.s.now asked args.ty _ type_row.ensures if1.false in
+    let there = struct_row args.schema.now.bytes.now c.args.schema.now.good args.ty _ type_row.ensures if1.false in
     let many = length_fields T type_row.result.a type_row.result.b there.2 in
-    let room = entry-fits args.s.now args.ty args.sheet.now args.source.now args.tail_place args.tail_length args.out.now fs is
+    let room = entry-fits args.schema.now.bytes.now args.ty args.sheet.now args.source.now args.tail_place args.tail_length args.out.now fs is
     _ _ _ c.root.ensures c.root.auto.out _ c.in_ok-pos.was
     placed.result _ placed.ensures many _ unknown.ensures _ c.fault_of.ensures.fault (ap told_fault c.in_ok-fault_of.was) in
-    let short = entry-short args.s.now args.ty args.sheet.now args.source.now args.tail_place args.tail_length args.out.now fs is
+    let short = entry-short args.schema.now.bytes.now args.ty args.sheet.now args.source.now args.tail_place args.tail_length args.out.now fs is
     _ _ _ c.root.ensures c.root.auto.out _ c.in_ok-pos.was
     placed.result _ placed.ensures many _ unknown.ensures _ c.fault_of.ensures.fault (ap told_fault c.in_ok-fault_of.was) in
-    let shown = entry-accepted args.s.now args.ty args.sheet.now args.source.now args.tail_place args.tail_length args.out.now fs is
+    let shown = entry-accepted args.schema.now.bytes.now args.ty args.sheet.now args.source.now args.tail_place args.tail_length args.out.now fs is
     _ _ _ c.root.ensures c.root.auto.out _ c.in_ok-pos.was in record {
       ready = (
         record {
-          good = asked;
           inside = omega arith;
           capped = omega arith;
           small = rw (length-take-le _ _ room) (omega (arith, short));
@@ -161,22 +153,21 @@ keep-requires c =
     let unknown = c.unknown_at-unknown in
     let placed = c.root_place-place in
     let args = c.args in
-    let asked = c.requires in
     let if1 = c.if-t-ne-STRUCT in
     let type_row = c.type_row-t in
-    let T = table_of args.s.now in
+    let T = table_of args.schema.now.bytes.now in
     let is = shape-struct T args.ty _ type_row.ensures if1.false in
     let fs = fields_from T type_row.result.a type_row.result.b in
-    let there = struct_row args.s.now asked args.ty _ type_row.ensures if1.false in
+    let there = struct_row args.schema.now.bytes.now c.args.schema.now.good args.ty _ type_row.ensures if1.false in
     let many = length_fields T type_row.result.a type_row.result.b there.2 in
     let none = ap told_fault c.in_ok-fault_of.was in
-    let short = entry-short args.s.now args.ty args.sheet.now args.source.now args.tail_place args.tail_length args.out.now fs is
+    let short = entry-short args.schema.now.bytes.now args.ty args.sheet.now args.source.now args.tail_place args.tail_length args.out.now fs is
     _ _ _ c.root.ensures c.root.auto.out _ c.in_ok-pos.was
     placed.result _ placed.ensures many _ unknown.ensures _ c.fault_of.ensures.fault none in
-    let within = entry-inside args.s.now args.ty args.sheet.now args.source.now args.tail_place args.tail_length args.out.now fs is
+    let within = entry-inside args.schema.now.bytes.now args.ty args.sheet.now args.source.now args.tail_place args.tail_length args.out.now fs is
     _ _ _ c.root.ensures c.root.auto.out _ c.in_ok-pos.was
     placed.result _ placed.ensures many in
-    let tail = entry-tail args.s.now args.ty args.sheet.now args.source.now args.tail_place args.tail_length args.out.now fs is
+    let tail = entry-tail args.schema.now.bytes.now args.ty args.sheet.now args.source.now args.tail_place args.tail_length args.out.now fs is
     _ _ _ c.root.ensures c.root.auto.out _ c.in_ok-pos.was
     placed.result _ placed.ensures many _ unknown.ensures _ c.fault_of.ensures.fault none in
     (omega (arith, short), within, tail)
@@ -186,15 +177,14 @@ overflow_add-result c =
     let unknown = c.unknown_at-unknown in
     let placed = c.root_place-place in
     let args = c.args in
-    let asked = c.requires in
     let if1 = c.if-t-ne-STRUCT in
     let type_row = c.type_row-t in
-    let T = table_of args.s.now in
+    let T = table_of args.schema.now.bytes.now in
     let is = shape-struct T args.ty _ type_row.ensures if1.false in
     let fs = fields_from T type_row.result.a type_row.result.b in
-    let there = struct_row args.s.now asked args.ty _ type_row.ensures if1.false in
+    let there = struct_row args.schema.now.bytes.now c.args.schema.now.good args.ty _ type_row.ensures if1.false in
     let many = length_fields T type_row.result.a type_row.result.b there.2 in
-    let short = entry-short args.s.now args.ty args.sheet.now args.source.now args.tail_place args.tail_length args.out.now fs is
+    let short = entry-short args.schema.now.bytes.now args.ty args.sheet.now args.source.now args.tail_place args.tail_length args.out.now fs is
     _ _ _ c.root.ensures c.root.auto.out _ c.in_ok-pos.was
     placed.result _ placed.ensures many _ unknown.ensures _ c.fault_of.ensures.fault (ap told_fault c.in_ok-fault_of.was) in
     omega (arith, short)
@@ -202,14 +192,13 @@ overflow_add-result c =
 pub returns-in_err-pos : goal.returns-in_err-pos
 returns-in_err-pos c =
     let args = c.args in
-    let asked = c.requires in
     let if1 = c.if-t-ne-STRUCT in
     let type_row = c.type_row-t in
-    let T = table_of args.s.now in
+    let T = table_of args.schema.now.bytes.now in
     let is = shape-struct T args.ty _ type_row.ensures if1.false in
     let fs = fields_from T type_row.result.a type_row.result.b in
     rw (handed c.from_residual.ensures.1)
-    (entry-refused args.s.now args.ty args.sheet.now args.source.now args.tail_place args.tail_length args.out.now fs is
+    (entry-refused args.schema.now.bytes.now args.ty args.sheet.now args.source.now args.tail_place args.tail_length args.out.now fs is
     _ _ _ c.root.ensures c.root.auto.out c.in_err-pos.was)
 
 pub returns : goal.returns
@@ -217,16 +206,15 @@ returns c =
     let unknown = c.unknown_at-unknown in
     let placed = c.root_place-place in
     let args = c.args in
-    let asked = c.requires in
     let if1 = c.if-t-ne-STRUCT in
     let type_row = c.type_row-t in
-    let T = table_of args.s.now in
+    let T = table_of args.schema.now.bytes.now in
     let is = shape-struct T args.ty _ type_row.ensures if1.false in
     let fs = fields_from T type_row.result.a type_row.result.b in
-    let there = struct_row args.s.now asked args.ty _ type_row.ensures if1.false in
+    let there = struct_row args.schema.now.bytes.now c.args.schema.now.good args.ty _ type_row.ensures if1.false in
     let many = length_fields T type_row.result.a type_row.result.b there.2 in
     let root2 = c.root-2 in
-    entry-written args.s.now args.ty args.sheet.now args.source.now args.tail_place args.tail_length args.out.now fs is
+    entry-written args.schema.now.bytes.now args.ty args.sheet.now args.source.now args.tail_place args.tail_length args.out.now fs is
     _ _ _ c.root.ensures c.root.auto.out _ c.in_ok-pos.was
     placed.result _ placed.ensures many _ unknown.ensures _ c.fault_of.ensures.fault (ap told_fault c.in_ok-fault_of.was)
     _ _ root2.ensures _ c.keep.ensures

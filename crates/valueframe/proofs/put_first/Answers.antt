@@ -11,10 +11,10 @@ pub returns-then-not-is_there : goal.returns-then-not-is_there
 returns-then-not-is_there c =
     let args = c.args in
     let part = args.part.now in
-    let w = payload_by args.s.now args.ty args.sheet.now args.source.now in
+    let w = payload_by args.schema.now.bytes.now args.ty args.sheet.now args.source.now in
     let other = ap (λ (a : code.Writing). belongs a args.start (length part)) (sym c.make-answer.ensures.value)
     ∙ sym c.is_there.ensures ∙ c.if-not-is_there.true in
-    let back = put_back part args.kept.now _ _ _ c.requires.1 c.put_span.ensures
+    let back = put_back part args.kept.now _ _ _ c.requires.0 c.put_span.ensures
     c.make-answer.auto.scratch c.put_span-then-not-is_there.ensures in
     record { value = c.make-answer.ensures.value; part_after = back ∙ sym (part-other w args.start part other) }
 
@@ -22,6 +22,6 @@ pub returns-else-not-is_there : goal.returns-else-not-is_there
 returns-else-not-is_there c =
     let args = c.args in
     let part = args.part.now in
-    let w = payload_by args.s.now args.ty args.sheet.now args.source.now in
+    let w = payload_by args.schema.now.bytes.now args.ty args.sheet.now args.source.now in
     let there = ap (λ (a : code.Writing). belongs a args.start (length part)) (sym c.make-answer.ensures.value) ∙ sym c.is_there.ensures ∙ c.if-not-is_there.false in
     record { value = c.make-answer.ensures.value; part_after = part-there w args.start part there _ c.make-answer.ensures.fronts }

@@ -16,13 +16,13 @@ pub overflow_add-end : goal.overflow_add-end
 overflow_add-end c =
     let args = c.args in
     let size = sym c.put_first-answer.ensures.value ∙ ap told c.in_ok-length.was in
-    omega (arith, c.payload_place-place.ensures.1, value-limit args.s.now args.ty args.sheet.now args.source.now size)
+    omega (arith, c.payload_place-place.ensures.1, value-limit args.schema.now.bytes.now args.ty args.sheet.now args.source.now size)
 
 pub returns-then-out-end : goal.returns-then-out-end
 returns-then-out-end c =
     let args = c.args in
     let part = c.part_for-start in
-    let w = payload_by args.s.now args.ty args.sheet.now args.source.now in
+    let w = payload_by args.schema.now.bytes.now args.ty args.sheet.now args.source.now in
     let size = sym c.put_first-answer.ensures.value ∙ ap told c.in_ok-length.was in
     rw c.at.ensures
     (keep-full w part.result.start part.result.end args.out.now _
@@ -32,13 +32,13 @@ pub put_payload-requires : goal.put_payload-requires
 put_payload-requires c =
     let front = c.write_front in
     let size = sym c.put_first-answer.ensures.value ∙ ap told c.in_ok-length.was in
-    record { good = c.requires.0; source_value = size ∙ ap Written (part_length _ _ _ front.new.out front.auto.out c.if-out-end.false) }
+    record { good = c.args.schema.now.good; source_value = size ∙ ap Written (part_length _ _ _ front.new.out front.auto.out c.if-out-end.false) }
 
 pub returns-in_err-length : goal.returns-in_err-length
 returns-in_err-length c =
     let args = c.args in
     let part = c.part_for-start in
-    let w = payload_by args.s.now args.ty args.sheet.now args.source.now in
+    let w = payload_by args.schema.now.bytes.now args.ty args.sheet.now args.source.now in
     rw (handed c.from_residual.ensures.1)
     (keep-refused w part.result.start part.result.end args.out.now _
     part.ensures.0 part.ensures.1 c.put_first-answer.ensures.part_after args.header c.put_first-answer.auto.part _ _ (sym c.put_first-answer.ensures.value ∙ ap told c.in_err-length.was))
@@ -47,7 +47,7 @@ pub returns-then-not-is_there : goal.returns-then-not-is_there
 returns-then-not-is_there c =
     let args = c.args in
     let part = c.part_for-start in
-    let w = payload_by args.s.now args.ty args.sheet.now args.source.now in
+    let w = payload_by args.schema.now.bytes.now args.ty args.sheet.now args.source.now in
     let size = sym c.put_first-answer.ensures.value ∙ ap told c.in_ok-length.was in
     let other = ap (λ (a : code.Writing). belongs a part.result.start (part.result.end - part.result.start)) (sym c.put_first-answer.ensures.value)
     ∙ sym c.is_there.ensures ∙ c.if-not-is_there.true in
@@ -59,7 +59,7 @@ pub returns-else-not-is_there : goal.returns-else-not-is_there
 returns-else-not-is_there c =
     let args = c.args in
     let part = c.part_for-start in
-    let w = payload_by args.s.now args.ty args.sheet.now args.source.now in
+    let w = payload_by args.schema.now.bytes.now args.ty args.sheet.now args.source.now in
     let size = sym c.put_first-answer.ensures.value ∙ ap told c.in_ok-length.was in
     let there = ap (λ (a : code.Writing). belongs a part.result.start (part.result.end - part.result.start)) (sym c.put_first-answer.ensures.value) ∙ sym c.is_there.ensures ∙ c.if-not-is_there.false in
     keep-there w part.result.start part.result.end args.out.now _

@@ -12,24 +12,23 @@ returns-then-out-length c =
     let make = c.make in
     let args = c.args in
     rw c.at.ensures
-    (entry-room args.s.now args.ty args.sheet.now args.source.now args.out.now _ (sym make.ensures.value ∙ ap told c.in_ok-length.was) c.if-out-length.true)
+    (entry-room args.schema.now.bytes.now args.ty args.sheet.now args.source.now args.out.now _ (sym make.ensures.value ∙ ap told c.in_ok-length.was) c.if-out-length.true)
 
 pub slice_bounds-put_payload-end-then-scratch-length : goal.slice_bounds-put_payload-end-then-scratch-length
 slice_bounds-put_payload-end-then-scratch-length c = sym (length-take-le _ _ c.if-out-length.false)
 
 pub put_payload-requires : goal.put_payload-requires
 put_payload-requires c =
-    let pre = c.requires in
     let make = c.make in
     let room = length-take-le _ _ c.if-out-length.false in
-    record { good = pre.0; source_value = sym make.ensures.value ∙ ap told c.in_ok-length.was ∙ ap Written (sym room) }
+    record { good = c.args.schema.now.good; source_value = sym make.ensures.value ∙ ap told c.in_ok-length.was ∙ ap Written (sym room) }
 
 pub returns-in_err-length : goal.returns-in_err-length
 returns-in_err-length c =
     let make = c.make in
     let args = c.args in
     rw (handed c.from_residual.ensures.1)
-    (entry-refused args.s.now args.ty args.sheet.now args.source.now args.out.now _ _ (sym make.ensures.value ∙ ap told c.in_err-length.was))
+    (entry-refused args.schema.now.bytes.now args.ty args.sheet.now args.source.now args.out.now _ _ (sym make.ensures.value ∙ ap told c.in_err-length.was))
 
 pub returns-then-scratch-length : goal.returns-then-scratch-length
 returns-then-scratch-length c =
@@ -37,7 +36,7 @@ returns-then-scratch-length c =
     let if1 = c.if-out-length in
     let args = c.args in
     let size = sym make.ensures.value ∙ ap told c.in_ok-length.was in
-    entry-written args.s.now args.ty args.sheet.now args.source.now args.out.now _ size if1.false _ c.put_payload.ensures
+    entry-written args.schema.now.bytes.now args.ty args.sheet.now args.source.now args.out.now _ size if1.false _ c.put_payload.ensures
 
 pub returns-else-scratch-length : goal.returns-else-scratch-length
 returns-else-scratch-length c =
@@ -46,4 +45,4 @@ returns-else-scratch-length c =
     let if2 = c.if-scratch-length in
     let args = c.args in
     let size = sym make.ensures.value ∙ ap told c.in_ok-length.was in
-    entry-copied args.s.now args.ty args.sheet.now args.source.now args.out.now _ size if1.false _ _ if2.false make.auto.scratch make.ensures.fronts c.put_span.ensures
+    entry-copied args.schema.now.bytes.now args.ty args.sheet.now args.source.now args.out.now _ size if1.false _ _ if2.false make.auto.scratch make.ensures.fronts c.put_span.ensures
