@@ -2,22 +2,24 @@
 use Rattle.std.specs.Prelude.{None, Some}
 use mathlib.Core.Path.{◌≡◌, refl, sym, ap, subst, ◌∙◌}
 use mathlib.Core.Bool.{Bool, true, false, cond, ◌&&◌, ◌||◌}
-use mathlib.Core.List.{List, [], ◌∷◌, append-nil}
-use Prim.Native.Nat.{ℕ, zero, suc, ◌+◌, ◌-◌, ◌*◌, ◌%◌, ◌≤◌, ◌<◌}
+use mathlib.Core.List.{List, [], ◌∷◌}
+use Prim.Native.Nat.{ℕ, zero, suc, ◌+◌, ◌*◌, ◌%◌, ◌≤◌, ◌<◌}
 use native.Mathlib.Omega.{arith}
 use lib.Dec.{eqb, ltb}
-use lib.ListN.{length, get_or, drop, take, set}
-use lib.Seq.{get_or-take, length-take-le, set_out}
-use borrow.Author.Tests.{eq-eqb, ne_eqb, eqb-true, ltb-true, ltb-false, le-ltb}
+use lib.ListN.{length, get_or, take, set}
+use lib.Seq.{get_or-take, set_out}
+use borrow.Author.Tests.{eqb-true, ltb-true, ltb-false, le-ltb, le-leb}
 use Rattle.schema.proofs.Bools.{and_left, and_right}
 use Rattle.schema.specs.Table.{Table}
 use Rattle.calls.specs.declared.Call.{Call}
 use Rattle.calls.specs.declared.FormRow.{FormRow}
 use Rattle.calls.specs.Record.{empty_call, good_open}
-use Rattle.calls.specs.Slots.{slot, first_slot, count_open, good_call, good_table, open_ids, distinct, form_row}
-use Rattle.connection.proofs.Scan.{rest-step, rest_end, first-here, first_next, first-none, Gathered, gathered_none, gathered_bad, gathered_open, gathered-free, gathered-end}
+use Rattle.calls.specs.Slots.{slot, count_open, good_call, good_table, form_row}
+use Rattle.connection.specs.Slots.{all_from, good_count}
+use Rattle.wire.proofs.Cases.{differ}
+use Rattle.cells.specs.Kept.{SameCalls}
 use Rattle.cells.specs.Records.{call_of, call_at, calls_from, calls_of, CountsOpen, plain, plain_from, are_calls}
-use Rattle.cells.proofs.Tables.{calls-long, too_few, plain_here, plain-next, plain_end}
+use Rattle.cells.proofs.Tables.{calls-long, too_few}
 
 -- ---- the record at a slot
 
@@ -36,15 +38,21 @@ slot_is cells i h =
     let e : 0 + i ≡ i = omega arith in
     from_at cells 0 128 i h ∙ ap (λ (j : ℕ). call_at cells j) e
 
-pub open_is : (cells : List ℕ) (i : ℕ) → (call_at cells i).«open» ≡ eqb (get_or cells (3 * i + 2) 0 % 2) 1
+open_is : (cells : List ℕ) (i : ℕ) → (call_at cells i).«open» ≡ eqb (get_or cells (3 * i + 2) 0 % 2) 1
 unfolding call_of
 open_is cells i = refl
 
-pub id-is : (cells : List ℕ) (i : ℕ) → (call_at cells i).correlation ≡ get_or cells (3 * i) 0
+id-is : (cells : List ℕ) (i : ℕ) → (call_at cells i).correlation ≡ get_or cells (3 * i) 0
 unfolding call_of
 id-is cells i = refl
 
-long : (cells : List ℕ) → length (calls_of cells) ≡ 128
+pub open_at : (cells : List ℕ) (i : ℕ) → i < 128 → (slot (calls_of cells) i).«open» ≡ eqb (get_or cells (3 * i + 2) 0 % 2) 1
+open_at cells i h = ap (λ (c : Call). c.«open») (slot_is cells i h) ∙ open_is cells i
+
+pub correlation_at : (cells : List ℕ) (i : ℕ) → i < 128 → (slot (calls_of cells) i).correlation ≡ get_or cells (3 * i) 0
+correlation_at cells i h = ap (λ (c : Call). c.correlation) (slot_is cells i h) ∙ id-is cells i
+
+pub long : (cells : List ℕ) → length (calls_of cells) ≡ 128
 long cells = calls-long cells 0 128
 
 -- Of the cells none past the 384th is a record's.
@@ -58,45 +66,8 @@ from-taken cells i (suc n) h =
     let more = from-taken cells (suc i) n (omega arith) in
     λ k. call_of (a k) (b k) (c k) ∷ more k
 
-pub taken-calls : (cells : List ℕ) → calls_of (take 384 cells) ≡ calls_of cells
-taken-calls cells = from-taken cells 0 128 (omega arith)
-
--- ---- searches
-
-module _ (p : Call → Bool) (cells : List ℕ) (i : ℕ) (e : first_slot p 0 (calls_of cells) ≡ first_slot p i (drop i (calls_of cells))) where
-  pub found_here : i < 128 → p (call_at cells i) ≡ true → Some i ≡ first_slot p 0 (calls_of cells)
-  found_here h t = first-here p (calls_of cells) i e (omega (arith, long cells, h)) (ap p (slot_is cells i h) ∙ t)
-
-  pub found-next : i < 128 → p (call_at cells i) ≡ false → first_slot p 0 (calls_of cells) ≡ first_slot p (i + 1) (drop (i + 1) (calls_of cells))
-  found-next h t = first_next p (calls_of cells) i e (omega (arith, long cells, h)) (ap p (slot_is cells i h) ∙ t)
-
-  pub found_none : 128 ≤ i → None ≡ first_slot p 0 (calls_of cells)
-  found_none h = first-none p (calls_of cells) i e (omega (arith, long cells, h))
-
--- ---- the count of open calls
-
-module _ (cells : List ℕ) (n i : ℕ) (e : count_open (calls_of cells) ≡ n + count_open (drop i (calls_of cells))) where
-  module _ (h : i < 128) where
-    step : drop i (calls_of cells) ≡ slot (calls_of cells) i ∷ drop (i + 1) (calls_of cells)
-    step = rest-step empty_call (calls_of cells) i (omega (arith, long cells, h))
-
-    open_here : (slot (calls_of cells) i).«open» ≡ (call_at cells i).«open»
-    open_here = ap (λ (c : Call). c.«open») (slot_is cells i h)
-
-    pub count_open_lem : (call_at cells i).«open» ≡ true → count_open (calls_of cells) ≡ (n + 1) + count_open (drop (i + 1) (calls_of cells))
-    count_open_lem t =
-        let s = ap count_open step in
-        let o : (slot (calls_of cells) i).«open» ≡ true = open_here ∙ t in
-        omega (arith, e, rw o at s)
-
-    pub count-free : (call_at cells i).«open» ≡ false → count_open (calls_of cells) ≡ n + count_open (drop (i + 1) (calls_of cells))
-    count-free t =
-        let s = ap count_open step in
-        let o : (slot (calls_of cells) i).«open» ≡ false = open_here ∙ t in
-        omega (arith, e, rw o at s)
-
-  pub count-end : 128 ≤ i → n ≡ count_open (calls_of cells)
-  count-end h = omega (arith, e, ap count_open (rest_end empty_call (calls_of cells) i (omega (arith, long cells, h))))
+pub taken_calls : (cells : List ℕ) → calls_of (take 384 cells) ≡ calls_of cells
+taken_calls cells = from-taken cells 0 128 (omega arith)
 
 -- ---- a record that is told at a glance
 
@@ -141,91 +112,65 @@ opened-good T id method marks k count few e =
         ap (ltb method) count ∙ sym (opened-call T id method ∙ ap (λ (n : ℕ). ltb n (length T.methods)) m)
     go false t = le-ltb method k (omega (arith, ltb-false method 4294967296 t, few))
 
--- ---- the loop of the goodness test: the records passed are plain and good, and ids holds the correlations of the open ones
+-- ---- cells that are a call table
 
-and-false : (b : Bool) → (b && false) ≡ false
-and-false true = refl
-and-false false = refl
+plain-all : (cells : List ℕ) (i n : ℕ) → all_from (λ j. plain (get_or cells (3 * j + 1) 0) (get_or cells (3 * j + 2) 0)) i n ≡ plain_from cells i n
+unfolding all_from plain_from
+plain-all cells i zero = refl
+plain-all cells i (suc n) = ap (λ (b : Bool). plain (get_or cells (3 * i + 1) 0) (get_or cells (3 * i + 2) 0) && b) (plain-all cells (suc i) n)
 
--- The record at a slot, as the code tests it.
-abbrev pub tested : Table → List ℕ → ℕ → Bool
-tested T cells i =
-    plain (get_or cells (3 * i + 1) 0) (get_or cells (3 * i + 2) 0) && good_call T (call_of (get_or cells (3 * i) 0) (get_or cells (3 * i + 1) 0) (get_or cells (3 * i + 2) 0))
+plain-taken : (cells : List ℕ) (i n : ℕ) → i + n ≤ 128 → plain_from (take 384 cells) i n ≡ plain_from cells i n
+unfolding plain_from
+plain-taken cells i zero h = refl
+plain-taken cells i (suc n) h =
+    let a = get_or-take 384 cells (3 * i + 1) 0 (omega arith) in
+    let b = get_or-take 384 cells (3 * i + 2) 0 (omega arith) in
+    let more = plain-taken cells (suc i) n (omega arith) in
+    λ k. plain (a k) (b k) && more k
 
-ids_counted : (l : List Call) → length (open_ids l) ≡ count_open l
-ids_counted [] = refl
-ids_counted (x ∷ xs) = go x.«open» (ids_counted xs)
+-- the 384 cells alone hold the same table
+pub same_taken : (cells : List ℕ) → SameCalls (take 384 cells) cells
+same_taken cells = (taken_calls cells, plain-taken cells 0 128 (omega arith))
+
+pub few-bad : (T : Table) (cells : List ℕ) → length cells < 384 → false ≡ (are_calls cells && good_table T (calls_of cells))
+few-bad T cells h = ap (λ (b : Bool). b && good_table T (calls_of cells)) (too_few cells h)
+
+some-same : {m n : ℕ} → Some m ≡ Some n → m ≡ n
+some-same e = cc
+
+open_few : (l : List Call) → count_open l ≤ length l
+open_few [] = omega arith
+open_few (x ∷ xs) = go x.«open» (open_few xs)
   where
-    go : (b : Bool) → length (open_ids xs) ≡ count_open xs → length (cond b (x.correlation ∷ open_ids xs) (open_ids xs)) ≡ cond b (suc (count_open xs)) (count_open xs)
-    go true e = ap suc e
-    go false e = e
+    go : (b : Bool) → count_open xs ≤ length xs → cond b (suc (count_open xs)) (count_open xs) ≤ suc (length xs)
+    go true h = omega (arith, h)
+    go false h = omega (arith, h)
 
-pub record Passed (T : Table) (cells ids : List ℕ) (n i : ℕ) : Type 0 where
-  pub enough : 384 ≤ length cells
-  pub plains : plain_from cells 0 128 ≡ plain_from cells i (128 - i)
-  pub gathered : Gathered T (calls_of cells) ids n i
+-- what the loop over the records says of cells with the same table
+module _ (T : Table) (cells taken : List ℕ) (same : SameCalls taken cells) (enough : 384 ≤ length cells) where
+  abbrev fits : ℕ → Bool
+  fits j = plain (get_or taken (3 * j + 1) 0) (get_or taken (3 * j + 2) 0)
 
-pub passed-few : (T : Table) (cells : List ℕ) → length cells < 384 → false ≡ (are_calls cells && good_table T (calls_of cells))
-passed-few T cells h = ap (λ (b : Bool). b && good_table T (calls_of cells)) (too_few cells h)
+  all-good : (all_from fits 0 128 && good_table T (calls_of taken)) ≡ (are_calls cells && good_table T (calls_of cells))
+  unfolding are_calls
+  all-good = rw (plain-all taken 0 128, same.1, same.0, le-leb 384 (length cells) enough)
 
-pub passed_none : (T : Table) (cells ids : List ℕ) → 384 ≤ length cells → length ids ≡ 128 → Passed T cells ids 0 0
-passed_none T cells ids h n = record { enough = h; plains = refl; gathered = gathered_none T (calls_of cells) ids (n ∙ sym (long cells)) }
+  pub good-counted : (n : ℕ) → Some n ≡ good_count fits T (calls_of taken) → (true ≡ (are_calls cells && good_table T (calls_of cells))) × CountsOpen cells n
+  good-counted n e = go (all_from fits 0 128 && good_table T (calls_of taken)) all-good e
+    where
+      go : (b : Bool) → b ≡ (are_calls cells && good_table T (calls_of cells)) → Some n ≡ cond b (Some (count_open (calls_of taken))) None
+          → (true ≡ (are_calls cells && good_table T (calls_of cells))) × CountsOpen cells n
+      go true q e =
+          let count : n ≡ count_open (calls_of cells) = some-same e ∙ ap count_open same.0 in
+          (q, (count, omega (arith, count, open_few (calls_of cells), long cells)))
+      go false q e = differ cc
 
-module _ (T : Table) (cells ids : List ℕ) (n i : ℕ) (w : Passed T cells ids n i) where
-  abbrev l : List Call
-  l = calls_of cells
-
-  abbrev plain_here_lem : Bool
-  plain_here_lem = plain (get_or cells (3 * i + 1) 0) (get_or cells (3 * i + 2) 0)
-
-  module _ (h : i < 128) where
-    here : i < length l
-    here = omega (arith, long cells, h)
-
-    good-here : good_call T (slot l i) ≡ good_call T (call_at cells i)
-    good-here = ap (good_call T) (slot_is cells i h)
-
-    pub passed_bad : tested T cells i ≡ false → false ≡ (are_calls cells && good_table T l)
-    passed_bad t = go plain_here_lem refl t
-      where
-        go : (b : Bool) → plain_here_lem ≡ b → (b && good_call T (call_at cells i)) ≡ false → false ≡ (are_calls cells && good_table T l)
-        go true q e = sym (and-false (are_calls cells)) ∙ ap (λ (b : Bool). are_calls cells && b) (gathered_bad T l ids n i w.gathered here (good-here ∙ e))
-        go false q e = ap (λ (b : Bool). b && good_table T l) (plain_here cells i h w.plains q)
-
-    module _ (t : tested T cells i ≡ true) where
-      next-plain : plain_from cells 0 128 ≡ plain_from cells (i + 1) (128 - (i + 1))
-      next-plain = plain-next cells i h w.plains (and_left plain_here_lem (good_call T (call_at cells i)) t)
-
-      is-good : good_call T (slot l i) ≡ true
-      is-good = good-here ∙ and_right plain_here_lem (good_call T (call_at cells i)) t
-
-      pub passed_open : get_or cells (3 * i + 2) 0 % 2 ≡ 1 → Passed T cells (set ids n (get_or cells (3 * i) 0)) (n + 1) (i + 1)
-      passed_open e =
-          let o : (slot l i).«open» ≡ true = ap (λ (c : Call). c.«open») (slot_is cells i h) ∙ open_is cells i ∙ eq-eqb (get_or cells (3 * i + 2) 0 % 2) 1 e in
-          let id : (slot l i).correlation ≡ get_or cells (3 * i) 0 = ap (λ (c : Call). c.correlation) (slot_is cells i h) ∙ id-is cells i in
-          record {
-            enough = w.enough;
-            plains = next-plain;
-            gathered = subst (λ (x : ℕ). Gathered T l (set ids n x) (n + 1) (i + 1)) id (gathered_open T l ids n i w.gathered here is-good o);
-          }
-
-      pub passed-free : (get_or cells (3 * i + 2) 0 % 2 ≡ 1 → ⊥) → Passed T cells ids n (i + 1)
-      passed-free e =
-          let o : (slot l i).«open» ≡ false = ap (λ (c : Call). c.«open») (slot_is cells i h) ∙ open_is cells i ∙ ne_eqb (get_or cells (3 * i + 2) 0 % 2) 1 e in
-          record { enough = w.enough; plains = next-plain; gathered = gathered-free T l ids n i w.gathered here is-good o }
-
-  pub passed-end : i ≡ 128 → distinct (take n ids) ≡ (are_calls cells && good_table T l)
-  passed-end e =
-      gathered-end T l ids n i w.gathered (omega (arith, long cells, e))
-      ∙ ap (λ (b : Bool). b && good_table T l) (plain_end cells i e w.enough w.plains)
-
-  -- as many correlations are copied as calls are open
-  pub passed-count : i ≡ 128 → CountsOpen cells n
-  passed-count e =
-      let g = w.gathered in
-      let all : take n ids ≡ open_ids l = sym (append-nil (take n ids)) ∙ rw (rest_end empty_call l i (omega (arith, long cells, e))) at g.copied in
-      let few : n ≤ length ids = omega (arith, g.few, g.long, long cells, e) in
-      (sym (length-take-le n ids few) ∙ ap length all ∙ ids_counted l, omega (arith, g.few, e))
+  pub bad-counted : None ≡ good_count fits T (calls_of taken) → false ≡ (are_calls cells && good_table T (calls_of cells))
+  bad-counted e = go (all_from fits 0 128 && good_table T (calls_of taken)) e ∙ all-good
+    where
+      go : (b : Bool) → None ≡ cond b (Some (count_open (calls_of taken))) None → false ≡ b
+      go true e = differ cc
+      go false e = refl
 
 -- ---- a record changed
 

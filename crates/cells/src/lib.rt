@@ -18,12 +18,10 @@ pub fn put(cells: &mut [u64], i: usize, x: u64)
 }
 
 // Stores the values into the first cells, as many as there are cells for.
+#[tactic(auto, using(crate::proofs::Stores::copied))]
 pub fn store(cells: &mut [u64], values: &[u64])
     ensures { cells.new ≡ stored cells.old values.now }
 {
-    let mut i = 0;
-    while i < values.len() {
-        put(cells, i, values[i]);
-        i += 1;
-    }
+    let n = values.len().min(cells.len());
+    cells[..n].copy_from_slice(&values[..n]);
 }

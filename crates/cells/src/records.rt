@@ -1,20 +1,22 @@
 // The call table in cells that the caller lends.
-ghost use Rattle.std.specs.Prelude.{◌≡◌, cond, ◌&&◌, ◌*◌, ◌≤◌, ◌<◌, ltb, get_or};
+ghost use Rattle.std.specs.Prelude.{◌≡◌, cond, ◌&&◌, ◌*◌, ◌+◌, ◌≤◌, ◌<◌, ltb, get_or, length, IfSome, IfNone};
 ghost use Rattle.std.proofs.lemmas.List.Edits.{sets};
 ghost use Rattle.schema.specs.File.{table_of};
 ghost use Rattle.schema.specs.Check.{IsGood};
+ghost use Rattle.calls.specs.Forms.{table_one};
 ghost use Rattle.calls.specs.Record.{is_call, is_free};
-ghost use Rattle.calls.specs.Slots.{slot, record_at, good_call, good_table, first_slot};
+ghost use Rattle.calls.specs.Slots.{slot, good_call, good_table, first_slot};
 ghost use Rattle.calls.specs.OwnSlots.{own_slot_of};
-ghost use Rattle.cells.specs.Records.{call_of, call_at, calls_of, CountsOpen, marks_of, record_cells, plain, are_calls};
+ghost use Rattle.cells.specs.Records.{call_of, calls_of, CountsOpen, record_cells, plain, are_calls};
+ghost use Rattle.cells.specs.Kept.{kept, record_in, SameCalls};
 
 use crate::put;
-use calls::{Call, OwnSlot};
-use connection::call_record::EMPTY;
-use connection::forms::TABLE_1;
-use connection::good::{distinct, is_good_call};
+use calls::{Call, FormRow, OwnSlot};
+use connection::forms::ROWS;
+use connection::good::is_good_call;
+use connection::slots::Slots;
 use constants::limit;
-use table::access::method_count;
+use table::good::Schema;
 
 // Cells of a record: the correlation, the method, and the marks with the counts of elements.
 const RECORD_CELLS: usize = 3;
@@ -43,173 +45,204 @@ const MARKS: u64 = OUTPUTS * COUNTS;
 // 2^32: a method's number is below it.
 const METHODS: u64 = 4294967296;
 
-// One cell, and 0 past the last.
-fn cell(cells: &[u64], i: usize) -> u64
-    ensures { result ≡ get_or cells.now i 0 }
-{
-    if i < cells.len() { cells[i] } else { 0 }
+// The three numbers of a record as they stand in its cells.
+#[derive(Clone, Copy)]
+struct Record {
+    correlation: u64,
+    method: u64,
+    marks: u64,
 }
 
-fn call_of(correlation: u64, method: u64, marks: u64) -> Call
-    ensures { result ≡ call_of correlation method marks }
-{
-    Call {
-        correlation,
-        method: (method % METHODS) as u32,
-        open: marks % 2 == 1,
-        responded: marks / RESPONDED % 2 == 1,
-        input_closed: marks / INPUT_CLOSED % 2 == 1,
-        output_closed: marks / OUTPUT_CLOSED % 2 == 1,
-        cancelled: marks / CANCELLED % 2 == 1,
-        input_elements: (marks / INPUTS % COUNTS) as u16,
-        output_elements: (marks / OUTPUTS % COUNTS) as u16,
+impl From<Record> for Call {
+    ghost from_gives = { λ numbers call. call ≡ call_of numbers.correlation numbers.method numbers.marks };
+
+    #[tactic(auto, unfolding(crate::specs::Records::call_of))]
+    fn from(record: Record) -> Call {
+        let marks = record.marks;
+        Call {
+            correlation: record.correlation,
+            method: (record.method % METHODS) as u32,
+            open: marks % 2 == 1,
+            responded: marks / RESPONDED % 2 == 1,
+            input_closed: marks / INPUT_CLOSED % 2 == 1,
+            output_closed: marks / OUTPUT_CLOSED % 2 == 1,
+            cancelled: marks / CANCELLED % 2 == 1,
+            input_elements: (marks / INPUTS % COUNTS) as u16,
+            output_elements: (marks / OUTPUTS % COUNTS) as u16,
+        }
     }
 }
 
-fn call_at(cells: &[u64], i: usize) -> Call
-    requires { i < 128 }
-    ensures { result ≡ call_at cells.now i }
-{
-    call_of(
-        cell(cells, RECORD_CELLS * i),
-        cell(cells, RECORD_CELLS * i + 1),
-        cell(cells, RECORD_CELLS * i + 2),
-    )
+impl From<Call> for Record {
+    ghost from_gives = { λ call numbers. numbers ≡ kept call };
+
+    fn from(call: Call) -> Record {
+        Record {
+            correlation: call.correlation,
+            method: u64::from(call.method),
+            marks: u64::from(call.open)
+                + RESPONDED * u64::from(call.responded)
+                + INPUT_CLOSED * u64::from(call.input_closed)
+                + OUTPUT_CLOSED * u64::from(call.output_closed)
+                + CANCELLED * u64::from(call.cancelled)
+                + INPUTS * (call.input_elements as u64)
+                + OUTPUTS * (call.output_elements as u64),
+        }
+    }
 }
 
-fn is_plain(method: u64, marks: u64) -> bool
-    ensures { result ≡ plain method marks }
-{
-    (method < METHODS) & (marks < MARKS)
+impl Record {
+    // Whether the numbers are those of a record.
+    fn is_plain(self) -> bool
+        ensures { result ≡ plain self.method self.marks }
+    {
+        (self.method < METHODS) & (self.marks < MARKS)
+    }
+
+    // Whether the record is good by a good schema table. A free one, and one with no mark but open, need no look at the form.
+    fn is_good(self, schema: &Schema, forms: &[FormRow; ROWS]) -> bool
+        requires { forms.now ≡ table_one }
+        ensures { result ≡ (plain self.method self.marks && good_call (table_of schema.now.bytes.now) (call_of self.correlation self.method self.marks)) }
+    {
+        if (self.correlation == 0) & ((self.method == 0) & (self.marks == 0)) {
+            return true;
+        }
+        if self.marks == 1 {
+            return self.method < schema.method_count() as u64;
+        }
+        self.is_plain() & is_good_call(self.into(), schema, forms)
+    }
+}
+
+// A call table in cells; one past the last is 0.
+#[derive(Clone, Copy)]
+struct Cells<'a> {
+    cells: &'a [u64],
+}
+
+impl<'a> Cells<'a> {
+    fn cell(&self, i: usize) -> u64
+        ensures { result ≡ get_or self.now.cells.now i 0 }
+    {
+        if i < self.cells.len() {
+            self.cells[i]
+        } else {
+            0
+        }
+    }
+
+    fn record(&self, i: usize) -> Record
+        requires { i < 128 }
+        ensures { result ≡ record_in self.now.cells.now i }
+    {
+        Record {
+            correlation: self.cell(RECORD_CELLS * i),
+            method: self.cell(RECORD_CELLS * i + 1),
+            marks: self.cell(RECORD_CELLS * i + 2),
+        }
+    }
+
+    // The table's cells alone, where there are as many, so that no loop over them needs a bounds test.
+    #[tactic(auto, using(crate::proofs::Slots::same_taken))]
+    fn whole(cells: &'a [u64]) -> Option<Cells<'a>>
+        ensures same { IfSome result (λ table. SameCalls table.cells.now cells.now) }
+        ensures enough { IfSome result (λ table. 384 ≤ length cells.now) }
+        ensures few { IfNone result (length cells.now < 384) }
+    {
+        if CELLS <= cells.len() {
+            Some(Cells {
+                cells: &cells[..CELLS],
+            })
+        } else {
+            None
+        }
+    }
+}
+
+impl<'a> Slots for Cells<'a> {
+    ghost slots = { λ table. calls_of table.cells.now };
+
+    ghost fits = { λ table i. plain (get_or table.cells.now (3 * i + 1) 0) (get_or table.cells.now (3 * i + 2) 0) };
+
+    #[tactic(auto, using(crate::proofs::Slots::long))]
+    fn slot_count(&self) -> usize {
+        limit::CALLS
+    }
+
+    #[tactic(auto, using(crate::proofs::Slots::slot_is))]
+    fn call(&self, i: usize) -> Call {
+        self.record(i).into()
+    }
+
+    #[tactic(auto, using(crate::proofs::Slots::open_at))]
+    fn is_open(&self, i: usize) -> bool {
+        self.cell(RECORD_CELLS * i + 2) % 2 == 1
+    }
+
+    fn is_call(&self, i: usize, id: u64) -> bool {
+        self.is_open(i) & (self.correlation(i) == id)
+    }
+
+    #[tactic(auto, using(crate::proofs::Slots::correlation_at))]
+    fn correlation(&self, i: usize) -> u64 {
+        self.cell(RECORD_CELLS * i)
+    }
+
+    #[tactic(auto, using(crate::proofs::Slots::slot_is))]
+    fn is_good_at(&self, i: usize, schema: &Schema, forms: &[FormRow; ROWS]) -> bool {
+        self.record(i).is_good(schema, forms)
+    }
 }
 
 // The record at a slot, and an empty one past the last.
 pub fn slot_at(cells: &[u64], i: usize) -> Call
     ensures { result ≡ slot (calls_of cells.now) i }
 {
-    if i < limit::CALLS {
-        call_at(cells, i)
-    } else {
-        EMPTY
-    }
+    Cells { cells }.at(i)
 }
 
-// Whether a record is good by a good schema table. A free one, and one with no mark but open, need no look at the form.
-fn is_good(s: &[u8], id: u64, method: u64, marks: u64) -> bool
-    requires { IsGood s.now }
-    ensures { result ≡ (plain method marks && good_call (table_of s.now) (call_of id method marks)) }
-{
-    if (id == 0) & ((method == 0) & (marks == 0)) {
-        return true;
-    }
-    if marks == 1 {
-        return method < (method_count(s) as u64);
-    }
-    is_plain(method, marks) & is_good_call(call_of(id, method, marks), s, TABLE_1)
-}
-
-// Whether the cells are a call table that is good by a good schema table. The open correlations are copied out once and compared there; `calls` is how
-// many there are.
+// Whether the cells are a call table that is good by a good schema table; `calls` is how many are open.
 pub fn are_good(cells: &[u64], s: &[u8], calls: &mut usize) -> bool
     requires { IsGood s.now }
     ensures value { result ≡ (are_calls cells.now && good_table (table_of s.now) (calls_of cells.now)) }
     ensures counts_open { CountsOpen cells.now calls.new }
 {
-    if cells.len() < CELLS {
-        *calls = open_count(cells);
-        return false;
-    }
-    let mut ids = [0u64; limit::CALLS];
-    let mut n: usize = 0;
-    let mut i: usize = 0;
-    while i < limit::CALLS {
-        let id = cells[RECORD_CELLS * i];
-        let marks = cells[RECORD_CELLS * i + 2];
-        if !is_good(s, id, cells[RECORD_CELLS * i + 1], marks) {
+    let schema = Schema::of_good(s);
+    match Cells::whole(cells) {
+        None => {
             *calls = open_count(cells);
-            return false;
+            false
         }
-        if marks % 2 == 1 {
-            ids[n] = id;
-            n += 1;
-        }
-        i += 1;
+        Some(table) => match table.good_count(&schema) {
+            None => {
+                *calls = open_count(cells);
+                false
+            }
+            Some(n) => {
+                *calls = n;
+                true
+            }
+        },
     }
-    *calls = n;
-    distinct(&ids[..n])
-}
-
-// Whether the record at a slot is that of an open call.
-fn is_open(cells: &[u64], i: usize) -> bool
-    requires { i < 128 }
-    ensures { result ≡ (call_at cells.now i).«open» }
-{
-    cell(cells, RECORD_CELLS * i + 2) % 2 == 1
-}
-
-// Whether it is that of a call open under this correlation.
-fn is_call(cells: &[u64], i: usize, id: u64) -> bool
-    requires { i < 128 }
-    ensures { result ≡ is_call id (call_at cells.now i) }
-{
-    is_open(cells, i) & (cell(cells, RECORD_CELLS * i) == id)
 }
 
 // The slot of the open call with this correlation.
-fn find_in(cells: &[u64], id: u64) -> Option<usize>
-    ensures { result ≡ first_slot (is_call id) 0 (calls_of cells.now) }
-{
-    let mut i: usize = 0;
-    while i < limit::CALLS {
-        if is_call(cells, i, id) {
-            return Some(i);
-        }
-        i += 1;
-    }
-    None
-}
-
-// `find_in` over the table's 384 cells alone, so that the loop needs no bounds test.
 pub fn find(cells: &[u64], id: u64) -> Option<usize>
     ensures { result ≡ first_slot (is_call id) 0 (calls_of cells.now) }
 {
-    if CELLS <= cells.len() {
-        return find_in(&cells[..CELLS], id);
+    match Cells::whole(cells) {
+        Some(table) => table.find(id),
+        None => Cells { cells }.find(id),
     }
-    find_in(cells, id)
 }
 
 // The lowest free slot.
-fn free_slot_in(cells: &[u64]) -> Option<usize>
-    ensures { result ≡ first_slot is_free 0 (calls_of cells.now) }
-{
-    let mut i: usize = 0;
-    while i < limit::CALLS {
-        if !is_open(cells, i) {
-            return Some(i);
-        }
-        i += 1;
-    }
-    None
-}
-
-// `free_slot_in` over the table's 384 cells alone, so that the loop needs no bounds test.
 pub fn free_slot(cells: &[u64]) -> Option<usize>
     ensures { result ≡ first_slot is_free 0 (calls_of cells.now) }
 {
-    if CELLS <= cells.len() {
-        return free_slot_in(&cells[..CELLS]);
-    }
-    free_slot_in(cells)
-}
-
-// The record at a slot that was found.
-fn own(cells: &[u64], found: Option<usize>) -> Option<Call>
-    ensures { result ≡ record_at (calls_of cells.now) found }
-{
-    match found {
-        None => None,
-        Some(i) => Some(slot_at(cells, i)),
+    match Cells::whole(cells) {
+        Some(table) => table.free_slot(),
+        None => Cells { cells }.free_slot(),
     }
 }
 
@@ -217,72 +250,30 @@ fn own(cells: &[u64], found: Option<usize>) -> Option<Call>
 pub fn own_slot(cells: &[u64], id: u64, opens: bool) -> OwnSlot
     ensures { result ≡ own_slot_of id opens (calls_of cells.now) }
 {
-    let found = find(cells, id);
-    let slot = if opens { free_slot(cells) } else { found };
-    OwnSlot {
-        own: own(cells, found),
-        slot,
+    match Cells::whole(cells) {
+        Some(table) => table.own_slot(id, opens),
+        None => Cells { cells }.own_slot(id, opens),
     }
 }
 
 // How many calls are open.
-fn open_count_in(cells: &[u64]) -> usize
-    ensures { CountsOpen cells.now result }
-{
-    let mut n: usize = 0;
-    let mut i: usize = 0;
-    while i < limit::CALLS {
-        if is_open(cells, i) {
-            n += 1;
-        }
-        i += 1;
-    }
-    n
-}
-
-// `open_count_in` over the table's 384 cells alone, so that the loop needs no bounds test.
 pub fn open_count(cells: &[u64]) -> usize
     ensures { CountsOpen cells.now result }
 {
-    if CELLS <= cells.len() {
-        return open_count_in(&cells[..CELLS]);
+    match Cells::whole(cells) {
+        Some(table) => table.open_count(),
+        None => Cells { cells }.open_count(),
     }
-    open_count_in(cells)
 }
 
-fn mark(b: bool) -> u64
-    ensures { (result ≡ cond b 1 0) × (result ≤ 1) }
-{
-    if b { 1 } else { 0 }
-}
-
-fn marks_of(call: Call) -> u64
-    ensures { result ≡ marks_of call }
-{
-    mark(call.open)
-        + RESPONDED * mark(call.responded)
-        + INPUT_CLOSED * mark(call.input_closed)
-        + OUTPUT_CLOSED * mark(call.output_closed)
-        + CANCELLED * mark(call.cancelled)
-        + INPUTS * (call.input_elements as u64)
-        + OUTPUTS * (call.output_elements as u64)
-}
-
-// The cells of one record, as many as there are.
-fn put_call(cells: &mut [u64], i: usize, call: Call)
-    requires { i < 128 }
-    ensures { cells.new ≡ sets cells.old (3 * i) (record_cells call) }
-{
-    put(cells, RECORD_CELLS * i, call.correlation);
-    put(cells, RECORD_CELLS * i + 1, call.method as u64);
-    put(cells, RECORD_CELLS * i + 2, marks_of(call));
-}
-
-// A record put at a slot; past the last nothing changes.
+// A record put at a slot, in as many cells as there are; past the last slot nothing changes.
 pub fn put_slot(cells: &mut [u64], i: usize, call: Call)
     ensures { cells.new ≡ cond (ltb i 128) (sets cells.old (3 * i) (record_cells call)) cells.old }
 {
     if i < limit::CALLS {
-        put_call(cells, i, call);
+        let record = Record::from(call);
+        put(cells, RECORD_CELLS * i, record.correlation);
+        put(cells, RECORD_CELLS * i + 1, record.method);
+        put(cells, RECORD_CELLS * i + 2, record.marks);
     }
 }

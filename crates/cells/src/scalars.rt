@@ -1,12 +1,11 @@
 // A scalar, and the answer to a row, as numbers in cells.
 ghost use Rattle.std.specs.Prelude.{◌≡◌, ◌∷◌};
 ghost use Rattle.std.specs.Float.{binary32, binary64};
+ghost use Rattle.scalar.specs.Told.{told};
 ghost use Rattle.cells.specs.Scalars.{bits_of, float_bits, value_cells, scalar_cells};
 
-use scalar::{Answer, Scalar};
-
-// The greatest number of 64 bits.
-const GREATEST: u64 = 18446744073709551615;
+use constants::refusal::Refused;
+use scalar::Scalar;
 
 // The cases of a value, as the answer tells them.
 const TRUTH: u64 = 1;
@@ -25,11 +24,7 @@ const SPAN: u64 = 6;
 fn bits_of(x: i64) -> u64
     ensures { result ≡ bits_of x }
 {
-    if x < 0 {
-        GREATEST - ((-1 - x) as u64)
-    } else {
-        x as u64
-    }
+    x.cast_unsigned()
 }
 
 // A float's own bits, and 0 for a NaN, which does not equal itself.
@@ -64,11 +59,11 @@ fn value_cells(s: Scalar) -> [u64; 4]
     }
 }
 
-pub fn scalar_cells(a: Answer) -> [u64; 4]
-    ensures { result ≡ scalar_cells a }
+pub fn scalar_cells(a: Result<Scalar, Refused>) -> [u64; 4]
+    ensures { result ≡ scalar_cells (told a) }
 {
     match a {
-        Answer::Is(s) => value_cells(s),
-        Answer::Refused { number: _, place } => [place as u64, 0, 0, 0],
+        Ok(s) => value_cells(s),
+        Err(e) => [e.place as u64, 0, 0, 0],
     }
 }
