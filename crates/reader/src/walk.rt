@@ -333,13 +333,11 @@ fn read_fields(
     ensures { HeldBy shown.now s.now p.now depth f row sheet.old (told_walk result) sheet.new }
 {
     let l = layout_of(s);
-    let mut i = f.first;
-    let mut left = f.n;
     let mut bits = f.known;
     let mut here = f.start;
     let mut below = row + 1;
     let mut sum: u32 = 0;
-    while 0 < left {
+    for i in f.first..f.first + f.n {
         if bits % 2 == 1 {
             let past = read_field(shown, s, l, p, sheet, i, here, depth, below, judging)?;
             here = past.next;
@@ -347,8 +345,6 @@ fn read_fields(
             sum = sum + past.due;
         }
         bits = bits / 2;
-        i = i + 1;
-        left = left - 1;
     }
     put_row(sheet, row, f.ty, f.place, here - f.place, f.ones);
     Ok(Past {

@@ -421,49 +421,54 @@ read_fields-layout_of-l-requires t c = good-shaped _ c.requires.0.ready.good
 pub read_fields-overflow_add-below : goal.read_fields-overflow_add-below
 read_fields-overflow_add-below t c = let pre = c.requires.0.ready in omega (arith, pre.behind, pre.inside, pre.small)
 
-pub read_fields-loop-left-init : goal.read_fields-loop-left-init
-read_fields-loop-left-init t c = passing-first c.requires.0 c.args.shown.now
+pub read_fields-overflow_add-i-end : goal.read_fields-overflow_add-i-end
+read_fields-overflow_add-i-end t c = let asked = c.requires.0 in omega (arith, few-fields _ asked.ready.good, asked.in_table)
+
+pub read_fields-loop-i-init : goal.read_fields-loop-i-init
+read_fields-loop-i-init t c =
+    let f = c.args.f in
+    let all : f.first + f.n - f.first ≡ f.n = omega arith in
+    rw all (passing-first c.requires.0 c.args.shown.now)
 
 pub read_fields-read_field-requires : goal.read_fields-read_field-requires
 read_fields-read_field-requires t c =
-    let inv = c.loop-left.invariant in
-    let some = c.loop-left-test.true in
+    let inv = c.loop-i.invariant in
+    let some : 0 < c.args.f.first + c.args.f.n - c.loop-i.i = omega (arith, c.loop-i-test.true) in
     (omega arith, (passing-ready inv some c.if-bits-eq1.true, good-laid _ _ inv.asked.ready.good c.layout_of-l.ensures, passing-kind inv some))
 
 pub read_fields-shape_of-sheet-in_err-past : goal.read_fields-shape_of-sheet-in_err-past
-read_fields-shape_of-sheet-in_err-past t c = c.read_field.auto.sheet ∙ c.loop-left.invariant.at.long
+read_fields-shape_of-sheet-in_err-past t c = c.read_field.auto.sheet ∙ c.loop-i.invariant.at.long
 
 pub read_fields-returns-in_err-past : goal.read_fields-returns-in_err-past
 read_fields-returns-in_err-past t c =
     rw (exit c.from_residual.result c.from_residual.ensures.1)
-    (passing-stop c.loop-left.invariant c.loop-left-test.true c.if-bits-eq1.true c.read_field.ensures (ap told_walk c.in_err-past.was))
+    (passing-stop c.loop-i.invariant (omega (arith, c.loop-i-test.true)) c.if-bits-eq1.true c.read_field.ensures (ap told_walk c.in_err-past.was))
 
 pub read_fields-overflow_add-sum : goal.read_fields-overflow_add-sum
-read_fields-overflow_add-sum t c = omega (arith, passing-sum c.loop-left.invariant c.loop-left-test.true c.if-bits-eq1.true c.read_field.ensures (ap told_walk c.in_ok-past.was))
+read_fields-overflow_add-sum t c = omega (arith, passing-sum c.loop-i.invariant (omega (arith, c.loop-i-test.true)) c.if-bits-eq1.true c.read_field.ensures (ap told_walk c.in_ok-past.was))
 
-pub read_fields-overflow_add-i : goal.read_fields-overflow_add-i
-read_fields-overflow_add-i t c = omega (arith, passing-few c.loop-left.invariant)
-
-pub read_fields-loop-left-preserved : goal.read_fields-loop-left-preserved
-read_fields-loop-left-preserved t c =
-    let inv = c.loop-left.invariant in
-    let some = c.loop-left-test.true in
-    elim c.if-bits-eq1.branch [
+pub read_fields-loop-i-preserved : goal.read_fields-loop-i-preserved
+read_fields-loop-i-preserved t c =
+    let inv = c.loop-i.invariant in
+    let f = c.args.f in
+    let some : 0 < f.first + f.n - c.loop-i.i = omega (arith, c.loop-i-test.true) in
+    let next : f.first + f.n - (c.loop-i.i + 1) ≡ f.first + f.n - c.loop-i.i - 1 = omega arith in
+    rw next (elim c.if-bits-eq1.branch [
       | read_fields-then-bits-eq1+in_ok-past w ↦ passing-read inv some w.if-bits-eq1.true w.read_field.ensures (ap told_walk w.in_ok-past.was) w.here-is w.sum-is w.below-is w.sheet-is
       | read_fields-else-bits-eq1 w ↦ passing-absent inv some w.if-bits-eq1.false w.here-is w.sum-is w.below-is w.sheet-is
-    ]
+    ])
 
 pub read_fields-overflow_sub-here : goal.read_fields-overflow_sub-here
-read_fields-overflow_sub-here t c = passing-forth c.loop-left.invariant
+read_fields-overflow_sub-here t c = passing-forth c.loop-i.invariant
 
 pub read_fields-put_row-requires : goal.read_fields-put_row-requires
-read_fields-put_row-requires t c = passing-own c.loop-left.invariant c.requires.1.0
+read_fields-put_row-requires t c = passing-own c.loop-i.invariant c.requires.1.0
 
 pub read_fields-shape_of-sheet : goal.read_fields-shape_of-sheet
-read_fields-shape_of-sheet t c = c.put_row.auto.sheet ∙ c.loop-left.invariant.at.long
+read_fields-shape_of-sheet t c = c.put_row.auto.sheet ∙ c.loop-i.invariant.at.long
 
 pub read_fields-returns : goal.read_fields-returns
-read_fields-returns t c = passing-end c.loop-left.invariant c.requires.1 c.loop-left-test.false c.put_row.ensures
+read_fields-returns t c = passing-end c.loop-i.invariant c.requires.1 (omega (arith, c.loop-i-test.false)) c.put_row.ensures
 
 pub read_map-returns-then-n-gt-MOST_PAIRS : goal.read_map-returns-then-n-gt-MOST_PAIRS
 read_map-returns-then-n-gt-MOST_PAIRS t c =

@@ -47,11 +47,9 @@ decreases-read_struct l = 8 * l.depth + 5
 abbrev pub invariant-read_composites-loop : goal.invariant-read_composites-loop
 invariant-read_composites-loop l = ReadingItems (By l.shown l.s) l.s l.p l.depth l.ty (array l.elem) l.start l.n l.start l.row l.judging l.initial.sheet (replicate (l.n - l.counter) (plain_item l.elem)) l.here l.sum l.below l.sheet
 
-abbrev pub invariant-read_fields-loop-left : goal.invariant-read_fields-loop-left
-invariant-read_fields-loop-left l = Passing l.shown l.s l.p l.depth l.f l.row l.judging l.initial.sheet l.i l.left l.bits l.here l.sum l.below l.sheet
-
-abbrev pub decreases-read_fields-loop-left : goal.decreases-read_fields-loop-left
-decreases-read_fields-loop-left l = l.left
+abbrev pub invariant-read_fields-loop-i : goal.invariant-read_fields-loop-i
+invariant-read_fields-loop-i l =
+    Passing l.shown l.s l.p l.depth l.f l.row l.judging l.initial.sheet l.i (l.f.first + l.f.n - l.i) l.bits l.here l.sum l.below l.sheet
 
 abbrev pub invariant-read_pairs-loop-i : goal.invariant-read_pairs-loop-i
 invariant-read_pairs-loop-i l = Along (By l.shown l.s) l.s l.p l.depth l.ty l.key l.val l.n l.start l.row l.judging l.initial.sheet l.keys l.i l.here l.sum l.below l.sheet × (length l.keys ≡ length l.initial.keys)
