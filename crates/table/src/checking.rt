@@ -6,6 +6,7 @@ ghost use Rattle.table.specs.Flags.{flag_of};
 ghost use Rattle.table.specs.Told.{told};
 
 use crate::file::is_shaped;
+use crate::marks::Marks;
 use crate::product::{HALF, mixed, wrapping_mul};
 use crate::rows::{Names, Sections};
 use crate::search::lowest;
@@ -127,10 +128,8 @@ fn is_new(file: &Sections, i: usize, names: Names, taken: bool) -> bool
     }
 }
 
-// Flags of methods; so many times may one be taken before the first kind is abandoned; and so many methods are compared without flags.
+// Flags of methods, and so many methods are compared without flags.
 const FLAGS: usize = 4096;
-
-const MOST_SEARCHES: usize = 16;
 
 const FEW_METHODS: usize = 12;
 
@@ -139,23 +138,14 @@ const FEW_METHODS: usize = 12;
 fn bad_by_flags(file: &Sections, mixing: bool) -> Option<Option<usize>>
     ensures { MatchOption result (mixing ≡ false) (λ bad. bad ≡ bad_method (table_of file.now.bytes.now)) }
 {
-    let mut seen = [false; FLAGS];
-    let mut searches: usize = 0;
+    let mut marks = Marks::<FLAGS>::new(mixing);
     for i in 0..file.layout.methods {
         let m = file.method(i);
         let names = Names::of(m);
-        let flag = flag_of(names, mixing);
-        let taken = seen[flag];
-        if taken {
-            if (searches == MOST_SEARCHES) & !mixing {
-                return None;
-            }
-            searches += 1;
-        }
+        let taken = marks.take(flag_of(names, mixing))?;
         if !(is_formed(file, m) & is_new(file, i, names, taken)) {
             return Some(Some(i));
         }
-        seen[flag] = true;
     }
     Some(None)
 }

@@ -7,6 +7,7 @@ pub mod extension;
 pub mod file;
 pub mod good;
 pub mod kind;
+pub mod marks;
 pub mod product;
 pub mod rows;
 pub mod search;

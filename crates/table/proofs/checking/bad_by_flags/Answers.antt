@@ -1,23 +1,20 @@
 -- `table::checking::bad_by_flags` meets its contract.
-use Rattle.std.proofs.Common.{◌≡◌, false, not, ◌&&◌, ◌||◌, get_or, replicate, sym, refl, ap, ◌∙◌, arith, not-suc-le-zero}
+use Rattle.std.proofs.Common.{◌≡◌, ◌+◌, not, ◌&&◌, ◌||◌, sym, ap, ◌∙◌, subst}
 use Rattle.schema.specs.File.{table_of}
 use Rattle.schema.specs.Check.{find_among, is_missing, good_method}
 use Rattle.table.specs.declared.rows.Names.{Names}
 use Rattle.table.specs.Flags.{flag_of}
 use Rattle.table.proofs.Checks.{methods-whole}
 use Rattle.table.proofs.Lowest.{passed_next, bad_here, bad_nowhere}
-use Rattle.table.proofs.Flags.{flagged-none, flagged-next, many-judged}
-use Rattle.table.proofs.checking.bad_by_flags.Goals.{After-is_new, After-flag_of-flag, else-taken, then-taken+else-searches-mixing}
+use Rattle.table.proofs.Flags.{MethodsFlagged, flagged-next, many-judged}
+use Rattle.table.proofs.checking.bad_by_flags.Goals.{After-is_new, After-flag_of}
 use Rattle.table.proofs.checking.bad_by_flags.Goals as goal
 
-pub loop-i-init : goal.loop-i-init
-loop-i-init c = (λ k h. absurd (not-suc-le-zero h), flagged-none _ _ (replicate 4096 false) refl, omega arith)
-
 -- the flag of the method's identifiers
-flagged : (c : After-flag_of-flag) →
+flagged : (c : After-flag_of) →
     let m = c.method-m.result in
-    c.flag_of-flag.result ≡ flag_of c.args.mixing m.«package» m.service m.method
-flagged c = c.flag_of-flag.ensures.0 ∙ ap (λ (n : Names). flag_of c.args.mixing n.«package» n.service n.method) c.of-names.ensures
+    c.flag_of.result ≡ flag_of c.args.mixing m.«package» m.service m.method
+flagged c = c.flag_of.ensures.0 ∙ ap (λ (n : Names). flag_of c.args.mixing n.«package» n.service n.method) c.of-names.ensures
 
 -- the test that the code makes is the definition's
 judged : (c : After-is_new) →
@@ -26,10 +23,12 @@ judged : (c : After-is_new) →
 judged c =
     let T = table_of c.args.file.now.bytes.now in
     let m = c.method-m in
-    let flag = c.flag_of-flag.result in
-    let new = c.is_new.ensures ∙ ap (λ (n : Names). not (get_or c.loop-i.seen flag false) || is_missing (find_among T c.loop-i.i n.«package» n.service n.method)) c.of-names.ensures in
+    let i = c.loop-i.i in
+    let was = c.in_ok-taken.ensures.answer.0 in
+    let n = c.of-names.ensures in
+    let new = c.is_new.ensures ∙ (λ k. not (was k) || is_missing (find_among T i (n k).«package» (n k).service (n k).method)) in
     (λ k. c.is_formed.ensures k && new k)
-    ∙ many-judged T _ c.loop-i.seen c.loop-i.i c.loop-i.invariant.1 m.result m.ensures flag (flagged (goal.at.After-is_new c).After-flag_of-flag)
+    ∙ many-judged T _ c.loop-i.marks.taken i c.loop-i.invariant.1 m.result m.ensures c.flag_of.result (flagged (goal.at.After-is_new c).After-flag_of)
 
 pub returns-then-not-is_formed-is_new : goal.returns-then-not-is_formed-is_new
 returns-then-not-is_formed-is_new c =
@@ -42,13 +41,11 @@ loop-i-preserved c =
     let T = table_of c.args.file.now.bytes.now in
     let m = c.method-m in
     let i = c.loop-i.i in
-    let good = sym (judged (goal.at.loop-i-preserved c).After-is_new) ∙ c.if-not-is_formed-is_new.false in (
+    let good = sym (judged (goal.at.loop-i-preserved c).After-is_new) ∙ c.if-not-is_formed-is_new.false in
+    let flags = flagged-next T _ c.loop-i.marks.taken i c.loop-i.invariant.1 m.result m.ensures c.flag_of.result (flagged (goal.at.loop-i-preserved c).After-flag_of) in (
       passed_next (good_method T) c.args.file.now.layout.methods i c.loop-i.invariant.0 good,
-      flagged-next T _ c.loop-i.seen i c.loop-i.invariant.1 m.result m.ensures c.flag_of-flag.result (flagged (goal.at.loop-i-preserved c).After-flag_of-flag),
-      (elim c.if-taken.branch [
-        | then-taken+else-searches-mixing w ↦ omega (arith, w.searches-is)
-        | else-taken w ↦ omega (arith, w.searches-is)
-      ]),
+      subst (λ t. MethodsFlagged T c.args.mixing t (i + 1)) (sym c.in_ok-taken.ensures.answer.1) flags,
+      c.take.ensures.mixing ∙ c.loop-i.invariant.2,
     )
 
 pub returns : goal.returns
