@@ -9,14 +9,16 @@ ghost use Rattle.flat.specs.Walk.{value_in, whole_in, first_fields, Ready};
 ghost use Rattle.flat.specs.Flat.{LeavesIn, IsFlat, Described, InnerHeaded, ValuedFlat, HeldFlat, HeldLeaves, HeldFields, FieldsReady};
 ghost use Rattle.flat.specs.Told.{told_inner, told_walk};
 
-use crate::Past;
 use crate::leaf::{content, read_count, shown_of};
 use crate::sheet::put_row;
+use crate::{Past, Source};
+use constants::kind::Kind;
+use constants::limit;
 use constants::refusal::{Refusal, Refused};
-use constants::{kind, limit};
 use schema::{Layout, TypeRow};
 use table::access::type_row;
 use table::file::layout_of;
+use table::good::Schema;
 use table::rows::{field_row, row as row_at};
 use walks::{required_of, zeros_in};
 use wire::bitmap;
@@ -46,7 +48,7 @@ pub fn are_leaves(s: &[u8], first: usize, n: usize) -> bool
     for i in first..first + n {
         let f = field_row(s, l, i);
         let t = row_at(s, l, f.ty as usize);
-        if kind::BYTES < t.kind {
+        if (Kind::Bytes as u32) < t.kind {
             return false;
         }
     }
@@ -62,11 +64,11 @@ pub fn is_flat(shown: &[u8; limit::TYPES], s: &[u8], ty: u32, depth: usize) -> b
         return false;
     }
     let t = type_row(s, ty as usize);
-    if t.kind == kind::ARRAY {
+    if t.kind == Kind::Array as u32 {
         let e = type_row(s, t.a as usize);
-        return e.kind < kind::ARRAY;
+        return e.kind < Kind::Array as u32;
     }
-    if t.kind != kind::STRUCT {
+    if t.kind != Kind::Struct as u32 {
         return false;
     }
     let n = t.b as usize;
@@ -77,26 +79,25 @@ pub fn is_flat(shown: &[u8; limit::TYPES], s: &[u8], ty: u32, depth: usize) -> b
 }
 
 // What is prepared of a type before its values are read.
-pub fn prepared_of(s: &[u8], ty: u32) -> Prepared
-    requires { IsGood s.now }
-    ensures { Described s.now ty result }
+pub fn prepared_of(schema: &Schema, ty: u32) -> Prepared
+    ensures { Described schema.now.bytes.now ty result }
 {
-    let l = layout_of(s);
-    let t = row_at(s, l, ty as usize);
-    if t.kind != kind::STRUCT {
+    let file = schema.sections();
+    let t = file.row(ty as usize);
+    if t.kind != Kind::Struct as u32 {
         return Prepared {
             ty,
             row: t,
             required: 0,
-            layout: l,
+            layout: file.layout,
         };
     }
-    let required = required_of(s, l, t.a as usize, t.b as usize);
+    let required = required_of(schema.bytes, file.layout, t.a as usize, t.b as usize);
     Prepared {
         ty,
         row: t,
         required,
-        layout: l,
+        layout: file.layout,
     }
 }
 
@@ -125,8 +126,7 @@ pub fn inner_presence(p: &[u8], required: u64, n: usize, at: usize) -> Result<In
 
 // The n elements of an array from a place on that are scalars, strings or bytes.
 fn read_leaves(
-    s: &[u8],
-    p: &[u8],
+    source: &Source,
     sheet: &mut [u32],
     ty: u32,
     elem: u32,
@@ -134,13 +134,12 @@ fn read_leaves(
     start: usize,
     depth: usize,
     row: usize,
-    judging: bool,
 ) -> Result<Past, Refused>
-    requires ready { Ready s.now p.now start (row + 1) judging (whole_in s.now p.now depth ty (array elem) start n start) }
-    requires kind_nonzero { (0 < (row_at (table_of s.now) elem).kind) × ((row_at (table_of s.now) elem).kind < 14) × (n ≤ 16384) }
-    ensures { HeldLeaves s.now p.now depth ty elem start n start row sheet.old (told_walk result) sheet.new }
+    requires ready { Ready source.now.schema.bytes.now source.now.payload.now start (row + 1) source.now.judging (whole_in source.now.schema.bytes.now source.now.payload.now depth ty (array elem) start n start) }
+    requires kind_nonzero { (0 < (row_at (table_of source.now.schema.bytes.now) elem).kind) × ((row_at (table_of source.now.schema.bytes.now) elem).kind < 14) × (n ≤ 16384) }
+    ensures { HeldLeaves source.now.schema.bytes.now source.now.payload.now depth ty elem start n start row sheet.old (told_walk result) sheet.new }
 {
-    let t = type_row(s, elem as usize);
+    let t = source.schema.type_row(elem as usize);
     let kind = t.kind as usize;
     let mut here = start;
     let mut below = row + 1;
@@ -148,7 +147,7 @@ fn read_leaves(
         if depth == 0 {
             return Refusal::TooDeep.at(here);
         }
-        let content = content(p, kind, here, judging)?;
+        let content = content(source.payload, kind, here, source.judging)?;
         put_row(
             sheet,
             below,
@@ -168,32 +167,30 @@ fn read_leaves(
     })
 }
 
-// The fields of a struct whose bits are set in `known`, from `start` on, and the struct's own row: its bitmap stands at `place`. The loop of
-// `added::leaf_fields` again: one function at three call sites is not inlined, and takes small structs 1.7 times as long.
+// The fields of a struct whose bits are set, from the place after its bitmap on, and the struct's own row: its bitmap stands at `place`. The loop of
+// `added::leaf_fields` again: one function at three call sites is not inlined, and takes small structs 1.7 times as long. It goes over the bits that are
+// set, by a `while`: an iterator over them would carry the same two numbers.
 fn flat_fields(
-    s: &[u8],
+    source: &Source,
     f: Prepared,
-    p: &[u8],
     sheet: &mut [u32],
-    known: u64,
+    head: InnerBits,
     place: usize,
-    start: usize,
     depth: usize,
     row: usize,
-    judging: bool,
 ) -> Result<Past, Refused>
-    requires { FieldsReady s.now p.now depth f.ty f.row.a f.row.b place known start row judging × Laid s.now f.layout }
-    ensures { HeldFields s.now p.now depth f.ty f.row.a f.row.b place known start row sheet.old (told_walk result) sheet.new }
+    requires { FieldsReady source.now.schema.bytes.now source.now.payload.now depth f.ty f.row.a f.row.b place head.known head.start row source.now.judging × Laid source.now.schema.bytes.now f.layout }
+    ensures { HeldFields source.now.schema.bytes.now source.now.payload.now depth f.ty f.row.a f.row.b place head.known head.start row sheet.old (told_walk result) sheet.new }
 {
     let mut i = f.row.a as usize;
-    let mut bits = known;
-    let mut here = start;
+    let mut bits = head.known;
+    let mut here = head.start;
     let mut below = row + 1;
     while bits != 0 {
         if bits % 2 == 1 {
-            let d = field_row(s, f.layout, i);
-            let t = row_at(s, f.layout, d.ty as usize);
-            let content = content(p, t.kind as usize, here, judging)?;
+            let d = field_row(source.schema.bytes, f.layout, i);
+            let t = row_at(source.schema.bytes, f.layout, d.ty as usize);
+            let content = content(source.payload, t.kind as usize, here, source.judging)?;
             put_row(
                 sheet,
                 below,
@@ -222,42 +219,37 @@ fn flat_fields(
 
 // A struct of scalars, strings and bytes.
 fn flat_struct(
-    s: &[u8],
+    source: &Source,
     f: Prepared,
-    p: &[u8],
     sheet: &mut [u32],
     at: usize,
     depth: usize,
     row: usize,
-    judging: bool,
 ) -> Result<Past, Refused>
-    requires { Ready s.now p.now at row judging (value_in s.now p.now (suc depth) f.ty at) × Described s.now f.ty f × IsFlat s.now (suc depth) f.ty × (f.row.kind ≡ 16) }
-    ensures { ValuedFlat s.now p.now (suc depth) f.ty at row sheet.old (told_walk result) sheet.new }
+    requires { Ready source.now.schema.bytes.now source.now.payload.now at row source.now.judging (value_in source.now.schema.bytes.now source.now.payload.now (suc depth) f.ty at)
+        × Described source.now.schema.bytes.now f.ty f × IsFlat source.now.schema.bytes.now (suc depth) f.ty × (f.row.kind ≡ 16) }
+    ensures { ValuedFlat source.now.schema.bytes.now source.now.payload.now (suc depth) f.ty at row sheet.old (told_walk result) sheet.new }
 {
-    let head = inner_presence(p, f.required, f.row.b as usize, at)?;
-    flat_fields(
-        s, f, p, sheet, head.known, at, head.start, depth, row, judging,
-    )
+    let head = inner_presence(source.payload, f.required, f.row.b as usize, at)?;
+    flat_fields(source, f, sheet, head, at, depth, row)
 }
 
 // An array of scalars, strings or bytes.
 fn flat_array(
-    s: &[u8],
+    source: &Source,
     f: Prepared,
-    p: &[u8],
     sheet: &mut [u32],
     at: usize,
     depth: usize,
     row: usize,
-    judging: bool,
 ) -> Result<Past, Refused>
-    requires { Ready s.now p.now at row judging (value_in s.now p.now (suc depth) f.ty at) × Described s.now f.ty f × IsFlat s.now (suc depth) f.ty × (f.row.kind ≡ 14) }
-    ensures { ValuedFlat s.now p.now (suc depth) f.ty at row sheet.old (told_walk result) sheet.new }
+    requires { Ready source.now.schema.bytes.now source.now.payload.now at row source.now.judging (value_in source.now.schema.bytes.now source.now.payload.now (suc depth) f.ty at)
+        × Described source.now.schema.bytes.now f.ty f × IsFlat source.now.schema.bytes.now (suc depth) f.ty × (f.row.kind ≡ 14) }
+    ensures { ValuedFlat source.now.schema.bytes.now source.now.payload.now (suc depth) f.ty at row sheet.old (told_walk result) sheet.new }
 {
-    let count = read_count(p, at, 1)?;
+    let count = read_count(source.payload, at, 1)?;
     read_leaves(
-        s,
-        p,
+        source,
         sheet,
         f.ty,
         f.row.a,
@@ -265,31 +257,29 @@ fn flat_array(
         count.start,
         depth,
         row,
-        judging,
     )
 }
 
 // An element of a flat type: a scalar, a string or bytes, or a struct or an array of them.
 fn element(
-    s: &[u8],
+    source: &Source,
     f: Prepared,
-    p: &[u8],
     sheet: &mut [u32],
     at: usize,
     depth: usize,
     row: usize,
-    judging: bool,
 ) -> Result<Past, Refused>
-    requires { Ready s.now p.now at row judging (value_in s.now p.now (suc depth) f.ty at) × Described s.now f.ty f × IsFlat s.now (suc depth) f.ty }
-    ensures { ValuedFlat s.now p.now (suc depth) f.ty at row sheet.old (told_walk result) sheet.new }
+    requires { Ready source.now.schema.bytes.now source.now.payload.now at row source.now.judging (value_in source.now.schema.bytes.now source.now.payload.now (suc depth) f.ty at)
+        × Described source.now.schema.bytes.now f.ty f × IsFlat source.now.schema.bytes.now (suc depth) f.ty }
+    ensures { ValuedFlat source.now.schema.bytes.now source.now.payload.now (suc depth) f.ty at row sheet.old (told_walk result) sheet.new }
 {
-    if f.row.kind == kind::STRUCT {
-        return flat_struct(s, f, p, sheet, at, depth, row, judging);
+    if f.row.kind == Kind::Struct as u32 {
+        return flat_struct(source, f, sheet, at, depth, row);
     }
-    if f.row.kind == kind::ARRAY {
-        return flat_array(s, f, p, sheet, at, depth, row, judging);
+    if f.row.kind == Kind::Array as u32 {
+        return flat_array(source, f, sheet, at, depth, row);
     }
-    let content = content(p, f.row.kind as usize, at, judging)?;
+    let content = content(source.payload, f.row.kind as usize, at, source.judging)?;
     put_row(sheet, row, f.ty, content.from, content.to - content.from, 0);
     Ok(Past {
         due: 0,
@@ -299,6 +289,42 @@ fn element(
 }
 
 // The n elements of an array from a place on.
+pub fn elements_of(
+    source: &Source,
+    sheet: &mut [u32],
+    ty: u32,
+    elem: u32,
+    n: usize,
+    start: usize,
+    depth: usize,
+    row: usize,
+) -> Result<Past, Refused>
+    requires { Ready source.now.schema.bytes.now source.now.payload.now start (row + 1) source.now.judging (whole_in source.now.schema.bytes.now source.now.payload.now depth ty (array elem) start n start)
+        × IsFlat source.now.schema.bytes.now depth elem × (n ≤ 16384) }
+    ensures { HeldFlat source.now.schema.bytes.now source.now.payload.now depth ty elem start n start row sheet.old (told_walk result) sheet.new }
+{
+    let f = prepared_of(&source.schema, elem);
+    let mut here = start;
+    let mut below = row + 1;
+    let mut sum: u32 = 0;
+    for _ in 0..n {
+        if depth == 0 {
+            return Refusal::TooDeep.at(here);
+        }
+        let past = element(source, f, sheet, here, depth - 1, below)?;
+        here = past.next;
+        below = past.row;
+        sum = sum + past.due;
+    }
+    put_row(sheet, row, ty, start, here - start, n);
+    Ok(Past {
+        due: sum,
+        next: here,
+        row: below,
+    })
+}
+
+// The same of slices, as docs/PROVING.md names it.
 pub fn read_elements(
     s: &[u8],
     p: &[u8],
@@ -314,23 +340,10 @@ pub fn read_elements(
     requires { Ready s.now p.now start (row + 1) judging (whole_in s.now p.now depth ty (array elem) start n start) × IsFlat s.now depth elem × (n ≤ 16384) }
     ensures { HeldFlat s.now p.now depth ty elem start n start row sheet.old (told_walk result) sheet.new }
 {
-    let f = prepared_of(s, elem);
-    let mut here = start;
-    let mut below = row + 1;
-    let mut sum: u32 = 0;
-    for _ in 0..n {
-        if depth == 0 {
-            return Refusal::TooDeep.at(here);
-        }
-        let past = element(s, f, p, sheet, here, depth - 1, below, judging)?;
-        here = past.next;
-        below = past.row;
-        sum = sum + past.due;
-    }
-    put_row(sheet, row, ty, start, here - start, n);
-    Ok(Past {
-        due: sum,
-        next: here,
-        row: below,
-    })
+    let source = Source {
+        schema: Schema::of_good(s),
+        payload: p,
+        judging,
+    };
+    elements_of(&source, sheet, ty, elem, n, start, depth, row)
 }

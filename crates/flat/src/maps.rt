@@ -12,27 +12,36 @@ ghost use Rattle.flat.specs.Walk.{value_in, whole_in, Ready};
 ghost use Rattle.flat.specs.Flat.{PairsIn, PairsReady, KeyTaken, ValuedFlat, HeldFlat, HeldPairs};
 ghost use Rattle.flat.specs.Told.{told_span, told_walk};
 
-use crate::Past;
 use crate::keys::is_repeated;
 use crate::leaf::{Extent, content, map_count};
 use crate::sheet::put_row;
-use constants::kind;
+use crate::{Past, Source};
+use constants::kind::Kind;
 use constants::refusal::{Refusal, Refused};
 use schema::TypeRow;
-use table::access::{known_row, type_row};
+use table::access::type_row;
+use table::good::Schema;
 use value::MOST_PAIRS;
 use walks::key::{FLAG_CELLS, clear_flags};
+
+// A map's type, and those of its keys and values.
+#[derive(Clone, Copy)]
+pub struct MapType {
+    pub ty: u32,
+    pub key: u32,
+    pub val: u32,
+}
 
 // Whether a type's row is that of a map whose values are scalars, strings or bytes, as keys always are.
 pub fn holds_leaves(s: &[u8], t: TypeRow) -> bool
     requires { IsGood s.now }
     ensures { result ≡ true → (t.kind ≡ 15) × ((row_at (table_of s.now) t.b).kind < 14) }
 {
-    if t.kind != kind::MAP {
+    if t.kind != Kind::Map as u32 {
         return false;
     }
     let v = type_row(s, t.b as usize);
-    v.kind < kind::ARRAY
+    v.kind < Kind::Array as u32
 }
 
 // The comparisons due of the keys of a map of n pairs.
@@ -48,7 +57,7 @@ fn key_comparisons(n: usize) -> u32
 
 // The content of the next key, after the first i of a map, and its row; a key that is among those is refused.
 fn next_key(
-    p: &[u8],
+    source: &Source,
     sheet: &mut [u32],
     keys: &mut [usize],
     ty: u32,
@@ -56,15 +65,21 @@ fn next_key(
     i: usize,
     at: usize,
     row: usize,
-    judging: bool,
 ) -> Result<Extent, Refused>
-    requires p_len_bound { (length p.now ≤ 16384) × (at ≤ length p.now) × (0 < kind) × (kind < 14) × (judging ≡ false → Accepted (own (leaf_shape kind) (cursor_at p.now at))) × (row ≤ 16384) }
-    requires i_in_bounds { judging ≡ true → (i + 4 < length keys.old / 2) × Kept p.now keys.old true i }
-    ensures { KeyTaken p.now at (own (leaf_shape kind) (cursor_at p.now at)) judging ty i row sheet.old keys.old (told_span result) sheet.new keys.new }
+    requires p_len_bound { (at ≤ length source.now.payload.now) × (0 < kind) × (kind < 14) × (source.now.judging ≡ false → Accepted (own (leaf_shape kind) (cursor_at source.now.payload.now at))) × (row ≤ 16384) }
+    requires i_in_bounds { source.now.judging ≡ true → (i + 4 < length keys.old / 2) × Kept source.now.payload.now keys.old true i }
+    ensures { KeyTaken source.now.payload.now at (own (leaf_shape kind) (cursor_at source.now.payload.now at)) source.now.judging ty i row sheet.old keys.old (told_span result) sheet.new keys.new }
 {
-    let content = content(p, kind, at, judging)?;
+    let content = content(source.payload, kind, at, source.judging)?;
     let length = content.to - content.from;
-    if is_repeated(p, keys, i, content.from, length, judging) {
+    if is_repeated(
+        source.payload,
+        keys,
+        i,
+        content.from,
+        length,
+        source.judging,
+    ) {
         return Refusal::RepeatedKey.at(at);
     }
     put_row(sheet, row, ty, content.from, length, 0);
@@ -73,37 +88,33 @@ fn next_key(
 
 // The n pairs of a map of type ty from a place on. What `keys` holds afterwards means nothing.
 fn leaf_pairs(
-    s: &[u8],
-    p: &[u8],
+    source: &Source,
     sheet: &mut [u32],
     keys: &mut [usize],
-    ty: u32,
-    key: u32,
-    val: u32,
+    m: MapType,
     n: usize,
     start: usize,
     depth: usize,
     row: usize,
-    judging: bool,
 ) -> Result<Past, Refused>
-    requires pairs_ready { PairsReady s.now p.now depth ty key val n start row judging × (judging ≡ true → n + 4 ≤ length keys.old / 2) }
-    requires kind_nonzero { (0 < (row_at (table_of s.now) val).kind) × ((row_at (table_of s.now) val).kind < 14) }
-    ensures { HeldPairs s.now p.now depth ty key val start n start row sheet.old (told_walk result) sheet.new }
+    requires pairs_ready { PairsReady source.now.schema.bytes.now source.now.payload.now depth m.ty m.key m.val n start row source.now.judging × (source.now.judging ≡ true → n + 4 ≤ length keys.old / 2) }
+    requires kind_nonzero { (0 < (row_at (table_of source.now.schema.bytes.now) m.val).kind) × ((row_at (table_of source.now.schema.bytes.now) m.val).kind < 14) }
+    ensures { HeldPairs source.now.schema.bytes.now source.now.payload.now depth m.ty m.key m.val start n start row sheet.old (told_walk result) sheet.new }
 {
-    let k = known_row(s, key as usize).kind as usize;
-    let v = known_row(s, val as usize).kind as usize;
+    let k = source.schema.known_row(m.key as usize).kind as usize;
+    let v = source.schema.known_row(m.val as usize).kind as usize;
     let mut here = start;
     let mut below = row + 1;
     for i in 0..n {
         if depth == 0 {
             return Refusal::TooDeep.at(here);
         }
-        let key_content = next_key(p, sheet, keys, key, k, i, here, below, judging)?;
-        let content = content(p, v, key_content.to, judging)?;
+        let key_content = next_key(source, sheet, keys, m.key, k, i, here, below)?;
+        let content = content(source.payload, v, key_content.to, source.judging)?;
         put_row(
             sheet,
             below + 1,
-            val,
+            m.val,
             content.from,
             content.to - content.from,
             0,
@@ -111,7 +122,7 @@ fn leaf_pairs(
         here = content.to;
         below = below + 2;
     }
-    put_row(sheet, row, ty, start, here - start, n);
+    put_row(sheet, row, m.ty, start, here - start, n);
     Ok(Past {
         due: key_comparisons(n),
         next: here,
@@ -121,46 +132,64 @@ fn leaf_pairs(
 
 // A map of type ty.
 fn leaf_map(
-    s: &[u8],
-    p: &[u8],
+    source: &Source,
     sheet: &mut [u32],
     keys: &mut [usize],
-    ty: u32,
-    key: u32,
-    val: u32,
+    m: MapType,
     at: usize,
     depth: usize,
     row: usize,
-    judging: bool,
 ) -> Result<Past, Refused>
-    requires ready { Ready s.now p.now at row judging (value_in s.now p.now depth ty at) × (shape_in s.now ty ≡ map key val) }
-    requires pairs_in { PairsIn (table_of s.now) key val × (68 ≤ length keys.old / 2) }
-    ensures { ValuedFlat s.now p.now depth ty at row sheet.old (told_walk result) sheet.new }
+    requires ready { Ready source.now.schema.bytes.now source.now.payload.now at row source.now.judging (value_in source.now.schema.bytes.now source.now.payload.now depth m.ty at) × (shape_in source.now.schema.bytes.now m.ty ≡ map m.key m.val) }
+    requires pairs_in { PairsIn (table_of source.now.schema.bytes.now) m.key m.val × (68 ≤ length keys.old / 2) }
+    ensures { ValuedFlat source.now.schema.bytes.now source.now.payload.now depth m.ty at row sheet.old (told_walk result) sheet.new }
 {
     if depth == 0 {
         return Refusal::TooDeep.at(at);
     }
-    let count = map_count(p, at)?;
+    let count = map_count(source.payload, at)?;
     if MOST_PAIRS < count.n {
         return Refusal::MapTooLong.at(at);
     }
-    leaf_pairs(
-        s,
-        p,
-        sheet,
-        keys,
-        ty,
-        key,
-        val,
-        count.n,
-        count.start,
-        depth - 1,
-        row,
-        judging,
-    )
+    leaf_pairs(source, sheet, keys, m, count.n, count.start, depth - 1, row)
 }
 
 // The n elements of an array from a place on, maps of the type elem. They share one slice for their keys, whose flags are cleared before each.
+pub fn maps_of(
+    source: &Source,
+    sheet: &mut [u32],
+    ty: u32,
+    m: MapType,
+    n: usize,
+    start: usize,
+    depth: usize,
+    row: usize,
+) -> Result<Past, Refused>
+    requires ready { Ready source.now.schema.bytes.now source.now.payload.now start (row + 1) source.now.judging (whole_in source.now.schema.bytes.now source.now.payload.now depth ty (array m.ty) start n start)
+        × (shape_in source.now.schema.bytes.now m.ty ≡ map m.key m.val) × (n ≤ 16384) }
+    requires pairs_in { PairsIn (table_of source.now.schema.bytes.now) m.key m.val }
+    ensures { HeldFlat source.now.schema.bytes.now source.now.payload.now depth ty m.ty start n start row sheet.old (told_walk result) sheet.new }
+{
+    let mut keys = [0usize; 2 * (MOST_PAIRS + FLAG_CELLS)];
+    let mut here = start;
+    let mut below = row + 1;
+    let mut sum: u32 = 0;
+    for _ in 0..n {
+        clear_flags(&mut keys);
+        let past = leaf_map(source, sheet, &mut keys, m, here, depth, below)?;
+        here = past.next;
+        below = past.row;
+        sum = sum + past.due;
+    }
+    put_row(sheet, row, ty, start, here - start, n);
+    Ok(Past {
+        due: sum,
+        next: here,
+        row: below,
+    })
+}
+
+// The same of slices, as docs/PROVING.md names it.
 pub fn read_maps(
     s: &[u8],
     p: &[u8],
@@ -179,23 +208,11 @@ pub fn read_maps(
     requires pairs_in { PairsIn (table_of s.now) key val }
     ensures { HeldFlat s.now p.now depth ty elem start n start row sheet.old (told_walk result) sheet.new }
 {
-    let mut keys = [0usize; 2 * (MOST_PAIRS + FLAG_CELLS)];
-    let mut here = start;
-    let mut below = row + 1;
-    let mut sum: u32 = 0;
-    for _ in 0..n {
-        clear_flags(&mut keys);
-        let past = leaf_map(
-            s, p, sheet, &mut keys, elem, key, val, here, depth, below, judging,
-        )?;
-        here = past.next;
-        below = past.row;
-        sum = sum + past.due;
-    }
-    put_row(sheet, row, ty, start, here - start, n);
-    Ok(Past {
-        due: sum,
-        next: here,
-        row: below,
-    })
+    let source = Source {
+        schema: Schema::of_good(s),
+        payload: p,
+        judging,
+    };
+    let m = MapType { ty: elem, key, val };
+    maps_of(&source, sheet, ty, m, n, start, depth, row)
 }

@@ -18,7 +18,7 @@ pub partial_fields-requires : goal.partial_fields-requires
 partial_fields-requires c =
     let pre = c.requires in
     let is = headed (goal.at.partial_fields-requires c).In_ok-head in
-    (inner-ready pre.0 pre.1 pre.2 pre.3 c.inner_presence.ensures.told is, pre.1.laid, pre.4, struct_is pre.0 pre.1 pre.2 pre.3)
+    record { fields = (inner-ready pre.0 pre.1 pre.2 pre.3 c.inner_presence.ensures.told is, pre.1.laid); shape = (pre.4, struct_is pre.0 pre.1 pre.2 pre.3) }
 
 pub returns-in_err-head : goal.returns-in_err-head
 returns-in_err-head c =

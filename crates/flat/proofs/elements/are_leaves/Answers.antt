@@ -22,8 +22,8 @@ field_row-f-requires c = good-laid _ _ c.requires.0 c.layout_of-l.ensures
 pub row-t-requires : goal.row-t-requires
 row-t-requires c = good-laid _ _ c.requires.0 c.layout_of-l.ensures
 
-pub returns-then-t-gt-BYTES : goal.returns-then-t-gt-BYTES
-returns-then-t-gt-BYTES c e = absurd (false≢true e)
+pub returns-then-t : goal.returns-then-t
+returns-then-t c e = absurd (false≢true e)
 
 pub loop-i-preserved : goal.loop-i-preserved
 loop-i-preserved c =
@@ -31,7 +31,7 @@ loop-i-preserved c =
     let T = table_of c.args.s.now in
     let f = c.field_row-f in
     let t = c.row-t in
-    (omega arith, omega arith, leaves-more T _ _ loop.invariant.2 f.result f.ensures t.result t.ensures c.if-t-gt-BYTES.false)
+    (omega arith, omega arith, leaves-more T _ _ loop.invariant.2 f.result f.ensures t.result t.ensures c.if-t.false)
 
 pub returns : goal.returns
 returns c e i a b = c.loop-i.invariant.2 i a (omega arith)

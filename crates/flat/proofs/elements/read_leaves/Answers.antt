@@ -13,20 +13,17 @@ use Rattle.std.proofs.lemmas.Result.{err_from_is_err_and}
 use Rattle.flat.proofs.elements.read_leaves.Goals as goal
 
 -- The elements' type.
-leaf : (c : After-type_row-t) → let args = c.args in IsLeaf args.s.now args.elem c.type_row-t.result
+leaf : (c : After-type_row-t) → let args = c.args in IsLeaf args.source.now.schema.bytes.now args.elem c.type_row-t.result
 leaf c =
     let pre = c.requires.kind_nonzero in
     let is = c.type_row-t.ensures in
     is_leaf is (rw is pre.0) (rw is pre.1)
 
-pub type_row-t-requires : goal.type_row-t-requires
-type_row-t-requires c = c.requires.ready.good
-
 pub overflow_add-below : goal.overflow_add-below
 overflow_add-below c = let pre = c.requires.ready in omega (arith, pre.small, pre.inside, pre.behind)
 
 pub loop-init : goal.loop-init
-loop-init c = let start = c in rw (sub-zero c.args.n) (reading-first start.requires.ready (shape_in start.args.s.now) tt _)
+loop-init c = let start = c in rw (sub-zero c.args.n) (reading-first start.requires.ready (shape_in start.args.source.now.schema.bytes.now) tt _)
 
 pub shape_of-sheet-then-depth-eq0 : goal.shape_of-sheet-then-depth-eq0
 shape_of-sheet-then-depth-eq0 c = c.loop.invariant.long

@@ -15,28 +15,28 @@ use Rattle.flat.proofs.maps.leaf_pairs.Goals as goal
 -- After a pair's key.
 keyed : (c : In_ok-key_content) →
     let args = c.args in
-    Midway Any args.s.now args.p.now args.depth args.ty args.key args.val args.n args.start args.row args.judging args.sheet.now
+    Midway Any args.source.now.schema.bytes.now args.source.now.payload.now args.depth args.m.ty args.m.key args.m.val args.n args.start args.row args.source.now.judging args.sheet.now
     c.next_key.new.keys c.loop-i.i c.in_ok-key_content.key_content.to 0 (c.loop-i.below + 1) c.next_key.new.sheet
 keyed c = key-past c.loop-i.invariant.0 c.loop-i-test.true c.if-depth-eq0.false c.known_row-k.ensures c.next_key.ensures (ap told_span c.in_ok-key_content.was)
 
 -- The type of the values.
-leaf : (c : After-known_row-v) → let args = c.args in IsLeaf args.s.now args.val c.known_row-v.result
+leaf : (c : After-known_row-v) → let args = c.args in IsLeaf args.source.now.schema.bytes.now args.m.val c.known_row-v.result
 leaf c =
     let pre = c.requires.kind_nonzero in
     let is = c.known_row-v.ensures in
     is_leaf is (rw is pre.0) (rw is pre.1)
 
 pub known_row-k-requires : goal.known_row-k-requires
-known_row-k-requires c = let q = c.requires.pairs_ready.0 in (q.ready.good, q.some)
+known_row-k-requires c = let q = c.requires.pairs_ready.0 in q.some
 
 pub known_row-v-requires : goal.known_row-v-requires
-known_row-v-requires c = let pre = c.requires in (pre.pairs_ready.0.ready.good, pre.kind_nonzero.0)
+known_row-v-requires c = let pre = c.requires in pre.kind_nonzero.0
 
 pub overflow_add-below : goal.overflow_add-below
 overflow_add-below c = let ready = c.requires.pairs_ready.0.ready in omega (arith, ready.small, ready.inside, ready.behind)
 
 pub loop-i-init : goal.loop-i-init
-loop-i-init c = let c8 = c in (along-first c8.requires.pairs_ready.0 (shape_in c8.args.s.now) tt _ _, refl)
+loop-i-init c = let c8 = c in (along-first c8.requires.pairs_ready.0 (shape_in c8.args.source.now.schema.bytes.now) tt _ _, refl)
 
 pub shape_of-sheet-then-depth-eq0 : goal.shape_of-sheet-then-depth-eq0
 shape_of-sheet-then-depth-eq0 c = c.loop-i.invariant.0.long
@@ -55,7 +55,8 @@ next_key-requires c =
     let k = loop.known_row-k.ensures in
     let d0 = c.if-depth-eq0.false in
     let pre = loop.requires.pairs_ready in
-    record { p_len_bound = key-asked inv.0 some d0 k; i_in_bounds = key-room inv.0 some d0 k inv.1 pre.1 }
+    let asked = key-asked inv.0 some d0 k in
+    record { p_len_bound = (asked.1, asked.2, asked.3, asked.4, asked.5); i_in_bounds = key-room inv.0 some d0 k inv.1 pre.1 }
 
 pub returns-in_err-key_content : goal.returns-in_err-key_content
 returns-in_err-key_content c =

@@ -7,4 +7,4 @@ use Rattle.flat.proofs.Turns.{Any}
 use Rattle.flat.proofs.maps.leaf_pairs.Given as goal
 
 abbrev pub invariant-loop-i : goal.invariant-loop-i
-invariant-loop-i l = Along Any l.s l.p l.depth l.ty l.key l.val l.n l.start l.row l.judging l.initial.sheet l.keys l.i l.here 0 l.below l.sheet × (length l.keys ≡ length l.initial.keys)
+invariant-loop-i l = Along Any l.source.schema.bytes.now l.source.payload.now l.depth l.m.ty l.m.key l.m.val l.n l.start l.row l.source.judging l.initial.sheet l.keys l.i l.here 0 l.below l.sheet × (length l.keys ≡ length l.initial.keys)

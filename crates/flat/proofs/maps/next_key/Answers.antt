@@ -7,7 +7,7 @@ use Rattle.std.proofs.lemmas.Result.{err_from_is_err_and}
 use Rattle.flat.proofs.maps.next_key.Goals as goal
 
 pub content-requires : goal.content-requires
-content-requires c = let pre = c.requires.p_len_bound in (pre.0, pre.1, pre.2, pre.3, pre.4)
+content-requires c = let pre = c.requires.p_len_bound in (c.args.source.now.short, pre.0, pre.1, pre.2, pre.3)
 
 pub returns-in_err-content : goal.returns-in_err-content
 returns-in_err-content c = let (_, is, same) = err_from_is_err_and c.from_residual.result c.from_residual.ensures.1 in rw (is, same) (key-refused c.content.ensures (ap told_span c.in_err-content.was))
@@ -18,7 +18,7 @@ overflow_sub-length c = (span_in c.content.ensures (ap told_span c.in_ok-content
 pub is_repeated-requires : goal.is_repeated-requires
 is_repeated-requires c =
     let pre = c.requires in
-    let w = key-small c.content.ensures (ap told_span c.in_ok-content.was) pre.p_len_bound.0 in (w.0, w.1, w.2, pre.i_in_bounds)
+    let w = key-small c.content.ensures (ap told_span c.in_ok-content.was) c.args.source.now.short in (w.0, w.1, w.2, pre.i_in_bounds)
 
 pub returns-then-is_repeated : goal.returns-then-is_repeated
 returns-then-is_repeated c =
@@ -28,7 +28,7 @@ returns-then-is_repeated c =
 pub put_row-requires : goal.put_row-requires
 put_row-requires c =
     let pre = c.requires.p_len_bound in
-    span-put c.content.ensures (ap told_span c.in_ok-content.was) pre.0 pre.5
+    span-put c.content.ensures (ap told_span c.in_ok-content.was) c.args.source.now.short pre.4
 
 pub shape_of-sheet : goal.shape_of-sheet
 shape_of-sheet c = c.put_row.auto.sheet

@@ -1,0 +1,86 @@
+-- `flat::added::partial_structs` meets its contract. The invariant: what is left of the elements gives the same end, whatever else is shown.
+use mathlib.Core.Path.{◌≡◌, refl, ap, ◌∙◌}
+use Prim.Native.Nat.{ℕ, suc, ◌+◌, ◌-◌}
+use Rattle.std.proofs.Math.Nat.{sub-zero}
+use native.Mathlib.Omega.{arith}
+use Rattle.schema.specs.Table.{Shape}
+use Rattle.walks.specs.Shape.{shape_in}
+use Rattle.flat.specs.Flat.{first_shape}
+use Rattle.flat.specs.Walk.{value_in, told, Walked}
+use Rattle.flat.proofs.Turns.{described_own, lifted, reading-below, reading-deep, reading-end, reading-first, reading-on, reading-own, reading-stop, reading-sum}
+use Rattle.walks.proofs.Items.{elements-none, elements-more}
+use Rattle.flat.proofs.added.partial_structs.Goals.{After-partial_struct}
+use Rattle.flat.specs.Told.{told_walk}
+use Rattle.std.proofs.lemmas.Result.{err_from_is_err_and}
+use Rattle.flat.proofs.added.partial_structs.Goals as goal
+
+-- After an element, which was read by what was prepared.
+walked : (c : After-partial_struct) →
+    let args = c.args in
+    let loop = c.loop in
+    (R : ℕ → Shape) → R args.first.elem ≡ first_shape args.source.now.schema.bytes.now args.first.elem args.first.m
+    → Walked args.source.now.payload.now (loop.here + 1) (told R (shape_in args.source.now.schema.bytes.now) args.first.elem) (value_in args.source.now.schema.bytes.now args.source.now.payload.now args.depth args.first.elem loop.here) loop.below
+    loop.sheet (told_walk c.partial_struct.result) c.partial_struct.new.sheet
+walked c =
+    let args = c.args in
+    let same = c.prepared_of-f.ensures.same in
+    lifted (λ R. R args.first.elem ≡ first_shape args.source.now.schema.bytes.now args.first.elem args.first.m) args.source.now.schema.bytes.now args.depth c.loop.here same c.if-depth-eq0.false
+    (λ R shown. c.partial_struct.ensures R (rw same shown))
+
+pub overflow_add-below : goal.overflow_add-below
+overflow_add-below c = let pre = c.requires in omega (arith, pre.ready.0.small, pre.ready.0.inside, pre.ready.0.behind)
+
+pub loop-init : goal.loop-init
+loop-init c = let args = c.args in let pre = c.requires in rw (sub-zero c.args.n) (reading-first pre.ready.0 (λ t. first_shape args.source.now.schema.bytes.now args.first.elem args.first.m) refl _)
+
+pub shape_of-sheet-then-depth-eq0 : goal.shape_of-sheet-then-depth-eq0
+shape_of-sheet-then-depth-eq0 c = c.loop.invariant.long
+
+pub returns-then-depth-eq0 : goal.returns-then-depth-eq0
+returns-then-depth-eq0 c = rw c.at.ensures (reading-deep c.loop.invariant (elements-more _ c.loop-test.true) c.if-depth-eq0.true)
+
+pub partial_struct-requires : goal.partial_struct-requires
+partial_struct-requires c =
+    let loop = c in
+    let args = loop.args in
+    let pre = loop.requires in
+    let ready = reading-below loop.loop.invariant (elements-more _ c.loop-test.true) c.if-depth-eq0.false in
+    let f = loop.prepared_of-f in
+    let level : args.depth ≡ suc (args.depth - 1) = omega (arith, c.if-depth-eq0.false) in (
+      rw f.ensures.same ready,
+      described_own args.source.now.schema.bytes.now args.first.elem f.result f.ensures,
+      rw (f.ensures.same, ← level) pre.ready.1,
+      rw f.ensures.is pre.first_value.0,
+      rw f.ensures.is pre.first_value.1,
+    )
+
+pub returns-in_err-past : goal.returns-in_err-past
+returns-in_err-past c =
+    let call = (goal.at.returns-in_err-past c).After-partial_struct in
+    let (_, is, same) = err_from_is_err_and c.from_residual.result c.from_residual.ensures.1 in
+    rw (is, same)
+    (reading-stop call.loop.invariant (elements-more _ call.loop-test.true) (walked call) (ap told_walk c.in_err-past.was))
+
+pub overflow_add-sum : goal.overflow_add-sum
+overflow_add-sum c =
+    let call = (goal.at.overflow_add-sum c).After-partial_struct in
+    let most = reading-sum call.loop.invariant (elements-more _ call.loop-test.true) (walked call) (ap told_walk c.in_ok-past.was) in omega (arith, most)
+
+pub loop-preserved : goal.loop-preserved
+loop-preserved c =
+    let call = (goal.at.loop-preserved c).After-partial_struct in
+    reading-on call.loop.invariant (elements-more _ call.loop-test.true) (walked call) (ap told_walk c.in_ok-past.was)
+
+pub overflow_sub-here : goal.overflow_sub-here
+overflow_sub-here c = omega (arith, c.loop.invariant.forth)
+
+pub put_row-requires : goal.put_row-requires
+put_row-requires c = let pre = c.requires in reading-own c.loop.invariant (omega arith) pre.ready.2
+
+pub shape_of-sheet : goal.shape_of-sheet
+shape_of-sheet c = c.put_row.auto.sheet ∙ c.loop.invariant.long
+
+pub returns : goal.returns
+returns c =
+    let inv = c.loop.invariant in
+    reading-end inv (elements-none _ (c.args.n - c.loop.counter) (omega (arith, c.loop-test.false))) c.put_row.ensures (omega arith) inv.forth

@@ -1,0 +1,13 @@
+-- `flat::maps::maps_of` meets its contract. The invariant: what is left of the elements gives the same end, whatever is shown.
+use mathlib.Core.Path.{◌≡◌}
+use Prim.Native.Nat.{◌-◌}
+use lib.ListN.{length, replicate}
+use Rattle.schema.specs.Table.{array}
+use Rattle.value.specs.Read.{plain_item}
+use Rattle.walks.specs.Shape.{shape_in}
+use Rattle.flat.proofs.Turns.{ReadingItems}
+use Rattle.flat.proofs.maps.maps_of.Given as goal
+
+abbrev pub invariant-loop : goal.invariant-loop
+invariant-loop l = ReadingItems (λ R. R l.m.ty ≡ shape_in l.source.schema.bytes.now l.m.ty) l.source.schema.bytes.now l.source.payload.now l.depth l.ty
+    (array l.m.ty) l.start l.n l.start l.row l.source.judging l.initial.sheet (replicate (l.n - l.counter) (plain_item l.m.ty)) l.here l.sum l.below l.sheet × (length l.keys ≡ 136)
