@@ -1,5 +1,5 @@
 -- Laws of the entries: what each of their returns shows.
-use mathlib.Core.Path.{◌≡◌, refl, ap, ◌∙◌}
+use mathlib.Core.Path.{◌≡◌, refl, ap, subst, ◌∙◌}
 use mathlib.Core.Bool.{true, false}
 use mathlib.Core.List.{List}
 use Prim.Native.Nat.{ℕ, ◌+◌, ◌-◌, ◌*◌, ◌≤◌, ◌<◌}
@@ -25,10 +25,11 @@ use Rattle.value.proofs.Statements.{comparisons-within}
 use Rattle.walks.specs.Shape.{shape_in, fields_from}
 use Rattle.walks.proofs.Tables.{shape-struct, no-struct}
 use Rattle.reader.specs.Reading.{Shown, Refused}
-use Rattle.flat.specs.Walk.{Walk, Past, Refused as Stop, Told, told, first_fields, done, walk_of, end_of, root_in, Walked}
+use Rattle.flat.specs.Walk.{Walk, Past, Refused as Stop, Told, told, first_fields, done, walk_of, end_of, root_in, Walked, Rooted}
 use Rattle.flat.specs.Sheet.{put_rows, shown_in}
 use Rattle.reader.specs.Entry.{Outcome, outcome, reading_in, outcome_of, room, payload_outcome, by_table, read_outcome, numbers, number_in}
 use Rattle.reader.specs.Beside.{shown_outcome, beside_payload, beside_outcome}
+use Rattle.reader.specs.Judged.{Judged, stops, goes}
 use Rattle.flat.proofs.Sheets.{rows-shown, rows-copied}
 use Rattle.flat.proofs.Steps.{read_of, refused-of}
 
@@ -86,9 +87,6 @@ module _ (shown s : List ℕ) (ty : ℕ) (p sheet : List ℕ) (r : TypeRow) (is 
           entry-full h = rw (← entry-root, read.1, lt-leb (length told-rows) (room sheet) (omega (arith, rows_are)))
 
           -- the number alone, without the second walk
-          pub entry-short : room sheet < row → 30 ≡ number_in (shown_outcome shown s ty p sheet)
-          entry-short h = ap number_in (entry-full h)
-
           pub entry-fits : row ≤ room sheet → 0 ≡ number_in (shown_outcome shown s ty p sheet)
           unfolding told
           entry-fits h = rw (← entry-root, read.1, le-leb (length told-rows) (room sheet) (omega (arith, rows_are)))
@@ -119,6 +117,29 @@ module _ (shown s : List ℕ) (ty : ℕ) (p sheet : List ℕ) (r : TypeRow) (is 
               go : (v : Walk) → end_of p v after ≡ walk_of tell (seen read.0 (cursor_at p next)) 0 0 sheet → after ≡ put_rows sheet 0 told-rows
               go (Past d a b) e = cc
               go (Stop a b) e = differ cc
+
+-- ---- what the first walk answered
+
+module _ {shown s : List ℕ} {ty : ℕ} {p : List ℕ} {rows : ℕ} {cells after : List ℕ} where
+  pub judged-as : {r v : Walk} → r ≡ v → Judged shown s ty p rows cells r after → Judged shown s ty p rows cells v after
+  judged-as e j = subst (λ (r : Walk). Judged shown s ty p rows cells r after) e j
+
+  pub judged-refused : {n q : ℕ} → Judged shown s ty p rows cells (Stop n q) after → (sheet : List ℕ) → room sheet ≡ rows → outcome (Refused n q) sheet ≡ shown_outcome shown s ty p sheet
+  judged-refused (stops f) = f
+
+  module _ {due next row : ℕ} where
+    pub judged-struct : Judged shown s ty p rows cells (Past due next row) after → (row_at (table_of s) ty).kind ≡ 16
+    judged-struct (goes kind small few w) = kind
+
+    pub judged-small : Judged shown s ty p rows cells (Past due next row) after → length p ≤ 16384
+    judged-small (goes kind small few w) = small
+
+    pub judged-few : Judged shown s ty p rows cells (Past due next row) after → row ≤ rows
+    judged-few (goes kind small few w) = few
+
+    pub judged-walked : Judged shown s ty p rows cells (Past due next row) after
+        → Rooted shown s p ty (fields_from (table_of s) (row_at (table_of s) ty).a (row_at (table_of s) ty).b) cells (Past due next row) after
+    judged-walked (goes kind small few w) = w
 
 -- ---- any table
 

@@ -3,6 +3,7 @@ pub mod Reading
 pub mod Told
 pub mod Entry
 pub mod Beside
+pub mod Judged
 pub mod Root
 pub mod Childless
 pub mod Structs

@@ -6,14 +6,17 @@ pub mod pairs;
 pub mod walk;
 
 ghost use Rattle.std.specs.Prelude.{◌≡◌};
+ghost use Rattle.flat.specs.Told.{told_walk};
 ghost use Rattle.reader.specs.Entry.{Outcome, payload_outcome, payload_number, read_outcome, number_in};
 ghost use Rattle.reader.specs.Beside.{shown_outcome};
+ghost use Rattle.reader.specs.Judged.{Judged};
 ghost use Rattle.reader.specs.Told.{told, told_number};
 
 use crate::walk::root;
 use constants::kind::Kind;
 use constants::refusal::{Refusal, Refused};
 use constants::{format, limit};
+use flat::Past;
 use flat::sheet::copy_cells;
 use table::good::Schema;
 
@@ -34,6 +37,33 @@ pub struct Shown {
     pub comparisons: usize,
 }
 
+// The first walk over a payload that is read as a struct of type ty, over cells of its own: its answer is the entry's, of a sheet that has so many rows.
+fn judge(
+    shown: &[u8; limit::TYPES],
+    schema: &Schema,
+    ty: u32,
+    payload: &[u8],
+    cells: &mut [u32],
+    rows: usize,
+) -> Result<Past, Refused>
+    ensures { Judged shown.now schema.now.bytes.now ty payload.now rows cells.old (told_walk result) cells.new }
+{
+    let t = schema.type_row(ty as usize);
+    if t.kind != Kind::Struct as u32 {
+        return Refusal::NoStruct.at(0);
+    }
+    if limit::PAYLOAD < payload.len() {
+        return Refusal::PayloadTooLong.at(0);
+    }
+    let first = t.a as usize;
+    let n = t.b as usize;
+    let past = root(shown, schema.bytes, payload, cells, ty, first, n, true)?;
+    if rows < past.row {
+        return Refusal::SheetTooShort.at(0);
+    }
+    Ok(past)
+}
+
 // Reads a payload as a struct of type ty, and shows the first fields of each struct, as many as `shown` has for its type.
 // One walk judges and writes into a small sheet of its own, from which few rows are copied; more are written by a second walk.
 fn read_shown(
@@ -45,23 +75,15 @@ fn read_shown(
 ) -> Result<Shown, Refused>
     ensures { Outcome.outcome (told result) sheet.new ≡ shown_outcome shown.now schema.now.bytes.now ty payload.now sheet.old }
 {
-    let t = schema.type_row(ty as usize);
-    if t.kind != Kind::Struct as u32 {
-        return Refusal::NoStruct.at(0);
-    }
-    if limit::PAYLOAD < payload.len() {
-        return Refusal::PayloadTooLong.at(0);
-    }
-    let first = t.a as usize;
-    let n = t.b as usize;
+    let rows = sheet.len() / format::ROW_CELLS;
     let mut few = [0u32; SCRATCH_CELLS];
-    let past = root(shown, schema.bytes, payload, &mut few, ty, first, n, true)?;
-    if sheet.len() / format::ROW_CELLS < past.row {
-        return Refusal::SheetTooShort.at(0);
-    }
+    let past = judge(shown, schema, ty, payload, &mut few, rows)?;
     if past.row <= SCRATCH_ROWS {
         copy_cells(sheet, &few, format::ROW_CELLS * past.row);
     } else {
+        let t = schema.type_row(ty as usize);
+        let first = t.a as usize;
+        let n = t.b as usize;
         let _ = root(shown, schema.bytes, payload, sheet, ty, first, n, false);
     }
     Ok(Shown {
@@ -104,33 +126,17 @@ fn judge_shown(
 ) -> Result<(), Refusal>
     ensures { told_number result ≡ number_in (shown_outcome shown.now schema.now.bytes.now ty payload.now sheet.now) }
 {
-    let t = schema.type_row(ty as usize);
-    if t.kind != Kind::Struct as u32 {
-        return Err(Refusal::NoStruct);
-    }
-    if limit::PAYLOAD < payload.len() {
-        return Err(Refusal::PayloadTooLong);
-    }
-    let first = t.a as usize;
-    let n = t.b as usize;
     let mut none = [0u32; 1];
-    match root(
+    match judge(
         shown,
-        schema.bytes,
+        schema,
+        ty,
         payload,
         &mut none[..0],
-        ty,
-        first,
-        n,
-        true,
+        sheet.len() / format::ROW_CELLS,
     ) {
+        Ok(_) => Ok(()),
         Err(refused) => Err(refused.refusal),
-        Ok(past) => {
-            if past.row <= sheet.len() / format::ROW_CELLS {
-                return Ok(());
-            }
-            Err(Refusal::SheetTooShort)
-        }
     }
 }
 
