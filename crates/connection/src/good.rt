@@ -9,6 +9,7 @@ use crate::call_record::{is_good_open, is_zero};
 use crate::forms::{ROWS, row_in};
 use calls::{Call, FormRow};
 use table::good::Schema;
+use table::marks::Marks;
 use table::product::{mixed, wrapping_mul};
 
 // Whether the number is one of the slice.
@@ -46,10 +47,8 @@ fn flag_of(id: u64, mixing: bool) -> usize
     (wrapping_mul(id, FACTOR) >> FLAG_SHIFT) as usize
 }
 
-// Flags of numbers, and so many times may one be taken before the first kind is abandoned.
+// Flags of numbers.
 const FLAGS: usize = 1024;
-
-const MOST_SEARCHES: usize = 16;
 
 // Whether no two of the slice are equal, where a number is compared with the later ones only if one of them has its flag. None where too many are:
 // that is abandoned, unless the flags are of numbers mixed.
@@ -57,22 +56,13 @@ fn distinct_by_flags(ids: &[u64], mixing: bool) -> Option<bool>
     ensures value { IfSome result (λ found. found ≡ distinct ids.now) }
     ensures abandoned { IfNone result (mixing ≡ false) }
 {
-    let mut seen = [false; FLAGS];
-    let mut searches: usize = 0;
+    let mut marks = Marks::<FLAGS>::new(mixing);
     for i in (0..ids.len()).rev() {
         let id = ids[i];
-        let flag = flag_of(id, mixing);
-        let taken = seen[flag];
-        if taken {
-            if (searches == MOST_SEARCHES) & !mixing {
-                return None;
-            }
-            searches += 1;
-        }
+        let taken = marks.take(flag_of(id, mixing))?;
         if contains_where(taken, &ids[i + 1..], id) {
             return Some(false);
         }
-        seen[flag] = true;
     }
     Some(true)
 }
