@@ -28,9 +28,9 @@ use Rattle.reader.specs.Reading.{Reading}
 use Rattle.reader.specs.Reading as reader
 use Rattle.writer.specs.Writing.{Writing}
 use Rattle.writer.specs.Writing as writer
-use Rattle.index.specs.declared.Indexing.{Indexing}
-use Rattle.index.specs.declared.Indexing.TheVariants as index
-use Rattle.index.specs.declared.Finding.TheVariants as find
+use Rattle.index.specs.Indexing.{Indexing}
+use Rattle.index.specs.Indexing as index
+use Rattle.index.specs.Finding as find
 use Rattle.index.specs.Index as making
 use Rattle.index.specs.LookUp as look
 use Rattle.index.proofs.Statements.{refused-above as index-above, verdict-known}

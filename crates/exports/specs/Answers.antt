@@ -19,8 +19,8 @@ use Rattle.writer.specs.Writing.{Written, Refused as Unwritten}
 use Rattle.writer.specs.Entry as writer
 use Rattle.valueframe.specs.Entry.{frame_outcome}
 use Rattle.forward.specs.Entry.{forward_outcome}
-use Rattle.index.specs.declared.Indexing.{Indexing}
-use Rattle.index.specs.declared.Finding.{Finding}
+use Rattle.index.specs.Indexing.{Indexing}
+use Rattle.index.specs.Finding.{Finding}
 use Rattle.index.specs.Index.{index_place, index_length}
 use Rattle.index.specs.LookUp.{find_length}
 use Rattle.salvage.specs.Salvaging.{Salvaging}

@@ -13,10 +13,10 @@ use Rattle.reader.specs.Reading.{Reading}
 use Rattle.reader.specs.Reading as reader
 use Rattle.writer.specs.Writing.{Writing}
 use Rattle.writer.specs.Writing as writer
-use Rattle.index.specs.declared.Indexing.{Indexing}
-use Rattle.index.specs.declared.Indexing.TheVariants as index
-use Rattle.index.specs.declared.Finding.{Finding}
-use Rattle.index.specs.declared.Finding.TheVariants as find
+use Rattle.index.specs.Indexing.{Indexing}
+use Rattle.index.specs.Indexing as index
+use Rattle.index.specs.Finding.{Finding}
+use Rattle.index.specs.Finding as find
 use Rattle.salvage.specs.Salvaging.{Salvaging}
 use Rattle.salvage.specs.Salvaging as salvage
 use Rattle.receiver.specs.declared.Received.{Received}

@@ -7,7 +7,7 @@ use lib.ListN.{take, drop, replicate}
 use Rattle.wire.specs.Little as little
 use Rattle.text.specs.Decimal as decimal
 use Rattle.text.specs.Text as texts
-use Rattle.index.specs.declared.Finding.TheVariants.{Printed, Refused}
+use Rattle.index.specs.Finding.{Printed, Refused}
 use Rattle.index.specs.Row.{Row, insert, ordered, is_rising, of_call}
 use Rattle.index.specs.Index.{rows_bytes, index_bytes}
 use Rattle.index.specs.IsIndex.{rows_in, is_shaped, is_index}

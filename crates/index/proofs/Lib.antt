@@ -7,3 +7,4 @@ pub mod Readings
 pub mod Statements
 pub mod Examples
 pub mod Numbers
+pub mod Told

@@ -6,10 +6,10 @@ use Prim.Native.Nat.{ℕ, ◌<◌}
 use native.Mathlib.Omega.{arith}
 use lib.ListN.{length}
 use Rattle.wire.specs.Little.{Bytes}
-use Rattle.index.specs.declared.Indexing.{Indexing}
-use Rattle.index.specs.declared.Indexing.TheVariants.{Made, Refused}
-use Rattle.index.specs.declared.Finding.{Finding}
-use Rattle.index.specs.declared.Finding.TheVariants.{Printed, Refused as Unprinted}
+use Rattle.index.specs.Indexing.{Indexing}
+use Rattle.index.specs.Indexing.{Made, Refused}
+use Rattle.index.specs.Finding.{Finding}
+use Rattle.index.specs.Finding.{Printed, Refused as Unprinted}
 use Rattle.index.specs.Row.{Row}
 use Rattle.index.specs.Index.{Outcome, outcome, make_index, index_number, index_place, index_length}
 use Rattle.index.specs.LookUp as look

@@ -11,7 +11,7 @@ use Rattle.buffer.specs.Store.{put}
 use Rattle.buffer.proofs.Stores.{put_whole}
 use Rattle.text.specs.Text.{Shown, put_on}
 use Rattle.text.proofs.Texts.{put_both, put_none}
-use Rattle.index.specs.declared.Finding.TheVariants.{Printed, Refused}
+use Rattle.index.specs.Finding.{Printed, Refused}
 use Rattle.index.specs.Row.{Row, is_of, of_call}
 use Rattle.index.specs.IsIndex.{row_at, rows_in}
 use Rattle.index.specs.Text.{line_text, lines_text, text_of}

@@ -34,8 +34,8 @@ use Rattle.replay.specs.Run.{sheet, fresh_calls, answer_to, header_in, Entry, Ru
 use Rattle.replay.specs.Runs.{Runs, at-end, halting, answering}
 use Rattle.replay.proofs.Turns.{listed-frame}
 use Rattle.replay.proofs.Replays as replay
-use Rattle.index.specs.declared.Indexing.TheVariants.{Made, Refused}
-use Rattle.index.specs.declared.Finding.TheVariants.{Printed, Refused as Unprinted}
+use Rattle.index.specs.Indexing.{Made, Refused}
+use Rattle.index.specs.Finding.{Printed, Refused as Unprinted}
 use Rattle.index.specs.Row.{Row, row_of, rows_of, insert, ordered, Rising, no_row, of_call}
 use Rattle.index.specs.Index.{index_bytes, rows_for, Outcome, outcome, index_into, make_index}
 use Rattle.index.specs.IsIndex.{RowFits, RowsFit, none_left, one-fits, IsIndex, rows_in, count_in, size_in, is_index}

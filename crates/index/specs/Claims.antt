@@ -4,7 +4,7 @@ use mathlib.Core.List.{List, [], ◌++◌, Memᴰ}
 use Rattle.schema.specs.Check.{IsGood}
 use Rattle.schema.specs.Faults.{TableFault}
 use Rattle.replay.specs.Run.{Entry}
-use Rattle.index.specs.declared.Finding.TheVariants.{Printed, Refused}
+use Rattle.index.specs.Finding.{Printed, Refused}
 use Rattle.index.specs.Row.{Row, of_call}
 use Rattle.index.specs.Index.{index_bytes, rows_for}
 use Rattle.index.specs.IsIndex.{IsIndex}

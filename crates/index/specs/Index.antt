@@ -6,8 +6,8 @@ use Rattle.schema.specs.Checked.{Checked}
 use Rattle.schema.specs.Checked.{Good, Refused as Faulty}
 use Rattle.schema.specs.Check.{checked}
 use Rattle.replay.specs.Run.{run_of}
-use Rattle.index.specs.declared.Indexing.{Indexing}
-use Rattle.index.specs.declared.Indexing.TheVariants.{Made, Refused}
+use Rattle.index.specs.Indexing.{Indexing}
+use Rattle.index.specs.Indexing.{Made, Refused}
 use Rattle.index.specs.Row.{Row, rows_of, ordered}
 
 -- The correlation in 8 bytes, place and answer in 4 each.

@@ -1,8 +1,11 @@
 -- The index of a record and the look-up of one call in it.
 pub mod Row
+pub mod Indexing
+pub mod Finding
 pub mod Index
 pub mod IsIndex
 pub mod Text
 pub mod LookUp
 pub mod Claims
 pub mod Cells
+pub mod Told

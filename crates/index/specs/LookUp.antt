@@ -1,7 +1,7 @@
 -- What a look-up prints and answers: 65 for bytes that are no index, then 66 for a record of another length; else the rows of the call.
 use Rattle.std.specs.Prelude.{cond, List, ◌++◌, ℕ, eqb, ltb, length, drop}
-use Rattle.index.specs.declared.Finding.{Finding}
-use Rattle.index.specs.declared.Finding.TheVariants.{Printed, Refused}
+use Rattle.index.specs.Finding.{Finding}
+use Rattle.index.specs.Finding.{Printed, Refused}
 use Rattle.index.specs.Row.{of_call}
 use Rattle.index.specs.IsIndex.{rows_in, count_in, is_index, size_in}
 use Rattle.index.specs.Text.{text_of}

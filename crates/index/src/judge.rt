@@ -3,9 +3,11 @@ ghost use Rattle.std.specs.Prelude.{◌≡◌, ◌+◌, ◌*◌, ◌≤◌, ◌<
 ghost use Rattle.index.specs.Row.{is_before, is_rising};
 ghost use Rattle.index.specs.IsIndex.{row_at, rows_in, is_shaped, is_ordered};
 ghost use Rattle.index.specs.LookUp.{stopped_number, looked};
+ghost use Rattle.index.specs.Told.{judged_number, judged_rows};
 
 use crate::ROW;
-use constants::{format, refusal};
+use constants::format;
+use constants::refusal::Refusal;
 use wire::little::{number, u32_at};
 
 // Bytes of the trailer.
@@ -28,13 +30,6 @@ const ROWS_AT: usize = 4;
 const LENGTH_AT: usize = 8;
 
 const LAYOUT_AT: usize = 12;
-
-// What follows `stopped`, and how many rows are looked at: none at a refusal.
-#[derive(Clone, Copy)]
-pub struct Judged {
-    pub number: u32,
-    pub rows: usize,
-}
 
 // Whether the bytes are whole rows and a right trailer.
 fn is_shaped(index: &[u8]) -> bool
@@ -66,12 +61,10 @@ fn is_rising(index: &[u8], n: usize) -> bool
     requires { 16 * n ≤ length index.now }
     ensures { result ≡ is_rising (rows_in n index.now) }
 {
-    let mut i = 0;
-    while i + 1 < n {
-        if !is_before(index, ROW * i) {
+    for next in 1..n {
+        if !is_before(index, ROW * (next - 1)) {
             return false;
         }
-        i += 1;
     }
     true
 }
@@ -84,30 +77,20 @@ fn is_ordered(index: &[u8]) -> bool
     is_rising(index, (index.len() - TRAILER) / ROW)
 }
 
-fn refused(number: u32) -> Judged
-    ensures { (result.number ≡ number) × (result.rows ≡ 0) }
-{
-    Judged { number, rows: 0 }
-}
-
-// Judges an index for a record of so many bytes.
-pub fn judge(index: &[u8], size: usize) -> Judged
-    ensures number_value { (result.number ≡ stopped_number index.now size) × (result.rows ≡ looked index.now size) }
-    ensures rows_in_bounds { (16 * result.rows ≤ length index.now) × (result.rows < 4294967296) }
+// Judges an index for a record of so many bytes: how many rows are looked at, or what follows `stopped`.
+pub fn judge(index: &[u8], size: usize) -> Result<usize, Refusal>
+    ensures number_value { (judged_number result ≡ stopped_number index.now size) × (judged_rows result ≡ looked index.now size) }
+    ensures rows_in_bounds { (16 * judged_rows result ≤ length index.now) × (judged_rows result < 4294967296) }
 {
     if !is_shaped(index) {
-        return refused(refusal::INDEX);
+        return Err(Refusal::Index);
     }
     if !is_ordered(index) {
-        return refused(refusal::INDEX);
+        return Err(Refusal::Index);
     }
     let end = index.len() - TRAILER;
-    let rows = u32_at(index, end + ROWS_AT) as usize;
     if u32_at(index, end + LENGTH_AT) as usize != size {
-        return refused(refusal::OTHER_RECORD);
+        return Err(Refusal::OtherRecord);
     }
-    Judged {
-        number: refusal::ACCEPTED,
-        rows,
-    }
+    Ok(u32_at(index, end + ROWS_AT) as usize)
 }

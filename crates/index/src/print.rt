@@ -6,10 +6,13 @@ ghost use Rattle.buffer.specs.Store.{put};
 ghost use Rattle.text.specs.Text.{AddedTo};
 ghost use Rattle.index.specs.Row.{of_call};
 ghost use Rattle.index.specs.IsIndex.{row_at, rows_in};
+ghost use Rattle.index.specs.Told.{judged_number, judged_rows};
 ghost use Rattle.index.specs.Text.{line_text, lines_text, stopped_text, text_of};
 
 use crate::ROW;
-use crate::judge::{ANSWER_AT, CORRELATION, Judged, PLACE_AT};
+use crate::judge::{ANSWER_AT, CORRELATION, PLACE_AT};
+use constants::refusal;
+use constants::refusal::Refusal;
 use text::Page;
 use wire::little::{number, u32_at};
 
@@ -50,20 +53,26 @@ fn put_stopped(page: &mut Page, number: u32)
 }
 
 // The text, as far as the page has room.
-fn put_text(page: &mut Page, index: &[u8], judged: Judged, correlation: u64)
-    requires { (16 * judged.rows ≤ length index.now) × (judged.rows < 4294967296) × (page.old.len ≡ 0) }
-    ensures { AddedTo page.old page.new (text_of (of_call correlation (rows_in judged.rows index.now)) judged.number) }
+#[tactic(auto, using(text::proofs::Texts::put_both), unfolding(crate::specs::Text::text_of, crate::specs::Text::lines_text, crate::specs::Row::of_call, crate::specs::IsIndex::rows_in))]
+fn put_text(page: &mut Page, index: &[u8], judged: Result<usize, Refusal>, correlation: u64)
+    requires { (16 * judged_rows judged ≤ length index.now) × (judged_rows judged < 4294967296) × (page.old.len ≡ 0) }
+    ensures { AddedTo page.old page.new (text_of (of_call correlation (rows_in (judged_rows judged) index.now)) (judged_number judged)) }
 {
     page.put_word(b"place answer\n");
-    put_rows(page, index, judged.rows, correlation);
-    put_stopped(page, judged.number);
+    match judged {
+        Ok(rows) => {
+            put_rows(page, index, rows, correlation);
+            put_stopped(page, refusal::ACCEPTED);
+        }
+        Err(refusal) => put_stopped(page, refusal.into()),
+    }
 }
 
 // The text's length, measured on a page without room.
 #[tactic(auto, unfolding(text::specs::Text::put_on))]
-pub fn measure(index: &[u8], judged: Judged, correlation: u64) -> usize
-    requires { (16 * judged.rows ≤ length index.now) × (judged.rows < 4294967296) }
-    ensures { result ≡ length (text_of (of_call correlation (rows_in judged.rows index.now)) judged.number) }
+pub fn measure(index: &[u8], judged: Result<usize, Refusal>, correlation: u64) -> usize
+    requires { (16 * judged_rows judged ≤ length index.now) × (judged_rows judged < 4294967296) }
+    ensures { result ≡ length (text_of (of_call correlation (rows_in (judged_rows judged) index.now)) (judged_number judged)) }
 {
     let mut none = [0u8; 1];
     let mut page = Page::on(&mut none[..0]);
@@ -73,9 +82,9 @@ pub fn measure(index: &[u8], judged: Judged, correlation: u64) -> usize
 
 // The text at the start of the output.
 #[tactic(auto, unfolding(text::specs::Text::put_on))]
-pub fn print(index: &[u8], judged: Judged, correlation: u64, out: &mut [u8])
-    requires { (16 * judged.rows ≤ length index.now) × (judged.rows < 4294967296) }
-    ensures { out.new ≡ put out.old 0 (text_of (of_call correlation (rows_in judged.rows index.now)) judged.number) }
+pub fn print(index: &[u8], judged: Result<usize, Refusal>, correlation: u64, out: &mut [u8])
+    requires { (16 * judged_rows judged ≤ length index.now) × (judged_rows judged < 4294967296) }
+    ensures { out.new ≡ put out.old 0 (text_of (of_call correlation (rows_in (judged_rows judged) index.now)) (judged_number judged)) }
 {
     let mut page = Page::on(out);
     put_text(&mut page, index, judged, correlation);

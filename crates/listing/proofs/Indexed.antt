@@ -16,8 +16,8 @@ use Rattle.schema.proofs.Goods.{good-table}
 use Rattle.replay.specs.Run.{Entry, run_of}
 use Rattle.replay.specs.Runs.{StandsIn}
 use Rattle.replay.proofs.Replays.{entries-stand}
-use Rattle.index.specs.declared.Indexing.TheVariants.{Made}
-use Rattle.index.specs.declared.Finding.TheVariants.{Printed}
+use Rattle.index.specs.Indexing.{Made}
+use Rattle.index.specs.Finding.{Printed}
 use Rattle.index.specs.Index.{rows_for, outcome, make_index}
 use Rattle.index.specs.Text.{call_text}
 use Rattle.index.specs.Claims.{Has}

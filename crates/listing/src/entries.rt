@@ -1,6 +1,5 @@
 // The entries of a record, one after the other.
 ghost use Rattle.std.specs.Prelude.{◌≡◌, ◌≤◌, length};
-ghost use Rattle.schema.specs.Check.{IsGood};
 ghost use Rattle.text.specs.Text.{AddedTo};
 ghost use Rattle.replay.specs.Run.{run_of};
 ghost use Rattle.listing.specs.Listing.{run_text};
@@ -8,12 +7,13 @@ ghost use Rattle.listing.specs.Listing.{run_text};
 use crate::lines::{put_line, put_stopped};
 use constants::{limit, refusal};
 use replay::{header, step, stops};
+use table::good::Schema;
 use text::Page;
 
-// The entries from the first on, by a good schema file, and the last line.
-fn put_from_first(schema: &[u8], entries: &[u8], sheet: &mut [u32], page: &mut Page)
-    requires { (page.old.len ≤ 44) × (length entries.now ≤ 65536) × (length sheet.old ≡ 16384) × IsGood schema.now }
-    ensures added { AddedTo page.old page.new (run_text 1 (run_of schema.now entries.now)) }
+// The entries from the first on, and the last line.
+fn put_from_first(schema: &Schema, entries: &[u8], sheet: &mut [u32], page: &mut Page)
+    requires { (page.old.len ≤ 44) × (length entries.now ≤ 65536) × (length sheet.old ≡ 16384) }
+    ensures added { AddedTo page.old page.new (run_text 1 (run_of schema.now.bytes.now entries.now)) }
     ensures upper_bound { page.new.len ≤ 362000 }
 {
     let mut table = arf::fresh();
@@ -22,7 +22,7 @@ fn put_from_first(schema: &[u8], entries: &[u8], sheet: &mut [u32], page: &mut P
     while at < entries.len() {
         let side = entries[at];
         let from = at + 1;
-        let r = step(table, schema, side, &entries[from..], sheet);
+        let r = step(table, schema.bytes, side, &entries[from..], sheet);
         if stops(side, r.answer.number, r.answer.used) {
             put_stopped(page, r.answer.number, entries.len() - at);
             return;
@@ -37,9 +37,9 @@ fn put_from_first(schema: &[u8], entries: &[u8], sheet: &mut [u32], page: &mut P
 }
 
 // All entries of a record of at most 65,536 bytes, from the fresh call table, and the last line.
-pub fn put_entries(schema: &[u8], entries: &[u8], page: &mut Page)
-    requires { (page.old.len ≤ 44) × (length entries.now ≤ 65536) × IsGood schema.now }
-    ensures added { AddedTo page.old page.new (run_text 1 (run_of schema.now entries.now)) }
+pub fn put_entries(schema: &Schema, entries: &[u8], page: &mut Page)
+    requires { (page.old.len ≤ 44) × (length entries.now ≤ 65536) }
+    ensures added { AddedTo page.old page.new (run_text 1 (run_of schema.now.bytes.now entries.now)) }
     ensures upper_bound { page.new.len ≤ 362000 }
 {
     let mut sheet = [0u32; limit::SHEET];

@@ -10,6 +10,7 @@ ghost use Rattle.listing.specs.Listing.{listing};
 
 use constants::limit;
 use constants::refusal::Refusal;
+use table::good::Schema;
 use text::Page;
 
 // Any listing has fewer bytes: a line has at most 149, and its entry at least 27 of the record's 65,536.
@@ -27,9 +28,9 @@ fn put_all(schema: &[u8], entries: &[u8], page: &mut Page)
         lines::put_stopped(page, Refusal::FileTooLong.into(), 0);
         return;
     }
-    match arf::check_table(schema) {
+    match Schema::check(schema) {
         Err(refused) => lines::put_stopped(page, refused.refusal.into(), entries.len()),
-        Ok(()) => entries::put_entries(schema, entries, page),
+        Ok(schema) => entries::put_entries(&schema, entries, page),
     }
 }
 

@@ -23,7 +23,7 @@ use Rattle.receiver.specs.Answer.{effect, stopped, used_of}
 use Rattle.index.specs.Index.{index_number, make_index, index_place, index_length}
 use Rattle.index.specs.Claims.{Refuses as index-Refuses, Finds}
 use Rattle.index.specs.LookUp.{find_number, look_up, find_length, outcome as look-up-outcome}
-use Rattle.index.specs.declared.Finding.TheVariants.{Refused as look-up-Refused, Printed}
+use Rattle.index.specs.Finding.{Refused as look-up-Refused, Printed}
 use Rattle.frame.proofs.Numbers as frame-Numbers
 use Rattle.frame.proofs.ReadBack as frame-ReadBack
 use Rattle.receiver.proofs.Ways as receiver-Ways

@@ -18,8 +18,8 @@ use Rattle.index.specs.IsIndex.{IsIndex, rows_in, is_index, Reads}
 use Rattle.index.specs.Claims.{Has, Finds, Judges, Accepted as index-Accepted, Refuses as index-Refuses}
 use Rattle.index.specs.LookUp.{look_up, Outcome as look-up-Outcome, stopped_number, look_text, looked, outcome as look-up-outcome}
 use Rattle.index.specs.Text.{text_of, call_text}
-use Rattle.index.specs.declared.Indexing.TheVariants.{Made, Refused as index-Refused}
-use Rattle.index.specs.declared.Finding.TheVariants.{Printed, Refused as look-up-Refused}
+use Rattle.index.specs.Indexing.{Made, Refused as index-Refused}
+use Rattle.index.specs.Finding.{Printed, Refused as look-up-Refused}
 use Rattle.listing.proofs.Examples.{entries, interleaved, unsided}
 use Rattle.listing.specs.Listing.{listing, run_text}
 use Rattle.listing.specs.Text.{heading}

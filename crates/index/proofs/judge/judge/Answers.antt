@@ -1,5 +1,5 @@
 -- `index::judge::judge` meets its contract: the tests in their order.
-use mathlib.Core.Path.{◌≡◌, sym, ◌∙◌}
+use mathlib.Core.Path.{◌≡◌, refl, sym, ◌∙◌}
 use mathlib.Core.Bool.{true}
 use Prim.Native.Nat.{◌≤◌}
 use native.Mathlib.Omega.{arith}
@@ -12,7 +12,7 @@ use Rattle.index.proofs.judge.judge.Goals as goal
 pub returns-then-not-is_shaped : goal.returns-then-not-is_shaped
 returns-then-not-is_shaped c =
     let a = c.args in
-    let w = judged-shape a.index.now a.size (sym c.is_shaped.ensures ∙ c.if-not-is_shaped.true) _ _ c.refused.ensures.0 c.refused.ensures.1 in
+    let w = judged-shape a.index.now a.size (sym c.is_shaped.ensures ∙ c.if-not-is_shaped.true) 65 0 refl refl in
     record { number_value = (w.number_is, w.rows_is); rows_in_bounds = (w.inside, w.few) }
 
 -- the shape is right
@@ -26,7 +26,7 @@ pub returns-then-not-is_ordered : goal.returns-then-not-is_ordered
 returns-then-not-is_ordered c =
     let first = (goal.at.returns-then-not-is_ordered c).Else-not-is_shaped in
     let a = first.args in
-    let w = judged-order a.index.now a.size (shape first) (sym c.is_ordered.ensures ∙ c.if-not-is_ordered.true) _ _ c.refused-then-not-is_ordered.ensures.0 c.refused-then-not-is_ordered.ensures.1 in
+    let w = judged-order a.index.now a.size (shape first) (sym c.is_ordered.ensures ∙ c.if-not-is_ordered.true) 65 0 refl refl in
     record { number_value = (w.number_is, w.rows_is); rows_in_bounds = (w.inside, w.few) }
 
 -- so is the order
@@ -39,7 +39,7 @@ returns-then-u32_at-size c =
     let first = (goal.at.returns-then-u32_at-size c).Else-not-is_shaped in
     let a = first.args in
     let size = c.u32_at in
-    let w = judged-size a.index.now a.size (shape first) (order second) size.result size.ensures c.if-u32_at-size.true _ _ c.refused-then-u32_at-size.ensures.0 c.refused-then-u32_at-size.ensures.1 in
+    let w = judged-size a.index.now a.size (shape first) (order second) size.result size.ensures c.if-u32_at-size.true 66 0 refl refl in
     record { number_value = (w.number_is, w.rows_is); rows_in_bounds = (w.inside, w.few) }
 
 pub returns : goal.returns
@@ -48,7 +48,7 @@ returns c =
     let first = (goal.at.returns c).Else-not-is_shaped in
     let a = first.args in
     let size = c.u32_at in
-    let rows = c.u32_at-rows in
+    let rows = c.u32_at-2 in
     let w = judged-right a.index.now a.size (shape first) (order second) size.result size.ensures c.if-u32_at-size.false
     rows.result (count-read a.index.now (shape first) rows.result rows.ensures) (omega arith) in
     record { number_value = (w.number_is, w.rows_is); rows_in_bounds = (w.inside, w.few) }
@@ -59,8 +59,8 @@ is_ordered-requires c = long c
 pub overflow_sub-end : goal.overflow_sub-end
 overflow_sub-end c = long (goal.at.overflow_sub-end c).Else-not-is_shaped
 
-pub u32_at-rows-requires : goal.u32_at-rows-requires
-u32_at-rows-requires c = omega (arith, long (goal.at.u32_at-rows-requires c).Else-not-is_shaped)
+pub u32_at-requires-2 : goal.u32_at-requires-2
+u32_at-requires-2 c = omega (arith, long (goal.at.u32_at-requires-2 c).Else-not-is_shaped)
 
 pub u32_at-requires : goal.u32_at-requires
 u32_at-requires c = omega (arith, long (goal.at.u32_at-requires c).Else-not-is_shaped)

@@ -18,11 +18,11 @@ loop-at-init c =
       omega arith,
       omega (arith, c.requires.0, c.requires.1),
       omega arith,
-      rest_first a.schema.now a.entries.now (shown a.page.now) c.fresh-table.result c.fresh-table.ensures,
+      rest_first a.schema.now.bytes.now a.entries.now (shown a.page.now) c.fresh-table.result c.fresh-table.ensures,
     )
 
 pub step-r-requires : goal.step-r-requires
-step-r-requires c = (c.requires.3, c.loop-at.invariant.0)
+step-r-requires c = (c.args.schema.now.good, c.loop-at.invariant.0)
 
 pub shape_of-sheet-then-stops : goal.shape_of-sheet-then-stops
 shape_of-sheet-then-stops c =
@@ -34,7 +34,7 @@ returns-then-stops c =
     let here = c.loop-at in
     let step = c.step-r in record {
       added = c.put_stopped.ensures.added
-          ∙ rest_stop a.schema.now a.entries.now _ (shown here.page) here.entry here.at here.table.slots here.invariant.4
+          ∙ rest_stop a.schema.now.bytes.now a.entries.now _ (shown here.page) here.entry here.at here.table.slots here.invariant.4
           c.loop-at-test.true _ (tail_of a.entries.now here.at) _ refl step.result.answer step.ensures.0
           (sym c.stops.ensures ∙ c.if-stops.true);
       upper_bound = omega (arith, here.invariant.2, c.put_stopped.ensures.upper_bound);
@@ -47,7 +47,7 @@ bounds c =
     let a = c.args in
     let here = c.loop-at in
     let step = c.step-r in
-    entry-bounds a.schema.now a.entries.now here.at here.table.slots c.loop-at-test.true
+    entry-bounds a.schema.now.bytes.now a.entries.now here.at here.table.slots c.loop-at-test.true
     _ (tail_of a.entries.now here.at) _ refl step.result.answer step.ensures.0
     (sym c.stops.ensures ∙ c.if-stops.false)
 
@@ -66,7 +66,7 @@ loop-at-preserved c =
       b.1,
       omega (arith, here.invariant.2, b.0, b.1, c.put_line.ensures.upper_bound),
       omega (arith, here.invariant.3, b.0),
-      rw c.put_line.ensures.added (rest_line a.schema.now a.entries.now _ (shown here.page) here.entry here.at here.table.slots here.invariant.4
+      rw c.put_line.ensures.added (rest_line a.schema.now.bytes.now a.entries.now _ (shown here.page) here.entry here.at here.table.slots here.invariant.4
           c.loop-at-test.true _ (tail_of a.entries.now here.at) _ refl step.result.answer step.ensures.0
           (sym c.stops.ensures ∙ c.if-stops.false) b.0
           header.result (header.ensures ∙ ap header_in step.ensures.1)),
@@ -80,7 +80,7 @@ returns c =
     let a = c.args in
     let here = c.loop-at in record {
       added = c.put_stopped-2.ensures.added
-          ∙ rest_end a.schema.now a.entries.now _ (shown here.page) here.entry here.at here.table.slots here.invariant.4 c.loop-at-test.false;
+          ∙ rest_end a.schema.now.bytes.now a.entries.now _ (shown here.page) here.entry here.at here.table.slots here.invariant.4 c.loop-at-test.false;
       upper_bound = omega (arith, here.invariant.2, c.put_stopped-2.ensures.upper_bound);
     }
 

@@ -15,7 +15,7 @@ invariant-loop-at l =
     × (l.at ≤ length l.entries)
     × (27 * l.page.len + 149 * (length l.entries - l.at) ≤ 9766052)
     × (l.entry ≤ l.at + 1)
-    × Rest l.schema l.entries (put_on (shown l.initial.page) (run_text 1 (run_of l.schema l.entries))) (shown l.page) l.entry l.at l.table.slots
+    × Rest l.schema.bytes.now l.entries (put_on (shown l.initial.page) (run_text 1 (run_of l.schema.bytes.now l.entries))) (shown l.page) l.entry l.at l.table.slots
 
 abbrev pub decreases-loop-at : goal.decreases-loop-at
 decreases-loop-at l = length l.entries - l.at
