@@ -13,15 +13,11 @@ ghost use Rattle.flat.specs.Leaf.{CountRead, Uncounted, Spanned, Headed};
 ghost use Rattle.flat.specs.Told.{told_count, told_span, told_head};
 
 use constants::refusal::{Refusal, Refused};
-use constants::{kind, limit};
+use constants::kind::Kind;
+use constants::limit;
 use table::kind::width_of;
 use walks::is_complete;
 use wire::{bitmap, varuint};
-
-// Kinds as `usize`.
-const BOOL: usize = kind::BOOL as usize;
-
-const STRING: usize = kind::STRING as usize;
 
 // A count and where what it counts starts.
 #[derive(Clone, Copy)]
@@ -100,7 +96,7 @@ pub fn map_count(p: &[u8], at: usize) -> Result<Counted, Refused>
 pub fn is_empty_map(p: &[u8], kind: u32, at: usize) -> bool
     ensures { result ≡ true → (kind ≡ 15) × Uncounted p.now at (count 2 (cursor_at p.now at)) }
 {
-    if kind != kind::MAP {
+    if kind != Kind::Map as u32 {
         return false;
     }
     if p.len() <= at {
@@ -118,7 +114,7 @@ fn scalar(p: &[u8], kind: usize, at: usize) -> Result<Extent, Refused>
     if p.len() - at < w {
         return Refusal::Cut.at(at);
     }
-    if kind == BOOL {
+    if kind == Kind::Bool as usize {
         if 1 < p[at] {
             return Refusal::Bool.at(at);
         }
@@ -134,7 +130,7 @@ fn is_of_kind(source: &[u8], kind: usize, from: usize, n: usize, judging: bool) 
     requires { (from + n ≤ length source.now) × (judging ≡ false → kind ≡ 12 → utf8 (span source.now from n) ≡ true) }
     ensures { (result ≡ true → kind ≡ 12 → utf8 (span source.now from n) ≡ true) × (result ≡ false → (kind ≡ 12) × (utf8 (span source.now from n) ≡ false)) }
 {
-    if kind != STRING {
+    if kind != Kind::String as usize {
         return true;
     }
     if judging {
@@ -164,7 +160,7 @@ pub fn content(p: &[u8], kind: usize, at: usize, judging: bool) -> Result<Extent
     requires { (length p.now ≤ 16384) × (at ≤ length p.now) × (0 < kind) × (kind < 14) × (judging ≡ false → Accepted (own (leaf_shape kind) (cursor_at p.now at))) }
     ensures { Spanned p.now at (own (leaf_shape kind) (cursor_at p.now at)) (told_span result) }
 {
-    if kind < STRING {
+    if kind < Kind::String as usize {
         scalar(p, kind, at)
     } else {
         text(p, kind, at, judging)

@@ -9,8 +9,8 @@ use Rattle.wire.proofs.Varuints.{first-number}
 use Rattle.flat.proofs.Leaves.{count-is}
 use Rattle.flat.proofs.leaf.is_empty_map.Goals as goal
 
-pub returns-then-kind-ne-MAP : goal.returns-then-kind-ne-MAP
-returns-then-kind-ne-MAP c e = absurd (false≢true e)
+pub returns-then-kind : goal.returns-then-kind
+returns-then-kind c e = absurd (false≢true e)
 
 pub returns-then-p-at : goal.returns-then-p-at
 returns-then-p-at c e = absurd (false≢true e)
@@ -24,4 +24,4 @@ returns c e =
     let none = eqb-true _ 0 e in
     let inside : args.at < length args.p.now = omega (arith, c.if-p-at.false) in
     let is = first-number args.p.now args.at 0 inside (sym none ∙ c.byte_at.ensures) (omega arith) in
-    (c.if-kind-ne-MAP.false, count-is args.p.now args.at 2 _ _ (sym is) (omega arith))
+    (c.if-kind.false, count-is args.p.now args.at 2 _ _ (sym is) (omega arith))
