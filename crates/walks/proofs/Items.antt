@@ -15,9 +15,6 @@ key_item k = record { type = k; key = true }
 -- ---- the first of the elements, and of the pairs
 
 module _ (e : ℕ) where
-  pub elements-some : (left : ℕ) → 0 < left → replicate left (plain_item e) ≡ plain_item e ∷ replicate (left - 1) (plain_item e)
-  elements-some left h = let q : left ≡ suc (left - 1) = omega arith in ap (λ (k : ℕ). replicate k (plain_item e)) q
-
   pub elements-more : {n i : ℕ} → i < n → replicate (n - i) (plain_item e) ≡ plain_item e ∷ replicate (n - (i + 1)) (plain_item e)
   elements-more {n} {i} h = let q : n - i ≡ suc (n - (i + 1)) = omega arith in ap (λ (k : ℕ). replicate k (plain_item e)) q
 

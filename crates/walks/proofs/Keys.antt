@@ -1,6 +1,6 @@
 -- Laws of map keys: contents byte by byte, their digests, and the keys kept.
 use Rattle.std.proofs.Common.{◌≡◌, ℕ, zero, suc, ◌+◌, ◌-◌, ◌*◌, ◌/◌, ◌%◌, ◌^◌, ◌<◌, ◌≤◌, max, Bool, true, false, ◌||◌, eqb, List, [], ◌∷◌, length, get_or, set, sym, refl, ap, ◌∙◌, subst, ⊎_elim, eq-or-lt_of_le, arith, length-set, drop-cons, get_or-set_other, get_or-set_same, pow_pos, eq-eqb, ne_eqb, eqb-true}
-use native.Mathlib.Nat.{div_self, zero-div}
+use native.Mathlib.Nat.{div_self}
 use borrow.Author.Tests.{eqb-false}
 use lib.Bits.{bit_or, or_step, or_shr}
 use Rattle.buffer.specs.Span.{span}
@@ -283,52 +283,3 @@ module _ (B keys : List ℕ) (i p n d : ℕ) (room : i + 4 < length keys / 2) (s
       -- where it is set
       pub kept-marked : Kept B marked judging (i + 1)
       kept-marked = last-either marked marked-last marked-before
-
--- ---- no flags
-
-zero-set : (l : List ℕ) (i : ℕ) → get_or (set l i 0) i 0 ≡ 0
-zero-set [] i = refl
-zero-set (x ∷ l) zero = refl
-zero-set (x ∷ l) (suc i) = zero-set l i
-
-zero-stays : (l : List ℕ) (i j : ℕ) → get_or l j 0 ≡ 0 → get_or (set l i 0) j 0 ≡ 0
-zero-stays [] i j e = e
-zero-stays (x ∷ l) zero zero e = refl
-zero-stays (x ∷ l) zero (suc j) e = e
-zero-stays (x ∷ l) (suc i) zero e = e
-zero-stays (x ∷ l) (suc i) (suc j) e = zero-stays l i j e
-
-module _ (keys : List ℕ) where
-  abbrev first : ℕ
-  first = length keys / 2 - 4
-
-  abbrev one : List ℕ
-  one = set keys first 0
-
-  abbrev two : List ℕ
-  two = set one (first + 1) 0
-
-  abbrev three : List ℕ
-  three = set two (first + 2) 0
-
-  abbrev cleared : List ℕ
-  cleared = set three (first + 3) 0
-
-  length-cleared : length cleared ≡ length keys
-  length-cleared = length-set three (first + 3) 0 ∙ length-set two (first + 2) 0 ∙ length-set one (first + 1) 0 ∙ length-set keys first 0
-
-  none-at : (q : ℕ) → q < 4 → get_or cleared (first + q) 0 ≡ 0
-  none-at zero h =
-      let e : first + 0 ≡ first = omega arith in
-      rw e (zero-stays three (first + 3) first (zero-stays two (first + 2) first (zero-stays one (first + 1) first (zero-set keys first))))
-  none-at (suc zero) h = zero-stays three (first + 3) (first + 1) (zero-stays two (first + 2) (first + 1) (zero-set one (first + 1)))
-  none-at (suc (suc zero)) h = zero-stays three (first + 3) (first + 2) (zero-set two (first + 2))
-  none-at (suc (suc (suc zero))) h = zero-set three (first + 3)
-  none-at (suc (suc (suc (suc q)))) h = absurd (omega arith)
-
-  pub none-flagged : (d : ℕ) → Flagged cleared d → ⊥
-  none-flagged d was =
-      let e : get_or cleared (flag_cell_of cleared d) 0 ≡ 0 = ap (λ (k : ℕ). get_or cleared (k / 2 - 4 + d / 64 % 4) 0) length-cleared ∙ none-at (d / 64 % 4) (omega arith) in
-      let z : 0 / 2 ^ (d % 64) ≡ 0 = zero-div (2 ^ (d % 64)) in
-      let never : 0 % 2 ≡ 1 = rw (e, z) at was in
-      absurd (omega arith)

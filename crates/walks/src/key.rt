@@ -131,10 +131,7 @@ pub fn clear_flags(keys: &mut [usize])
     ensures { (d : ℕ) → Flagged keys.new d → ⊥ }
 {
     let first = keys.len() / 2 - FLAG_CELLS;
-    keys[first] = 0;
-    keys[first + 1] = 0;
-    keys[first + 2] = 0;
-    keys[first + 3] = 0;
+    keys[first..first + FLAG_CELLS].fill(0);
 }
 
 // Whether the n bytes at a place are the content of one of the first i keys; they are kept as the next. A walk that does not judge knows that they are not.
