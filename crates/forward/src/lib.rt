@@ -15,8 +15,9 @@ ghost use Rattle.forward.specs.Forward.{root_place, suits, fault_of};
 ghost use Rattle.forward.specs.Told.{told_fault};
 ghost use Rattle.forward.specs.Entry.{sheet_forwarded, forward_outcome};
 
+use constants::kind::Kind;
 use constants::refusal::{Refusal, Refused};
-use constants::{format, kind, limit};
+use constants::{format, limit};
 use table::good::Schema;
 use wire::bitmap;
 use writer::leaf::wide;
@@ -113,7 +114,7 @@ pub fn forward_sheet(
     ensures { outcome (told result) out.new ≡ sheet_forwarded schema.now.bytes.now ty sheet.now source.now tail_place tail_length out.old }
 {
     let t = schema.type_row(ty as usize);
-    if t.kind != kind::STRUCT {
+    if t.kind != Kind::Struct as u32 {
         return Refusal::NoStruct.at(0);
     }
     let first = t.a as usize;

@@ -6,14 +6,10 @@ ghost use Rattle.walks.specs.Shape.{leaf_shape};
 ghost use Rattle.writer.specs.Leaf.{rows_at, DueRow, Judged, row_says, LeafRow, HeadedBy};
 
 use crate::rows::Rows;
+use constants::format;
+use constants::kind::Kind;
 use constants::refusal::{Refusal, Refused};
-use constants::{format, kind};
 use wire::bitmap;
-
-// Kinds as `usize`.
-const BOOL: usize = kind::BOOL as usize;
-
-const STRING: usize = kind::STRING as usize;
 
 // What a row of the type due says: its place, length and count.
 #[derive(Clone, Copy)]
@@ -55,20 +51,20 @@ pub fn row_due(sheet: &[u32], row: usize, ty: u32) -> Result<RowSays, Refused>
 }
 
 // The width in bytes of a scalar of a kind; kind 0 is none, and has none.
-fn width_of(kind: usize) -> usize
+fn width_of(kind: u32) -> usize
     requires { kind < 12 }
     ensures { result ≡ width kind }
 {
     if kind == 0 {
         return 0;
     }
-    table::kind::width_of(kind)
+    table::kind::width_of(kind as usize)
 }
 
 // A scalar by its row: whether that is right, or its first fault.
 fn scalar(
     source: &[u8],
-    kind: usize,
+    kind: u32,
     place: usize,
     n: usize,
     count: usize,
@@ -86,7 +82,7 @@ fn scalar(
     if source.len() < place + n {
         return Refusal::Outside.at(row);
     }
-    if kind == BOOL {
+    if kind == Kind::Bool as u32 {
         if 1 < source[place] {
             return Refusal::Bool.at(row);
         }
@@ -97,7 +93,7 @@ fn scalar(
 // A string or bytes by its row, likewise.
 fn text(
     source: &[u8],
-    kind: usize,
+    kind: u32,
     place: usize,
     n: usize,
     count: usize,
@@ -112,7 +108,7 @@ fn text(
     if source.len() < place + n {
         return Refusal::Outside.at(row);
     }
-    if kind == STRING {
+    if kind == Kind::String as u32 {
         if !utf8::valid(source, place, place + n) {
             return Refusal::Utf8.at(row);
         }
@@ -123,7 +119,7 @@ fn text(
 // A value of a kind from 1 to 13 by its row, likewise.
 pub fn content(
     source: &[u8],
-    kind: usize,
+    kind: u32,
     place: usize,
     n: usize,
     count: usize,
@@ -132,7 +128,7 @@ pub fn content(
     requires { (place < 4294967296) × (n < 4294967296) }
     ensures { Judged source.now kind place n count row result }
 {
-    if kind < STRING {
+    if kind < Kind::String as u32 {
         scalar(source, kind, place, n, count, row)
     } else {
         text(source, kind, place, n, count, row)
@@ -171,7 +167,7 @@ pub fn struct_bits(
 }
 
 // A row of a value of type ty, which is of a kind from 1 to 13. A walk that does not judge knows that it is right.
-pub fn leaf_row(rows: &Rows, kind: usize, ty: u32, row: usize) -> Result<Placed, Refused>
+pub fn leaf_row(rows: &Rows, kind: u32, ty: u32, row: usize) -> Result<Placed, Refused>
     requires { rows.now.judging ≡ false → Accepted (row_says rows.now.source.now ty (leaf_shape kind) (rows_at rows.now.sheet.now row)) }
     ensures { LeafRow rows.now.sheet.now rows.now.source.now kind ty row result }
 {

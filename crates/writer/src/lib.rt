@@ -16,8 +16,9 @@ ghost use Rattle.writer.specs.Entry.{outcome, length_of, payload_by, Fronts, she
 use crate::put::put_span;
 use crate::rows::Rows;
 use crate::walk::root;
+use constants::kind::Kind;
+use constants::limit;
 use constants::refusal::{Refusal, Refused};
-use constants::{kind, limit};
 use table::good::Schema;
 
 // A sheet of so many cells at most is likely written to a payload of so many bytes at most.
@@ -40,7 +41,7 @@ pub fn make(
 {
     let schema = Schema::of_good(s);
     let t = schema.type_row(ty as usize);
-    if t.kind != kind::STRUCT {
+    if t.kind != Kind::Struct as u32 {
         return Refusal::NoStruct.at(0);
     }
     let rows = Rows {

@@ -8,7 +8,8 @@ ghost use Rattle.writer.specs.Emit.{cap, PutAt, length_bytes};
 ghost use Rattle.walks.specs.Shape.{leaf_shape};
 
 use buffer::put_byte;
-use constants::{kind, limit};
+use constants::kind::Kind;
+use constants::limit;
 
 // One byte more than a payload may have: what is longer counts as this.
 const OVER: usize = limit::PAYLOAD + 1;
@@ -18,9 +19,6 @@ const GROUP: u64 = 128;
 
 // How many numbers a byte has.
 const BYTE: u64 = 256;
-
-// Kinds as `usize`.
-const STRING: usize = kind::STRING as usize;
 
 // The place n bytes further, and 16,385 for every place above 16,384.
 fn further(pos: usize, n: usize) -> usize
@@ -70,11 +68,11 @@ pub fn put_span(out: &mut [u8], pos: usize, source: &[u8], from: usize, n: usize
 }
 
 // What stands before a content of n bytes: the length, where it is a string or bytes.
-fn put_length(out: &mut [u8], pos: usize, kind: usize, n: usize) -> usize
+fn put_length(out: &mut [u8], pos: usize, kind: u32, n: usize) -> usize
     requires { pos ≤ 16385 }
     ensures { PutAt out.old pos (length_bytes kind n) result out.new }
 {
-    if kind < STRING {
+    if kind < Kind::String as u32 {
         return pos;
     }
     put_number(out, pos, n as u64)
@@ -84,7 +82,7 @@ fn put_length(out: &mut [u8], pos: usize, kind: usize, n: usize) -> usize
 pub fn put_content(
     out: &mut [u8],
     pos: usize,
-    kind: usize,
+    kind: u32,
     source: &[u8],
     from: usize,
     n: usize,

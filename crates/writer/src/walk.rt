@@ -10,18 +10,14 @@ ghost use Rattle.writer.specs.Walk.{table_in, shapes_of, value_in, items_in, roo
 use crate::leaf::{leaf_row, row_due, struct_bits};
 use crate::put::{put_bits, put_content, put_number};
 use crate::rows::Rows;
+use constants::kind::Kind;
 use constants::refusal::{Refusal, Refused};
-use constants::{format, kind, limit};
+use constants::{format, limit};
 use schema::TypeRow;
 use value::MOST_PAIRS;
 use walks::key::{FLAG_CELLS, is_repeated};
 use walks::{required_of, zeros_in};
 use wire::bitmap::{BYTE_BITS, SPARE_BITS};
-
-// Kinds as `usize`.
-const ARRAY: usize = kind::ARRAY as usize;
-
-const STRUCT: usize = kind::STRUCT as usize;
 
 // Pairs of a map whose keys are kept in a short array.
 const FEW_KEYS: usize = 8;
@@ -51,13 +47,13 @@ fn write_composite(
         return Refusal::TooDeep.at(row);
     }
     let kind = t.kind;
-    if kind == kind::ARRAY {
+    if kind == Kind::Array as u32 {
         return write_array(rows, out, ty, t.a, row, pos, depth - 1);
     }
-    if kind == kind::MAP {
+    if kind == Kind::Map as u32 {
         return write_map(rows, out, ty, t, row, pos, depth - 1);
     }
-    if kind == kind::STRUCT {
+    if kind == Kind::Struct as u32 {
         return write_run(rows, out, ty, t, 1, row, pos, depth);
     }
     // A good table has no composite of another kind: this is never reached, and 50 is what the definition has for a type that there is not.
@@ -68,7 +64,7 @@ fn write_composite(
 fn write_leaf(
     rows: &Rows,
     out: &mut [u8],
-    kind: usize,
+    kind: u32,
     ty: u32,
     row: usize,
     pos: usize,
@@ -90,7 +86,7 @@ fn write_leaf(
 fn write_leaves(
     rows: &Rows,
     out: &mut [u8],
-    kind: usize,
+    kind: u32,
     elem: u32,
     n: usize,
     start: usize,
@@ -148,11 +144,11 @@ fn write_elements(
     ensures { Walked rows.now.sheet.now (items_end rows.now depth [] (replicate n (plain_item ty)) start pos out.old) result out.new }
 {
     let t = rows.schema.known_row(ty as usize);
-    let kind = t.kind as usize;
-    if kind < ARRAY {
+    let kind = t.kind;
+    if kind < Kind::Array as u32 {
         return write_leaves(rows, out, kind, ty, n, start, pos, depth);
     }
-    if (kind == STRUCT) & (0 < depth) {
+    if (kind == Kind::Struct as u32) & (0 < depth) {
         return write_run(rows, out, ty, t, n, start, pos, depth);
     }
     let mut here = start;
@@ -221,7 +217,7 @@ fn write_key(
     out: &mut [u8],
     keys: &mut [usize],
     i: usize,
-    kind: usize,
+    kind: u32,
     key: u32,
     row: usize,
     pos: usize,
@@ -266,7 +262,7 @@ fn write_pairs(
     requires { Ready rows.now out.old start pos (items_in rows.now depth [] (pairs n t.a t.b) start) × MapRow rows.now.schema.bytes.now t × (n + 4 ≤ length keys.old / 2) × (n ≤ 64) }
     ensures { Walked rows.now.sheet.now (items_end rows.now depth [] (pairs n t.a t.b) start pos out.old) result out.new }
 {
-    let k = rows.schema.known_row(t.a as usize).kind as usize;
+    let k = rows.schema.known_row(t.a as usize).kind;
     let v = rows.schema.known_row(t.b as usize);
     let mut at = start;
     let mut to = pos;
@@ -274,20 +270,13 @@ fn write_pairs(
         let past = write_key(rows, out, keys, i, k, t.a, at, to, depth)?;
         at = past.row;
         to = past.pos;
-        if kind::BYTES < v.kind {
+        if (Kind::Bytes as u32) < v.kind {
             let past = write_composite(rows, out, t.b, v, at, to, depth)?;
             at = past.row;
             to = past.pos;
         } else {
-            let placed = leaf_row(rows, v.kind as usize, t.b, at)?;
-            to = put_content(
-                out,
-                to,
-                v.kind as usize,
-                rows.source,
-                placed.place,
-                placed.length,
-            );
+            let placed = leaf_row(rows, v.kind, t.b, at)?;
+            to = put_content(out, to, v.kind, rows.source, placed.place, placed.length);
             at = at + 1;
         }
     }
@@ -388,8 +377,8 @@ fn write_value(
     ensures { Walked rows.now.sheet.now (value_end rows.now depth ty row pos out.old) result out.new }
 {
     let t = rows.schema.known_row(ty as usize);
-    let kind = t.kind as usize;
-    if ARRAY <= kind {
+    let kind = t.kind;
+    if Kind::Array as u32 <= kind {
         return write_composite(rows, out, ty, t, row, pos, depth);
     }
     if depth == 0 {

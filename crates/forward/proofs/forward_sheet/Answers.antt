@@ -24,19 +24,19 @@ use Rattle.forward.proofs.Entries.{
 }
 use Rattle.forward.proofs.forward_sheet.Goals as goal
 
-pub returns-then-t-ne-STRUCT : goal.returns-then-t-ne-STRUCT
-returns-then-t-ne-STRUCT c =
+pub returns-then-t : goal.returns-then-t
+returns-then-t c =
     let args = c.args in
     let type_row = c.type_row-t in
     rw c.at.ensures
     (entry_other args.schema.now.bytes.now c.args.schema.now.good args.ty args.sheet.now args.source.now
-    args.tail_place args.tail_length args.out.now _ type_row.ensures c.if-t-ne-STRUCT.true)
+    args.tail_place args.tail_length args.out.now _ type_row.ensures c.if-t.true)
 
 pub root-requires : goal.root-requires
 root-requires c =
     let args = c.args in
     let type_row = c.type_row-t in
-    let if1 = c.if-t-ne-STRUCT in
+    let if1 = c.if-t in
     let is = shape-struct (table_of args.schema.now.bytes.now) args.ty _ type_row.ensures if1.false in record {
       ready = (
         record {
@@ -54,7 +54,7 @@ pub unknown_at-unknown-requires : goal.unknown_at-unknown-requires
 unknown_at-unknown-requires c =
     let placed = c.root_place-place in
     let args = c.args in
-    let if1 = c.if-t-ne-STRUCT in
+    let if1 = c.if-t in
     let type_row = c.type_row-t in
     let T = table_of args.schema.now.bytes.now in
     let is = shape-struct T args.ty _ type_row.ensures if1.false in
@@ -71,7 +71,7 @@ returns-in_err-fault_of c =
     let unknown = c.unknown_at-unknown in
     let placed = c.root_place-place in
     let args = c.args in
-    let if1 = c.if-t-ne-STRUCT in
+    let if1 = c.if-t in
     let type_row = c.type_row-t in
     let T = table_of args.schema.now.bytes.now in
     let is = shape-struct T args.ty _ type_row.ensures if1.false in
@@ -88,7 +88,7 @@ slice_bounds-root-end-3 c =
     let unknown = c.unknown_at-unknown in
     let placed = c.root_place-place in
     let args = c.args in
-    let if1 = c.if-t-ne-STRUCT in
+    let if1 = c.if-t in
     let type_row = c.type_row-t in
     let T = table_of args.schema.now.bytes.now in
     let is = shape-struct T args.ty _ type_row.ensures if1.false in
@@ -104,7 +104,7 @@ slice_bounds-root-end-4 c =
     let unknown = c.unknown_at-unknown in
     let placed = c.root_place-place in
     let args = c.args in
-    let if1 = c.if-t-ne-STRUCT in
+    let if1 = c.if-t in
     let type_row = c.type_row-t in
     let T = table_of args.schema.now.bytes.now in
     let is = shape-struct T args.ty _ type_row.ensures if1.false in
@@ -121,7 +121,7 @@ root-requires-2 c =
     let unknown = c.unknown_at-unknown in
     let placed = c.root_place-place in
     let args = c.args in
-    let if1 = c.if-t-ne-STRUCT in
+    let if1 = c.if-t in
     let type_row = c.type_row-t in
     let T = table_of args.schema.now.bytes.now in
     let is = shape-struct T args.ty _ type_row.ensures if1.false in
@@ -153,7 +153,7 @@ keep-requires c =
     let unknown = c.unknown_at-unknown in
     let placed = c.root_place-place in
     let args = c.args in
-    let if1 = c.if-t-ne-STRUCT in
+    let if1 = c.if-t in
     let type_row = c.type_row-t in
     let T = table_of args.schema.now.bytes.now in
     let is = shape-struct T args.ty _ type_row.ensures if1.false in
@@ -177,7 +177,7 @@ overflow_add-result c =
     let unknown = c.unknown_at-unknown in
     let placed = c.root_place-place in
     let args = c.args in
-    let if1 = c.if-t-ne-STRUCT in
+    let if1 = c.if-t in
     let type_row = c.type_row-t in
     let T = table_of args.schema.now.bytes.now in
     let is = shape-struct T args.ty _ type_row.ensures if1.false in
@@ -192,7 +192,7 @@ overflow_add-result c =
 pub returns-in_err-pos : goal.returns-in_err-pos
 returns-in_err-pos c =
     let args = c.args in
-    let if1 = c.if-t-ne-STRUCT in
+    let if1 = c.if-t in
     let type_row = c.type_row-t in
     let T = table_of args.schema.now.bytes.now in
     let is = shape-struct T args.ty _ type_row.ensures if1.false in
@@ -206,7 +206,7 @@ returns c =
     let unknown = c.unknown_at-unknown in
     let placed = c.root_place-place in
     let args = c.args in
-    let if1 = c.if-t-ne-STRUCT in
+    let if1 = c.if-t in
     let type_row = c.type_row-t in
     let T = table_of args.schema.now.bytes.now in
     let is = shape-struct T args.ty _ type_row.ensures if1.false in

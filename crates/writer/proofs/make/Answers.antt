@@ -10,12 +10,12 @@ use Rattle.writer.proofs.Steps.{handed}
 use Rattle.writer.proofs.Entries.{payload-other, front-refused, payload-refused, payload-long, payload-length, payload-front}
 use Rattle.writer.proofs.make.Goals as goal
 
-pub returns-then-t-ne-STRUCT : goal.returns-then-t-ne-STRUCT
-returns-then-t-ne-STRUCT c =
+pub returns-then-t : goal.returns-then-t
+returns-then-t c =
     let schema = c.of_good-schema.result.bytes.now in
     let same : schema ≡ c.args.s.now = rw c.of_good-schema.ensures in
     let args = c.args in
-    let none = payload-other schema c.of_good-schema.result.good args.ty args.sheet.now args.source.now _ c.type_row-t.ensures c.if-t-ne-STRUCT.true in
+    let none = payload-other schema c.of_good-schema.result.good args.ty args.sheet.now args.source.now _ c.type_row-t.ensures c.if-t.true in
     record { value = rw (c.at.ensures, ← same) (sym (ap length_of none)); fronts = rw (← same) (front-refused _ _ none) }
 
 pub root-requires : goal.root-requires
@@ -25,7 +25,7 @@ root-requires c =
     let args = c.args in
     let asked = c.requires in
     let type_row = c.type_row-t in
-    let if1 = c.if-t-ne-STRUCT in record {
+    let if1 = c.if-t in record {
       ready = (
         record { inside = omega arith; capped = omega arith; small = asked.1; judged = λ j. absurd (false≢true (sym j)) },
         shape-struct (table_of schema) args.ty _ type_row.ensures if1.false,
@@ -37,7 +37,7 @@ pub returns-then-past-gt-PAYLOAD : goal.returns-then-past-gt-PAYLOAD
 returns-then-past-gt-PAYLOAD c =
     let schema = c.of_good-schema.result.bytes.now in
     let same : schema ≡ c.args.s.now = rw c.of_good-schema.ensures in
-    let if1 = c.if-t-ne-STRUCT in
+    let if1 = c.if-t in
     let args = c.args in
     let type_row = c.type_row-t in
     let root = c.root in
@@ -51,7 +51,7 @@ pub returns-in_err-past : goal.returns-in_err-past
 returns-in_err-past c =
     let schema = c.of_good-schema.result.bytes.now in
     let same : schema ≡ c.args.s.now = rw c.of_good-schema.ensures in
-    let if1 = c.if-t-ne-STRUCT in
+    let if1 = c.if-t in
     let args = c.args in
     let type_row = c.type_row-t in
     let root = c.root in
@@ -65,7 +65,7 @@ pub returns : goal.returns
 returns c =
     let schema = c.of_good-schema.result.bytes.now in
     let same : schema ≡ c.args.s.now = rw c.of_good-schema.ensures in
-    let if1 = c.if-t-ne-STRUCT in
+    let if1 = c.if-t in
     let args = c.args in
     let type_row = c.type_row-t in
     let root = c.root in

@@ -31,7 +31,7 @@ bounds-source-place c =
     let asked = c.requires in
     let width_of = c.width_of in
     one_byte args.source.now args.kind args.place args.n args.count args.row asked.0 (c.if-n-width_of.false ∙ width_of.ensures) c.if-count-ne0.false
-    c.if-source-place.false c.if-kind-eq-BOOL.true
+    c.if-source-place.false c.if-kind.true
 
 pub returns-then-source-place-gt1 : goal.returns-then-source-place-gt1
 returns-then-source-place-gt1 c =
@@ -41,7 +41,7 @@ returns-then-source-place-gt1 c =
     let if1 = c.if-n-width_of in
     rw c.at-then-source-place-gt1.ensures
     (scalar_bad args.source.now args.kind args.place args.n args.count args.row asked.0 (if1.false ∙ width_of.ensures) c.if-count-ne0.false
-    c.if-source-place.false c.if-kind-eq-BOOL.true c.if-source-place-gt1.true)
+    c.if-source-place.false c.if-kind.true c.if-source-place-gt1.true)
 
 pub returns-else-source-place-gt1 : goal.returns-else-source-place-gt1
 returns-else-source-place-gt1 c =
@@ -52,13 +52,13 @@ returns-else-source-place-gt1 c =
     let if2 = c.if-count-ne0 in
     let if3 = c.if-source-place in
     scalar-fine args.source.now args.kind args.place args.n args.count args.row asked.0 (if1.false ∙ width_of.ensures) if2.false if3.false
-    (scalar-truth args.source.now args.kind args.place args.n (if1.false ∙ width_of.ensures) if3.false c.if-kind-eq-BOOL.true c.if-source-place-gt1.false)
+    (scalar-truth args.source.now args.kind args.place args.n (if1.false ∙ width_of.ensures) if3.false c.if-kind.true c.if-source-place-gt1.false)
 
-pub returns-else-kind-eq-BOOL : goal.returns-else-kind-eq-BOOL
-returns-else-kind-eq-BOOL c =
+pub returns-else-kind : goal.returns-else-kind
+returns-else-kind c =
     let args = c.args in
     let asked = c.requires in
     let width_of = c.width_of in
     let if1 = c.if-n-width_of in
     scalar-fine args.source.now args.kind args.place args.n args.count args.row asked.0 (if1.false ∙ width_of.ensures) c.if-count-ne0.false c.if-source-place.false
-    (scalar-other args.source.now args.kind args.place args.n c.if-kind-eq-BOOL.false)
+    (scalar-other args.source.now args.kind args.place args.n c.if-kind.false)

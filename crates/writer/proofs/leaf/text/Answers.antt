@@ -24,7 +24,7 @@ returns-then-not-valid c =
     let asked = c.requires in
     rw c.at-then-not-valid.ensures
     (text_bad args.source.now args.kind args.place args.n args.count args.row asked.0 c.if-count-ne0.false c.if-source-place.false
-    c.if-kind-eq-STRING.true (sym (c.valid.ensures ∙ ap (λ (l : List ℕ). utf8 l) (slice-span args.source.now args.place args.n)) ∙ c.if-not-valid.true))
+    c.if-kind.true (sym (c.valid.ensures ∙ ap (λ (l : List ℕ). utf8 l) (slice-span args.source.now args.place args.n)) ∙ c.if-not-valid.true))
 
 pub returns-else-not-valid : goal.returns-else-not-valid
 returns-else-not-valid c =
@@ -34,8 +34,8 @@ returns-else-not-valid c =
     (text-valid args.source.now args.kind args.place args.n
     (sym (c.valid.ensures ∙ ap (λ (l : List ℕ). utf8 l) (slice-span args.source.now args.place args.n)) ∙ c.if-not-valid.false))
 
-pub returns-else-kind-eq-STRING : goal.returns-else-kind-eq-STRING
-returns-else-kind-eq-STRING c =
+pub returns-else-kind : goal.returns-else-kind
+returns-else-kind c =
     let args = c.args in
     text-fine args.source.now args.kind args.place args.n args.count args.row c.requires.0 c.if-count-ne0.false c.if-source-place.false
-    (text-plain args.source.now args.kind args.place args.n c.if-kind-eq-STRING.false)
+    (text-plain args.source.now args.kind args.place args.n c.if-kind.false)

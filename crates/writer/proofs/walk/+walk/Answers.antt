@@ -27,8 +27,8 @@ use Rattle.writer.proofs.Composites.{leaf-failed, leaf_in, leaf-past, row-absent
 use Rattle.writer.proofs.Composites.{PartsRow, parts-start, parts-accepted, array-found, map-many, map_found, struct-fault, struct-found, struct-start}
 use Rattle.writer.proofs.Composites.{writing-first, writing-small, writing-known, writing-done, writing-ready, writing-stop, writing-on, structs-held, one-accepted, one_end}
 use Rattle.writer.proofs.Keys.{AfterKey, after-key, key-was, pair-first, pair-accepted, pair-stop, pair-past}
-use Rattle.writer.proofs.walk.+walk.Goals.{write_array-In_ok-says, write_fields-After-field-f, write_map-Else-n-gt-MOST_PAIRS, write_map-Start, write_pairs-After-known_row-k, write_pairs-After-known_row-v, write_pairs-After-write_key, write_struct-After-struct_bits, write_value-Else-kind-ge-ARRAY}
-use Rattle.writer.proofs.walk.+walk.Goals.{write_pairs-then-v-gt-BYTES+in_ok-past-2, write_pairs-else-v-gt-BYTES+in_ok-placed}
+use Rattle.writer.proofs.walk.+walk.Goals.{write_array-In_ok-says, write_fields-After-field-f, write_map-Else-n-gt-MOST_PAIRS, write_map-Start, write_pairs-After-known_row-k, write_pairs-After-known_row-v, write_pairs-After-write_key, write_struct-After-struct_bits, write_value-Else-kind}
+use Rattle.writer.proofs.walk.+walk.Goals.{write_pairs-then-v+in_ok-past-2, write_pairs-else-v+in_ok-placed}
 use Rattle.writer.proofs.walk.+walk.Goals as goal
 
 -- an array's row, once it was found
@@ -38,12 +38,12 @@ write-array-row : (t : ℕ) (c : write_array-In_ok-says t)
 write-array-row t c = array-found c.row_due.ensures c.in_ok-says.was _ _ c.requires.1
 
 -- a type below the arrays is that of a leaf
-write-value-leaf : (t : ℕ) (c : write_value-Else-kind-ge-ARRAY t)
+write-value-leaf : (t : ℕ) (c : write_value-Else-kind t)
     → let args = c.args in
     shape_in args.rows.now.schema.bytes.now args.ty ≡ leaf_shape c.known_row-t.result.kind
 write-value-leaf t c =
     let row = c.known_row-t in
-    shape-leaf (table_of c.args.rows.now.schema.bytes.now) c.args.ty row.result row.ensures (rw row.ensures c.requires.1) (omega (arith, c.if-kind-ge-ARRAY.false))
+    shape-leaf (table_of c.args.rows.now.schema.bytes.now) c.args.ty row.result row.ensures (rw row.ensures c.requires.1) (omega (arith, c.if-kind.false))
 
 -- the field looked up is that of the table
 write-fields-row : (t : ℕ) (c : write_fields-After-field-f t) → c.field-f.result ≡ field_row_of (table_of c.args.rows.now.schema.bytes.now) c.loop-bits.i
@@ -145,7 +145,7 @@ write_composite-write_array-requires t c =
     let args = c.args in
     let asked = c.requires in
     let h = asked.0 in
-    let kind = c.if-kind-eq-ARRAY.true in
+    let kind = c.if-kind.true in
     let deep = c.if-depth-eq0.false in (
       omega (arith, c.decreases, deep),
       (
@@ -160,22 +160,22 @@ write_composite-write_map-requires t c =
     let asked = c.requires in
     let h = asked.0 in
     let deep = c.if-depth-eq0.false in
-    (omega (arith, c.decreases, deep), (onward h h.inside h.capped refl (accepted-deeper _ _ deep _ _), asked.1, c.if-kind-eq-MAP.true))
+    (omega (arith, c.decreases, deep), (onward h h.inside h.capped refl (accepted-deeper _ _ deep _ _), asked.1, c.if-kind-2.true))
 
 pub write_composite-write_run-requires : goal.write_composite-write_run-requires
 write_composite-write_run-requires t c =
     let asked = c.requires in
     let h = asked.0 in
-    (omega (arith, c.decreases), (onward h h.inside h.capped refl (one-accepted _ _ _), asked.1, c.if-kind-eq-STRUCT.true, omega (arith, c.if-depth-eq0.false)))
+    (omega (arith, c.decreases), (onward h h.inside h.capped refl (one-accepted _ _ _), asked.1, c.if-kind-3.true, omega (arith, c.if-depth-eq0.false)))
 
-pub write_composite-returns-then-kind-eq-STRUCT : goal.write_composite-returns-then-kind-eq-STRUCT
-write_composite-returns-then-kind-eq-STRUCT t c = renamed (one_end _ _ _ _ _ _) c.write_run.ensures
+pub write_composite-returns-then-kind-3 : goal.write_composite-returns-then-kind-3
+write_composite-returns-then-kind-3 t c = renamed (one_end _ _ _ _ _ _) c.write_run.ensures
 
 pub write_composite-returns : goal.write_composite-returns
 write_composite-returns t c =
     let args = c.args in
     let asked = c.requires in
-    let past : 16 < args.t.kind = omega (arith, asked.2, c.if-kind-eq-ARRAY.false, c.if-kind-eq-MAP.false, c.if-kind-eq-STRUCT.false) in
+    let past : 16 < args.t.kind = omega (arith, asked.2, c.if-kind.false, c.if-kind-2.false, c.if-kind-3.false) in
     shown-refused _ _ _ _ c.at-2.ensures (show-unknown _ _ c.if-depth-eq0.false _ _ _ (shape-past (table_of args.rows.now.schema.bytes.now) args.ty _ asked.1 past))
 
 pub write_elements-write_composite-requires : goal.write_elements-write_composite-requires
@@ -184,7 +184,7 @@ write_elements-write_composite-requires t c = (
   (
     writing-ready c.loop.invariant (elements-more _ c.loop-test.true),
     c.known_row-t.ensures,
-    omega (arith, c.if-kind-lt-ARRAY.false),
+    omega (arith, c.if-kind.false),
   ),
 )
 
@@ -340,7 +340,7 @@ write_pairs-write_composite-requires t c =
       (
         onward asked.0 within.0 within.1 (write-pairs-out t at-write-key) (pair-accepted turn past _ _ _ _ refl),
         c.known_row-v.ensures,
-        c.if-v-gt-BYTES.true,
+        c.if-v.true,
       ),
     )
 
@@ -358,7 +358,7 @@ write_pairs-leaf_row-requires t c =
     let turn = write-pairs-turn t at-write-key in
     let past = c.in_ok-past.was in
     let some = (key-was turn past).within.2 in
-    let leaf = write-pairs-values t at-known-row2 (omega (arith, c.if-v-gt-BYTES.false)) in
+    let leaf = write-pairs-values t at-known-row2 (omega (arith, c.if-v.false)) in
     λ j. leaf-accepted _ _ (omega (arith, some)) _ _ leaf (pair-accepted turn past _ _ _ _ refl (asked.0.judged j))
 
 pub write_pairs-returns-in_err-placed : goal.write_pairs-returns-in_err-placed
@@ -367,7 +367,7 @@ write_pairs-returns-in_err-placed t c =
     let turn = write-pairs-turn t at-write-key in
     let past = c.in_ok-past.was in
     let some = (key-was turn past).within.2 in
-    let leaf = write-pairs-values t (goal.at.write_pairs-returns-in_err-placed t c).After-known_row-v (omega (arith, c.if-v-gt-BYTES.false)) in
+    let leaf = write-pairs-values t (goal.at.write_pairs-returns-in_err-placed t c).After-known_row-v (omega (arith, c.if-v.false)) in
     let failed = leaf-failed c.leaf_row.ensures _ leaf (omega (arith, some)) c.in_err-placed.was in
     as_refused (handed c.from_residual-in_err-placed.ensures.1) (pair-stop turn past (shown-stopped _ _ _ _ failed))
 
@@ -378,11 +378,11 @@ write_pairs-loop-i-preserved t c =
     let past = c.in_ok-past.was in
     let within = (key-was turn past).within in
     let long = write-pairs-out t at-write-key in
-    let joined = c.if-v-gt-BYTES in
+    let joined = c.if-v in
     let turned = pair-past turn past (rw long c.requires.0.small) joined.at joined.to joined.out (elim joined.branch [
-      | write_pairs-then-v-gt-BYTES+in_ok-past-2 w ↦ came-by (was w.write_composite.ensures w.in_ok-past-2.was) w.write_composite.auto.out w.at-is w.to-is w.out-is
-      | write_pairs-else-v-gt-BYTES+in_ok-placed w ↦
-          let leaf = write-pairs-values t (goal.at.write_pairs-loop-i-preserved t c).After-known_row-v (omega (arith, w.if-v-gt-BYTES.false)) in
+      | write_pairs-then-v+in_ok-past-2 w ↦ came-by (was w.write_composite.ensures w.in_ok-past-2.was) w.write_composite.auto.out w.at-is w.to-is w.out-is
+      | write_pairs-else-v+in_ok-placed w ↦
+          let leaf = write-pairs-values t (goal.at.write_pairs-loop-i-preserved t c).After-known_row-v (omega (arith, w.if-v.false)) in
           came-by (leaf-past w.leaf_row.ensures _ leaf (omega (arith, within.2)) w.in_ok-placed.was w.put_content-to.ensures) w.put_content-to.auto.out w.at-is w.to-is w.out-is
     ]) in
     let inv = c.loop-i.invariant in (
@@ -476,10 +476,10 @@ write_value-returns-then-depth-eq0 t c = shown-refused _ _ _ _ c.at.ensures (sho
 pub write_value-leaf_row-requires : goal.write_value-leaf_row-requires
 write_value-leaf_row-requires t c =
     let asked = c.requires in
-    λ j. leaf-accepted _ _ c.if-depth-eq0.false _ _ (write-value-leaf t (goal.at.write_value-leaf_row-requires t c).Else-kind-ge-ARRAY) (asked.0.judged j)
+    λ j. leaf-accepted _ _ c.if-depth-eq0.false _ _ (write-value-leaf t (goal.at.write_value-leaf_row-requires t c).Else-kind) (asked.0.judged j)
 
 pub write_value-returns-in_err-placed : goal.write_value-returns-in_err-placed
-write_value-returns-in_err-placed t c = shown-refused _ _ _ _ (handed c.from_residual.ensures.1) (leaf-failed c.leaf_row.ensures _ (write-value-leaf t (goal.at.write_value-returns-in_err-placed t c).Else-kind-ge-ARRAY) c.if-depth-eq0.false c.in_err-placed.was)
+write_value-returns-in_err-placed t c = shown-refused _ _ _ _ (handed c.from_residual.ensures.1) (leaf-failed c.leaf_row.ensures _ (write-value-leaf t (goal.at.write_value-returns-in_err-placed t c).Else-kind) c.if-depth-eq0.false c.in_err-placed.was)
 
 pub write_value-returns : goal.write_value-returns
-write_value-returns t c = leaf-past c.leaf_row.ensures _ (write-value-leaf t (goal.at.write_value-returns t c).Else-kind-ge-ARRAY) c.if-depth-eq0.false c.in_ok-placed.was c.put_content-next.ensures
+write_value-returns t c = leaf-past c.leaf_row.ensures _ (write-value-leaf t (goal.at.write_value-returns t c).Else-kind) c.if-depth-eq0.false c.in_ok-placed.was c.put_content-next.ensures
