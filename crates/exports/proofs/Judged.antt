@@ -10,9 +10,9 @@ use Rattle.schema.specs.Check.{checked}
 use Rattle.calls.specs.declared.Call.{Call}
 use Rattle.calls.specs.declared.Tally.{Tally}
 use Rattle.calls.specs.Counting.{no_tally}
-use Rattle.receiver.specs.declared.Plan.{Plan}
-use Rattle.receiver.specs.declared.Settled.{Settled}
-use Rattle.receiver.specs.declared.SettledRelease.{SettledRelease}
+use Rattle.receiver.specs.Plan.{Plan}
+use Rattle.receiver.specs.Settled.{Settled}
+use Rattle.receiver.specs.SettledRelease.{SettledRelease}
 use Rattle.receiver.specs.Answer.{effect, row_effect, in_row}
 use Rattle.receiver.specs.Planning.{stop_plan, plan_of, release_plan}
 use Rattle.receiver.specs.Receive.{settled}

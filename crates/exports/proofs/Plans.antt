@@ -22,9 +22,9 @@ use Rattle.calls.specs.Judge.{judge_release}
 use Rattle.calls.specs.Counting.{release_rise}
 use Rattle.calls.specs.OwnSlots.{own_slot_of}
 use Rattle.reader.specs.Entry.{numbers}
-use Rattle.receiver.specs.declared.Done.{Done}
-use Rattle.receiver.specs.declared.Plan.{Plan}
-use Rattle.receiver.specs.declared.Next.TheVariants.{Refused as NextRefused}
+use Rattle.receiver.specs.Done.{Done}
+use Rattle.receiver.specs.Plan.{Plan}
+use Rattle.receiver.specs.Next.{Refused as NextRefused}
 use Rattle.receiver.specs.Answer.{used_of, answer_in}
 use Rattle.receiver.specs.Planning.{on_good, on_calls, stop_plan, judged_plan, tables_fault, call_plan, good_plan, plan_of, release_plan, Fitted}
 use Rattle.receiver.proofs.Returns.{checked_plan, checked-fitted, plan-faulty, plan-good, calls-fault, calls-right, call-planned}

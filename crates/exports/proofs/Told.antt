@@ -39,7 +39,7 @@ use Rattle.salvage.specs.Salvaging as salvage
 use Rattle.salvage.specs.Salvage as salvaging
 use Rattle.salvage.proofs.Statements.{refused-bounds}
 use Rattle.calls.specs.declared.Call.{Call}
-use Rattle.receiver.specs.declared.Received.{Received}
+use Rattle.receiver.specs.Received.{Received}
 use Rattle.exports.specs.Answers.{check_cells, extend_cells, frame_cells, written_cells, read_number, read_cells, write_cells, index_cells, find_cells, salvage_cells}
 use Rattle.exports.specs.Answers.{receiving, call_cells, received_cells, releasing, released_cells}
 use Rattle.exports.specs.Told.{check_told, extend_told, frame_told, written_told, read_told_of, write_told, index_told, find_told, salvage_told, received_told, released_told}

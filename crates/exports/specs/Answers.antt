@@ -29,12 +29,12 @@ use Rattle.calls.specs.declared.Call.{Call}
 use Rattle.calls.specs.declared.Tally.{Tally}
 use Rattle.calls.specs.Judged.{Judged}
 use Rattle.calls.specs.Judged.{Refused as JudgedRefused}
-use Rattle.receiver.specs.declared.Received.{Received}
+use Rattle.receiver.specs.Received.{Received}
 use Rattle.receiver.specs.Answer.{Effect, effect, stopped}
-use Rattle.receiver.specs.declared.Plan.{Plan}
+use Rattle.receiver.specs.Plan.{Plan}
 use Rattle.receiver.specs.Planning.{stop_plan}
 use Rattle.receiver.specs.Receive.{received}
-use Rattle.receiver.specs.declared.Released.{Released}
+use Rattle.receiver.specs.Released.{Released}
 use Rattle.receiver.specs.Release.{ReleaseEffect, release_effect, release_answer, released}
 use Rattle.exports.specs.declared.Kept.{Kept}
 use Rattle.cells.specs.Cells.{stored}

@@ -19,8 +19,8 @@ use Rattle.index.specs.Finding.{Finding}
 use Rattle.index.specs.Finding as find
 use Rattle.salvage.specs.Salvaging.{Salvaging}
 use Rattle.salvage.specs.Salvaging as salvage
-use Rattle.receiver.specs.declared.Received.{Received}
-use Rattle.receiver.specs.declared.Released.{Released}
+use Rattle.receiver.specs.Received.{Received}
+use Rattle.receiver.specs.Released.{Released}
 use Rattle.cells.specs.Records.{calls_of}
 use Rattle.exports.specs.Answers.{header_of}
 

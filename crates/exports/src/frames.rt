@@ -5,23 +5,10 @@ ghost use Rattle.frame.specs.Written.{output_of, write_number, write_length};
 ghost use Rattle.cells.specs.Cells.{stored};
 ghost use Rattle.exports.specs.Answers.{header_of, wrote, frame_cells, written_cells};
 
+use crate::numbers::number;
 use cells::store;
-use constants::refusal;
-use frame::{FrameRead, FrameWritten, Header};
-
-fn read_number(a: FrameRead) -> u32
-    ensures { result ≡ read_number a }
-{
-    match a {
-        FrameRead::More => refusal::MORE,
-        FrameRead::Frame {
-            header: _,
-            place: _,
-            length: _,
-        } => refusal::ACCEPTED,
-        FrameRead::Refused(number) => number,
-    }
-}
+use constants::refusal::{ACCEPTED, MORE, Refusal};
+use frame::{FrameRead, Header};
 
 fn frame_cells(a: FrameRead) -> [u64; 7]
     ensures { result ≡ frame_cells a }
@@ -56,24 +43,6 @@ pub fn arf_read_frame(bytes: &[u8], answer: &mut [u64]) -> u32
     read_number(a)
 }
 
-fn write_number(a: FrameWritten) -> u32
-    ensures { result ≡ write_number a }
-{
-    match a {
-        FrameWritten::Written(_) => refusal::ACCEPTED,
-        FrameWritten::Refused(number) => number,
-    }
-}
-
-fn write_length(a: FrameWritten) -> u64
-    ensures { result ≡ write_length a }
-{
-    match a {
-        FrameWritten::Written(n) => n as u64,
-        FrameWritten::Refused(_) => 0,
-    }
-}
-
 // Writes a frame. answer: its length.
 pub fn arf_write_frame(
     kind: u32,
@@ -97,7 +66,6 @@ pub fn arf_write_frame(
         correlation,
     };
     let a = arf::write_frame(header, payload, out);
-    let cells = [write_length(a)];
-    store(answer, &cells);
-    write_number(a)
+    store(answer, &[a.unwrap_or(0) as u64]);
+    number(&a)
 }

@@ -1,10 +1,11 @@
 // The entries for programs in other languages: functions of numbers and slices, which the static library of `exports_c` hands out under the same names.
-// Each gives 01's number and stores the answer's other numbers into cells that the caller lends, as many as there is room for.
+// Each gives the answer's number and stores the answer's other numbers into cells that the caller lends, as many as there is room for.
 #![tactic(auto)]
 
 pub mod frames;
 pub mod indexes;
 pub mod payloads;
+mod numbers;
 mod planning;
 pub mod receive;
 pub mod release;

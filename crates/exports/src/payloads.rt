@@ -3,45 +3,27 @@ ghost use Rattle.std.specs.Prelude.{◌≡◌};
 ghost use Rattle.cells.specs.Cells.{stored};
 ghost use Rattle.arf.specs.Numbers.{write_number};
 ghost use Rattle.exports.specs.Answers.{header_of, read_number, read_cells, reading, sheet_after, reading_beside, sheet_beside};
+ghost use Rattle.reader.specs.Told as reader;
 ghost use Rattle.exports.specs.Answers.{write_cells, writing, output_after, framing, framed_after, forwarding, forwarded_after};
 
+use crate::numbers::{length_cells, number};
 use cells::store;
-use constants::refusal;
+use constants::refusal::Refused;
 use frame::Header;
-use reader::Reading;
-use writer::Writing;
+use reader::Shown;
 
-fn read_number(a: Reading) -> u32
-    ensures { result ≡ read_number a }
+fn read_cells(a: Result<Shown, Refused>) -> [u64; 5]
+    ensures { result ≡ read_cells (reader.told a) }
 {
     match a {
-        Reading::Shown {
-            rows: _,
-            tail_place: _,
-            tail_length: _,
-            comparisons: _,
-        } => refusal::ACCEPTED,
-        Reading::Refused { number, place: _ } => number,
-    }
-}
-
-fn read_cells(a: Reading) -> [u64; 5]
-    ensures { result ≡ read_cells a }
-{
-    match a {
-        Reading::Shown {
-            rows,
-            tail_place,
-            tail_length,
-            comparisons,
-        } => [
+        Ok(shown) => [
             0,
-            rows as u64,
-            tail_place as u64,
-            tail_length as u64,
-            comparisons as u64,
+            shown.rows as u64,
+            shown.tail_place as u64,
+            shown.tail_length as u64,
+            shown.comparisons as u64,
         ],
-        Reading::Refused { number: _, place } => [place as u64, 0, 0, 0, 0],
+        Err(refused) => [refused.place as u64, 0, 0, 0, 0],
     }
 }
 
@@ -58,9 +40,8 @@ pub fn arf_read(
     ensures answer_after { answer.new ≡ stored answer.old (read_cells (reading schema.now ty payload.now sheet.old)) }
 {
     let a = arf::read(schema, ty, payload, sheet);
-    let cells = read_cells(a);
-    store(answer, &cells);
-    read_number(a)
+    store(answer, &read_cells(a));
+    number(&a)
 }
 
 // Reads a payload by the writer's table and shows it by ours. answer: place, rows, the tail's place and length, the key comparisons due.
@@ -77,27 +58,8 @@ pub fn arf_read_beside(
     ensures answer_after { answer.new ≡ stored answer.old (read_cells (reading_beside ours.now theirs.now ty payload.now sheet.old)) }
 {
     let a = arf::read_beside(ours, theirs, ty, payload, sheet);
-    let cells = read_cells(a);
-    store(answer, &cells);
-    read_number(a)
-}
-
-fn write_number(a: Writing) -> u32
-    ensures { result ≡ write_number a }
-{
-    match a {
-        Writing::Written { length: _ } => refusal::ACCEPTED,
-        Writing::Refused { number, place: _ } => number,
-    }
-}
-
-fn write_cells(a: Writing) -> [u64; 2]
-    ensures { result ≡ write_cells a }
-{
-    match a {
-        Writing::Written { length } => [0, length as u64],
-        Writing::Refused { number: _, place } => [place as u64, 0],
-    }
+    store(answer, &read_cells(a));
+    number(&a)
 }
 
 // Writes the value that a sheet shows over its bytes. answer: place, the payload's length.
@@ -114,9 +76,8 @@ pub fn arf_write(
     ensures answer_after { answer.new ≡ stored answer.old (write_cells (writing schema.now ty sheet.now bytes.now out.old)) }
 {
     let a = arf::write(schema, ty, sheet, bytes, out);
-    let cells = write_cells(a);
-    store(answer, &cells);
-    write_number(a)
+    store(answer, &length_cells(&a));
+    number(&a)
 }
 
 // Writes a frame with the value that a sheet shows over its bytes; type 4294967295 is an empty payload. answer: place, the frame's length.
@@ -145,9 +106,8 @@ pub fn arf_write_value_frame(
         correlation,
     };
     let a = arf::write_value_frame(header, schema, ty, sheet, bytes, out);
-    let cells = write_cells(a);
-    store(answer, &cells);
-    write_number(a)
+    store(answer, &length_cells(&a));
+    number(&a)
 }
 
 // Writes the value that a sheet shows over its bytes, with the root's unknown bits kept and the tail after the known fields. answer: place, the payload's
@@ -167,7 +127,6 @@ pub fn arf_forward(
     ensures answer_after { answer.new ≡ stored answer.old (write_cells (forwarding schema.now ty sheet.now bytes.now tail_place tail_length out.old)) }
 {
     let a = arf::forward(schema, ty, sheet, bytes, tail_place, tail_length, out);
-    let cells = write_cells(a);
-    store(answer, &cells);
-    write_number(a)
+    store(answer, &length_cells(&a));
+    number(&a)
 }

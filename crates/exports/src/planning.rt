@@ -1,17 +1,38 @@
 // A frame and a release judged up to the payload against the call table in cells: which tally row they ask for, and what is left to do.
-ghost use Rattle.std.specs.Prelude.{◌≡◌, cond};
+ghost use Rattle.std.specs.Prelude.{◌≡◌, ◌&&◌, cond};
+ghost use Rattle.schema.specs.File.{table_of};
 ghost use Rattle.schema.specs.Check.{checked};
-ghost use Rattle.receiver.specs.Planning.{Fitted, plan_of, release_plan};
+ghost use Rattle.calls.specs.Slots.{good_table};
+ghost use Rattle.receiver.specs.Planning.{Fitted, good_plan, plan_of, release_plan};
+ghost use Rattle.receiver.specs.Told.{told_plan};
 ghost use Rattle.cells.specs.Records.{calls_of, CountsOpen, are_calls};
 ghost use Rattle.exports.specs.Answers.{refused_plan};
 
 use cells::records::{are_good, open_count, own_slot};
-use constants::refusal::Refused;
-use constants::{frame_kind, refusal};
+use constants::frame_kind::FrameKind;
 use frame::read_frame;
-use receiver::planning::{front, plan_call, plan_frame, stop, tables_fault};
-use receiver::{Front, Plan};
-use table::checking::check;
+use receiver::planning::{front, judge_tables, plan_call, plan_frame};
+use receiver::Plan;
+use table::good::Schema;
+
+// One frame under a good schema table.
+fn plan_good(
+    cells: &[u64],
+    schema: &Schema,
+    side: u8,
+    bytes: &[u8],
+    rows: usize,
+    calls: &mut usize,
+) -> Plan
+    ensures value { told_plan result ≡ good_plan (are_calls cells.now && good_table (table_of schema.now.bytes.now) (calls_of cells.now)) rows (table_of schema.now.bytes.now) side bytes.now (calls_of cells.now) }
+    ensures counts_open { CountsOpen cells.now calls.new }
+{
+    let good = are_good(cells, schema.bytes, calls);
+    let whole = front(good, schema.bytes, side, bytes, read_frame(bytes), rows)?;
+    let f = whole.frame;
+    let slot = own_slot(cells, f.correlation, f.kind == FrameKind::Invoke as u8);
+    Ok(plan_frame(slot, schema, whole))
+}
 
 // One frame from a side with so many tally rows lent, judged in the order: schema table, call table, tally rows, frame, side and call. `calls` is how
 // many are open before.
@@ -23,34 +44,16 @@ pub fn plan(
     rows: usize,
     calls: &mut usize,
 ) -> Plan
-    ensures value { result ≡ cond (are_calls cells.now) (plan_of schema.now side bytes.now rows (calls_of cells.now)) (refused_plan (checked schema.now)) }
-    ensures fitted { Fitted schema.now bytes.now result.next }
+    ensures value { told_plan result ≡ cond (are_calls cells.now) (plan_of schema.now side bytes.now rows (calls_of cells.now)) (refused_plan (checked schema.now)) }
+    ensures fitted { Fitted schema.now bytes.now (told_plan result).next }
     ensures counts_open { CountsOpen cells.now calls.new }
 {
-    match check(schema) {
-        Err(Refused { place, refusal }) => {
+    match Schema::check(schema) {
+        Err(refused) => {
             *calls = open_count(cells);
-            stop(refusal as u32, place)
+            Err(refused.into())
         }
-        Ok(()) => match front(
-            are_good(cells, schema, calls),
-            schema,
-            side,
-            bytes,
-            read_frame(bytes),
-            rows,
-        ) {
-            Front::Refused(number) => stop(number, 0),
-            Front::Whole { frame, place, end } => {
-                plan_frame(
-                    own_slot(cells, frame.correlation, frame.kind == frame_kind::INVOKE),
-                    schema,
-                    frame,
-                    place,
-                    end,
-                )
-            }
-        },
+        Ok(schema) => plan_good(cells, &schema, side, bytes, rows, calls),
     }
 }
 
@@ -62,20 +65,18 @@ pub fn plan_release(
     rows: usize,
     calls: &mut usize,
 ) -> Plan
-    ensures value { result ≡ cond (are_calls cells.now) (release_plan schema.now (calls_of cells.now) correlation rows) (refused_plan (checked schema.now)) }
+    ensures value { told_plan result ≡ cond (are_calls cells.now) (release_plan schema.now (calls_of cells.now) correlation rows) (refused_plan (checked schema.now)) }
     ensures counts_open { CountsOpen cells.now calls.new }
 {
-    match check(schema) {
-        Err(Refused { place, refusal }) => {
+    match Schema::check(schema) {
+        Err(refused) => {
             *calls = open_count(cells);
-            stop(refusal as u32, place)
+            Err(refused.into())
         }
-        Ok(()) => {
-            let fault = tables_fault(are_good(cells, schema, calls), schema, rows);
-            if fault != refusal::ACCEPTED {
-                return stop(fault, 0);
-            }
-            plan_call(own_slot(cells, correlation, false))
+        Ok(schema) => {
+            let good = are_good(cells, schema.bytes, calls);
+            judge_tables(good, &schema, rows)?;
+            Ok(plan_call(own_slot(cells, correlation, false)))
         }
     }
 }

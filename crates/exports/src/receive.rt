@@ -1,7 +1,9 @@
 // One frame against the call table and the tally rows that the caller lends.
 ghost use Rattle.std.specs.Prelude.{◌≡◌, [], ◌∷◌};
 ghost use Rattle.reader.specs.Entry.{numbers};
+ghost use Rattle.reader.specs.Told as reader;
 ghost use Rattle.receiver.specs.Answer.{answer_in};
+ghost use Rattle.receiver.specs.Told.{told_done};
 ghost use Rattle.cells.specs.Cells.{stored};
 ghost use Rattle.cells.specs.Records.{calls_of, CountsOpen, row_cells};
 ghost use Rattle.exports.specs.Answers.{receiving, call_cells, received_cells, RefusedCells};
@@ -10,8 +12,10 @@ use crate::planning::plan;
 use crate::settling::keep;
 use cells::rows::{TALLY_CELLS, put_row, row_in};
 use cells::store;
-use reader::Reading;
+use constants::refusal::Refused;
+use reader::Shown;
 use receiver::Done;
+use receiver::planning::row_of;
 use receiver::settling::settle_plan;
 
 // Judges the frame at the front of the bytes up to the call table, which stays as it is. `calls` is how many are open in it.
@@ -24,10 +28,10 @@ fn judge(
     tallies: &mut [u32],
     calls: &mut usize,
 ) -> Done
-    ensures table_value { answer_in result (calls_of table.now) ≡ (receiving table.now schema.now side bytes.now sheet.old tallies.old).answer }
+    ensures table_value { answer_in (told_done result) (calls_of table.now) ≡ (receiving table.now schema.now side bytes.now sheet.old tallies.old).answer }
     ensures sheet_after { sheet.new ≡ (receiving table.now schema.now side bytes.now sheet.old tallies.old).sheet }
     ensures tallies_after { tallies.new ≡ row_cells tallies.old (receiving table.now schema.now side bytes.now sheet.old tallies.old).tallies }
-    ensures counts_open { CountsOpen table.now calls.new × RefusedCells table.now result.judged }
+    ensures counts_open { CountsOpen table.now calls.new × RefusedCells table.now (told_done result).judged }
 {
     let plan = plan(
         table,
@@ -37,36 +41,29 @@ fn judge(
         tallies.len() / TALLY_CELLS,
         calls,
     );
-    let row = plan.row;
-    let old = row_in(tallies, row);
-    let done = settle_plan(plan, schema, bytes, sheet, old);
-    let new = done.row;
-    put_row(tallies, row, new);
+    let row = row_of(&plan);
+    let done = settle_plan(plan, schema, bytes, sheet, row_in(tallies, row));
+    put_row(tallies, row, done.row);
     done
 }
 
 // The answer's cells by the payload's reading, the bytes used and the calls open.
-fn received_cells(reading: Reading, used: usize, calls: usize) -> [u64; 7]
-    ensures { result ≡ (numbers reading).place ∷ used ∷ (numbers reading).rows ∷ (numbers reading).tail_place_of ∷ (numbers reading).tail_length_of ∷ calls ∷ (numbers reading).comparisons ∷ [] }
+fn received_cells(reading: Result<Shown, Refused>, used: usize, calls: usize) -> [u64; 7]
+    ensures { result ≡ (numbers (reader.told reading)).place ∷ used ∷ (numbers (reader.told reading)).rows ∷ (numbers (reader.told reading)).tail_place_of ∷ (numbers (reader.told reading)).tail_length_of ∷ calls ∷ (numbers (reader.told reading)).comparisons ∷ [] }
 {
+    let used = used as u64;
+    let calls = calls as u64;
     match reading {
-        Reading::Shown {
-            rows,
-            tail_place,
-            tail_length,
-            comparisons,
-        } => [
+        Ok(shown) => [
             0,
-            used as u64,
-            rows as u64,
-            tail_place as u64,
-            tail_length as u64,
-            calls as u64,
-            comparisons as u64,
+            used,
+            shown.rows as u64,
+            shown.tail_place as u64,
+            shown.tail_length as u64,
+            calls,
+            shown.comparisons as u64,
         ],
-        Reading::Refused { number: _, place } => {
-            [place as u64, used as u64, 0, 0, 0, calls as u64, 0]
-        }
+        Err(refused) => [refused.place as u64, used, 0, 0, 0, calls, 0],
     }
 }
 
@@ -90,8 +87,6 @@ pub fn arf_receive(
     let mut calls: usize = 0;
     let done = judge(table, schema, side, bytes, sheet, tallies, &mut calls);
     let kept = keep(table, calls, done);
-    let reading = done.reading;
-    let cells = received_cells(reading, kept.used, kept.open);
-    store(answer, &cells);
+    store(answer, &received_cells(done.reading, kept.used, kept.open));
     kept.number
 }

@@ -1,16 +1,18 @@
 // The release of a cancelled call in the call table and the tally rows that the caller lends.
 ghost use Rattle.std.specs.Prelude.{◌≡◌};
 ghost use Rattle.receiver.specs.Release.{release_in};
+ghost use Rattle.receiver.specs.Told.{told_done};
 ghost use Rattle.cells.specs.Cells.{stored};
 ghost use Rattle.cells.specs.Records.{calls_of, CountsOpen, row_cells};
 ghost use Rattle.exports.specs.Answers.{releasing, call_cells, released_cells, RefusedCells};
 
+use crate::numbers::place;
 use crate::planning::plan_release;
 use crate::settling::keep;
 use cells::rows::{TALLY_CELLS, put_row, row_in};
 use cells::store;
 use receiver::Done;
-use receiver::answer::place_of;
+use receiver::planning::row_of;
 use receiver::settling::settle_call;
 
 // Judges a release up to the call table, which stays as it is. `calls` is how many are open in it.
@@ -21,9 +23,9 @@ fn judge(
     tallies: &mut [u32],
     calls: &mut usize,
 ) -> Done
-    ensures table_value { (release_in result (calls_of table.now)).answer ≡ (releasing table.now schema.now correlation tallies.old).answer }
+    ensures table_value { (release_in (told_done result) (calls_of table.now)).answer ≡ (releasing table.now schema.now correlation tallies.old).answer }
     ensures tallies_after { tallies.new ≡ row_cells tallies.old (releasing table.now schema.now correlation tallies.old).tallies }
-    ensures counts_open { CountsOpen table.now calls.new × RefusedCells table.now result.judged }
+    ensures counts_open { CountsOpen table.now calls.new × RefusedCells table.now (told_done result).judged }
 {
     let plan = plan_release(
         table,
@@ -32,11 +34,9 @@ fn judge(
         tallies.len() / TALLY_CELLS,
         calls,
     );
-    let row = plan.row;
-    let old = row_in(tallies, row);
-    let done = settle_call(plan, old);
-    let new = done.row;
-    put_row(tallies, row, new);
+    let row = row_of(&plan);
+    let done = settle_call(plan, row_in(tallies, row));
+    put_row(tallies, row, done.row);
     done
 }
 
@@ -57,8 +57,6 @@ pub fn arf_release(
     let mut calls: usize = 0;
     let done = judge(table, schema, correlation, tallies, &mut calls);
     let kept = keep(table, calls, done);
-    let reading = done.reading;
-    let cells = [place_of(reading) as u64, kept.open as u64];
-    store(answer, &cells);
+    store(answer, &[place(&done.reading), kept.open as u64]);
     kept.number
 }

@@ -1,36 +1,21 @@
 // The salvage of a torn record.
 ghost use Rattle.std.specs.Prelude.{◌≡◌};
 ghost use Rattle.salvage.specs.Salvage.{salvage_of, salvage_number};
+ghost use Rattle.salvage.specs.Told.{told};
 ghost use Rattle.cells.specs.Cells.{stored};
 ghost use Rattle.exports.specs.Answers.{salvage_cells};
 
+use crate::numbers::number;
 use cells::store;
-use constants::refusal;
-use salvage::Salvaging;
+use constants::refusal::Refusal;
+use salvage::Salvaged;
 
-fn salvage_number(a: Salvaging) -> u32
-    ensures { result ≡ salvage_number a }
+fn salvage_cells(a: Result<Salvaged, Refusal>) -> [u64; 3]
+    ensures { result ≡ salvage_cells (told a) }
 {
     match a {
-        Salvaging::Salvaged {
-            entries: _,
-            bytes: _,
-            spans: _,
-        } => refusal::ACCEPTED,
-        Salvaging::Refused { number } => number,
-    }
-}
-
-fn salvage_cells(a: Salvaging) -> [u64; 3]
-    ensures { result ≡ salvage_cells a }
-{
-    match a {
-        Salvaging::Salvaged {
-            entries,
-            bytes,
-            spans,
-        } => [entries as u64, bytes as u64, spans as u64],
-        Salvaging::Refused { number: _ } => [0, 0, 0],
+        Ok(kept) => [kept.entries as u64, kept.bytes as u64, kept.spans as u64],
+        Err(_) => [0, 0, 0],
     }
 }
 
@@ -42,7 +27,6 @@ pub fn arf_salvage(record: &[u8], copy: &mut [u8], spans: &mut [u32], answer: &m
     ensures answer_after { answer.new ≡ stored answer.old (salvage_cells (salvage_of «record».now copy.old spans.old).answer) }
 {
     let a = arf::salvage(record, copy, spans);
-    let cells = salvage_cells(a);
-    store(answer, &cells);
-    salvage_number(a)
+    store(answer, &salvage_cells(a));
+    number(&a)
 }

@@ -5,20 +5,10 @@ ghost use Rattle.cells.specs.Cells.{stored};
 ghost use Rattle.cells.specs.Scalars.{scalar_cells};
 ghost use Rattle.exports.specs.Answers.{sheet_row};
 
+use crate::numbers::number;
 use cells::scalars::scalar_cells;
 use cells::store;
-use constants::refusal;
-use scalar::Answer;
 use value::Row;
-
-fn scalar_number(a: Answer) -> u32
-    ensures { result ≡ scalar_number a }
-{
-    match a {
-        Answer::Is(_) => refusal::ACCEPTED,
-        Answer::Refused { number, place: _ } => number,
-    }
-}
 
 // One row over its bytes as a value. answer: place, the case (1 truth value, 2 signed, 3 unsigned, 4 float32, 5 float64, 6 span) and its two numbers.
 pub fn arf_scalar(
@@ -40,7 +30,6 @@ pub fn arf_scalar(
         count,
     };
     let a = arf::scalar(schema, row, bytes);
-    let cells = scalar_cells(a);
-    store(answer, &cells);
-    scalar_number(a)
+    store(answer, &scalar_cells(a));
+    number(&a)
 }

@@ -30,7 +30,7 @@ use Rattle.calls.specs.Slots.{good_table}
 use Rattle.calls.proofs.Goodness.{fresh-good}
 use Rattle.calls.proofs.Limits.{FewIn, few-wide, few-fresh}
 use Rattle.receiver.specs.Fresh.{FreshEffect}
-use Rattle.receiver.specs.declared.Received.{Received}
+use Rattle.receiver.specs.Received.{Received}
 use Rattle.receiver.proofs.Ways.{front_of}
 use Rattle.receiver.proofs.FreshRows.{rest-ignored, stays-good, few-more, used-or-rows}
 use Rattle.listing.specs.Text.{heading, line_text, stopped_text}

@@ -13,7 +13,7 @@ use Rattle.frame.specs.Frame.{frame_of}
 use Rattle.calls.specs.declared.Call.{Call}
 use Rattle.connection.specs.declared.CallTable.{CallTable}
 use Rattle.connection.specs.Step.{fresh_table}
-use Rattle.receiver.specs.declared.Received.{Received}
+use Rattle.receiver.specs.Received.{Received}
 use Rattle.text.specs.Text.{Shown, put_on}
 use Rattle.text.proofs.Texts.{put_both}
 use Rattle.replay.specs.Run.{fresh_calls, answer_to, header_in, stops, Run, onward, entry_of, run_from, run_of}

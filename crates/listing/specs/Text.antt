@@ -1,7 +1,7 @@
 -- The lines of a listing, as ASCII codes. Each ends in one LF (10); its words have single blanks (32) between.
 use Rattle.std.specs.Prelude.{List, [], ◌∷◌, ◌++◌, ℕ}
 use Rattle.frame.specs.declared.Header.{Header}
-use Rattle.receiver.specs.declared.Received.{Received}
+use Rattle.receiver.specs.Received.{Received}
 use Rattle.text.specs.Decimal.{decimal}
 use Rattle.text.specs.Text.{field}
 

@@ -24,8 +24,8 @@ use Rattle.calls.proofs.Apart as calls
 use Rattle.calls.proofs.Rises.{rise-by, rise-method}
 use Rattle.reader.specs.Reading.{Reading}
 use Rattle.reader.specs.Entry.{Outcome, reading_in, room, numbers}
-use Rattle.receiver.specs.declared.Next.{Next}
-use Rattle.receiver.specs.declared.Next.TheVariants as next
+use Rattle.receiver.specs.Next.{Next}
+use Rattle.receiver.specs.Next as next
 use Rattle.receiver.specs.Answer.{Effect, effect, in_row, stopped, payload_read, tallied, used_of, answer_of}
 use Rattle.receiver.specs.Planning.{frame_from, plan_of}
 use Rattle.receiver.specs.Receive.{answered, frame_settled, settled, frame_effect, received}

@@ -34,8 +34,8 @@ use Rattle.calls.proofs.Limits.{few-more as step-more, few-below}
 use Rattle.calls.proofs.Counted.{full-iff}
 use Rattle.reader.specs.Reading.{Refused as Failed}
 use Rattle.reader.specs.Entry.{Outcome, outcome, reading_in, sheet_in, room}
-use Rattle.receiver.specs.declared.Next.{Next}
-use Rattle.receiver.specs.declared.Next.TheVariants.{Refused as NextRefused, Settle}
+use Rattle.receiver.specs.Next.{Next}
+use Rattle.receiver.specs.Next.{Refused as NextRefused, Settle}
 use Rattle.receiver.specs.Answer.{Effect, payload_read, number_in, tallied, answer_of, used_of}
 use Rattle.receiver.specs.Planning.{plan_of}
 use Rattle.receiver.specs.Receive.{frame_settled, settled, received}

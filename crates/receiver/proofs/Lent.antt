@@ -10,11 +10,11 @@ use Rattle.schema.specs.File.{table_of}
 use Rattle.calls.specs.declared.Call.{Call}
 use Rattle.calls.specs.declared.Tally.{Tally}
 use Rattle.calls.specs.Counting.{no_tally}
-use Rattle.receiver.specs.declared.Plan.{Plan}
-use Rattle.receiver.specs.declared.Received.{Received}
-use Rattle.receiver.specs.declared.Released.{Released}
-use Rattle.receiver.specs.declared.Settled.{Settled}
-use Rattle.receiver.specs.declared.SettledRelease.{SettledRelease}
+use Rattle.receiver.specs.Plan.{Plan}
+use Rattle.receiver.specs.Received.{Received}
+use Rattle.receiver.specs.Released.{Released}
+use Rattle.receiver.specs.Settled.{Settled}
+use Rattle.receiver.specs.SettledRelease.{SettledRelease}
 use Rattle.receiver.specs.Answer.{RowEffect, row_effect, effect, in_row}
 use Rattle.receiver.specs.Planning.{plan_of, release_plan}
 use Rattle.receiver.specs.Receive.{settled, received}

@@ -3,6 +3,7 @@ pub mod Rows
 pub mod Kept
 pub mod Payloads
 pub mod Returns
+pub mod Halts
 pub mod Lent
 pub mod Apart
 pub mod Records

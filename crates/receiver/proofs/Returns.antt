@@ -37,17 +37,18 @@ use Rattle.calls.proofs.OwnSlots.{judged-by-slot, rise-by-slot, release-by-slot,
 use Rattle.reader.specs.Reading.{Reading}
 use Rattle.reader.specs.Reading.{Shown, Refused as Failed}
 use Rattle.reader.specs.Entry.{Outcome, outcome, numbers}
-use Rattle.receiver.specs.declared.Received.{Received}
-use Rattle.receiver.specs.declared.SettledRelease.{SettledRelease}
-use Rattle.receiver.specs.declared.Done.{Done}
-use Rattle.receiver.specs.declared.Front.{Front}
-use Rattle.receiver.specs.declared.Front.TheVariants as front
-use Rattle.receiver.specs.declared.Plan.{Plan}
-use Rattle.receiver.specs.declared.Next.{Next}
-use Rattle.receiver.specs.declared.Next.TheVariants.{Refused as NextRefused, Settle}
+use Rattle.receiver.specs.Received.{Received}
+use Rattle.receiver.specs.SettledRelease.{SettledRelease}
+use Rattle.receiver.specs.Done.{Done}
+use Rattle.receiver.specs.Front.{Front}
+use Rattle.receiver.specs.Front as front
+use Rattle.receiver.specs.Plan.{Plan}
+use Rattle.receiver.specs.Next.{Next}
+use Rattle.receiver.specs.Next.{Refused as NextRefused, Settle}
+use Rattle.receiver.specs.Told.{released_in}
 use Rattle.receiver.specs.Answer.{RowEffect, row_effect, stopped, payload_read, number_in, tallied, counted_read, answer_of, answer_in}
 use Rattle.receiver.specs.Planning.{on_good, on_frame, on_calls, frame_from, stop_plan, judged_plan, frame_plan, tables_fault, front_of, slot_plan, call_plan, good_plan, bytes_plan, plan_of, release_plan, Fitted, stops, settles}
-use Rattle.receiver.specs.Receive.{frame_settled, settled}
+use Rattle.receiver.specs.Receive.{answered, frame_settled, settled}
 use Rattle.receiver.specs.Release.{release_answer, release_in, release_settled}
 
 -- ---- a plan by the tables
@@ -236,22 +237,24 @@ module _ (t : Tally) (r : Rise) (sheet : List ℕ) (o : Outcome) where
 -- ---- a whole frame
 
 -- what rises after a reading is not full
-pub reading-room : (t : Tally) (r : Rise) (sheet : List ℕ) (o : Outcome) (reading : Reading) (after : List ℕ) (n : ℕ) (f : Figure)
-    → outcome reading after ≡ tallied t r sheet o → n ≡ (numbers reading).number → f ≡ figure_by r n → full_at t f ≡ false
-reading-room t r sheet o reading after n f e k g =
-    ap (full_at t) (g ∙ ap (figure_by r) k) ∙ ap (λ (x : Outcome). full_at t (figure_by r (number_in x))) e ∙ tallied-room t r sheet o
+pub reading-room : (t : Tally) (r : Rise) (sheet : List ℕ) (o : Outcome) (reading : Reading) (after : List ℕ)
+    → outcome reading after ≡ tallied t r sheet o → full_at t (figure_by r (numbers reading).number) ≡ false
+reading-room t r sheet o reading after e = ap (λ (x : Outcome). full_at t (figure_by r (number_in x))) e ∙ tallied-room t r sheet o
+
+-- A judgement and its reading, by which the row is raised.
+abbrev pub raised_by : Tally → Judged → Rise → Reading → (size : ℕ) → Done
+raised_by t J r reading size = record { row = raised t (figure_by r (numbers reading).number); judged = J; reading = reading; size = size }
 
 pub frame-settled : (schema : List ℕ) (J : Judged) (r : Rise) (payload : List ℕ) (size : ℕ) (sheet : List ℕ) (t : Tally) (l : List Call)
-    (due : Payload) (reading : Reading) (after : List ℕ) (n : ℕ) (f : Figure) (row : Tally) (x : Received)
+    (due : Payload) (reading : Reading) (after : List ℕ) (d : Done)
     → due ≡ due_of J
     → outcome reading after ≡ tallied t r sheet (payload_read schema due payload sheet)
-    → n ≡ (numbers reading).number
-    → f ≡ figure_by r n
-    → row ≡ raised t f
-    → x ≡ answer_of size (step_of J (numbers reading).number l) reading
-    → row_effect x after row ≡ frame_settled schema J r payload size sheet t l
+    → d ≡ raised_by t J r reading size
+    → row_effect (answer_in d l) after d.row ≡ frame_settled schema J r payload size sheet t l
 unfolding frame_settled
-frame-settled schema J r payload size sheet t l due reading after n f row x d o k g w e = rw (← d, ← o, e, w, g, k)
+frame-settled schema J r payload size sheet t l due reading after d is o e =
+    ap (λ (x : Done). row_effect (answer_in x l) after x.row) e
+    ∙ ap (answered size l J r t) (o ∙ ap (λ (p : Payload). tallied t r sheet (payload_read schema p payload sheet)) is)
 
 -- ---- a plan settled
 
@@ -279,7 +282,7 @@ unused true = refl
 unused false = refl
 
 -- A refusal before the frame is known, as an answer to a judgement that stops: it uses no bytes.
-stop-answer : (l : List Call) (n q : ℕ) → answer_of 0 (step_of (JudgedRefused n) n l) (Failed n q) ≡ stopped l n q
+pub stop-answer : (l : List Call) (n q : ℕ) → answer_of 0 (step_of (JudgedRefused n) n l) (Failed n q) ≡ stopped l n q
 unfolding step_of stopped
 stop-answer l n q = λ i.
     record {
@@ -298,51 +301,51 @@ stop-answer l n q = λ i.
 abbrev pub refusal : (n q : ℕ) → Tally → Done
 refusal n q t = record { row = t; judged = JudgedRefused n; reading = Failed n q; size = 0 }
 
-same_number : (n q m p : ℕ) → NextRefused n q ≡ NextRefused m p → n ≡ m
+pub stop-settled : (n q : ℕ) (t : Tally) (schema bytes sheet : List ℕ) (l : List Call) →
+    row_effect (answer_in (refusal n q t) l) sheet t ≡ settled schema bytes sheet l t (NextRefused n q)
+unfolding settled
+stop-settled n q t schema bytes sheet l = ap (λ (a : Received). row_effect a sheet t) (stop-answer l n q)
+
+pub stop-released : (n q : ℕ) (t : Tally) (l : List Call) → release_in (refusal n q t) l ≡ release_settled l t (NextRefused n q)
+unfolding release_settled step_of
+stop-released n q t l = refl
+
+-- An answer with the number and the place alone, as a release's.
+pub stopped-release : (n q : ℕ) (t : Tally) (l : List Call) (r : Received) → r ≡ stopped l n q → record { row = t; answer = released_in r } ≡ release_settled l t (NextRefused n q)
+unfolding release_settled release_answer stopped
+stopped-release n q t l r e = ap (λ (x : Received). record { row = t; answer = released_in x }) e
+
+-- A release's answer is that of a frame with the same judgement, but for what the bytes and the payload say.
+pub answer-released : (d : Done) (l : List Call) (r : Received) → r ≡ answer_in d l → record { row = d.row; answer = released_in r } ≡ release_in d l
+unfolding release_answer
+answer-released d l r e = ap (λ (x : Received). record { row = d.row; answer = released_in x }) e
+
+pub same_number : (n q m p : ℕ) → NextRefused n q ≡ NextRefused m p → n ≡ m
 same_number n q m p e = cc
 
-settle-stop : {A : Type 0} {J : Judged} {r : Rise} {place end n q : ℕ} → Settle J r place end ≡ NextRefused n q → A
+pub settle-stop : {A : Type 0} {J : Judged} {r : Rise} {place end n q : ℕ} → Settle J r place end ≡ NextRefused n q → A
 settle-stop e = differ cc
 
-module _ (t : Tally) (next : Next) where
-  module _ (n q : ℕ) (d : Done) (e : next ≡ NextRefused n q) (is : d ≡ refusal n q t) where
-    pub stop-settled : (schema bytes sheet : List ℕ) (l : List Call) → row_effect (answer_in d l) sheet d.row ≡ settled schema bytes sheet l t next
-    stop-settled schema bytes sheet l =
-        ap (λ (x : Done). row_effect (answer_in x l) sheet x.row) is
-        ∙ settled-stop schema bytes sheet l t next n q (answer_in (refusal n q t) l) e (stop-answer l n q)
+-- A release counted.
+pub release-told : (t : Tally) (J : Judged) (r : Rise) (place end : ℕ) (reading : Reading) (d : Done)
+    → reading ≡ counted_read t r → d ≡ raised_by t J r reading 0
+    → (l : List Call) → release_in d l ≡ release_settled l t (Settle J r place end)
+unfolding release_settled step_of
+release-told t J r place end reading d is e l =
+    ap (λ (x : Done). release_in x l) (e ∙ ap (λ (x : Reading). raised_by t J r x 0) is) ∙ go (full_at t (figure_by r 0))
+  where
+    told : Reading → SettledRelease
+    told x = release_in (raised_by t J r x 0) l
 
-    pub stop-released : (l : List Call) → release_in d l ≡ release_settled l t next
-    unfolding release_settled step_of
-    stop-released l = rw (is, e)
-
-    pub stop-stops : (m p : ℕ) → next ≡ NextRefused m p → d.judged ≡ JudgedRefused m
-    stop-stops m p h = ap (λ (x : Done). x.judged) is ∙ ap JudgedRefused (same_number n q m p (sym e ∙ h))
-
-  pub settle-stops : (J : Judged) (r : Rise) (place end : ℕ) → next ≡ Settle J r place end → (K : Judged) (m p : ℕ) → next ≡ NextRefused m p → K ≡ JudgedRefused m
-  settle-stops J r place end e K m p h = settle-stop (sym e ∙ h)
-
-  -- a release counted
-  pub release-told : (J : Judged) (r : Rise) (place end : ℕ) (reading : Reading) (n : ℕ) (f : Figure) (row : Tally) → next ≡ Settle J r place end
-      → reading ≡ counted_read t r → n ≡ (numbers reading).number → f ≡ figure_by r n → row ≡ raised t f
-      → (l : List Call) → release_in (record { row = row; judged = J; reading = reading; size = 0 }) l ≡ release_settled l t next
-  unfolding release_settled step_of
-  release-told J r place end reading n f row e is k g w l = rw (e, w, g, k, is) (go (full_at t (figure_by r 0)))
-    where
-      told : Reading → SettledRelease
-      told x =
-          let s = step_of J (numbers x).number l in
-          record { row = raised t (figure_by r (numbers x).number); answer = release_answer s.number (numbers x).place s.table.slots }
-
-      go : (b : Bool) → told (cond b (Failed 18 0) (Shown 0 0 0 0))
-          ≡ (let c = cond b 18 0 in let s = step_of J c l in record { row = raised t (figure_by r c); answer = release_answer s.number 0 s.table.slots })
-      go true = refl
-      go false = refl
+    go : (b : Bool) → told (cond b (Failed 18 0) (Shown 0 0 0 0))
+        ≡ (let c = cond b 18 0 in let s = step_of J c l in record { row = raised t (figure_by r c); answer = release_answer s.number 0 s.table.slots })
+    go true = refl
+    go false = refl
 
 -- what rises then is not full
-pub release-room : (t : Tally) (r : Rise) (reading : Reading) (n : ℕ) (f : Figure) → reading ≡ counted_read t r → n ≡ (numbers reading).number → f ≡ figure_by r n
-    → full_at t f ≡ false
+pub release-room : (t : Tally) (r : Rise) (reading : Reading) → reading ≡ counted_read t r → full_at t (figure_by r (numbers reading).number) ≡ false
 unfolding figure_by ends_call
-release-room t r reading n f is k g = rw (g, k, is) (go (full_at t r.accepted) refl)
+release-room t r reading is = ap (λ (x : Reading). full_at t (figure_by r (numbers x).number)) is ∙ go (full_at t r.accepted) refl
   where
     go : (b : Bool) → full_at t r.accepted ≡ b → full_at t (figure_by r (numbers (cond b (Failed 18 0) (Shown 0 0 0 0))).number) ≡ false
     go true e = refl

@@ -33,7 +33,7 @@ use Rattle.calls.specs.Step.{release}
 use Rattle.calls.specs.Counting.{no_tally, release_rise, figure_by, full_at, raised, counted_number}
 use Rattle.calls.specs.Good.{GoodCalls}
 use Rattle.calls.proofs.Goodness.{good-clauses, good-test}
-use Rattle.receiver.specs.declared.Plan.{Plan}
+use Rattle.receiver.specs.Plan.{Plan}
 use Rattle.receiver.specs.Answer.{Effect, effect, in_row, stopped}
 use Rattle.receiver.specs.Planning.{on_good, on_frame, frame_from, stop_plan, judged_plan, frame_plan, on_tables, bytes_plan, plan_of, release_plan}
 use Rattle.receiver.specs.Claims.{SeenAs, Front, TablesReady, Unready, schema_fault, calls_bad, rows_wrong, Stops, tables, frame_fault, needs_more}

@@ -5,7 +5,7 @@ use Rattle.calls.specs.declared.Tally.{Tally}
 use Rattle.calls.specs.declared.Rise.{Rise}
 use Rattle.calls.specs.declared.Payload.{Payload}
 use Rattle.calls.specs.declared.Payload.TheVariants.{Struct, Empty, Unread}
-use Rattle.connection.specs.declared.Stepped.{Stepped}
+use Rattle.connection.specs.Step.{Stepped}
 use Rattle.calls.specs.Numbers.{uses_frame}
 use Rattle.calls.specs.Slots.{count_open}
 use Rattle.calls.specs.Counting.{figure_by, full_at}
@@ -14,8 +14,8 @@ use Rattle.reader.specs.Reading.{Shown, Refused}
 use Rattle.reader.specs.Entry.{Outcome, outcome, payload_outcome, Numbers, numbers}
 pub use Rattle.reader.specs.Entry.{number_in}
 use Rattle.connection.specs.Step.{step_of}
-use Rattle.receiver.specs.declared.Received.{Received}
-use Rattle.receiver.specs.declared.Done.{Done}
+use Rattle.receiver.specs.Received.{Received}
+use Rattle.receiver.specs.Done.{Done}
 
 -- An answer with the sheet (01's term: the cells that show a read value) and the tally rows as they are left.
 pub record Effect : Type 0 where

@@ -22,8 +22,8 @@ use Rattle.calls.specs.Order.{times, no_elements, Past, since}
 use Rattle.value.specs.declared.Row.{Row}
 use Rattle.flat.specs.Sheet.{shown_in}
 use Rattle.reader.specs.Entry.{Numbers}
-use Rattle.receiver.specs.declared.Received.{Received}
-use Rattle.receiver.specs.declared.Released.{Released}
+use Rattle.receiver.specs.Received.{Received}
+use Rattle.receiver.specs.Released.{Released}
 use Rattle.receiver.specs.Answer.{Effect, numbers_of}
 
 -- What a step sees of a frame with this header: the side that it comes from, and each number of the header.

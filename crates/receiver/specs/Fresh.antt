@@ -2,7 +2,7 @@
 use Rattle.std.specs.Prelude.{List, [], ◌∷◌, ℕ}
 use Rattle.schema.specs.File.{table_of}
 use Rattle.calls.specs.declared.Call.{Call}
-use Rattle.receiver.specs.declared.Received.{Received}
+use Rattle.receiver.specs.Received.{Received}
 use Rattle.receiver.specs.Receive.{received}
 use Rattle.receiver.specs.Run.{Input, Event, input, fresh_tallies}
 

@@ -19,11 +19,11 @@ use Rattle.calls.specs.Judge.{release_verdict, placed, judge_of, judge_release}
 use Rattle.calls.specs.Counting.{rise_of, release_rise}
 use Rattle.calls.specs.Apart.{verdict, verdict_rise, verdict_release_rise}
 use Rattle.calls.specs.OwnSlots.{judged_at}
-use Rattle.receiver.specs.declared.Front.{Front}
-use Rattle.receiver.specs.declared.Front.TheVariants as front
-use Rattle.receiver.specs.declared.Plan.{Plan}
-use Rattle.receiver.specs.declared.Next.{Next}
-use Rattle.receiver.specs.declared.Next.TheVariants.{Refused as NextRefused, Settle}
+use Rattle.receiver.specs.Front.{Front}
+use Rattle.receiver.specs.Front as front
+use Rattle.receiver.specs.Plan.{Plan}
+use Rattle.receiver.specs.Next.{Next}
+use Rattle.receiver.specs.Next.{Refused as NextRefused, Settle}
 
 -- Goes on where the table is good, and else stops with its number and row.
 abbrev pub on_good : {A : Type 0} → Checked → (stop : ℕ → ℕ → A) → A → A

@@ -12,9 +12,9 @@ use Rattle.calls.specs.Step.{due_of}
 use Rattle.connection.specs.Step.{step_of}
 use Rattle.calls.specs.Counting.{no_tally, rise_of, figure_by, raised}
 use Rattle.reader.specs.Entry.{Outcome, reading_in, sheet_in}
-use Rattle.receiver.specs.declared.Received.{Received}
-use Rattle.receiver.specs.declared.Next.{Next}
-use Rattle.receiver.specs.declared.Next.TheVariants.{Refused, Settle}
+use Rattle.receiver.specs.Received.{Received}
+use Rattle.receiver.specs.Next.{Next}
+use Rattle.receiver.specs.Next.{Refused, Settle}
 use Rattle.receiver.specs.Answer.{Effect, RowEffect, row_effect, in_row, stopped, payload_read, number_in, tallied, answer_of}
 use Rattle.receiver.specs.Planning.{plan_of}
 

@@ -7,12 +7,12 @@ use Rattle.calls.specs.Slots.{count_open}
 use Rattle.calls.specs.Step.{Afterwards, after_judged}
 use Rattle.connection.specs.Step.{step_of}
 use Rattle.calls.specs.Counting.{no_tally, figure_by, raised, counted_number}
-use Rattle.receiver.specs.declared.Next.{Next}
-use Rattle.receiver.specs.declared.Next.TheVariants.{Refused, Settle}
-use Rattle.receiver.specs.declared.Released.{Released}
+use Rattle.receiver.specs.Next.{Next}
+use Rattle.receiver.specs.Next.{Refused, Settle}
+use Rattle.receiver.specs.Released.{Released}
 use Rattle.reader.specs.Entry.{numbers}
-use Rattle.receiver.specs.declared.Done.{Done}
-use Rattle.receiver.specs.declared.SettledRelease.{SettledRelease}
+use Rattle.receiver.specs.Done.{Done}
+use Rattle.receiver.specs.SettledRelease.{SettledRelease}
 use Rattle.receiver.specs.Planning.{release_plan}
 
 -- An answer with the tally rows as they are left.

@@ -1,121 +1,97 @@
-// The answer to a frame.
-ghost use Rattle.std.specs.Prelude.{◌≡◌};
+// The answer to a frame and to a release.
+ghost use Rattle.std.specs.Prelude.{◌≡◌, ℕ, Ok};
+ghost use Rattle.constants.specs.Number.{number_of};
 ghost use Rattle.calls.specs.Step.{due_of};
-ghost use Rattle.reader.specs.Entry.{numbers};
-ghost use Rattle.receiver.specs.Answer.{used_of, answer_in};
-ghost use Rattle.receiver.specs.Release.{release_in};
+ghost use Rattle.calls.specs.Told.{told_number};
+ghost use Rattle.calls.specs.Told as calls;
+ghost use Rattle.receiver.specs.Answer.{used_of, answer_in, stopped};
+ghost use Rattle.receiver.specs.Told.{told, told_done, told_released, released_in, number_of_halt, place_of_halt};
 
-use crate::{Done, Received, Released};
-use calls::{Judged, Payload};
+use crate::payload::{NOTHING, verdict_of};
+use crate::{Done, Halt, Received, Released};
+use calls::{Allowed, Payload, Stop};
 use connection::CallTable;
 use connection::numbers::uses_frame;
-use constants::refusal;
-use reader::Reading;
+use connection::slots::Slots;
+use constants::numbered::Numbered;
+use constants::refusal::Refusal;
 
 // Bytes used by a frame of this size.
-pub fn used_of(number: u32, size: usize) -> usize
-    ensures { result ≡ used_of number size }
+pub fn used_of<E: Numbered + Copy>(answer: Result<(), E>, size: usize) -> usize
+    ensures { result ≡ used_of (told_number E.number answer) size }
 {
-    if uses_frame(number) { size } else { 0 }
-}
-
-// The number of a payload's reading.
-pub fn number_of(reading: Reading) -> u32
-    ensures { result ≡ (numbers reading).number }
-{
-    match reading {
-        Reading::Shown {
-            rows: _,
-            tail_place: _,
-            tail_length: _,
-            comparisons: _,
-        } => refusal::ACCEPTED,
-        Reading::Refused { number, place: _ } => number,
-    }
+    if uses_frame(answer) { size } else { 0 }
 }
 
 // What the payload of a judged frame holds; that of a refused one is not read.
-pub fn due_of(judged: Judged) -> Payload
-    ensures { result ≡ due_of judged }
+pub fn due_of<E>(judged: &Result<Allowed, E>) -> Payload
+    ensures { (number : E → ℕ) → result ≡ due_of (calls.told number judged.now) }
 {
     match judged {
-        Judged::Refused(_) => Payload::Unread,
-        Judged::Opens(_, _, due) => due,
-        Judged::Goes(_, _, due) => due,
+        Ok(Allowed::Opens(_, _, due) | Allowed::Goes(_, _, due)) => *due,
+        Err(_) => Payload::Unread,
     }
 }
 
-// Where in the payload, or at which row of the schema table, a reading is refused.
-pub fn place_of(reading: Reading) -> usize
-    ensures { result ≡ (numbers reading).place }
-{
-    match reading {
-        Reading::Shown {
-            rows: _,
-            tail_place: _,
-            tail_length: _,
-            comparisons: _,
-        } => 0,
-        Reading::Refused { number: _, place } => place,
-    }
-}
-
-// The answer to a frame over a call table by value.
-pub fn answer(table: CallTable, done: Done) -> Received
-    ensures { result ≡ answer_in done table.slots }
-{
-    let reading = done.reading;
-    let judged = done.judged;
-    let stepped = table.step(judged, number_of(reading));
-    let number = stepped.number;
-    let next = stepped.table;
-    let used = used_of(number, done.size);
-    let open = next.open_count();
-    match reading {
-        Reading::Shown {
-            rows,
-            tail_place,
-            tail_length,
-            comparisons,
-        } => Received {
-            number,
-            place: 0,
-            used,
-            rows,
-            tail_place,
-            tail_length,
-            open,
-            comparisons: comparisons,
-            table: next,
-        },
-        Reading::Refused { number: _, place } => Received {
-            number,
+impl Received {
+    // What ends before the call is judged has no numbers but its own, and changes no call.
+    #[tactic(auto, unfolding(crate::specs::Answer::stopped))]
+    pub fn halted(table: CallTable, halt: Halt) -> Received
+        ensures { told result ≡ stopped table.slots (number_of_halt halt) (place_of_halt halt) }
+    {
+        let place = match halt {
+            Halt::More => 0,
+            Halt::Refused(refused) => refused.place,
+        };
+        Received {
+            verdict: Err(halt.into()),
             place,
-            used,
+            used: 0,
             rows: 0,
             tail_place: 0,
             tail_length: 0,
-            open,
+            open: table.open_count(),
             comparisons: 0,
-            table: next,
-        },
+            table,
+        }
     }
 }
 
-// The answer to a release likewise.
-pub fn release_answer(table: CallTable, done: Done) -> Released
-    ensures { result ≡ (release_in done table.slots).answer }
-{
-    let reading = done.reading;
-    let judged = done.judged;
-    let stepped = table.step(judged, number_of(reading));
-    let place = place_of(reading);
-    let after = stepped.table;
-    let open = after.open_count();
-    Released {
-        number: stepped.number,
-        place,
-        open,
-        table: after,
+impl Done<Refusal> {
+    // The answer to a frame over a call table by value.
+    pub fn answer(self, table: CallTable) -> Received
+        ensures { told result ≡ answer_in (told_done self.row (Ok self)) table.slots }
+    {
+        let stepped = table.step(self.judged, verdict_of(&self.reading));
+        let next = stepped.table;
+        let (place, shown) = match self.reading {
+            Ok(shown) => (0, shown),
+            Err(refused) => (refused.place, NOTHING),
+        };
+        Received {
+            verdict: stepped.answer.map_err(Stop::from),
+            place,
+            used: used_of(stepped.answer, self.size),
+            rows: shown.rows,
+            tail_place: shown.tail_place,
+            tail_length: shown.tail_length,
+            open: next.open_count(),
+            comparisons: shown.comparisons,
+            table: next,
+        }
+    }
+}
+
+// A release's answer is a frame's without what the payload and the bytes say.
+impl From<Received> for Released {
+    ghost from_gives = { λ r x. told_released x ≡ released_in (told r) };
+
+    fn from(r: Received) -> Released {
+        Released {
+            verdict: r.verdict,
+            place: r.place,
+            open: r.open,
+            table: r.table,
+        }
     }
 }

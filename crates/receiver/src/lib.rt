@@ -10,23 +10,29 @@ pub mod receive;
 pub mod release;
 pub mod settling;
 
-use calls::{Frame, Judged, Rise, Tally};
+ghost use Rattle.std.specs.Prelude.{◌≡◌};
+ghost use Rattle.receiver.specs.declared.Halt.TheVariants as halt;
+ghost use Rattle.receiver.specs.Told.{told, told_released, halted, stop_of};
+
+use calls::{Allowed, Frame, Rise, Stop, Tally};
 use connection::CallTable;
+use connection::numbers::number_in;
+use constants::refusal::{Refusal, Refused};
 use frame::FrameRead;
-use reader::Reading;
+use reader::Shown;
 
 // The answer to a frame, with the next call table.
 #[derive(Clone, Copy)]
 pub struct Received {
-    // 0 for an accepted frame, 1 for more bytes needed, or a refusal's number.
-    pub number: u32,
+    // Accepted; or why not, more bytes needed or a refusal.
+    pub verdict: Result<(), Stop>,
     // Where in the payload, or at which row of the schema table, the refusal is.
     pub place: usize,
     // Bytes used.
     pub used: usize,
     // Rows written to the sheet.
     pub rows: usize,
-    // The tail (01's term: what follows the root's known fields and is not read).
+    // The tail: what follows the root's known fields and is not read.
     pub tail_place: usize,
     pub tail_length: usize,
     // Calls open afterwards.
@@ -36,18 +42,27 @@ pub struct Received {
     pub table: CallTable,
 }
 
+impl Received {
+    // 0 for an accepted frame, 1 for more bytes needed, or a refusal's number.
+    pub fn number(&self) -> u32
+        ensures { result ≡ (told self.now).number }
+    {
+        number_in(self.verdict)
+    }
+}
+
 // The frame at the front of the bytes as it was read, and the answer to it.
 #[derive(Clone, Copy)]
 pub struct FrameAnswer {
-    pub read: FrameRead,
+    pub read: Result<FrameRead, Refusal>,
     pub answer: Received,
 }
 
 // The answer to a release, with the next call table.
 #[derive(Clone, Copy)]
 pub struct Released {
-    // 0 for a call that was released, or a refusal's number.
-    pub number: u32,
+    // The call was released; or why not.
+    pub verdict: Result<(), Stop>,
     // At which row of the schema table the refusal is.
     pub place: usize,
     // Calls open afterwards.
@@ -55,47 +70,87 @@ pub struct Released {
     pub table: CallTable,
 }
 
-// The frame at the front of the bytes, judged before its call: it stops with this number, or is whole, and its payload stands between two places.
-#[derive(Clone, Copy)]
-pub enum Front {
-    Refused(u32),
-    Whole {
-        frame: Frame,
-        place: usize,
-        end: usize,
-    },
+impl Released {
+    // 0 for a call that was released, or a refusal's number.
+    pub fn number(&self) -> u32
+        ensures { result ≡ (told_released self.now).number }
+    {
+        number_in(self.verdict)
+    }
 }
 
-// What is left to do once the tables, the frame and its call are judged.
+// Why an entry ends before its call is judged: more bytes are needed, or a refusal at its place.
 #[derive(Clone, Copy)]
-pub enum Next {
-    // The answer is this refusal, or 1.
-    Refused {
-        number: u32,
-        place: usize,
-    },
-    // The payload stands between two places of the bytes; a release has none.
-    Settle {
-        judged: Judged,
-        rise: Rise,
-        place: usize,
-        end: usize,
-    },
+pub enum Halt {
+    More,
+    Refused(Refused),
 }
 
-// The tally row that an entry asks for, and what is left to do with it.
-#[derive(Clone, Copy)]
-pub struct Plan {
-    pub row: usize,
-    pub next: Next,
+impl From<Refused> for Halt {
+    ghost from_gives = { λ refused h. h ≡ halt.Refused refused };
+
+    fn from(refused: Refused) -> Halt {
+        Halt::Refused(refused)
+    }
 }
+
+// What has no place of its own has place 0.
+impl From<Refusal> for Halt {
+    ghost from_gives = { λ refusal h. h ≡ halt.Refused (record { place = 0; refusal = refusal }) };
+
+    fn from(refusal: Refusal) -> Halt {
+        Halt::Refused(Refused { place: 0, refusal })
+    }
+}
+
+impl From<Stop> for Halt {
+    ghost from_gives = { λ stop h. h ≡ halted stop };
+
+    fn from(stop: Stop) -> Halt {
+        match stop {
+            Stop::More => Halt::More,
+            Stop::Refused(refusal) => Halt::Refused(Refused { place: 0, refusal }),
+        }
+    }
+}
+
+impl From<Halt> for Stop {
+    ghost from_gives = { λ h stop. stop ≡ stop_of h };
+
+    fn from(halt: Halt) -> Stop {
+        match halt {
+            Halt::More => Stop::More,
+            Halt::Refused(refused) => Stop::Refused(refused.refusal),
+        }
+    }
+}
+
+// A whole frame at the front of the bytes, whose payload stands between two places.
+#[derive(Clone, Copy)]
+pub struct Whole {
+    pub frame: Frame,
+    pub place: usize,
+    pub end: usize,
+}
+
+// A judged frame, whose payload stands between two places of the bytes, and what it may raise; or a judged release, which has no payload.
+#[derive(Clone, Copy)]
+pub struct Settle<E> {
+    pub judged: Result<Allowed, E>,
+    pub rise: Rise,
+    pub place: usize,
+    pub end: usize,
+}
+
+// What is left to do once the tables, the frame and its call are judged. It asks for the tally row that it may raise.
+pub type Plan = Result<Settle<Refusal>, Halt>;
 
 // A plan settled up to the call table: the tally row afterwards, and what the answer comes from, the judgement, the payload's reading and the frame's size.
 #[derive(Clone, Copy)]
-pub struct Done {
+pub struct Done<E> {
     pub row: Tally,
-    pub judged: Judged,
-    pub reading: Reading,
+    pub judged: Result<Allowed, E>,
+    pub reading: Result<Shown, Refused>,
     pub size: usize,
 }
 

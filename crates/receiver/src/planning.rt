@@ -1,23 +1,27 @@
 // A frame and a release judged up to the payload: which tally row they ask for, and what is left to do.
 ghost use Rattle.std.specs.Prelude.{◌≡◌, ◌≤◌};
+ghost use Rattle.constants.specs.Number.{number_of};
 ghost use Rattle.schema.specs.File.{table_of};
 ghost use Rattle.schema.specs.Check.{IsGood};
 ghost use Rattle.frame.specs.Frame.{frame_of};
+ghost use Rattle.frame.specs.Told as frame;
 ghost use Rattle.calls.specs.Slots.{good_table};
-ghost use Rattle.receiver.specs.Planning.{frame_from, Fitted, stop_plan, tables_fault, front_of, slot_plan, call_plan, good_plan, plan_of, release_plan};
+ghost use Rattle.calls.specs.Told.{told_number};
+ghost use Rattle.receiver.specs.Planning.{frame_from, Fitted, tables_fault, front_of, slot_plan, call_plan, good_plan, plan_of, release_plan};
+ghost use Rattle.receiver.specs.Told.{told_front, told_plan, row_of, Fits};
 
-use crate::{Front, Next, Plan};
-use calls::{Frame, OwnSlot};
+use crate::{Plan, Settle, Whole};
+use calls::{Frame, OwnSlot, Stop};
 use connection::CallTable;
 use connection::judge::{judge_frame, judge_release};
+use connection::slots::Slots;
 use connection::tallies::{release_rise, rise_of};
-use constants::refusal::Refused;
-use constants::{frame_kind, refusal};
+use constants::frame_kind::FrameKind;
+use constants::refusal::Refusal;
 use frame::{FrameRead, Header, read_frame};
-use table::access::method_count;
-use table::checking::check;
+use table::good::Schema;
 
-// What a step sees of a frame with this header.
+// What a step sees of a frame with this header. It is no `From`: neither type is of this crate, and the side stands in no header.
 fn frame_from(side: u8, h: Header) -> Frame
     requires { h.kind ≤ 8 }
     ensures { result ≡ frame_from side h }
@@ -32,30 +36,29 @@ fn frame_from(side: u8, h: Header) -> Frame
     }
 }
 
-// A refusal, or 1: it asks for no row.
-pub fn stop(number: u32, place: usize) -> Plan
-    ensures { result ≡ stop_plan number place }
+// The tally row that a plan asks for; one that ends before asks for none, and has 0.
+pub fn row_of(plan: &Plan) -> usize
+    ensures { result ≡ row_of plan.now }
 {
-    Plan {
-        row: 0,
-        next: Next::Refused { number, place },
+    match plan {
+        Ok(settle) => settle.rise.row,
+        Err(_) => 0,
     }
 }
 
 // ---- for a call table by value or in cells
 
-// 15 for a call table that is not good, 19 for another number of tally rows than of methods, or 0.
-pub fn tables_fault(good: bool, schema: &[u8], rows: usize) -> u32
-    requires { IsGood schema.now }
-    ensures { result ≡ tables_fault good rows (table_of schema.now) }
+// 15 for a call table that is not good, 19 for another number of tally rows than of methods.
+pub fn judge_tables(good: bool, schema: &Schema, rows: usize) -> Result<(), Refusal>
+    ensures { told_number number_of result ≡ tables_fault good rows (table_of schema.now.bytes.now) }
 {
     if !good {
-        return refusal::CALL_TABLE;
+        return Err(Refusal::CallTable);
     }
-    if rows == method_count(schema) {
-        refusal::ACCEPTED
+    if rows == schema.method_count() {
+        Ok(())
     } else {
-        refusal::TALLY_ROWS
+        Err(Refusal::TallyRows)
     }
 }
 
@@ -65,65 +68,49 @@ pub fn front(
     schema: &[u8],
     side: u8,
     bytes: &[u8],
-    read: FrameRead,
+    read: Result<FrameRead, Refusal>,
     rows: usize,
-) -> Front
-    requires { IsGood schema.now × (read ≡ frame_of bytes.now) }
-    ensures { result ≡ front_of good rows (table_of schema.now) side bytes.now }
+) -> Result<Whole, Stop>
+    requires { IsGood schema.now × (frame.told read ≡ frame_of bytes.now) }
+    ensures { told_front result ≡ front_of good rows (table_of schema.now) side bytes.now }
 {
-    let fault = tables_fault(good, schema, rows);
-    if fault != refusal::ACCEPTED {
-        return Front::Refused(fault);
-    }
-    match read {
-        FrameRead::More => Front::Refused(refusal::MORE),
-        FrameRead::Refused(number) => Front::Refused(number),
-        FrameRead::Frame {
-            header,
-            place,
-            length,
-        } => Front::Whole {
-            frame: frame_from(side, header),
-            place,
-            end: place + length,
-        },
+    judge_tables(good, &Schema::of_good(schema), rows)?;
+    match read? {
+        FrameRead::More => Err(Stop::More),
+        FrameRead::Whole(frame) => Ok(Whole {
+            frame: frame_from(side, frame.header),
+            place: frame.place,
+            end: frame.place + frame.length,
+        }),
     }
 }
 
-// A whole frame with its slot, whose payload stands between these places.
-pub fn plan_frame(slot: OwnSlot, schema: &[u8], f: Frame, place: usize, end: usize) -> Plan
-    requires { IsGood schema.now }
-    ensures { result ≡ slot_plan (table_of schema.now) f slot place end }
+// A whole frame with its slot.
+pub fn plan_frame(slot: OwnSlot, schema: &Schema, whole: Whole) -> Settle<Refusal>
+    ensures { told_plan (Ok result) ≡ slot_plan (table_of schema.now.bytes.now) whole.frame slot whole.place whole.end }
 {
-    let judged = judge_frame(slot, schema, f);
-    let own = slot.own;
-    let rise = rise_of(own, f.kind, judged);
-    Plan {
-        row: rise.row,
-        next: Next::Settle {
-            judged,
-            rise,
-            place,
-            end,
-        },
+    let f = whole.frame;
+    let judged = judge_frame(slot, schema.bytes, f);
+    let rise = rise_of(slot.own, f.kind, judged);
+    Settle {
+        judged,
+        rise,
+        place: whole.place,
+        end: whole.end,
     }
 }
 
 // The release of the call with this slot.
-pub fn plan_call(slot: OwnSlot) -> Plan
-    ensures { result ≡ call_plan slot }
+pub fn plan_call(slot: OwnSlot) -> Settle<Refusal>
+    ensures { told_plan (Ok result) ≡ call_plan slot }
 {
     let judged = judge_release(slot);
-    let own = slot.own;
-    let rise = release_rise(own, judged);
-    Plan {
-        row: rise.row,
-        next: Next::Settle {
-            judged,
-            rise,
-            place: 0,
-            end: 0,
-        },
+    let rise = release_rise(slot.own, judged);
+    Settle {
+        judged,
+        rise,
+        place: 0,
+        end: 0,
     }
 }
 
@@ -132,51 +119,36 @@ pub fn plan_call(slot: OwnSlot) -> Plan
 // What a frame does under a good schema table, by what was read at the front of the bytes.
 pub fn plan_good(
     table: CallTable,
-    schema: &[u8],
+    schema: &Schema,
     side: u8,
     bytes: &[u8],
-    read: FrameRead,
+    read: Result<FrameRead, Refusal>,
     rows: usize,
 ) -> Plan
-    requires { IsGood schema.now × (read ≡ frame_of bytes.now) }
-    ensures { result ≡ good_plan (good_table (table_of schema.now) table.slots) rows (table_of schema.now) side bytes.now table.slots }
+    requires { frame.told read ≡ frame_of bytes.now }
+    ensures { told_plan result ≡ good_plan (good_table (table_of schema.now.bytes.now) table.slots) rows (table_of schema.now.bytes.now) side bytes.now table.slots }
 {
-    match front(table.is_good(schema), schema, side, bytes, read, rows) {
-        Front::Refused(number) => stop(number, 0),
-        Front::Whole { frame, place, end } => {
-            plan_frame(
-                table.own_slot(frame.correlation, frame.kind == frame_kind::INVOKE),
-                schema,
-                frame,
-                place,
-                end,
-            )
-        }
-    }
+    let good = table.is_good(schema.bytes);
+    let whole = front(good, schema.bytes, side, bytes, read, rows)?;
+    let f = whole.frame;
+    let slot = table.own_slot(f.correlation, f.kind == FrameKind::Invoke as u8);
+    Ok(plan_frame(slot, schema, whole))
 }
 
 // One frame from a side (the byte C or S) with so many tally rows lent, judged in the order: schema table, call table, tally rows, frame, side and call.
 pub fn plan(table: CallTable, schema: &[u8], side: u8, bytes: &[u8], rows: usize) -> Plan
-    ensures { (result ≡ plan_of schema.now side bytes.now rows table.slots) × Fitted schema.now bytes.now result.next }
+    ensures { (told_plan result ≡ plan_of schema.now side bytes.now rows table.slots) × Fitted schema.now bytes.now (told_plan result).next × Fits schema.now bytes.now result }
 {
-    match check(schema) {
-        Err(Refused { place, refusal }) => stop(refusal as u32, place),
-        Ok(()) => plan_good(table, schema, side, bytes, read_frame(bytes), rows),
-    }
+    let schema = Schema::check(schema)?;
+    plan_good(table, &schema, side, bytes, read_frame(bytes), rows)
 }
 
 // The release of a call with so many tally rows lent, judged in the order: schema table, call table, tally rows, call.
 pub fn plan_release(table: CallTable, schema: &[u8], correlation: u64, rows: usize) -> Plan
-    ensures { result ≡ release_plan schema.now table.slots correlation rows }
+    ensures { told_plan result ≡ release_plan schema.now table.slots correlation rows }
 {
-    match check(schema) {
-        Err(Refused { place, refusal }) => stop(refusal as u32, place),
-        Ok(()) => {
-            let fault = tables_fault(table.is_good(schema), schema, rows);
-            if fault != refusal::ACCEPTED {
-                return stop(fault, 0);
-            }
-            plan_call(table.own_slot(correlation, false))
-        }
-    }
+    let schema = Schema::check(schema)?;
+    let good = table.is_good(schema.bytes);
+    judge_tables(good, &schema, rows)?;
+    Ok(plan_call(table.own_slot(correlation, false)))
 }

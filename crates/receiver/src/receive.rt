@@ -2,12 +2,14 @@
 ghost use Rattle.std.specs.Prelude.{◌≡◌};
 ghost use Rattle.receiver.specs.Answer.{effect};
 ghost use Rattle.receiver.specs.Receive.{received};
+ghost use Rattle.receiver.specs.Told.{told};
 
 use crate::Received;
-use crate::planning::plan;
-use crate::settling::{missed, settle};
+use crate::planning::{plan, row_of};
+use crate::settling::settle;
 use calls::Tally;
 use connection::CallTable;
+use connection::tallies::NO_TALLY;
 
 // One frame from a side (the byte C or S), judged in the order: schema table, call table, number of tally rows, frame, side and call, payload, tally.
 pub fn receive(
@@ -18,16 +20,16 @@ pub fn receive(
     sheet: &mut [u32],
     tallies: &mut [Tally],
 ) -> Received
-    ensures { effect result sheet.new tallies.new ≡ received schema.now side bytes.now sheet.old tallies.old table.slots }
+    ensures { effect (told result) sheet.new tallies.new ≡ received schema.now side bytes.now sheet.old tallies.old table.slots }
 {
-    let rows = tallies.len();
-    let plan = plan(table, schema, side, bytes, rows);
-    if plan.row < rows {
-        let row = &mut tallies[plan.row];
-        let next = settle(table, plan, schema, bytes, sheet, *row);
-        *row = next.row;
-        return next.answer;
+    let plan = plan(table, schema, side, bytes, tallies.len());
+    let i = row_of(&plan);
+    // Where the row that the plan asks for is not lent, a row of zeros is looked at, and none is kept.
+    if i < tallies.len() {
+        let next = settle(table, plan, schema, bytes, sheet, tallies[i]);
+        tallies[i] = next.row;
+        next.answer
     } else {
-        return missed(table, plan, schema, bytes, sheet);
+        settle(table, plan, schema, bytes, sheet, NO_TALLY).answer
     }
 }

@@ -1,114 +1,108 @@
 // A plan settled with its tally row: the payload is read, the row is raised, and the record at one slot changes.
-ghost use Rattle.std.specs.Prelude.{◌≡◌, List, ℕ};
-ghost use Rattle.schema.specs.Check.{IsGood};
+ghost use Rattle.std.specs.Prelude.{◌≡◌, false, Ok, List, ℕ};
+ghost use Rattle.constants.specs.Number.{number_of};
 ghost use Rattle.calls.specs.declared.Call.{Call};
-ghost use Rattle.calls.specs.Counting.{no_tally};
+ghost use Rattle.calls.specs.Judged as judged;
+ghost use Rattle.calls.specs.Told as calls;
+ghost use Rattle.calls.specs.Counting.{figure_by, full_at, raised};
+ghost use Rattle.reader.specs.Entry.{numbers};
+ghost use Rattle.reader.specs.Told as reader;
 ghost use Rattle.receiver.specs.Answer.{row_effect, answer_in, counted_read};
-ghost use Rattle.receiver.specs.Planning.{Fitted};
-ghost use Rattle.receiver.specs.Receive.{frame_settled, settled, Unkept};
+ghost use Rattle.receiver.specs.Next as next;
+ghost use Rattle.receiver.specs.Receive.{frame_settled, settled};
 ghost use Rattle.receiver.specs.Release.{release_in, release_settled};
+ghost use Rattle.receiver.specs.Told.{told, told_plan, told_done, told_next_by, told_done_by, told_settled_release, Fits};
 
-use crate::answer::{answer, due_of, number_of, release_answer};
-use crate::payload::{nothing, read_counted};
-use crate::{Done, Next, Plan, Received, Released, Settled, SettledRelease};
-use calls::{Judged, Rise, Tally};
+use crate::answer::due_of;
+use crate::payload::{NOTHING, read_counted, verdict_of};
+use crate::{Done, Halt, Plan, Received, Released, Settle, Settled, SettledRelease};
+use calls::{Allowed, Rise, Tally};
 use connection::CallTable;
-use connection::tallies::{NO_TALLY, figure_by, is_full, raised};
-use constants::refusal;
-use reader::Reading;
+use connection::tallies::{figure_by, is_full, raised};
+use constants::refusal::{Refusal, Refused};
+use reader::Shown;
+use table::good::Schema;
 
 // ---- for a call table by value or in cells
 
-// A refusal before the frame or the call is known: it uses no bytes, and raises nothing.
-fn refuse(number: u32, place: usize, tally: Tally) -> Done
-    ensures { result ≡ record { row = tally; judged = Judged.Refused number; reading = Reading.Refused number place; size = 0 } }
-{
-    Done {
-        row: tally,
-        judged: Judged::Refused(number),
-        reading: Reading::Refused { number, place },
-        size: 0,
-    }
-}
-
-// A judged frame of this size.
-fn settle_frame(
-    schema: &[u8],
-    judged: Judged,
+// A judged frame or release whose payload gave this reading: the row is raised by it.
+fn raise<E>(
+    judged: Result<Allowed, E>,
     rise: Rise,
-    payload: &[u8],
+    reading: Result<Shown, Refused>,
     size: usize,
-    sheet: &mut [u32],
     tally: Tally,
-) -> Done
-    requires { IsGood schema.now }
-    ensures { (l : List Call) → row_effect (answer_in result l) sheet.new result.row ≡ frame_settled schema.now judged rise payload.now size sheet.old tally l }
+) -> Done<E>
+    requires { full_at tally (figure_by rise (numbers (reader.told reading)).number) ≡ false }
+    ensures { result ≡ record { row = raised tally (figure_by rise (numbers (reader.told reading)).number); judged = judged; reading = reading; size = size } }
 {
-    let reading = read_counted(schema, due_of(judged), payload, sheet, tally, rise);
-    let row = raised(tally, figure_by(rise, number_of(reading)));
     Done {
-        row,
+        row: raised(tally, figure_by(rise, verdict_of(&reading))),
         judged,
         reading,
         size,
     }
 }
 
-// A planned frame, by the schema table and the bytes of its plan, for every call table.
-pub fn settle_plan(plan: Plan, schema: &[u8], bytes: &[u8], sheet: &mut [u32], tally: Tally) -> Done
-    requires { Fitted schema.now bytes.now plan.next }
-    ensures row_after { (l : List Call) → row_effect (answer_in result l) sheet.new result.row ≡ settled schema.now bytes.now sheet.old l tally plan.next }
-    ensures by_index { (n q : ℕ) → plan.next ≡ Next.Refused n q → result.judged ≡ Judged.Refused n }
+// A judged frame with this payload.
+fn settle_frame<E>(
+    settle: Settle<E>,
+    schema: &Schema,
+    payload: &[u8],
+    sheet: &mut [u32],
+    tally: Tally,
+) -> Done<E>
+    ensures { (number : E → ℕ) (none : ⊥ → ℕ) (l : List Call) → row_effect (answer_in (told_done_by number none none tally (Ok result)) l) sheet.new result.row ≡ frame_settled schema.now.bytes.now (calls.told number settle.judged) settle.rise payload.now settle.end sheet.old tally l }
 {
-    let left = plan.next;
-    match left {
-        Next::Refused { number, place } => refuse(number, place, tally),
-        Next::Settle {
-            judged,
-            rise,
-            place,
-            end,
-        } => settle_frame(schema, judged, rise, &bytes[place..end], end, sheet, tally),
+    let due = due_of(&settle.judged);
+    let reading = read_counted(schema, due, payload, sheet, tally, settle.rise);
+    raise(settle.judged, settle.rise, reading, settle.end, tally)
+}
+
+// A planned frame, by the schema table and the bytes of its plan, for every call table, whatever a refusal and a halt are.
+pub fn settle_plan<E, H>(
+    plan: Result<Settle<E>, H>,
+    schema: &[u8],
+    bytes: &[u8],
+    sheet: &mut [u32],
+    tally: Tally,
+) -> Result<Done<E>, H>
+    requires { Fits schema.now bytes.now plan }
+    ensures row_after { (number : E → ℕ) (n q : H → ℕ) (l : List Call) → row_effect (answer_in (told_done_by number n q tally result) l) sheet.new (told_done_by number n q tally result).row ≡ settled schema.now bytes.now sheet.old l tally (told_next_by number n q plan) }
+    ensures by_index { (number : E → ℕ) (n q : H → ℕ) (m p : ℕ) → told_next_by number n q plan ≡ next.Refused m p → (told_done_by number n q tally result).judged ≡ judged.Refused m }
+{
+    match plan {
+        Ok(settle) => {
+            let payload = &bytes[settle.place..settle.end];
+            Ok(settle_frame(settle, &Schema::of_good(schema), payload, sheet, tally))
+        }
+        Err(halt) => Err(halt),
     }
 }
 
 // A release reads nothing; 18 where the figure that would rise is full.
-fn counted(tally: Tally, rise: Rise) -> Reading
-    ensures { result ≡ counted_read tally rise }
+fn read_nothing(tally: Tally, rise: Rise) -> Result<Shown, Refused>
+    ensures { reader.told result ≡ counted_read tally rise }
 {
-    if is_full(tally, figure_by(rise, refusal::ACCEPTED)) {
-        Reading::Refused {
-            number: refusal::TALLY_FULL,
-            place: 0,
-        }
+    let accepted: Result<(), Refusal> = Ok(());
+    if is_full(tally, figure_by(rise, accepted)) {
+        Refusal::TallyFull.at(0)
     } else {
-        nothing()
+        Ok(NOTHING)
     }
 }
 
 // A planned release, for every call table.
-pub fn settle_call(plan: Plan, tally: Tally) -> Done
-    ensures l_value { (l : List Call) → release_in result l ≡ release_settled l tally plan.next }
-    ensures by_index { (n q : ℕ) → plan.next ≡ Next.Refused n q → result.judged ≡ Judged.Refused n }
+pub fn settle_call(plan: Plan, tally: Tally) -> Result<Done<Refusal>, Halt>
+    ensures l_value { (l : List Call) → release_in (told_done tally result) l ≡ release_settled l tally (told_plan plan).next }
+    ensures by_index { (m p : ℕ) → (told_plan plan).next ≡ next.Refused m p → (told_done tally result).judged ≡ judged.Refused m }
 {
-    let left = plan.next;
-    match left {
-        Next::Refused { number, place } => refuse(number, place, tally),
-        Next::Settle {
-            judged,
-            rise,
-            place: _,
-            end: _,
-        } => {
-            let reading = counted(tally, rise);
-            let row = raised(tally, figure_by(rise, number_of(reading)));
-            Done {
-                row,
-                judged,
-                reading,
-                size: 0,
-            }
+    match plan {
+        Ok(settle) => {
+            let reading = read_nothing(tally, settle.rise);
+            Ok(raise(settle.judged, settle.rise, reading, 0, tally))
         }
+        Err(halt) => Err(halt),
     }
 }
 
@@ -123,44 +117,33 @@ pub fn settle(
     sheet: &mut [u32],
     tally: Tally,
 ) -> Settled
-    requires { Fitted schema.now bytes.now plan.next }
-    ensures { row_effect result.answer sheet.new result.row ≡ settled schema.now bytes.now sheet.old table.slots tally plan.next }
+    requires { Fits schema.now bytes.now plan }
+    ensures { row_effect (told result.answer) sheet.new result.row ≡ settled schema.now bytes.now sheet.old table.slots tally (told_plan plan).next }
 {
-    let done = settle_plan(plan, schema, bytes, sheet, tally);
-    let row = done.row;
-    let answer = answer(table, done);
-    Settled { row, answer }
-}
-
-// The answer where the row that a plan asks for is not lent: a row of zeros is looked at, and none is kept.
-pub fn missed(
-    table: CallTable,
-    plan: Plan,
-    schema: &[u8],
-    bytes: &[u8],
-    sheet: &mut [u32],
-) -> Received
-    requires { Fitted schema.now bytes.now plan.next }
-    ensures { Unkept (settled schema.now bytes.now sheet.old table.slots no_tally plan.next) result sheet.new }
-{
-    let next = settle(table, plan, schema, bytes, sheet, NO_TALLY);
-    next.answer
+    match settle_plan(plan, schema, bytes, sheet, tally) {
+        Ok(done) => Settled {
+            row: done.row,
+            answer: done.answer(table),
+        },
+        Err(halt) => Settled {
+            row: tally,
+            answer: Received::halted(table, halt),
+        },
+    }
 }
 
 // A planned release.
 pub fn settle_release(table: CallTable, plan: Plan, tally: Tally) -> SettledRelease
-    ensures { result ≡ release_settled table.slots tally plan.next }
+    ensures { told_settled_release result ≡ release_settled table.slots tally (told_plan plan).next }
 {
-    let done = settle_call(plan, tally);
-    let row = done.row;
-    let answer = release_answer(table, done);
-    SettledRelease { row, answer }
-}
-
-// The answer where the row that a release asks for is not lent.
-pub fn missed_release(table: CallTable, plan: Plan) -> Released
-    ensures { result ≡ (release_settled table.slots no_tally plan.next).answer }
-{
-    let next = settle_release(table, plan, NO_TALLY);
-    next.answer
+    match settle_call(plan, tally) {
+        Ok(done) => SettledRelease {
+            row: done.row,
+            answer: Released::from(done.answer(table)),
+        },
+        Err(halt) => SettledRelease {
+            row: tally,
+            answer: Released::from(Received::halted(table, halt)),
+        },
+    }
 }

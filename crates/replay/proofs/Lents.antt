@@ -7,7 +7,7 @@ use native.Mathlib.Omega.{arith}
 use lib.ListN.{length, drop}
 use Rattle.schema.specs.File.{table_of}
 use Rattle.schema.specs.Check.{IsGood}
-use Rattle.receiver.specs.declared.Received.{Received}
+use Rattle.receiver.specs.Received.{Received}
 use Rattle.receiver.specs.Receive.{received}
 use Rattle.receiver.specs.Fresh.{FreshEffect, inputs}
 use Rattle.receiver.specs.Run as receiver

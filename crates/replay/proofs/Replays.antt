@@ -11,7 +11,7 @@ use lib.Seq.{drop-cons, drop-drop, get_or-drop, take_all}
 use Rattle.schema.proofs.Bools.{cases, clash}
 use Rattle.frame.specs.Frame.{frame_of}
 use Rattle.calls.specs.declared.Call.{Call}
-use Rattle.receiver.specs.declared.Received.{Received}
+use Rattle.receiver.specs.Received.{Received}
 use Rattle.replay.specs.Run.{fresh_calls, answer_to, stops, Entry, entry_of, Run, halted, onward, run_from, run_of}
 use Rattle.replay.specs.Runs.{GoesOn, Runs, at-end, halting, answering, StandsIn}
 use Rattle.replay.proofs.Turns.{used-bounds, listed-frame, goes-on-iff, stops-there}

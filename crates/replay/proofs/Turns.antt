@@ -24,7 +24,7 @@ use Rattle.calls.specs.Judge.{judge_of, verdict_of}
 use Rattle.connection.specs.Step.{step_of}
 use Rattle.calls.proofs.Sides.{no-side}
 use Rattle.reader.specs.Entry.{room}
-use Rattle.receiver.specs.declared.Received.{Received}
+use Rattle.receiver.specs.Received.{Received}
 use Rattle.receiver.specs.Answer.{Effect, stopped}
 use Rattle.receiver.specs.Planning.{frame_from}
 use Rattle.receiver.specs.Receive.{frame_settled, frame_effect}

@@ -7,7 +7,7 @@ use Rattle.frame.specs.Frame.{frame_of}
 use Rattle.frame.specs.Numbers.{numbers}
 use Rattle.calls.specs.declared.Call.{Call}
 use Rattle.connection.specs.Step.{fresh_table}
-use Rattle.receiver.specs.declared.Received.{Received}
+use Rattle.receiver.specs.Received.{Received}
 use Rattle.receiver.specs.Fresh.{received_fresh}
 
 -- The sheet has 4,096 rows of four cells. What it holds before an entry does not show.

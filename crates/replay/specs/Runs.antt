@@ -3,7 +3,7 @@ use Rattle.std.specs.Prelude.{◌≡◌, List, [], ◌∷◌, ◌⊎◌, ℕ, �
 use Rattle.frame.specs.FrameRead.{Frame}
 use Rattle.frame.specs.Frame.{frame_of}
 use Rattle.calls.specs.declared.Call.{Call}
-use Rattle.receiver.specs.declared.Received.{Received}
+use Rattle.receiver.specs.Received.{Received}
 use Rattle.replay.specs.Run.{answer_to, Entry, entry_of, Run, halted, onward}
 
 -- A side byte with this answer to its frame is an entry: the side is C (67) or S (83), and the answer uses bytes.

@@ -3,7 +3,7 @@ use mathlib.Core.Path.{ap, ◌∙◌}
 use mathlib.Core.List.{List, [], ◌∷◌}
 use Prim.Native.Nat.{ℕ}
 use Rattle.reader.specs.Entry.{numbers}
-use Rattle.receiver.specs.declared.Received.{Received}
+use Rattle.receiver.specs.Received.{Received}
 use Rattle.exports.specs.declared.Kept.{Kept}
 use Rattle.cells.specs.Cells.{stored}
 use Rattle.exports.specs.Answers.{kept_of, call_cells, received_cells}

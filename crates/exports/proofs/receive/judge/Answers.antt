@@ -2,7 +2,7 @@
 use mathlib.Core.Path.{sym, ap, ◌∙◌}
 use Rattle.schema.specs.Check.{checked}
 use Rattle.calls.specs.declared.Tally.{Tally}
-use Rattle.receiver.specs.declared.Settled.{Settled}
+use Rattle.receiver.specs.Settled.{Settled}
 use Rattle.receiver.specs.Answer.{Effect, answer_in}
 use Rattle.receiver.specs.Receive.{settled}
 use Rattle.cells.specs.Records.{calls_of, are_calls, rows_of, row_cells}

@@ -1,7 +1,7 @@
 -- `exports::release::arf_release` meets its contract: the judgement, the record that it changes, and the numbers told.
 use mathlib.Core.Path.{ap, ◌∙◌}
 use mathlib.Core.List.{[], ◌∷◌}
-use Rattle.receiver.specs.declared.Released.{Released}
+use Rattle.receiver.specs.Released.{Released}
 use Rattle.receiver.specs.Release.{release_answer}
 use Rattle.exports.specs.declared.Kept.{Kept}
 use Rattle.cells.specs.Cells.{stored}

@@ -1,19 +1,21 @@
 -- `receiver::fresh::receive_fresh` meets its contract: a row of zeros stands for each method.
-use mathlib.Core.Path.{◌≡◌, refl, ap, ◌∙◌}
-use Prim.Native.Nat.{ℕ}
-use lib.ListN.{length}
+use Rattle.std.proofs.Common.{◌≡◌, refl, ap, ◌∙◌, ℕ, List, length}
 use Rattle.schema.specs.File.{table_of}
 use Rattle.schema.specs.Check.{checked}
+use Rattle.calls.specs.Counting.{no_tally}
 use Rattle.calls.specs.Slots.{good_table}
-use Rattle.receiver.specs.declared.Plan.{Plan}
+use Rattle.receiver.specs.Answer.{RowEffect}
+use Rattle.receiver.specs.Plan.{Plan}
 use Rattle.receiver.specs.Planning.{Fitted, good_plan, plan_of}
+use Rattle.receiver.specs.Told.{told, told_plan}
 use Rattle.receiver.proofs.Returns.{plan-good, fitted-plan}
+use Rattle.receiver.proofs.Halts.{fits-fitted}
 use Rattle.receiver.proofs.Lent.{fresh-settled}
 use Rattle.receiver.proofs.fresh.receive_fresh.Goals.{After-plan_good-plan}
 use Rattle.receiver.proofs.fresh.receive_fresh.Goals as goal
 
 -- the plan is that of a good schema table
-planned : (c : After-plan_good-plan) → let a = c.args in let s = a.schema.now in let p = c.plan_good-plan.result in
+planned : (c : After-plan_good-plan) → let a = c.args in let s = a.schema.now in let p = told_plan c.plan_good-plan.result in
     (p ≡ plan_of s a.side a.bytes.now (length (table_of s).methods) a.table.slots) × Fitted s a.bytes.now p.next
 planned c =
     let a = c.args in
@@ -21,17 +23,22 @@ planned c =
     let bytes = a.bytes.now in
     let l = a.table.slots in
     let rows = length (table_of s).methods in
-    let plan : ℕ → Plan = λ n. good_plan (good_table (table_of s) l) n (table_of s) a.side bytes l in
-    fitted-plan s a.side bytes rows l c.plan_good-plan.result
-    (plan-good s (plan rows) (checked s) refl c.plan_good-plan.result c.requires (c.plan_good-plan.ensures ∙ ap plan c.method_count.ensures))
+    let plan : (schema : List ℕ) → ℕ → Plan = λ schema n. good_plan (good_table (table_of schema) l) n (table_of schema) a.side bytes l in
+    let same : c.of_good-good.result.bytes.now ≡ s = ap (λ b. b.now) c.of_good-good.ensures in
+    fitted-plan s a.side bytes rows l (told_plan c.plan_good-plan.result)
+    (plan-good s (plan s rows) (checked s) refl (told_plan c.plan_good-plan.result) c.requires
+    (c.plan_good-plan.ensures ∙ ap (plan c.of_good-good.result.bytes.now) c.method_count.ensures
+    ∙ ap (λ (b : List ℕ). plan b (length (table_of b).methods)) same))
 
-pub returns : goal.returns
-returns c =
-    let plan = (goal.at.returns c).After-plan_good-plan in
-    let a = c.args in record { sheet_after = fresh-settled a.schema.now a.side a.bytes.now a.sheet.now a.table.slots plan.plan_good-plan.result (planned plan).0 _ _ c.missed-answer.ensures; read_value = c.read_frame-read.ensures }
+pub returns-clause-sheet_after : goal.returns-clause-sheet_after
+returns-clause-sheet_after c =
+    let a = c.args in
+    let p = (goal.at.returns-clause-sheet_after c).After-plan_good-plan in
+    let e = c.settle.ensures in
+    fresh-settled a.schema.now a.side a.bytes.now a.sheet.now a.table.slots (told_plan p.plan_good-plan.result) (planned p).0 (told c.settle.result.answer) c.settle.new.sheet
+    (ap (λ (x : RowEffect). x.answer) e, ap (λ (x : RowEffect). x.sheet) e)
 
-pub plan_good-plan-requires : goal.plan_good-plan-requires
-plan_good-plan-requires c = (c.requires, c.read_frame-read.ensures)
-
-pub missed-answer-requires : goal.missed-answer-requires
-missed-answer-requires c = (planned (goal.at.missed-answer-requires c).After-plan_good-plan).1
+pub settle-requires : goal.settle-requires
+settle-requires c =
+    let p = (goal.at.settle-requires c).After-plan_good-plan in
+    fits-fitted c.args.schema.now c.args.bytes.now c.plan_good-plan.result (planned p).1

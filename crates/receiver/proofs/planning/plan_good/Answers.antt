@@ -1,25 +1,32 @@
 -- `receiver::planning::plan_good` meets its contract: the front of the bytes picks the case, and the call table gives the slot.
-use mathlib.Core.Path.{◌∙◌, ap}
-use mathlib.Core.Bool.{Bool}
+use Rattle.std.proofs.Common.{ap, sym, ◌∙◌, Bool, Ok}
+use Rattle.std.proofs.lemmas.Result.{err_from_is_err_and}
 use Rattle.schema.specs.File.{table_of}
 use Rattle.calls.specs.declared.OwnSlot.{OwnSlot}
 use Rattle.calls.specs.Slots.{good_table}
+use Rattle.calls.specs.Told.{number_of_stop}
 use Rattle.receiver.specs.Planning.{front_of, slot_plan}
+use Rattle.receiver.specs.Told.{told_front, told_plan}
 use Rattle.receiver.proofs.Returns.{good-stop, good-whole}
+use Rattle.receiver.proofs.Halts.{stop-planned}
 use Rattle.receiver.proofs.planning.plan_good.Goals as goal
 
-pub returns-in-Refused : goal.returns-in-Refused
-returns-in-Refused c =
+pub returns-in_err-whole : goal.returns-in_err-whole
+returns-in_err-whole c =
     let a = c.args in
-    let T = table_of a.schema.now in
-    let is = c.front.ensures ∙ ap (λ (b : Bool). front_of b a.rows T a.side a.bytes.now) c.is_good.ensures in
-    good-stop (good_table T a.table.slots) a.rows T a.side a.bytes.now a.table.slots c.front.result is c.stop.result c.in-Refused.number c.in-Refused.is c.stop.ensures
+    let T = table_of a.schema.now.bytes.now in
+    let s = c.in_err-whole.field-0.0 in
+    let is = c.front.ensures ∙ ap (λ (b : Bool). front_of b a.rows T a.side a.bytes.now) c.is_good-good.ensures in
+    let (h, e, k) = err_from_is_err_and c.from_residual.result c.from_residual.ensures.1 in
+    good-stop (good_table T a.table.slots) a.rows T a.side a.bytes.now a.table.slots (told_front c.front.result) is (told_plan c.from_residual.result)
+    (number_of_stop s) (ap told_front c.in_err-whole.was) (stop-planned c.from_residual.result h s e k)
 
-pub returns-in-Whole : goal.returns-in-Whole
-returns-in-Whole c =
+pub returns : goal.returns
+returns c =
     let a = c.args in
-    let T = table_of a.schema.now in
-    let is = c.front.ensures ∙ ap (λ (b : Bool). front_of b a.rows T a.side a.bytes.now) c.is_good.ensures in
-    let e = c.plan_frame.ensures ∙ ap (λ (x : OwnSlot). slot_plan T c.in-Whole.frame x c.in-Whole.place c.in-Whole.end) c.own_slot.ensures in
-    good-whole (good_table T a.table.slots) a.rows T a.side a.bytes.now a.table.slots c.front.result is c.plan_frame.result
-    c.in-Whole.frame c.in-Whole.place c.in-Whole.end c.in-Whole.is e
+    let T = table_of a.schema.now.bytes.now in
+    let w = c.in_ok-whole.whole in
+    let is = c.front.ensures ∙ ap (λ (b : Bool). front_of b a.rows T a.side a.bytes.now) c.is_good-good.ensures in
+    let e = c.plan_frame.ensures ∙ ap (λ (x : OwnSlot). slot_plan T w.frame x w.place w.end) c.own_slot-slot.ensures in
+    good-whole (good_table T a.table.slots) a.rows T a.side a.bytes.now a.table.slots (told_front c.front.result) is (told_plan (Ok c.plan_frame.result))
+    w.frame w.place w.end (ap told_front c.in_ok-whole.was) e

@@ -1,26 +1,25 @@
 -- `receiver::settling::settle_call` meets its contract: what is left to do picks the case.
-use Rattle.receiver.proofs.Returns.{release-room, release-told, stop-released, stop-stops, settle-stops}
+use Rattle.std.proofs.Common.{sym, ap, ◌∙◌, Ok}
+use Rattle.constants.specs.Number.{number_of}
+use Rattle.calls.specs.Told as calls
+use Rattle.reader.specs.Told as reader
+use Rattle.receiver.specs.Release.{release_settled}
+use Rattle.receiver.specs.Told.{told_done, told_plan, number_of_halt, place_of_halt}
+use Rattle.receiver.proofs.Returns.{release-room, release-told, stop-released}
 use Rattle.receiver.proofs.settling.settle_call.Goals as goal
 
-pub raised-row-requires : goal.raised-row-requires
-raised-row-requires c =
-    let a = c.args in
-    release-room a.tally c.in-Settle.rise c.counted-reading.result c.number_of.result c.figure_by.result
-    c.counted-reading.ensures c.number_of.ensures c.figure_by.ensures
+pub raise-requires : goal.raise-requires
+raise-requires c = release-room c.args.tally c.in-Ok.settle.rise (reader.told c.read_nothing-reading.result) c.read_nothing-reading.ensures
 
-pub returns-in-Refused : goal.returns-in-Refused
-returns-in-Refused c =
-    let a = c.args in
-    record {
-      l_value = stop-released a.tally a.plan.next c.in-Refused.number c.in-Refused.place c.refuse.result c.in-Refused.is c.refuse.ensures;
-      by_index = stop-stops a.tally a.plan.next c.in-Refused.number c.in-Refused.place c.refuse.result c.in-Refused.is c.refuse.ensures;
-    }
+pub returns-in-Ok-clause-l_value : goal.returns-in-Ok-clause-l_value
+returns-in-Ok-clause-l_value c l =
+    let s = c.in-Ok.settle in
+    let t = c.args.tally in
+    release-told t (calls.told number_of s.judged) s.rise s.place s.end (reader.told c.read_nothing-reading.result) (told_done t (Ok c.raise.result))
+    c.read_nothing-reading.ensures (ap (λ d. told_done t (Ok d)) c.raise.ensures) l
+    ∙ ap (λ p. release_settled l t (told_plan p).next) (sym c.in-Ok.is)
 
-pub returns-in-Settle : goal.returns-in-Settle
-returns-in-Settle c =
-    let a = c.args in
-    record {
-      l_value = release-told a.tally a.plan.next c.in-Settle.judged c.in-Settle.rise c.in-Settle.place c.in-Settle.end c.counted-reading.result c.number_of.result
-          c.figure_by.result c.raised-row.result c.in-Settle.is c.counted-reading.ensures c.number_of.ensures c.figure_by.ensures c.raised-row.ensures;
-      by_index = settle-stops a.tally a.plan.next c.in-Settle.judged c.in-Settle.rise c.in-Settle.place c.in-Settle.end c.in-Settle.is _;
-    }
+pub returns-in-Err-clause-l_value : goal.returns-in-Err-clause-l_value
+returns-in-Err-clause-l_value c l =
+    let t = c.args.tally in
+    stop-released (number_of_halt c.in-Err.halt) (place_of_halt c.in-Err.halt) t l ∙ ap (λ p. release_settled l t (told_plan p).next) (sym c.in-Err.is)

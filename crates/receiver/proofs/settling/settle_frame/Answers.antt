@@ -1,24 +1,22 @@
 -- `receiver::settling::settle_frame` meets its contract: read and raised, whatever the call table.
-use mathlib.Core.Path.{refl}
-use Rattle.connection.specs.Step.{step_of}
-use Rattle.reader.specs.Entry.{numbers}
-use Rattle.receiver.specs.Answer.{payload_read, answer_of}
+use Rattle.std.proofs.Common.{ap, Ok}
+use Rattle.calls.specs.Told as calls
+use Rattle.reader.specs.Told as reader
+use Rattle.receiver.specs.Answer.{payload_read}
+use Rattle.receiver.specs.Told.{told_done_by}
 use Rattle.receiver.proofs.Returns.{reading-room, frame-settled}
 use Rattle.receiver.proofs.settling.settle_frame.Goals as goal
 
-pub raised-row-requires : goal.raised-row-requires
-raised-row-requires c =
+pub raise-requires : goal.raise-requires
+raise-requires g c =
     let a = c.args in
-    reading-room a.tally a.rise a.sheet.now (payload_read a.schema.now c.due_of.result a.payload.now a.sheet.now)
-    c.read_counted-reading.result c.read_counted-reading.new.sheet c.number_of.result c.figure_by.result
-    c.read_counted-reading.ensures c.number_of.ensures c.figure_by.ensures
+    reading-room a.tally a.settle.rise a.sheet.now (payload_read a.schema.now.bytes.now c.due_of-due.result a.payload.now a.sheet.now)
+    (reader.told c.read_counted-reading.result) c.read_counted-reading.new.sheet c.read_counted-reading.ensures
 
 pub returns : goal.returns
-returns c =
+returns g c number none l =
     let a = c.args in
-    let reading = c.read_counted-reading.result in
-    λ l.
-    frame-settled a.schema.now a.judged a.rise a.payload.now a.size a.sheet.now a.tally l
-    c.due_of.result reading c.read_counted-reading.new.sheet c.number_of.result c.figure_by.result c.raised-row.result
-    (answer_of a.size (step_of a.judged (numbers reading).number l) reading)
-    c.due_of.ensures c.read_counted-reading.ensures c.number_of.ensures c.figure_by.ensures c.raised-row.ensures refl
+    let s = a.settle in
+    frame-settled a.schema.now.bytes.now (calls.told number s.judged) s.rise a.payload.now s.end a.sheet.now a.tally l
+    c.due_of-due.result (reader.told c.read_counted-reading.result) c.read_counted-reading.new.sheet (told_done_by number none none a.tally (Ok c.raise.result))
+    (c.due_of-due.ensures number) c.read_counted-reading.ensures (ap (λ d. told_done_by number none none a.tally (Ok d)) c.raise.ensures)
