@@ -4,10 +4,13 @@
 ghost use Rattle.std.specs.Prelude.{◌≡◌, length};
 ghost use Rattle.schema.specs.Check.{IsGood};
 ghost use Rattle.frame.specs.Frame.{frame_of};
+ghost use Rattle.frame.specs.Told as frame;
+ghost use Rattle.receiver.specs.Told.{told};
 ghost use Rattle.replay.specs.Run.{answer_to, stops as stops_at, header_in};
 
 use connection::CallTable;
-use constants::{refusal, side};
+use constants::refusal::Refusal;
+use constants::side::Side;
 use frame::{FrameRead, Header};
 use receiver::FrameAnswer;
 
@@ -28,7 +31,7 @@ pub fn step(
     sheet: &mut [u32],
 ) -> FrameAnswer
     requires { IsGood schema.now × (length sheet.old ≡ 16384) }
-    ensures { (result.answer ≡ answer_to schema.now side bytes.now table.slots) × (result.read ≡ frame_of bytes.now) }
+    ensures { (told result.answer ≡ answer_to schema.now side bytes.now table.slots) × (frame.told result.read ≡ frame_of bytes.now) }
 {
     receiver::fresh::receive_fresh(table, schema, side, bytes, sheet)
 }
@@ -37,21 +40,18 @@ pub fn step(
 pub fn stops(side: u8, number: u32, used: usize) -> bool
     ensures { result ≡ stops_at side number used }
 {
-    (used == 0)
-        | ((number == refusal::WRONG_SIDE) & !((side == side::CLIENT) | (side == side::SERVER)))
+    let is_side = (side == Side::Client as u8) | (side == Side::Server as u8);
+    (used == 0) | ((number == Refusal::WrongSide as u32) & !is_side)
 }
 
 // The header of a frame that was read.
-pub fn header(read: FrameRead) -> Header
-    ensures { result ≡ header_in read }
+#[tactic(auto, unfolding(crate::specs::Run::header_in))]
+pub fn header(read: Result<FrameRead, Refusal>) -> Header
+    ensures { result ≡ header_in (frame.told read) }
 {
     match read {
-        FrameRead::Frame {
-            header,
-            place: _,
-            length: _,
-        } => header,
-        FrameRead::More => NO_HEADER,
-        FrameRead::Refused(_) => NO_HEADER,
+        Ok(FrameRead::Whole(frame)) => frame.header,
+        Ok(FrameRead::More) => NO_HEADER,
+        Err(_) => NO_HEADER,
     }
 }

@@ -1,5 +1,0 @@
--- `arf::write_value_frame` meets its contract: it is that of the function called.
-use Rattle.arf.proofs.write_value_frame.Goals as goal
-
-pub returns : goal.returns
-returns c = c.write_value_frame.ensures
