@@ -3,7 +3,7 @@ ghost use Rattle.std.specs.Prelude.{◌≡◌};
 ghost use Rattle.schema.specs.File.{table_of};
 ghost use Rattle.schema.specs.Check.{IsGood, is_missing};
 ghost use Rattle.calls.specs.Slots.{slot_of};
-ghost use Rattle.calls.specs.Judge.{typed, payload_of, call_verdict, open_verdict, invoke_verdict, other_verdict, method_of, release_verdict, placed};
+ghost use Rattle.calls.specs.Judge.{right_side, typed, payload_of, call_verdict, open_verdict, invoke_verdict, other_verdict, method_of, release_verdict, placed};
 ghost use Rattle.calls.specs.OwnSlots.{judged_at};
 ghost use Rattle.calls.specs.Told.{told};
 ghost use Rattle.constants.specs.Number.{number_of};
@@ -19,6 +19,16 @@ use constants::{format, limit};
 use schema::Method;
 use table::good::Schema;
 use table::rows::is_named;
+
+// Whether the kind comes from this side, the byte C or S. Both may be any numbers: no side sends what is none.
+pub fn right_side(side: u8, kind: u8) -> bool
+    ensures { result ≡ right_side side kind }
+{
+    match FrameKind::try_from(kind) {
+        Ok(kind) => side == sender(kind) as u8,
+        Err(_) => false,
+    }
+}
 
 // What a type number of a method asks for: a value of that struct, or for 4294967295 nothing.
 fn of_type(t: u32) -> Payload
@@ -117,20 +127,20 @@ fn judge_other(seen: OwnSlot, schema: &Schema, f: Frame) -> Result<Allowed, Refu
     }
 }
 
-// A frame before its payload is read, against a good schema table. Side and kind may be any numbers: no side sends what is none.
+// A frame before its payload is read, against a good schema table.
 #[tactic(auto, unfolding(calls::specs::OwnSlots::judged_at, calls::specs::Judge::verdict_of))]
 pub fn judge_frame(seen: OwnSlot, s: &[u8], f: Frame) -> Result<Allowed, Refusal>
     requires { IsGood s.now }
     ensures { told number_of result ≡ judged_at (table_of s.now) f seen }
 {
+    if !right_side(f.side, f.kind) {
+        return Err(Refusal::WrongSide);
+    }
     let schema = Schema::of_good(s);
-    match FrameKind::try_from(f.kind) {
-        Ok(kind) if f.side == sender(kind) as u8 => if kind == FrameKind::Invoke {
-            judge_invoke(seen, &schema, f)
-        } else {
-            judge_other(seen, &schema, f)
-        },
-        _ => Err(Refusal::WrongSide),
+    if f.kind == FrameKind::Invoke as u8 {
+        judge_invoke(seen, &schema, f)
+    } else {
+        judge_other(seen, &schema, f)
     }
 }
 
