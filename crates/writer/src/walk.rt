@@ -299,68 +299,62 @@ fn write_run(
     requires { Ready rows.now out.old row pos (items_in rows.now depth [] (replicate n (plain_item ty)) row) × (t ≡ row_at (table_in rows.now) ty) × (t.kind ≡ 16) × (0 < depth) }
     ensures { Walked rows.now.sheet.now (items_end rows.now depth [] (replicate n (plain_item ty)) row pos out.old) result out.new }
 {
-    write_structs(
-        rows,
-        out,
-        ty,
-        t.a as usize,
-        t.b as usize,
-        n,
-        row,
-        pos,
-        depth - 1,
-    )
+    write_structs(rows, out, ty, t, n, row, pos, depth - 1)
 }
 
-// So many structs of one type from a row on, each of n fields from the first on. Which bits are required is found once for all.
+// So many structs of type ty from a row on, whose type row is t. Which fields are required is found once for all.
 #[cycle(walk)]
 fn write_structs(
     rows: &Rows,
     out: &mut [u8],
     ty: u32,
-    first: usize,
-    n: usize,
+    t: TypeRow,
     count: usize,
     start: usize,
     pos: usize,
     depth: usize,
 ) -> Result<Past, Refused>
-    requires ready { Ready rows.now out.old start pos (items_in rows.now (suc depth) [] (replicate count (plain_item ty)) start) × (shapes_of rows.now ty ≡ struct (fields_from (table_in rows.now) first n)) }
-    requires n_nonzero { (0 < n) × (n ≤ 64) × (first + n ≤ length (table_in rows.now).fields) }
+    requires ready { Ready rows.now out.old start pos (items_in rows.now (suc depth) [] (replicate count (plain_item ty)) start) × (shapes_of rows.now ty ≡ struct (fields_from (table_in rows.now) t.a t.b)) }
+    requires n_nonzero { (0 < t.b) × (t.b ≤ 64) × (t.a + t.b ≤ length (table_in rows.now).fields) }
     ensures { Walked rows.now.sheet.now (items_end rows.now (suc depth) [] (replicate count (plain_item ty)) start pos out.old) result out.new }
 {
-    let required = required_of(rows.schema.bytes, rows.schema.layout(), first, n);
+    let required = required_of(
+        rows.schema.bytes,
+        rows.schema.layout(),
+        t.a as usize,
+        t.b as usize,
+    );
     let mut here = start;
     let mut to = pos;
     for _ in 0..count {
-        let past = write_struct(rows, out, ty, first, n, required, here, to, depth)?;
+        let past = write_struct(rows, out, ty, t, required, here, to, depth)?;
         here = past.row;
         to = past.pos;
     }
     Ok(Past { row: here, pos: to })
 }
 
-// An inner struct of type ty, which has n fields from the first on, of which those with bits in `required` have to be there. An unknown bit is refused.
+// An inner struct of type ty, whose type row is t and of whose fields those with bits in `required` have to be there. An unknown bit is refused.
 #[cycle(walk)]
 fn write_struct(
     rows: &Rows,
     out: &mut [u8],
     ty: u32,
-    first: usize,
-    n: usize,
+    t: TypeRow,
     required: u64,
     row: usize,
     pos: usize,
     depth: usize,
 ) -> Result<Past, Refused>
-    requires ready { Ready rows.now out.old row pos (value_in rows.now (suc depth) ty row) × (shapes_of rows.now ty ≡ struct (fields_from (table_in rows.now) first n)) }
-    requires n_nonzero { (0 < n) × (n ≤ 64) × (first + n ≤ length (table_in rows.now).fields) × Requires required (fields_from (table_in rows.now) first n) }
+    requires ready { Ready rows.now out.old row pos (value_in rows.now (suc depth) ty row) × (shapes_of rows.now ty ≡ struct (fields_from (table_in rows.now) t.a t.b)) }
+    requires n_nonzero { (0 < t.b) × (t.b ≤ 64) × (t.a + t.b ≤ length (table_in rows.now).fields) × Requires required (fields_from (table_in rows.now) t.a t.b) }
     ensures { Walked rows.now.sheet.now (value_end rows.now (suc depth) ty row pos out.old) result out.new }
 {
+    let n = t.b as usize;
     let says = row_due(rows.sheet, row, ty)?;
     let known = struct_bits(rows.source, required, n, says.place, says.count, true, row)?;
     let next = put_bits(out, pos, (n + SPARE_BITS) / BYTE_BITS, known);
-    write_fields(rows, out, first, n, known, row + 1, next, depth)
+    write_fields(rows, out, t.a as usize, n, known, row + 1, next, depth)
 }
 
 // A value of type ty in a row. It has one call site, into which it is inlined, since most fields are scalars, strings or bytes.

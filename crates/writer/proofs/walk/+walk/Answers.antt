@@ -110,7 +110,7 @@ write-pairs-out t c = c.write_key.auto.out ∙ c.loop-i.invariant.0.long
 -- a struct's row and its bits, once both were read
 write-struct-head : (t : ℕ) (c : write_struct-After-struct_bits t)
     → let args = c.args in
-    HeadRow true (shape_in args.rows.now.schema.bytes.now) args.rows.now.source.now args.rows.now.sheet.now args.row args.ty args.n (fields_from (table_of args.rows.now.schema.bytes.now) args.first args.n) c.struct_bits.result
+    HeadRow true (shape_in args.rows.now.schema.bytes.now) args.rows.now.source.now args.rows.now.sheet.now args.row args.ty args.t.b (fields_from (table_of args.rows.now.schema.bytes.now) args.t.a args.t.b) c.struct_bits.result
 write-struct-head t c =
     let asked = c.requires in
     let h = asked.n_nonzero in
