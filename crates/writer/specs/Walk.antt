@@ -93,19 +93,19 @@ abbrev pub past_key : (S : ℕ → Shape) (B cells keys : List ℕ) (i depth : �
 past_key S B cells keys i depth rest (Ok p) out = emit_all S rest (walk (show S B depth) (keys_in B keys (i + 1)) rest (rows_at cells p.row)) p.pos out
 past_key S B cells keys i depth rest (Err e) out = stopped (number_of e.refusal) e.place
 
-abbrev pub KeyWithin : (B cells keys : List ℕ) (i depth : ℕ) → Bool → Result Past Refused → Type 0
-KeyWithin B cells keys i depth judging (Ok p) = (p.row ≤ length cells / 4) × (p.pos ≤ 16385) × (0 < depth) × Kept B keys judging (i + 1)
-KeyWithin B cells keys i depth judging (Err e) = Unit {0}
+abbrev pub KeyWithin : (B cells keys : List ℕ) (i : ℕ) → Bool → Result Past Refused → Type 0
+KeyWithin B cells keys i judging (Ok p) = (p.row ≤ length cells / 4) × (p.pos ≤ 16385) × Kept B keys judging (i + 1)
+KeyWithin B cells keys i judging (Err e) = Unit {0}
 
--- What is asked for a key of a kind, and what is told of it: the items from it on end as those after it do.
-pub record KeyReady (B cells out keys : List ℕ) (i kind key row pos depth : ℕ) (judging : Bool) : Type 0 where
+-- What is asked for a key of a kind, and what is told of it: the items from it on end as those after it do, by each depth that allows a key.
+pub record KeyReady (B cells out keys : List ℕ) (i kind key row pos : ℕ) (judging : Bool) : Type 0 where
   pub keys-fit : i + 4 < length keys / 2
   pub capped : pos ≤ 16385
   pub small : length out ≤ 16384
   pub kept : Kept B keys judging i
-  pub judged : judging ≡ false → (S : ℕ → Shape) × (S key ≡ leaf_shape kind) × ((rest : List Item) × Accepted (key_in S B cells keys i key row depth rest))
+  pub judged : judging ≡ false → (S : ℕ → Shape) × (S key ≡ leaf_shape kind) × (depth : ℕ) × (depth ≡ 0 → ⊥) × ((rest : List Item) × Accepted (key_in S B cells keys i key row depth rest))
 
-pub record KeyPut (B cells out keys : List ℕ) (i kind key row pos depth : ℕ) (judging : Bool) (r : Result Past Refused) (out' keys' : List ℕ) : Type 0 where
-  pub same : (S : ℕ → Shape) → S key ≡ leaf_shape kind → (rest : List Item)
+pub record KeyPut (B cells out keys : List ℕ) (i kind key row pos : ℕ) (judging : Bool) (r : Result Past Refused) (out' keys' : List ℕ) : Type 0 where
+  pub same : (S : ℕ → Shape) → S key ≡ leaf_shape kind → (depth : ℕ) → (depth ≡ 0 → ⊥) → (rest : List Item)
       → past_key S B cells keys' i depth rest r out' ≡ emit_all S (key_first key rest) (key_in S B cells keys i key row depth rest) pos out
-  pub within : KeyWithin B cells keys' i depth judging r
+  pub within : KeyWithin B cells keys' i judging r

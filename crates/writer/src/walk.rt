@@ -221,14 +221,10 @@ fn write_key(
     key: u32,
     row: usize,
     pos: usize,
-    depth: usize,
 ) -> Result<Past, Refused>
-    requires { KeyReady rows.now.source.now rows.now.sheet.now out.old keys.old i kind key row pos depth rows.now.judging }
-    ensures { KeyPut rows.now.source.now rows.now.sheet.now out.old keys.old i kind key row pos depth rows.now.judging result out.new keys.new }
+    requires { KeyReady rows.now.source.now rows.now.sheet.now out.old keys.old i kind key row pos rows.now.judging }
+    ensures { KeyPut rows.now.source.now rows.now.sheet.now out.old keys.old i kind key row pos rows.now.judging result out.new keys.new }
 {
-    if depth == 0 {
-        return Refusal::TooDeep.at(row);
-    }
     let placed = leaf_row(rows, kind, key, row)?;
     if is_repeated(
         rows.source,
@@ -267,7 +263,10 @@ fn write_pairs(
     let mut at = start;
     let mut to = pos;
     for i in 0..n {
-        let past = write_key(rows, out, keys, i, k, t.a, at, to, depth)?;
+        if depth == 0 {
+            return Refusal::TooDeep.at(at);
+        }
+        let past = write_key(rows, out, keys, i, k, t.a, at, to)?;
         at = past.row;
         to = past.pos;
         if (Kind::Bytes as u32) < v.kind {

@@ -26,7 +26,7 @@ use Rattle.writer.proofs.Heads.{HeadRow, head-row, head-fits}
 use Rattle.writer.proofs.Composites.{leaf-failed, leaf_in, leaf-past, row-absent, came-by}
 use Rattle.writer.proofs.Composites.{PartsRow, parts-start, parts-accepted, array-found, map-many, map_found, struct-fault, struct-found, struct-start}
 use Rattle.writer.proofs.Composites.{writing-first, writing-small, writing-known, writing-done, writing-ready, writing-stop, writing-on, structs-held, one-accepted, one_end}
-use Rattle.writer.proofs.Keys.{AfterKey, after-key, key-was, pair-first, pair-accepted, pair-stop, pair-past}
+use Rattle.writer.proofs.Keys.{AfterKey, after-key, key-was, pairs-deep, pair-first, pair-accepted, pair-stop, pair-past}
 use Rattle.writer.proofs.walk.+walk.Goals.{write_array-In_ok-says, write_fields-After-field-f, write_map-Else-n-gt-MOST_PAIRS, write_map-Start, write_pairs-After-known_row-k, write_pairs-After-known_row-v, write_pairs-After-write_key, write_struct-After-struct_bits, write_value-Else-kind}
 use Rattle.writer.proofs.walk.+walk.Goals.{write_pairs-then-v+in_ok-past-2, write_pairs-else-v+in_ok-placed}
 use Rattle.writer.proofs.walk.+walk.Goals as goal
@@ -101,7 +101,7 @@ write-pairs-turn t c =
     let types = c.requires.1 in
     let k = c.known_row-k in
     let keys = shape-leaf (table_of c.args.rows.now.schema.bytes.now) c.args.t.a k.result k.ensures (rw k.ensures types.0) (rw k.ensures types.1) in
-    after-key _ c.write_key.ensures keys _ c.loop-i-test.true c.loop-i.invariant.0.same
+    after-key _ c.write_key.ensures keys _ c.if-depth-eq0.false _ c.loop-i-test.true c.loop-i.invariant.0.same
 
 write-pairs-out : (t : ℕ) (c : write_pairs-After-write_key t)
     → length c.write_key.new.out ≡ length c.args.out.now
@@ -322,9 +322,16 @@ write_pairs-write_key-requires t c =
       judged = λ j. (
         shape_in c.args.rows.now.schema.bytes.now,
         write-pairs-keys t at-known-row,
+        c.args.depth,
+        c.if-depth-eq0.false,
         (_, pair-first _ _ c.args.t.b _ _ some (writing-known loop.invariant.0 j)),
       );
     }
+
+pub write_pairs-returns-then-depth-eq0 : goal.write_pairs-returns-then-depth-eq0
+write_pairs-returns-then-depth-eq0 t c =
+    let inv = c.loop-i.invariant.0 in
+    as_refused c.at.ensures (pairs-deep _ _ _ _ _ _ _ _ _ c.loop-i-test.true c.if-depth-eq0.true ∙ inv.same)
 
 pub write_pairs-returns-in_err-past : goal.write_pairs-returns-in_err-past
 write_pairs-returns-in_err-past t c = as_refused (handed c.from_residual.ensures.1) (key-was (write-pairs-turn t (goal.at.write_pairs-returns-in_err-past t c).After-write_key) c.in_err-past.was).same
@@ -357,18 +364,16 @@ write_pairs-leaf_row-requires t c =
     let asked = at-known-row2.requires in
     let turn = write-pairs-turn t at-write-key in
     let past = c.in_ok-past.was in
-    let some = (key-was turn past).within.2 in
     let leaf = write-pairs-values t at-known-row2 (omega (arith, c.if-v.false)) in
-    λ j. leaf-accepted _ _ (omega (arith, some)) _ _ leaf (pair-accepted turn past _ _ _ _ refl (asked.0.judged j))
+    λ j. leaf-accepted _ _ c.if-depth-eq0.false _ _ leaf (pair-accepted turn past _ _ _ _ refl (asked.0.judged j))
 
 pub write_pairs-returns-in_err-placed : goal.write_pairs-returns-in_err-placed
 write_pairs-returns-in_err-placed t c =
     let at-write-key = (goal.at.write_pairs-returns-in_err-placed t c).After-write_key in
     let turn = write-pairs-turn t at-write-key in
     let past = c.in_ok-past.was in
-    let some = (key-was turn past).within.2 in
     let leaf = write-pairs-values t (goal.at.write_pairs-returns-in_err-placed t c).After-known_row-v (omega (arith, c.if-v.false)) in
-    let failed = leaf-failed c.leaf_row.ensures _ leaf (omega (arith, some)) c.in_err-placed.was in
+    let failed = leaf-failed c.leaf_row.ensures _ leaf c.if-depth-eq0.false c.in_err-placed.was in
     as_refused (handed c.from_residual-in_err-placed.ensures.1) (pair-stop turn past (shown-stopped _ _ _ _ failed))
 
 pub write_pairs-loop-i-preserved : goal.write_pairs-loop-i-preserved
@@ -383,13 +388,13 @@ write_pairs-loop-i-preserved t c =
       | write_pairs-then-v+in_ok-past-2 w ↦ came-by (was w.write_composite.ensures w.in_ok-past-2.was) w.write_composite.auto.out w.at-is w.to-is w.out-is
       | write_pairs-else-v+in_ok-placed w ↦
           let leaf = write-pairs-values t (goal.at.write_pairs-loop-i-preserved t c).After-known_row-v (omega (arith, w.if-v.false)) in
-          came-by (leaf-past w.leaf_row.ensures _ leaf (omega (arith, within.2)) w.in_ok-placed.was w.put_content-to.ensures) w.put_content-to.auto.out w.at-is w.to-is w.out-is
+          came-by (leaf-past w.leaf_row.ensures _ leaf c.if-depth-eq0.false w.in_ok-placed.was w.put_content-to.ensures) w.put_content-to.auto.out w.at-is w.to-is w.out-is
     ]) in
     let inv = c.loop-i.invariant in (
       record { asked = inv.0.asked; same = turned.0; inside = turned.1; capped = turned.2; long = turned.3 ∙ long },
       omega (arith, c.loop-i-test.true),
       at-write-key.write_key.auto.keys ∙ inv.2,
-      within.3,
+      within.2,
     )
 
 pub write_pairs-returns : goal.write_pairs-returns
