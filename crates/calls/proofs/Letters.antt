@@ -1,4 +1,4 @@
--- Table 1 is the draft's by the letters of the form: one test over all sixteen rows.
+-- The table of the forms is that of docs/FORMAT.md by the letters of the form: one test over all sixteen rows.
 use mathlib.Core.Path.{◌≡◌, refl}
 use mathlib.Core.Bool.{Bool, true, false}
 use mathlib.Core.List.{List, [], ◌∷◌}

@@ -1,4 +1,4 @@
--- Tally rows (02's term), one a method: which figure of which row a judged frame or release raises, when that figure is full, and the row afterwards.
+-- Tally rows, one a method: which figure of which row a judged frame or release raises, when that figure is full, and the row afterwards.
 use Rattle.std.specs.Prelude.{ℕ, ◌+◌, Bool, cond, List, eqb}
 use Rattle.calls.specs.declared.Call.{Call}
 use Rattle.calls.specs.Judged.{Judged}

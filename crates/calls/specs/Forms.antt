@@ -1,4 +1,4 @@
--- Table 1 of the draft, the streaming kinds that each form allows, and the letters of a form (01's terms).
+-- The table of the forms (docs/FORMAT.md): the streaming kinds that each form allows, and the letters of a form.
 use Rattle.std.specs.Prelude.{ℕ, ◌/◌, ◌%◌, Bool, true, false, List, [], ◌∷◌, get_or, eqb}
 use Rattle.calls.specs.declared.FormRow.{FormRow}
 

@@ -1,4 +1,4 @@
--- When a call table is good, a field for each clause of 01's sentence.
+-- When a call table is good, a field for each clause of docs/FORMAT.md's sentence.
 use Rattle.std.specs.Prelude.{◌≡◌, true, false, List, ℕ, ◌<◌, length}
 use Rattle.schema.specs.Table.{Table}
 use Rattle.calls.specs.declared.Call.{Call}

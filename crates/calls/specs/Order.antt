@@ -55,7 +55,7 @@ pub data Came (form : ℕ) : List ℕ → Type 0 where
 
 -- ---- stream elements
 
--- The stream elements (02's term) accepted each way.
+-- The stream elements accepted each way.
 pub record Elements : Type 0 where
   pub inputs : ℕ
   pub outputs : ℕ

@@ -1,4 +1,4 @@
--- The call table (01's term) as a list of 128 records, one a slot: searches, the count of open calls, and the test whether it is good.
+-- The call table as a list of 128 records, one a slot: searches, the count of open calls, and the test whether it is good.
 use Rattle.std.specs.Prelude.{ℕ, suc, Bool, true, false, not, cond, ◌&&◌, ◌||◌, List, [], ◌∷◌, length, get_or, replicate, eqb, None, Option, Some}
 use Rattle.schema.specs.Table.{Table}
 use Rattle.schema.specs.Check.{method_row, is_missing}
