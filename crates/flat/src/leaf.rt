@@ -12,9 +12,9 @@ ghost use Rattle.walks.specs.Shape.{leaf_shape, fields_from};
 ghost use Rattle.flat.specs.Leaf.{CountRead, Uncounted, Spanned, Headed};
 ghost use Rattle.flat.specs.Told.{told_count, told_span, told_head};
 
-use constants::refusal::{Refusal, Refused};
 use constants::kind::Kind;
 use constants::limit;
+use constants::refusal::{Refusal, Refused};
 use table::kind::width_of;
 use walks::is_complete;
 use wire::{bitmap, varuint};

@@ -3,14 +3,8 @@ use native.Mathlib.Omega.{arith}
 use Rattle.walks.proofs.Tables.{few-fields}
 use Rattle.flat.proofs.added.added_fields.Goals as goal
 
-pub overflow_add-first : goal.overflow_add-first
-overflow_add-first c = let pre = c.requires in omega (arith, pre.fields.in_table, few-fields _ pre.fields.ready.good)
-
 pub part_of-requires : goal.part_of-requires
 part_of-requires c = let pre = c.requires in omega (arith, pre.fields.in_table, few-fields _ pre.fields.ready.good)
-
-pub leaf_fields-requires : goal.leaf_fields-requires
-leaf_fields-requires c = rw (c.part_of.ensures, c.low_bits.ensures) (c.requires.fields, c.requires.bounds.0)
 
 pub returns : goal.returns
 returns c = (_, _, rw (c.part_of.ensures, c.low_bits.ensures) at c.leaf_fields.ensures)

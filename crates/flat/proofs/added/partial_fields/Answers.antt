@@ -29,9 +29,6 @@ ended c =
     rest_in (part-asked pre.fields.0 pre.shape.0) c.low_bits.ensures S
     (first (goal.at.In_ok-rest c).After-leaf_fields S) (ap told_walk c.in_ok-first_part.was) (c.added_fields.ensures.2 S) (ap told_walk c.in_ok-rest.was)
 
-pub low_bits-requires : goal.low_bits-requires
-low_bits-requires c = let pre = c.requires in omega (arith, pre.fields.0.few, pre.shape.0)
-
 pub part_of-requires : goal.part_of-requires
 part_of-requires c = let pre = c.requires in omega (arith, pre.fields.0.in_table, pre.fields.0.few, few-fields _ pre.fields.0.ready.good, pre.shape.0)
 

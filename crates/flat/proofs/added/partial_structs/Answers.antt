@@ -1,5 +1,5 @@
 -- `flat::added::partial_structs` meets its contract. The invariant: what is left of the elements gives the same end, whatever else is shown.
-use mathlib.Core.Path.{◌≡◌, refl, ap, ◌∙◌}
+use mathlib.Core.Path.{◌≡◌, refl, ap}
 use Prim.Native.Nat.{ℕ, suc, ◌+◌, ◌-◌}
 use Rattle.std.proofs.Math.Nat.{sub-zero}
 use native.Mathlib.Omega.{arith}
@@ -7,7 +7,7 @@ use Rattle.schema.specs.Table.{Shape}
 use Rattle.walks.specs.Shape.{shape_in}
 use Rattle.flat.specs.Flat.{first_shape}
 use Rattle.flat.specs.Walk.{value_in, told, Walked}
-use Rattle.flat.proofs.Turns.{described_own, lifted, reading-below, reading-deep, reading-end, reading-first, reading-on, reading-own, reading-stop, reading-sum}
+use Rattle.flat.proofs.Turns.{described_own, lifted, reading-below, reading-end, reading-first, reading-on, reading-stop, reading-sum}
 use Rattle.walks.proofs.Items.{elements-none, elements-more}
 use Rattle.flat.proofs.added.partial_structs.Goals.{After-partial_struct}
 use Rattle.flat.specs.Told.{told_walk}
@@ -27,17 +27,8 @@ walked c =
     lifted (λ R. R args.first.elem ≡ first_shape args.source.now.schema.bytes.now args.first.elem args.first.m) args.source.now.schema.bytes.now args.depth c.loop.here same c.if-depth-eq0.false
     (λ R shown. c.partial_struct.ensures R (rw same shown))
 
-pub overflow_add-below : goal.overflow_add-below
-overflow_add-below c = let pre = c.requires in omega (arith, pre.ready.0.small, pre.ready.0.inside, pre.ready.0.behind)
-
 pub loop-init : goal.loop-init
 loop-init c = let args = c.args in let pre = c.requires in rw (sub-zero c.args.n) (reading-first pre.ready.0 (λ t. first_shape args.source.now.schema.bytes.now args.first.elem args.first.m) refl _)
-
-pub shape_of-sheet-then-depth-eq0 : goal.shape_of-sheet-then-depth-eq0
-shape_of-sheet-then-depth-eq0 c = c.loop.invariant.long
-
-pub returns-then-depth-eq0 : goal.returns-then-depth-eq0
-returns-then-depth-eq0 c = rw c.at.ensures (reading-deep c.loop.invariant (elements-more _ c.loop-test.true) c.if-depth-eq0.true)
 
 pub partial_struct-requires : goal.partial_struct-requires
 partial_struct-requires c =
@@ -70,15 +61,6 @@ pub loop-preserved : goal.loop-preserved
 loop-preserved c =
     let call = (goal.at.loop-preserved c).After-partial_struct in
     reading-on call.loop.invariant (elements-more _ call.loop-test.true) (walked call) (ap told_walk c.in_ok-past.was)
-
-pub overflow_sub-here : goal.overflow_sub-here
-overflow_sub-here c = omega (arith, c.loop.invariant.forth)
-
-pub put_row-requires : goal.put_row-requires
-put_row-requires c = let pre = c.requires in reading-own c.loop.invariant (omega arith) pre.ready.2
-
-pub shape_of-sheet : goal.shape_of-sheet
-shape_of-sheet c = c.put_row.auto.sheet ∙ c.loop.invariant.long
 
 pub returns : goal.returns
 returns c =

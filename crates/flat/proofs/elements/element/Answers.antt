@@ -1,7 +1,7 @@
 -- `flat::elements::element` meets its contract.
 use Prim.Native.Nat.{suc}
 use native.Mathlib.Omega.{arith}
-use Rattle.flat.proofs.Steps.{span_in, span-put, IsLeaf, is_leaf, leaf-asked, leaf-stop, leaf-past}
+use Rattle.flat.proofs.Steps.{IsLeaf, is_leaf, leaf-asked, leaf-stop, leaf-past}
 use Rattle.flat.proofs.Turns.{leaf-left}
 use Rattle.flat.proofs.elements.element.Goals.{Else-f-2}
 use mathlib.Core.Path.{ap}
@@ -18,14 +18,6 @@ leaf c =
 
 pub content-requires : goal.content-requires
 content-requires c = leaf-asked (leaf (goal.at.content-requires c).Else-f-2) (omega arith) c.requires.0
-
-pub overflow_sub-content : goal.overflow_sub-content
-overflow_sub-content c = (span_in c.content.ensures (ap told_span c.in_ok-content.was)).0
-
-pub put_row-requires : goal.put_row-requires
-put_row-requires c =
-    let pre = c.requires.0 in
-    span-put c.content.ensures (ap told_span c.in_ok-content.was) pre.small (omega (arith, pre.small, pre.inside, pre.behind))
 
 pub returns-in_err-content : goal.returns-in_err-content
 returns-in_err-content c =

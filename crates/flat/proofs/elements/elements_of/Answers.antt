@@ -1,12 +1,12 @@
 -- `flat::elements::elements_of` meets its contract. The invariant: what is left of the elements gives the same end, whatever is shown.
-use mathlib.Core.Path.{◌≡◌, refl, ap, ◌∙◌}
+use mathlib.Core.Path.{◌≡◌, refl, ap}
 use Prim.Native.Nat.{ℕ, suc, ◌+◌, ◌-◌}
 use Rattle.std.proofs.Math.Nat.{sub-zero}
 use native.Mathlib.Omega.{arith}
 use Rattle.schema.specs.Table.{Shape}
 use Rattle.walks.specs.Shape.{shape_in}
 use Rattle.flat.specs.Walk.{value_in, told, Walked}
-use Rattle.flat.proofs.Turns.{described_own, lifted, reading-below, reading-deep, reading-end, reading-first, reading-on, reading-own, reading-stop, reading-sum}
+use Rattle.flat.proofs.Turns.{described_own, lifted, reading-below, reading-deep, reading-end, reading-first, reading-on, reading-stop, reading-sum}
 use Rattle.walks.proofs.Items.{elements-none, elements-more}
 use Rattle.flat.proofs.elements.elements_of.Goals.{After-element}
 use Rattle.flat.specs.Told.{told_walk}
@@ -25,14 +25,8 @@ walked c =
     let same = c.prepared_of-f.ensures.same in
     lifted (λ R. R args.elem ≡ shape_in args.source.now.schema.bytes.now args.elem) args.source.now.schema.bytes.now args.depth c.loop.here same c.if-depth-eq0.false (λ R shown. c.element.ensures R (rw same shown))
 
-pub overflow_add-below : goal.overflow_add-below
-overflow_add-below c = let pre = c.requires in omega (arith, pre.0.small, pre.0.inside, pre.0.behind)
-
 pub loop-init : goal.loop-init
 loop-init c = let args = c.args in let pre = c.requires in rw (sub-zero c.args.n) (reading-first pre.0 (shape_in args.source.now.schema.bytes.now) refl _)
-
-pub shape_of-sheet-then-depth-eq0 : goal.shape_of-sheet-then-depth-eq0
-shape_of-sheet-then-depth-eq0 c = c.loop.invariant.long
 
 pub returns-then-depth-eq0 : goal.returns-then-depth-eq0
 returns-then-depth-eq0 c = rw c.at.ensures (reading-deep c.loop.invariant (elements-more _ c.loop-test.true) c.if-depth-eq0.true)
@@ -66,15 +60,6 @@ pub loop-preserved : goal.loop-preserved
 loop-preserved c =
     let call = (goal.at.loop-preserved c).After-element in
     reading-on call.loop.invariant (elements-more _ call.loop-test.true) (walked call) (ap told_walk c.in_ok-past.was)
-
-pub overflow_sub-here : goal.overflow_sub-here
-overflow_sub-here c = omega (arith, c.loop.invariant.forth)
-
-pub put_row-requires : goal.put_row-requires
-put_row-requires c = let pre = c.requires in reading-own c.loop.invariant (omega arith) pre.2
-
-pub shape_of-sheet : goal.shape_of-sheet
-shape_of-sheet c = c.put_row.auto.sheet ∙ c.loop.invariant.long
 
 pub returns : goal.returns
 returns c =

@@ -26,9 +26,6 @@ returns-in_err-head c =
     rw (is, same, place)
     (λ R shown. let pre = c.requires in inner-refused pre.0 pre.1 pre.2 pre.3 c.inner_presence.ensures.told (ap told_inner c.in_err-head.was) R)
 
-pub shape_of-sheet : goal.shape_of-sheet
-shape_of-sheet c = c.flat_fields.auto.sheet
-
 pub returns : goal.returns
 returns c =
     let pre = c.requires in

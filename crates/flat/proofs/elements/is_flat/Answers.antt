@@ -1,5 +1,4 @@
 -- `flat::elements::is_flat` meets its contract.
-use mathlib.Core.Bool.{false≢true}
 use Prim.Native.Nat.{◌<◌}
 use native.Mathlib.Omega.{arith}
 use borrow.Author.Tests.{ltb-true}
@@ -8,9 +7,6 @@ use Rattle.schema.specs.File.{table_of}
 use Rattle.walks.proofs.Tables.{struct_row, struct_type, shape-struct}
 use Rattle.flat.proofs.Turns.{flat-array, array-shown, flat-struct, struct-shown}
 use Rattle.flat.proofs.elements.is_flat.Goals as goal
-
-pub returns-then-depth-lt2 : goal.returns-then-depth-lt2
-returns-then-depth-lt2 c e = absurd (false≢true e)
 
 pub returns-then-t : goal.returns-then-t
 returns-then-t c e =
@@ -23,17 +19,11 @@ returns-then-t c e =
       array-shown args.s.now args.depth args.ty t.result t.ensures c.if-t.true args.shown.now,
     )
 
-pub returns-then-t-2 : goal.returns-then-t-2
-returns-then-t-2 c e = absurd (false≢true e)
-
 pub shown_of-requires : goal.shown_of-requires
 shown_of-requires c =
     let args = c.args in
     let t = c.type_row-t in
     (struct_type args.s.now c.requires args.ty _ (shape-struct (table_of args.s.now) args.ty t.result t.ensures c.if-t-2.false)).1
-
-pub returns-then-shown_of-n : goal.returns-then-shown_of-n
-returns-then-shown_of-n c e = absurd (false≢true e)
 
 pub are_leaves-requires : goal.are_leaves-requires
 are_leaves-requires c =

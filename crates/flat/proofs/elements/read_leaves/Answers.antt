@@ -1,11 +1,11 @@
 -- `flat::elements::read_leaves` meets its contract. The invariant: what is left of the elements gives the same end, whatever is shown.
-use mathlib.Core.Path.{refl, ap, ◌∙◌}
+use mathlib.Core.Path.{refl, ap}
 use Prim.Native.Nat.{◌-◌}
 use Rattle.std.proofs.Math.Nat.{sub-zero}
 use native.Mathlib.Omega.{arith}
 use Rattle.walks.specs.Shape.{shape_in}
-use Rattle.flat.proofs.Steps.{span_in, span-put, IsLeaf, is_leaf, leaf-asked, leaf-stop, leaf-past}
-use Rattle.flat.proofs.Turns.{reading-deep, reading-end, reading-first, reading-on, reading-own, reading-ready, reading-stop}
+use Rattle.flat.proofs.Steps.{IsLeaf, is_leaf, leaf-asked, leaf-stop, leaf-past}
+use Rattle.flat.proofs.Turns.{reading-deep, reading-end, reading-first, reading-on, reading-ready, reading-stop}
 use Rattle.walks.proofs.Items.{elements-none, elements-more}
 use Rattle.flat.proofs.elements.read_leaves.Goals.{After-type_row-t}
 use Rattle.flat.specs.Told.{told_span}
@@ -19,14 +19,8 @@ leaf c =
     let is = c.type_row-t.ensures in
     is_leaf is (rw is pre.0) (rw is pre.1)
 
-pub overflow_add-below : goal.overflow_add-below
-overflow_add-below c = let pre = c.requires.ready in omega (arith, pre.small, pre.inside, pre.behind)
-
 pub loop-init : goal.loop-init
 loop-init c = let start = c in rw (sub-zero c.args.n) (reading-first start.requires.ready (shape_in start.args.source.now.schema.bytes.now) tt _)
-
-pub shape_of-sheet-then-depth-eq0 : goal.shape_of-sheet-then-depth-eq0
-shape_of-sheet-then-depth-eq0 c = c.loop.invariant.long
 
 pub returns-then-depth-eq0 : goal.returns-then-depth-eq0
 returns-then-depth-eq0 c = rw c.at.ensures λ R. reading-deep c.loop.invariant (elements-more _ c.loop-test.true) c.if-depth-eq0.true R tt
@@ -41,31 +35,11 @@ returns-in_err-content c =
     rw (is, same)
     (λ R. reading-stop c.loop.invariant (elements-more _ c.loop-test.true) {m = c.loop.sheet} (λ R ok. stop R) refl R tt)
 
-pub overflow_sub-content : goal.overflow_sub-content
-overflow_sub-content c = (span_in c.content.ensures (ap told_span c.in_ok-content.was)).0
-
-pub put_row-requires : goal.put_row-requires
-put_row-requires c =
-    let inv = c.loop.invariant in
-    span-put c.content.ensures (ap told_span c.in_ok-content.was) inv.asked.small (omega (arith, inv.behind, inv.inside, inv.asked.small))
-
-pub overflow_add-below-in-loop : goal.overflow_add-below-in-loop
-overflow_add-below-in-loop c = let inv = c.loop.invariant in omega (arith, inv.behind, inv.inside, inv.asked.small)
-
 pub loop-preserved : goal.loop-preserved
 loop-preserved c =
     let past = leaf-past (leaf (goal.at.loop-preserved c).After-type_row-t) c.if-depth-eq0.false
     c.content.ensures (ap told_span c.in_ok-content.was) c.loop.invariant.behind c.put_row.ensures in
     reading-on c.loop.invariant (elements-more _ c.loop-test.true) (λ R ok. past R) refl
-
-pub overflow_sub-here : goal.overflow_sub-here
-overflow_sub-here c = omega (arith, c.loop.invariant.forth)
-
-pub put_row-requires-2 : goal.put_row-requires-2
-put_row-requires-2 c = reading-own c.loop.invariant (omega arith) c.requires.kind_nonzero.2
-
-pub shape_of-sheet : goal.shape_of-sheet
-shape_of-sheet c = c.put_row-2.auto.sheet ∙ c.loop.invariant.long
 
 pub returns : goal.returns
 returns c =

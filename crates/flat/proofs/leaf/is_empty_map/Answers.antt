@@ -1,6 +1,5 @@
 -- `flat::leaf::is_empty_map` meets its contract: the byte 0 is the count 0.
 use mathlib.Core.Path.{sym, ◌∙◌}
-use mathlib.Core.Bool.{false≢true}
 use Prim.Native.Nat.{◌<◌}
 use native.Mathlib.Omega.{arith}
 use borrow.Author.Tests.{eqb-true}
@@ -8,15 +7,6 @@ use lib.ListN.{length}
 use Rattle.wire.proofs.Varuints.{first-number}
 use Rattle.flat.proofs.Leaves.{count-is}
 use Rattle.flat.proofs.leaf.is_empty_map.Goals as goal
-
-pub returns-then-kind : goal.returns-then-kind
-returns-then-kind c e = absurd (false≢true e)
-
-pub returns-then-p-at : goal.returns-then-p-at
-returns-then-p-at c e = absurd (false≢true e)
-
-pub byte_at-requires : goal.byte_at-requires
-byte_at-requires c = omega (arith, c.if-p-at.false)
 
 pub returns : goal.returns
 returns c e =

@@ -1,7 +1,5 @@
 -- `flat::leaf::read_count` meets its contract.
 use mathlib.Core.Path.{refl, sym, ap, ◌∙◌}
-use native.Mathlib.Nat.{mul-le-mul}
-use native.Mathlib.Omega.{arith}
 use Rattle.wire.specs.Varuint.{told}
 use Rattle.wire.proofs.Varuints.{varuint-inside}
 use Rattle.flat.proofs.Leaves.{count-fault, count-large, count-above, count-is}
@@ -16,9 +14,6 @@ overflow_sub-rest c = (varuint-inside c.args.p.now c.args.at _ _ (sym c.read.ens
 pub returns-then-rest-size : goal.returns-then-rest-size
 returns-then-rest-size c =
     rw c.at-then-rest-size.ensures (record { told = count-above _ _ _ _ _ (sym c.read.ensures ∙ ap told c.in-Ok.is) c.requires.1 c.if-rest-size.true; place = refl })
-
-pub overflow_mul-least : goal.overflow_mul-least
-overflow_mul-least c = let h = mul-le-mul c.requires.2 c.if-rest-size.false in omega arith
 
 pub returns-then-rest-least : goal.returns-then-rest-least
 returns-then-rest-least c =

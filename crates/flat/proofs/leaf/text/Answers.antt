@@ -1,7 +1,6 @@
 -- `flat::leaf::text` meets its contract.
 use mathlib.Core.Path.{◌≡◌, ap}
 use mathlib.Core.Logic.{⊎_elim}
-use native.Mathlib.Omega.{arith}
 use borrow.Author.Tests.{eqb-true, eqb-false}
 use lib.Dec.{eqb}
 use Rattle.schema.proofs.Bools.{cases}
@@ -34,10 +33,6 @@ pub returns-then-not-is_of_kind : goal.returns-then-not-is_of_kind
 returns-then-not-is_of_kind c =
     let bad = c.is_of_kind.ensures.1 c.if-not-is_of_kind.true in
     rw c.at.ensures (text_bad _ c.args.kind _ _ c.read_count.ensures.told _ _ (counted (goal.at.returns-then-not-is_of_kind c).In_ok-count) bad.0 bad.1)
-
-pub overflow_add-to : goal.overflow_add-to
-overflow_add-to c =
-    let h = text_in _ c.args.kind _ _ c.read_count.ensures.told _ _ (counted (goal.at.overflow_add-to c).In_ok-count) in omega (arith, h.1, c.requires.0)
 
 pub returns : goal.returns
 returns c =

@@ -15,9 +15,6 @@ counted c = ap told_count c.in_ok-count.was
 pub returns-then-depth-eq0 : goal.returns-then-depth-eq0
 returns-then-depth-eq0 c = let pre = c.requires.ready in rw c.at.ensures (map-deep pre.0 pre.1 c.if-depth-eq0.true)
 
-pub map_count-requires : goal.map_count-requires
-map_count-requires c = c.requires.ready.0.small
-
 pub returns-in_err-count : goal.returns-in_err-count
 returns-in_err-count c =
     let pre = c.requires.ready in

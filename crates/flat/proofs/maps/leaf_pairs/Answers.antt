@@ -4,8 +4,8 @@ use mathlib.Core.Path.{refl, ap, ◌∙◌}
 use Prim.Native.Nat.{◌+◌}
 use native.Mathlib.Omega.{arith}
 use Rattle.walks.specs.Shape.{shape_in}
-use Rattle.flat.proofs.Pairs.{Midway, along-first, along-own, along-end, along-deep, key-asked, key-room, key-failed, key-past, leaf-stops, leaf-turn}
-use Rattle.flat.proofs.Steps.{span_in, span-put, IsLeaf, is_leaf, leaf-asked}
+use Rattle.flat.proofs.Pairs.{Midway, along-first, along-end, along-deep, key-asked, key-room, key-failed, key-past, leaf-stops, leaf-turn}
+use Rattle.flat.proofs.Steps.{IsLeaf, is_leaf, leaf-asked}
 use Rattle.flat.proofs.Turns.{Any}
 use Rattle.flat.proofs.maps.leaf_pairs.Goals.{After-known_row-v, In_ok-key_content}
 use Rattle.flat.specs.Told.{told_span}
@@ -26,23 +26,8 @@ leaf c =
     let is = c.known_row-v.ensures in
     is_leaf is (rw is pre.0) (rw is pre.1)
 
-pub known_row-k-requires : goal.known_row-k-requires
-known_row-k-requires c = let q = c.requires.pairs_ready.0 in q.some
-
-pub known_row-v-requires : goal.known_row-v-requires
-known_row-v-requires c = let pre = c.requires in pre.kind_nonzero.0
-
-pub overflow_add-below : goal.overflow_add-below
-overflow_add-below c = let ready = c.requires.pairs_ready.0.ready in omega (arith, ready.small, ready.inside, ready.behind)
-
 pub loop-i-init : goal.loop-i-init
 loop-i-init c = let c8 = c in (along-first c8.requires.pairs_ready.0 (shape_in c8.args.source.now.schema.bytes.now) tt _ _, refl)
-
-pub shape_of-sheet-then-depth-eq0 : goal.shape_of-sheet-then-depth-eq0
-shape_of-sheet-then-depth-eq0 c = c.loop-i.invariant.0.long
-
-pub shape_of-keys-then-depth-eq0 : goal.shape_of-keys-then-depth-eq0
-shape_of-keys-then-depth-eq0 c = c.loop-i.invariant.1
 
 pub returns-then-depth-eq0 : goal.returns-then-depth-eq0
 returns-then-depth-eq0 c = rw c.at.ensures λ R. along-deep c.loop-i.invariant.0 c.loop-i-test.true c.if-depth-eq0.true R tt
@@ -76,48 +61,12 @@ returns-in_err-content c =
     rw (is, same)
     (λ R. leaf-stops (keyed at.In_ok-key_content) c.if-depth-eq0.false (leaf at.After-known_row-v) c.content.ensures (ap told_span c.in_err-content.was) R tt)
 
-pub overflow_add-below-in-loop-i : goal.overflow_add-below-in-loop-i
-overflow_add-below-in-loop-i c =
-    let loop = c in
-    let a = loop.loop-i.invariant.0 in omega (arith, a.inside, a.behind, a.asked.ready.small)
-
-pub overflow_sub-content : goal.overflow_sub-content
-overflow_sub-content c = (span_in c.content.ensures (ap told_span c.in_ok-content.was)).0
-
-pub put_row-requires : goal.put_row-requires
-put_row-requires c =
-    let read = c in
-    let ready = (keyed (goal.at.put_row-requires c).In_ok-key_content).ready in
-    span-put read.content.ensures (ap told_span c.in_ok-content.was) ready.small (omega (arith, ready.small, ready.inside, ready.behind))
-
-pub overflow_add-below-in-loop-i-2 : goal.overflow_add-below-in-loop-i-2
-overflow_add-below-in-loop-i-2 c =
-    let loop = c in
-    let a = loop.loop-i.invariant.0 in omega (arith, a.inside, a.behind, a.asked.ready.small)
-
 pub loop-i-preserved : goal.loop-i-preserved
 loop-i-preserved c =
     let at = goal.at.loop-i-preserved c in (
       leaf-turn (keyed at.In_ok-key_content) c.if-depth-eq0.false (leaf at.After-known_row-v) c.content.ensures (ap told_span c.in_ok-content.was) (omega arith) c.put_row.ensures,
       c.next_key.auto.keys ∙ c.loop-i.invariant.1,
     )
-
-pub overflow_sub-here : goal.overflow_sub-here
-overflow_sub-here c = let loop = c in (along-own loop.loop-i.invariant.0).0
-
-pub put_row-requires-2 : goal.put_row-requires-2
-put_row-requires-2 c =
-    let loop = c in
-    let w = along-own loop.loop-i.invariant.0 in (w.1, w.2, w.3, w.4)
-
-pub key_comparisons-requires : goal.key_comparisons-requires
-key_comparisons-requires c = c.requires.pairs_ready.0.most
-
-pub shape_of-sheet : goal.shape_of-sheet
-shape_of-sheet c = c.put_row-2.auto.sheet ∙ c.loop-i.invariant.0.long
-
-pub shape_of-keys : goal.shape_of-keys
-shape_of-keys c = c.loop-i.invariant.1
 
 pub returns : goal.returns
 returns c = λ R. along-end c.loop-i.invariant.0 (omega (arith, c.loop-i-test.false)) c.put_row-2.ensures (omega (arith, c.key_comparisons.ensures)) R tt

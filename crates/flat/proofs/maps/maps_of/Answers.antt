@@ -1,29 +1,12 @@
 -- `flat::maps::maps_of` meets its contract. The invariant: what is left of the elements gives the same end, whatever is shown.
-use mathlib.Core.Path.{refl, sym, ap, ◌∙◌}
+use mathlib.Core.Path.{ap, ◌∙◌}
 use Prim.Native.Nat.{◌-◌}
-use Rattle.std.proofs.Math.Nat.{sub-zero}
 use native.Mathlib.Omega.{arith}
-use Rattle.walks.specs.Shape.{shape_in}
-use Rattle.flat.proofs.Turns.{reading-end, reading-first, reading-on, reading-own, reading-ready, reading-stop, reading-sum}
+use Rattle.flat.proofs.Turns.{reading-end, reading-on, reading-ready, reading-stop, reading-sum}
 use Rattle.walks.proofs.Items.{elements-none, elements-more}
 use Rattle.flat.specs.Told.{told_walk}
 use Rattle.std.proofs.lemmas.Result.{err_from_is_err_and}
 use Rattle.flat.proofs.maps.maps_of.Goals as goal
-
-pub overflow_add-below : goal.overflow_add-below
-overflow_add-below c = let pre = c.requires.ready.0 in omega (arith, pre.small, pre.inside, pre.behind)
-
-pub loop-init : goal.loop-init
-loop-init c = let start = c in (rw (sub-zero c.args.n) (reading-first start.requires.ready.0 (shape_in start.args.source.now.schema.bytes.now) refl _), refl)
-
-pub slice_bounds-clear_flags-end : goal.slice_bounds-clear_flags-end
-slice_bounds-clear_flags-end c = sym c.loop.invariant.1
-
-pub clear_flags-requires : goal.clear_flags-requires
-clear_flags-requires c = omega (arith, c.loop.invariant.1)
-
-pub slice_bounds-leaf_map-end : goal.slice_bounds-leaf_map-end
-slice_bounds-leaf_map-end c = sym (c.clear_flags.auto.keys ∙ c.loop.invariant.1)
 
 pub leaf_map-requires : goal.leaf_map-requires
 leaf_map-requires c =
@@ -47,15 +30,6 @@ loop-preserved c = (
   reading-on c.loop.invariant.0 (elements-more _ c.loop-test.true) c.leaf_map.ensures (ap told_walk c.in_ok-past.was),
   c.leaf_map.auto.keys ∙ c.clear_flags.auto.keys ∙ c.loop.invariant.1,
 )
-
-pub overflow_sub-here : goal.overflow_sub-here
-overflow_sub-here c = omega (arith, c.loop.invariant.0.forth)
-
-pub put_row-requires : goal.put_row-requires
-put_row-requires c = reading-own c.loop.invariant.0 (omega arith) c.requires.ready.2
-
-pub shape_of-sheet : goal.shape_of-sheet
-shape_of-sheet c = c.put_row.auto.sheet ∙ c.loop.invariant.0.long
 
 pub returns : goal.returns
 returns c =

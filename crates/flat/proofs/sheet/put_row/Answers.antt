@@ -1,19 +1,8 @@
 -- `flat::sheet::put_row` meets its contract.
 use mathlib.Core.Path.{sym}
-use native.Mathlib.Omega.{arith}
-use lib.ListN.{length-set}
 use Rattle.flat.specs.Sheet.{put4}
 use Rattle.flat.proofs.Sheets.{put-fits, put-none}
 use Rattle.flat.proofs.sheet.put_row.Goals as goal
-
-pub bounds-sheet-base-then-base-sheet : goal.bounds-sheet-base-then-base-sheet
-bounds-sheet-base-then-base-sheet c = simp length-set (omega arith)
-
-pub bounds-sheet-base-then-base-sheet-2 : goal.bounds-sheet-base-then-base-sheet-2
-bounds-sheet-base-then-base-sheet-2 c = simp length-set (omega arith)
-
-pub bounds-sheet-base-then-base-sheet-3 : goal.bounds-sheet-base-then-base-sheet-3
-bounds-sheet-base-then-base-sheet-3 c = simp length-set (omega arith)
 
 pub returns-then-base-sheet : goal.returns-then-base-sheet
 unfolding put4
