@@ -2,7 +2,8 @@
 // their laws in proofs/, and the code in the crate `table`.
 #![tactic(auto)]
 
-// A type row: the kind, and the two numbers that its kind uses.
+// A type row: the kind, and the two numbers that its kind uses. The kind is a number and not a `Kind`: a file may hold any, and its row is read before it is
+// judged (`Rattle.schema.specs.Check.good_row`).
 #[derive(Clone, Copy)]
 pub struct TypeRow {
     pub kind: u32,
@@ -10,7 +11,8 @@ pub struct TypeRow {
     pub b: u32,
 }
 
-// A field entry: its type number, and 1 where the field is optional, else 0.
+// A field entry: its type number, and 1 where the field is optional, else 0. It is a number and not a flag: a file may hold any
+// (`Rattle.schema.specs.Check.good_field`).
 #[derive(Clone, Copy, PartialEq, Eq)]
 pub struct Field {
     pub ty: u32,

@@ -1,11 +1,11 @@
-// The rows of a good table by number, and a method by its identifiers. Past the last row there is one of zeros.
+// The rows of a good table by number, for callers that hold a slice. Past the last row there is one of zeros.
 ghost use Rattle.std.specs.Prelude.{◌≡◌, ◌<◌, length};
 ghost use Rattle.schema.specs.Table.{row_at};
 ghost use Rattle.schema.specs.File.{table_of};
-ghost use Rattle.schema.specs.Check.{IsGood, field_row_of, method_row, find_method};
+ghost use Rattle.schema.specs.Check.{IsGood, field_row_of};
 
 use crate::good::Schema;
-use schema::{Field, Method, TypeRow};
+use schema::{Field, TypeRow};
 
 pub fn type_row(s: &[u8], t: usize) -> TypeRow
     requires { IsGood s.now }
@@ -34,19 +34,4 @@ pub fn method_count(s: &[u8]) -> usize
     ensures { result ≡ length (table_of s.now).methods }
 {
     Schema::of_good(s).method_count()
-}
-
-pub fn method(s: &[u8], i: usize) -> Method
-    requires { IsGood s.now }
-    ensures { result ≡ method_row (table_of s.now) i }
-{
-    Schema::of_good(s).method(i)
-}
-
-// The first method with these three identifiers.
-pub fn find_method(s: &[u8], package: u32, service: u32, method: u32) -> Option<usize>
-    requires { IsGood s.now }
-    ensures { result ≡ find_method (table_of s.now) «package» service method }
-{
-    Schema::of_good(s).find_method(package, service, method)
 }

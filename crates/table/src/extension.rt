@@ -2,7 +2,6 @@
 ghost use Rattle.std.specs.Prelude.{◌≡◌, ◌^◌, ◌<◌};
 ghost use Rattle.schema.specs.Table.{row_at, bitmap_bytes};
 ghost use Rattle.schema.specs.File.{table_of};
-ghost use Rattle.schema.specs.Check.{IsGood};
 ghost use Rattle.schema.specs.Extend.{same_field, field_kept, struct_kept, row_kept_of, rows_kept, same_method, method_kept, methods_kept, widened, bitmap_kept, bitmaps_kept, extended, extension};
 ghost use Rattle.table.specs.Told.{told_extends};
 
@@ -130,14 +129,6 @@ impl<'a> Schema<'a> {
         let k = new.sections();
         widens(&l, &k) & keeps_bitmaps(&l, &k)
     }
-}
-
-// The same for two files that were found good before.
-pub fn is_widened(old: &[u8], new: &[u8]) -> bool
-    requires { IsGood old.now × IsGood new.now }
-    ensures { result ≡ widened (table_of old.now) (table_of new.now) }
-{
-    Schema::of_good(old).is_widened(&Schema::of_good(new))
 }
 
 // The answer for any two files: yes or no, or the refusal of the first that is not good, the old one first.

@@ -4,7 +4,7 @@ ghost use Rattle.std.specs.Prelude.{◌≡◌, ◌<◌, false, true, get_or, set
 // So many times may a flag be taken before the search is given up, unless its flags are of numbers mixed.
 const MOST_SEARCHES: usize = 16;
 
-// Which of N flags are taken, and how often one was that was taken before.
+// Which of N flags are taken, and how often one was that was taken before. An array, since the library takes no memory.
 #[derive(Drop)]
 pub struct Marks<const N: usize> {
     pub taken: [bool; N],
