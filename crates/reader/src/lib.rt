@@ -12,12 +12,12 @@ ghost use Rattle.reader.specs.Beside.{shown_outcome};
 ghost use Rattle.reader.specs.Judged.{Judged};
 ghost use Rattle.reader.specs.Told.{told, told_number};
 
-use crate::walk::root;
+use crate::walk::{View, root};
 use constants::kind::Kind;
 use constants::refusal::{Refusal, Refused};
 use constants::{format, limit};
-use flat::Past;
 use flat::sheet::copy_cells;
+use flat::{Past, Source};
 use table::good::Schema;
 
 // All fields that a struct can have.
@@ -57,7 +57,12 @@ fn judge(
     }
     let first = t.a as usize;
     let n = t.b as usize;
-    let past = root(shown, schema.bytes, payload, cells, ty, first, n, true)?;
+    let source = Source {
+        schema: *schema,
+        payload,
+        judging: true,
+    };
+    let past = root(&View { shown, source }, cells, ty, first, n)?;
     if rows < past.row {
         return Refusal::SheetTooShort.at(0);
     }
@@ -84,7 +89,12 @@ fn read_shown(
         let t = schema.type_row(ty as usize);
         let first = t.a as usize;
         let n = t.b as usize;
-        let _ = root(shown, schema.bytes, payload, sheet, ty, first, n, false);
+        let source = Source {
+            schema: *schema,
+            payload,
+            judging: false,
+        };
+        let _ = root(&View { shown, source }, sheet, ty, first, n);
     }
     Ok(Shown {
         rows: past.row,

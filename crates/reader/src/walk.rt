@@ -1,4 +1,4 @@
-// The walkers read the payload p by the schema table s and write rows from `row` on where the sheet has them, of a struct of type ty for the first shown[ty]
+// The walkers read a source's payload by its schema and write rows from `row` on where the sheet has them, of a struct of type ty for the first shown[ty]
 // fields. They call each other in a cycle, in which the depth still allowed falls; a walk that does not judge skips tests that would read contents again.
 ghost use Rattle.std.specs.Prelude.{◌≡◌, true, List, ℕ, suc, ◌+◌, ◌/◌, ◌≤◌, ◌<◌, length, get_or};
 ghost use Rattle.schema.specs.Table.{row_at, array, map, struct};
@@ -14,15 +14,13 @@ use crate::pairs::{needs_walker, read_childless, read_key};
 use constants::kind::Kind;
 use constants::limit;
 use constants::refusal::{Refusal, Refused};
-use flat::Past;
-use flat::added::{is_partly_shown, read_structs};
-use flat::elements::{is_flat, read_elements};
+use flat::added::{First, is_partly_shown, partial_structs};
+use flat::elements::{elements_of, is_flat};
 use flat::leaf::{content, map_count, ones_in, presence, read_count, shown_of};
-use flat::maps::{holds_leaves, read_maps};
+use flat::maps::{MapType, holds_leaves, maps_of};
 use flat::sheet::put_row;
+use flat::{Past, Source};
 use schema::{Layout, TypeRow};
-use table::access::{known_row, type_row};
-use table::file::layout_of;
 use table::rows::field_row;
 use value::MOST_PAIRS;
 use walks::key::FLAG_CELLS;
@@ -33,31 +31,36 @@ const TWO_KEYS: usize = 2;
 
 const FEW_KEYS: usize = 8;
 
+// What a walk reads, and how many of each struct's fields it shows, by the struct's type.
+#[derive(Clone, Copy)]
+pub struct View<'a, 'b> {
+    pub shown: &'b [u8; limit::TYPES],
+    pub source: Source<'a>,
+}
+
 // An array, a map or a struct of type ty, whose row is t; what it holds has so many levels of depth.
 #[cycle(walk)]
 fn read_composite(
-    shown: &[u8; limit::TYPES],
-    s: &[u8],
-    p: &[u8],
+    view: &View,
     sheet: &mut [u32],
     ty: u32,
     t: TypeRow,
     at: usize,
     depth: usize,
     row: usize,
-    judging: bool,
 ) -> Result<Past, Refused>
-    requires { Ready s.now p.now at row judging (value_in s.now p.now (suc depth) ty at) × (t ≡ row_at (table_of s.now) ty) × (13 < t.kind) }
-    ensures { Valued shown.now s.now p.now (suc depth) ty at row sheet.old (told_walk result) sheet.new }
+    requires { Ready view.now.source.schema.bytes.now view.now.source.payload.now at row view.now.source.judging (value_in view.now.source.schema.bytes.now view.now.source.payload.now (suc depth) ty at)
+        × (t ≡ row_at (table_of view.now.source.schema.bytes.now) ty) × (13 < t.kind) }
+    ensures { Valued view.now.shown.now view.now.source.schema.bytes.now view.now.source.payload.now (suc depth) ty at row sheet.old (told_walk result) sheet.new }
 {
     if t.kind == Kind::Array as u32 {
-        return read_array(shown, s, p, sheet, ty, t.a, at, depth, row, judging);
+        return read_array(view, sheet, ty, t.a, at, depth, row);
     }
     if t.kind == Kind::Map as u32 {
-        return read_map(shown, s, p, sheet, ty, t, at, depth, row, judging);
+        return read_map(view, sheet, ty, t, at, depth, row);
     }
     if t.kind == Kind::Struct as u32 {
-        return read_struct(shown, s, p, sheet, ty, t, at, depth, row, judging);
+        return read_struct(view, sheet, ty, t, at, depth, row);
     }
     // A good table has no composite of another kind: this is never reached, and 42 is what the definition has for a type that there is not.
     Refusal::TypeRow.at(0)
@@ -66,48 +69,51 @@ fn read_composite(
 // An array of type ty, whose elements have the type elem.
 #[cycle(walk)]
 fn read_array(
-    shown: &[u8; limit::TYPES],
-    s: &[u8],
-    p: &[u8],
+    view: &View,
     sheet: &mut [u32],
     ty: u32,
     elem: u32,
     at: usize,
     depth: usize,
     row: usize,
-    judging: bool,
 ) -> Result<Past, Refused>
-    requires { Ready s.now p.now at row judging (value_in s.now p.now (suc depth) ty at) × (shape_in s.now ty ≡ array elem) × (0 < (row_at (table_of s.now) elem).kind) }
-    ensures { Valued shown.now s.now p.now (suc depth) ty at row sheet.old (told_walk result) sheet.new }
+    requires { Ready view.now.source.schema.bytes.now view.now.source.payload.now at row view.now.source.judging (value_in view.now.source.schema.bytes.now view.now.source.payload.now (suc depth) ty at)
+        × (shape_in view.now.source.schema.bytes.now ty ≡ array elem) × (0 < (row_at (table_of view.now.source.schema.bytes.now) elem).kind) }
+    ensures { Valued view.now.shown.now view.now.source.schema.bytes.now view.now.source.payload.now (suc depth) ty at row sheet.old (told_walk result) sheet.new }
 {
-    let count = read_count(p, at, 1)?;
+    let s = view.source.schema.bytes;
+    let count = read_count(view.source.payload, at, 1)?;
     let n = count.n;
     let start = count.start;
-    let t = type_row(s, elem as usize);
+    let t = view.source.schema.type_row(elem as usize);
     if t.kind < Kind::Array as u32 {
-        return read_elements(s, p, sheet, ty, elem, n, start, depth, row, judging);
+        return elements_of(&view.source, sheet, ty, elem, n, start, depth, row);
     }
-    if is_flat(shown, s, elem, depth) {
-        return read_elements(s, p, sheet, ty, elem, n, start, depth, row, judging);
+    if is_flat(view.shown, s, elem, depth) {
+        return elements_of(&view.source, sheet, ty, elem, n, start, depth, row);
     }
-    if is_partly_shown(shown, s, elem, depth) {
-        let m = shown_of(shown, elem);
-        return read_structs(s, p, sheet, ty, elem, m, n, start, depth, row, judging);
+    if is_partly_shown(view.shown, s, elem, depth) {
+        let first = First {
+            elem,
+            m: shown_of(view.shown, elem),
+        };
+        return partial_structs(&view.source, sheet, ty, first, n, start, depth, row);
     }
     if holds_leaves(s, t) {
-        return read_maps(
-            s, p, sheet, ty, elem, t.a, t.b, n, start, depth, row, judging,
-        );
+        let m = MapType {
+            ty: elem,
+            key: t.a,
+            val: t.b,
+        };
+        return maps_of(&view.source, sheet, ty, m, n, start, depth, row);
     }
-    read_composites(shown, s, p, sheet, ty, elem, n, start, depth, row, judging)
+    read_composites(view, sheet, ty, elem, n, start, depth, row)
 }
 
 // The n elements of an array, composites of the type elem.
 #[cycle(walk)]
 fn read_composites(
-    shown: &[u8; limit::TYPES],
-    s: &[u8],
-    p: &[u8],
+    view: &View,
     sheet: &mut [u32],
     ty: u32,
     elem: u32,
@@ -115,13 +121,13 @@ fn read_composites(
     start: usize,
     depth: usize,
     row: usize,
-    judging: bool,
 ) -> Result<Past, Refused>
-    requires ready { Ready s.now p.now start (row + 1) judging (whole_in s.now p.now depth ty (array elem) start n start) × (n ≤ 16384) }
-    requires bound { 13 < (row_at (table_of s.now) elem).kind }
-    ensures { Held shown.now s.now p.now depth ty (array elem) start n start row sheet.old (told_walk result) sheet.new }
+    requires ready { Ready view.now.source.schema.bytes.now view.now.source.payload.now start (row + 1) view.now.source.judging (whole_in view.now.source.schema.bytes.now view.now.source.payload.now depth ty (array elem) start n start)
+        × (n ≤ 16384) }
+    requires bound { 13 < (row_at (table_of view.now.source.schema.bytes.now) elem).kind }
+    ensures { Held view.now.shown.now view.now.source.schema.bytes.now view.now.source.payload.now depth ty (array elem) start n start row sheet.old (told_walk result) sheet.new }
 {
-    let t = known_row(s, elem as usize);
+    let t = view.source.schema.known_row(elem as usize);
     let mut here = start;
     let mut below = row + 1;
     let mut sum: u32 = 0;
@@ -129,7 +135,7 @@ fn read_composites(
         if depth == 0 {
             return Refusal::TooDeep.at(here);
         }
-        let past = read_composite(shown, s, p, sheet, elem, t, here, depth - 1, below, judging)?;
+        let past = read_composite(view, sheet, elem, t, here, depth - 1, below)?;
         here = past.next;
         below = past.row;
         sum = sum + past.due;
@@ -145,21 +151,19 @@ fn read_composites(
 // A map of type ty, whose row is t, of at most 64 pairs.
 #[cycle(walk)]
 fn read_map(
-    shown: &[u8; limit::TYPES],
-    s: &[u8],
-    p: &[u8],
+    view: &View,
     sheet: &mut [u32],
     ty: u32,
     t: TypeRow,
     at: usize,
     depth: usize,
     row: usize,
-    judging: bool,
 ) -> Result<Past, Refused>
-    requires { Ready s.now p.now at row judging (value_in s.now p.now (suc depth) ty at) × (t ≡ row_at (table_of s.now) ty) × (t.kind ≡ 15) }
-    ensures { Valued shown.now s.now p.now (suc depth) ty at row sheet.old (told_walk result) sheet.new }
+    requires { Ready view.now.source.schema.bytes.now view.now.source.payload.now at row view.now.source.judging (value_in view.now.source.schema.bytes.now view.now.source.payload.now (suc depth) ty at)
+        × (t ≡ row_at (table_of view.now.source.schema.bytes.now) ty) × (t.kind ≡ 15) }
+    ensures { Valued view.now.shown.now view.now.source.schema.bytes.now view.now.source.payload.now (suc depth) ty at row sheet.old (told_walk result) sheet.new }
 {
-    let count = map_count(p, at)?;
+    let count = map_count(view.source.payload, at)?;
     let n = count.n;
     let start = count.start;
     if MOST_PAIRS < n {
@@ -174,20 +178,21 @@ fn read_map(
         });
     }
     if n <= TWO_KEYS {
+        let m = MapType {
+            ty,
+            key: t.a,
+            val: t.b,
+        };
         let mut keys = [0usize; 2 * (TWO_KEYS + FLAG_CELLS)];
-        return read_pairs(
-            shown, s, p, sheet, &mut keys, ty, t.a, t.b, n, start, depth, row, judging,
-        );
+        return read_pairs(view, sheet, &mut keys, m, n, start, depth, row);
     }
-    read_more_pairs(shown, s, p, sheet, ty, t, n, start, depth, row, judging)
+    read_more_pairs(view, sheet, ty, t, n, start, depth, row)
 }
 
 // The n pairs of a map, more than two: the longer arrays of keys stand here, so that no other map has to clear them.
 #[cycle(walk)]
 fn read_more_pairs(
-    shown: &[u8; limit::TYPES],
-    s: &[u8],
-    p: &[u8],
+    view: &View,
     sheet: &mut [u32],
     ty: u32,
     t: TypeRow,
@@ -195,48 +200,47 @@ fn read_more_pairs(
     start: usize,
     depth: usize,
     row: usize,
-    judging: bool,
 ) -> Result<Past, Refused>
-    requires ready { Ready s.now p.now start (row + 1) judging (whole_in s.now p.now depth ty (map t.a t.b) start n start) }
-    requires kind_nonzero { (0 < (row_at (table_of s.now) t.a).kind) × ((row_at (table_of s.now) t.a).kind < 14) × (0 < (row_at (table_of s.now) t.b).kind) × (0 < n) × (n ≤ 64) }
-    ensures { Held shown.now s.now p.now depth ty (map t.a t.b) start n start row sheet.old (told_walk result) sheet.new }
+    requires ready { Ready view.now.source.schema.bytes.now view.now.source.payload.now start (row + 1) view.now.source.judging (whole_in view.now.source.schema.bytes.now view.now.source.payload.now depth ty (map t.a t.b) start n start) }
+    requires kind_nonzero { (0 < (row_at (table_of view.now.source.schema.bytes.now) t.a).kind) × ((row_at (table_of view.now.source.schema.bytes.now) t.a).kind < 14)
+        × (0 < (row_at (table_of view.now.source.schema.bytes.now) t.b).kind) × (0 < n) × (n ≤ 64) }
+    ensures { Held view.now.shown.now view.now.source.schema.bytes.now view.now.source.payload.now depth ty (map t.a t.b) start n start row sheet.old (told_walk result) sheet.new }
 {
+    let m = MapType {
+        ty,
+        key: t.a,
+        val: t.b,
+    };
     if n <= FEW_KEYS {
         let mut keys = [0usize; 2 * (FEW_KEYS + FLAG_CELLS)];
-        return read_pairs(
-            shown, s, p, sheet, &mut keys, ty, t.a, t.b, n, start, depth, row, judging,
-        );
+        return read_pairs(view, sheet, &mut keys, m, n, start, depth, row);
     }
     let mut keys = [0usize; 2 * (MOST_PAIRS + FLAG_CELLS)];
-    read_pairs(
-        shown, s, p, sheet, &mut keys, ty, t.a, t.b, n, start, depth, row, judging,
-    )
+    read_pairs(view, sheet, &mut keys, m, n, start, depth, row)
 }
 
 // The n pairs of a map from a place on; what `keys` holds afterwards means nothing. A value that is an empty map takes no call of the cycle.
 #[cycle(walk)]
 fn read_pairs(
-    shown: &[u8; limit::TYPES],
-    s: &[u8],
-    p: &[u8],
+    view: &View,
     sheet: &mut [u32],
     keys: &mut [usize],
-    ty: u32,
-    key: u32,
-    val: u32,
+    m: MapType,
     n: usize,
     start: usize,
     depth: usize,
     row: usize,
-    judging: bool,
 ) -> Result<Past, Refused>
-    requires ready { Ready s.now p.now start (row + 1) judging (whole_in s.now p.now depth ty (map key val) start n start) }
-    requires kind_nonzero { (0 < (row_at (table_of s.now) key).kind) × ((row_at (table_of s.now) key).kind < 14) × (0 < (row_at (table_of s.now) val).kind) × (0 < n) × (n ≤ 64) }
-    requires n_in_bounds { judging ≡ true → n + 4 ≤ length keys.old / 2 }
-    ensures { Held shown.now s.now p.now depth ty (map key val) start n start row sheet.old (told_walk result) sheet.new }
+    requires ready { Ready view.now.source.schema.bytes.now view.now.source.payload.now start (row + 1) view.now.source.judging (whole_in view.now.source.schema.bytes.now view.now.source.payload.now depth m.ty (map m.key m.val) start n start) }
+    requires kind_nonzero { (0 < (row_at (table_of view.now.source.schema.bytes.now) m.key).kind) × ((row_at (table_of view.now.source.schema.bytes.now) m.key).kind < 14)
+        × (0 < (row_at (table_of view.now.source.schema.bytes.now) m.val).kind) × (0 < n) × (n ≤ 64) }
+    requires n_in_bounds { view.now.source.judging ≡ true → n + 4 ≤ length keys.old / 2 }
+    ensures { Held view.now.shown.now view.now.source.schema.bytes.now view.now.source.payload.now depth m.ty (map m.key m.val) start n start row sheet.old (told_walk result) sheet.new }
 {
-    let k = known_row(s, key as usize);
-    let v = known_row(s, val as usize);
+    let p = view.source.payload;
+    let judging = view.source.judging;
+    let k = view.source.schema.known_row(m.key as usize);
+    let v = view.source.schema.known_row(m.val as usize);
     let mut here = start;
     let mut below = row + 1;
     let mut sum: u32 = 0;
@@ -244,21 +248,21 @@ fn read_pairs(
         if depth == 0 {
             return Refusal::TooDeep.at(here);
         }
-        let key_content = read_key(p, sheet, keys, key, k, i, here, below, judging)?;
+        let key_content = read_key(p, sheet, keys, m.key, k, i, here, below, judging)?;
         here = key_content.to;
         below = below + 1;
         if needs_walker(p, v, here) {
-            let past = read_composite(shown, s, p, sheet, val, v, here, depth - 1, below, judging)?;
+            let past = read_composite(view, sheet, m.val, v, here, depth - 1, below)?;
             here = past.next;
             below = past.row;
             sum = sum + past.due;
         } else {
-            let content = read_childless(p, sheet, val, v, here, below, judging)?;
+            let content = read_childless(p, sheet, m.val, v, here, below, judging)?;
             here = content.to;
             below = below + 1;
         }
     }
-    put_row(sheet, row, ty, start, here - start, n);
+    put_row(sheet, row, m.ty, start, here - start, n);
     Ok(Past {
         due: sum + (n * (n - 1) / 2) as u32,
         next: here,
@@ -282,23 +286,28 @@ struct Fields {
 // An inner struct of type ty, whose row is t. An unknown bit is refused.
 #[cycle(walk)]
 fn read_struct(
-    shown: &[u8; limit::TYPES],
-    s: &[u8],
-    p: &[u8],
+    view: &View,
     sheet: &mut [u32],
     ty: u32,
     t: TypeRow,
     at: usize,
     depth: usize,
     row: usize,
-    judging: bool,
 ) -> Result<Past, Refused>
-    requires { Ready s.now p.now at row judging (value_in s.now p.now (suc depth) ty at) × (t ≡ row_at (table_of s.now) ty) × (t.kind ≡ 16) }
-    ensures { Valued shown.now s.now p.now (suc depth) ty at row sheet.old (told_walk result) sheet.new }
+    requires { Ready view.now.source.schema.bytes.now view.now.source.payload.now at row view.now.source.judging (value_in view.now.source.schema.bytes.now view.now.source.payload.now (suc depth) ty at)
+        × (t ≡ row_at (table_of view.now.source.schema.bytes.now) ty) × (t.kind ≡ 16) }
+    ensures { Valued view.now.shown.now view.now.source.schema.bytes.now view.now.source.payload.now (suc depth) ty at row sheet.old (told_walk result) sheet.new }
 {
     let first = t.a as usize;
     let n = t.b as usize;
-    let bits = presence(s, p, first, n, at, judging)?;
+    let bits = presence(
+        view.source.schema.bytes,
+        view.source.payload,
+        first,
+        n,
+        at,
+        view.source.judging,
+    )?;
     if bits.unknown != 0 {
         return Refusal::UnknownBit.at(at);
     }
@@ -311,35 +320,32 @@ fn read_struct(
         place: at,
         start: bits.start,
     };
-    if shown_of(shown, ty) < n {
-        return read_shown_fields(shown, s, p, sheet, f, depth, row, judging);
+    if shown_of(view.shown, ty) < n {
+        return read_shown_fields(view, sheet, f, depth, row);
     }
-    read_fields(shown, s, p, sheet, f, depth, row, judging)
+    read_fields(view, sheet, f, depth, row)
 }
 
 // The fields of a struct, and its own row.
 #[cycle(walk)]
 fn read_fields(
-    shown: &[u8; limit::TYPES],
-    s: &[u8],
-    p: &[u8],
+    view: &View,
     sheet: &mut [u32],
     f: Fields,
     depth: usize,
     row: usize,
-    judging: bool,
 ) -> Result<Past, Refused>
-    requires { ReadyFor s.now p.now depth f row judging × OfCount s.now f }
-    ensures { HeldBy shown.now s.now p.now depth f row sheet.old (told_walk result) sheet.new }
+    requires { ReadyFor view.now.source.schema.bytes.now view.now.source.payload.now depth f row view.now.source.judging × OfCount view.now.source.schema.bytes.now f }
+    ensures { HeldBy view.now.shown.now view.now.source.schema.bytes.now view.now.source.payload.now depth f row sheet.old (told_walk result) sheet.new }
 {
-    let l = layout_of(s);
+    let l = view.source.schema.layout();
     let mut bits = f.known;
     let mut here = f.start;
     let mut below = row + 1;
     let mut sum: u32 = 0;
     for i in f.first..f.first + f.n {
         if bits % 2 == 1 {
-            let past = read_field(shown, s, l, p, sheet, i, here, depth, below, judging)?;
+            let past = read_field(view, l, sheet, i, here, depth, below)?;
             here = past.next;
             below = past.row;
             sum = sum + past.due;
@@ -357,29 +363,32 @@ fn read_fields(
 // The field i of a struct. Most fields are scalars, strings or bytes: these are read here, without a call of their own.
 #[cycle(walk)]
 fn read_field(
-    shown: &[u8; limit::TYPES],
-    s: &[u8],
+    view: &View,
     l: Layout,
-    p: &[u8],
     sheet: &mut [u32],
     i: usize,
     at: usize,
     depth: usize,
     row: usize,
-    judging: bool,
 ) -> Result<Past, Refused>
-    requires { Ready s.now p.now at row judging (value_in s.now p.now depth (field_row_of (table_of s.now) i).ty at) × Laid s.now l × (0 < (row_at (table_of s.now) (field_row_of (table_of s.now) i).ty).kind) }
-    ensures { Valued shown.now s.now p.now depth (field_row_of (table_of s.now) i).ty at row sheet.old (told_walk result) sheet.new }
+    requires { Ready view.now.source.schema.bytes.now view.now.source.payload.now at row view.now.source.judging (value_in view.now.source.schema.bytes.now view.now.source.payload.now depth (field_row_of (table_of view.now.source.schema.bytes.now) i).ty at)
+        × Laid view.now.source.schema.bytes.now l × (0 < (row_at (table_of view.now.source.schema.bytes.now) (field_row_of (table_of view.now.source.schema.bytes.now) i).ty).kind) }
+    ensures { Valued view.now.shown.now view.now.source.schema.bytes.now view.now.source.payload.now depth (field_row_of (table_of view.now.source.schema.bytes.now) i).ty at row sheet.old (told_walk result) sheet.new }
 {
     if depth == 0 {
         return Refusal::TooDeep.at(at);
     }
-    let ty = field_row(s, l, i).ty;
-    let t = known_row(s, ty as usize);
+    let ty = field_row(view.source.schema.bytes, l, i).ty;
+    let t = view.source.schema.known_row(ty as usize);
     if t.kind > Kind::Bytes as u32 {
-        return read_composite(shown, s, p, sheet, ty, t, at, depth - 1, row, judging);
+        return read_composite(view, sheet, ty, t, at, depth - 1, row);
     }
-    let content = content(p, t.kind as usize, at, judging)?;
+    let content = content(
+        view.source.payload,
+        t.kind as usize,
+        at,
+        view.source.judging,
+    )?;
     put_row(sheet, row, ty, content.from, content.to - content.from, 0);
     Ok(Past {
         due: 0,
@@ -391,19 +400,16 @@ fn read_field(
 // The fields of a struct of which fewer are shown than it has: the others are read without a row. The struct's own row is written again, with its whole length.
 #[cycle(walk)]
 fn read_shown_fields(
-    shown: &[u8; limit::TYPES],
-    s: &[u8],
-    p: &[u8],
+    view: &View,
     sheet: &mut [u32],
     f: Fields,
     depth: usize,
     row: usize,
-    judging: bool,
 ) -> Result<Past, Refused>
-    requires { ReadyFor s.now p.now depth f row judging × OfType s.now f × (get_or shown.now f.ty 0 < f.n) }
-    ensures { ShownBy shown.now s.now p.now depth f row sheet.old (told_walk result) sheet.new }
+    requires { ReadyFor view.now.source.schema.bytes.now view.now.source.payload.now depth f row view.now.source.judging × OfType view.now.source.schema.bytes.now f × (get_or view.now.shown.now f.ty 0 < f.n) }
+    ensures { ShownBy view.now.shown.now view.now.source.schema.bytes.now view.now.source.payload.now depth f row sheet.old (told_walk result) sheet.new }
 {
-    let m = shown_of(shown, f.ty);
+    let m = shown_of(view.shown, f.ty);
     let mine = low_bits(f.known, m);
     let ones = ones_in(mine);
     let ours = Fields {
@@ -415,8 +421,8 @@ fn read_shown_fields(
         place: f.place,
         start: f.start,
     };
-    let past = read_fields(shown, s, p, sheet, ours, depth, row, judging)?;
-    let added = read_added(shown, s, p, f, past.next, depth, row, judging)?;
+    let past = read_fields(view, sheet, ours, depth, row)?;
+    let added = read_added(view, f, past.next, depth, row)?;
     put_row(sheet, row, f.ty, f.place, added.next - f.place, ones);
     Ok(Past {
         due: past.due + added.due,
@@ -427,21 +433,12 @@ fn read_shown_fields(
 
 // The fields of a struct after those that are shown, from a place on. They have no rows: none is lent to write them into.
 #[cycle(walk)]
-fn read_added(
-    shown: &[u8; limit::TYPES],
-    s: &[u8],
-    p: &[u8],
-    f: Fields,
-    at: usize,
-    depth: usize,
-    row: usize,
-    judging: bool,
-) -> Result<Past, Refused>
-    requires ready_for { ReadyFor s.now p.now depth (added_to f (get_or shown.now f.ty 0) at) row judging }
-    requires ty_bound { (f.ty < 256) × (f.n ≤ 64) × (get_or shown.now f.ty 0 < f.n) }
-    ensures { (l : List ℕ) × (after : List ℕ) × HeldBy shown.now s.now p.now depth (added_to f (get_or shown.now f.ty 0) at) row l (told_walk result) after }
+fn read_added(view: &View, f: Fields, at: usize, depth: usize, row: usize) -> Result<Past, Refused>
+    requires ready_for { ReadyFor view.now.source.schema.bytes.now view.now.source.payload.now depth (added_to f (get_or view.now.shown.now f.ty 0) at) row view.now.source.judging }
+    requires ty_bound { (f.ty < 256) × (f.n ≤ 64) × (get_or view.now.shown.now f.ty 0 < f.n) }
+    ensures { (l : List ℕ) × (after : List ℕ) × HeldBy view.now.shown.now view.now.source.schema.bytes.now view.now.source.payload.now depth (added_to f (get_or view.now.shown.now f.ty 0) at) row l (told_walk result) after }
 {
-    let m = shown_of(shown, f.ty);
+    let m = shown_of(view.shown, f.ty);
     let rest = low_bits(f.known >> m, f.n - m);
     let added = Fields {
         ty: f.ty,
@@ -453,7 +450,7 @@ fn read_added(
         start: at,
     };
     let mut none = [0u32; 1];
-    read_fields(shown, s, p, &mut none[..0], added, depth, row, judging)
+    read_fields(view, &mut none[..0], added, depth, row)
 }
 
 // The root after its known fields, as these were read. Each unknown bit asks for a byte or more of a tail; without one there is none.
@@ -472,39 +469,37 @@ fn end_root(p: &[u8], past: Past, unknown: usize) -> Result<Past, Refused>
 }
 
 // The fields of the root, all of them or those that are shown. `read_struct` chooses for itself: a function with two callers would copy the fields once more.
-fn read_root_fields(
-    shown: &[u8; limit::TYPES],
-    s: &[u8],
-    p: &[u8],
-    sheet: &mut [u32],
-    f: Fields,
-    judging: bool,
-) -> Result<Past, Refused>
-    requires { ReadyFor s.now p.now 15 f 0 judging × OfType s.now f × OfCount s.now f }
-    ensures { ShownBy shown.now s.now p.now 15 f 0 sheet.old (told_walk result) sheet.new }
+fn read_root_fields(view: &View, sheet: &mut [u32], f: Fields) -> Result<Past, Refused>
+    requires { ReadyFor view.now.source.schema.bytes.now view.now.source.payload.now 15 f 0 view.now.source.judging × OfType view.now.source.schema.bytes.now f × OfCount view.now.source.schema.bytes.now f }
+    ensures { ShownBy view.now.shown.now view.now.source.schema.bytes.now view.now.source.payload.now 15 f 0 sheet.old (told_walk result) sheet.new }
 {
-    if shown_of(shown, f.ty) < f.n {
-        return read_shown_fields(shown, s, p, sheet, f, limit::BELOW_ROOT, 0, judging);
+    if shown_of(view.shown, f.ty) < f.n {
+        return read_shown_fields(view, sheet, f, limit::BELOW_ROOT, 0);
     }
-    read_fields(shown, s, p, sheet, f, limit::BELOW_ROOT, 0, judging)
+    read_fields(view, sheet, f, limit::BELOW_ROOT, 0)
 }
 
 // The root, a struct of type ty that has n fields from the first on. What follows its known fields is the tail, which is not read.
 pub fn root(
-    shown: &[u8; limit::TYPES],
-    s: &[u8],
-    p: &[u8],
+    view: &View,
     sheet: &mut [u32],
     ty: u32,
     first: usize,
     n: usize,
-    judging: bool,
 ) -> Result<Past, Refused>
-    requires ready { Ready s.now p.now 0 0 judging (root_in s.now p.now ty (fields_from (table_of s.now) first n)) }
-    requires ty_value { (shape_in s.now ty ≡ struct (fields_from (table_of s.now) first n)) × (0 < n) × (n ≤ 64) × (first + n ≤ length (table_of s.now).fields) }
-    ensures { Rooted shown.now s.now p.now ty (fields_from (table_of s.now) first n) sheet.old (told_walk result) sheet.new }
+    requires ready { Ready view.now.source.schema.bytes.now view.now.source.payload.now 0 0 view.now.source.judging (root_in view.now.source.schema.bytes.now view.now.source.payload.now ty (fields_from (table_of view.now.source.schema.bytes.now) first n)) }
+    requires ty_value { (shape_in view.now.source.schema.bytes.now ty ≡ struct (fields_from (table_of view.now.source.schema.bytes.now) first n)) × (0 < n) × (n ≤ 64)
+        × (first + n ≤ length (table_of view.now.source.schema.bytes.now).fields) }
+    ensures { Rooted view.now.shown.now view.now.source.schema.bytes.now view.now.source.payload.now ty (fields_from (table_of view.now.source.schema.bytes.now) first n) sheet.old (told_walk result) sheet.new }
 {
-    let bits = presence(s, p, first, n, 0, judging)?;
+    let bits = presence(
+        view.source.schema.bytes,
+        view.source.payload,
+        first,
+        n,
+        0,
+        view.source.judging,
+    )?;
     let f = Fields {
         ty,
         first,
@@ -514,6 +509,6 @@ pub fn root(
         place: 0,
         start: bits.start,
     };
-    let past = read_root_fields(shown, s, p, sheet, f, judging)?;
-    end_root(p, past, bits.unknown)
+    let past = read_root_fields(view, sheet, f)?;
+    end_root(view.source.payload, past, bits.unknown)
 }

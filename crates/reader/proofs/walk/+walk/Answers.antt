@@ -38,64 +38,64 @@ use Rattle.reader.proofs.walk.+walk.Goals as goal
 entered : (t : ℕ) (c : read_array-After-type_row-t t) →
     let args = c.args in
     let is = c.in_ok-count.count in
-    Entered args.shown.now args.s.now args.p.now args.depth args.ty (array args.elem) args.at args.row is.n is.start args.judging × (is.n ≤ 16384)
+    Entered args.view.now.shown.now args.view.now.source.schema.bytes.now args.view.now.source.payload.now args.depth args.ty (array args.elem) args.at args.row is.n is.start args.view.now.source.judging × (is.n ≤ 16384)
 entered t c =
     let args = c.args in
     let asked = c.requires in
     let read = c.read_count.ensures.told in
     let n = ap told_count c.in_ok-count.was in
-    (array-entered args.depth args.ty asked.0 asked.1 read args.shown.now n, array-few args.depth args.ty asked.0 asked.1 read args.shown.now n)
+    (array-entered args.depth args.ty asked.0 asked.1 read args.view.now.shown.now n, array-few args.depth args.ty asked.0 asked.1 read args.view.now.shown.now n)
 
 -- After an element.
 element-read : (t : ℕ) (c : read_composites-After-read_composite t) →
     let args = c.args in
     let loop = c.loop in
-    (R : ℕ → Shape) → By args.shown.now args.s.now R
-    → Walked args.p.now (loop.here + 1) (told R (shape_in args.s.now) args.elem) (value_in args.s.now args.p.now args.depth args.elem loop.here) loop.below
+    (R : ℕ → Shape) → By args.view.now.shown.now args.view.now.source.schema.bytes.now R
+    → Walked args.view.now.source.payload.now (loop.here + 1) (told R (shape_in args.view.now.source.schema.bytes.now) args.elem) (value_in args.view.now.source.schema.bytes.now args.view.now.source.payload.now args.depth args.elem loop.here) loop.below
     loop.sheet (told_walk c.read_composite.result) c.read_composite.new.sheet
 element-read t c =
     let args = c.args in
-    value-told args.shown.now args.s.now args.depth args.elem _ c.if-depth-eq0.false c.read_composite.ensures refl refl
+    value-told args.view.now.shown.now args.view.now.source.schema.bytes.now args.depth args.elem _ c.if-depth-eq0.false c.read_composite.ensures refl refl
 
 -- A field that is a scalar, a string or bytes: what is asked before it is read, and what its answer tells.
 abbrev Leaf : ℕ → Type 0
 Leaf t = read_field-Else-t t
 
-leaf-ready : (t : ℕ) (c : Leaf t) → let args = c.args in ChildlessReady args.p.now c.known_row-t.result args.at args.row args.judging
+leaf-ready : (t : ℕ) (c : Leaf t) → let args = c.args in ChildlessReady args.view.now.source.payload.now c.known_row-t.result args.at args.row args.view.now.source.judging
 leaf-ready t c =
     let args = c.args in
     let field = c.field_row-ty in
-    childless-ready args.s.now (args.depth - 1) field.result.ty c.known_row-t.ensures (rw field.ensures c.requires.2) (inl (omega (arith, c.if-t.false)))
-    (field_below args.s.now args.depth args.at field.ensures c.if-depth-eq0.false c.requires.0)
+    childless-ready args.view.now.source.schema.bytes.now (args.depth - 1) field.result.ty c.known_row-t.ensures (rw field.ensures c.requires.2) (inl (omega (arith, c.if-t.false)))
+    (field_below args.view.now.source.schema.bytes.now args.depth args.at field.ensures c.if-depth-eq0.false c.requires.0)
 
 leaf-told : (t : ℕ) (c : Leaf t) {l : List ℕ} {r : Span} {m : List ℕ} →
     let args = c.args in
-    ChildlessRead args.p.now c.field_row-ty.result.ty c.known_row-t.result args.at args.row l r m
-    → Valued args.shown.now args.s.now args.p.now args.depth (field_row_of (table_of args.s.now) args.i).ty args.at args.row l (walk_of_span args.row r) m
+    ChildlessRead args.view.now.source.payload.now c.field_row-ty.result.ty c.known_row-t.result args.at args.row l r m
+    → Valued args.view.now.shown.now args.view.now.source.schema.bytes.now args.view.now.source.payload.now args.depth (field_row_of (table_of args.view.now.source.schema.bytes.now) args.i).ty args.at args.row l (walk_of_span args.row r) m
 leaf-told t c read =
     let args = c.args in
     let field = c.field_row-ty in
-    field_told args.s.now args.depth args.at field.ensures c.if-depth-eq0.false args.shown.now
-    (childless-valued args.s.now (args.depth - 1) field.result.ty c.known_row-t.ensures (rw field.ensures c.requires.2) (inl (omega (arith, c.if-t.false)))
-    args.shown.now read)
+    field_told args.view.now.source.schema.bytes.now args.depth args.at field.ensures c.if-depth-eq0.false args.view.now.shown.now
+    (childless-valued args.view.now.source.schema.bytes.now (args.depth - 1) field.result.ty c.known_row-t.ensures (rw field.ensures c.requires.2) (inl (omega (arith, c.if-t.false)))
+    args.view.now.shown.now read)
 
 -- A field that is an array, a map or a struct.
 held-told : (t : ℕ) (c : read_field-After-read_composite t) →
     let args = c.args in
-    Valued args.shown.now args.s.now args.p.now args.depth (field_row_of (table_of args.s.now) args.i).ty args.at args.row args.sheet.now
+    Valued args.view.now.shown.now args.view.now.source.schema.bytes.now args.view.now.source.payload.now args.depth (field_row_of (table_of args.view.now.source.schema.bytes.now) args.i).ty args.at args.row args.sheet.now
     (told_walk c.read_composite.result) c.read_composite.new.sheet
 held-told t c =
     let args = c.args in
-    field_told args.s.now args.depth args.at c.field_row-ty.ensures c.if-depth-eq0.false args.shown.now c.read_composite.ensures
+    field_told args.view.now.source.schema.bytes.now args.depth args.at c.field_row-ty.ensures c.if-depth-eq0.false args.view.now.shown.now c.read_composite.ensures
 
 -- After the count of a map of at most 64 pairs.
 opened : (t : ℕ) (c : read_map-Else-n-gt-MOST_PAIRS t) →
     let args = c.args in
     let is = c.in_ok-count.count in
-    Entered args.shown.now args.s.now args.p.now args.depth args.ty (map args.t.a args.t.b) args.at args.row is.n is.start args.judging
+    Entered args.view.now.shown.now args.view.now.source.schema.bytes.now args.view.now.source.payload.now args.depth args.ty (map args.t.a args.t.b) args.at args.row is.n is.start args.view.now.source.judging
 opened t c =
     let args = c.args in
-    map-entered args.depth args.ty c.requires c.map_count.ensures.told args.shown.now (ap told_count c.in_ok-count.was) c.if-n-gt-MOST_PAIRS.false
+    map-entered args.depth args.ty c.requires c.map_count.ensures.told args.view.now.shown.now (ap told_count c.in_ok-count.was) c.if-n-gt-MOST_PAIRS.false
 
 -- After a pair's key, and after its value by either way to read it.
 abbrev Keyed : ℕ → Type 0
@@ -105,7 +105,7 @@ keyed : (t : ℕ) (c : Keyed t) →
     let args = c.args in
     let loop = c.loop-i in
     let key = c.read_key in
-    Midway (By args.shown.now args.s.now) args.s.now args.p.now args.depth args.ty args.key args.val args.n args.start args.row args.judging
+    Midway (By args.view.now.shown.now args.view.now.source.schema.bytes.now) args.view.now.source.schema.bytes.now args.view.now.source.payload.now args.depth args.m.ty args.m.key args.m.val args.n args.start args.row args.view.now.source.judging
     args.sheet.now key.new.keys loop.i c.in_ok-key_content.key_content.to loop.sum (loop.below + 1) key.new.sheet
 keyed t c = key-past c.loop-i.invariant.0 c.loop-i-test.true c.if-depth-eq0.false c.known_row-k.ensures c.read_key.ensures (ap told_span c.in_ok-key_content.was)
 
@@ -113,25 +113,25 @@ walked : (t : ℕ) (c : Keyed t) {r : Walk} {m : List ℕ} →
     let args = c.args in
     let below = c.loop-i.below + 1 in
     let to = c.in_ok-key_content.key_content.to in
-    Valued args.shown.now args.s.now args.p.now (suc (args.depth - 1)) args.val to below c.read_key.new.sheet r m
-    → (R : ℕ → Shape) → By args.shown.now args.s.now R
-    → Walked args.p.now (to + 1) (told R (shape_in args.s.now) args.val) (value_in args.s.now args.p.now args.depth args.val to) below c.read_key.new.sheet r m
+    Valued args.view.now.shown.now args.view.now.source.schema.bytes.now args.view.now.source.payload.now (suc (args.depth - 1)) args.m.val to below c.read_key.new.sheet r m
+    → (R : ℕ → Shape) → By args.view.now.shown.now args.view.now.source.schema.bytes.now R
+    → Walked args.view.now.source.payload.now (to + 1) (told R (shape_in args.view.now.source.schema.bytes.now) args.m.val) (value_in args.view.now.source.schema.bytes.now args.view.now.source.payload.now args.depth args.m.val to) below c.read_key.new.sheet r m
 walked t c read =
     let args = c.args in
-    value-told args.shown.now args.s.now args.depth args.val _ c.if-depth-eq0.false read refl refl
+    value-told args.view.now.shown.now args.view.now.source.schema.bytes.now args.depth args.m.val _ c.if-depth-eq0.false read refl refl
 
 childless : (t : ℕ) (c : Keyed t) {r : Span} {m : List ℕ} →
     let args = c.args in
     let below = c.loop-i.below + 1 in
     let to = c.in_ok-key_content.key_content.to in
-    IsChildless args.p.now c.known_row-v.result.kind to
-    → ChildlessRead args.p.now args.val c.known_row-v.result to below c.read_key.new.sheet r m
-    → (R : ℕ → Shape) → By args.shown.now args.s.now R
-    → Walked args.p.now (to + 1) (told R (shape_in args.s.now) args.val) (value_in args.s.now args.p.now args.depth args.val to) below c.read_key.new.sheet
+    IsChildless args.view.now.source.payload.now c.known_row-v.result.kind to
+    → ChildlessRead args.view.now.source.payload.now args.m.val c.known_row-v.result to below c.read_key.new.sheet r m
+    → (R : ℕ → Shape) → By args.view.now.shown.now args.view.now.source.schema.bytes.now R
+    → Walked args.view.now.source.payload.now (to + 1) (told R (shape_in args.view.now.source.schema.bytes.now) args.m.val) (value_in args.view.now.source.schema.bytes.now args.view.now.source.payload.now args.depth args.m.val to) below c.read_key.new.sheet
     (walk_of_span below r) m
 childless t c plain read =
     let args = c.args in
-    walked t c (childless-valued args.s.now (args.depth - 1) args.val c.known_row-v.ensures c.requires.kind_nonzero.2 plain args.shown.now read)
+    walked t c (childless-valued args.view.now.source.schema.bytes.now (args.depth - 1) args.m.val c.known_row-v.ensures c.requires.kind_nonzero.2 plain args.view.now.shown.now read)
 
 -- After a struct's bitmap.
 bits-read : (t : ℕ) (c : read_struct-In_ok-bits t) → let b = c.in_ok-bits.bits in told_head c.presence.result ≡ Bits b.word b.known b.ones b.unknown b.start
@@ -139,7 +139,7 @@ bits-read t c = ap told_head c.in_ok-bits.was
 
 halved : (t : ℕ) (c : read_shown_fields-After-low_bits-mine t)
     → let a = c.args in
-    Halved a.shown.now a.s.now a.p.now a.depth a.f a.row a.judging c.shown_of-m.result c.low_bits-mine.result
+    Halved a.view.now.shown.now a.view.now.source.schema.bytes.now a.view.now.source.payload.now a.depth a.f a.row a.view.now.source.judging c.shown_of-m.result c.low_bits-mine.result
 halved t c =
     let asked = c.requires in
     record { asked = asked.0; typed = asked.1; few = asked.2; same = c.shown_of-m.ensures; bits = c.low_bits-mine.ensures }
@@ -165,25 +165,22 @@ read_added-overflow_sub-added t c = omega (arith, c.requires.ty_bound.2, c.shown
 pub read_added-read_fields-requires : goal.read_added-read_fields-requires
 read_added-read_fields-requires t c =
     let args = c.args in
-    (omega arith, others-ready args.f args.shown.now c.shown_of-m.ensures args.at c.requires.ready_for c.low_bits-rest.ensures c.ones_in.ensures)
+    (omega arith, others-ready args.f args.view.now.shown.now c.shown_of-m.ensures args.at c.requires.ready_for c.low_bits-rest.ensures c.ones_in.ensures)
 
 pub read_added-returns : goal.read_added-returns
 read_added-returns t c =
     let args = c.args in
-    let held = others-held args.f args.shown.now c.shown_of-m.ensures args.at c.requires.ready_for c.low_bits-rest.ensures c.read_fields.ensures in
+    let held = others-held args.f args.view.now.shown.now c.shown_of-m.ensures args.at c.requires.ready_for c.low_bits-rest.ensures c.read_fields.ensures in
     (_, _, held)
 
-pub read_array-type_row-t-requires : goal.read_array-type_row-t-requires
-read_array-type_row-t-requires t c = c.requires.0.good
-
-pub read_array-read_elements-requires : goal.read_array-read_elements-requires
-read_array-read_elements-requires t c =
-    let row = (goal.at.read_array-read_elements-requires t c).After-type_row-t in
+pub read_array-elements_of-requires : goal.read_array-elements_of-requires
+read_array-elements_of-requires t c =
+    let row = (goal.at.read_array-elements_of-requires t c).After-type_row-t in
     let is = row.type_row-t.ensures in
     ((entered t row).0.ready, flat-leaf _ c.args.depth c.args.elem row.type_row-t.result is (rw is c.requires.2) c.if-t.true, (entered t row).1)
 
 pub read_array-shape_of-sheet-then-t : goal.read_array-shape_of-sheet-then-t
-read_array-shape_of-sheet-then-t t c = c.read_elements.auto.sheet
+read_array-shape_of-sheet-then-t t c = c.elements_of.auto.sheet
 
 pub read_array-returns-then-t : goal.read_array-returns-then-t
 read_array-returns-then-t t c =
@@ -191,62 +188,62 @@ read_array-returns-then-t t c =
     let args = c.args in
     let is = row.type_row-t.ensures in
     (entered t row).0.held
-    (c.read_elements.ensures _ (leaf-shown args.s.now args.depth args.elem row.type_row-t.result is (rw is c.requires.2) c.if-t.true args.shown.now))
+    (c.elements_of.ensures _ (leaf-shown args.view.now.source.schema.bytes.now args.depth args.elem row.type_row-t.result is (rw is c.requires.2) c.if-t.true args.view.now.shown.now))
 
 pub read_array-is_flat-requires : goal.read_array-is_flat-requires
 read_array-is_flat-requires t c = c.requires.0.good
 
-pub read_array-read_elements-requires-then-is_flat : goal.read_array-read_elements-requires-then-is_flat
-read_array-read_elements-requires-then-is_flat t c = let row = (goal.at.read_array-read_elements-requires-then-is_flat t c).After-type_row-t in ((entered t row).0.ready, (c.is_flat.ensures c.if-is_flat.true).0, (entered t row).1)
+pub read_array-elements_of-requires-then-is_flat : goal.read_array-elements_of-requires-then-is_flat
+read_array-elements_of-requires-then-is_flat t c = let row = (goal.at.read_array-elements_of-requires-then-is_flat t c).After-type_row-t in ((entered t row).0.ready, (c.is_flat.ensures c.if-is_flat.true).0, (entered t row).1)
 
 pub read_array-shape_of-sheet-then-is_flat : goal.read_array-shape_of-sheet-then-is_flat
-read_array-shape_of-sheet-then-is_flat t c = c.read_elements-then-is_flat.auto.sheet
+read_array-shape_of-sheet-then-is_flat t c = c.elements_of-then-is_flat.auto.sheet
 
 pub read_array-returns-then-is_flat : goal.read_array-returns-then-is_flat
-read_array-returns-then-is_flat t c = (entered t (goal.at.read_array-returns-then-is_flat t c).After-type_row-t).0.held (c.read_elements-then-is_flat.ensures _ (c.is_flat.ensures c.if-is_flat.true).1)
+read_array-returns-then-is_flat t c = (entered t (goal.at.read_array-returns-then-is_flat t c).After-type_row-t).0.held (c.elements_of-then-is_flat.ensures _ (c.is_flat.ensures c.if-is_flat.true).1)
 
 pub read_array-is_partly_shown-requires : goal.read_array-is_partly_shown-requires
 read_array-is_partly_shown-requires t c = c.requires.0.good
 
-pub read_array-shown_of-m-requires : goal.read_array-shown_of-m-requires
-read_array-shown_of-m-requires t c = part_type c.args.s.now c.args.elem c.requires.0.good (c.is_partly_shown.ensures c.if-is_partly_shown.true).1
+pub read_array-shown_of-requires : goal.read_array-shown_of-requires
+read_array-shown_of-requires t c = part_type c.args.view.now.source.schema.bytes.now c.args.elem c.requires.0.good (c.is_partly_shown.ensures c.if-is_partly_shown.true).1
 
-pub read_array-read_structs-requires : goal.read_array-read_structs-requires
-read_array-read_structs-requires t c =
-    let row = (goal.at.read_array-read_structs-requires t c).After-type_row-t in
+pub read_array-partial_structs-requires : goal.read_array-partial_structs-requires
+read_array-partial_structs-requires t c =
+    let row = (goal.at.read_array-partial_structs-requires t c).After-type_row-t in
     let part = c.is_partly_shown.ensures c.if-is_partly_shown.true in
-    record { ready = ((entered t row).0.ready, part.0, (entered t row).1); elem_value = (part.1, rw c.shown_of-m.ensures part.2) }
+    record { ready = ((entered t row).0.ready, part.0, (entered t row).1); first_value = (part.1, rw c.shown_of.ensures part.2) }
 
 pub read_array-shape_of-sheet-then-is_partly_shown : goal.read_array-shape_of-sheet-then-is_partly_shown
-read_array-shape_of-sheet-then-is_partly_shown t c = c.read_structs.auto.sheet
+read_array-shape_of-sheet-then-is_partly_shown t c = c.partial_structs.auto.sheet
 
 pub read_array-returns-then-is_partly_shown : goal.read_array-returns-then-is_partly_shown
 read_array-returns-then-is_partly_shown t c =
     let row = (goal.at.read_array-returns-then-is_partly_shown t c).After-type_row-t in
     let args = c.args in
     let part = c.is_partly_shown.ensures c.if-is_partly_shown.true in
-    let shown = part-shown args.s.now args.elem c.requires.0.good part.1 args.shown.now c.shown_of-m.ensures part.2 in
-    (entered t row).0.held (c.read_structs.ensures _ shown)
+    let shown = part-shown args.view.now.source.schema.bytes.now args.elem c.requires.0.good part.1 args.view.now.shown.now c.shown_of.ensures part.2 in
+    (entered t row).0.held (c.partial_structs.ensures _ shown)
 
 pub read_array-holds_leaves-requires : goal.read_array-holds_leaves-requires
 read_array-holds_leaves-requires t c = c.requires.0.good
 
-pub read_array-read_maps-requires : goal.read_array-read_maps-requires
-read_array-read_maps-requires t c =
-    let row = (goal.at.read_array-read_maps-requires t c).After-type_row-t in
+pub read_array-maps_of-requires : goal.read_array-maps_of-requires
+read_array-maps_of-requires t c =
+    let row = (goal.at.read_array-maps_of-requires t c).After-type_row-t in
     let leaves = c.holds_leaves.ensures c.if-holds_leaves.true in
-    let pairs = leaf-pairs c.args.s.now c.args.elem c.requires.0.good row.type_row-t.ensures leaves.0 leaves.1 in
+    let pairs = leaf-pairs c.args.view.now.source.schema.bytes.now c.args.elem c.requires.0.good row.type_row-t.ensures leaves.0 leaves.1 in
     record { ready = ((entered t row).0.ready, pairs.0, (entered t row).1); pairs_in = pairs.1 }
 
 pub read_array-shape_of-sheet-then-holds_leaves : goal.read_array-shape_of-sheet-then-holds_leaves
-read_array-shape_of-sheet-then-holds_leaves t c = c.read_maps.auto.sheet
+read_array-shape_of-sheet-then-holds_leaves t c = c.maps_of.auto.sheet
 
 pub read_array-returns-then-holds_leaves : goal.read_array-returns-then-holds_leaves
 read_array-returns-then-holds_leaves t c =
     let row = (goal.at.read_array-returns-then-holds_leaves t c).After-type_row-t in
     let args = row.args in
-    let shown = map-shown args.shown.now args.s.now args.elem _ row.type_row-t.ensures (c.holds_leaves.ensures c.if-holds_leaves.true).0 in
-    (entered t row).0.held (c.read_maps.ensures _ shown)
+    let shown = map-shown args.view.now.shown.now args.view.now.source.schema.bytes.now args.elem _ row.type_row-t.ensures (c.holds_leaves.ensures c.if-holds_leaves.true).0 in
+    (entered t row).0.held (c.maps_of.ensures _ shown)
 
 pub read_array-read_composites-requires : goal.read_array-read_composites-requires
 read_array-read_composites-requires t c =
@@ -257,7 +254,7 @@ pub read_array-returns-in_err-count : goal.read_array-returns-in_err-count
 read_array-returns-in_err-count t c =
     let placed = IfErr-at_err (λ e. e.place ≡ c.args.at) c.in_err-count.was c.read_count.ensures.place in
     rw (exit c.from_residual.result c.from_residual.ensures.1, placed)
-    (array-stop c.args.depth c.args.ty c.requires.0 c.requires.1 c.read_count.ensures.told c.args.shown.now (ap told_count c.in_err-count.was))
+    (array-stop c.args.depth c.args.ty c.requires.0 c.requires.1 c.read_count.ensures.told c.args.view.now.shown.now (ap told_count c.in_err-count.was))
 
 pub read_array-shape_of-sheet : goal.read_array-shape_of-sheet
 read_array-shape_of-sheet t c = c.read_composites.auto.sheet
@@ -269,10 +266,10 @@ pub read_composite-read_array-requires : goal.read_composite-read_array-requires
 read_composite-read_array-requires t c =
     let args = c.args in
     let asked = c.requires in
-    let T = table_of args.s.now in
+    let T = table_of args.view.now.source.schema.bytes.now in
     let pre = asked.0 in
     let kind = c.if-t.true in
-    (omega arith, (pre, shape-array T args.ty _ asked.1 kind, array_row args.s.now pre.good args.ty _ asked.1 kind))
+    (omega arith, (pre, shape-array T args.ty _ asked.1 kind, array_row args.view.now.source.schema.bytes.now pre.good args.ty _ asked.1 kind))
 
 pub read_composite-shape_of-sheet-then-t : goal.read_composite-shape_of-sheet-then-t
 read_composite-shape_of-sheet-then-t t c = c.read_array.auto.sheet
@@ -302,13 +299,13 @@ pub read_composite-returns : goal.read_composite-returns
 read_composite-returns t c =
     let args = c.args in
     let asked = c.requires in
-    let T = table_of args.s.now in
+    let T = table_of args.view.now.source.schema.bytes.now in
     let S = shape T in
     let past : 16 < args.t.kind = omega (arith, asked.2, c.if-t.false, c.if-t-2.false, c.if-t-3.false) in
-    rw c.at.ensures (as_refused _ _ _ (parse-refused S args.depth args.ty (cursor_at args.p.now args.at) unknown (shape-past T args.ty _ asked.1 past) 42 0 refl))
+    rw c.at.ensures (as_refused _ _ _ (parse-refused S args.depth args.ty (cursor_at args.view.now.source.payload.now args.at) unknown (shape-past T args.ty _ asked.1 past) 42 0 refl))
 
 pub read_composites-known_row-t-requires : goal.read_composites-known_row-t-requires
-read_composites-known_row-t-requires t c = let asked = c.requires in (asked.ready.0.good, omega (arith, asked.bound))
+read_composites-known_row-t-requires t c = omega (arith, c.requires.bound)
 
 pub read_composites-overflow_add-below : goal.read_composites-overflow_add-below
 read_composites-overflow_add-below t c = let ready = c.requires.ready.0 in omega (arith, ready.small, ready.inside, ready.behind)
@@ -366,19 +363,19 @@ read_composites-returns t c =
 pub read_field-returns-then-depth-eq0 : goal.read_field-returns-then-depth-eq0
 read_field-returns-then-depth-eq0 t c =
     let args = c.args in
-    rw c.at.ensures (as_refused _ _ _ (parse-deep (shape_in args.s.now) args.depth _ (cursor_at args.p.now args.at) c.if-depth-eq0.true))
+    rw c.at.ensures (as_refused _ _ _ (parse-deep (shape_in args.view.now.source.schema.bytes.now) args.depth _ (cursor_at args.view.now.source.payload.now args.at) c.if-depth-eq0.true))
 
 pub read_field-field_row-ty-requires : goal.read_field-field_row-ty-requires
 read_field-field_row-ty-requires t c = c.requires.1
 
 pub read_field-known_row-t-requires : goal.read_field-known_row-t-requires
-read_field-known_row-t-requires t c = let asked = c.requires in (asked.0.good, rw c.field_row-ty.ensures asked.2)
+read_field-known_row-t-requires t c = rw c.field_row-ty.ensures c.requires.2
 
 pub read_field-read_composite-requires : goal.read_field-read_composite-requires
 read_field-read_composite-requires t c =
     let args = c.args in
     let d0 = c.if-depth-eq0.false in
-    let ready = field_below args.s.now args.depth args.at c.field_row-ty.ensures d0 c.requires.0 in
+    let ready = field_below args.view.now.source.schema.bytes.now args.depth args.at c.field_row-ty.ensures d0 c.requires.0 in
     (omega (arith, c.decreases, d0), (ready, c.known_row-t.ensures, c.if-t.true))
 
 pub read_field-shape_of-sheet-then-t : goal.read_field-shape_of-sheet-then-t
@@ -415,9 +412,6 @@ read_field-returns t c =
     let leaf = (goal.at.read_field-returns t c).Else-t in
     leaf-told t leaf (childless-past (leaf-ready t leaf) c.if-t.false c.content.ensures (ap told_span c.in_ok-content.was) c.put_row.ensures)
 
-pub read_fields-layout_of-l-requires : goal.read_fields-layout_of-l-requires
-read_fields-layout_of-l-requires t c = good-shaped _ c.requires.0.ready.good
-
 pub read_fields-overflow_add-below : goal.read_fields-overflow_add-below
 read_fields-overflow_add-below t c = let pre = c.requires.0.ready in omega (arith, pre.behind, pre.inside, pre.small)
 
@@ -428,13 +422,13 @@ pub read_fields-loop-i-init : goal.read_fields-loop-i-init
 read_fields-loop-i-init t c =
     let f = c.args.f in
     let all : f.first + f.n - f.first ≡ f.n = omega arith in
-    rw all (passing-first c.requires.0 c.args.shown.now)
+    rw all (passing-first c.requires.0 c.args.view.now.shown.now)
 
 pub read_fields-read_field-requires : goal.read_fields-read_field-requires
 read_fields-read_field-requires t c =
     let inv = c.loop-i.invariant in
     let some : 0 < c.args.f.first + c.args.f.n - c.loop-i.i = omega (arith, c.loop-i-test.true) in
-    (omega arith, (passing-ready inv some c.if-bits-eq1.true, good-laid _ _ inv.asked.ready.good c.layout_of-l.ensures, passing-kind inv some))
+    (omega arith, (passing-ready inv some c.if-bits-eq1.true, c.layout-l.ensures, passing-kind inv some))
 
 pub read_fields-shape_of-sheet-in_err-past : goal.read_fields-shape_of-sheet-in_err-past
 read_fields-shape_of-sheet-in_err-past t c = c.read_field.auto.sheet ∙ c.loop-i.invariant.at.long
@@ -472,11 +466,11 @@ read_fields-returns t c = passing-end c.loop-i.invariant c.requires.1 (omega (ar
 
 pub read_map-returns-then-n-gt-MOST_PAIRS : goal.read_map-returns-then-n-gt-MOST_PAIRS
 read_map-returns-then-n-gt-MOST_PAIRS t c =
-    rw c.at.ensures (map-long c.args.depth c.args.ty c.requires c.map_count.ensures.told c.args.shown.now (ap told_count c.in_ok-count.was) c.if-n-gt-MOST_PAIRS.true)
+    rw c.at.ensures (map-long c.args.depth c.args.ty c.requires c.map_count.ensures.told c.args.view.now.shown.now (ap told_count c.in_ok-count.was) c.if-n-gt-MOST_PAIRS.true)
 
 pub read_map-put_row-requires : goal.read_map-put_row-requires
 read_map-put_row-requires t c =
-    let w = map-put c.args.depth c.args.ty c.requires c.map_count.ensures.told c.args.shown.now (ap told_count c.in_ok-count.was) in omega (arith, w)
+    let w = map-put c.args.depth c.args.ty c.requires c.map_count.ensures.told c.args.view.now.shown.now (ap told_count c.in_ok-count.was) in omega (arith, w)
 
 pub read_map-overflow_add-result : goal.read_map-overflow_add-result
 read_map-overflow_add-result t c = let ready = c.requires.0 in omega (arith, ready.small, ready.inside, ready.behind)
@@ -487,12 +481,12 @@ read_map-shape_of-sheet-then-n-eq0 t c = c.put_row.auto.sheet
 pub read_map-returns-then-n-eq0 : goal.read_map-returns-then-n-eq0
 read_map-returns-then-n-eq0 t c =
     let args = c.args in
-    map-bare args.depth args.ty c.requires c.map_count.ensures.told args.shown.now (ap told_count c.in_ok-count.was) c.if-n-eq0.true c.put_row.ensures
+    map-bare args.depth args.ty c.requires c.map_count.ensures.told args.view.now.shown.now (ap told_count c.in_ok-count.was) c.if-n-eq0.true c.put_row.ensures
 
 pub read_map-read_pairs-requires : goal.read_map-read_pairs-requires
 read_map-read_pairs-requires t c =
     let few = (goal.at.read_map-read_pairs-requires t c).Else-n-gt-MOST_PAIRS in
-    let kinds = map-kinds c.args.depth c.args.ty c.requires few.map_count.ensures.told c.args.shown.now (ap told_count few.in_ok-count.was) few.if-n-gt-MOST_PAIRS.false in
+    let kinds = map-kinds c.args.depth c.args.ty c.requires few.map_count.ensures.told c.args.view.now.shown.now (ap told_count few.in_ok-count.was) few.if-n-gt-MOST_PAIRS.false in
     (omega (arith, c.decreases), ((opened t few).ready, (kinds (omega (arith, c.if-n-eq0.false)), λ j. omega (arith, c.if-n-le-TWO_KEYS.true))))
 
 pub read_map-shape_of-sheet-then-n-le-TWO_KEYS : goal.read_map-shape_of-sheet-then-n-le-TWO_KEYS
@@ -504,14 +498,14 @@ read_map-returns-then-n-le-TWO_KEYS t c = (opened t (goal.at.read_map-returns-th
 pub read_map-read_more_pairs-requires : goal.read_map-read_more_pairs-requires
 read_map-read_more_pairs-requires t c =
     let few = (goal.at.read_map-read_more_pairs-requires t c).Else-n-gt-MOST_PAIRS in
-    let kinds = map-kinds c.args.depth c.args.ty c.requires few.map_count.ensures.told c.args.shown.now (ap told_count few.in_ok-count.was) few.if-n-gt-MOST_PAIRS.false in
+    let kinds = map-kinds c.args.depth c.args.ty c.requires few.map_count.ensures.told c.args.view.now.shown.now (ap told_count few.in_ok-count.was) few.if-n-gt-MOST_PAIRS.false in
     (omega (arith, c.decreases), ((opened t few).ready, kinds (omega (arith, c.if-n-eq0.false))))
 
 pub read_map-returns-in_err-count : goal.read_map-returns-in_err-count
 read_map-returns-in_err-count t c =
     let placed = IfErr-at_err (λ e. e.place ≡ c.args.at) c.in_err-count.was c.map_count.ensures.place in
     rw (exit c.from_residual.result c.from_residual.ensures.1, placed)
-    (map-stop c.args.depth c.args.ty c.requires c.map_count.ensures.told c.args.shown.now (ap told_count c.in_err-count.was))
+    (map-stop c.args.depth c.args.ty c.requires c.map_count.ensures.told c.args.view.now.shown.now (ap told_count c.in_err-count.was))
 
 pub read_map-shape_of-sheet : goal.read_map-shape_of-sheet
 read_map-shape_of-sheet t c = c.read_more_pairs.auto.sheet
@@ -538,10 +532,10 @@ pub read_more_pairs-returns : goal.read_more_pairs-returns
 read_more_pairs-returns t c = c.read_pairs-2.ensures
 
 pub read_pairs-known_row-k-requires : goal.read_pairs-known_row-k-requires
-read_pairs-known_row-k-requires t c = let asked = c.requires in (asked.ready.good, asked.kind_nonzero.0)
+read_pairs-known_row-k-requires t c = c.requires.kind_nonzero.0
 
 pub read_pairs-known_row-v-requires : goal.read_pairs-known_row-v-requires
-read_pairs-known_row-v-requires t c = let asked = c.requires in (asked.ready.good, asked.kind_nonzero.2)
+read_pairs-known_row-v-requires t c = c.requires.kind_nonzero.2
 
 pub read_pairs-overflow_add-below : goal.read_pairs-overflow_add-below
 read_pairs-overflow_add-below t c = let ready = c.requires.ready in omega (arith, ready.small, ready.inside, ready.behind)
@@ -605,7 +599,7 @@ read_pairs-read_childless-requires t c =
     let args = c.args in
     let v = c.known_row-v.ensures in
     let plain = c.needs_walker.ensures.1 c.if-needs_walker.false in
-    childless-ready args.s.now (args.depth - 1) args.val v c.requires.kind_nonzero.2 plain (value-below (keyed t (goal.at.read_pairs-read_childless-requires t c).In_ok-key_content) c.if-depth-eq0.false)
+    childless-ready args.view.now.source.schema.bytes.now (args.depth - 1) args.m.val v c.requires.kind_nonzero.2 plain (value-below (keyed t (goal.at.read_pairs-read_childless-requires t c).In_ok-key_content) c.if-depth-eq0.false)
 
 pub read_pairs-shape_of-sheet-in_err-content : goal.read_pairs-shape_of-sheet-in_err-content
 read_pairs-shape_of-sheet-in_err-content t c = c.read_childless.auto.sheet ∙ (keyed t (goal.at.read_pairs-shape_of-sheet-in_err-content t c).In_ok-key_content).long
@@ -722,7 +716,7 @@ pub read_struct-returns-then-bits-ne0 : goal.read_struct-returns-then-bits-ne0
 read_struct-returns-then-bits-ne0 t c =
     let args = c.args in
     let asked = c.requires in
-    rw c.at.ensures (struct-other args.depth args.ty asked.0 asked.1 asked.2 c.presence.ensures.told (bits-read t (goal.at.read_struct-returns-then-bits-ne0 t c).In_ok-bits) c.if-bits-ne0.true args.shown.now)
+    rw c.at.ensures (struct-other args.depth args.ty asked.0 asked.1 asked.2 c.presence.ensures.told (bits-read t (goal.at.read_struct-returns-then-bits-ne0 t c).In_ok-bits) c.if-bits-ne0.true args.view.now.shown.now)
 
 pub read_struct-shown_of-requires : goal.read_struct-shown_of-requires
 read_struct-shown_of-requires t c =
@@ -751,7 +745,7 @@ read_struct-returns-then-shown_of-n t c =
     let asked = c.requires in
     let read = c.presence.ensures.told in
     let bits = bits-read t (goal.at.read_struct-returns-then-shown_of-n t c).In_ok-bits in
-    struct-shown args.depth args.ty asked.0 asked.1 asked.2 read bits c.if-bits-ne0.false args.shown.now c.read_shown_fields.ensures
+    struct-shown args.depth args.ty asked.0 asked.1 asked.2 read bits c.if-bits-ne0.false args.view.now.shown.now c.read_shown_fields.ensures
 
 pub read_struct-read_fields-requires : goal.read_struct-read_fields-requires
 read_struct-read_fields-requires t c =
@@ -768,7 +762,7 @@ read_struct-returns-in_err-bits t c =
     let asked = c.requires in
     let placed = IfErr-at_err (λ e. e.place ≡ args.at) c.in_err-bits.was c.presence.ensures.place in
     rw (exit c.from_residual.result c.from_residual.ensures.1, placed)
-    (struct-stop args.depth args.ty asked.0 asked.1 asked.2 c.presence.ensures.told (ap told_head c.in_err-bits.was) args.shown.now)
+    (struct-stop args.depth args.ty asked.0 asked.1 asked.2 c.presence.ensures.told (ap told_head c.in_err-bits.was) args.view.now.shown.now)
 
 pub read_struct-shape_of-sheet : goal.read_struct-shape_of-sheet
 read_struct-shape_of-sheet t c = c.read_fields.auto.sheet
@@ -780,5 +774,5 @@ read_struct-returns t c =
     let read = c.presence.ensures.told in
     let bits = bits-read t (goal.at.read_struct-returns t c).In_ok-bits in
     let f = struct-ready args.depth args.ty asked.0 asked.1 asked.2 read bits c.if-bits-ne0.false in
-    struct-shown args.depth args.ty asked.0 asked.1 asked.2 read bits c.if-bits-ne0.false args.shown.now
-    (all_shown f.0 args.shown.now f.1 (omega (arith, c.shown_of.ensures, c.if-shown_of-n.false)) c.read_fields.ensures)
+    struct-shown args.depth args.ty asked.0 asked.1 asked.2 read bits c.if-bits-ne0.false args.view.now.shown.now
+    (all_shown f.0 args.view.now.shown.now f.1 (omega (arith, c.shown_of.ensures, c.if-shown_of-n.false)) c.read_fields.ensures)

@@ -24,4 +24,4 @@ shape_of-sheet c = c.read_fields.auto.sheet
 pub returns : goal.returns
 returns c =
     let asked = c.requires in
-    all_shown asked.0 c.args.shown.now asked.1 (omega (arith, c.shown_of.ensures, c.if-shown_of-f.false)) c.read_fields.ensures
+    all_shown asked.0 c.args.view.now.shown.now asked.1 (omega (arith, c.shown_of.ensures, c.if-shown_of-f.false)) c.read_fields.ensures

@@ -22,9 +22,9 @@ pub presence-requires : goal.presence-requires
 presence-requires c =
     let args = c.args in
     let asked = c.requires in
-    let T = table_of args.s.now in
+    let T = table_of args.view.now.source.schema.bytes.now in
     let S = shape T in
-    let p = args.p.now in
+    let p = args.view.now.source.payload.now in
     let pre = asked.ready in
     let n = asked.ty_value in
     (pre.good, n.1, n.2, n.3, omega arith, λ j. root-bitmap S args.ty (fields_from T args.first args.n) p (pre.judged j))
@@ -33,9 +33,9 @@ pub read_root_fields-requires : goal.read_root_fields-requires
 read_root_fields-requires c =
     let args = c.args in
     let asked = c.requires in
-    let T = table_of args.s.now in
+    let T = table_of args.view.now.source.schema.bytes.now in
     let S = shape T in
-    let p = args.p.now in
+    let p = args.view.now.source.payload.now in
     let fs = fields_from T args.first args.n in
     let read = c.presence.ensures.told in
     let pre = asked.ready in
@@ -62,9 +62,9 @@ pub returns-in_err-bits : goal.returns-in_err-bits
 returns-in_err-bits c =
     let args = c.args in
     let asked = c.requires in
-    let T = table_of args.s.now in
+    let T = table_of args.view.now.source.schema.bytes.now in
     let S = shape T in
-    let p = args.p.now in
+    let p = args.view.now.source.payload.now in
     let placed = IfErr-at_err (λ e. e.place ≡ 0) c.in_err-bits.was c.presence.ensures.place in
     rw (exit c.from_residual.result c.from_residual.ensures.1, placed)
     (as_refused _ _ _ (root-refused S args.ty (fields_from T args.first args.n) p _ c.presence.ensures.told _ (ap told_head c.in_err-bits.was)))
@@ -76,11 +76,11 @@ pub returns-in_err-past : goal.returns-in_err-past
 returns-in_err-past c =
     let args = c.args in
     let asked = c.requires in
-    let T = table_of args.s.now in
+    let T = table_of args.view.now.source.schema.bytes.now in
     let S = shape T in
-    let p = args.p.now in
+    let p = args.view.now.source.payload.now in
     let fs = fields_from T args.first args.n in
-    let tell = told_in args.shown.now args.s.now args.ty in
+    let tell = told_in args.view.now.shown.now args.view.now.source.schema.bytes.now args.ty in
     let read = c.presence.ensures.told in
     rw (exit c.from_residual-in_err-past.result c.from_residual-in_err-past.ensures.1)
     (root-stop S args.ty fs p _ read _ _ _ _ _ (bits-read (goal.at.returns-in_err-past c).In_ok-bits) tell _ _ _ _
@@ -92,7 +92,7 @@ shape_of-sheet c = c.read_root_fields.auto.sheet
 pub returns : goal.returns
 returns c =
     let args = c.args in
-    let T = table_of args.s.now in
-    let tell = told_in args.shown.now args.s.now args.ty in
-    root-end (shape T) args.ty (fields_from T args.first args.n) args.p.now _ c.presence.ensures.told _ _ _ _ _ (bits-read (goal.at.returns c).In_ok-bits) tell _ _ _ _ _
+    let T = table_of args.view.now.source.schema.bytes.now in
+    let tell = told_in args.view.now.shown.now args.view.now.source.schema.bytes.now args.ty in
+    root-end (shape T) args.ty (fields_from T args.first args.n) args.view.now.source.payload.now _ c.presence.ensures.told _ _ _ _ _ (bits-read (goal.at.returns c).In_ok-bits) tell _ _ _ _ _
     (was c.read_root_fields.ensures (ap told_walk c.in_ok-past.was)) c.end_root.ensures
