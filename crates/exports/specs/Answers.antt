@@ -181,6 +181,11 @@ call_cells table l = cond (are_calls table) (stored table (cells_of l)) table
 abbrev pub received_cells : Received → List ℕ
 received_cells r = r.place ∷ r.used ∷ r.rows ∷ r.tail_place ∷ r.tail_length ∷ r.«open» ∷ r.comparisons ∷ []
 
+-- The same by a payload's reading, the bytes used and the calls open.
+abbrev pub cells_by : (used calls : ℕ) → Reading → List ℕ
+cells_by used calls r =
+    (numbers r).place ∷ used ∷ (numbers r).rows ∷ (numbers r).tail_place_of ∷ (numbers r).tail_length_of ∷ calls ∷ (numbers r).comparisons ∷ []
+
 -- The same of a release.
 abbrev pub not_released : Checked → List Call → Released
 not_released check.Good l = release_answer 15 0 l

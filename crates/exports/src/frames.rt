@@ -1,6 +1,7 @@
 // The frame reader and the frame writer.
 ghost use Rattle.std.specs.Prelude.{◌≡◌};
 ghost use Rattle.frame.specs.Frame.{frame_of, read_number};
+ghost use Rattle.frame.specs.Told.{told, told_written};
 ghost use Rattle.frame.specs.Written.{output_of, write_number, write_length};
 ghost use Rattle.cells.specs.Cells.{stored};
 ghost use Rattle.exports.specs.Answers.{header_of, wrote, frame_cells, written_cells};
@@ -10,25 +11,35 @@ use cells::store;
 use constants::refusal::{ACCEPTED, MORE, Refusal};
 use frame::{FrameRead, Header};
 
-fn frame_cells(a: FrameRead) -> [u64; 7]
-    ensures { result ≡ frame_cells a }
+fn frame_cells(a: Result<FrameRead, Refusal>) -> [u64; 7]
+    ensures { result ≡ frame_cells (told a) }
 {
     match a {
-        FrameRead::More => [0, 0, 0, 0, 0, 0, 0],
-        FrameRead::Frame {
-            header,
-            place,
-            length,
-        } => [
-            header.kind as u64,
-            header.package as u64,
-            header.service as u64,
-            header.method as u64,
-            header.correlation,
-            place as u64,
-            length as u64,
-        ],
-        FrameRead::Refused(_) => [0, 0, 0, 0, 0, 0, 0],
+        Ok(FrameRead::Whole(frame)) => {
+            let h = frame.header;
+            [
+                h.kind as u64,
+                h.package as u64,
+                h.service as u64,
+                h.method as u64,
+                h.correlation,
+                frame.place as u64,
+                frame.length as u64,
+            ]
+        }
+        Ok(FrameRead::More) => [0; 7],
+        Err(_) => [0; 7],
+    }
+}
+
+// 1 where more bytes are needed.
+fn read_number(a: Result<FrameRead, Refusal>) -> u32
+    ensures { result ≡ read_number (told a) }
+{
+    match a {
+        Ok(FrameRead::Whole(_)) => ACCEPTED,
+        Ok(FrameRead::More) => MORE,
+        Err(refusal) => u32::from(refusal),
     }
 }
 
@@ -38,9 +49,17 @@ pub fn arf_read_frame(bytes: &[u8], answer: &mut [u64]) -> u32
     ensures answer_after { answer.new ≡ stored answer.old (frame_cells (frame_of bytes.now)) }
 {
     let a = arf::read_frame(bytes);
-    let cells = frame_cells(a);
-    store(answer, &cells);
+    store(answer, &frame_cells(a));
     read_number(a)
+}
+
+fn written_length(a: Result<usize, Refusal>) -> u64
+    ensures { result ≡ write_length (told_written a) }
+{
+    match a {
+        Ok(length) => length as u64,
+        Err(_) => 0,
+    }
 }
 
 // Writes a frame. answer: its length.
@@ -66,6 +85,6 @@ pub fn arf_write_frame(
         correlation,
     };
     let a = arf::write_frame(header, payload, out);
-    store(answer, &[a.unwrap_or(0) as u64]);
+    store(answer, &[written_length(a)]);
     number(&a)
 }

@@ -4,8 +4,8 @@
 
 pub mod frames;
 pub mod indexes;
-pub mod payloads;
 mod numbers;
+pub mod payloads;
 mod planning;
 pub mod receive;
 pub mod release;

@@ -11,8 +11,8 @@ ghost use Rattle.exports.specs.Answers.{refused_plan};
 use cells::records::{are_good, open_count, own_slot};
 use constants::frame_kind::FrameKind;
 use frame::read_frame;
-use receiver::planning::{front, judge_tables, plan_call, plan_frame};
 use receiver::Plan;
+use receiver::planning::{front, judge_tables, plan_call, plan_frame};
 use table::good::Schema;
 
 // One frame under a good schema table.

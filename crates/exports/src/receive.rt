@@ -1,22 +1,21 @@
 // One frame against the call table and the tally rows that the caller lends.
-ghost use Rattle.std.specs.Prelude.{◌≡◌, [], ◌∷◌};
-ghost use Rattle.reader.specs.Entry.{numbers};
-ghost use Rattle.reader.specs.Told as reader;
+ghost use Rattle.std.specs.Prelude.{◌≡◌};
 ghost use Rattle.receiver.specs.Answer.{answer_in};
 ghost use Rattle.receiver.specs.Told.{told_done};
+ghost use Rattle.calls.specs.Counting.{no_tally};
 ghost use Rattle.cells.specs.Cells.{stored};
 ghost use Rattle.cells.specs.Records.{calls_of, CountsOpen, row_cells};
-ghost use Rattle.exports.specs.Answers.{receiving, call_cells, received_cells, RefusedCells};
+ghost use Rattle.exports.specs.Answers.{receiving, call_cells, received_cells, cells_by, RefusedCells};
 
 use crate::planning::plan;
-use crate::settling::keep;
+use crate::settling::{keep, place_in, row_after};
 use cells::rows::{TALLY_CELLS, put_row, row_in};
 use cells::store;
-use constants::refusal::Refused;
-use reader::Shown;
-use receiver::Done;
+use constants::refusal::Refusal;
+use receiver::payload::NOTHING;
 use receiver::planning::row_of;
 use receiver::settling::settle_plan;
+use receiver::{Done, Halt};
 
 // Judges the frame at the front of the bytes up to the call table, which stays as it is. `calls` is how many are open in it.
 fn judge(
@@ -27,11 +26,11 @@ fn judge(
     sheet: &mut [u32],
     tallies: &mut [u32],
     calls: &mut usize,
-) -> Done
-    ensures table_value { answer_in (told_done result) (calls_of table.now) ≡ (receiving table.now schema.now side bytes.now sheet.old tallies.old).answer }
+) -> Result<Done<Refusal>, Halt>
+    ensures table_value { answer_in (told_done no_tally result) (calls_of table.now) ≡ (receiving table.now schema.now side bytes.now sheet.old tallies.old).answer }
     ensures sheet_after { sheet.new ≡ (receiving table.now schema.now side bytes.now sheet.old tallies.old).sheet }
     ensures tallies_after { tallies.new ≡ row_cells tallies.old (receiving table.now schema.now side bytes.now sheet.old tallies.old).tallies }
-    ensures counts_open { CountsOpen table.now calls.new × RefusedCells table.now (told_done result).judged }
+    ensures counts_open { CountsOpen table.now calls.new × RefusedCells table.now (told_done no_tally result).judged }
 {
     let plan = plan(
         table,
@@ -42,29 +41,32 @@ fn judge(
         calls,
     );
     let row = row_of(&plan);
-    let done = settle_plan(plan, schema, bytes, sheet, row_in(tallies, row));
-    put_row(tallies, row, done.row);
+    let old = row_in(tallies, row);
+    let done = settle_plan(plan, schema, bytes, sheet, old);
+    put_row(tallies, row, row_after(&done, old));
     done
 }
 
-// The answer's cells by the payload's reading, the bytes used and the calls open.
-fn received_cells(reading: Result<Shown, Refused>, used: usize, calls: usize) -> [u64; 7]
-    ensures { result ≡ (numbers (reader.told reading)).place ∷ used ∷ (numbers (reader.told reading)).rows ∷ (numbers (reader.told reading)).tail_place_of ∷ (numbers (reader.told reading)).tail_length_of ∷ calls ∷ (numbers (reader.told reading)).comparisons ∷ [] }
+// The answer's cells by the settled plan, the bytes used and the calls open.
+fn received_cells(done: &Result<Done<Refusal>, Halt>, used: usize, calls: usize) -> [u64; 7]
+    ensures { result ≡ cells_by used calls (told_done no_tally done.now).reading }
 {
+    let place = place_in(done);
     let used = used as u64;
     let calls = calls as u64;
-    match reading {
-        Ok(shown) => [
-            0,
-            used,
-            shown.rows as u64,
-            shown.tail_place as u64,
-            shown.tail_length as u64,
-            calls,
-            shown.comparisons as u64,
-        ],
-        Err(refused) => [refused.place as u64, used, 0, 0, 0, calls, 0],
-    }
+    let shown = match done {
+        Ok(done) => done.reading.unwrap_or(NOTHING),
+        Err(_) => NOTHING,
+    };
+    [
+        place,
+        used,
+        shown.rows as u64,
+        shown.tail_place as u64,
+        shown.tail_length as u64,
+        calls,
+        shown.comparisons as u64,
+    ]
 }
 
 // Judges the frame at the front of the bytes, from a side (the byte C or S). table: 128 records of three cells, before and after. tallies: five cells a
@@ -86,7 +88,7 @@ pub fn arf_receive(
 {
     let mut calls: usize = 0;
     let done = judge(table, schema, side, bytes, sheet, tallies, &mut calls);
-    let kept = keep(table, calls, done);
-    store(answer, &received_cells(done.reading, kept.used, kept.open));
+    let kept = keep(table, calls, &done);
+    store(answer, &received_cells(&done, kept.used, kept.open));
     kept.number
 }

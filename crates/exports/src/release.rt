@@ -2,18 +2,19 @@
 ghost use Rattle.std.specs.Prelude.{◌≡◌};
 ghost use Rattle.receiver.specs.Release.{release_in};
 ghost use Rattle.receiver.specs.Told.{told_done};
+ghost use Rattle.calls.specs.Counting.{no_tally};
 ghost use Rattle.cells.specs.Cells.{stored};
 ghost use Rattle.cells.specs.Records.{calls_of, CountsOpen, row_cells};
 ghost use Rattle.exports.specs.Answers.{releasing, call_cells, released_cells, RefusedCells};
 
-use crate::numbers::place;
 use crate::planning::plan_release;
-use crate::settling::keep;
+use crate::settling::{keep, place_in, row_after};
 use cells::rows::{TALLY_CELLS, put_row, row_in};
 use cells::store;
-use receiver::Done;
+use constants::refusal::Refusal;
 use receiver::planning::row_of;
 use receiver::settling::settle_call;
+use receiver::{Done, Halt};
 
 // Judges a release up to the call table, which stays as it is. `calls` is how many are open in it.
 fn judge(
@@ -22,10 +23,10 @@ fn judge(
     correlation: u64,
     tallies: &mut [u32],
     calls: &mut usize,
-) -> Done
-    ensures table_value { (release_in (told_done result) (calls_of table.now)).answer ≡ (releasing table.now schema.now correlation tallies.old).answer }
+) -> Result<Done<Refusal>, Halt>
+    ensures table_value { (release_in (told_done no_tally result) (calls_of table.now)).answer ≡ (releasing table.now schema.now correlation tallies.old).answer }
     ensures tallies_after { tallies.new ≡ row_cells tallies.old (releasing table.now schema.now correlation tallies.old).tallies }
-    ensures counts_open { CountsOpen table.now calls.new × RefusedCells table.now (told_done result).judged }
+    ensures counts_open { CountsOpen table.now calls.new × RefusedCells table.now (told_done no_tally result).judged }
 {
     let plan = plan_release(
         table,
@@ -35,8 +36,9 @@ fn judge(
         calls,
     );
     let row = row_of(&plan);
-    let done = settle_call(plan, row_in(tallies, row));
-    put_row(tallies, row, done.row);
+    let old = row_in(tallies, row);
+    let done = settle_call(plan, old);
+    put_row(tallies, row, row_after(&done, old));
     done
 }
 
@@ -56,7 +58,7 @@ pub fn arf_release(
 {
     let mut calls: usize = 0;
     let done = judge(table, schema, correlation, tallies, &mut calls);
-    let kept = keep(table, calls, done);
-    store(answer, &[place(&done.reading), kept.open as u64]);
+    let kept = keep(table, calls, &done);
+    store(answer, &[place_in(&done), kept.open as u64]);
     kept.number
 }

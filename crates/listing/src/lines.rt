@@ -3,6 +3,7 @@
 
 ghost use Rattle.std.specs.Prelude.{◌≡◌, ◌+◌, ◌≤◌};
 ghost use Rattle.text.specs.Text.{AddedTo};
+ghost use Rattle.receiver.specs.Told.{told};
 ghost use Rattle.listing.specs.Text.{heading, line_start, line_text, stopped_text};
 
 use frame::Header;
@@ -34,11 +35,11 @@ fn put_start(page: &mut Page, entry: u64, side: u8, h: Header)
 // The line of an entry with this side, header and answer.
 pub fn put_line(page: &mut Page, entry: u64, side: u8, h: Header, a: Received)
     requires { page.old.len ≤ 400000 }
-    ensures added { AddedTo page.old page.new (line_text entry side h a) }
+    ensures added { AddedTo page.old page.new (line_text entry side h (told a)) }
     ensures upper_bound { page.new.len ≤ page.old.len + 149 }
 {
     put_start(page, entry, side, h);
-    page.put_field(a.number as u64);
+    page.put_field(a.number() as u64);
     page.put_field(a.place as u64);
     page.put_field(a.rows as u64);
     page.put_field(a.open as u64);

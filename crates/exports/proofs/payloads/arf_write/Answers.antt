@@ -1,12 +1,13 @@
 -- `exports::payloads::arf_write` meets its contract.
-use mathlib.Core.Path.{ap}
+use Rattle.std.proofs.Common.{ap, ◌∙◌, ℕ, [], ◌∷◌}
 use Rattle.arf.specs.Numbers.{write_number}
 use Rattle.exports.specs.Answers.{writing_of, output_of, write_cells}
+use Rattle.exports.proofs.Numbers.{write-number, write-cells}
 use Rattle.cells.proofs.Stores.{told}
 use Rattle.exports.proofs.payloads.arf_write.Goals as goal
 
 pub returns : goal.returns
 returns c =
-    let e = c.write-a.ensures in
-    let t = told write_number write_cells _ (ap writing_of e) c.write_number.ensures c.write_cells-cells.ensures c.store.ensures in
-    record { value = t.0; out_after = ap output_of e; answer_after = t.1 }
+    let a = c.write-a in
+    let t = told write_number write_cells _ (ap writing_of a.ensures) (c.number.ensures ∙ write-number a.result) (c.length_cells.ensures ∙ write-cells a.result) c.store.ensures in
+    record { value = t.0; out_after = ap output_of a.ensures; answer_after = t.1 }

@@ -1,10 +1,12 @@
 -- `listing::entries::put_from_first` meets its contract: what is left of the entries gives the same end as all of them. A line takes at most 149 bytes
 -- and its entry at least 27, so the place stays small.
 use mathlib.Core.Path.{refl, sym, ap, ◌∙◌}
-use Prim.Native.Nat.{◌+◌, ◌≤◌}
+use Prim.Native.Nat.{ℕ, ◌+◌, ◌-◌, ◌≤◌}
 use native.Mathlib.Omega.{arith}
 use lib.ListN.{length}
-use Rattle.text.specs.Text.{shown}
+use Rattle.text.specs.Text.{put_on, shown}
+use Rattle.receiver.specs.Told.{told}
+use Rattle.listing.specs.Text.{stopped_text}
 use Rattle.replay.specs.Run.{header_in}
 use Rattle.replay.proofs.Replays.{tail_of, entry-bounds}
 use Rattle.listing.proofs.Turns.{rest_first, rest_end, rest_stop, rest_line}
@@ -34,8 +36,9 @@ returns-then-stops c =
     let here = c.loop-at in
     let step = c.step-r in record {
       added = c.put_stopped.ensures.added
+          ∙ ap (λ (n : ℕ). put_on (shown here.page) (stopped_text n (length a.entries.now - here.at))) c.number.ensures
           ∙ rest_stop a.schema.now.bytes.now a.entries.now _ (shown here.page) here.entry here.at here.table.slots here.invariant.4
-          c.loop-at-test.true _ (tail_of a.entries.now here.at) _ refl step.result.answer step.ensures.0
+          c.loop-at-test.true _ (tail_of a.entries.now here.at) _ refl (told step.result.answer) step.ensures.0
           (sym c.stops.ensures ∙ c.if-stops.true);
       upper_bound = omega (arith, here.invariant.2, c.put_stopped.ensures.upper_bound);
     }
@@ -48,7 +51,7 @@ bounds c =
     let here = c.loop-at in
     let step = c.step-r in
     entry-bounds a.schema.now.bytes.now a.entries.now here.at here.table.slots c.loop-at-test.true
-    _ (tail_of a.entries.now here.at) _ refl step.result.answer step.ensures.0
+    _ (tail_of a.entries.now here.at) _ refl (told step.result.answer) step.ensures.0
     (sym c.stops.ensures ∙ c.if-stops.false)
 
 pub overflow_add-entry : goal.overflow_add-entry
@@ -67,7 +70,7 @@ loop-at-preserved c =
       omega (arith, here.invariant.2, b.0, b.1, c.put_line.ensures.upper_bound),
       omega (arith, here.invariant.3, b.0),
       rw c.put_line.ensures.added (rest_line a.schema.now.bytes.now a.entries.now _ (shown here.page) here.entry here.at here.table.slots here.invariant.4
-          c.loop-at-test.true _ (tail_of a.entries.now here.at) _ refl step.result.answer step.ensures.0
+          c.loop-at-test.true _ (tail_of a.entries.now here.at) _ refl (told step.result.answer) step.ensures.0
           (sym c.stops.ensures ∙ c.if-stops.false) b.0
           header.result (header.ensures ∙ ap header_in step.ensures.1)),
     )
