@@ -1,7 +1,10 @@
 -- No two refusals have one number.
 use Rattle.std.proofs.Common.{◌≡◌, refl, sym, ap, ◌∙◌, ℕ, cond, ◌==◌}
 use Rattle.constants.specs.declared.refusal.Refusal.{Refusal}
-use Rattle.constants.specs.declared.refusal.Refusal.TheVariants.{Magic, Version, Kind, Flags, Length, PayloadTooLong, WrongSide, UnknownMethod, CallOpen, CallNotOpen, OtherMethod, TooManyCalls, NotNow, CallTable, Dropped, TooManyElements, TallyFull, TallyRows, Cut, Varuint, Bool, Utf8, RepeatedKey, AbsentField, UnknownBit, Surplus, TooDeep, UnduePayload, SheetTooShort, MapTooLong, SchemaShape, TooManyRows, TypeRow, Field, Method, FileTooLong, NoStruct, NoExtension, Sheet, Outside, OutputTooShort, ListTooShort, Index, OtherRecord}
+use Rattle.constants.specs.declared.refusal.Refusal.TheVariants.{Magic, Version, Kind, Flags, Length, PayloadTooLong, WrongSide, UnknownMethod, CallOpen, CallNotOpen, OtherMethod, TooManyCalls}
+use Rattle.constants.specs.declared.refusal.Refusal.TheVariants.{NotNow, CallTable, Dropped, TooManyElements, TallyFull, TallyRows, Cut, Varuint, Bool, Utf8, RepeatedKey, AbsentField, UnknownBit}
+use Rattle.constants.specs.declared.refusal.Refusal.TheVariants.{Surplus, TooDeep, UnduePayload, SheetTooShort, MapTooLong, SchemaShape, TooManyRows, TypeRow, Field, Method, FileTooLong, NoStruct}
+use Rattle.constants.specs.declared.refusal.Refusal.TheVariants.{NoExtension, Sheet, Outside, OutputTooShort, ListTooShort, Index, OtherRecord}
 use Rattle.constants.specs.Number.{number_of}
 
 -- The refusal with a number; of a number that none has, the first.
