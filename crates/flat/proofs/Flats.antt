@@ -3,37 +3,22 @@ use mathlib.Core.Path.{◌≡◌, sym, ◌∙◌}
 use mathlib.Core.Bool.{Bool, true, false}
 use mathlib.Core.List.{List}
 use Prim.Native.Nat.{ℕ, suc, ◌+◌, ◌%◌, ◌^◌, ◌≤◌, ◌<◌}
-use native.Mathlib.Decide.{dec_lt}
 use native.Mathlib.Omega.{arith}
 use lib.Dec.{ltb}
 use lib.ListN.{length}
 use Rattle.walks.proofs.Presence.{word_below, word-above}
 use Rattle.parse.specs.Reader.{refused, seen, and_then, check, cursor_at}
 use Rattle.schema.specs.declared.Field.{Field}
-use Rattle.schema.specs.declared.TypeRow.{TypeRow}
-use Rattle.schema.specs.Table.{Table, Shape, struct, row_at}
+use Rattle.schema.specs.Table.{Shape, struct}
 use Rattle.schema.specs.File.{table_of}
-use Rattle.schema.specs.Check.{field_row_of}
 use Rattle.value.specs.Read.{parts, bitmap, own, parse}
 use Rattle.walks.specs.Shape.{fields_from, shape_in}
 use Rattle.walks.proofs.Tables.{struct_row, shape-struct}
 use Rattle.flat.specs.declared.elements.Prepared.{Prepared}
 use Rattle.flat.specs.InnerHead.{InnerHead, Bits, Refused}
 use Rattle.flat.specs.Walk.{Walk, Refused as Stopped, value_in, whole_in, told, Walked, Ready}
-use Rattle.flat.specs.Flat.{LeavesIn, IsFlat, Described, inner_head_of, InnerHeaded, ValuedFlat, HeldFields, FieldsReady}
+use Rattle.flat.specs.Flat.{IsFlat, Described, inner_head_of, InnerHeaded, ValuedFlat, HeldFields, FieldsReady}
 use Rattle.flat.proofs.Steps.{renamed, as_refused, further, as_told, parse-refused, parse-whole}
-
--- ---- fields that are scalars, strings or bytes
-
-pub leaves-more : (T : Table) (first i : ℕ) → LeavesIn T first i → (f : Field) → f ≡ field_row_of T i → (r : TypeRow) → r ≡ row_at T f.ty → r.kind ≤ 13
-    → LeavesIn T first (i + 1)
-leaves-more T first i h f is r row leaf j a b = elim (dec_lt j i) [
-  | yes l ↦ h j a l
-  | no g ↦
-      let e : j ≡ i = omega arith in
-      let k : (row_at T (field_row_of T i).ty).kind < 14 = rw (← is, ← row) (omega arith) in
-      rw e k
-]
 
 -- ---- the bitmap of an inner struct
 

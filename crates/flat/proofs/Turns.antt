@@ -19,7 +19,7 @@ use Rattle.value.specs.Read.{Item, plain_item, present, plan, row_count, own, wa
 use Rattle.value.specs.Narrow.{first_of}
 use Rattle.walks.specs.Shape.{fields_from, leaf_shape, shape_in}
 use Rattle.walks.proofs.Masks.{bits_left, Standing, standing-first, standing-some, standing-next, standing-field, standing-kind, standing-skip, standing-same, standing-end}
-use Rattle.walks.proofs.Tables.{few-fields, shape-leaf, shape-array, shape-struct}
+use Rattle.walks.proofs.Tables.{shape-leaf, shape-array, shape-struct}
 use Rattle.walks.proofs.Items.{item-accepted, item-stop, item-past}
 use Rattle.walks.proofs.Walks.{deeper, shallower}
 use Rattle.flat.specs.declared.elements.Prepared.{Prepared}
@@ -214,10 +214,6 @@ module _ {s p : List ℕ} {depth ty a b place known start row : ℕ} {judging : 
   going-first q sheet = record { asked = q; at = rw (all_left a b) (reading-first q.ready (shape_in s) tt sheet); on = standing-first q.few q.fits; count = refl }
 
   module _ {sheet : List ℕ} {i bits here below : ℕ} {l : List ℕ} (g : Going s p depth ty a b place known start row judging sheet i bits here below l) where
-    -- the numbers of fields and rows
-    pub going-few : (i ≤ 2048) × (below ≤ 16384)
-    going-few = omega (arith, g.on.last, g.asked.in_table, few-fields s g.asked.ready.good, g.at.inside, g.at.behind, g.asked.ready.small)
-
     module _ (bit : bits ≡ 0 → ⊥) where
       some : 0 < bits
       some = omega (arith, bit)

@@ -62,13 +62,6 @@ required-more T i left r some room f is h word =
 pub bit-fits : (r b k : ℕ) → r < 2 ^ k → b ≤ 1 → 2 * r + b < 2 ^ suc k
 bit-fits r b k h l = omega (arith, pow-succ' 2 k)
 
-pub required-bit : (optional : ℕ) → required_bit optional ≤ 1
-required-bit optional = go (eqb optional 1)
-  where
-    go : (t : Bool) → cond t 0 1 ≤ 1
-    go true = omega arith
-    go false = omega arith
-
 -- ---- the next bit that is set
 
 -- it stands above the zeros

@@ -5,9 +5,6 @@ use Rattle.walks.proofs.Tables.{few-fields}
 use Rattle.walks.proofs.Presence.{complete-stop, complete-on, complete-end}
 use Rattle.walks.proofs.is_complete.Goals as goal
 
-pub returns-then-not-judging : goal.returns-then-not-judging
-returns-then-not-judging c = sym (c.requires.2 c.if-not-judging.true)
-
 pub overflow_add-i-end : goal.overflow_add-i-end
 overflow_add-i-end c = let h = few-fields _ c.requires.0 in omega (arith, c.requires.1)
 

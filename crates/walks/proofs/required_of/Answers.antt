@@ -1,5 +1,5 @@
 -- `walks::required_of` meets its contract. The invariant: the bits of the fields from i on.
-use Rattle.std.proofs.Common.{◌≡◌, suc, ◌+◌, ◌-◌, ◌≤◌, arith, pow_pos, pow_mono}
+use Rattle.std.proofs.Common.{◌≡◌, suc, ◌+◌, ◌-◌, arith, pow_pos}
 use Rattle.schema.specs.File.{table_of}
 use Rattle.walks.specs.Shape.{fields_from}
 use Rattle.walks.proofs.Tables.{few-fields}
@@ -14,23 +14,6 @@ loop-i-init c =
 
 pub overflow_add-first : goal.overflow_add-first
 overflow_add-first c = let pre = c.requires in omega (arith, few-fields _ pre.0, pre.3, c.loop-i.invariant.0)
-
-pub field_row-f-requires : goal.field_row-f-requires
-field_row-f-requires c = c.requires.1
-
-pub overflow_mul-required : goal.overflow_mul-required
-overflow_mul-required c =
-    let args = c.args in
-    let loop = c.loop-i in
-    let le : args.n - loop.i ≤ 63 = omega (arith, c.requires.2, c.loop-i-test.true) in
-    omega (arith, loop.invariant.1, pow_mono {i = args.n - loop.i} {j = 63} le)
-
-pub overflow_add-required : goal.overflow_add-required
-overflow_add-required c =
-    let args = c.args in
-    let loop = c.loop-i in
-    let le : args.n - loop.i ≤ 63 = omega (arith, c.requires.2, c.loop-i-test.true) in
-    omega (arith, loop.invariant.1, c.bit_of.ensures.1, pow_mono {i = args.n - loop.i} {j = 63} le)
 
 pub loop-i-preserved : goal.loop-i-preserved
 loop-i-preserved c =
@@ -49,11 +32,3 @@ loop-i-preserved c =
       rw long (bit-fits loop.required c.bit_of.result (args.n - loop.i) loop.invariant.1 bit.1),
       rw bit.0 (required-more T (args.first + i) (args.n - i) loop.required (omega (arith, loop.invariant.0)) (omega (arith, pre.3, loop.invariant.0)) _ c.field_row-f.ensures rest),
     )
-
-pub returns : goal.returns
-returns c =
-    let args = c.args in
-    let loop = c.loop-i in
-    let up : args.first + loop.i ≡ args.first = omega arith in
-    let down : args.n - loop.i ≡ args.n = omega arith in
-    rw (up, down) at loop.invariant.2

@@ -1,11 +1,6 @@
 -- `walks::key::digest_of` meets its contract, by the length of the content.
-use Rattle.std.proofs.Common.{sym, ◌∙◌}
-use mathlib.Core.Bool.{false≢true}
 use Rattle.walks.proofs.Digests.{digest-short, digest-word, digest-long}
 use Rattle.walks.proofs.key.digest_of.Goals as goal
-
-pub returns-then-not-judging : goal.returns-then-not-judging
-returns-then-not-judging c j = absurd (false≢true (sym c.if-not-judging.true ∙ j))
 
 pub returns-then-n-lt-WORD : goal.returns-then-n-lt-WORD
 returns-then-n-lt-WORD c j =

@@ -1,11 +1,8 @@
 -- `walks::key::is_among` meets its contract. The invariant: the keys not yet looked at decide.
-use Rattle.std.proofs.Common.{◌≡◌, ℕ, ◌-◌, Bool, false, sym, refl, ◌∙◌, subst, arith}
+use Rattle.std.proofs.Common.{◌≡◌, ℕ, Bool, false, sym, ◌∙◌, subst, arith}
 use Rattle.walks.specs.Keys.{has_digest, Kept}
 use Rattle.walks.proofs.Keys.{unheld, kept-found, kept-other, kept-none}
 use Rattle.walks.proofs.key.is_among.Goals as goal
-
-pub returns-then-not-judging : goal.returns-then-not-judging
-returns-then-not-judging c = sym (c.requires.d_value.1 c.if-not-judging.true)
 
 pub returns-then-not-has_digest : goal.returns-then-not-has_digest
 returns-then-not-has_digest c =
@@ -15,18 +12,6 @@ returns-then-not-has_digest c =
     let all = subst (λ (b : Bool). Kept args.s.now args.keys.now b args.held) judged asked.held_in_bounds.2 in
     unheld args.s.now args.keys.now _ args.held all
     (subst (λ (k : ℕ). has_digest args.keys.now args.held k ≡ false) (asked.d_value.0 judged) (sym c.has_digest.ensures ∙ c.if-not-has_digest.true))
-
-pub loop-j-init : goal.loop-j-init
-loop-j-init c = (refl, omega arith)
-
-pub is_key-requires : goal.is_key-requires
-is_key-requires c =
-    let args = c.args in
-    let asked = c.requires in
-    let loop = c.loop-j in
-    let judged = c.if-not-judging.false in
-    let all = subst (λ (b : Bool). Kept args.s.now args.keys.now b args.held) judged asked.held_in_bounds.2 in
-    (omega arith, asked.held_in_bounds.1, all (loop.j - 1) (omega arith), asked.d_value.0 judged)
 
 pub returns-then-is_key : goal.returns-then-is_key
 returns-then-is_key c =

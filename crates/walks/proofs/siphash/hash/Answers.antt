@@ -6,9 +6,6 @@ use Rattle.walks.proofs.siphash.hash.Goals as goal
 pub loop-i-init : goal.loop-i-init
 loop-i-init c = let args = c.args in (sym (words-none args.s.now args.place args.n c.requires), omega arith)
 
-pub number-requires : goal.number-requires
-number-requires c = (omega arith, omega arith)
-
 pub loop-i-preserved : goal.loop-i-preserved
 loop-i-preserved c =
     let loop = c.loop-i in
