@@ -29,7 +29,7 @@ pub struct Call {
 #[derive(Clone, Copy)]
 pub struct FormRow(pub bool, pub bool, pub bool, pub bool);
 
-// What a step sees of a whole frame, and the side that it came from.
+// What a step sees of a whole frame, and the side that it came from. Side and kind may be any numbers: `judge_frame` promises an answer for each.
 #[derive(Clone, Copy)]
 pub struct Frame {
     pub side: u8,

@@ -1,27 +1,9 @@
--- The bits of a signed number and of a float, by the tests that the code makes.
+-- The bits of a float, by the tests that the code makes.
 use mathlib.Core.Path.{◌≡◌, refl}
-use mathlib.Core.Bool.{Bool, true, false, cond}
-use Prim.Native.Nat.{◌-◌}
-use native.Mathlib.Omega.{arith}
-use borrow.Author.Tests.{ltb-true}
-use lib.IntN.{ℤ, pos, negsuc}
+use mathlib.Core.Bool.{true, false}
 use lib.Ieee.{Float, nan, inf, fin, Format, is_nan, ne, to_bits}
 use lib.Ieee.Compare.{differs_from_itself, nan_differs}
-use lib.Signed.{mag, lt_z}
-use mir.Val.{bool_byte}
-use Rattle.cells.specs.Scalars.{bits_of, float_bits}
-
--- ---- truth values and signed numbers
-
-pub byte-is : (b : Bool) → bool_byte b ≡ cond b 1 0
-byte-is true = refl
-byte-is false = refl
-
-pub bits_below : (z : ℤ) → lt_z z (pos 0) ≡ true → 18446744073709551615 - mag z ≡ bits_of z
-bits_below (pos n) e = absurd (omega (arith, ltb-true n 0 e))
-bits_below (negsuc n) e = omega arith
-
--- ---- floats
+use Rattle.cells.specs.Scalars.{float_bits}
 
 is-nan : (x : Float) → ne x x ≡ true → x ≡ nan
 is-nan x e = differs_from_itself x (rw e tt)

@@ -28,6 +28,7 @@ fn bits_of(x: i64) -> u64
 }
 
 // A float's own bits, and 0 for a NaN, which does not equal itself.
+// Two functions: a trait over both formats would be longer than these and say no more.
 fn bits32(x: f32) -> u32
     ensures { result ≡ float_bits binary32 x }
 {

@@ -1,4 +1,4 @@
-// The table of the forms (docs/FORMAT.md), one row a form.
+// The table of the forms (docs/FORMAT.md), one row a form. Its letters stand as the pages print them: members with names would hide the columns.
 ghost use Rattle.std.specs.Prelude.{◌≡◌};
 ghost use Rattle.calls.specs.Forms.{table_one, row_of_form};
 

@@ -3,10 +3,7 @@ use Rattle.cells.proofs.Tallies.{row-there, row-past}
 use Rattle.cells.proofs.rows.row_in.Goals as goal
 
 pub returns-then-i-cells : goal.returns-then-i-cells
-returns-then-i-cells c =
-    let test = c in
-    let a = test.args in
-    row-there a.cells.now a.i test.if-i-cells.true
+returns-then-i-cells c = row-there c.args.cells.now c.args.i c.if-i-cells.true
 
 pub returns-else-i-cells : goal.returns-else-i-cells
-returns-else-i-cells c = let a = c.args in row-past a.cells.now a.i c.if-i-cells.false
+returns-else-i-cells c = row-past c.args.cells.now c.args.i c.if-i-cells.false
