@@ -25,6 +25,13 @@ use writer::put::put_span;
 use writer::rows::Rows;
 use writer::walk::root;
 
+// The bytes of the source that stand behind the known fields.
+#[derive(Clone, Copy)]
+pub struct Tail {
+    pub place: usize,
+    pub length: usize,
+}
+
 // The place of the root's row; without a row 0.
 fn root_place(sheet: &[u32]) -> usize
     ensures { result ≡ root_place (rows_of sheet.now) }
@@ -54,50 +61,41 @@ fn is_suiting(unknown: usize, n: usize) -> bool
 fn fault_of(
     size: usize,
     unknown: usize,
-    tail_place: usize,
-    tail_length: usize,
+    tail: Tail,
     plain: usize,
     room: usize,
 ) -> Result<(), Refused>
-    ensures fault { told_fault result ≡ fault_of size unknown tail_place tail_length plain room }
+    ensures fault { told_fault result ≡ fault_of size unknown tail.place tail.length plain room }
     ensures place { IfErr result (λ e. e.place ≡ 0) }
 {
-    if size < tail_place {
+    if size < tail.place {
         return Refusal::Outside.at(0);
     }
-    if size - tail_place < tail_length {
+    if size - tail.place < tail.length {
         return Refusal::Outside.at(0);
     }
-    if !is_suiting(unknown, tail_length) {
+    if !is_suiting(unknown, tail.length) {
         return Refusal::Sheet.at(0);
     }
     if limit::PAYLOAD < plain {
         return Refusal::PayloadTooLong.at(0);
     }
-    if limit::PAYLOAD - plain < tail_length {
+    if limit::PAYLOAD - plain < tail.length {
         return Refusal::PayloadTooLong.at(0);
     }
-    if room < plain + tail_length {
+    if room < plain + tail.length {
         return Refusal::OutputTooShort.at(0);
     }
     Ok(())
 }
 
 // Puts the presence bytes, as they stand at the root's place, over those that the plain writer wrote, and the tail after all that it wrote, at pos.
-fn keep(
-    out: &mut [u8],
-    pos: usize,
-    source: &[u8],
-    place: usize,
-    size: usize,
-    tail_place: usize,
-    tail_length: usize,
-)
-    requires { (pos ≤ 16385) × (place + size ≤ length source.now) × (tail_place + tail_length ≤ length source.now) }
-    ensures { out.new ≡ put (put out.old 0 (span source.now place size)) pos (span source.now tail_place tail_length) }
+fn keep(out: &mut [u8], pos: usize, source: &[u8], place: usize, size: usize, tail: Tail)
+    requires { (pos ≤ 16385) × (place + size ≤ length source.now) × (tail.place + tail.length ≤ length source.now) }
+    ensures { out.new ≡ put (put out.old 0 (span source.now place size)) pos (span source.now tail.place tail.length) }
 {
     put_span(out, 0, source, place, size);
-    put_span(out, pos, source, tail_place, tail_length);
+    put_span(out, pos, source, tail.place, tail.length);
 }
 
 // The sheet's rows over the source, with a tail in the source, forwarded as a struct of type ty by a good table. The first walk judges and measures;
@@ -107,11 +105,10 @@ pub fn forward_sheet(
     ty: u32,
     sheet: &[u32],
     source: &[u8],
-    tail_place: usize,
-    tail_length: usize,
+    tail: Tail,
     out: &mut [u8],
 ) -> Result<usize, Refused>
-    ensures { outcome (told result) out.new ≡ sheet_forwarded schema.now.bytes.now ty sheet.now source.now tail_place tail_length out.old }
+    ensures { outcome (told result) out.new ≡ sheet_forwarded schema.now.bytes.now ty sheet.now source.now tail.place tail.length out.old }
 {
     let t = schema.type_row(ty as usize);
     if t.kind != Kind::Struct as u32 {
@@ -128,14 +125,7 @@ pub fn forward_sheet(
     let pos = root(&judged, &mut out[..0], ty, first, n)?.pos;
     let place = root_place(sheet);
     let unknown = unknown_at(source, place, n);
-    fault_of(
-        source.len(),
-        unknown,
-        tail_place,
-        tail_length,
-        pos,
-        out.len(),
-    )?;
+    fault_of(source.len(), unknown, tail, pos, out.len())?;
     let known = Rows {
         judging: false,
         ..judged
@@ -147,10 +137,9 @@ pub fn forward_sheet(
         source,
         place,
         (n + bitmap::SPARE_BITS) / bitmap::BYTE_BITS,
-        tail_place,
-        tail_length,
+        tail,
     );
-    Ok(pos + tail_length)
+    Ok(pos + tail.length)
 }
 
 // The same by any table: its own refusals come first.
@@ -167,5 +156,9 @@ pub fn forward(
     ensures { outcome (told result) out.new ≡ forward_outcome s.now ty sheet.now source.now tail_place tail_length out.old }
 {
     let schema = Schema::check(s)?;
-    forward_sheet(&schema, ty, sheet, source, tail_place, tail_length, out)
+    let tail = Tail {
+        place: tail_place,
+        length: tail_length,
+    };
+    forward_sheet(&schema, ty, sheet, source, tail, out)
 }

@@ -30,7 +30,7 @@ returns-then-t c =
     let type_row = c.type_row-t in
     rw c.at.ensures
     (entry_other args.schema.now.bytes.now c.args.schema.now.good args.ty args.sheet.now args.source.now
-    args.tail_place args.tail_length args.out.now _ type_row.ensures c.if-t.true)
+    args.tail.place args.tail.length args.out.now _ type_row.ensures c.if-t.true)
 
 pub root-requires : goal.root-requires
 root-requires c =
@@ -61,7 +61,7 @@ unknown_at-unknown-requires c =
     let fs = fields_from T type_row.result.a type_row.result.b in
     let there = struct_row args.schema.now.bytes.now c.args.schema.now.good args.ty _ type_row.ensures if1.false in
     let many = length_fields T type_row.result.a type_row.result.b there.2 in
-    let within = entry-inside args.schema.now.bytes.now args.ty args.sheet.now args.source.now args.tail_place args.tail_length args.out.now fs is
+    let within = entry-inside args.schema.now.bytes.now args.ty args.sheet.now args.source.now args.tail.place args.tail.length args.out.now fs is
     _ _ _ c.root.ensures c.root.auto.out _ c.in_ok-pos.was
     placed.result _ placed.ensures many in
     (there.1, within)
@@ -79,7 +79,7 @@ returns-in_err-fault_of c =
     let there = struct_row args.schema.now.bytes.now c.args.schema.now.good args.ty _ type_row.ensures if1.false in
     let many = length_fields T type_row.result.a type_row.result.b there.2 in
     rw (handed c.from_residual-in_err-fault_of.ensures.1)
-    (entry-fault args.schema.now.bytes.now args.ty args.sheet.now args.source.now args.tail_place args.tail_length args.out.now fs is
+    (entry-fault args.schema.now.bytes.now args.ty args.sheet.now args.source.now args.tail.place args.tail.length args.out.now fs is
     _ _ _ c.root.ensures c.root.auto.out _ c.in_ok-pos.was
     placed.result _ placed.ensures many _ unknown.ensures _ c.fault_of.ensures.fault _ (ap told_fault c.in_err-fault_of.was) (IfErr-at_err (λ (e : Refused). e.place ≡ 0) c.in_err-fault_of.was c.fault_of.ensures.place))
 
@@ -95,7 +95,7 @@ slice_bounds-root-end-3 c =
     let fs = fields_from T type_row.result.a type_row.result.b in
     let there = struct_row args.schema.now.bytes.now c.args.schema.now.good args.ty _ type_row.ensures if1.false in
     let many = length_fields T type_row.result.a type_row.result.b there.2 in
-    entry-fits args.schema.now.bytes.now args.ty args.sheet.now args.source.now args.tail_place args.tail_length args.out.now fs is
+    entry-fits args.schema.now.bytes.now args.ty args.sheet.now args.source.now args.tail.place args.tail.length args.out.now fs is
     _ _ _ c.root.ensures c.root.auto.out _ c.in_ok-pos.was
     placed.result _ placed.ensures many _ unknown.ensures _ c.fault_of.ensures.fault (ap told_fault c.in_ok-fault_of.was)
 
@@ -112,7 +112,7 @@ slice_bounds-root-end-4 c =
     let there = struct_row args.schema.now.bytes.now c.args.schema.now.good args.ty _ type_row.ensures if1.false in
     let many = length_fields T type_row.result.a type_row.result.b there.2 in
     sym (length-take-le _ _
-    (entry-fits args.schema.now.bytes.now args.ty args.sheet.now args.source.now args.tail_place args.tail_length args.out.now fs is
+    (entry-fits args.schema.now.bytes.now args.ty args.sheet.now args.source.now args.tail.place args.tail.length args.out.now fs is
     _ _ _ c.root.ensures c.root.auto.out _ c.in_ok-pos.was
     placed.result _ placed.ensures many _ unknown.ensures _ c.fault_of.ensures.fault (ap told_fault c.in_ok-fault_of.was)))
 
@@ -128,13 +128,13 @@ root-requires-2 c =
     let fs = fields_from T type_row.result.a type_row.result.b in
     let there = struct_row args.schema.now.bytes.now c.args.schema.now.good args.ty _ type_row.ensures if1.false in
     let many = length_fields T type_row.result.a type_row.result.b there.2 in
-    let room = entry-fits args.schema.now.bytes.now args.ty args.sheet.now args.source.now args.tail_place args.tail_length args.out.now fs is
+    let room = entry-fits args.schema.now.bytes.now args.ty args.sheet.now args.source.now args.tail.place args.tail.length args.out.now fs is
     _ _ _ c.root.ensures c.root.auto.out _ c.in_ok-pos.was
     placed.result _ placed.ensures many _ unknown.ensures _ c.fault_of.ensures.fault (ap told_fault c.in_ok-fault_of.was) in
-    let short = entry-short args.schema.now.bytes.now args.ty args.sheet.now args.source.now args.tail_place args.tail_length args.out.now fs is
+    let short = entry-short args.schema.now.bytes.now args.ty args.sheet.now args.source.now args.tail.place args.tail.length args.out.now fs is
     _ _ _ c.root.ensures c.root.auto.out _ c.in_ok-pos.was
     placed.result _ placed.ensures many _ unknown.ensures _ c.fault_of.ensures.fault (ap told_fault c.in_ok-fault_of.was) in
-    let shown = entry-accepted args.schema.now.bytes.now args.ty args.sheet.now args.source.now args.tail_place args.tail_length args.out.now fs is
+    let shown = entry-accepted args.schema.now.bytes.now args.ty args.sheet.now args.source.now args.tail.place args.tail.length args.out.now fs is
     _ _ _ c.root.ensures c.root.auto.out _ c.in_ok-pos.was in record {
       ready = (
         record {
@@ -161,13 +161,13 @@ keep-requires c =
     let there = struct_row args.schema.now.bytes.now c.args.schema.now.good args.ty _ type_row.ensures if1.false in
     let many = length_fields T type_row.result.a type_row.result.b there.2 in
     let none = ap told_fault c.in_ok-fault_of.was in
-    let short = entry-short args.schema.now.bytes.now args.ty args.sheet.now args.source.now args.tail_place args.tail_length args.out.now fs is
+    let short = entry-short args.schema.now.bytes.now args.ty args.sheet.now args.source.now args.tail.place args.tail.length args.out.now fs is
     _ _ _ c.root.ensures c.root.auto.out _ c.in_ok-pos.was
     placed.result _ placed.ensures many _ unknown.ensures _ c.fault_of.ensures.fault none in
-    let within = entry-inside args.schema.now.bytes.now args.ty args.sheet.now args.source.now args.tail_place args.tail_length args.out.now fs is
+    let within = entry-inside args.schema.now.bytes.now args.ty args.sheet.now args.source.now args.tail.place args.tail.length args.out.now fs is
     _ _ _ c.root.ensures c.root.auto.out _ c.in_ok-pos.was
     placed.result _ placed.ensures many in
-    let tail = entry-tail args.schema.now.bytes.now args.ty args.sheet.now args.source.now args.tail_place args.tail_length args.out.now fs is
+    let tail = entry-tail args.schema.now.bytes.now args.ty args.sheet.now args.source.now args.tail.place args.tail.length args.out.now fs is
     _ _ _ c.root.ensures c.root.auto.out _ c.in_ok-pos.was
     placed.result _ placed.ensures many _ unknown.ensures _ c.fault_of.ensures.fault none in
     (omega (arith, short), within, tail)
@@ -184,7 +184,7 @@ overflow_add-result c =
     let fs = fields_from T type_row.result.a type_row.result.b in
     let there = struct_row args.schema.now.bytes.now c.args.schema.now.good args.ty _ type_row.ensures if1.false in
     let many = length_fields T type_row.result.a type_row.result.b there.2 in
-    let short = entry-short args.schema.now.bytes.now args.ty args.sheet.now args.source.now args.tail_place args.tail_length args.out.now fs is
+    let short = entry-short args.schema.now.bytes.now args.ty args.sheet.now args.source.now args.tail.place args.tail.length args.out.now fs is
     _ _ _ c.root.ensures c.root.auto.out _ c.in_ok-pos.was
     placed.result _ placed.ensures many _ unknown.ensures _ c.fault_of.ensures.fault (ap told_fault c.in_ok-fault_of.was) in
     omega (arith, short)
@@ -198,7 +198,7 @@ returns-in_err-pos c =
     let is = shape-struct T args.ty _ type_row.ensures if1.false in
     let fs = fields_from T type_row.result.a type_row.result.b in
     rw (handed c.from_residual.ensures.1)
-    (entry-refused args.schema.now.bytes.now args.ty args.sheet.now args.source.now args.tail_place args.tail_length args.out.now fs is
+    (entry-refused args.schema.now.bytes.now args.ty args.sheet.now args.source.now args.tail.place args.tail.length args.out.now fs is
     _ _ _ c.root.ensures c.root.auto.out c.in_err-pos.was)
 
 pub returns : goal.returns
@@ -214,7 +214,7 @@ returns c =
     let there = struct_row args.schema.now.bytes.now c.args.schema.now.good args.ty _ type_row.ensures if1.false in
     let many = length_fields T type_row.result.a type_row.result.b there.2 in
     let root2 = c.root-2 in
-    entry-written args.schema.now.bytes.now args.ty args.sheet.now args.source.now args.tail_place args.tail_length args.out.now fs is
+    entry-written args.schema.now.bytes.now args.ty args.sheet.now args.source.now args.tail.place args.tail.length args.out.now fs is
     _ _ _ c.root.ensures c.root.auto.out _ c.in_ok-pos.was
     placed.result _ placed.ensures many _ unknown.ensures _ c.fault_of.ensures.fault (ap told_fault c.in_ok-fault_of.was)
     _ _ root2.ensures _ c.keep.ensures

@@ -10,4 +10,4 @@ pub returns : goal.returns
 returns c =
     let args = c.args in
     let put-span = c.put_span in
-    c.put_span-2.ensures.holds ∙ ap (λ (x : List ℕ). put x args.pos (span args.source.now args.tail_place args.tail_length)) put-span.ensures.holds
+    c.put_span-2.ensures.holds ∙ ap (λ (x : List ℕ). put x args.pos (span args.source.now args.tail.place args.tail.length)) put-span.ensures.holds
