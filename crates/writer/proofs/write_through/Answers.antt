@@ -14,15 +14,6 @@ returns-then-out-length c =
     rw c.at.ensures
     (entry-room args.schema.now.bytes.now args.ty args.sheet.now args.source.now args.out.now _ (sym make.ensures.value ∙ ap told c.in_ok-length.was) c.if-out-length.true)
 
-pub slice_bounds-put_payload-end-then-scratch-length : goal.slice_bounds-put_payload-end-then-scratch-length
-slice_bounds-put_payload-end-then-scratch-length c = sym (length-take-le _ _ c.if-out-length.false)
-
-pub put_payload-requires : goal.put_payload-requires
-put_payload-requires c =
-    let make = c.make in
-    let room = length-take-le _ _ c.if-out-length.false in
-    record { good = c.args.schema.now.good; source_value = sym make.ensures.value ∙ ap told c.in_ok-length.was ∙ ap Written (sym room) }
-
 pub returns-in_err-length : goal.returns-in_err-length
 returns-in_err-length c =
     let make = c.make in

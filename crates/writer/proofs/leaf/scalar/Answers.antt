@@ -25,14 +25,6 @@ returns-then-source-place c =
     (scalar-outside args.source.now args.kind args.place args.n args.count args.row asked.0 (c.if-n-width_of.false ∙ c.width_of.ensures)
     c.if-count-ne0.false c.if-source-place.true)
 
-pub bounds-source-place : goal.bounds-source-place
-bounds-source-place c =
-    let args = c.args in
-    let asked = c.requires in
-    let width_of = c.width_of in
-    one_byte args.source.now args.kind args.place args.n args.count args.row asked.0 (c.if-n-width_of.false ∙ width_of.ensures) c.if-count-ne0.false
-    c.if-source-place.false c.if-kind.true
-
 pub returns-then-source-place-gt1 : goal.returns-then-source-place-gt1
 returns-then-source-place-gt1 c =
     let args = c.args in

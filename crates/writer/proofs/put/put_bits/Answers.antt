@@ -4,18 +4,12 @@ use native.Mathlib.Omega.{arith}
 use Rattle.writer.proofs.Puts.{bits-first, bits-turn, bits-done}
 use Rattle.writer.proofs.put.put_bits.Goals as goal
 
-pub loop-i-init : goal.loop-i-init
-loop-i-init c = (bits-first _ _ _ _, omega arith, refl)
-
 pub loop-i-preserved : goal.loop-i-preserved
 loop-i-preserved c =
     let loop = c.loop-i in
     let loop-test = c.loop-i-test in
     let put_byte = c.put_byte in
     (bits-turn _ _ _ _ _ _ _ loop.invariant.0 loop-test.true _ put_byte.ensures, omega arith, put_byte.auto.out ∙ loop.invariant.2)
-
-pub shape_of-out : goal.shape_of-out
-shape_of-out c = c.loop-i.invariant.2
 
 pub returns : goal.returns
 returns c = bits-done _ _ _ _ _ _ _ c.loop-i.invariant.0 c.loop-i-test.false _ c.further.ensures

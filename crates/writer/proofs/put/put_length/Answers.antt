@@ -4,6 +4,3 @@ use Rattle.writer.proofs.put.put_length.Goals as goal
 
 pub returns-then-kind : goal.returns-then-kind
 returns-then-kind c = length_none _ _ c.args.kind c.args.n c.if-kind.true c.requires
-
-pub returns : goal.returns
-returns c = length_some _ _ c.args.kind c.args.n _ _ c.if-kind.false c.put_number.ensures

@@ -36,9 +36,6 @@ overflow_sub-at c =
     let h = groups-last args.out.now args.pos args.x loop.out loop.at loop.y loop.invariant.1 (omega arith) in
     omega arith
 
-pub shape_of-out : goal.shape_of-out
-shape_of-out c = c.put_byte-2.auto.out ∙ c.loop-y.invariant.0
-
 pub returns : goal.returns
 returns c =
     let args = c.args in
