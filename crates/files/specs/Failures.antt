@@ -32,3 +32,7 @@ GivesFront old new buf = (n : ℕ) × (n ≤ length buf) × Consumes old new (ta
 -- a writer took the bytes up to some place, and no others
 abbrev pub TakesFront : Option (List ℕ) → Option (List ℕ) → List ℕ → Type 0
 TakesFront old new bytes = (n : ℕ) × (n ≤ length bytes) × Appends old new (take n bytes)
+
+-- a reader gave some bytes, none or more, and has what stood after them left
+abbrev pub GivesSome : Option (List ℕ) → Option (List ℕ) → Type 0
+GivesSome old new = (bs : List ℕ) × Consumes old new bs

@@ -110,8 +110,8 @@ fn text(path: &[u8]) -> io::Result<&str>
     str::from_utf8(path).map_err(|_| io::Error::from_raw_os_error(NO_TEXT))
 }
 
-// Fills buf from a file, as far as the file has bytes, and answers how many it has put there.
-fn fill<R: Read>(file: &mut R, buf: &mut [u8]) -> io::Result<usize>
+// Fills buf from a reader, as far as that has bytes, and answers how many it has put there.
+pub fn fill<R: Read>(file: &mut R, buf: &mut [u8]) -> io::Result<usize>
     ensures in_bounds { ReadsAtMost result buf.new }
     ensures bytes { IfOk result (λ n. Consumes (R.remaining file.old) (R.remaining file.new) (take n buf.new)) }
     ensures end { IfOk result (λ n. n < length buf.new → IsAtEnd (R.remaining file.new)) }

@@ -3,7 +3,6 @@ use crate::arguments::{FIRST, SECOND, THIRD};
 use crate::blank;
 use crate::failure::{Failure, both};
 use crate::print::{holds, print};
-use index::Finding;
 use std::rt::{Env, Files};
 use words::number::number_of;
 
@@ -12,13 +11,11 @@ pub const TEXT: usize = 180300;
 
 fn show(rt: &impl Print, index: &[u8], record: &[u8], correlation: u64) -> Result<(), Failure> {
     let mut out = blank::found();
-    match arf::look_up(index, record, correlation, &mut out) {
-        Finding::Refused { number: _ } => Err(Failure::LongText),
-        Finding::Printed { number: _, length } => {
-            let n = files::front(length, &out);
-            print(rt, &out[..n])
-        }
-    }
+    let printed = arf::look_up(index, record, correlation, &mut out).map_err(
+        |_| Failure::LongText,
+    )?;
+    let n = files::front(printed.length, &out);
+    print(rt, &out[..n])
 }
 
 // The correlation that the verb's third argument gives.

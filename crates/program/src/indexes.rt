@@ -4,7 +4,7 @@ use crate::failure::{Failure, both};
 use crate::print::holds;
 use crate::save::save_file;
 use crate::{blank, told};
-use index::{Indexing, ROW};
+use index::ROW;
 use std::rt::{Env, Files};
 
 // The most bytes of an index.
@@ -26,8 +26,8 @@ fn save<R: Env + Files>(rt: &R, index: &[u8]) -> Result<(), Failure> {
 fn make<R: Env + Files + Print>(rt: &R, schema: &[u8], record: &[u8]) -> Result<(), Failure> {
     let mut out = blank::index();
     match arf::make_index(schema, record, &mut out) {
-        Indexing::Refused { number, place } => told::refused(rt, number, place),
-        Indexing::Made { length } => {
+        Err(refused) => told::refused(rt, u32::from(refused.refusal), refused.place),
+        Ok(length) => {
             let n = files::front(length, &out);
             save(rt, &out[..n])?;
             told::indexed(rt, entries_of(length), length)

@@ -3,7 +3,6 @@
 use crate::arguments::FIRST;
 use crate::failure::Failure;
 use crate::{blank, save, told};
-use salvage::Salvaging;
 use std::rt::{Env, Files};
 
 // The most cells that a list needs.
@@ -14,16 +13,12 @@ fn keep<R: Env + Files + Print>(rt: &R, record: &[u8]) -> Result<(), Failure> {
     let mut copy = blank::record();
     let mut spans = blank::spans();
     match arf::salvage(record, &mut copy, &mut spans) {
-        Salvaging::Refused { number } => told::refused(rt, number, 0),
-        Salvaging::Salvaged {
-            entries,
-            bytes,
-            spans: listed,
-        } => {
-            let n = files::front(bytes, &copy);
-            let m = save::front_cells(listed, &spans);
+        Err(refusal) => told::refused(rt, u32::from(refusal), 0),
+        Ok(kept) => {
+            let n = files::front(kept.bytes, &copy);
+            let m = save::front_cells(kept.spans, &spans);
             save::save(rt, &copy[..n], &spans[..m])?;
-            told::kept(rt, entries, bytes, &spans[..m])
+            told::kept(rt, kept.entries, kept.bytes, &spans[..m])
         }
     }
 }

@@ -4,6 +4,7 @@ pub mod Kept
 pub mod Payloads
 pub mod Returns
 pub mod Halts
+pub mod Told
 pub mod Lent
 pub mod Apart
 pub mod Records

@@ -8,10 +8,10 @@ use calls::Call;
 use cells::rows::{TALLY_CELLS, put_row, row_in};
 use connection::CallTable;
 use constants::limit;
-use receiver::planning::{plan, plan_release};
+use receiver::planning::{plan, plan_release, row_of};
 use receiver::settling::{settle, settle_release};
 use std::io::{Read, Write};
-use table::access::method_count;
+use table::good::Schema;
 
 // The most events of a run or a history.
 const EVENTS: u32 = 1000;
@@ -43,8 +43,8 @@ pub fn history(from: &mut impl Read, to: &mut impl Write) -> Result<(), Stop> {
 fn fresh_rows(schema: &[u8]) -> usize
     ensures { result ≤ 256 }
 {
-    match arf::check_table(schema) {
-        Ok(()) => method_count(schema),
+    match Schema::check(schema) {
+        Ok(schema) => schema.method_count(),
         Err(_) => 0,
     }
 }
@@ -127,11 +127,11 @@ fn released(
     to: &mut impl Write,
 ) -> Result<Next, Stop> {
     let plan = plan_release(table, schema, correlation, tallies.len() / TALLY_CELLS);
-    let row = plan.row;
+    let row = row_of(&plan);
     let next = settle_release(table, plan, row_in(tallies, row));
     put_row(tallies, row, next.row);
     let r = next.answer;
-    output::numbers(to, &[u64::from(r.number), r.place as u64, r.open as u64])?;
+    output::numbers(to, &[u64::from(r.number()), r.place as u64, r.open as u64])?;
     Ok(Next {
         table: r.table,
         sum: 0,
@@ -177,13 +177,12 @@ fn answer(
     to: &mut impl Write,
 ) -> Result<Next, Stop> {
     let plan = plan(table, schema, side, data, tallies.len() / TALLY_CELLS);
-    let row = plan.row;
-    let old = row_in(tallies, row);
-    let next = settle(table, plan, schema, data, sheet, old);
+    let row = row_of(&plan);
+    let next = settle(table, plan, schema, data, sheet, row_in(tallies, row));
     put_row(tallies, row, next.row);
     let r = next.answer;
     let numbers = [
-        u64::from(r.number),
+        u64::from(r.number()),
         r.place as u64,
         r.used as u64,
         r.rows as u64,

@@ -1,7 +1,9 @@
 // Cases of the frame reader and of the frame writer.
 use crate::stop::Stop;
 use crate::{blank, input, output, sums};
-use frame::{FrameRead, FrameWritten, Header};
+use constants::numbered::Numbered;
+use constants::refusal::{MORE, Refusal};
+use frame::{FrameRead, Header};
 use std::io::{Read, Write};
 
 // The most bytes of an output, and what each holds before the call.
@@ -24,15 +26,13 @@ const NO_HEADER: Header = Header {
     correlation: 0,
 };
 
-fn print_read(to: &mut impl Write, answer: FrameRead) -> Result<(), Stop> {
+fn print_read(to: &mut impl Write, answer: Result<FrameRead, Refusal>) -> Result<(), Stop> {
     match answer {
-        FrameRead::More => print_frame(to, 1, NO_HEADER, 0, 0),
-        FrameRead::Refused(number) => print_frame(to, number, NO_HEADER, 0, 0),
-        FrameRead::Frame {
-            header,
-            place,
-            length,
-        } => print_frame(to, 0, header, place, length),
+        Ok(FrameRead::Whole(frame)) => {
+            print_frame(to, 0, frame.header, frame.place, frame.length)
+        }
+        Ok(FrameRead::More) => print_frame(to, MORE, NO_HEADER, 0, 0),
+        Err(refusal) => print_frame(to, refusal.number(), NO_HEADER, 0, 0),
     }
 }
 
@@ -78,11 +78,8 @@ pub fn read_header(from: &mut impl Read) -> Result<Header, Stop> {
 }
 
 fn show(to: &mut impl Write, header: Header, payload: &[u8], out: &mut [u8]) -> Result<(), Stop> {
-    let (number, length) = match arf::write_frame(header, payload, out) {
-        FrameWritten::Written(length) => (0, length),
-        FrameWritten::Refused(number) => (number, 0),
-    };
-    output::numbers(to, &[u64::from(number), length as u64])?;
+    let answer = arf::write_frame(header, payload, out);
+    output::numbers(to, &[output::number(&answer), answer.unwrap_or(0) as u64])?;
     output::last(to, sums::of_bytes(out))?;
     Ok(())
 }

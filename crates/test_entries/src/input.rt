@@ -1,7 +1,7 @@
 // The numbers and byte strings of a case, off the case file. Each reader stops where the file ends too soon.
 ghost use Rattle.std.specs.Prelude.{◌≡◌, ◌<◌, length, IfErr};
 ghost use Rattle.std.specs.Io.{ReadsAtMost};
-ghost use Rattle.test_entries.specs.Reading.{GivesSome};
+ghost use Rattle.files.specs.Failures.{GivesSome};
 ghost use Rattle.test_entries.specs.declared.stop.Stop.TheVariants.{Cut};
 
 use crate::stop::Stop;
@@ -13,13 +13,8 @@ fn fill_bytes<R: Read>(from: &mut R, buf: &mut [u8]) -> Result<(), Stop>
     ensures len { length buf.new ≡ length buf.old }
     ensures left { GivesSome (R.remaining from.old) (R.remaining from.new) }
 {
-    let mut n = 0;
-    while n < buf.len() {
-        let more = from.read(&mut buf[n..])?;
-        if more == 0 {
-            return Err(Stop::Cut);
-        }
-        n += more;
+    if files::fill(from, buf)? < buf.len() {
+        return Err(Stop::Cut);
     }
     Ok(())
 }

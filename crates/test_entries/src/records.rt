@@ -1,8 +1,9 @@
 // Cases of the salvage of a record, of its index and of a look-up in one.
 use crate::stop::Stop;
 use crate::{blank, input, output, sums};
-use index::{Finding, Indexing};
-use salvage::Salvaging;
+use constants::numbered::Numbered;
+use constants::refusal::Refusal;
+use index::Printed;
 use std::io::{Read, Write};
 
 // Code 17: a record, the copy's length and the number of the list's cells. The line has number, entries kept, bytes copied, spans listed, the copy's sum
@@ -24,12 +25,8 @@ fn show(
     spans: &mut [u32],
 ) -> Result<(), Stop> {
     let numbers = match arf::salvage(record, copy, spans) {
-        Salvaging::Salvaged {
-            entries,
-            bytes,
-            spans,
-        } => [0, entries as u64, bytes as u64, spans as u64],
-        Salvaging::Refused { number } => [u64::from(number), 0, 0, 0],
+        Ok(kept) => [0, kept.entries as u64, kept.bytes as u64, kept.spans as u64],
+        Err(refusal) => [u64::from(refusal.number()), 0, 0, 0],
     };
     output::numbers(to, &numbers)?;
     output::numbers(to, &[sums::of_bytes(copy)])?;
@@ -54,11 +51,8 @@ fn show_index(
     record: &[u8],
     out: &mut [u8],
 ) -> Result<(), Stop> {
-    let numbers = match arf::make_index(schema, record, out) {
-        Indexing::Made { length } => [0, 0, length as u64],
-        Indexing::Refused { number, place } => [u64::from(number), place as u64, 0],
-    };
-    output::numbers(to, &numbers)?;
+    let answer = arf::make_index(schema, record, out);
+    output::numbers(to, &output::written(&answer))?;
     output::last(to, sums::of_bytes(out))?;
     Ok(())
 }
@@ -75,6 +69,14 @@ pub fn look_up(from: &mut impl Read, to: &mut impl Write) -> Result<(), Stop> {
     show_look_up(to, &index[..n], &record[..m], correlation, &mut out[..room])
 }
 
+// What follows `stopped` in the text.
+fn stopped(printed: Printed) -> Result<(), Refusal> {
+    match printed.stopped {
+        None => Ok(()),
+        Some(refusal) => Err(refusal),
+    }
+}
+
 fn show_look_up(
     to: &mut impl Write,
     index: &[u8],
@@ -83,8 +85,8 @@ fn show_look_up(
     out: &mut [u8],
 ) -> Result<(), Stop> {
     let numbers = match arf::look_up(index, record, correlation, out) {
-        Finding::Printed { number, length } => [u64::from(number), length as u64],
-        Finding::Refused { number } => [u64::from(number), 0],
+        Ok(printed) => [output::number(&stopped(printed)), printed.length as u64],
+        Err(refusal) => [u64::from(refusal.number()), 0],
     };
     output::numbers(to, &numbers)?;
     output::last(to, sums::of_bytes(out))?;

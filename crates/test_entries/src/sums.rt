@@ -1,4 +1,5 @@
 // FNV-1a, 64 bits, by which the whole of a lent buffer is compared.
+use connection::slots::Slots;
 use constants::limit;
 
 pub const START: u64 = 14695981039346656037;

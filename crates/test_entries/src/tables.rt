@@ -15,12 +15,8 @@ pub fn check(from: &mut impl Read, to: &mut impl Write) -> Result<(), Stop> {
 }
 
 fn print_checked(to: &mut impl Write, answer: Result<(), Refused>) -> Result<(), Stop> {
-    let (number, place) = match answer {
-        Ok(()) => (0, 0),
-        Err(refused) => (u32::from(refused.refusal), refused.place),
-    };
-    output::numbers(to, &[u64::from(number)])?;
-    output::last(to, place as u64)?;
+    output::numbers(to, &[output::number(&answer)])?;
+    output::last(to, output::place(&answer))?;
     Ok(())
 }
 
@@ -34,11 +30,7 @@ pub fn extends(from: &mut impl Read, to: &mut impl Write) -> Result<(), Stop> {
 }
 
 fn print_extended(to: &mut impl Write, answer: Result<bool, Refused>) -> Result<(), Stop> {
-    let (number, place, yes) = match answer {
-        Ok(yes) => (0, 0, yes),
-        Err(refused) => (u32::from(refused.refusal), refused.place, false),
-    };
-    output::numbers(to, &[u64::from(number), place as u64])?;
-    output::last(to, u64::from(yes))?;
+    output::numbers(to, &[output::number(&answer), output::place(&answer)])?;
+    output::last(to, u64::from(answer.unwrap_or(false)))?;
     Ok(())
 }

@@ -2,12 +2,13 @@
 use crate::frames::read_header;
 use crate::stop::Stop;
 use crate::{blank, input, output, sums};
+use constants::refusal::Refused;
 use frame::Header;
-use reader::Reading;
-use scalar::{Answer, Scalar};
+use reader::Shown;
+use receiver::payload::NOTHING;
+use scalar::Scalar;
 use std::io::{Read, Write};
 use value::Row;
-use writer::Writing;
 
 // What the lent cells hold before the call.
 pub const CELL: u32 = 2779096485;
@@ -71,23 +72,19 @@ fn show_beside(
     )
 }
 
-fn print_reading(to: &mut impl Write, answer: Reading, sheet: &[u32]) -> Result<(), Stop> {
-    let numbers = match answer {
-        Reading::Shown {
-            rows,
-            tail_place,
-            tail_length,
-            comparisons,
-        } => [
-            0,
-            0,
-            rows as u64,
-            tail_place as u64,
-            tail_length as u64,
-            comparisons as u64,
-        ],
-        Reading::Refused { number, place } => [u64::from(number), place as u64, 0, 0, 0, 0],
-    };
+fn print_reading(
+    to: &mut impl Write,
+    answer: Result<Shown, Refused>,
+    sheet: &[u32],
+) -> Result<(), Stop> {
+    output::numbers(to, &[output::number(&answer), output::place(&answer)])?;
+    let shown = answer.unwrap_or(NOTHING);
+    let numbers = [
+        shown.rows as u64,
+        shown.tail_place as u64,
+        shown.tail_length as u64,
+        shown.comparisons as u64,
+    ];
     output::numbers(to, &numbers)?;
     output::last(to, sums::of_cells(sheet))?;
     Ok(())
@@ -108,13 +105,15 @@ pub fn scalar(from: &mut impl Read, to: &mut impl Write) -> Result<(), Stop> {
     print_answer(to, arf::scalar(&schema[..n], row, &data[..m]))
 }
 
-fn print_answer(to: &mut impl Write, answer: Answer) -> Result<(), Stop> {
-    let (number, place, case) = match answer {
-        Answer::Refused { number, place } => (number, place, (0, 0, 0)),
-        Answer::Is(scalar) => (0, 0, case_of(scalar)),
+fn print_answer(to: &mut impl Write, answer: Result<Scalar, Refused>) -> Result<(), Stop> {
+    let (which, a, b) = match answer {
+        Ok(scalar) => case_of(scalar),
+        Err(_) => (0, 0, 0),
     };
-    let (which, a, b) = case;
-    output::numbers(to, &[u64::from(number), place as u64, which, a])?;
+    output::numbers(
+        to,
+        &[output::number(&answer), output::place(&answer), which, a],
+    )?;
     output::last(to, b)?;
     Ok(())
 }
@@ -172,12 +171,12 @@ fn show_written(
     print_writing(to, arf::write(schema, ty, sheet, data, out), out)
 }
 
-fn print_writing(to: &mut impl Write, answer: Writing, out: &[u8]) -> Result<(), Stop> {
-    let numbers = match answer {
-        Writing::Written { length } => [0, 0, length as u64],
-        Writing::Refused { number, place } => [u64::from(number), place as u64, 0],
-    };
-    output::numbers(to, &numbers)?;
+fn print_writing(
+    to: &mut impl Write,
+    answer: Result<usize, Refused>,
+    out: &[u8],
+) -> Result<(), Stop> {
+    output::numbers(to, &output::written(&answer))?;
     output::last(to, sums::of_bytes(out))?;
     Ok(())
 }

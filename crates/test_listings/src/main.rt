@@ -3,7 +3,7 @@
 
 ghost use Rattle.std.specs.Prelude.{◌≡◌, length};
 ghost use Rattle.std.specs.Io.{ReadsAtMost};
-ghost use Rattle.test_listings.specs.Reading.{GivesSome};
+ghost use Rattle.files.specs.Failures.{GivesSome};
 
 use std::io;
 use std::io::{ErrorKind, Read};
@@ -25,13 +25,8 @@ fn fill_bytes<R: Read>(from: &mut R, buf: &mut [u8]) -> io::Result<()>
     ensures len { length buf.new ≡ length buf.old }
     ensures left { GivesSome (R.remaining from.old) (R.remaining from.new) }
 {
-    let mut n = 0;
-    while n < buf.len() {
-        let more = from.read(&mut buf[n..])?;
-        if more == 0 {
-            return Err(io::Error::from(ErrorKind::UnexpectedEof));
-        }
-        n += more;
+    if files::fill(from, buf)? < buf.len() {
+        return Err(io::Error::from(ErrorKind::UnexpectedEof));
     }
     Ok(())
 }

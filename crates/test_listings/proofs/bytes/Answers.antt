@@ -1,5 +1,5 @@
 -- The bytes are read after their number.
-use Rattle.test_listings.proofs.Readings.{GivesSome-trans}
+use Rattle.files.proofs.Readings.{GivesSome-trans}
 use Rattle.test_listings.proofs.bytes.Goals as goal
 
 pub returns-in_err-fill_bytes-clause-left : goal.returns-in_err-fill_bytes-clause-left

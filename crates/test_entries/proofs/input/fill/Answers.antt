@@ -1,5 +1,5 @@
 -- Each cell is read after those before it.
-use Rattle.test_entries.proofs.Readings.{GivesSome-trans}
+use Rattle.files.proofs.Readings.{GivesSome-trans}
 use Rattle.test_entries.proofs.input.fill.Goals as goal
 
 pub returns-in_err-cell : goal.returns-in_err-cell

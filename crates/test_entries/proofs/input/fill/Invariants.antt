@@ -1,5 +1,5 @@
 -- The turns of `fill` read one after another.
-use Rattle.test_entries.specs.Reading.{GivesSome}
+use Rattle.files.specs.Failures.{GivesSome}
 use Rattle.test_entries.proofs.input.fill.Given as goal
 
 abbrev pub invariant-loop-cell : goal.invariant-loop-cell

@@ -1,5 +1,5 @@
 -- The rows are read after their number.
-use Rattle.test_entries.proofs.Readings.{GivesSome-trans}
+use Rattle.files.proofs.Readings.{GivesSome-trans}
 use Rattle.test_entries.proofs.input.rows.Goals as goal
 
 pub returns-in_err-fill-clause-left : goal.returns-in_err-fill-clause-left

@@ -1,0 +1,54 @@
+-- No two answers tell the same.
+use Rattle.std.proofs.Common.{◌≡◌, refl, sym, ap, ◌∙◌, ℕ, cond, ◌==◌, Result, Ok, Err}
+use Rattle.std.specs.Prelude.{Bool, true, false, ⊤}
+use borrow.Author.Tests.{eqb-true}
+use Rattle.constants.specs.Number.{number_of}
+use Rattle.constants.proofs.Number.{named}
+use Rattle.calls.specs.declared.Stop.{Stop}
+use Rattle.calls.specs.declared.Stop.TheVariants as stop
+use Rattle.calls.specs.Told.{number_of_stop, told_number}
+use Rattle.calls.proofs.Told.{named-number_of_stop}
+use Rattle.receiver.specs.declared.Received as received
+use Rattle.receiver.specs.declared.Released as released
+use Rattle.receiver.specs.Received.{Received}
+use Rattle.receiver.specs.Released.{Released}
+use Rattle.receiver.specs.Told.{told, told_released}
+use Rattle.receiver.proofs.Halts.{refused-number}
+
+-- The verdict with a number.
+abbrev verdict : ℕ → Result ⊤ Stop
+verdict n = cond (n == 0) (Ok tt) (Err (cond (n == 1) stop.More (stop.Refused (named n))))
+
+verdict-told : (v : Result ⊤ Stop) → verdict (told_number number_of_stop v) ≡ v
+verdict-told (Ok tt) = refl
+verdict-told (Err stop.More) = refl
+verdict-told (Err (stop.Refused r)) = go (number_of r == 0) refl
+  where
+    go : (b : Bool) → (number_of r == 0) ≡ b
+        → cond b (Ok tt) (Err (cond (number_of r == 1) stop.More (stop.Refused (named (number_of r))))) ≡ Err (stop.Refused r)
+    go true e = absurd (refused-number r (eqb-true (number_of r) 0 e))
+    go false e = ap Err (named-number_of_stop (stop.Refused r))
+
+pub verdict-injective : (a b : Result ⊤ Stop) → told_number number_of_stop a ≡ told_number number_of_stop b → a ≡ b
+verdict-injective a b e = sym (verdict-told a) ∙ ap verdict e ∙ verdict-told b
+
+pub told-injective : (a b : received.Received) → told a ≡ told b → a ≡ b
+told-injective a b e =
+    let v = verdict-injective a.verdict b.verdict (ap (λ (r : Received). r.number) e) in
+    λ i.
+    record {
+      verdict = v i;
+      place = (e i).place;
+      used = (e i).used;
+      rows = (e i).rows;
+      tail_place = (e i).tail_place;
+      tail_length = (e i).tail_length;
+      «open» = (e i).«open»;
+      comparisons = (e i).comparisons;
+      table = (e i).table;
+    }
+
+pub told-released-injective : (a b : released.Released) → told_released a ≡ told_released b → a ≡ b
+told-released-injective a b e =
+    let v = verdict-injective a.verdict b.verdict (ap (λ (r : Released). r.number) e) in
+    λ i. record { verdict = v i; place = (e i).place; «open» = (e i).«open»; table = (e i).table }
