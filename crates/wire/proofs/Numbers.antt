@@ -32,6 +32,10 @@ pub little_step : (s : List ℕ) (at n : ℕ) → at < length s
 unfolding little
 little_step s at n h = rw (drop-cons s at 0)
 
+-- likewise, with a name for the place behind it
+pub little_next : (s : List ℕ) (i j k : ℕ) → i < length s → suc i ≡ j → little (take (suc k) (drop i s)) ≡ get_or s i 0 + 256 * little (take k (drop j s))
+little_next s i j k h e = little_step s i k h ∙ ap (λ (n : ℕ). get_or s i 0 + 256 * little (take k (drop n s))) e
+
 -- n bytes are a number below 256 ^ n
 pub little-lt : (n : ℕ) (s : List ℕ) → Bytes s → little (take n s) < 256 ^ n
 unfolding little

@@ -6,9 +6,6 @@ ghost use Rattle.wire.specs.Little.{little, twos, bytes};
 // A byte is below BASE and weighs BASE times what the byte before it weighs.
 const BASE: u64 = 256;
 
-// The same as `u32`.
-const BASE_32: u32 = BASE as u32;
-
 // A byte as a number of 64 bits, which is below 256.
 pub fn wide(x: u8) -> u64
     ensures { (result ≡ x) × (result < 256) }
@@ -22,19 +19,10 @@ pub fn number(s: &[u8], at: usize, n: usize) -> u64
     ensures { result ≡ little (take n (drop at s.now)) }
 {
     let mut r: u64 = 0;
-    let mut i = n;
-    while 0 < i {
-        i -= 1;
+    for i in (0..n).rev() {
         r = r * BASE + wide(s[at + i]);
     }
     r
-}
-
-// Four bytes as a number, least byte first.
-fn join(a: u8, b: u8, c: u8, d: u8) -> u32
-    ensures { result ≡ a + 256 * (b + 256 * (c + 256 * d)) }
-{
-    a as u32 + BASE_32 * (b as u32 + BASE_32 * (c as u32 + BASE_32 * (d as u32)))
 }
 
 // The number in the four bytes from at: `number` at this width, without a loop.
@@ -42,7 +30,24 @@ pub fn u32_at(s: &[u8], at: usize) -> u32
     requires { at + 4 ≤ length s.now }
     ensures { result ≡ little (take 4 (drop at s.now)) }
 {
-    join(s[at], s[at + 1], s[at + 2], s[at + 3])
+    u32::from_le_bytes([s[at], s[at + 1], s[at + 2], s[at + 3]])
+}
+
+// The number in the eight bytes from at, likewise.
+pub fn u64_at(s: &[u8], at: usize) -> u64
+    requires { at + 8 ≤ length s.now }
+    ensures { result ≡ little (take 8 (drop at s.now)) }
+{
+    u64::from_le_bytes([
+        s[at],
+        s[at + 1],
+        s[at + 2],
+        s[at + 3],
+        s[at + 4],
+        s[at + 5],
+        s[at + 6],
+        s[at + 7],
+    ])
 }
 
 // The number x by two's complement, at the width whose sign bit has the weight half.
@@ -62,11 +67,9 @@ pub fn store(d: &mut [u8], at: usize, n: usize, x: u64)
     requires { at + n ≤ length d.old }
     ensures { d.new ≡ written d.old at (bytes n x) }
 {
-    let mut y = x;
-    let mut i = 0;
-    while i < n {
-        d[at + i] = (y % BASE) as u8;
-        y = y / BASE;
-        i += 1;
+    let mut rest = x;
+    for i in 0..n {
+        d[at + i] = (rest % BASE) as u8;
+        rest /= BASE;
     }
 }

@@ -24,23 +24,23 @@ room : (c : In-loop-i) → c.loop-i.r < 256 ^ 7
 room c =
     let a = c.args in
     let l = c.loop-i in
-    rw l.invariant.1 (little-le a.s.now (a.at + l.i) (a.n - l.i) 7 (λ k. omega (arith, c.type_inv.s k)) (omega arith))
+    rw l.invariant (little-le a.s.now (a.at + l.i) (a.n - l.i) 7 (λ k. omega (arith, c.type_inv.s k)) (omega arith))
 
 pub loop-i-init : goal.loop-i-init
 unfolding little
-loop-i-init c = (omega arith, rw (sub_self c.args.n))
+loop-i-init c = rw (sub_self c.args.n)
 
 pub loop-i-preserved : goal.loop-i-preserved
 loop-i-preserved c =
     let a = c.args in
     let l = c.loop-i in
-    (omega arith, ap (λ (x : ℕ). l.r * 256 + x) c.wide.ensures.0 ∙ turn a.s.now a.at a.n l.i l.r (omega arith) (omega arith) (omega arith) l.invariant.1)
+    ap (λ (x : ℕ). l.r * 256 + x) c.wide.ensures.0 ∙ turn a.s.now a.at a.n l.i l.r (omega arith) (omega arith) (omega arith) l.invariant
 
 pub returns : goal.returns
 returns c =
     let a = c.args in
     let z : c.loop-i.i ≡ 0 = omega arith in
-    c.loop-i.invariant.1 ∙ rw (z, sub-zero, add-zero)
+    c.loop-i.invariant ∙ rw (z, sub-zero, add-zero)
 
 pub overflow_mul-r : goal.overflow_mul-r
 overflow_mul-r c = omega (arith, room c)

@@ -21,15 +21,13 @@ turn d at n i y h =
     rw (one, next)
 
 pub loop-i-init : goal.loop-i-init
-loop-i-init c = (omega arith, (refl, rw (add-zero, sub-zero)))
+loop-i-init c = (refl, rw (add-zero, sub-zero))
 
 pub loop-i-preserved : goal.loop-i-preserved
 loop-i-preserved c =
     let a = c.args in
-    let l = c.loop-i in (
-      omega arith,
-      (length-set l.d (a.at + l.i) (l.y % 256) ∙ l.invariant.1.0, turn l.d a.at a.n l.i l.y (omega arith) ∙ l.invariant.1.1),
-    )
+    let l = c.loop-i in
+    (length-set l.d (a.at + l.i) (l.rest % 256) ∙ l.invariant.0, turn l.d a.at a.n l.i l.rest (omega arith) ∙ l.invariant.1)
 
 pub returns : goal.returns
 unfolding bytes
@@ -37,4 +35,4 @@ returns c =
     let a = c.args in
     let l = c.loop-i in
     let done : a.n - l.i ≡ 0 = omega arith in
-    rw done at l.invariant.1.1 ∙ sets-written a.d.now a.at (bytes a.n a.x) (rw length-bytes (omega arith))
+    rw done at l.invariant.1 ∙ sets-written a.d.now a.at (bytes a.n a.x) (rw length-bytes (omega arith))
