@@ -41,8 +41,8 @@ pub fn read(s: &[u8], at: usize, n: usize) -> Presence
 {
     let bits = number(s, at, (n + SPARE_BITS) / BYTE_BITS);
     let known = low_bits(bits, n);
-    let ones = u64::count_ones(known);
-    let all = u64::count_ones(bits);
+    let ones = known.count_ones();
+    let all = bits.count_ones();
     Presence {
         bits,
         known,

@@ -13,9 +13,8 @@ const CONTINUATION: u64 = 128;
 // A group has seven bits, so that it is below BASE and weighs BASE times what the group before it weighs.
 const BASE: u64 = 128;
 
-const MOST_GROUPS: usize = 10;
-
-const AFTER_FIRST: usize = MOST_GROUPS - 1;
+// The groups between the first and the tenth.
+const BEFORE_LAST: usize = 8;
 
 // The tenth group is below it: nine groups have 63 of the 64 bits.
 const TENTH_LIMIT: u64 = 2;
@@ -55,38 +54,35 @@ fn read_more(s: &[u8], at: usize, first: u64) -> Result<Past, VarUIntError>
 {
     let mut value = first;
     let mut weight = BASE;
-    let mut i = at;
-    let mut left = AFTER_FIRST;
-    while 1 < left {
-        if s.len() <= i {
+    for i in 0..BEFORE_LAST {
+        if s.len() <= at + i {
             return Err(VarUIntError::Cut);
         }
-        let b = wide(s[i]);
+        let b = wide(s[at + i]);
         if b < CONTINUATION {
             if b == 0 {
                 return Err(VarUIntError::Malformed);
             }
             return Ok(Past {
                 value: value + weight * b,
-                next: i + 1,
+                next: at + i + 1,
             });
         }
         value += weight * (b - CONTINUATION);
         weight *= BASE;
-        i += 1;
-        left -= 1;
     }
-    if s.len() <= i {
+    let last = at + BEFORE_LAST;
+    if s.len() <= last {
         return Err(VarUIntError::Cut);
     }
-    let b = wide(s[i]);
+    let b = wide(s[last]);
     if b < TENTH_LIMIT {
         if b == 0 {
             return Err(VarUIntError::Malformed);
         }
         return Ok(Past {
             value: value + weight * b,
-            next: i + 1,
+            next: last + 1,
         });
     }
     Err(VarUIntError::Malformed)
@@ -109,7 +105,7 @@ pub fn read(s: &[u8], at: usize) -> Result<Past, VarUIntError>
     read_more(s, at + 1, b - CONTINUATION)
 }
 
-// The VarUInt of x into d from at on; the place after it.
+// The VarUInt of x into d from at on; the place after it. Its loop and that of `size` count nothing: they go by what is left of the number.
 pub fn write(d: &mut [u8], at: usize, x: u64) -> usize
     requires { at + length (varuint_bytes x) ≤ length d.old }
     ensures { (result ≡ at + length (varuint_bytes x)) × (d.new ≡ written d.old at (varuint_bytes x)) }
