@@ -7,7 +7,7 @@ ghost use Rattle.std.specs.Prelude.{◌≡◌, [], ◌∷◌, ◌+◌, ◌≤◌
 ghost use Rattle.buffer.specs.Store.{written};
 ghost use Rattle.wire.specs.Varuint.{varuint, varuint_bytes};
 ghost use Rattle.frame.specs.Frame.{known_kind, frame_payload, frame_of};
-ghost use Rattle.frame.specs.Places.{number_at, header_at, judged};
+ghost use Rattle.frame.specs.Places.{header_at, judged};
 ghost use Rattle.frame.specs.Told.{told, told_header, told_written};
 ghost use Rattle.frame.specs.Written.{front_bytes, written_of, output_of};
 
@@ -16,30 +16,11 @@ use crate::layout::{
     METHOD_AT, PACKAGE_AT, SERVICE_AT, VERSION_AT,
 };
 use buffer::copy;
+use constants::frame_kind::FrameKind;
 use constants::refusal::Refusal;
-use constants::{format, frame_kind, limit};
-use wire::little::{store, u32_at};
+use constants::{format, limit};
+use wire::little::{store, u32_at, u64_at};
 use wire::varuint::VarUIntError;
-
-// The version, as a number that was read.
-const VERSION: u32 = format::VERSION as u32;
-
-// The flags, likewise.
-const FLAGS: u32 = format::FLAGS as u32;
-
-// The first kind.
-const FIRST_KIND: u32 = frame_kind::INVOKE as u32;
-
-// The last kind.
-const LAST_KIND: u32 = frame_kind::CANCEL as u32;
-
-// The longest payload.
-const LONGEST: u64 = limit::PAYLOAD as u64;
-
-// Where the upper half of eight bytes stands, and what it counts: 2^32.
-const UPPER_AT: usize = 4;
-
-const UPPER: u64 = 0x1_0000_0000;
 
 // A frame's header. The kind of a frame that was read is 1 to 8; the writer may be handed any number.
 #[derive(Clone, Copy)]
@@ -71,31 +52,7 @@ pub enum FrameRead {
 pub fn known_kind(kind: u32) -> bool
     ensures { result ≡ known_kind kind }
 {
-    (FIRST_KIND <= kind) & (kind <= LAST_KIND)
-}
-
-// One byte as a number.
-fn byte(s: &[u8], at: usize) -> u32
-    requires { at + 1 ≤ length s.now }
-    ensures { result ≡ number_at s.now at 1 }
-{
-    s[at] as u32
-}
-
-// The little-endian number of four bytes.
-fn word(s: &[u8], at: usize) -> u32
-    requires { at + 4 ≤ length s.now }
-    ensures { result ≡ number_at s.now at 4 }
-{
-    u32_at(s, at)
-}
-
-// The little-endian number of eight bytes, from its halves.
-fn long(s: &[u8], at: usize) -> u64
-    requires { at + 8 ≤ length s.now }
-    ensures { result ≡ number_at s.now at 8 }
-{
-    word(s, at) as u64 + UPPER * (word(s, at + UPPER_AT) as u64)
+    (FrameKind::Invoke as u32 <= kind) & (kind <= FrameKind::Cancel as u32)
 }
 
 // The header, from the fields' places.
@@ -104,11 +61,11 @@ fn header_at(s: &[u8]) -> Header
     ensures { result ≡ header_at s.now }
 {
     Header {
-        kind: byte(s, KIND_AT),
-        package: word(s, PACKAGE_AT),
-        service: word(s, SERVICE_AT),
-        method: word(s, METHOD_AT),
-        correlation: long(s, CORRELATION_AT),
+        kind: u32::from(s[KIND_AT]),
+        package: u32_at(s, PACKAGE_AT),
+        service: u32_at(s, SERVICE_AT),
+        method: u32_at(s, METHOD_AT),
+        correlation: u64_at(s, CORRELATION_AT),
     }
 }
 
@@ -119,7 +76,7 @@ fn read_payload(s: &[u8]) -> Result<FrameRead, Refusal>
 {
     match wire::varuint::read(s, format::HEADER) {
         Ok(size) => {
-            if LONGEST < size.value {
+            if (limit::PAYLOAD as u64) < size.value {
                 return Err(Refusal::PayloadTooLong);
             }
             let length = size.value as usize;
@@ -151,19 +108,19 @@ fn judge_header(bytes: &[u8]) -> Result<bool, Refusal>
     if n < KIND_AT {
         return Ok(false);
     }
-    if byte(bytes, VERSION_AT) != VERSION {
+    if bytes[VERSION_AT] != format::VERSION {
         return Err(Refusal::Version);
     }
     if n < FLAGS_AT {
         return Ok(false);
     }
-    if !known_kind(byte(bytes, KIND_AT)) {
+    if !known_kind(u32::from(bytes[KIND_AT])) {
         return Err(Refusal::Kind);
     }
     if n < PACKAGE_AT {
         return Ok(false);
     }
-    if byte(bytes, FLAGS_AT) != FLAGS {
+    if bytes[FLAGS_AT] != format::FLAGS {
         return Err(Refusal::Flags);
     }
     Ok(format::HEADER <= n)
@@ -180,18 +137,6 @@ pub fn read_frame(bytes: &[u8]) -> Result<FrameRead, Refusal>
     read_payload(bytes)
 }
 
-// The first five bytes of a frame: magic, version, kind and flags.
-fn write_start(out: &mut [u8], kind: u32)
-    requires { (5 ≤ length out.old) × (kind ≤ 8) }
-    ensures { out.new ≡ written out.old 0 (0xAF ∷ 0x01 ∷ 0x01 ∷ kind ∷ 0x00 ∷ []) }
-{
-    out[MAGIC_AT] = format::MAGIC;
-    out[MAGIC_2_AT] = format::MAGIC_2;
-    out[VERSION_AT] = format::VERSION;
-    out[KIND_AT] = kind as u8;
-    out[FLAGS_AT] = format::FLAGS;
-}
-
 // The place of a payload of n bytes in its frame.
 pub fn payload_place(n: u64) -> usize
     ensures { (result ≡ 25 + length (varuint_bytes n)) × (result ≤ 35) }
@@ -204,7 +149,14 @@ pub fn write_front(out: &mut [u8], header: Header, n: u64)
     requires { (25 + length (varuint_bytes n) ≤ length out.old) × (header.kind ≤ 8) }
     ensures { out.new ≡ written out.old 0 (front_bytes header n) }
 {
-    write_start(out, header.kind);
+    let start = [
+        format::MAGIC,
+        format::MAGIC_2,
+        format::VERSION,
+        header.kind as u8,
+        format::FLAGS,
+    ];
+    copy(out, MAGIC_AT, &start);
     store(out, PACKAGE_AT, IDENTIFIER_BYTES, header.package as u64);
     store(out, SERVICE_AT, IDENTIFIER_BYTES, header.service as u64);
     store(out, METHOD_AT, IDENTIFIER_BYTES, header.method as u64);

@@ -10,6 +10,7 @@ use Rattle.wire.specs.Varuint.{varuint}
 use lib.ListN.{length}
 use Rattle.std.proofs.Common.{Ok}
 use Rattle.wire.proofs.Cases.{differ}
+use Rattle.wire.proofs.Numbers.{little-one}
 use Rattle.frame.specs.FrameRead.{FrameRead, More}
 use Rattle.frame.specs.Told.{told_header}
 use Rattle.frame.specs.Frame.{is_magic, known_kind, frame_payload, frame_of}
@@ -45,40 +46,40 @@ pub returns-then-n-lt-KIND_AT : goal.returns-then-n-lt-KIND_AT
 returns-then-n-lt-KIND_AT c =
     (sym (magic _ c.if-n-lt-VERSION_AT.false c.if-not-bytes.false ∙ short _ 3 _ 3 _ c.if-n-lt-KIND_AT.true), λ e. differ cc)
 
-pub returns-then-byte-ne-VERSION : goal.returns-then-byte-ne-VERSION
-returns-then-byte-ne-VERSION c =
-    let wrong_one = ne_eqb _ _ (λ e. c.if-byte-ne-VERSION.true (c.byte.ensures ∙ e)) in
+pub returns-then-bytes-ne-VERSION : goal.returns-then-bytes-ne-VERSION
+returns-then-bytes-ne-VERSION c =
+    let wrong_one = ne_eqb _ _ (λ e. c.if-bytes-ne-VERSION.true (sym (little-one c.args.bytes.now 2 (omega arith)) ∙ e)) in
     (sym (magic _ c.if-n-lt-VERSION_AT.false c.if-not-bytes.false ∙ wrong _ 3 _ 3 _ c.if-n-lt-KIND_AT.false wrong_one), λ e. differ cc)
 
 pub returns-then-n-lt-FLAGS_AT : goal.returns-then-n-lt-FLAGS_AT
 returns-then-n-lt-FLAGS_AT c =
-    let v = sym c.byte.ensures ∙ c.if-byte-ne-VERSION.false in
+    let v = little-one c.args.bytes.now 2 (omega arith) ∙ c.if-bytes-ne-VERSION.false in
     (sym (version _ c.if-n-lt-KIND_AT.false c.if-not-bytes.false v ∙ short _ 4 _ 4 _ c.if-n-lt-FLAGS_AT.true), λ e. differ cc)
 
 pub returns-then-not-known_kind : goal.returns-then-not-known_kind
 returns-then-not-known_kind c =
-    let v = sym c.byte.ensures ∙ c.if-byte-ne-VERSION.false in
-    let none = ap known_kind (sym c.byte-2.ensures) ∙ sym c.known_kind.ensures ∙ c.if-not-known_kind.true in
+    let v = little-one c.args.bytes.now 2 (omega arith) ∙ c.if-bytes-ne-VERSION.false in
+    let none = ap known_kind (little-one c.args.bytes.now 3 (omega arith) ∙ sym c.from.ensures) ∙ sym c.known_kind.ensures ∙ c.if-not-known_kind.true in
     (sym (version _ c.if-n-lt-KIND_AT.false c.if-not-bytes.false v ∙ wrong _ 4 _ 4 _ c.if-n-lt-FLAGS_AT.false none), λ e. differ cc)
 
 pub returns-then-n-lt-PACKAGE_AT : goal.returns-then-n-lt-PACKAGE_AT
 returns-then-n-lt-PACKAGE_AT c =
-    let v = sym c.byte.ensures ∙ c.if-byte-ne-VERSION.false in
-    let k = ap known_kind (sym c.byte-2.ensures) ∙ sym c.known_kind.ensures ∙ c.if-not-known_kind.false in
+    let v = little-one c.args.bytes.now 2 (omega arith) ∙ c.if-bytes-ne-VERSION.false in
+    let k = ap known_kind (little-one c.args.bytes.now 3 (omega arith) ∙ sym c.from.ensures) ∙ sym c.known_kind.ensures ∙ c.if-not-known_kind.false in
     (sym (kind _ c.if-n-lt-FLAGS_AT.false c.if-not-bytes.false v k ∙ short _ 5 _ 5 _ c.if-n-lt-PACKAGE_AT.true), λ e. differ cc)
 
-pub returns-then-byte-ne-FLAGS : goal.returns-then-byte-ne-FLAGS
-returns-then-byte-ne-FLAGS c =
-    let v = sym c.byte.ensures ∙ c.if-byte-ne-VERSION.false in
-    let k = ap known_kind (sym c.byte-2.ensures) ∙ sym c.known_kind.ensures ∙ c.if-not-known_kind.false in
-    let wrong_one = ne_eqb _ _ (λ e. c.if-byte-ne-FLAGS.true (c.byte-3.ensures ∙ e)) in
+pub returns-then-bytes-ne-FLAGS : goal.returns-then-bytes-ne-FLAGS
+returns-then-bytes-ne-FLAGS c =
+    let v = little-one c.args.bytes.now 2 (omega arith) ∙ c.if-bytes-ne-VERSION.false in
+    let k = ap known_kind (little-one c.args.bytes.now 3 (omega arith) ∙ sym c.from.ensures) ∙ sym c.known_kind.ensures ∙ c.if-not-known_kind.false in
+    let wrong_one = ne_eqb _ _ (λ e. c.if-bytes-ne-FLAGS.true (sym (little-one c.args.bytes.now 4 (omega arith)) ∙ e)) in
     (sym (kind _ c.if-n-lt-FLAGS_AT.false c.if-not-bytes.false v k ∙ wrong _ 5 _ 5 _ c.if-n-lt-PACKAGE_AT.false wrong_one), λ e. differ cc)
 
 pub returns : goal.returns
 returns c =
-    let v = sym c.byte.ensures ∙ c.if-byte-ne-VERSION.false in
-    let k = ap known_kind (sym c.byte-2.ensures) ∙ sym c.known_kind.ensures ∙ c.if-not-known_kind.false in
-    let f = sym c.byte-3.ensures ∙ c.if-byte-ne-FLAGS.false in
+    let v = little-one c.args.bytes.now 2 (omega arith) ∙ c.if-bytes-ne-VERSION.false in
+    let k = ap known_kind (little-one c.args.bytes.now 3 (omega arith) ∙ sym c.from.ensures) ∙ sym c.known_kind.ensures ∙ c.if-not-known_kind.false in
+    let f = little-one c.args.bytes.now 4 (omega arith) ∙ c.if-bytes-ne-FLAGS.false in
     let s = c.args.bytes.now in (
       whole (leb 25 (length s)) (frame_payload (length s) (header_at s) (varuint s 25)) ∙ sym (flags _ c.if-n-lt-PACKAGE_AT.false c.if-not-bytes.false v k f),
       λ e. leb-true 25 (length s) cc,

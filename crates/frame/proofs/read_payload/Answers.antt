@@ -17,10 +17,10 @@ came : (s : List ℕ) (read r : VarUInt) → read ≡ varuint s 25 → read ≡ 
     → frame_payload (length s) (header_at s) r ≡ frame_payload (length s) (header_at s) (varuint s 25)
 came s read r was e = ap (frame_payload (length s) (header_at s)) (sym e ∙ was)
 
-pub returns-then-size-gt-LONGEST : goal.returns-then-size-gt-LONGEST
+pub returns-then-size : goal.returns-then-size
 unfolding frame_payload
-returns-then-size-gt-LONGEST c =
-    rw (← came c.args.s.now _ _ c.read.ensures (ap told c.in-Ok.is), lt-leb c.in-Ok.size.value 16384 c.if-size-gt-LONGEST.true)
+returns-then-size c =
+    rw (← came c.args.s.now _ _ c.read.ensures (ap told c.in-Ok.is), lt-leb c.in-Ok.size.value 16384 c.if-size.true)
 
 pub overflow_sub-s : goal.overflow_sub-s
 overflow_sub-s c = (varuint-inside c.args.s.now 25 c.in-Ok.size.value c.in-Ok.size.next (sym c.read.ensures ∙ ap told c.in-Ok.is)).1
@@ -33,7 +33,7 @@ returns-then-s-size c =
     let i = (varuint-inside c.args.s.now 25 n next (sym c.read.ensures ∙ ap told c.in-Ok.is)).1 in
     rw (
       ← came c.args.s.now _ _ c.read.ensures (ap told c.in-Ok.is),
-      le-leb n 16384 c.if-size-gt-LONGEST.false,
+      le-leb n 16384 c.if-size.false,
       lt-leb (next + n) (length c.args.s.now) (omega arith),
     )
 
@@ -45,7 +45,7 @@ returns-else-s-size c =
     let i = (varuint-inside c.args.s.now 25 n next (sym c.read.ensures ∙ ap told c.in-Ok.is)).1 in
     rw (
       ← came c.args.s.now _ _ c.read.ensures (ap told c.in-Ok.is),
-      le-leb n 16384 c.if-size-gt-LONGEST.false,
+      le-leb n 16384 c.if-size.false,
       le-leb (next + n) (length c.args.s.now) (omega arith),
       c.header_at.ensures,
     )

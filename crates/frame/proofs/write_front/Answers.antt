@@ -7,7 +7,7 @@ returns c =
     let s = c in
     let start = s.before in
     front-wrote start.args.out.now start.args.header start.args.n start.requires.0
-    s.write_start.ensures
+    s.copy.ensures
     s.store.ensures
     c.store-2.ensures
     c.store-3.ensures
