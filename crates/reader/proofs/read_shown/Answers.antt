@@ -29,25 +29,6 @@ root-requires c =
       ty_value = (shape-struct (table_of s) a.ty _ t.ensures kind, row.0, row.1, row.2);
     }
 
-pub overflow_sub-result : goal.overflow_sub-result
-overflow_sub-result c = (judged-walked c.in_ok-past.ensures).within.0
-
-pub overflow_cast-result : goal.overflow_cast-result
-overflow_cast-result c =
-    let judged = c.in_ok-past.ensures in
-    let w = (judged-walked judged).within in
-    record { fits = omega (arith, w.0, w.2, judged-small judged) }
-
-pub returns-in_err-past : goal.returns-in_err-past
-returns-in_err-past c = rw (exit c.from_residual.result c.from_residual.ensures.1) (judged-refused c.in_err-past.ensures c.args.sheet.now refl)
-
-pub shape_of-sheet : goal.shape_of-sheet
-shape_of-sheet c =
-    (elim c.if-past-le-SCRATCH_ROWS.branch [
-      | then-past-le-SCRATCH_ROWS w ↦ ap length w.sheet-is ∙ w.copy_cells.auto.sheet
-      | else-past-le-SCRATCH_ROWS w ↦ ap length w.sheet-is ∙ w.root.auto.sheet
-    ])
-
 pub returns : goal.returns
 returns c =
     let a = c.args in

@@ -9,9 +9,6 @@ use Rattle.reader.proofs.beside.known_fields.Goals as goal
 pub loop-i-init : goal.loop-i-init
 loop-i-init c = (refl, knows-none c.args.ours.now.bytes.now)
 
-pub row-requires : goal.row-requires
-row-requires c = c.layout-l.ensures
-
 pub fields_of-requires : goal.fields_of-requires
 fields_of-requires c = λ k. (struct_row c.args.ours.now.bytes.now c.args.ours.now.good c.loop-i.i _ c.row.ensures k).1
 

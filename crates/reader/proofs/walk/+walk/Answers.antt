@@ -144,43 +144,19 @@ halved t c =
     let asked = c.requires in
     record { asked = asked.0; typed = asked.1; few = asked.2; same = c.shown_of-m.ensures; bits = c.low_bits-mine.ensures }
 
-pub read_added-shown_of-m-requires : goal.read_added-shown_of-m-requires
-read_added-shown_of-m-requires t c = c.requires.ty_bound.0
-
-pub read_added-overflow_shr-f : goal.read_added-overflow_shr-f
-read_added-overflow_shr-f t c = let asked = c.requires.ty_bound in omega (arith, asked.1, asked.2, c.shown_of-m.ensures)
-
-pub read_added-overflow_sub-f : goal.read_added-overflow_sub-f
-read_added-overflow_sub-f t c = omega (arith, c.requires.ty_bound.2, c.shown_of-m.ensures)
-
-pub read_added-low_bits-rest-requires : goal.read_added-low_bits-rest-requires
-read_added-low_bits-rest-requires t c = omega (arith, c.requires.ty_bound.1)
-
 pub read_added-overflow_add-added : goal.read_added-overflow_add-added
 read_added-overflow_add-added t c = let asked = c.requires.ready_for in omega (arith, few-fields _ asked.ready.good, asked.in_table, c.shown_of-m.ensures)
-
-pub read_added-overflow_sub-added : goal.read_added-overflow_sub-added
-read_added-overflow_sub-added t c = omega (arith, c.requires.ty_bound.2, c.shown_of-m.ensures)
 
 pub read_added-read_fields-requires : goal.read_added-read_fields-requires
 read_added-read_fields-requires t c =
     let args = c.args in
     (omega arith, others-ready args.f args.view.now.shown.now c.shown_of-m.ensures args.at c.requires.ready_for c.low_bits-rest.ensures c.ones_in.ensures)
 
-pub read_added-returns : goal.read_added-returns
-read_added-returns t c =
-    let args = c.args in
-    let held = others-held args.f args.view.now.shown.now c.shown_of-m.ensures args.at c.requires.ready_for c.low_bits-rest.ensures c.read_fields.ensures in
-    (_, _, held)
-
 pub read_array-elements_of-requires : goal.read_array-elements_of-requires
 read_array-elements_of-requires t c =
     let row = (goal.at.read_array-elements_of-requires t c).After-type_row-t in
     let is = row.type_row-t.ensures in
     ((entered t row).0.ready, flat-leaf _ c.args.depth c.args.elem row.type_row-t.result is (rw is c.requires.2) c.if-t.true, (entered t row).1)
-
-pub read_array-shape_of-sheet-then-t : goal.read_array-shape_of-sheet-then-t
-read_array-shape_of-sheet-then-t t c = c.elements_of.auto.sheet
 
 pub read_array-returns-then-t : goal.read_array-returns-then-t
 read_array-returns-then-t t c =
@@ -190,20 +166,11 @@ read_array-returns-then-t t c =
     (entered t row).0.held
     (c.elements_of.ensures _ (leaf-shown args.view.now.source.schema.bytes.now args.depth args.elem row.type_row-t.result is (rw is c.requires.2) c.if-t.true args.view.now.shown.now))
 
-pub read_array-is_flat-requires : goal.read_array-is_flat-requires
-read_array-is_flat-requires t c = c.requires.0.good
-
 pub read_array-elements_of-requires-then-is_flat : goal.read_array-elements_of-requires-then-is_flat
 read_array-elements_of-requires-then-is_flat t c = let row = (goal.at.read_array-elements_of-requires-then-is_flat t c).After-type_row-t in ((entered t row).0.ready, (c.is_flat.ensures c.if-is_flat.true).0, (entered t row).1)
 
-pub read_array-shape_of-sheet-then-is_flat : goal.read_array-shape_of-sheet-then-is_flat
-read_array-shape_of-sheet-then-is_flat t c = c.elements_of-then-is_flat.auto.sheet
-
 pub read_array-returns-then-is_flat : goal.read_array-returns-then-is_flat
 read_array-returns-then-is_flat t c = (entered t (goal.at.read_array-returns-then-is_flat t c).After-type_row-t).0.held (c.elements_of-then-is_flat.ensures _ (c.is_flat.ensures c.if-is_flat.true).1)
-
-pub read_array-is_partly_shown-requires : goal.read_array-is_partly_shown-requires
-read_array-is_partly_shown-requires t c = c.requires.0.good
 
 pub read_array-shown_of-requires : goal.read_array-shown_of-requires
 read_array-shown_of-requires t c = part_type c.args.view.now.source.schema.bytes.now c.args.elem c.requires.0.good (c.is_partly_shown.ensures c.if-is_partly_shown.true).1
@@ -214,9 +181,6 @@ read_array-partial_structs-requires t c =
     let part = c.is_partly_shown.ensures c.if-is_partly_shown.true in
     record { ready = ((entered t row).0.ready, part.0, (entered t row).1); first_value = (part.1, rw c.shown_of.ensures part.2) }
 
-pub read_array-shape_of-sheet-then-is_partly_shown : goal.read_array-shape_of-sheet-then-is_partly_shown
-read_array-shape_of-sheet-then-is_partly_shown t c = c.partial_structs.auto.sheet
-
 pub read_array-returns-then-is_partly_shown : goal.read_array-returns-then-is_partly_shown
 read_array-returns-then-is_partly_shown t c =
     let row = (goal.at.read_array-returns-then-is_partly_shown t c).After-type_row-t in
@@ -225,18 +189,12 @@ read_array-returns-then-is_partly_shown t c =
     let shown = part-shown args.view.now.source.schema.bytes.now args.elem c.requires.0.good part.1 args.view.now.shown.now c.shown_of.ensures part.2 in
     (entered t row).0.held (c.partial_structs.ensures _ shown)
 
-pub read_array-holds_leaves-requires : goal.read_array-holds_leaves-requires
-read_array-holds_leaves-requires t c = c.requires.0.good
-
 pub read_array-maps_of-requires : goal.read_array-maps_of-requires
 read_array-maps_of-requires t c =
     let row = (goal.at.read_array-maps_of-requires t c).After-type_row-t in
     let leaves = c.holds_leaves.ensures c.if-holds_leaves.true in
     let pairs = leaf-pairs c.args.view.now.source.schema.bytes.now c.args.elem c.requires.0.good row.type_row-t.ensures leaves.0 leaves.1 in
     record { ready = ((entered t row).0.ready, pairs.0, (entered t row).1); pairs_in = pairs.1 }
-
-pub read_array-shape_of-sheet-then-holds_leaves : goal.read_array-shape_of-sheet-then-holds_leaves
-read_array-shape_of-sheet-then-holds_leaves t c = c.maps_of.auto.sheet
 
 pub read_array-returns-then-holds_leaves : goal.read_array-returns-then-holds_leaves
 read_array-returns-then-holds_leaves t c =
@@ -256,9 +214,6 @@ read_array-returns-in_err-count t c =
     rw (exit c.from_residual.result c.from_residual.ensures.1, placed)
     (array-stop c.args.depth c.args.ty c.requires.0 c.requires.1 c.read_count.ensures.told c.args.view.now.shown.now (ap told_count c.in_err-count.was))
 
-pub read_array-shape_of-sheet : goal.read_array-shape_of-sheet
-read_array-shape_of-sheet t c = c.read_composites.auto.sheet
-
 pub read_array-returns : goal.read_array-returns
 read_array-returns t c = (entered t (goal.at.read_array-returns t c).After-type_row-t).0.held c.read_composites.ensures
 
@@ -271,30 +226,6 @@ read_composite-read_array-requires t c =
     let kind = c.if-t.true in
     (omega arith, (pre, shape-array T args.ty _ asked.1 kind, array_row args.view.now.source.schema.bytes.now pre.good args.ty _ asked.1 kind))
 
-pub read_composite-shape_of-sheet-then-t : goal.read_composite-shape_of-sheet-then-t
-read_composite-shape_of-sheet-then-t t c = c.read_array.auto.sheet
-
-pub read_composite-returns-then-t : goal.read_composite-returns-then-t
-read_composite-returns-then-t t c = c.read_array.ensures
-
-pub read_composite-read_map-requires : goal.read_composite-read_map-requires
-read_composite-read_map-requires t c = let asked = c.requires in (omega arith, (asked.0, asked.1, c.if-t-2.true))
-
-pub read_composite-shape_of-sheet-then-t-2 : goal.read_composite-shape_of-sheet-then-t-2
-read_composite-shape_of-sheet-then-t-2 t c = c.read_map.auto.sheet
-
-pub read_composite-returns-then-t-2 : goal.read_composite-returns-then-t-2
-read_composite-returns-then-t-2 t c = c.read_map.ensures
-
-pub read_composite-read_struct-requires : goal.read_composite-read_struct-requires
-read_composite-read_struct-requires t c = let asked = c.requires in (omega arith, (asked.0, asked.1, c.if-t-3.true))
-
-pub read_composite-shape_of-sheet-then-t-3 : goal.read_composite-shape_of-sheet-then-t-3
-read_composite-shape_of-sheet-then-t-3 t c = c.read_struct.auto.sheet
-
-pub read_composite-returns-then-t-3 : goal.read_composite-returns-then-t-3
-read_composite-returns-then-t-3 t c = c.read_struct.ensures
-
 pub read_composite-returns : goal.read_composite-returns
 read_composite-returns t c =
     let args = c.args in
@@ -303,20 +234,6 @@ read_composite-returns t c =
     let S = shape T in
     let past : 16 < args.t.kind = omega (arith, asked.2, c.if-t.false, c.if-t-2.false, c.if-t-3.false) in
     rw c.at.ensures (as_refused _ _ _ (parse-refused S args.depth args.ty (cursor_at args.view.now.source.payload.now args.at) unknown (shape-past T args.ty _ asked.1 past) 42 0 refl))
-
-pub read_composites-known_row-t-requires : goal.read_composites-known_row-t-requires
-read_composites-known_row-t-requires t c = omega (arith, c.requires.bound)
-
-pub read_composites-overflow_add-below : goal.read_composites-overflow_add-below
-read_composites-overflow_add-below t c = let ready = c.requires.ready.0 in omega (arith, ready.small, ready.inside, ready.behind)
-
-pub read_composites-loop-init : goal.read_composites-loop-init
-read_composites-loop-init t c =
-    let all : c.args.n - 0 ≡ c.args.n = omega arith in
-    rw all (reading-first c.requires.ready.0 _ refl _)
-
-pub read_composites-shape_of-sheet-then-depth-eq0 : goal.read_composites-shape_of-sheet-then-depth-eq0
-read_composites-shape_of-sheet-then-depth-eq0 t c = c.loop.invariant.long
 
 pub read_composites-returns-then-depth-eq0 : goal.read_composites-returns-then-depth-eq0
 read_composites-returns-then-depth-eq0 t c = rw c.at.ensures (reading-deep c.loop.invariant (elements-more _ c.loop-test.true) c.if-depth-eq0.true _ refl)
@@ -327,33 +244,16 @@ read_composites-read_composite-requires t c =
     let is = c.known_row-t.ensures in
     (omega (arith, c.decreases, d0), (reading-below c.loop.invariant (elements-more _ c.loop-test.true) d0, is, rw is c.requires.bound))
 
-pub read_composites-shape_of-sheet-in_err-past : goal.read_composites-shape_of-sheet-in_err-past
-read_composites-shape_of-sheet-in_err-past t c = c.read_composite.auto.sheet ∙ c.loop.invariant.long
-
 pub read_composites-returns-in_err-past : goal.read_composites-returns-in_err-past
 read_composites-returns-in_err-past t c =
     let call = (goal.at.read_composites-returns-in_err-past t c).After-read_composite in
     rw (exit c.from_residual.result c.from_residual.ensures.1)
     (reading-stop call.loop.invariant (elements-more _ call.loop-test.true) (element-read t call) (ap told_walk c.in_err-past.was) _ refl)
 
-pub read_composites-overflow_add-sum : goal.read_composites-overflow_add-sum
-read_composites-overflow_add-sum t c =
-    let call = (goal.at.read_composites-overflow_add-sum t c).After-read_composite in
-    let most = reading-sum call.loop.invariant (elements-more _ call.loop-test.true) (element-read t call) (ap told_walk c.in_ok-past.was) in omega (arith, most)
-
 pub read_composites-loop-preserved : goal.read_composites-loop-preserved
 read_composites-loop-preserved t c =
     let call = (goal.at.read_composites-loop-preserved t c).After-read_composite in
     reading-on call.loop.invariant (elements-more _ call.loop-test.true) (element-read t call) (ap told_walk c.in_ok-past.was)
-
-pub read_composites-overflow_sub-here : goal.read_composites-overflow_sub-here
-read_composites-overflow_sub-here t c = omega (arith, c.loop.invariant.forth)
-
-pub read_composites-put_row-requires : goal.read_composites-put_row-requires
-read_composites-put_row-requires t c = reading-own c.loop.invariant (omega arith) c.requires.ready.1
-
-pub read_composites-shape_of-sheet : goal.read_composites-shape_of-sheet
-read_composites-shape_of-sheet t c = c.put_row.auto.sheet ∙ c.loop.invariant.long
 
 pub read_composites-returns : goal.read_composites-returns
 read_composites-returns t c =
@@ -365,38 +265,8 @@ read_field-returns-then-depth-eq0 t c =
     let args = c.args in
     rw c.at.ensures (as_refused _ _ _ (parse-deep (shape_in args.view.now.source.schema.bytes.now) args.depth _ (cursor_at args.view.now.source.payload.now args.at) c.if-depth-eq0.true))
 
-pub read_field-field_row-ty-requires : goal.read_field-field_row-ty-requires
-read_field-field_row-ty-requires t c = c.requires.1
-
-pub read_field-known_row-t-requires : goal.read_field-known_row-t-requires
-read_field-known_row-t-requires t c = rw c.field_row-ty.ensures c.requires.2
-
-pub read_field-read_composite-requires : goal.read_field-read_composite-requires
-read_field-read_composite-requires t c =
-    let args = c.args in
-    let d0 = c.if-depth-eq0.false in
-    let ready = field_below args.view.now.source.schema.bytes.now args.depth args.at c.field_row-ty.ensures d0 c.requires.0 in
-    (omega (arith, c.decreases, d0), (ready, c.known_row-t.ensures, c.if-t.true))
-
-pub read_field-shape_of-sheet-then-t : goal.read_field-shape_of-sheet-then-t
-read_field-shape_of-sheet-then-t t c = c.read_composite.auto.sheet
-
-pub read_field-returns-then-t : goal.read_field-returns-then-t
-read_field-returns-then-t t c = held-told t (goal.at.read_field-returns-then-t t c).After-read_composite
-
 pub read_field-content-requires : goal.read_field-content-requires
 read_field-content-requires t c = childless-asked (leaf-ready t (goal.at.read_field-content-requires t c).Else-t) c.if-t.false
-
-pub read_field-overflow_sub-content : goal.read_field-overflow_sub-content
-read_field-overflow_sub-content t c = (span_in c.content.ensures (ap told_span c.in_ok-content.was)).0
-
-pub read_field-put_row-requires : goal.read_field-put_row-requires
-read_field-put_row-requires t c =
-    let ready = leaf-ready t (goal.at.read_field-put_row-requires t c).Else-t in
-    span-put c.content.ensures (ap told_span c.in_ok-content.was) ready.small (omega (arith, ready.small, ready.inside, ready.behind))
-
-pub read_field-overflow_add-result : goal.read_field-overflow_add-result
-read_field-overflow_add-result t c = let ready = leaf-ready t (goal.at.read_field-overflow_add-result t c).Else-t in omega (arith, ready.small, ready.inside, ready.behind)
 
 pub read_field-returns-in_err-content : goal.read_field-returns-in_err-content
 read_field-returns-in_err-content t c =
@@ -404,25 +274,13 @@ read_field-returns-in_err-content t c =
     rw (exit c.from_residual.result c.from_residual.ensures.1)
     (leaf-told t leaf (childless-stop (leaf-ready t leaf) c.if-t.false c.content.ensures (ap told_span c.in_err-content.was)))
 
-pub read_field-shape_of-sheet : goal.read_field-shape_of-sheet
-read_field-shape_of-sheet t c = c.put_row.auto.sheet
-
 pub read_field-returns : goal.read_field-returns
 read_field-returns t c =
     let leaf = (goal.at.read_field-returns t c).Else-t in
     leaf-told t leaf (childless-past (leaf-ready t leaf) c.if-t.false c.content.ensures (ap told_span c.in_ok-content.was) c.put_row.ensures)
 
-pub read_fields-overflow_add-below : goal.read_fields-overflow_add-below
-read_fields-overflow_add-below t c = let pre = c.requires.0.ready in omega (arith, pre.behind, pre.inside, pre.small)
-
 pub read_fields-overflow_add-i-end : goal.read_fields-overflow_add-i-end
 read_fields-overflow_add-i-end t c = let asked = c.requires.0 in omega (arith, few-fields _ asked.ready.good, asked.in_table)
-
-pub read_fields-loop-i-init : goal.read_fields-loop-i-init
-read_fields-loop-i-init t c =
-    let f = c.args.f in
-    let all : f.first + f.n - f.first ≡ f.n = omega arith in
-    rw all (passing-first c.requires.0 c.args.view.now.shown.now)
 
 pub read_fields-read_field-requires : goal.read_fields-read_field-requires
 read_fields-read_field-requires t c =
@@ -430,16 +288,10 @@ read_fields-read_field-requires t c =
     let some : 0 < c.args.f.first + c.args.f.n - c.loop-i.i = omega (arith, c.loop-i-test.true) in
     (omega arith, (passing-ready inv some c.if-bits-eq1.true, c.layout-l.ensures, passing-kind inv some))
 
-pub read_fields-shape_of-sheet-in_err-past : goal.read_fields-shape_of-sheet-in_err-past
-read_fields-shape_of-sheet-in_err-past t c = c.read_field.auto.sheet ∙ c.loop-i.invariant.at.long
-
 pub read_fields-returns-in_err-past : goal.read_fields-returns-in_err-past
 read_fields-returns-in_err-past t c =
     rw (exit c.from_residual.result c.from_residual.ensures.1)
     (passing-stop c.loop-i.invariant (omega (arith, c.loop-i-test.true)) c.if-bits-eq1.true c.read_field.ensures (ap told_walk c.in_err-past.was))
-
-pub read_fields-overflow_add-sum : goal.read_fields-overflow_add-sum
-read_fields-overflow_add-sum t c = omega (arith, passing-sum c.loop-i.invariant (omega (arith, c.loop-i-test.true)) c.if-bits-eq1.true c.read_field.ensures (ap told_walk c.in_ok-past.was))
 
 pub read_fields-loop-i-preserved : goal.read_fields-loop-i-preserved
 read_fields-loop-i-preserved t c =
@@ -452,31 +304,12 @@ read_fields-loop-i-preserved t c =
       | read_fields-else-bits-eq1 w ↦ passing-absent inv some w.if-bits-eq1.false w.here-is w.sum-is w.below-is w.sheet-is
     ])
 
-pub read_fields-overflow_sub-here : goal.read_fields-overflow_sub-here
-read_fields-overflow_sub-here t c = passing-forth c.loop-i.invariant
-
-pub read_fields-put_row-requires : goal.read_fields-put_row-requires
-read_fields-put_row-requires t c = passing-own c.loop-i.invariant c.requires.1.0
-
-pub read_fields-shape_of-sheet : goal.read_fields-shape_of-sheet
-read_fields-shape_of-sheet t c = c.put_row.auto.sheet ∙ c.loop-i.invariant.at.long
-
 pub read_fields-returns : goal.read_fields-returns
 read_fields-returns t c = passing-end c.loop-i.invariant c.requires.1 (omega (arith, c.loop-i-test.false)) c.put_row.ensures
 
 pub read_map-returns-then-n-gt-MOST_PAIRS : goal.read_map-returns-then-n-gt-MOST_PAIRS
 read_map-returns-then-n-gt-MOST_PAIRS t c =
     rw c.at.ensures (map-long c.args.depth c.args.ty c.requires c.map_count.ensures.told c.args.view.now.shown.now (ap told_count c.in_ok-count.was) c.if-n-gt-MOST_PAIRS.true)
-
-pub read_map-put_row-requires : goal.read_map-put_row-requires
-read_map-put_row-requires t c =
-    let w = map-put c.args.depth c.args.ty c.requires c.map_count.ensures.told c.args.view.now.shown.now (ap told_count c.in_ok-count.was) in omega (arith, w)
-
-pub read_map-overflow_add-result : goal.read_map-overflow_add-result
-read_map-overflow_add-result t c = let ready = c.requires.0 in omega (arith, ready.small, ready.inside, ready.behind)
-
-pub read_map-shape_of-sheet-then-n-eq0 : goal.read_map-shape_of-sheet-then-n-eq0
-read_map-shape_of-sheet-then-n-eq0 t c = c.put_row.auto.sheet
 
 pub read_map-returns-then-n-eq0 : goal.read_map-returns-then-n-eq0
 read_map-returns-then-n-eq0 t c =
@@ -488,9 +321,6 @@ read_map-read_pairs-requires t c =
     let few = (goal.at.read_map-read_pairs-requires t c).Else-n-gt-MOST_PAIRS in
     let kinds = map-kinds c.args.depth c.args.ty c.requires few.map_count.ensures.told c.args.view.now.shown.now (ap told_count few.in_ok-count.was) few.if-n-gt-MOST_PAIRS.false in
     (omega (arith, c.decreases), ((opened t few).ready, (kinds (omega (arith, c.if-n-eq0.false)), λ j. omega (arith, c.if-n-le-TWO_KEYS.true))))
-
-pub read_map-shape_of-sheet-then-n-le-TWO_KEYS : goal.read_map-shape_of-sheet-then-n-le-TWO_KEYS
-read_map-shape_of-sheet-then-n-le-TWO_KEYS t c = c.read_pairs.auto.sheet
 
 pub read_map-returns-then-n-le-TWO_KEYS : goal.read_map-returns-then-n-le-TWO_KEYS
 read_map-returns-then-n-le-TWO_KEYS t c = (opened t (goal.at.read_map-returns-then-n-le-TWO_KEYS t c).Else-n-gt-MOST_PAIRS).held c.read_pairs.ensures
@@ -507,47 +337,11 @@ read_map-returns-in_err-count t c =
     rw (exit c.from_residual.result c.from_residual.ensures.1, placed)
     (map-stop c.args.depth c.args.ty c.requires c.map_count.ensures.told c.args.view.now.shown.now (ap told_count c.in_err-count.was))
 
-pub read_map-shape_of-sheet : goal.read_map-shape_of-sheet
-read_map-shape_of-sheet t c = c.read_more_pairs.auto.sheet
-
 pub read_map-returns : goal.read_map-returns
 read_map-returns t c = (opened t (goal.at.read_map-returns t c).Else-n-gt-MOST_PAIRS).held c.read_more_pairs.ensures
 
-pub read_more_pairs-read_pairs-requires : goal.read_more_pairs-read_pairs-requires
-read_more_pairs-read_pairs-requires t c = let asked = c.requires in (omega arith, (asked.ready, (asked.kind_nonzero, λ j. omega (arith, c.if-n-le-FEW_KEYS.true))))
-
-pub read_more_pairs-shape_of-sheet-then-n-le-FEW_KEYS : goal.read_more_pairs-shape_of-sheet-then-n-le-FEW_KEYS
-read_more_pairs-shape_of-sheet-then-n-le-FEW_KEYS t c = c.read_pairs.auto.sheet
-
-pub read_more_pairs-returns-then-n-le-FEW_KEYS : goal.read_more_pairs-returns-then-n-le-FEW_KEYS
-read_more_pairs-returns-then-n-le-FEW_KEYS t c = c.read_pairs.ensures
-
-pub read_more_pairs-read_pairs-requires-2 : goal.read_more_pairs-read_pairs-requires-2
-read_more_pairs-read_pairs-requires-2 t c = let asked = c.requires in (omega arith, (asked.ready, (asked.kind_nonzero, λ j. omega (arith, asked.kind_nonzero.4))))
-
-pub read_more_pairs-shape_of-sheet : goal.read_more_pairs-shape_of-sheet
-read_more_pairs-shape_of-sheet t c = c.read_pairs-2.auto.sheet
-
-pub read_more_pairs-returns : goal.read_more_pairs-returns
-read_more_pairs-returns t c = c.read_pairs-2.ensures
-
-pub read_pairs-known_row-k-requires : goal.read_pairs-known_row-k-requires
-read_pairs-known_row-k-requires t c = c.requires.kind_nonzero.0
-
-pub read_pairs-known_row-v-requires : goal.read_pairs-known_row-v-requires
-read_pairs-known_row-v-requires t c = c.requires.kind_nonzero.2
-
-pub read_pairs-overflow_add-below : goal.read_pairs-overflow_add-below
-read_pairs-overflow_add-below t c = let ready = c.requires.ready in omega (arith, ready.small, ready.inside, ready.behind)
-
 pub read_pairs-loop-i-init : goal.read_pairs-loop-i-init
 read_pairs-loop-i-init t c = let asked = c.requires in (along-first (pairs-ready (asked.ready, (asked.kind_nonzero, asked.n_in_bounds))) _ refl _ _, refl)
-
-pub read_pairs-shape_of-sheet-then-depth-eq0 : goal.read_pairs-shape_of-sheet-then-depth-eq0
-read_pairs-shape_of-sheet-then-depth-eq0 t c = c.loop-i.invariant.0.long
-
-pub read_pairs-shape_of-keys-then-depth-eq0 : goal.read_pairs-shape_of-keys-then-depth-eq0
-read_pairs-shape_of-keys-then-depth-eq0 t c = c.loop-i.invariant.1
 
 pub read_pairs-returns-then-depth-eq0 : goal.read_pairs-returns-then-depth-eq0
 read_pairs-returns-then-depth-eq0 t c = rw c.at.ensures (along-deep c.loop-i.invariant.0 c.loop-i-test.true c.if-depth-eq0.true _ refl)
@@ -560,19 +354,10 @@ read_pairs-read_key-requires t c =
     let k = c.known_row-k.ensures in
     record { p_len_bound = key-asked c.loop-i.invariant.0 some d0 k; i_in_bounds = key-room c.loop-i.invariant.0 some d0 k c.loop-i.invariant.1 asked.n_in_bounds }
 
-pub read_pairs-shape_of-sheet-in_err-key_content : goal.read_pairs-shape_of-sheet-in_err-key_content
-read_pairs-shape_of-sheet-in_err-key_content t c = c.read_key.auto.sheet ∙ c.loop-i.invariant.0.long
-
-pub read_pairs-shape_of-keys-in_err-key_content : goal.read_pairs-shape_of-keys-in_err-key_content
-read_pairs-shape_of-keys-in_err-key_content t c = c.read_key.auto.keys ∙ c.loop-i.invariant.1
-
 pub read_pairs-returns-in_err-key_content : goal.read_pairs-returns-in_err-key_content
 read_pairs-returns-in_err-key_content t c =
     rw (exit c.from_residual.result c.from_residual.ensures.1)
     (key-failed c.loop-i.invariant.0 c.loop-i-test.true c.if-depth-eq0.false c.known_row-k.ensures c.read_key.ensures (ap told_span c.in_err-key_content.was) _ refl)
-
-pub read_pairs-overflow_add-below-in-loop-i : goal.read_pairs-overflow_add-below-in-loop-i
-read_pairs-overflow_add-below-in-loop-i t c = let ready = (keyed t c).ready in omega (arith, ready.small, ready.inside, ready.behind)
 
 pub read_pairs-read_composite-requires : goal.read_pairs-read_composite-requires
 read_pairs-read_composite-requires t c =
@@ -580,19 +365,10 @@ read_pairs-read_composite-requires t c =
     let d0 = c.if-depth-eq0.false in
     (omega (arith, c.decreases, d0), (value-below (keyed t (goal.at.read_pairs-read_composite-requires t c).In_ok-key_content) d0, v, c.needs_walker.ensures.0 c.if-needs_walker.true))
 
-pub read_pairs-shape_of-sheet-in_err-past : goal.read_pairs-shape_of-sheet-in_err-past
-read_pairs-shape_of-sheet-in_err-past t c = c.read_composite.auto.sheet ∙ (keyed t (goal.at.read_pairs-shape_of-sheet-in_err-past t c).In_ok-key_content).long
-
-pub read_pairs-shape_of-keys-in_err-past : goal.read_pairs-shape_of-keys-in_err-past
-read_pairs-shape_of-keys-in_err-past t c = c.read_key.auto.keys ∙ c.loop-i.invariant.1
-
 pub read_pairs-returns-in_err-past : goal.read_pairs-returns-in_err-past
 read_pairs-returns-in_err-past t c =
     let key = (goal.at.read_pairs-returns-in_err-past t c).In_ok-key_content in
     rw (exit c.from_residual-in_err-past.result c.from_residual-in_err-past.ensures.1) (value-failed (keyed t key) (walked t key c.read_composite.ensures) (ap told_walk c.in_err-past.was) _ refl)
-
-pub read_pairs-overflow_add-sum : goal.read_pairs-overflow_add-sum
-read_pairs-overflow_add-sum t c = let key = (goal.at.read_pairs-overflow_add-sum t c).In_ok-key_content in omega (arith, value-sum (keyed t key) (walked t key c.read_composite.ensures) (ap told_walk c.in_ok-past.was))
 
 pub read_pairs-read_childless-requires : goal.read_pairs-read_childless-requires
 read_pairs-read_childless-requires t c =
@@ -601,21 +377,12 @@ read_pairs-read_childless-requires t c =
     let plain = c.needs_walker.ensures.1 c.if-needs_walker.false in
     childless-ready args.view.now.source.schema.bytes.now (args.depth - 1) args.m.val v c.requires.kind_nonzero.2 plain (value-below (keyed t (goal.at.read_pairs-read_childless-requires t c).In_ok-key_content) c.if-depth-eq0.false)
 
-pub read_pairs-shape_of-sheet-in_err-content : goal.read_pairs-shape_of-sheet-in_err-content
-read_pairs-shape_of-sheet-in_err-content t c = c.read_childless.auto.sheet ∙ (keyed t (goal.at.read_pairs-shape_of-sheet-in_err-content t c).In_ok-key_content).long
-
-pub read_pairs-shape_of-keys-in_err-content : goal.read_pairs-shape_of-keys-in_err-content
-read_pairs-shape_of-keys-in_err-content t c = c.read_key.auto.keys ∙ c.loop-i.invariant.1
-
 pub read_pairs-returns-in_err-content : goal.read_pairs-returns-in_err-content
 read_pairs-returns-in_err-content t c =
     let key = (goal.at.read_pairs-returns-in_err-content t c).In_ok-key_content in
     let plain = c.needs_walker.ensures.1 c.if-needs_walker.false in
     rw (exit c.from_residual-in_err-content.result c.from_residual-in_err-content.ensures.1)
     (value-failed (keyed t key) (childless t key plain c.read_childless.ensures) (ap (λ r. walk_of_span (c.loop-i.below + 1) (told_span r)) c.in_err-content.was) _ refl)
-
-pub read_pairs-overflow_add-below-else-needs_walker : goal.read_pairs-overflow_add-below-else-needs_walker
-read_pairs-overflow_add-below-else-needs_walker t c = let ready = (keyed t (goal.at.read_pairs-overflow_add-below-else-needs_walker t c).In_ok-key_content).ready in omega (arith, ready.small, ready.inside, ready.behind)
 
 pub read_pairs-loop-i-preserved : goal.read_pairs-loop-i-preserved
 read_pairs-loop-i-preserved t c =
@@ -631,33 +398,6 @@ read_pairs-loop-i-preserved t c =
       c.read_key.auto.keys ∙ loop.invariant.1,
     )
 
-pub read_pairs-overflow_sub-here : goal.read_pairs-overflow_sub-here
-read_pairs-overflow_sub-here t c = (along-own c.loop-i.invariant.0).0
-
-pub read_pairs-put_row-requires : goal.read_pairs-put_row-requires
-read_pairs-put_row-requires t c = let w = along-own c.loop-i.invariant.0 in (w.1, w.2, w.3, w.4)
-
-pub read_pairs-overflow_sub-result : goal.read_pairs-overflow_sub-result
-read_pairs-overflow_sub-result t c = omega (arith, c.requires.kind_nonzero.3)
-
-pub read_pairs-overflow_mul-result : goal.read_pairs-overflow_mul-result
-read_pairs-overflow_mul-result t c = let most = c.loop-i.invariant.0.asked.most in omega (arith, few-pairs _ most, most)
-
-pub read_pairs-overflow_cast-result : goal.read_pairs-overflow_cast-result
-read_pairs-overflow_cast-result t c = let most = c.loop-i.invariant.0.asked.most in omega (arith, few-pairs _ most, most)
-
-pub read_pairs-overflow_add-result : goal.read_pairs-overflow_add-result
-read_pairs-overflow_add-result t c =
-    let a = c.loop-i.invariant.0 in
-    let w = along-sum a (omega (arith, c.loop-i-test.false)) in
-    omega (arith, w, own-comparisons c.args.n, a.inside, a.asked.ready.small)
-
-pub read_pairs-shape_of-sheet : goal.read_pairs-shape_of-sheet
-read_pairs-shape_of-sheet t c = c.put_row.auto.sheet ∙ c.loop-i.invariant.0.long
-
-pub read_pairs-shape_of-keys : goal.read_pairs-shape_of-keys
-read_pairs-shape_of-keys t c = c.loop-i.invariant.1
-
 pub read_pairs-returns : goal.read_pairs-returns
 read_pairs-returns t c =
     let n = c.args.n in
@@ -666,30 +406,11 @@ read_pairs-returns t c =
 pub read_shown_fields-shown_of-m-requires : goal.read_shown_fields-shown_of-m-requires
 read_shown_fields-shown_of-m-requires t c = let asked = c.requires in type-few asked.0 asked.1
 
-pub read_shown_fields-low_bits-mine-requires : goal.read_shown_fields-low_bits-mine-requires
-read_shown_fields-low_bits-mine-requires t c = let asked = c.requires in omega (arith, asked.1.1, asked.2, c.shown_of-m.ensures)
-
 pub read_shown_fields-read_fields-requires : goal.read_shown_fields-read_fields-requires
 read_shown_fields-read_fields-requires t c = (omega arith, ours-ready (halved t (goal.at.read_shown_fields-read_fields-requires t c).After-low_bits-mine) c.ones_in-ones.ensures)
 
 pub read_shown_fields-read_added-requires : goal.read_shown_fields-read_added-requires
 read_shown_fields-read_added-requires t c = (omega arith, added-ready (halved t (goal.at.read_shown_fields-read_added-requires t c).After-low_bits-mine) c.read_fields.ensures (ap told_walk c.in_ok-past.was))
-
-pub read_shown_fields-overflow_sub-added : goal.read_shown_fields-overflow_sub-added
-read_shown_fields-overflow_sub-added t c = (added_in (halved t (goal.at.read_shown_fields-overflow_sub-added t c).After-low_bits-mine) c.read_fields.ensures (ap told_walk c.in_ok-past.was) c.read_added.ensures.2 (ap told_walk c.in_ok-added.was)).0
-
-pub read_shown_fields-put_row-requires : goal.read_shown_fields-put_row-requires
-read_shown_fields-put_row-requires t c =
-    let within = added_in (halved t (goal.at.read_shown_fields-put_row-requires t c).After-low_bits-mine) c.read_fields.ensures (ap told_walk c.in_ok-past.was) c.read_added.ensures.2 (ap told_walk c.in_ok-added.was) in
-    omega (arith, within, c.ones_in-ones.ensures.1)
-
-pub read_shown_fields-overflow_add-result : goal.read_shown_fields-overflow_add-result
-read_shown_fields-overflow_add-result t c =
-    let within = added_in (halved t (goal.at.read_shown_fields-overflow_add-result t c).After-low_bits-mine) c.read_fields.ensures (ap told_walk c.in_ok-past.was) c.read_added.ensures.2 (ap told_walk c.in_ok-added.was) in
-    omega (arith, within.3)
-
-pub read_shown_fields-shape_of-sheet-in_err-past : goal.read_shown_fields-shape_of-sheet-in_err-past
-read_shown_fields-shape_of-sheet-in_err-past t c = c.read_fields.auto.sheet
 
 pub read_shown_fields-returns-in_err-past : goal.read_shown_fields-returns-in_err-past
 read_shown_fields-returns-in_err-past t c =
@@ -736,9 +457,6 @@ read_struct-read_shown_fields-requires t c =
     let f = struct-ready args.depth args.ty asked.0 asked.1 asked.2 read bits c.if-bits-ne0.false in
     (omega arith, (f.0, f.1, omega (arith, c.if-shown_of-n.true, c.shown_of.ensures)))
 
-pub read_struct-shape_of-sheet-then-shown_of-n : goal.read_struct-shape_of-sheet-then-shown_of-n
-read_struct-shape_of-sheet-then-shown_of-n t c = c.read_shown_fields.auto.sheet
-
 pub read_struct-returns-then-shown_of-n : goal.read_struct-returns-then-shown_of-n
 read_struct-returns-then-shown_of-n t c =
     let args = c.args in
@@ -763,9 +481,6 @@ read_struct-returns-in_err-bits t c =
     let placed = IfErr-at_err (λ e. e.place ≡ args.at) c.in_err-bits.was c.presence.ensures.place in
     rw (exit c.from_residual.result c.from_residual.ensures.1, placed)
     (struct-stop args.depth args.ty asked.0 asked.1 asked.2 c.presence.ensures.told (ap told_head c.in_err-bits.was) args.view.now.shown.now)
-
-pub read_struct-shape_of-sheet : goal.read_struct-shape_of-sheet
-read_struct-shape_of-sheet t c = c.read_fields.auto.sheet
 
 pub read_struct-returns : goal.read_struct-returns
 read_struct-returns t c =

@@ -55,9 +55,6 @@ read_root_fields-requires c =
       (h.6, h.1),
     )
 
-pub end_root-requires : goal.end_root-requires
-end_root-requires c = (was c.read_root_fields.ensures (ap told_walk c.in_ok-past.was)).within.0
-
 pub returns-in_err-bits : goal.returns-in_err-bits
 returns-in_err-bits c =
     let args = c.args in
@@ -68,9 +65,6 @@ returns-in_err-bits c =
     let placed = IfErr-at_err (λ e. e.place ≡ 0) c.in_err-bits.was c.presence.ensures.place in
     rw (exit c.from_residual.result c.from_residual.ensures.1, placed)
     (as_refused _ _ _ (root-refused S args.ty (fields_from T args.first args.n) p _ c.presence.ensures.told _ (ap told_head c.in_err-bits.was)))
-
-pub shape_of-sheet-in_err-past : goal.shape_of-sheet-in_err-past
-shape_of-sheet-in_err-past c = c.read_root_fields.auto.sheet
 
 pub returns-in_err-past : goal.returns-in_err-past
 returns-in_err-past c =
@@ -85,9 +79,6 @@ returns-in_err-past c =
     rw (exit c.from_residual-in_err-past.result c.from_residual-in_err-past.ensures.1)
     (root-stop S args.ty fs p _ read _ _ _ _ _ (bits-read (goal.at.returns-in_err-past c).In_ok-bits) tell _ _ _ _
     (was c.read_root_fields.ensures (ap told_walk c.in_err-past.was)))
-
-pub shape_of-sheet : goal.shape_of-sheet
-shape_of-sheet c = c.read_root_fields.auto.sheet
 
 pub returns : goal.returns
 returns c =
