@@ -1,13 +1,10 @@
 -- `reader::read_shown` meets its contract. The first walk writes into cells of its own; few rows are copied from them, and where there are more the second
 -- walk is known to accept.
-use mathlib.Core.Path.{◌≡◌, refl, ap, ◌∙◌}
+use mathlib.Core.Path.{◌≡◌, refl, ◌∙◌}
 use native.Mathlib.Omega.{arith}
-use lib.ListN.{length}
 use Rattle.schema.specs.File.{table_of}
-use Rattle.schema.specs.Table.{row_at}
 use Rattle.walks.proofs.Tables.{struct_row, shape-struct}
-use Rattle.reader.proofs.Told.{exit}
-use Rattle.reader.proofs.Entries.{entry-judged, entry-copied, entry-shown, judged-refused, judged-struct, judged-small, judged-few, judged-walked}
+use Rattle.reader.proofs.Entries.{entry-judged, entry-copied, entry-shown, judged-struct, judged-small, judged-few, judged-walked}
 use Rattle.reader.proofs.read_shown.Goals.{else-past-le-SCRATCH_ROWS, then-past-le-SCRATCH_ROWS}
 use Rattle.reader.proofs.read_shown.Goals as goal
 

@@ -1,6 +1,5 @@
 -- `reader::beside::read_widened` meets its contract.
-use mathlib.Core.Path.{ap, ◌∙◌}
-use Rattle.reader.specs.Told.{told}
+use mathlib.Core.Path.{◌∙◌}
 use Rattle.reader.proofs.Besides.{beside-type, beside-shown}
 use Rattle.reader.proofs.beside.read_widened.Goals as goal
 

@@ -1,10 +1,8 @@
 -- `reader::pairs::read_childless` meets its contract.
 use Rattle.std.proofs.Common.{ap}
-use native.Mathlib.Omega.{arith}
 use Rattle.flat.specs.Told.{told_span}
 use Rattle.reader.proofs.Told.{exit}
-use Rattle.flat.proofs.Steps.{span_in, span-put}
-use Rattle.reader.proofs.Childless.{none-put, none_read, childless-asked, childless-stop, childless-past}
+use Rattle.reader.proofs.Childless.{none_read, childless-stop, childless-past}
 use Rattle.reader.proofs.pairs.read_childless.Goals as goal
 
 pub returns-then-t : goal.returns-then-t

@@ -9,28 +9,26 @@ use native.Mathlib.Omega.{arith}
 use Rattle.schema.specs.Table.{Shape, unknown, array, map, shape}
 use Rattle.schema.specs.File.{table_of}
 use Rattle.schema.specs.Check.{field_row_of}
-use Rattle.schema.proofs.Checks.{good-shaped, good-laid}
 use Rattle.flat.specs.Span.{Span}
-use Rattle.flat.specs.Count.{Is}
 use Rattle.flat.specs.Head.{Bits}
 use Rattle.flat.specs.Told.{told_count, told_span, told_head, told_walk}
 use Rattle.flat.specs.Walk.{Walk, told, value_in, Walked, Valued}
 use Rattle.reader.proofs.Told.{exit}
-use Rattle.flat.proofs.Steps.{was, as_refused, parse-refused, parse-deep, span_in, span-put}
-use Rattle.flat.proofs.Composites.{own-comparisons, few-pairs}
-use Rattle.flat.proofs.Pairs.{Midway, along-first, along-own, along-sum, along-end, along-deep, key-asked, key-room, key-failed, key-past, value-below, value-failed, value-sum, along-turn}
-use Rattle.flat.proofs.Turns.{flat-leaf, leaf-shown, reading-below, reading-deep, reading-end, reading-first, reading-on, reading-own, reading-stop, reading-sum}
+use Rattle.flat.proofs.Steps.{as_refused, parse-refused, parse-deep}
+use Rattle.flat.proofs.Composites.{own-comparisons}
+use Rattle.flat.proofs.Pairs.{Midway, along-first, along-end, along-deep, key-asked, key-room, key-failed, key-past, value-below, value-failed, along-turn}
+use Rattle.flat.proofs.Turns.{flat-leaf, leaf-shown, reading-below, reading-deep, reading-end, reading-on, reading-stop}
 use Rattle.walks.proofs.Items.{elements-none, elements-more}
 use Rattle.walks.specs.Shape.{shape_in}
 use Rattle.walks.proofs.Tables.{few-fields, array_row, shape-array, shape-past}
-use Rattle.reader.proofs.Calls.{Entered, array-stop, array-few, array-entered, part_type, part-shown, leaf-pairs, map-shown, map-stop, map-long, map-put, map-bare, map-entered, map-kinds}
+use Rattle.reader.proofs.Calls.{Entered, array-stop, array-few, array-entered, part_type, part-shown, leaf-pairs, map-shown, map-stop, map-long, map-bare, map-entered, map-kinds}
 use Rattle.reader.proofs.Calls.{By, pairs-ready, value-told}
 use Rattle.reader.proofs.Calls.{field_below, field_told}
 use Rattle.reader.proofs.Childless.{childless-asked, childless-stop, childless-past, childless-ready, childless-valued}
 use Rattle.reader.specs.Childless.{IsChildless, ChildlessReady, ChildlessRead, walk_of_span}
 use Rattle.parse.specs.Reader.{cursor_at}
-use Rattle.reader.proofs.Structs.{struct-asked, struct-stop, struct-other, struct-ready, struct-shown, type-few, all_shown, passing-first, passing-few, passing-absent, passing-kind, passing-ready, passing-stop, passing-sum}
-use Rattle.reader.proofs.Structs.{passing-read, passing-own, passing-forth, passing-end, Halved, ours-ready, ours-stop, added-ready, added-stop, added_in, added-past, others-ready, others-held}
+use Rattle.reader.proofs.Structs.{struct-asked, struct-stop, struct-other, struct-ready, struct-shown, type-few, all_shown, passing-absent, passing-kind, passing-ready, passing-stop}
+use Rattle.reader.proofs.Structs.{passing-read, passing-end, Halved, ours-ready, ours-stop, added-ready, added-stop, added-past, others-ready}
 use Rattle.reader.proofs.walk.+walk.Goals.{read_array-After-type_row-t, read_composites-After-read_composite, read_field-After-read_composite, read_field-Else-t, read_map-Else-n-gt-MOST_PAIRS, read_pairs-In_ok-key_content, read_pairs-else-needs_walker+in_ok-content, read_pairs-then-needs_walker+in_ok-past, read_fields-else-bits-eq1, read_fields-then-bits-eq1+in_ok-past, read_struct-In_ok-bits, read_shown_fields-After-low_bits-mine}
 use Rattle.reader.proofs.walk.+walk.Goals as goal
 
