@@ -11,8 +11,8 @@ ghost use Rattle.exports.specs.Answers.{refused_plan};
 use cells::records::{are_good, open_count, own_slot};
 use constants::frame_kind::FrameKind;
 use frame::read_frame;
-use receiver::Plan;
 use receiver::planning::{front, judge_tables, plan_call, plan_frame};
+use receiver::{Halt, Plan};
 use table::good::Schema;
 
 // One frame under a good schema table.
@@ -51,7 +51,7 @@ pub fn plan(
     match Schema::check(schema) {
         Err(refused) => {
             *calls = open_count(cells);
-            Err(refused.into())
+            Err(Halt::from(refused))
         }
         Ok(schema) => plan_good(cells, &schema, side, bytes, rows, calls),
     }
@@ -71,7 +71,7 @@ pub fn plan_release(
     match Schema::check(schema) {
         Err(refused) => {
             *calls = open_count(cells);
-            Err(refused.into())
+            Err(Halt::from(refused))
         }
         Ok(schema) => {
             let good = are_good(cells, schema.bytes, calls);

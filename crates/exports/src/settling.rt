@@ -64,26 +64,26 @@ pub fn place_in(done: &Result<Done<Refusal>, Halt>) -> u64
 
 // What a settled plan says to the call table: its judgement, what its payload gave, and the frame's size.
 #[derive(Clone, Copy)]
-struct Said {
+struct Judgement {
     judged: Result<Allowed, Stop>,
     payload: Result<(), Stop>,
     size: usize,
 }
 
-fn said(done: &Result<Done<Refusal>, Halt>) -> Said
+fn said(done: &Result<Done<Refusal>, Halt>) -> Judgement
     ensures judged_as { told number_of_stop result.judged ≡ (told_done no_tally done.now).judged }
     ensures payload_as { told_number number_of_stop result.payload ≡ (numbers (told_done no_tally done.now).reading).number }
     ensures size_as { result.size ≡ (told_done no_tally done.now).size }
 {
     match done {
-        Ok(done) => Said {
+        Ok(done) => Judgement {
             judged: done.judged.map_err(Stop::from),
             payload: verdict_of(&done.reading).map_err(Stop::from),
             size: done.size,
         },
         Err(halt) => {
             let stop = Stop::from(*halt);
-            Said {
+            Judgement {
                 judged: Err(stop),
                 payload: Err(stop),
                 size: 0,

@@ -2,6 +2,7 @@
 use Rattle.std.proofs.Common.{◌≡◌, refl, sym, ap, ◌∙◌, ℕ, cond, ◌==◌, Result, Ok, Err}
 use Rattle.std.specs.Prelude.{Bool, true, false, ⊤}
 use borrow.Author.Tests.{eqb-true}
+use Rattle.constants.specs.declared.refusal.Refusal.{Refusal}
 use Rattle.constants.specs.Number.{number_of}
 use Rattle.constants.proofs.Number.{named}
 use Rattle.calls.specs.declared.Stop.{Stop}
@@ -16,18 +17,20 @@ use Rattle.receiver.specs.Told.{told, told_released}
 use Rattle.receiver.proofs.Halts.{refused-number}
 
 -- The verdict with a number.
+abbrev refused : ℕ → Result ⊤ Stop
+refused n = Err (cond (n == 1) stop.More (stop.Refused (named n)))
+
 abbrev verdict : ℕ → Result ⊤ Stop
-verdict n = cond (n == 0) (Ok tt) (Err (cond (n == 1) stop.More (stop.Refused (named n))))
+verdict n = cond (n == 0) (Ok tt) (refused n)
+
+verdict-refused : (r : Refusal) (b : Bool) → (number_of r == 0) ≡ b → ◌≡◌ {A = Result ⊤ Stop} (cond b (Ok tt) (refused (number_of r))) (Err (stop.Refused r))
+verdict-refused r true e = absurd (refused-number r (eqb-true (number_of r) 0 e))
+verdict-refused r false e = ap Err (named-number_of_stop (stop.Refused r))
 
 verdict-told : (v : Result ⊤ Stop) → verdict (told_number number_of_stop v) ≡ v
-verdict-told (Ok tt) = refl
+verdict-told (Ok x) = refl
 verdict-told (Err stop.More) = refl
-verdict-told (Err (stop.Refused r)) = go (number_of r == 0) refl
-  where
-    go : (b : Bool) → (number_of r == 0) ≡ b
-        → cond b (Ok tt) (Err (cond (number_of r == 1) stop.More (stop.Refused (named (number_of r))))) ≡ Err (stop.Refused r)
-    go true e = absurd (refused-number r (eqb-true (number_of r) 0 e))
-    go false e = ap Err (named-number_of_stop (stop.Refused r))
+verdict-told (Err (stop.Refused r)) = verdict-refused r (number_of r == 0) refl
 
 pub verdict-injective : (a b : Result ⊤ Stop) → told_number number_of_stop a ≡ told_number number_of_stop b → a ≡ b
 verdict-injective a b e = sym (verdict-told a) ∙ ap verdict e ∙ verdict-told b

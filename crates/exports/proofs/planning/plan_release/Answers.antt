@@ -1,41 +1,50 @@
 -- `exports::planning::plan_release` meets its contract: the verdicts on the two tables and the number of rows pick the case.
-use mathlib.Core.Path.{sym, ap, ◌∙◌}
-use mathlib.Core.Bool.{Bool}
+use Rattle.std.proofs.Common.{◌≡◌, refl, sym, ap, ◌∙◌, Bool, List, ℕ, Ok, Err}
+use Rattle.std.proofs.lemmas.Result.{err_from_is_err_and, IfOk-at_ok}
+use Rattle.constants.specs.Number.{number_of}
 use Rattle.schema.specs.File.{table_of}
+use Rattle.calls.specs.Told.{told_number}
+use Rattle.table.specs.Told.{told}
 use Rattle.receiver.specs.Planning.{call_plan, tables_fault}
-use Rattle.exports.proofs.Plans.{cells-faulty, cells-stop, cells-call}
+use Rattle.receiver.specs.Told.{told_plan}
+use Rattle.receiver.proofs.Halts.{refused-planned, faulty-planned, refused-number}
+use Rattle.exports.proofs.Plans.{good_cells, cells-faulty, cells-stop, cells-call}
+use Rattle.exports.proofs.planning.plan_release.Goals.{After-judge_tables}
 use Rattle.exports.proofs.planning.plan_release.Goals as goal
 
-pub returns-then-fault-ne-ACCEPTED : goal.returns-then-fault-ne-ACCEPTED
-returns-then-fault-ne-ACCEPTED c =
+-- the verdict on the call table and the number of rows, by this schema table
+judged : (c : After-judge_tables) → let a = c.args in
+    told_number number_of c.judge_tables.result ≡ tables_fault (good_cells a.cells.now a.schema.now a.rows) a.rows (table_of a.schema.now)
+judged c =
     let a = c.args in
-    let s = a.schema.now in
-    let is = c.tables_fault-fault.ensures ∙ ap (λ (b : Bool). tables_fault b a.rows (table_of s)) c.are_good.ensures.value in
-    let e =
-    cells-stop a.cells.now s a.rows a.correlation c.check.result c.check.ensures c.stop-then-fault-ne-ACCEPTED.result c.in-Good.is
-    c.tables_fault-fault.result is c.if-fault-ne-ACCEPTED.true c.stop-then-fault-ne-ACCEPTED.ensures in
-    record { value = e; counts_open = c.are_good.ensures.counts_open }
+    let same : c.in-Ok.schema.bytes.now ≡ a.schema.now = ap (λ b. b.now) (IfOk-at_ok _ c.in-Ok.is c.check.ensures.same) in
+    c.judge_tables.ensures
+    ∙ ap (λ (b : Bool). tables_fault b a.rows (table_of c.in-Ok.schema.bytes.now)) c.are_good-good.ensures.value
+    ∙ ap (λ (b : List ℕ). tables_fault (good_cells a.cells.now b a.rows) a.rows (table_of b)) same
 
-pub returns-in-Refused : goal.returns-in-Refused
-returns-in-Refused c =
+pub returns-in-Err : goal.returns-in-Err
+returns-in-Err c =
     let a = c.args in
-    let e =
-    cells-faulty a.cells.now a.schema.now a.rows a.correlation c.check.result c.check.ensures c.stop.result
-    c.in-Refused.number c.in-Refused.place c.in-Refused.is c.stop.ensures in
-    record { value = e; counts_open = c.open_count.ensures }
+    let e = c.in-Err.refused in
+    let value = cells-faulty a.cells.now a.schema.now a.rows a.correlation (told c.check.result) c.check.ensures.verdict (told_plan (Err c.from.result))
+    (number_of e.refusal) e.place (ap told c.in-Err.is) (refused-planned (Err c.from.result) c.from.result e refl c.from.ensures) in
+    record { value = value; counts_open = c.open_count.ensures }
 
-pub returns-else-fault-ne-ACCEPTED : goal.returns-else-fault-ne-ACCEPTED
-returns-else-fault-ne-ACCEPTED c =
+pub returns-in_err-judge_tables : goal.returns-in_err-judge_tables
+returns-in_err-judge_tables c =
     let a = c.args in
-    let s = a.schema.now in
-    let is = c.tables_fault-fault.ensures ∙ ap (λ (b : Bool). tables_fault b a.rows (table_of s)) c.are_good.ensures.value in
-    let e =
-    cells-call a.cells.now s a.rows a.correlation c.check.result c.check.ensures c.plan_call.result c.in-Good.is
-    c.tables_fault-fault.result is c.if-fault-ne-ACCEPTED.false (c.plan_call.ensures ∙ ap call_plan c.own_slot.ensures) in
-    record { value = e; counts_open = c.are_good.ensures.counts_open }
+    let r = c.from_residual.result in
+    let e = c.in_err-judge_tables.field-0.0 in
+    let (h, is, k) = err_from_is_err_and r c.from_residual.ensures.1 in
+    let value = cells-stop a.cells.now a.schema.now a.rows a.correlation (told c.check.result) c.check.ensures.verdict (told_plan r)
+    (ap told c.in-Ok.is) (number_of e) (sym (ap (told_number number_of) c.in_err-judge_tables.was) ∙ judged (goal.at.returns-in_err-judge_tables c).After-judge_tables)
+    (refused-number e) (faulty-planned r h e is k) in
+    record { value = value; counts_open = c.are_good-good.ensures.counts_open }
 
-pub are_good-requires : goal.are_good-requires
-are_good-requires c = sym c.check.ensures ∙ c.in-Good.is
-
-pub tables_fault-fault-requires : goal.tables_fault-fault-requires
-tables_fault-fault-requires c = sym c.check.ensures ∙ c.in-Good.is
+pub returns-in-Ok : goal.returns-in-Ok
+returns-in-Ok c =
+    let a = c.args in
+    let value = cells-call a.cells.now a.schema.now a.rows a.correlation (told c.check.result) c.check.ensures.verdict (told_plan (Ok c.plan_call.result))
+    (ap told c.in-Ok.is) 0 (sym (ap (told_number number_of) c.in_ok-judge_tables.was) ∙ judged (goal.at.returns-in-Ok c).After-judge_tables)
+    refl (c.plan_call.ensures ∙ ap call_plan c.own_slot.ensures) in
+    record { value = value; counts_open = c.are_good-good.ensures.counts_open }

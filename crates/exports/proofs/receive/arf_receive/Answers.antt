@@ -1,24 +1,22 @@
 -- `exports::receive::arf_receive` meets its contract: the judgement, the record that it changes, and the numbers told.
-use mathlib.Core.Path.{ap, ◌∙◌}
-use mathlib.Core.List.{List, [], ◌∷◌}
-use Prim.Native.Nat.{ℕ}
-use Rattle.reader.specs.Entry.{numbers}
+use Rattle.std.proofs.Common.{ap, ◌∙◌, List, ℕ}
+use Rattle.calls.specs.Counting.{no_tally}
 use Rattle.receiver.specs.Received.{Received}
+use Rattle.receiver.specs.Told.{told_done}
 use Rattle.exports.specs.declared.Kept.{Kept}
 use Rattle.cells.specs.Cells.{stored}
-use Rattle.exports.specs.Answers.{kept_of, call_cells, received_cells}
+use Rattle.exports.specs.Answers.{kept_of, call_cells, received_cells, cells_by}
 use Rattle.exports.proofs.receive.arf_receive.Goals as goal
 
 pub returns : goal.returns
 returns c =
     let a = c.args in
     let cells = a.table.now in
-    let reading = c.judge-done.result.reading in
-    let told = numbers reading in
+    let reading = (told_done no_tally c.judge-done.result).reading in
     let e = c.judge-done.ensures in
     let kept = c.keep-kept.ensures.value ∙ ap kept_of e.table_value in
-    let list : Kept → List ℕ = λ k. told.place ∷ k.used ∷ told.rows ∷ told.tail_place_of ∷ told.tail_length_of ∷ k.«open» ∷ told.comparisons ∷ [] in
-    let cells_are = c.received_cells-cells.ensures ∙ ap list c.keep-kept.ensures.value ∙ ap received_cells e.table_value in record {
+    let list : Kept → List ℕ = λ k. cells_by k.used k.«open» reading in
+    let cells_are = c.received_cells.ensures ∙ ap list c.keep-kept.ensures.value ∙ ap received_cells e.table_value in record {
       value = ap (λ (k : Kept). k.number) kept;
       table_after = c.keep-kept.ensures.cells_after ∙
           ap (λ (r : Received). call_cells cells r.table.slots) e.table_value;
