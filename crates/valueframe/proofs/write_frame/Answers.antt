@@ -11,21 +11,11 @@ returns-then-not-known_kind c =
     rw c.at.ensures
     (frame-kind args.header args.schema.now.bytes.now args.ty args.sheet.now args.source.now args.out.now (sym c.known_kind.ensures ∙ c.if-not-known_kind.true))
 
-pub write_empty-requires : goal.write_empty-requires
-write_empty-requires c =
-    let known = sym c.known_kind.ensures ∙ c.if-not-known_kind.false in
-    (known-bounds _ known).1
-
 pub returns-then-ty-eq-NO_TYPE : goal.returns-then-ty-eq-NO_TYPE
 returns-then-ty-eq-NO_TYPE c =
     let args = c.args in
     let known = sym c.known_kind.ensures ∙ c.if-not-known_kind.false in
     frame-empty args.header args.schema.now.bytes.now args.ty args.sheet.now args.source.now args.out.now known c.if-ty-eq-NO_TYPE.true _ c.write_empty.ensures
-
-pub write_keeping-requires : goal.write_keeping-requires
-write_keeping-requires c =
-    let known = sym c.known_kind.ensures ∙ c.if-not-known_kind.false in
-    ((known-bounds _ known).1, search rules, search rules)
 
 pub returns-then-g-le-SHORT : goal.returns-then-g-le-SHORT
 returns-then-g-le-SHORT c =
@@ -33,11 +23,6 @@ returns-then-g-le-SHORT c =
     let known = sym c.known_kind.ensures ∙ c.if-not-known_kind.false in
     frame-value args.header args.schema.now.bytes.now args.ty args.sheet.now args.source.now args.out.now
     known c.if-ty-eq-NO_TYPE.false _ c.write_keeping.ensures
-
-pub write_keeping-requires-2 : goal.write_keeping-requires-2
-write_keeping-requires-2 c =
-    let known = sym c.known_kind.ensures ∙ c.if-not-known_kind.false in
-    ((known-bounds _ known).1, search rules, search rules)
 
 pub returns : goal.returns
 returns c =

@@ -28,12 +28,6 @@ returns-then-out-end c =
     (keep-full w part.result.start part.result.end args.out.now _
     part.ensures.0 part.ensures.1 c.put_first-answer.ensures.part_after args.header c.put_first-answer.auto.part _ _ size c.payload_place-place.ensures.0 c.if-out-end.true)
 
-pub put_payload-requires : goal.put_payload-requires
-put_payload-requires c =
-    let front = c.write_front in
-    let size = sym c.put_first-answer.ensures.value ∙ ap told c.in_ok-length.was in
-    record { good = c.args.schema.now.good; source_value = size ∙ ap Written (part_length _ _ _ front.new.out front.auto.out c.if-out-end.false) }
-
 pub returns-in_err-length : goal.returns-in_err-length
 returns-in_err-length c =
     let args = c.args in
