@@ -70,16 +70,13 @@ fn row_at(k: usize) -> Row
 fn row_of(b: u8) -> Row
     ensures { Memᴰ result rows × (lead_of b (result ∷ []) ≡ next b) }
 {
-    let mut r = UTF8_1;
-    let mut k: usize = 0;
-    while k < LAST_ROW {
-        if within(r.1, b) {
-            return r;
+    for k in 0..LAST_ROW {
+        let row = row_at(k);
+        if within(row.1, b) {
+            return row;
         }
-        k += 1;
-        r = row_at(k);
     }
-    r
+    row_at(LAST_ROW)
 }
 
 // Whether the bytes from a place on are a character of the row, each byte in its range.

@@ -1,5 +1,5 @@
--- `utf8::row_of` meets its contract: the rows passed do not have the byte, and `r` is the row at k.
-use mathlib.Core.Path.{refl, sym, ◌∙◌}
+-- `utf8::row_of` meets its contract: the rows passed do not have the byte.
+use mathlib.Core.Path.{◌≡◌, refl, sym, ◌∙◌}
 use mathlib.Core.Bool.{false}
 use native.Mathlib.Omega.{arith}
 use Rattle.utf8.specs.Utf8.{next, rows}
@@ -8,22 +8,22 @@ use Rattle.utf8.proofs.row_of.Goals as goal
 
 pub loop-k-init : goal.loop-k-init
 unfolding rows next
-loop-k-init c = (omega arith, refl, refl)
+loop-k-init c = refl
 
 pub returns-then-within : goal.returns-then-within
 returns-then-within c =
-    let l = c in
-    let e = l.loop-k.invariant in
-    (row-mem l.loop-k.k l.loop-k.r (omega arith) e.1, row-found l.args.b l.loop-k.k l.loop-k.r (omega arith) e.1 e.2 (sym c.within.ensures ∙ c.if-within.true))
+    let k = c.loop-k.k in
+    let r = c.row_at-row in
+    (row-mem k r.result (omega arith) r.ensures, row-found c.args.b k r.result (omega arith) r.ensures c.loop-k.invariant (sym c.within.ensures ∙ c.if-within.true))
 
 pub loop-k-preserved : goal.loop-k-preserved
 loop-k-preserved c =
-    let l = c in
-    let e = l.loop-k.invariant in
-    (omega arith, c.row_at-r.ensures, e.2 ∙ lead-row l.args.b l.loop-k.k l.loop-k.r false (omega arith) e.1 (sym c.within.ensures ∙ c.if-within.false))
+    let k = c.loop-k.k in
+    let r = c.row_at-row in
+    c.loop-k.invariant ∙ lead-row c.args.b k r.result false (omega arith) r.ensures (sym c.within.ensures ∙ c.if-within.false)
 
 pub returns : goal.returns
 returns c =
-    let l = c in
-    let e = l.loop-k.invariant in
-    (row-mem l.loop-k.k l.loop-k.r (omega arith) e.1, row_last l.args.b l.loop-k.k l.loop-k.r (omega arith) e.1 e.2)
+    let r = c.row_at in
+    let last : c.loop-k.k ≡ 8 = omega arith in
+    (row-mem 8 r.result (omega arith) r.ensures, row_last c.args.b 8 r.result refl r.ensures (rw last at c.loop-k.invariant))

@@ -1,12 +1,8 @@
--- `utf8::row_of` meets its contract: the rows passed do not have the byte, and `r` is the row at k.
+-- `utf8::row_of` meets its contract: the rows passed do not have the byte.
 use mathlib.Core.Path.{◌≡◌}
-use Prim.Native.Nat.{◌-◌, ◌≤◌}
 use lib.ListN.{drop}
-use Rattle.utf8.specs.Utf8.{lead_of, next, rows, row_at}
+use Rattle.utf8.specs.Utf8.{lead_of, next, rows}
 use Rattle.utf8.proofs.row_of.Given as goal
 
 abbrev pub invariant-loop-k : goal.invariant-loop-k
-invariant-loop-k l = (l.k ≤ 8) × (l.r ≡ row_at l.k) × (next l.b ≡ lead_of l.b (drop l.k rows))
-
-abbrev pub decreases-loop-k : goal.decreases-loop-k
-decreases-loop-k l = 8 - l.k
+invariant-loop-k l = next l.b ≡ lead_of l.b (drop l.k rows)
