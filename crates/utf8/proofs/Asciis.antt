@@ -1,6 +1,6 @@
 -- Characters of the row UTF8-1: laws of `ascii` of `specs/Utf8.antt`, over any number of bytes.
 use mathlib.Core.Path.{◌≡◌, refl, sym, ap, ap₂, subst, ◌∙◌}
-use mathlib.Core.Bool.{Bool, true, false, ◌&&◌, not, and-true, and-false}
+use mathlib.Core.Bool.{Bool, true, false, ◌&&◌, not, and-true, and-false, and_assoc}
 use mathlib.Core.List.{List, [], ◌∷◌, ◌++◌}
 use Prim.Native.Nat.{ℕ, zero, suc, ◌+◌, ◌-◌, ◌*◌, ◌^◌, ◌<◌, ◌≤◌}
 use native.Mathlib.Nat.{suc_inj, zero-add}
@@ -10,7 +10,7 @@ use borrow.Author.Tests.{eq-eqb, ne_eqb, le-leb, lt-leb, not-false}
 use lib.Bits.{bit_and, and_comm, and_shifted, and_block}
 use lib.Dec.{T, eqb, leb, lit<}
 use lib.ListN.{length, get_or, take, drop, length-drop}
-use lib.Seq.{slice, drop-cons, length-take-le}
+use lib.Seq.{slice, drop-cons, drop-drop, take-add, length-take-le}
 use Rattle.wire.specs.Little.{little, Bytes}
 use Rattle.utf8.specs.Utf8.{rows, row_at, In, matches, is_char, utf8, ascii}
 use Rattle.wire.proofs.Numbers.{bytes_drop, bytes_take}
@@ -64,6 +64,31 @@ ascii-skip [] s t = refl
 ascii-skip (b ∷ c) s t =
     let both = and_both (is_char (row_at 0) (b ∷ [])) (ascii c) t in
     run-char (row_at 0) (b ∷ []) (c ++ s) (row-mem 0 (row_at 0) (lit< tt) refl) both.0 ∙ ascii-skip c s both.1
+
+-- ---- bytes after others
+
+ascii-append : (a b : List ℕ) → ascii (a ++ b) ≡ ascii a && ascii b
+unfolding ascii
+ascii-append [] b = refl
+ascii-append (x ∷ a) b = ap (λ (t : Bool). is_char (row_at 0) (x ∷ []) && t) (ascii-append a b) ∙ sym (and_assoc (is_char (row_at 0) (x ∷ [])) (ascii a) (ascii b))
+
+ascii-parts : (s : List ℕ) (at m n : ℕ) → ascii (take (m + n) (drop at s)) ≡ ascii (take m (drop at s)) && ascii (take n (drop (at + m) s))
+ascii-parts s at m n = rw (take-add m n (drop at s), drop-drop m at s) (ascii-append (take m (drop at s)) (take n (drop (at + m) s)))
+
+-- a word after k others, which are ASCII
+module _ (s : List ℕ) (at k : ℕ) where
+  pub ascii-word-more : ascii (take (8 * k) (drop at s)) ≡ true → ascii (take 8 (drop (at + 8 * k) s)) ≡ true → ascii (take (8 * (k + 1)) (drop at s)) ≡ true
+  ascii-word-more e w =
+      let more : 8 * (k + 1) ≡ 8 * k + 8 = omega arith in
+      rw more (ascii-parts s at (8 * k) 8 ∙ ap₂ ◌&&◌ e w)
+
+  pub ascii-word-bad : k < 8 → ascii (take (8 * k) (drop at s)) ≡ true → ascii (take 8 (drop (at + 8 * k) s)) ≡ false → false ≡ ascii (take 64 (drop at s))
+  ascii-word-bad h e w =
+      let rest = 56 - 8 * k in
+      let all : 64 ≡ 8 * k + (8 + rest) = omega arith in
+      sym (ap (λ (n : ℕ). ascii (take n (drop at s))) all
+      ∙ ascii-parts s at (8 * k) (8 + rest)
+      ∙ ap₂ ◌&&◌ e (ascii-parts s (at + 8 * k) 8 rest ∙ ap (λ (t : Bool). t && ascii (take rest (drop (at + 8 * k + 8) s))) w))
 
 -- k bytes that the test r found to be ASCII
 pub ascii-pass : (k : ℕ) (s : List ℕ) (i next to : ℕ) (r : Bool) → next ≡ i + k → next ≤ to → r ≡ ascii (take k (drop i s)) → not r ≡ false

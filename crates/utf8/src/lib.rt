@@ -170,22 +170,23 @@ fn skip_words(s: &[u8], from: usize, to: usize) -> usize
     i
 }
 
-// Bytes of a block of eight words, and where each word after the first starts in it.
-const BLOCK: usize = 8 * WORD;
+// Words of a block, and its bytes.
+const BLOCK_WORDS: usize = 8;
 
-const SECOND: usize = WORD;
+const BLOCK: usize = BLOCK_WORDS * WORD;
 
-const THIRD: usize = 2 * WORD;
-
-const FOURTH: usize = 3 * WORD;
-
-const FIFTH: usize = 4 * WORD;
-
-const SIXTH: usize = 5 * WORD;
-
-const SEVENTH: usize = 6 * WORD;
-
-const EIGHTH: usize = 7 * WORD;
+// Whether a block's words are, word by word.
+fn ascii_block(s: &[u8], at: usize) -> bool
+    requires { at + 64 ≤ length s.now }
+    ensures { result ≡ ascii (take 64 (drop at s.now)) }
+{
+    for k in 0..BLOCK_WORDS {
+        if !ascii_word(s, at + WORD * k) {
+            return false;
+        }
+    }
+    true
+}
 
 // Past characters of one byte by blocks, for long strings.
 fn skip_blocks(s: &[u8], from: usize, to: usize) -> usize
@@ -194,28 +195,7 @@ fn skip_blocks(s: &[u8], from: usize, to: usize) -> usize
 {
     let mut i = from;
     while BLOCK <= to - i {
-        if !ascii_word(s, i) {
-            return i;
-        }
-        if !ascii_word(s, i + SECOND) {
-            return i;
-        }
-        if !ascii_word(s, i + THIRD) {
-            return i;
-        }
-        if !ascii_word(s, i + FOURTH) {
-            return i;
-        }
-        if !ascii_word(s, i + FIFTH) {
-            return i;
-        }
-        if !ascii_word(s, i + SIXTH) {
-            return i;
-        }
-        if !ascii_word(s, i + SEVENTH) {
-            return i;
-        }
-        if !ascii_word(s, i + EIGHTH) {
+        if !ascii_block(s, i) {
             return i;
         }
         i += BLOCK;
