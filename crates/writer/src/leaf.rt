@@ -26,6 +26,7 @@ pub struct Placed {
     pub length: usize,
 }
 
+// A cell as a place or a length. What it ensures spares its callers the bound, which a conversion in its place leaves to each of them.
 pub fn wide(x: u32) -> usize
     ensures { (result ≡ x) × (result < 4294967296) }
 {
