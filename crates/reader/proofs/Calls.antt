@@ -87,9 +87,6 @@ module _ {s p : List ℕ} (d ty : ℕ) {at row : ℕ} {judging : Bool} {t : Type
     map_in : (at < start) × (start + 2 * n ≤ length p)
     map_in = count_in (shape_in s) d ty p at 2 r read n start e
 
-    pub map-put : (row ≤ 16383) × (start ≤ 16384)
-    map-put = omega (arith, map_in, asked.0.small, asked.0.behind)
-
     pub map-bare : n ≡ 0 → {l after : List ℕ} → after ≡ put_row l row (record { ty = ty; place = start; length = 0; count = 0 })
         → Valued shown s p (suc d) ty at row l (Past 0 start (row + 1)) after
     map-bare none {l} {after} put =

@@ -31,9 +31,6 @@ module _ {p : List ℕ} {t : TypeRow} {at row : ℕ} {judging : Bool} (q : Child
     none : (t.kind ≡ 15) × Uncounted p at (count 2 (cursor_at p at))
     none = ⊎_elim (λ few. absurd (omega (arith, many, few))) (λ x. x) q.is
 
-    pub none-put : (at < length p) × (row ≤ 16384) × (at + 1 ≤ 16384)
-    none-put = let w = none.1.within.1 in omega (arith, w, q.small, q.behind)
-
     pub none_read : {ty : ℕ} {l m : List ℕ} → m ≡ put_row l row (record { ty = ty; place = at + 1; length = 0; count = 0 }) → ChildlessRead p ty t at row l (At (at + 1) (at + 1)) m
     none_read {ty} {l} {m} put =
         record {

@@ -1,6 +1,5 @@
 -- Laws of the entries: what each of their returns shows.
 use mathlib.Core.Path.{◌≡◌, refl, subst, ◌∙◌}
-use mathlib.Core.Bool.{true, false}
 use mathlib.Core.List.{List}
 use Prim.Native.Nat.{ℕ, ◌+◌, ◌-◌, ◌*◌, ◌≤◌, ◌<◌}
 use native.Mathlib.Omega.{arith}
@@ -15,7 +14,6 @@ use Rattle.schema.specs.Checked.{Good, Refused as Faulty}
 use Rattle.schema.specs.Table.{row_at}
 use Rattle.schema.specs.File.{table_of}
 use Rattle.schema.specs.Check.{checked, IsGood}
-use Rattle.schema.specs.Extend.{widened}
 use Rattle.schema.proofs.Goods.{good-table}
 use Rattle.value.specs.declared.Row.{Row}
 use Rattle.value.specs.Value.{Tree}
@@ -28,7 +26,7 @@ use Rattle.reader.specs.Reading.{Shown, Refused}
 use Rattle.flat.specs.Walk.{Walk, Past, Refused as Stop, Told, told, first_fields, done, walk_of, end_of, root_in, Walked, Rooted}
 use Rattle.flat.specs.Sheet.{put_rows, shown_in}
 use Rattle.reader.specs.Entry.{Outcome, outcome, reading_in, outcome_of, room, payload_outcome, by_table, read_outcome, numbers, number_in}
-use Rattle.reader.specs.Beside.{shown_outcome, beside_payload, beside_outcome}
+use Rattle.reader.specs.Beside.{shown_outcome}
 use Rattle.reader.specs.Judged.{Judged, stops, goes}
 use Rattle.flat.proofs.Sheets.{rows-shown, rows-copied}
 use Rattle.flat.proofs.Steps.{read_of, refused-of}
@@ -140,38 +138,6 @@ module _ {shown s : List ℕ} {ty : ℕ} {p : List ℕ} {rows : ℕ} {cells afte
     pub judged-walked : Judged shown s ty p rows cells (Past due next row) after
         → Rooted shown s p ty (fields_from (table_of s) (row_at (table_of s) ty).a (row_at (table_of s) ty).b) cells (Past due next row) after
     judged-walked (goes kind small few w) = w
-
--- ---- any table
-
-module _ (s : List ℕ) (ty : ℕ) (p sheet : List ℕ) (v : Checked) (is : v ≡ checked s) where
-  pub entry-table : (n q : ℕ) → v ≡ Faulty n q → outcome (Refused n q) sheet ≡ read_outcome s ty p sheet
-  unfolding read_outcome
-  entry-table n q e = rw (← is, e)
-
-  pub entry-good : v ≡ Good → payload_outcome s ty p sheet ≡ read_outcome s ty p sheet
-  unfolding read_outcome
-  entry-good e = rw (← is, e)
-
--- ---- any two tables
-
-module _ (ours theirs : List ℕ) (ty : ℕ) (p sheet : List ℕ) (v : Checked) (is : v ≡ checked ours) where
-  pub beside-ours : (n q : ℕ) → v ≡ Faulty n q → outcome (Refused n q) sheet ≡ beside_outcome ours theirs ty p sheet
-  unfolding beside_outcome
-  beside-ours n q e = rw (← is, e)
-
-  module _ (good : v ≡ Good) (v' : Checked) (is' : v' ≡ checked theirs) where
-    pub beside-theirs : (n q : ℕ) → v' ≡ Faulty n q → outcome (Refused n q) sheet ≡ beside_outcome ours theirs ty p sheet
-    unfolding beside_outcome
-    beside-theirs n q e = rw (← is, good, ← is', e)
-
-    module _ (good' : v' ≡ Good) where
-      pub beside-other : widened (table_of ours) (table_of theirs) ≡ false → outcome (Refused 47 0) sheet ≡ beside_outcome ours theirs ty p sheet
-      unfolding beside_outcome
-      beside-other e = rw (← is, good, ← is', good', e)
-
-      pub beside-good : widened (table_of ours) (table_of theirs) ≡ true → beside_payload ours theirs ty p sheet ≡ beside_outcome ours theirs ty p sheet
-      unfolding beside_outcome
-      beside-good e = rw (← is, good, ← is', good', e)
 
 -- ---- the key comparisons due are never above 258,048
 

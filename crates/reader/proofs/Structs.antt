@@ -16,14 +16,14 @@ use Rattle.value.specs.Value.{Tree}
 use Rattle.value.specs.Read.{plain_item, present, node_row, bitmap, parse}
 use Rattle.walks.specs.Shape.{fields_from, shape_in}
 use Rattle.walks.proofs.Presence.{present-set, present-clear, present-end}
-use Rattle.walks.proofs.Tables.{few-fields, field_row, struct_row, struct_type, shape-struct}
+use Rattle.walks.proofs.Tables.{field_row, struct_row, struct_type, shape-struct}
 use Rattle.flat.specs.Head.{Head, Bits, Refused as HeadRefused}
 use Rattle.flat.specs.Walk.{Walk, Past, Refused, first_fields, value_in, Valued, Ready}
 use Rattle.flat.specs.Leaf.{Headed}
 use Rattle.flat.specs.Sheet.{put_row}
 use Rattle.flat.proofs.Steps.{as_refused, as_told}
 use Rattle.flat.proofs.Composites.{bitmap-accepted, struct-refused, head_in, struct-unknown, struct-whole, struct-valued, first-whole, first_part}
-use Rattle.flat.proofs.Turns.{ReadingItems, reading-first, reading-own, reading-end, reading-ready, reading-stop, reading-sum, reading-on}
+use Rattle.flat.proofs.Turns.{ReadingItems, reading-end, reading-ready, reading-stop, reading-on}
 use Rattle.flat.proofs.Partials.{mine-count, PartAsked, part-first, part_room, part_count, part-stop, rest-asked, rest-stop, rest_in, rest-past}
 use Rattle.reader.proofs.Calls.{By}
 use Rattle.reader.specs.declared.walk.Fields.{Fields}
@@ -101,13 +101,7 @@ pub record Passing (known s p : List ℕ) (depth : ℕ) (f : Fields) (row : ℕ)
   pub in_table : i + left ≤ length (table_of s).fields
 
 module _ {s p : List ℕ} {depth : ℕ} {f : Fields} {row : ℕ} {judging : Bool} where
-  pub passing-first : ReadyFor s p depth f row judging → (known : List ℕ) {sheet : List ℕ} → Passing known s p depth f row judging sheet f.first f.n f.known f.start 0 (row + 1) sheet
-  passing-first q known = record { asked = q; at = reading-first q.ready _ refl _; in_table = q.in_table }
-
   module _ {known sheet : List ℕ} {i left bits here sum below : ℕ} {l : List ℕ} (g : Passing known s p depth f row judging sheet i left bits here sum below l) where
-    pub passing-few : i + left ≤ 2048
-    passing-few = omega (arith, g.in_table, few-fields s g.asked.ready.good)
-
     module _ (some : 0 < left) where
       pub passing-absent : (bits % 2 ≡ 1 → ⊥) → {here' sum' below' : ℕ} {k : List ℕ} → here' ≡ here → sum' ≡ sum → below' ≡ below → k ≡ l
           → Passing known s p depth f row judging sheet (i + 1) (left - 1) (bits / 2) here' sum' below' k
@@ -130,20 +124,11 @@ module _ {s p : List ℕ} {depth : ℕ} {f : Fields} {row : ℕ} {judging : Bool
           passing-stop e = reading-stop g.at first {m = m} (λ R shown. rw shown w) e (showing known s) refl
 
           module _ {comparisons next row' : ℕ} (e : r ≡ Past comparisons next row') where
-            pub passing-sum : sum + comparisons ≤ 262144
-            passing-sum = reading-sum g.at first {m = m} (λ R shown. rw shown w) e
-
             pub passing-read : {here' sum' below' : ℕ} {k : List ℕ} → here' ≡ next → sum' ≡ sum + comparisons → below' ≡ row' → k ≡ m
                 → Passing known s p depth f row judging sheet (i + 1) (left - 1) (bits / 2) here' sum' below' k
             passing-read e₁ e₂ e₃ e₄ =
                 rw (e₁, e₂, e₃, e₄)
                 (record { asked = g.asked; at = reading-on g.at first (λ R shown. rw shown w) e; in_table = omega (arith, g.in_table, some) })
-
-    pub passing-own : f.ones ≤ 64 → (row ≤ 16384) × (f.place ≤ 16384) × (here - f.place ≤ 16384) × (f.ones ≤ 16384)
-    passing-own few = reading-own g.at g.asked.forth (omega (arith, few))
-
-    pub passing-forth : f.place ≤ here
-    passing-forth = omega (arith, g.asked.forth, g.at.forth)
 
     pub passing-end : OfCount s f → left ≤ 0 → {after : List ℕ}
         → after ≡ put_row l row (record { ty = f.ty; place = f.place; length = here - f.place; count = f.ones })
@@ -223,7 +208,3 @@ module _ (f : Fields) (known : List ℕ) {m : ℕ} (same : m ≡ get_or known f.
         record { ready = rw bits asked.ready; in_table = asked.in_table; forth = asked.forth },
         (e.1, e.0 ∙ mine-count (table_of s) (f.first + m) (f.n - m) (f.n - m) (omega arith) asked.in_table _ rest bits),
       )
-
-  pub others-held : {l after : List ℕ} {v : Walk} → HeldBy known s p depth (others 0) row l v after
-      → HeldBy known s p depth (added_to f (get_or known f.ty 0) at) row l v after
-  others-held h = rw (bits, same) at h

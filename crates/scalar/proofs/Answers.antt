@@ -12,9 +12,6 @@ use Rattle.buffer.specs.Span.{span, inside}
 use Rattle.wire.specs.Little.{little}
 use Rattle.utf8.specs.Utf8.{utf8}
 use Rattle.schema.specs.Table.{Table, Shape, unknown, scalar, text, array, map, struct, row_at, shape, width}
-use Rattle.schema.specs.Checked as check
-use Rattle.schema.specs.File.{table_of}
-use Rattle.schema.specs.Check.{checked, IsGood}
 use Rattle.schema.specs.Good.{GoodSchema}
 use Rattle.schema.proofs.Bools.{or_cases, or-false}
 use Rattle.schema.proofs.Shapes.{shape-scalar, shape-text, kind_of, Within, within, kind-of}
@@ -23,7 +20,7 @@ use Rattle.value.proofs.Spans.{truth-byte}
 use Rattle.value.proofs.Complete.{asks}
 use Rattle.scalar.specs.Answer.{Is, Refused}
 use Rattle.scalar.specs.declared.Scalar.TheVariants.{Span}
-use Rattle.scalar.specs.Scalar.{value_of, text_at, by_shape, scalar_of, scalar_by, scalar_at}
+use Rattle.scalar.specs.Scalar.{value_of, text_at, by_shape, scalar_of, scalar_at}
 
 module _ (kind place n : ℕ) (bytes : List ℕ) where
   pub wrong-length : (n ≡ width kind → ⊥) → scalar_at kind place n bytes ≡ Refused 50 0
@@ -119,14 +116,3 @@ module _ (T : Table) (g : GoodSchema T) (r : Row) (bytes : List ℕ) where
     pub text-row : 12 ≤ kind → kind < 14 → r.count ≡ 0 → scalar_of T r bytes ≡ text_at kind r.place r.length bytes
     unfolding scalar_of
     text-row p h e = rw (shape-text T r.ty (rw k p) (rw k (omega arith)), k, eq-eqb r.count 0 e)
-
--- ---- a schema file
-
-module _ (schema : List ℕ) (r : Row) (bytes : List ℕ) where
-  pub by-refused : (number place : ℕ) → checked schema ≡ check.Refused number place → scalar_by schema r bytes ≡ Refused number place
-  unfolding scalar_by
-  by-refused number place e = rw e
-
-  pub by-good : IsGood schema → scalar_by schema r bytes ≡ scalar_of (table_of schema) r bytes
-  unfolding scalar_by
-  by-good e = rw e

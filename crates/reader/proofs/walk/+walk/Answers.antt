@@ -77,15 +77,6 @@ leaf-told t c read =
     (childless-valued args.view.now.source.schema.bytes.now (args.depth - 1) field.result.ty c.known_row-t.ensures (rw field.ensures c.requires.2) (inl (omega (arith, c.if-t.false)))
     args.view.now.shown.now read)
 
--- A field that is an array, a map or a struct.
-held-told : (t : ℕ) (c : read_field-After-read_composite t) →
-    let args = c.args in
-    Valued args.view.now.shown.now args.view.now.source.schema.bytes.now args.view.now.source.payload.now args.depth (field_row_of (table_of args.view.now.source.schema.bytes.now) args.i).ty args.at args.row args.sheet.now
-    (told_walk c.read_composite.result) c.read_composite.new.sheet
-held-told t c =
-    let args = c.args in
-    field_told args.view.now.source.schema.bytes.now args.depth args.at c.field_row-ty.ensures c.if-depth-eq0.false args.view.now.shown.now c.read_composite.ensures
-
 -- After the count of a map of at most 64 pairs.
 opened : (t : ℕ) (c : read_map-Else-n-gt-MOST_PAIRS t) →
     let args = c.args in

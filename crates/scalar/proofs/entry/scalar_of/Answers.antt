@@ -7,7 +7,6 @@ use Rattle.schema.specs.File.{table_of}
 use Rattle.schema.specs.Good.{GoodSchema}
 use Rattle.schema.proofs.Goods.{good-table}
 use Rattle.scalar.proofs.Answers.{row-refused, row-passed, number-row, text-row}
-use borrow.Author.Rules.{rules}
 use Rattle.scalar.proofs.entry.scalar_of.Goals.{After-type_row-kind}
 use Rattle.scalar.proofs.entry.scalar_of.Goals as goal
 

@@ -1,8 +1,6 @@
 -- `scalar::entry::text_at` meets its contract, by the tests that led to each answer.
 use mathlib.Core.Bool.{true}
 use mathlib.Core.Path.{◌≡◌, sym, ap, ◌∙◌}
-use native.Mathlib.Omega.{arith}
-use borrow.Author.Tests.{leb-true}
 use Rattle.utf8.specs.Utf8.{utf8}
 use Rattle.scalar.specs.Told.{told}
 use Rattle.scalar.proofs.Answers.{text-outside, no-utf8, text-is}
