@@ -17,7 +17,6 @@ use constants::limit;
 use constants::refusal::{Refusal, Refused};
 use schema::TypeRow;
 use table::access::type_row;
-use table::good::Schema;
 use table::rows::{field_row, row as row_at};
 use walks::zeros_in;
 use wire::bitmap::low_bits;
@@ -63,7 +62,8 @@ fn part_of(f: Prepared, first: usize, n: usize) -> Prepared
     }
 }
 
-// The fields of a struct whose bits are set, from the place after its bitmap on, and the struct's own row: its bitmap stands at `place`.
+// The fields of a struct whose bits are set, from the place after its bitmap on, and the struct's own row: its bitmap stands at `place`. The loop is that of
+// `elements::flat_fields`, which says why it stands twice.
 fn leaf_fields(
     source: &Source,
     f: Prepared,
@@ -240,30 +240,4 @@ pub fn partial_structs(
         next: here,
         row: below,
     })
-}
-
-// The same of slices.
-pub fn read_structs(
-    s: &[u8],
-    p: &[u8],
-    sheet: &mut [u32],
-    ty: u32,
-    elem: u32,
-    m: usize,
-    n: usize,
-    start: usize,
-    depth: usize,
-    row: usize,
-    judging: bool,
-) -> Result<Past, Refused>
-    requires ready { Ready s.now p.now start (row + 1) judging (whole_in s.now p.now depth ty (array elem) start n start) × IsFlat s.now depth elem × (n ≤ 16384) }
-    requires elem_value { ((row_at (table_of s.now) elem).kind ≡ 16) × (m < (row_at (table_of s.now) elem).b) }
-    ensures { HeldPartial s.now p.now depth ty elem m start n start row sheet.old (told_walk result) sheet.new }
-{
-    let source = Source {
-        schema: Schema::of_good(s),
-        payload: p,
-        judging,
-    };
-    partial_structs(&source, sheet, ty, First { elem, m }, n, start, depth, row)
 }

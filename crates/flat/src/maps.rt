@@ -55,7 +55,8 @@ fn key_comparisons(n: usize) -> u32
     (n * (n - 1) / 2) as u32
 }
 
-// The content of the next key, after the first i of a map, and its row; a key that is among those is refused.
+// The content of the next key, after the first i of a map, and its row; a key that is among those is refused. `reader::pairs::read_key` does the
+// same for the cycle of walkers: with one function for both, maps are read in up to twice the time (docs/DECISIONS.md).
 fn next_key(
     source: &Source,
     sheet: &mut [u32],
@@ -86,7 +87,7 @@ fn next_key(
     Ok(content)
 }
 
-// The n pairs of a map of type ty from a place on. What `keys` holds afterwards means nothing.
+// The n pairs of a map from a place on. What `keys` holds afterwards means nothing.
 fn leaf_pairs(
     source: &Source,
     sheet: &mut [u32],
@@ -130,7 +131,7 @@ fn leaf_pairs(
     })
 }
 
-// A map of type ty.
+// A map.
 fn leaf_map(
     source: &Source,
     sheet: &mut [u32],
@@ -154,7 +155,7 @@ fn leaf_map(
     leaf_pairs(source, sheet, keys, m, count.n, count.start, depth - 1, row)
 }
 
-// The n elements of an array from a place on, maps of the type elem. They share one slice for their keys, whose flags are cleared before each.
+// The n elements of an array from a place on, maps of one type. They share one slice for their keys, whose flags are cleared before each.
 pub fn maps_of(
     source: &Source,
     sheet: &mut [u32],

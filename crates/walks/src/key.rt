@@ -1,5 +1,6 @@
 // The keys of a map, kept while its pairs are walked: their digests in the first half of a slice of numbers, where they stand in the second. The last
 // four cells of the first half have 256 flags, each for the digests of one remainder: a key whose flag is not set is new, and needs no search.
+// They stay in one slice: `is_repeated`, which docs/PROVING.md names, takes it so, and the walks lend it parts of arrays of three lengths.
 ghost use Rattle.std.specs.Prelude.{◌≡◌, ℕ, ◌+◌, ◌/◌, ◌<◌, ◌≤◌, true, false, ◌∷◌, length};
 ghost use Rattle.buffer.specs.Span.{span};
 ghost use Rattle.value.specs.Read.{same, among};
