@@ -96,12 +96,7 @@ pub ascii-pass : (k : ℕ) (s : List ℕ) (i next to : ℕ) (r : Bool) → next 
 ascii-pass k s i next to r e l is t =
     ap (λ (j : ℕ). utf8 (slice j to s)) e ∙ part-pass s i k to (omega arith) (λ u. ascii-skip (take k (drop i s)) u (subst T (sym (not-false r t) ∙ is) tt))
 
--- a word
-pub word-pass : (s : List ℕ) (i next to : ℕ) (r : Bool) → next ≡ i + 8 → next ≤ to → r ≡ ascii (take 8 (drop i s)) → not r ≡ false
-    → utf8 (slice next to s) ≡ utf8 (slice i to s)
-word-pass = ascii-pass 8
-
--- and a byte
+-- a byte
 pub byte-pass : (s : List ℕ) (i to : ℕ) → i < to → to ≤ length s → In (row_at 0).1 (get_or s i 0) ≡ true → utf8 (slice (i + 1) to s) ≡ utf8 (slice i to s)
 unfolding rows matches
 byte-pass s i to l h is =

@@ -1,7 +1,7 @@
 // UTF-8 by RFC 3629, over the table of its section 4.
 #![tactic(auto)]
 
-ghost use Rattle.std.specs.Prelude.{◌≡◌, false, ◌+◌, ◌<◌, ◌≤◌, length, take, drop};
+ghost use Rattle.std.specs.Prelude.{◌≡◌, ℕ, true, false, ◌+◌, ◌<◌, ◌≤◌, length, take, drop};
 ghost use mathlib.Core.List.{[], ◌∷◌, Memᴰ};
 ghost use Rattle.std.proofs.Math.Seq.{slice};
 ghost use Rattle.utf8.specs.Utf8.{rows, row_at, In, is_char, lead_of, next, utf8, ascii, two_byte_chars};
@@ -155,21 +155,6 @@ fn skip_half(s: &[u8], from: usize, to: usize) -> usize
     from + HALF
 }
 
-// From a place on, past words of eight characters of one byte.
-fn skip_words(s: &[u8], from: usize, to: usize) -> usize
-    requires { (from ≤ to) × (to ≤ length s.now) }
-    ensures { ((from ≤ result) × (result ≤ to)) × (utf8 (slice result to s.now) ≡ utf8 (slice from to s.now)) }
-{
-    let mut i = from;
-    while WORD <= to - i {
-        if !ascii_word(s, i) {
-            return i;
-        }
-        i += WORD;
-    }
-    i
-}
-
 // Words of a block, and its bytes.
 const BLOCK_WORDS: usize = 8;
 
@@ -186,21 +171,6 @@ fn ascii_block(s: &[u8], at: usize) -> bool
         }
     }
     true
-}
-
-// Past characters of one byte by blocks, for long strings.
-fn skip_blocks(s: &[u8], from: usize, to: usize) -> usize
-    requires { (from ≤ to) × (to ≤ length s.now) }
-    ensures { ((from ≤ result) × (result ≤ to)) × (utf8 (slice result to s.now) ≡ utf8 (slice from to s.now)) }
-{
-    let mut i = from;
-    while BLOCK <= to - i {
-        if !ascii_block(s, i) {
-            return i;
-        }
-        i += BLOCK;
-    }
-    i
 }
 
 // A word of four characters of the row UTF8-2, each 110xxxxx 10xxxxxx: where the fixed bits stand, and what they are.
@@ -225,19 +195,70 @@ fn pair_word(s: &[u8], at: usize) -> bool
     (w & SHAPE_BITS == SHAPE) & (low & LEAD_CARRY == LEAD_CARRY)
 }
 
-// From a place on, past words of four characters of the row UTF8-2.
-fn skip_pair_words(s: &[u8], from: usize, to: usize) -> usize
-    requires { (from ≤ to) × (to ≤ length s.now) }
-    ensures { ((from ≤ result) × (result ≤ to)) × (utf8 (slice result to s.now) ≡ utf8 (slice from to s.now)) }
-{
-    let mut i = from;
-    while WORD <= to - i {
-        if !pair_word(s, i) {
-            return i;
+// Parts of so many bytes, by a test that they are whole characters.
+trait Part {
+    ghost BYTES: { ℕ };
+
+    const BYTES: usize;
+
+    // Whether the part at a place is whole characters.
+    fn is_whole(s: &[u8], at: usize) -> bool
+        requires { at + BYTES ≤ length s.now }
+        ensures { (0 < BYTES) × (result ≡ true → (to : ℕ) → at + BYTES ≤ to → utf8 (slice (at + BYTES) to s.now) ≡ utf8 (slice at to s.now)) };
+
+    // From a place on, past such parts.
+    final fn skip(s: &[u8], from: usize, to: usize) -> usize
+        requires { (from ≤ to) × (to ≤ length s.now) }
+        ensures { ((from ≤ result) × (result ≤ to)) × (utf8 (slice result to s.now) ≡ utf8 (slice from to s.now)) }
+    {
+        let mut i = from;
+        while Self::BYTES <= to - i {
+            if !Self::is_whole(s, i) {
+                return i;
+            }
+            i += Self::BYTES;
         }
-        i += WORD;
+        i
     }
-    i
+}
+
+// Eight characters of one byte.
+struct AsciiWord;
+
+impl Part for AsciiWord {
+    ghost BYTES = { 8 };
+
+    const BYTES: usize = WORD;
+
+    fn is_whole(s: &[u8], at: usize) -> bool {
+        ascii_word(s, at)
+    }
+}
+
+// A block of them, for long strings.
+struct AsciiBlock;
+
+impl Part for AsciiBlock {
+    ghost BYTES = { 64 };
+
+    const BYTES: usize = BLOCK;
+
+    fn is_whole(s: &[u8], at: usize) -> bool {
+        ascii_block(s, at)
+    }
+}
+
+// Four characters of the row UTF8-2.
+struct PairWord;
+
+impl Part for PairWord {
+    ghost BYTES = { 8 };
+
+    const BYTES: usize = WORD;
+
+    fn is_whole(s: &[u8], at: usize) -> bool {
+        pair_word(s, at)
+    }
 }
 
 // Bytes of a character of the row UTF8-2.
@@ -249,7 +270,7 @@ fn skip_pairs(s: &[u8], from: usize, to: usize) -> usize
     ensures { ((from ≤ result) × (result ≤ to)) × (utf8 (slice result to s.now) ≡ utf8 (slice from to s.now)) }
 {
     let row = UTF8_2;
-    let mut i = skip_pair_words(s, from, to);
+    let mut i = PairWord::skip(s, from, to);
     while PAIR <= to - i {
         if !(within(row.1, s[i]) & within(row.2, s[i + 1])) {
             return i;
@@ -276,7 +297,7 @@ fn skip_ascii(s: &[u8], from: usize, to: usize) -> usize
     requires { (from ≤ to) × (to ≤ length s.now) }
     ensures { ((from ≤ result) × (result ≤ to)) × (utf8 (slice result to s.now) ≡ utf8 (slice from to s.now)) }
 {
-    let mut i = skip_half(s, skip_words(s, skip_blocks(s, from, to), to), to);
+    let mut i = skip_half(s, AsciiWord::skip(s, AsciiBlock::skip(s, from, to), to), to);
     while i < to {
         if !within(UTF8_1.1, s[i]) {
             return i;
@@ -294,7 +315,7 @@ fn valid_runs(s: &[u8], from: usize, to: usize) -> bool
     let mut i = from;
     while i < to {
         if within(UTF8_1.1, s[i]) {
-            i = skip_words(s, i + 1, to);
+            i = AsciiWord::skip(s, i + 1, to);
         } else {
             let end = skip_run(s, i, to);
             if end == i {

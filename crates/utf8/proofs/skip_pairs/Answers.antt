@@ -17,7 +17,7 @@ loop-i-preserved c =
     (omega arith, pair-pass a.s.now l.loop-i.i a.to one.result two.result (omega arith) (omega arith) one.ensures two.ensures (ap not c.if-not-within.false) ∙ l.loop-i.invariant.1)
 
 pub loop-i-init : goal.loop-i-init
-loop-i-init c = c.skip_pair_words-i.ensures
+loop-i-init c = c.skip-i.ensures
 
 pub returns-then-not-within : goal.returns-then-not-within
 returns-then-not-within c = c.loop-i.invariant

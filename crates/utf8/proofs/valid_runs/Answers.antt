@@ -15,7 +15,7 @@ loop-i-preserved-then-within c =
     let l = t.before in
     let a = l.args in (
       omega arith,
-      c.skip_words-i.ensures.1
+      c.skip-i.ensures.1
           ∙ byte-pass a.s.now l.loop-i.i a.to (omega arith) (omega arith) (sym t.within.ensures ∙ t.if-within.true) ∙ l.loop-i.invariant.1,
     )
 
