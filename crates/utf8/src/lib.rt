@@ -141,20 +141,6 @@ fn ascii_half(s: &[u8], at: usize) -> bool
     number(s, at, HALF) & HALF_TOP_BITS == 0
 }
 
-// Past four characters of one byte; where there are fewer, at the same place.
-fn skip_half(s: &[u8], from: usize, to: usize) -> usize
-    requires { (from ≤ to) × (to ≤ length s.now) }
-    ensures { ((from ≤ result) × (result ≤ to)) × (utf8 (slice result to s.now) ≡ utf8 (slice from to s.now)) }
-{
-    if to - from < HALF {
-        return from;
-    }
-    if !ascii_half(s, from) {
-        return from;
-    }
-    from + HALF
-}
-
 // Words of a block, and its bytes.
 const BLOCK_WORDS: usize = 8;
 
@@ -195,7 +181,7 @@ fn pair_word(s: &[u8], at: usize) -> bool
     (w & SHAPE_BITS == SHAPE) & (low & LEAD_CARRY == LEAD_CARRY)
 }
 
-// Parts of so many bytes, by a test that they are whole characters.
+// Parts of so many bytes, by a test that they are whole characters. A loop past them, as those past characters below, stops at what it finds: it counts nothing.
 trait Part {
     ghost BYTES: { ℕ };
 
@@ -222,7 +208,20 @@ trait Part {
     }
 }
 
-// Eight characters of one byte.
+// Four characters of one byte.
+struct AsciiHalf;
+
+impl Part for AsciiHalf {
+    ghost BYTES = { 4 };
+
+    const BYTES: usize = HALF;
+
+    fn is_whole(s: &[u8], at: usize) -> bool {
+        ascii_half(s, at)
+    }
+}
+
+// Eight of them.
 struct AsciiWord;
 
 impl Part for AsciiWord {
@@ -235,7 +234,7 @@ impl Part for AsciiWord {
     }
 }
 
-// A block of them, for long strings.
+// A block of eight such words, for long strings.
 struct AsciiBlock;
 
 impl Part for AsciiBlock {
@@ -297,7 +296,9 @@ fn skip_ascii(s: &[u8], from: usize, to: usize) -> usize
     requires { (from ≤ to) × (to ≤ length s.now) }
     ensures { ((from ≤ result) × (result ≤ to)) × (utf8 (slice result to s.now) ≡ utf8 (slice from to s.now)) }
 {
-    let mut i = skip_half(s, AsciiWord::skip(s, AsciiBlock::skip(s, from, to), to), to);
+    let mut i = AsciiBlock::skip(s, from, to);
+    i = AsciiWord::skip(s, i, to);
+    i = AsciiHalf::skip(s, i, to);
     while i < to {
         if !within(UTF8_1.1, s[i]) {
             return i;

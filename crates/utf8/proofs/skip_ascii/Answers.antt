@@ -6,7 +6,7 @@ use Rattle.utf8.proofs.Asciis.{byte-pass}
 use Rattle.utf8.proofs.skip_ascii.Goals as goal
 
 pub loop-i-init : goal.loop-i-init
-loop-i-init c = (omega arith, c.skip_half-i.ensures.1 ∙ c.skip-2.ensures.1 ∙ c.skip.ensures.1)
+loop-i-init c = (omega arith, c.skip-i-3.ensures.1 ∙ c.skip-i-2.ensures.1 ∙ c.skip-i.ensures.1)
 
 pub loop-i-preserved : goal.loop-i-preserved
 unfolding rows
