@@ -1,7 +1,7 @@
 -- Laws of the walkers: a value of each shape by its row, and the turns of the loops over what it holds.
 use Rattle.std.specs.Prelude.{Result, Ok, Err}
 use mathlib.Core.Path.{◌≡◌, refl, sym, ap, ◌∙◌}
-use mathlib.Core.Bool.{Bool, true, false, ◌&&◌}
+use mathlib.Core.Bool.{true, false, ◌&&◌}
 use mathlib.Core.List.{List, [], ◌∷◌, append-nil}
 use Prim.Native.Nat.{ℕ, suc, ◌+◌, ◌-◌, ◌/◌, ◌≤◌, ◌<◌}
 use native.Mathlib.Omega.{arith}
@@ -21,7 +21,7 @@ use Rattle.value.specs.Value.{Tree, tip, branch, Forest, stop, plus, value, valu
 use Rattle.value.specs.Read.{Item, parts, plain_item, plan, present, walk}
 use Rattle.value.specs.Spell.{leaf_bytes, head_bytes, encode, encode_all}
 use Rattle.value.specs.Write.{RowReader, row_due, says, show}
-use Rattle.walks.specs.Shape.{leaf_shape, shape_in}
+use Rattle.walks.specs.Shape.{leaf_shape}
 use Rattle.walks.proofs.Items.{item-accepted, item-stop, item-past}
 use Rattle.walks.proofs.Walks.{deep}
 use Rattle.constants.specs.Number.{number_of}

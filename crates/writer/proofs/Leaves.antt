@@ -23,7 +23,6 @@ use Rattle.value.proofs.Spans.{scalar_untrue}
 use Rattle.value.proofs.Sheets.{rows-from, no_rows}
 use Rattle.walks.specs.Shape.{leaf_shape}
 use Rattle.walks.proofs.Tables.{leaf-scalar, leaf-text}
-use Rattle.constants.specs.Number.{number_of}
 use Rattle.constants.specs.declared.refusal.Refusal.{Refusal}
 use Rattle.constants.specs.declared.refusal.Refusal.TheVariants.{Sheet, Outside, Bool as NoBool, Utf8 as NoUtf8}
 use Rattle.constants.specs.declared.refusal.Refused.{Refused}

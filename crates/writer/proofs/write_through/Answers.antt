@@ -1,7 +1,5 @@
 -- `writer::write_through` meets its contract.
 use mathlib.Core.Path.{sym, ap, ◌∙◌}
-use lib.Seq.{length-take-le}
-use Rattle.writer.specs.Writing.{Written}
 use Rattle.writer.specs.Told.{told}
 use Rattle.writer.proofs.Steps.{handed}
 use Rattle.writer.proofs.Entries.{entry-refused, entry-room, entry-written, entry-copied}

@@ -1,5 +1,4 @@
 -- `writer::leaf::leaf_row` meets its contract.
-use Rattle.std.proofs.Common.{◌∙◌}
 use Rattle.writer.proofs.Leaves.{leaf-missing, leaf-fine, leaf_bad, leaf-row_in, leaf-known}
 use Rattle.writer.proofs.Steps.{handed}
 use borrow.Author.Rules.{rules}

@@ -1,7 +1,7 @@
 -- `writer::leaf::scalar` meets its contract.
 use mathlib.Core.Path.{sym, ◌∙◌}
 use Rattle.value.proofs.Spans.{scalar-truth, scalar-other}
-use Rattle.writer.proofs.Leaves.{scalar-wide, scalar-counted, scalar-outside, scalar-fine, one_byte, scalar_bad}
+use Rattle.writer.proofs.Leaves.{scalar-wide, scalar-counted, scalar-outside, scalar-fine, scalar_bad}
 use Rattle.writer.proofs.leaf.scalar.Goals as goal
 
 pub returns-then-n-width_of : goal.returns-then-n-width_of

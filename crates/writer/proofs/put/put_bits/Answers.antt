@@ -1,7 +1,7 @@
 -- `writer::put::put_bits` meets its contract: the bytes still to be put give what all of them give.
-use mathlib.Core.Path.{refl, ◌∙◌}
+use mathlib.Core.Path.{◌∙◌}
 use native.Mathlib.Omega.{arith}
-use Rattle.writer.proofs.Puts.{bits-first, bits-turn, bits-done}
+use Rattle.writer.proofs.Puts.{bits-turn, bits-done}
 use Rattle.writer.proofs.put.put_bits.Goals as goal
 
 pub loop-i-preserved : goal.loop-i-preserved

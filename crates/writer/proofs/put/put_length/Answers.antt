@@ -1,5 +1,5 @@
 -- `writer::put::put_length` meets its contract.
-use Rattle.writer.proofs.Puts.{length_none, length_some}
+use Rattle.writer.proofs.Puts.{length_none}
 use Rattle.writer.proofs.put.put_length.Goals as goal
 
 pub returns-then-kind : goal.returns-then-kind

@@ -1,31 +1,28 @@
 -- The proof of the cycle of walkers. An array, a map and the structs of a run are given the depth of what they hold, so the measure is six times the depth:
 -- nothing more for a run of structs, one for a composite, then for each walker one more than for those that it calls with the same depth.
-use mathlib.Core.Path.{◌≡◌, refl, ap, ◌∙◌}
+use mathlib.Core.Path.{◌≡◌, refl, ◌∙◌}
 use mathlib.Core.Bool.{true}
 use mathlib.Core.List.{[], ◌∷◌}
 use Prim.Native.Nat.{ℕ, ◌+◌, ◌-◌, ◌/◌, ◌<◌}
 use native.Mathlib.Omega.{arith}
 use lib.ListN.{length}
-use Rattle.schema.specs.declared.TypeRow.{TypeRow}
 use Rattle.schema.specs.Table.{row_at, array, map}
 use Rattle.schema.specs.File.{table_of}
 use Rattle.schema.specs.Check.{field_row_of}
-use Rattle.schema.proofs.Checks.{good-shaped, good-laid}
 use Rattle.value.specs.Read.{plain_item, pairs}
 use Rattle.walks.specs.Shape.{fields_from, shape_in, leaf_shape}
 use Rattle.walks.proofs.Keys.{keys_none}
 use Rattle.walks.proofs.Tables.{few-fields, struct_row, array_row, map_row, map-value, shape-array, shape-map, shape-struct, shape-past, shape-leaf}
 use Rattle.walks.proofs.Presence.{length_fields}
-use Rattle.walks.proofs.Masks.{bits_left, standing-first, standing-field, standing-kind, standing-next, standing-shift, standing-less, standing-skip, standing-same, standing-end}
+use Rattle.walks.proofs.Masks.{bits_left, standing-field, standing-kind, standing-next, standing-less, standing-skip, standing-same, standing-end}
 use Rattle.walks.proofs.Items.{elements-none, elements-more, pairs-none}
 use Rattle.writer.specs.Walk.{items_end, MapRow}
 use Rattle.writer.proofs.Steps.{handed, was, renamed, as_refused, shown-stopped, shown-refused, onward, walk-done}
-use Rattle.writer.proofs.Steps.{show-deep, accepted-deeper, walked-deeper, items-deeper, items-shallower, leaf-accepted, show-unknown}
-use Rattle.writer.proofs.Leaves.{due_in}
+use Rattle.writer.proofs.Steps.{show-deep, accepted-deeper, items-deeper, items-shallower, leaf-accepted, show-unknown}
 use Rattle.writer.proofs.Heads.{HeadRow, head-row, head-fits}
-use Rattle.writer.proofs.Composites.{leaf-failed, leaf_in, leaf-past, row-absent, came-by}
+use Rattle.writer.proofs.Composites.{leaf-failed, leaf-past, row-absent, came-by}
 use Rattle.writer.proofs.Composites.{PartsRow, parts-start, parts-accepted, array-found, map-many, map_found, struct-fault, struct-found, struct-start}
-use Rattle.writer.proofs.Composites.{writing-first, writing-small, writing-known, writing-done, writing-ready, writing-stop, writing-on, structs-held, one-accepted, one_end}
+use Rattle.writer.proofs.Composites.{writing-first, writing-small, writing-known, writing-done, writing-ready, writing-stop, writing-on, one-accepted, one_end}
 use Rattle.writer.proofs.Keys.{AfterKey, after-key, key-was, pairs-deep, pair-first, pair-accepted, pair-stop, pair-past}
 use Rattle.writer.proofs.walk.+walk.Goals.{write_array-In_ok-says, write_fields-After-field-f, write_map-Else-n-gt-MOST_PAIRS, write_map-Start, write_pairs-After-known_row-k, write_pairs-After-known_row-v, write_pairs-After-write_key, write_struct-After-struct_bits, write_value-Else-kind}
 use Rattle.writer.proofs.walk.+walk.Goals.{write_pairs-then-v+in_ok-past-2, write_pairs-else-v+in_ok-placed}

@@ -1,14 +1,11 @@
 -- `writer::walk::root` meets its contract.
-use mathlib.Core.Path.{◌∙◌}
 use mathlib.Core.Bool.{false}
 use native.Mathlib.Omega.{arith}
 use Rattle.schema.specs.File.{table_of}
-use Rattle.schema.proofs.Checks.{good-shaped, good-laid}
 use Rattle.walks.specs.Shape.{fields_from, shape_in}
 use Rattle.walks.proofs.Presence.{length_fields}
 use Rattle.writer.proofs.Steps.{handed, renamed, shown-refused, onward}
-use Rattle.writer.proofs.Heads.{HeadRow, head-row, head-fits}
-use Rattle.writer.proofs.Leaves.{due_in}
+use Rattle.writer.proofs.Heads.{HeadRow, head-row}
 use Rattle.writer.proofs.Roots.{root-absent, root-fault, root-accepted, root-start}
 use Rattle.writer.proofs.walk.root.Goals.{After-struct_bits}
 use Rattle.writer.proofs.walk.root.Goals as goal

@@ -1,5 +1,5 @@
 -- `writer::walk::write_leaves` meets its contract. The invariant: the rows not yet looked at give the same end.
-use mathlib.Core.Path.{refl, ◌∙◌}
+use mathlib.Core.Path.{refl}
 use Prim.Native.Nat.{◌-◌}
 use native.Mathlib.Omega.{arith}
 use Rattle.walks.proofs.Items.{elements-none, elements-more}
