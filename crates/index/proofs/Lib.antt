@@ -1,4 +1,5 @@
 pub mod Orders
+pub mod Inserts
 pub mod Stores
 pub mod Shapes
 pub mod Turns

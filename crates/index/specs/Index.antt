@@ -1,4 +1,4 @@
--- An index (02's term) as bytes: 16-byte rows, and a trailer of 16 bytes that points back to the first row, with row count, the record's length and
+-- An index (docs/FORMAT.md) as bytes: 16-byte rows, and a trailer of 16 bytes that points back to the first row, with row count, the record's length and
 -- layout number 1, all little-endian; and what making one answers and leaves in the output.
 use Rattle.std.specs.Prelude.{cond, List, [], ◌∷◌, ◌++◌, ℕ, ltb, length, drop}
 use Rattle.wire.specs.Little.{bytes}

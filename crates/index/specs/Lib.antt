@@ -7,5 +7,5 @@ pub mod IsIndex
 pub mod Text
 pub mod LookUp
 pub mod Claims
-pub mod Cells
+pub mod Inserted
 pub mod Told

@@ -20,6 +20,14 @@ use table::good::Schema;
 // Bytes of a row of an index; the trailer is as long.
 pub const ROW: usize = 16;
 
+// A row: the correlation and the place of an entry, and the number of the answer to it.
+#[derive(Clone, Copy)]
+struct Row {
+    correlation: u64,
+    place: u32,
+    answer: u32,
+}
+
 // A text that was printed: the refusal of the index that follows `stopped` in it, if there is one, and the text's length.
 #[derive(Clone, Copy, Debug, PartialEq, Eq)]
 pub struct Printed {

@@ -1,4 +1,4 @@
--- 01's worked example: the record by the file of table T, its whole output and its index; a record in which a RESPONSE crosses a CANCEL; and records at
+-- A worked example: the record by the file of table T, its whole output and its index; a record in which a RESPONSE crosses a CANCEL; and records at
 -- which a listing stops early.
 use mathlib.Core.Path.{◌≡◌, refl}
 use mathlib.Core.List.{List, [], ◌∷◌, ◌++◌}
@@ -116,7 +116,7 @@ pub unsiding : listing.listing example.file unsided ≡ unsided_output
 unfolding listed
 unsiding = refl
 
--- the first entry of 01's record, and the second without its last byte
+-- the first entry of the worked record, and the second without its last byte
 abbrev pub cut : List ℕ
 cut = take 59 entries
 
@@ -131,7 +131,7 @@ pub cutting : listing.listing example.file cut ≡ cut_output
 unfolding listed
 cutting = refl
 
--- the rows of 01's worked record: two calls, three entries and two
+-- the rows of the worked record: two calls, three entries and two
 pub worked-rows : index.rows_for example.file entries
     ≡ record { correlation = 9; place = 0; answer = 0 }
     ∷ record { correlation = 9; place = 29; answer = 0 }

@@ -1,4 +1,4 @@
--- The listing of a record (entries: the byte C or S, then a frame) by a schema file, in 01's order: the heading; 45; the schema's faults; the entries of
+-- The listing of a record (entries: the byte C or S, then a frame) by a schema file, in this order (docs/FORMAT.md): the heading; 45; the schema's faults; the entries of
 -- the record's run from the fresh call table.
 use Rattle.std.specs.Prelude.{Bool, cond, ◌||◌, List, [], ◌∷◌, ◌++◌, ℕ, ◌+◌, ltb, length}
 use Rattle.schema.specs.Checked.{Checked}

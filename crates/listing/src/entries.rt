@@ -10,7 +10,7 @@ use replay::{header, step, stops};
 use table::good::Schema;
 use text::Page;
 
-// The entries from the first on, and the last line.
+// The entries from the first on, and the last line. A `while`: the length of an entry is what was read of it.
 fn put_from_first(schema: &Schema, entries: &[u8], sheet: &mut [u32], page: &mut Page)
     requires { (page.old.len ≤ 44) × (length entries.now ≤ 65536) × (length sheet.old ≡ 16384) }
     ensures added { AddedTo page.old page.new (run_text 1 (run_of schema.now.bytes.now entries.now)) }

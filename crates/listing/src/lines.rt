@@ -2,8 +2,8 @@
 #![tactic(auto, using(text::proofs::Texts::put_both), unfolding(crate::specs::Text::line_start, crate::specs::Text::line_text, crate::specs::Text::stopped_text))]
 
 ghost use Rattle.std.specs.Prelude.{◌≡◌, ◌+◌, ◌≤◌};
-ghost use Rattle.text.specs.Text.{AddedTo};
 ghost use Rattle.receiver.specs.Told.{told};
+ghost use Rattle.text.specs.Text.{AddedTo};
 ghost use Rattle.listing.specs.Text.{heading, line_start, line_text, stopped_text};
 
 use frame::Header;

@@ -1,8 +1,6 @@
 -- `index::look_up` meets its contract: the text is measured first, and then put where it fits.
 use mathlib.Core.Path.{◌≡◌, ap, ◌∙◌}
 use lib.ListN.{length}
-use Rattle.index.specs.Finding.{Printed}
-use Rattle.index.specs.LookUp.{outcome}
 use Rattle.index.specs.Told.{stopped_of, judged_number, judged_rows}
 use Rattle.index.proofs.Told.{err-number}
 use Rattle.index.proofs.Shapes.{JudgedAs}

@@ -1,5 +1,4 @@
 -- `index::print::put_rows` meets its contract: what is left of the rows gives the same end as all of them.
-use mathlib.Core.Path.{◌∙◌}
 use native.Mathlib.Omega.{arith}
 use borrow.Author.Tests.{eq-eqb, ne_eqb}
 use Rattle.text.specs.Text.{shown}

@@ -1,5 +1,4 @@
 -- `index::print::put_rows` meets its contract: what is left of the rows gives the same end as all of them.
-use mathlib.Core.Path.{◌≡◌}
 use Prim.Native.Nat.{◌+◌, ◌*◌, ◌≤◌}
 use Rattle.text.specs.Text.{shown, put_on}
 use Rattle.index.specs.Row.{of_call}
