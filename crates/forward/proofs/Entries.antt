@@ -38,7 +38,6 @@ use Rattle.value.proofs.Writing.{sheet-shows}
 use Rattle.walks.proofs.Presence.{bits-read}
 use Rattle.walks.proofs.Tables.{no-struct}
 use Rattle.walks.proofs.Walks.{nothing-before}
-use Rattle.writer.specs.Writing.{Writing}
 use Rattle.writer.specs.Writing.{Written, Refused}
 use Rattle.constants.specs.Number.{number_of}
 use Rattle.constants.specs.declared.refusal.Refusal.{Refusal}
