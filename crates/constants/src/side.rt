@@ -34,7 +34,3 @@ impl TryFrom<u8> for Side {
         }
     }
 }
-
-pub const CLIENT: u8 = b'C';
-
-pub const SERVER: u8 = b'S';

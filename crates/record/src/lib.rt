@@ -4,7 +4,7 @@
 ghost use Rattle.std.specs.Prelude.{◌≡◌};
 ghost use Rattle.record.specs.Entry.{is_side, entry_length, answered};
 
-use constants::side;
+use constants::side::Side;
 use frame::FrameRead;
 
 // Where the frame of an entry stands: behind the side byte.
@@ -14,7 +14,7 @@ pub const FRAME_AT: usize = 1;
 fn is_side(byte: u8) -> bool
     ensures { result ≡ is_side byte }
 {
-    (byte == side::CLIENT) | (byte == side::SERVER)
+    (byte == Side::Client as u8) | (byte == Side::Server as u8)
 }
 
 // The length of the entry that starts at the front of the bytes, where one does.
