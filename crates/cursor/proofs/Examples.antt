@@ -11,7 +11,7 @@ use Rattle.cursor.specs.Number as Number
 use Rattle.cursor.specs.Span as Span
 use Rattle.cursor.specs.Item.{fixed_number, span_item, varuint_at, fixed_number_at, span_at}
 
--- the payload P1 of 01
+-- a payload of nine bytes
 abbrev p1 : List ℕ
 p1 = 0x01 ∷ 0x02 ∷ 0x03 ∷ 0x07 ∷ 0x02 ∷ 0x6F ∷ 0x6B ∷ 0x01 ∷ 0x00 ∷ []
 

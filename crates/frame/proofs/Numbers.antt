@@ -1,4 +1,4 @@
--- The frame reader and the frame writer in 01's numbers.
+-- The frame reader and the frame writer by the numbers that come back.
 use mathlib.Core.Path.{◌≡◌, refl, ap, ◌∙◌}
 use mathlib.Core.Logic.{◌↔◌}
 use mathlib.Core.List.{List}

@@ -41,7 +41,7 @@ pub data CutFrame : (s : List ℕ) → Type 0 where
   in_length : {front : List ℕ} (cut : List ℕ) → RightHeader front → Completed Spelled cut → CutFrame (front ++ cut)
   in_payload : {front : List ℕ} (n : ℕ) (size cut : List ℕ) → RightHeader front → Spelled n size → n ≤ 16384 → length cut < n → CutFrame (front ++ (size ++ cut))
 
--- 01's number for the bytes s: 0 where they start with a frame, 1 where they are cut, and else that of the field at fault.
+-- The number for the bytes s (docs/FORMAT.md): 0 where they start with a frame, 1 where they are cut, and else that of the field at fault.
 pub data FrameNumber (s : List ℕ) : (number : ℕ) → Type 0 where
   whole : (h : Header) (place n : ℕ) → Starts s h place n → FrameNumber s 0
   cut : CutFrame s → FrameNumber s 1

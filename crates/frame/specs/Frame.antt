@@ -45,13 +45,13 @@ frame_of bytes =
     })
     (front_var_u_int s 25)))))
 
--- 01's number of an answer.
+-- The number that comes back for an answer (docs/FORMAT.md).
 abbrev pub read_number : FrameRead → ℕ
 read_number More = 1
 read_number (Frame h place n) = 0
 read_number (Refused number) = number
 
--- 01's bytes used: the frame's length for a frame.
+-- The bytes used: the frame's length for a frame.
 abbrev pub read_used : FrameRead → ℕ
 read_used More = 0
 read_used (Frame h place n) = place + n

@@ -30,7 +30,7 @@ unfoldable pub output_of : FrameWritten → Header → List ℕ → List ℕ →
 output_of (Written n) h p out = frame_bytes h p ++ drop n out
 output_of (Refused number) h p out = out
 
--- 01's number of an answer, and the length written.
+-- The number that comes back for an answer (docs/FORMAT.md), and the length written.
 abbrev pub write_number : FrameWritten → ℕ
 write_number (Written n) = 0
 write_number (Refused number) = number

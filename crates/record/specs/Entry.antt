@@ -1,4 +1,4 @@
--- An entry of a record (01's terms), at the front of some bytes: a side byte, C or S, and then a whole frame that passes 2 to 7. Nothing is asked of a
+-- An entry of a record (docs/FORMAT.md), at the front of some bytes: a side byte, C or S, and then a whole frame that passes 2 to 7. Nothing is asked of a
 -- schema, nor whether the side suits the frame's kind.
 use Rattle.std.specs.Prelude.{ℕ, zero, suc, Option, Some, None, ◌+◌, Bool, cond, ◌||◌, List, [], ◌∷◌, eqb}
 use Rattle.frame.specs.FrameRead.{FrameRead, More, Frame, Refused}

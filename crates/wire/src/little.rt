@@ -1,4 +1,4 @@
-// Little-endian numbers of 1 to 8 bytes, out of a slice and into one.
+// Little-endian numbers of 1 to 8 bytes, out of a slice and into one. The two widths that are read at once are a function each: nothing is generic over them, so a trait would be longer.
 ghost use Rattle.std.specs.Prelude.{◌≡◌, ◌+◌, ◌*◌, ◌^◌, ◌≤◌, ◌<◌, length, take, drop};
 ghost use Rattle.buffer.specs.Store.{written};
 ghost use Rattle.wire.specs.Little.{little, twos, bytes};
@@ -6,7 +6,7 @@ ghost use Rattle.wire.specs.Little.{little, twos, bytes};
 // A byte is below BASE and weighs BASE times what the byte before it weighs.
 const BASE: u64 = 256;
 
-// A byte as a number of 64 bits, which is below 256.
+// A byte as a number of 64 bits. It stands for `as` and `from`, which do not say that it is below 256: the loops over groups and bytes go by that.
 pub fn wide(x: u8) -> u64
     ensures { (result ≡ x) × (result < 256) }
 {
