@@ -23,7 +23,7 @@ use table::good::Schema;
 // All fields that a struct can have.
 const ALL_FIELDS: u8 = limit::STRUCT_FIELDS as u8;
 
-// Rows of the small sheet that the first walk writes into, and its cells.
+// Rows of the small sheet that the first walk writes into, and its cells: an array, since the library takes no heap.
 const SCRATCH_ROWS: usize = 32;
 
 const SCRATCH_CELLS: usize = format::ROW_CELLS * SCRATCH_ROWS;

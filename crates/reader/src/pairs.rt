@@ -16,7 +16,8 @@ use flat::leaf::{Extent, content, is_empty_map};
 use flat::sheet::put_row;
 use schema::TypeRow;
 
-// The content of the next key, after the first i of a map, and its row; a key that is among those is refused.
+// The content of the next key, after the first i of a map, and its row; a key that is among those is refused. The same as `flat::maps` has for its own
+// maps: with one call site each is inlined there (docs/DECISIONS.md, which names this one), and one function for both would not be.
 pub fn read_key(
     p: &[u8],
     sheet: &mut [u32],

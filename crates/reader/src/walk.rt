@@ -26,7 +26,7 @@ use value::MOST_PAIRS;
 use walks::key::FLAG_CELLS;
 use wire::bitmap::low_bits;
 
-// Pairs of a map whose keys are kept in the shortest array, and in the next.
+// Pairs of a map whose keys are kept in the shortest array, and in the next: arrays, since the library takes no heap.
 const TWO_KEYS: usize = 2;
 
 const FEW_KEYS: usize = 8;
