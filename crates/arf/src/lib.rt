@@ -10,7 +10,7 @@ ghost use Rattle.frame.specs.Written.{written_of, output_of};
 ghost use Rattle.frame.specs.Told as frame;
 ghost use Rattle.index.specs.Index as making;
 ghost use Rattle.index.specs.LookUp as look;
-ghost use Rattle.index.specs.Told as index;
+ghost use Rattle.index.specs.Told as indexed;
 ghost use Rattle.reader.specs.Beside.{beside_outcome};
 ghost use Rattle.reader.specs.Entry.{Outcome, read_outcome};
 ghost use Rattle.reader.specs.Told as reader;
@@ -156,7 +156,7 @@ pub fn salvage(record: &[u8], copy: &mut [u8], spans: &mut [u32]) -> Result<Salv
 // Makes the index of a record at the start of the output: its length, or the refusal's number (the table's, 45, 52) and place, which leaves it as it was.
 // It has a sheet of its own, and needs 160 KiB of stack.
 pub fn make_index(schema: &[u8], record: &[u8], out: &mut [u8]) -> Result<usize, Refused>
-    ensures { making.outcome (index.told result) out.new ≡ making.make_index schema.now «record».now out.old }
+    ensures { making.outcome (indexed.told result) out.new ≡ making.make_index schema.now «record».now out.old }
 {
     index::make_index(schema, record, out)
 }
@@ -169,7 +169,7 @@ pub fn look_up(
     correlation: u64,
     out: &mut [u8],
 ) -> Result<Printed, Refusal>
-    ensures { look.outcome (index.told_find result) out.new ≡ look.look_up index.now «record».now correlation out.old }
+    ensures { look.outcome (indexed.told_find result) out.new ≡ look.look_up index.now «record».now correlation out.old }
 {
     index::look_up(index, record, correlation, out)
 }

@@ -3,5 +3,5 @@ pub mod Plans
 pub mod Judged
 pub mod Held
 pub mod Told
-pub mod Numbers
+pub mod Tellings
 pub mod Settled

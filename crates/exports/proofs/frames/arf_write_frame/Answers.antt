@@ -3,7 +3,7 @@ use Rattle.std.proofs.Common.{ap, ◌∙◌, ℕ, [], ◌∷◌}
 use Rattle.frame.specs.FrameWritten.{FrameWritten}
 use Rattle.frame.specs.Written.{write_number, output_of}
 use Rattle.exports.specs.Answers.{header_of, written_cells}
-use Rattle.exports.proofs.Numbers.{written-number}
+use Rattle.exports.proofs.Tellings.{written-number}
 use Rattle.cells.proofs.Stores.{told}
 use Rattle.exports.proofs.frames.arf_write_frame.Goals as goal
 

@@ -2,7 +2,7 @@
 use Rattle.std.proofs.Common.{ap, ◌∙◌, ℕ, [], ◌∷◌}
 use Rattle.index.specs.Index.{Outcome, index_number}
 use Rattle.exports.specs.Answers.{index_cells}
-use Rattle.exports.proofs.Numbers.{index-number, index-cells}
+use Rattle.exports.proofs.Tellings.{index-number, index-cells}
 use Rattle.cells.proofs.Stores.{told}
 use Rattle.exports.proofs.indexes.arf_make_index.Goals as goal
 

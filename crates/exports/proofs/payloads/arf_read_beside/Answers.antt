@@ -2,7 +2,7 @@
 use Rattle.std.proofs.Common.{ap, ◌∙◌, ℕ, [], ◌∷◌}
 use Rattle.reader.specs.Entry.{reading_in, sheet_in}
 use Rattle.exports.specs.Answers.{read_number, read_cells}
-use Rattle.exports.proofs.Numbers.{read-number}
+use Rattle.exports.proofs.Tellings.{read-number}
 use Rattle.cells.proofs.Stores.{told}
 use Rattle.exports.proofs.payloads.arf_read_beside.Goals as goal
 

@@ -2,7 +2,7 @@
 use Rattle.std.proofs.Common.{ap, ◌∙◌, ℕ, [], ◌∷◌}
 use Rattle.arf.specs.Numbers.{write_number}
 use Rattle.exports.specs.Answers.{writing_of, output_of, write_cells}
-use Rattle.exports.proofs.Numbers.{write-number, write-cells}
+use Rattle.exports.proofs.Tellings.{write-number, write-cells}
 use Rattle.cells.proofs.Stores.{told}
 use Rattle.exports.proofs.payloads.arf_write_value_frame.Goals as goal
 

@@ -30,21 +30,21 @@ returns-in-Err c =
     (number_of e.refusal) e.place (ap told c.in-Err.is) (refused-planned (Err c.from.result) c.from.result e refl c.from.ensures) in
     record { value = value; counts_open = c.open_count.ensures }
 
-pub returns-in_err-judge_tables : goal.returns-in_err-judge_tables
-returns-in_err-judge_tables c =
+pub returns-in_err-judge_tables-in-Ok : goal.returns-in_err-judge_tables-in-Ok
+returns-in_err-judge_tables-in-Ok c =
     let a = c.args in
     let r = c.from_residual.result in
-    let e = c.in_err-judge_tables.field-0.0 in
+    let e = c.in_err-judge_tables-in-Ok.field-0.0 in
     let (h, is, k) = err_from_is_err_and r c.from_residual.ensures.1 in
     let value = cells-stop a.cells.now a.schema.now a.rows a.correlation (told c.check.result) c.check.ensures.verdict (told_plan r)
-    (ap told c.in-Ok.is) (number_of e) (sym (ap (told_number number_of) c.in_err-judge_tables.was) ∙ judged (goal.at.returns-in_err-judge_tables c).After-judge_tables)
+    (ap told c.in-Ok.is) (number_of e) (sym (ap (told_number number_of) c.in_err-judge_tables-in-Ok.was) ∙ judged (goal.at.returns-in_err-judge_tables-in-Ok c).After-judge_tables)
     (refused-number e) (faulty-planned r h e is k) in
     record { value = value; counts_open = c.are_good-good.ensures.counts_open }
 
-pub returns-in-Ok : goal.returns-in-Ok
-returns-in-Ok c =
+pub returns-in_ok-judge_tables-in-Ok : goal.returns-in_ok-judge_tables-in-Ok
+returns-in_ok-judge_tables-in-Ok c =
     let a = c.args in
     let value = cells-call a.cells.now a.schema.now a.rows a.correlation (told c.check.result) c.check.ensures.verdict (told_plan (Ok c.plan_call.result))
-    (ap told c.in-Ok.is) 0 (sym (ap (told_number number_of) c.in_ok-judge_tables.was) ∙ judged (goal.at.returns-in-Ok c).After-judge_tables)
+    (ap told c.in-Ok.is) 0 (sym (ap (told_number number_of) c.in_ok-judge_tables-in-Ok.was) ∙ judged (goal.at.returns-in_ok-judge_tables-in-Ok c).After-judge_tables)
     refl (c.plan_call.ensures ∙ ap call_plan c.own_slot.ensures) in
     record { value = value; counts_open = c.are_good-good.ensures.counts_open }

@@ -2,7 +2,7 @@
 use Rattle.std.proofs.Common.{ap, ◌∙◌, ℕ, [], ◌∷◌}
 use Rattle.salvage.specs.Salvage.{Outcome, salvage_number}
 use Rattle.exports.specs.Answers.{salvage_cells}
-use Rattle.exports.proofs.Numbers.{salvage-number}
+use Rattle.exports.proofs.Tellings.{salvage-number}
 use Rattle.cells.proofs.Stores.{told}
 use Rattle.exports.proofs.salvages.arf_salvage.Goals as goal
 

@@ -2,7 +2,7 @@
 use Rattle.std.proofs.Common.{ap, ◌∙◌, ℕ, [], ◌∷◌}
 use Rattle.scalar.specs.Scalar.{scalar_number}
 use Rattle.cells.specs.Scalars.{scalar_cells}
-use Rattle.exports.proofs.Numbers.{scalar-number}
+use Rattle.exports.proofs.Tellings.{scalar-number}
 use Rattle.cells.proofs.Stores.{told}
 use Rattle.exports.proofs.scalars.arf_scalar.Goals as goal
 

@@ -2,7 +2,7 @@
 use Rattle.std.proofs.Common.{ap, ◌∙◌, ℕ, [], ◌∷◌}
 use Rattle.arf.specs.Numbers.{check_number}
 use Rattle.exports.specs.Answers.{check_cells}
-use Rattle.exports.proofs.Numbers.{check-number, check-place}
+use Rattle.exports.proofs.Tellings.{check-number, check-place}
 use Rattle.cells.proofs.Stores.{told}
 use Rattle.exports.proofs.schemas.arf_check_table.Goals as goal
 

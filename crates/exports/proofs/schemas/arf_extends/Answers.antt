@@ -2,7 +2,7 @@
 use Rattle.std.proofs.Common.{ap, ◌∙◌, ℕ, [], ◌∷◌}
 use Rattle.arf.specs.Numbers.{extend_number}
 use Rattle.exports.specs.Answers.{extend_cells}
-use Rattle.exports.proofs.Numbers.{extend-number}
+use Rattle.exports.proofs.Tellings.{extend-number}
 use Rattle.cells.proofs.Stores.{told}
 use Rattle.exports.proofs.schemas.arf_extends.Goals as goal
 
