@@ -1,4 +1,4 @@
--- The numbers that each answer is stored as beside 01's number, case by case; 0 where 01 gives no value.
+-- The numbers that each answer is stored as beside its own number (docs/FORMAT.md), case by case; 0 where there is no value.
 use Rattle.std.specs.Prelude.{◌≡◌, Bool, false, cond, List, [], ◌∷◌, ℕ, length, replicate}
 use Rattle.schema.specs.Checked.{Checked}
 use Rattle.schema.specs.Checked as check

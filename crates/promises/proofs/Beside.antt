@@ -1,4 +1,4 @@
--- Request 2026-08: what the reader with the writer's file beside ours answers and leaves in the sheet.
+-- What the reader with the writer's file beside ours answers and leaves in the sheet.
 use mathlib.Core.Path.{◌≡◌, refl, sym, ap, ◌∙◌, subst}
 use mathlib.Core.Logic.{◌⊎◌, inl, inr, ⊎_elim, ◌↔◌}
 use mathlib.Core.List.{List, [], ◌∷◌, ◌++◌}
@@ -360,7 +360,7 @@ module _ (ours theirs : List ℕ) (good : IsGood ours) (good' : IsGood theirs) (
       let (v, shows, q, short) = written-spelled theirs ty (fs ++ gs) st' cells B out n out' e in
       (gs, v, st', shows, λ sheet. new-shown (take n out') sheet (fs ++ gs) st' v q short)
 
--- ---- under 01's own extension, where bitmaps keep their bytes: beside the reader by ours alone
+-- ---- under an extension without grown bitmaps, where bitmaps keep their bytes: beside the reader by ours alone
 
 length-root : (n : ℕ) (rs : List Row) → length (root_length n rs) ≡ length rs
 length-root n [] = refl

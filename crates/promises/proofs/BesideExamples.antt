@@ -136,7 +136,7 @@ grown-beside : map (λ (c : Case). case_of c.payload (outcome_of lent (read_besi
 unfolding cells_of read_beside pruned answers
 grown-beside = refl
 
--- Seven fields have become nine. What is said of both readers under 01's own extension does not hold here. The reader by ours alone takes the second
+-- Seven fields have become nine. What is said of both readers under an extension without grown bitmaps does not hold here. The reader by ours alone takes the second
 -- bitmap byte for field 0, whose content by theirs is the byte after it; and what ours alone accepts with no added bit set may be cut by theirs.
 pub grown-differs : Hold (struct_of 7) 1 lent grown_alone × HoldBeside (struct_of 7) (struct_of 9) 1 lent grown_beside
 grown-differs =

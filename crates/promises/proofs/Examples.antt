@@ -1,4 +1,4 @@
--- The worked pair of schema files: 01's table T, and T with an optional uint8 added to the struct inside the answer's array, or to the answer itself;
+-- The worked pair of schema files: the table T, and T with an optional uint8 added to the struct inside the answer's array, or to the answer itself;
 -- P1 to P10 over the bytes of T's file; and a relay by T's file.
 use mathlib.Core.Path.{◌≡◌, refl, ap, ap₂, ◌∙◌}
 use mathlib.Core.List.{List, [], ◌∷◌, map}

@@ -1,4 +1,4 @@
--- Demand 3: what the readers by an old schema file and by a new one that extends it answer to each other's payloads.
+-- What the readers by an old schema file and by a new one that extends it answer to each other's payloads.
 use mathlib.Core.Path.{◌≡◌, refl, sym, ap, ◌∙◌, subst}
 use mathlib.Core.List.{List, [], ◌++◌, append_assoc}
 use mathlib.Core.Option.{Option, none, some}

@@ -1,4 +1,4 @@
--- 02, 2026-11: what `forward` writes. What `read` accepts is forwarded by the same table to the same bytes, so that a relay by an old table harms nothing
+-- What `forward` writes. What `read` accepts is forwarded by the same table to the same bytes, so that a relay by an old table harms nothing
 -- that a new writer wrote.
 use mathlib.Core.Path.{◌≡◌, refl, sym, ap, ◌∙◌, subst}
 use mathlib.Core.Logic.{inl, inr, ⊎_elim, ◌↔◌}

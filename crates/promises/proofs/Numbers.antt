@@ -1,4 +1,4 @@
--- What `read_beside`, `write`, `forward` and `write_value_frame` answer, in 01's numbers, with the sheet or the output afterwards.
+-- What `read_beside`, `write`, `forward` and `write_value_frame` answer, in numbers, with the sheet or the output afterwards.
 use mathlib.Core.Path.{◌≡◌, refl, ap}
 use mathlib.Core.Logic.{◌↔◌}
 use mathlib.Core.List.{List, ◌++◌}

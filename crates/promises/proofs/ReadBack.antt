@@ -1,4 +1,4 @@
--- Demand 2, the writer and both together: what `write` writes is read back as the value of its sheet, and what `read` shows is written, without
+-- The writer, and both together: what `write` writes is read back as the value of its sheet, and what `read` shows is written, without
 -- unknown bits to the same bytes.
 use mathlib.Core.Path.{◌≡◌, sym, ap, ◌∙◌, subst}
 use mathlib.Core.Logic.{◌↔◌}

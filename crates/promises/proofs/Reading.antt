@@ -1,4 +1,4 @@
--- Demand 2, the reader: what `read` answers and leaves in the sheet.
+-- The reader: what `read` answers and leaves in the sheet.
 use mathlib.Core.Path.{◌≡◌, refl, sym, ap, ap₂, ◌∙◌}
 use mathlib.Core.Logic.{◌↔◌}
 use mathlib.Core.List.{List}
@@ -111,9 +111,9 @@ refused-within s good ty payload sheet n q after e =
     value.refused-within (table_of s) (good-table s good) ty payload (room sheet) n q
     (refused-from sheet (read (table_of s) ty payload (room sheet)) n q after (sym (read_by s ty payload sheet good) ∙ e)).0
 
--- ---- 01's numbers
+-- ---- the numbers
 
--- The answers are known by 01's numbers: rows come only where a value is shown, and every other answer but 0 is a refusal.
+-- The answers are known by their numbers: rows come only where a value is shown, and every other answer but 0 is a refusal.
 pub shown-by-numbers : (r : Reading) (k place n c : ℕ) → 0 < k → numbers r ≡ numbers (Shown k place n c) → r ≡ Shown k place n c
 shown-by-numbers (Shown k' place' n' c') k place n c h e =
     cc (ap (λ (x : Numbers). x.rows) e, ap (λ (x : Numbers). x.tail_place_of) e, ap (λ (x : Numbers). x.tail_length_of) e, ap (λ (x : Numbers). x.comparisons) e)

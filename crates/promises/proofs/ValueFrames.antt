@@ -1,4 +1,4 @@
--- Request 2026-06: what `write_value_frame` writes is read back, by `read_frame` with `read`, and by `receive`.
+-- What `write_value_frame` writes is read back, by `read_frame` with `read`, and by `receive`.
 use mathlib.Core.Path.{◌≡◌, refl, sym, ap, subst, ◌∙◌}
 use mathlib.Core.List.{List, ◌++◌}
 use Prim.Native.Nat.{ℕ, ◌+◌, ◌-◌, ◌/◌, ◌≤◌}

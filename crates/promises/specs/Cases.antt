@@ -1,4 +1,4 @@
--- Worked cases: what `read`, and the reader with the writer's file beside ours, answer to some payloads, in 01's numbers, and every cell of the sheet
+-- Worked cases: what `read`, and the reader with the writer's file beside ours, answer to some payloads, in numbers, and every cell of the sheet
 -- afterwards, with the files that they need beside T's; and a relay, entry by entry.
 use Rattle.std.specs.Prelude.{◌≡◌, List, [], ◌∷◌, ◌++◌, map, ℕ, zero, suc, ◌+◌, ◌*◌, length, take, drop, replicate}
 use Rattle.value.specs.declared.Row.{Row}
@@ -48,7 +48,7 @@ shown payload k p n cells = record { payload = payload; told = told 0 0 k p n; c
 abbrev pub refused : (payload : List ℕ) (number place : ℕ) → Case
 refused payload n q = record { payload = payload; told = told n q 0 0 0; cells = lent }
 
--- P1 to P10 in their order; P9 has a spare group, which 02's request 2026-03 refuses.
+-- P1 to P10 in their order; P9 has a spare group, which is refused.
 abbrev pub worked : List Case
 worked =
     shown (0x01 ∷ 0x02 ∷ 0x03 ∷ 0x07 ∷ 0x02 ∷ 0x6F ∷ 0x6B ∷ 0x01 ∷ 0x00 ∷ []) 7 9 0

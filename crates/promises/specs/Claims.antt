@@ -26,7 +26,7 @@ use Rattle.forward.specs.Claims.{TailReason}
 abbrev pub shapes : List ℕ → ℕ → Shape
 shapes schema = shape (table_of schema)
 
--- The first k rows of a sheet (01's term), given as its cells.
+-- The first k rows of a sheet, given as its cells.
 abbrev pub first_rows : (k : ℕ) → List ℕ → List Row
 first_rows k cells = rows_of (take (4 * k) cells)
 
@@ -39,7 +39,7 @@ ReadsAs schema ty fs payload sheet v place n =
     × (length after ≡ length sheet)
     × (drop (4 * size v) after ≡ drop (4 * size v) sheet)
 
--- The same in 01's numbers: 0, as many rows as v has values, the tail, and the key comparisons of v.
+-- The same in numbers: 0, as many rows as v has values, the tail, and the key comparisons of v.
 abbrev pub AnswersAs : (schema : List ℕ) (ty : ℕ) (fs : List Field) (payload sheet : List ℕ) → Value → (place n : ℕ) → Type 0
 AnswersAs schema ty fs payload sheet v place n =
     let answer = read_outcome schema ty payload sheet in

@@ -1,4 +1,4 @@
--- Every answer has one of 01's numbers for a frame, with its place. The payload of a frame is read as a struct type of the good table, and it is not too
+-- Every answer has one of the numbers for a frame, with its place. The payload of a frame is read as a struct type of the good table, and it is not too
 -- long, so that neither 46 nor 7 comes from it.
 use Rattle.std.specs.Prelude.{None, Option, Some}
 use mathlib.Core.Path.{◌≡◌, refl, sym, ap, subst, ◌∙◌}

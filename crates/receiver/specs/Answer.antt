@@ -17,7 +17,7 @@ use Rattle.connection.specs.Step.{step_of}
 use Rattle.receiver.specs.Received.{Received}
 use Rattle.receiver.specs.Done.{Done}
 
--- An answer with the sheet (01's term: the cells that show a read value) and the tally rows as they are left.
+-- An answer with the sheet, the cells that show a read value, and the tally rows as they are left.
 pub record Effect : Type 0 where
   pub answer : Received
   pub sheet : List ℕ

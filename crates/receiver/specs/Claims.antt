@@ -52,13 +52,13 @@ pub record TablesReady (schema : List ℕ) (l : List Call) (rows : ℕ) : Type 0
   pub calls_good : GoodCalls (table_of schema) l
   pub rows_right_of : rows ≡ length (table_of schema).methods
 
--- A fault of the tables, with its number and place, in the papers' order: of the schema table; a call table that is not good; a wrong number of tally rows.
+-- A fault of the tables, with its number and place, in the order of docs/FORMAT.md: of the schema table; a call table that is not good; a wrong number of tally rows.
 pub data Unready (schema : List ℕ) (l : List Call) (rows : ℕ) : (number place : ℕ) → Type 0 where
   schema_fault : {n row : ℕ} → TableFault schema n row → Unready schema l rows n row
   calls_bad : IsGood schema → (GoodCalls (table_of schema) l → ⊥) → Unready schema l rows 15 0
   rows_wrong : IsGood schema → GoodCalls (table_of schema) l → (rows ≡ length (table_of schema).methods → ⊥) → Unready schema l rows 19 0
 
--- Why an answer comes before a frame is judged, in the papers' order: a fault of the tables; a field of the frame itself at fault; a frame that is cut.
+-- Why an answer comes before a frame is judged, in the order of docs/FORMAT.md: a fault of the tables; a field of the frame itself at fault; a frame that is cut.
 pub data Stops (schema bytes : List ℕ) (l : List Call) (rows : ℕ) : (number place : ℕ) → Type 0 where
   tables : {n row : ℕ} → Unready schema l rows n row → Stops schema bytes l rows n row
   frame_fault : {n : ℕ} → TablesReady schema l rows → FrameFault bytes n → Stops schema bytes l rows n 0
@@ -92,7 +92,7 @@ pub record Nothing (sheet : List ℕ) (a : Effect) : Type 0 where
   pub comparisons : a.answer.comparisons ≡ 0
   pub same : a.sheet ≡ sheet
 
--- 01's numbers for a frame, with their places. A value's fault is placed in the payload, and 42 to 44 name the row; all else has place 0.
+-- The numbers for a frame, with their places (docs/FORMAT.md, "Numbers that come back"). A value's fault is placed in the payload, and 42 to 44 name the row; all else has place 0.
 pub data AnswerNumber : (number place : ℕ) → Type 0 where
   accepted : AnswerNumber 0 0
   -- More bytes needed; the frame's own faults.

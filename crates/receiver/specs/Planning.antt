@@ -1,4 +1,4 @@
--- A frame and a release judged up to the payload, in the papers' order: the schema table (40 to 44), the call table (15), the number of tally rows (19), the
+-- A frame and a release judged up to the payload, in this order (docs/FORMAT.md): the schema table (40 to 44), the call table (15), the number of tally rows (19), the
 -- frame (2 to 7 by wire order, then 1), its side and its call (8 to 14, 16, 17). A plan names the tally row and what is left to do.
 use Rattle.std.specs.Prelude.{ℕ, ◌+◌, ◌≤◌, Bool, cond, List, eqb, length}
 use Rattle.schema.specs.Checked.{Checked}

@@ -1,4 +1,4 @@
--- The whole judgement of a frame in the papers' order: a plan (40 to 44, 15, 19, 2 to 7, 1, 8 to 14, 16, 17), its payload (20 to 31), and last the tally
+-- The whole judgement of a frame in the order of docs/FORMAT.md: a plan (40 to 44, 15, 19, 2 to 7, 1, 8 to 14, 16, 17), its payload (20 to 31), and last the tally
 -- that would rise (18).
 use Rattle.std.specs.Prelude.{◌≡◌, ℕ, ◌-◌, List, length, take, drop, get_or}
 use Rattle.schema.specs.File.{table_of}

@@ -1,4 +1,4 @@
--- The release (02's term) of a cancelled call, in the request's order: the schema table (40 to 44), the call table (15), the number of tally rows (19), the
+-- The release of a cancelled call, in the order of docs/FORMAT.md: the schema table (40 to 44), the call table (15), the number of tally rows (19), the
 -- call (11, 14), the tally that would rise (18). It uses no bytes.
 use Rattle.std.specs.Prelude.{ℕ, List, length, get_or, set}
 use Rattle.calls.specs.declared.Call.{Call}

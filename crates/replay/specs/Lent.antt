@@ -1,4 +1,4 @@
--- The same run by whoever lends tally rows and carries them along: the paper's fresh tallies, counted from entry to entry.
+-- The same run by whoever lends tally rows and carries them along: fresh tallies, counted from entry to entry.
 use Rattle.std.specs.Prelude.{cond, List, [], ◌∷◌, ℕ, zero, suc, ◌+◌, length, drop}
 use Rattle.schema.specs.File.{table_of}
 use Rattle.receiver.specs.Receive.{received}
