@@ -56,7 +56,7 @@ pub fn is_complete(call: Call, row: FormRow) -> bool
 }
 
 // Whether a frame that is no INVOKE is allowed.
-pub fn allows(call: Call, row: FormRow, kind: FrameKind) -> bool
+pub(crate) fn allows(call: Call, row: FormRow, kind: FrameKind) -> bool
     ensures { result ≡ allowed row (number_of_frame_kind kind) call }
 {
     let input = !call.input_closed;
@@ -74,7 +74,7 @@ pub fn allows(call: Call, row: FormRow, kind: FrameKind) -> bool
 }
 
 // Why a frame is not allowed now: a server frame of a cancelled call is dropped.
-pub fn not_allowed(call: Call, kind: FrameKind) -> Refusal
+pub(crate) fn not_allowed(call: Call, kind: FrameKind) -> Refusal
     ensures { number_of result ≡ not_allowed (number_of_frame_kind kind) call }
 {
     if call.cancelled & (sender(kind) == Side::Server) {
@@ -99,7 +99,7 @@ pub fn sender(kind: FrameKind) -> Side
 }
 
 // Whether an element of this kind would be one above 65,535.
-pub fn at_limit(call: Call, kind: FrameKind) -> bool
+pub(crate) fn at_limit(call: Call, kind: FrameKind) -> bool
     ensures { result ≡ at_limit (number_of_frame_kind kind) call }
 {
     match kind {
@@ -129,7 +129,7 @@ fn mark(call: Call, kind: FrameKind) -> Call
 }
 
 // The record after an accepted frame; an ended one is zeroed.
-pub fn after(call: Call, row: FormRow, kind: FrameKind) -> Call
+pub(crate) fn after(call: Call, row: FormRow, kind: FrameKind) -> Call
     requires { at_limit (number_of_frame_kind kind) call ≡ false }
     ensures { result ≡ after_frame row (number_of_frame_kind kind) call }
 {

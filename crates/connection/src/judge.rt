@@ -43,7 +43,7 @@ fn of_type(t: u32) -> Payload
 
 // What the payload of a frame to a call of this method holds.
 #[tactic(auto, unfolding(calls::specs::Judge::payload_of))]
-pub fn payload_of(m: Method, kind: FrameKind) -> Payload
+pub(crate) fn payload_of(m: Method, kind: FrameKind) -> Payload
     ensures { result ≡ payload_of m (number_of_frame_kind kind) }
 {
     match kind {

@@ -23,7 +23,7 @@ fn put_from_first(schema: &Schema, entries: &[u8], sheet: &mut [u32], page: &mut
         let side = entries[at];
         let from = at + 1;
         let r = step(table, schema.bytes, side, &entries[from..], sheet);
-        if stops(side, &r.answer) {
+        if stops(side, r.answer.number(), r.answer.used) {
             put_stopped(page, r.answer.number(), entries.len() - at);
             return;
         }

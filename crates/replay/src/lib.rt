@@ -12,7 +12,7 @@ use connection::CallTable;
 use constants::refusal::Refusal;
 use constants::side::Side;
 use frame::{FrameRead, Header};
-use receiver::{FrameAnswer, Received};
+use receiver::FrameAnswer;
 
 const NO_HEADER: Header = Header {
     kind: 0,
@@ -37,12 +37,11 @@ pub fn step(
 }
 
 // Whether an entry with this side and answer stops the run.
-pub fn stops(side: u8, answer: &Received) -> bool
-    ensures { result ≡ stops_at side (told answer.now).number answer.now.used }
+pub fn stops(side: u8, number: u32, used: usize) -> bool
+    ensures { result ≡ stops_at side number used }
 {
     let is_side = (side == Side::Client as u8) | (side == Side::Server as u8);
-    (answer.used == 0)
-        | ((answer.number() == u32::from(Refusal::WrongSide)) & !is_side)
+    (used == 0) | ((number == Refusal::WrongSide as u32) & !is_side)
 }
 
 // The header of a frame that was read.

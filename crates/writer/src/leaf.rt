@@ -118,7 +118,7 @@ fn text(
 }
 
 // A value of a kind from 1 to 13 by its row, likewise.
-pub fn content(
+pub(crate) fn content(
     source: &[u8],
     kind: u32,
     place: usize,
@@ -168,7 +168,7 @@ pub fn struct_bits(
 }
 
 // A row of a value of type ty, which is of a kind from 1 to 13. A walk that does not judge knows that it is right.
-pub fn leaf_row(rows: &Rows, kind: u32, ty: u32, row: usize) -> Result<Placed, Refused>
+pub(crate) fn leaf_row(rows: &Rows, kind: u32, ty: u32, row: usize) -> Result<Placed, Refused>
     requires { rows.now.judging ≡ false → Accepted (row_says rows.now.source.now ty (leaf_shape kind) (rows_at rows.now.sheet.now row)) }
     ensures { LeafRow rows.now.sheet.now rows.now.source.now kind ty row result }
 {

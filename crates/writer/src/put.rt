@@ -79,7 +79,7 @@ fn put_length(out: &mut [u8], pos: usize, kind: u32, n: usize) -> usize
 }
 
 // A value of a kind from 1 to 13 with the n bytes of the source at a place: a string or bytes has its length in front.
-pub fn put_content(
+pub(crate) fn put_content(
     out: &mut [u8],
     pos: usize,
     kind: u32,

@@ -26,7 +26,7 @@ pub loop-i-preserved : goal.loop-i-preserved
 loop-i-preserved c =
     let l = c.loop-i in
     let next = distinct-next c.args.ids.now _ l.marks.taken l.i l.invariant.0 c.loop-i-test.true c.flag_of.result c.flag_of.ensures.0
-      (sym (looked (goal.at.loop-i-preserved c).After-contains_where) ∙ c.if-contains_where.false) in
+    (sym (looked (goal.at.loop-i-preserved c).After-contains_where) ∙ c.if-contains_where.false) in
     (subst (λ t. DistinctFrom c.args.ids.now c.args.mixing t (l.i - 1)) (sym c.in_ok-taken.ensures.answer.1) next, c.take.ensures.mixing ∙ l.invariant.1)
 
 pub returns-clause-value : goal.returns-clause-value
