@@ -371,7 +371,8 @@ fn read_field(
     depth: usize,
     row: usize,
 ) -> Result<Past, Refused>
-    requires { Ready view.now.source.schema.bytes.now view.now.source.payload.now at row view.now.source.judging (value_in view.now.source.schema.bytes.now view.now.source.payload.now depth (field_row_of (table_of view.now.source.schema.bytes.now) i).ty at)
+    requires { Ready view.now.source.schema.bytes.now view.now.source.payload.now at row view.now.source.judging
+        (value_in view.now.source.schema.bytes.now view.now.source.payload.now depth (field_row_of (table_of view.now.source.schema.bytes.now) i).ty at)
         × Laid view.now.source.schema.bytes.now l × (0 < (row_at (table_of view.now.source.schema.bytes.now) (field_row_of (table_of view.now.source.schema.bytes.now) i).ty).kind) }
     ensures { Valued view.now.shown.now view.now.source.schema.bytes.now view.now.source.payload.now depth (field_row_of (table_of view.now.source.schema.bytes.now) i).ty at row sheet.old (told_walk result) sheet.new }
 {
@@ -487,7 +488,8 @@ pub fn root(
     first: usize,
     n: usize,
 ) -> Result<Past, Refused>
-    requires ready { Ready view.now.source.schema.bytes.now view.now.source.payload.now 0 0 view.now.source.judging (root_in view.now.source.schema.bytes.now view.now.source.payload.now ty (fields_from (table_of view.now.source.schema.bytes.now) first n)) }
+    requires ready { Ready view.now.source.schema.bytes.now view.now.source.payload.now 0 0 view.now.source.judging
+        (root_in view.now.source.schema.bytes.now view.now.source.payload.now ty (fields_from (table_of view.now.source.schema.bytes.now) first n)) }
     requires ty_value { (shape_in view.now.source.schema.bytes.now ty ≡ struct (fields_from (table_of view.now.source.schema.bytes.now) first n)) × (0 < n) × (n ≤ 64)
         × (first + n ≤ length (table_of view.now.source.schema.bytes.now).fields) }
     ensures { Rooted view.now.shown.now view.now.source.schema.bytes.now view.now.source.payload.now ty (fields_from (table_of view.now.source.schema.bytes.now) first n) sheet.old (told_walk result) sheet.new }

@@ -49,7 +49,8 @@ element-read : (t : ℕ) (c : read_composites-After-read_composite t) →
     let args = c.args in
     let loop = c.loop in
     (R : ℕ → Shape) → By args.view.now.shown.now args.view.now.source.schema.bytes.now R
-    → Walked args.view.now.source.payload.now (loop.here + 1) (told R (shape_in args.view.now.source.schema.bytes.now) args.elem) (value_in args.view.now.source.schema.bytes.now args.view.now.source.payload.now args.depth args.elem loop.here) loop.below
+    → Walked args.view.now.source.payload.now (loop.here + 1) (told R (shape_in args.view.now.source.schema.bytes.now) args.elem) (value_in args.view.now.source.schema.bytes.now
+    args.view.now.source.payload.now args.depth args.elem loop.here) loop.below
     loop.sheet (told_walk c.read_composite.result) c.read_composite.new.sheet
 element-read t c =
     let args = c.args in
@@ -104,7 +105,8 @@ walked : (t : ℕ) (c : Keyed t) {r : Walk} {m : List ℕ} →
     let to = c.in_ok-key_content.key_content.to in
     Valued args.view.now.shown.now args.view.now.source.schema.bytes.now args.view.now.source.payload.now (suc (args.depth - 1)) args.m.val to below c.read_key.new.sheet r m
     → (R : ℕ → Shape) → By args.view.now.shown.now args.view.now.source.schema.bytes.now R
-    → Walked args.view.now.source.payload.now (to + 1) (told R (shape_in args.view.now.source.schema.bytes.now) args.m.val) (value_in args.view.now.source.schema.bytes.now args.view.now.source.payload.now args.depth args.m.val to) below c.read_key.new.sheet r m
+    → Walked args.view.now.source.payload.now (to + 1) (told R (shape_in args.view.now.source.schema.bytes.now) args.m.val) (value_in args.view.now.source.schema.bytes.now
+    args.view.now.source.payload.now args.depth args.m.val to) below c.read_key.new.sheet r m
 walked t c read =
     let args = c.args in
     value-told args.view.now.shown.now args.view.now.source.schema.bytes.now args.depth args.m.val _ c.if-depth-eq0.false read refl refl
@@ -116,7 +118,8 @@ childless : (t : ℕ) (c : Keyed t) {r : Span} {m : List ℕ} →
     IsChildless args.view.now.source.payload.now c.known_row-v.result.kind to
     → ChildlessRead args.view.now.source.payload.now args.m.val c.known_row-v.result to below c.read_key.new.sheet r m
     → (R : ℕ → Shape) → By args.view.now.shown.now args.view.now.source.schema.bytes.now R
-    → Walked args.view.now.source.payload.now (to + 1) (told R (shape_in args.view.now.source.schema.bytes.now) args.m.val) (value_in args.view.now.source.schema.bytes.now args.view.now.source.payload.now args.depth args.m.val to) below c.read_key.new.sheet
+    → Walked args.view.now.source.payload.now (to + 1) (told R (shape_in args.view.now.source.schema.bytes.now) args.m.val) (value_in args.view.now.source.schema.bytes.now
+    args.view.now.source.payload.now args.depth args.m.val to) below c.read_key.new.sheet
     (walk_of_span below r) m
 childless t c plain read =
     let args = c.args in

@@ -45,11 +45,15 @@ abbrev pub decreases-read_struct : goal.decreases-read_struct
 decreases-read_struct l = 8 * l.depth + 5
 
 abbrev pub invariant-read_composites-loop : goal.invariant-read_composites-loop
-invariant-read_composites-loop l = ReadingItems (By l.view.shown.now l.view.source.schema.bytes.now) l.view.source.schema.bytes.now l.view.source.payload.now l.depth l.ty (array l.elem) l.start l.n l.start l.row l.view.source.judging l.initial.sheet (replicate (l.n - l.counter) (plain_item l.elem)) l.here l.sum l.below l.sheet
+invariant-read_composites-loop l =
+    ReadingItems (By l.view.shown.now l.view.source.schema.bytes.now) l.view.source.schema.bytes.now l.view.source.payload.now l.depth l.ty (array l.elem) l.start l.n l.start l.row
+    l.view.source.judging l.initial.sheet (replicate (l.n - l.counter) (plain_item l.elem)) l.here l.sum l.below l.sheet
 
 abbrev pub invariant-read_fields-loop-i : goal.invariant-read_fields-loop-i
 invariant-read_fields-loop-i l =
     Passing l.view.shown.now l.view.source.schema.bytes.now l.view.source.payload.now l.depth l.f l.row l.view.source.judging l.initial.sheet l.i (l.f.first + l.f.n - l.i) l.bits l.here l.sum l.below l.sheet
 
 abbrev pub invariant-read_pairs-loop-i : goal.invariant-read_pairs-loop-i
-invariant-read_pairs-loop-i l = Along (By l.view.shown.now l.view.source.schema.bytes.now) l.view.source.schema.bytes.now l.view.source.payload.now l.depth l.m.ty l.m.key l.m.val l.n l.start l.row l.view.source.judging l.initial.sheet l.keys l.i l.here l.sum l.below l.sheet × (length l.keys ≡ length l.initial.keys)
+invariant-read_pairs-loop-i l =
+    Along (By l.view.shown.now l.view.source.schema.bytes.now) l.view.source.schema.bytes.now l.view.source.payload.now l.depth l.m.ty l.m.key l.m.val l.n l.start l.row
+    l.view.source.judging l.initial.sheet l.keys l.i l.here l.sum l.below l.sheet × (length l.keys ≡ length l.initial.keys)
