@@ -10,7 +10,7 @@ use Rattle.listing.specs.Text.{stopped_text}
 use Rattle.replay.specs.Run.{header_in}
 use Rattle.replay.proofs.Replays.{tail_of, entry-bounds}
 use Rattle.listing.proofs.Turns.{rest_first, rest_end, rest_stop, rest_line}
-use Rattle.listing.proofs.entries.put_from_first.Goals.{After-struct_known-1}
+use Rattle.listing.proofs.entries.put_from_first.Goals.{Else-stops}
 use Rattle.listing.proofs.entries.put_from_first.Goals as goal
 
 pub loop-at-init : goal.loop-at-init
@@ -44,7 +44,7 @@ returns-then-stops c =
     }
 
 -- the entry that was listed lies in the record
-bounds : (c : After-struct_known-1) → let r = c.step-r.result.answer in
+bounds : (c : Else-stops) → let r = c.step-r.result.answer in
     (26 ≤ r.used) × (c.loop-at.at + 1 + r.used ≤ length c.args.entries.now)
 bounds c =
     let a = c.args in
@@ -64,7 +64,7 @@ loop-at-preserved c =
     let here = c.loop-at in
     let step = c.step-r in
     let header = c.header in
-    let b = bounds c in (
+    let b = bounds (goal.at.loop-at-preserved c).Else-stops in (
       step.auto.sheet ∙ here.invariant.0,
       b.1,
       omega (arith, here.invariant.2, b.0, b.1, c.put_line.ensures.upper_bound),
@@ -88,7 +88,7 @@ returns c =
     }
 
 pub overflow_add-at : goal.overflow_add-at
-overflow_add-at c = omega (arith, (bounds c).1, c.requires.1)
+overflow_add-at c = omega (arith, (bounds (goal.at.overflow_add-at c).Else-stops).1, c.requires.1)
 
 pub loop-at-smaller : goal.loop-at-smaller
-loop-at-smaller c = omega (arith, (bounds c).1)
+loop-at-smaller c = omega (arith, (bounds (goal.at.loop-at-smaller c).Else-stops).1)
