@@ -267,6 +267,7 @@ pub fn open_count(cells: &[u64]) -> usize
 }
 
 // A record put at a slot, in as many cells as there are; past the last slot nothing changes.
+// No twin of `CallTable::with_slot`, which answers a table by value where this writes three numbers into lent memory.
 pub fn put_slot(cells: &mut [u64], i: usize, call: Call)
     ensures { cells.new ≡ cond (ltb i 128) (sets cells.old (3 * i) (record_cells call)) cells.old }
 {

@@ -10,6 +10,7 @@ use connection::tallies::NO_TALLY;
 pub const TALLY_CELLS: usize = 5;
 
 // The row of a method; past the last whole row it is zeros.
+// Five named members from five cells, as `put_row` stores them: a loop would name none.
 pub fn row_in(cells: &[u32], i: usize) -> Tally
     ensures { result ≡ get_or (rows_of cells.now) i no_tally }
 {

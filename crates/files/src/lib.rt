@@ -119,6 +119,7 @@ pub fn fill<R: Read>(file: &mut R, buf: &mut [u8]) -> io::Result<usize>
     ensures error { OnErr result (GivesFront (R.remaining file.old) (R.remaining file.new) buf.new) }
 {
     let mut n = 0;
+    // A turn goes on by as many bytes as the reader gives: std's own loop says too little of an error for the clause here.
     while n < buf.len() {
         let more = file.read(&mut buf[n..])?;
         if more == 0 {
@@ -174,6 +175,7 @@ pub fn put<W: Write>(file: &mut W, bytes: &[u8]) -> io::Result<()>
     ensures error { OnErr result (TakesFront (W.contents file.old) (W.contents file.new) bytes.now) }
 {
     let mut n = 0;
+    // A turn goes on by as many bytes as the writer takes: std's own loop says too little of an error for the clause here.
     while n < bytes.len() {
         let more = file.write(&bytes[n..])?;
         if more == 0 {

@@ -80,6 +80,7 @@ fn leaf_fields(
     let mut bits = head.known;
     let mut here = head.start;
     let mut below = row + 1;
+    // A turn takes the next field that is there, and goes on by as many bits as it passes: there is no count to go by.
     while bits != 0 {
         if bits % 2 == 1 {
             let d = field_row(source.schema.bytes, f.layout, i);

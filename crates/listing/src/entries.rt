@@ -19,6 +19,7 @@ fn put_from_first(schema: &Schema, entries: &[u8], sheet: &mut [u32], page: &mut
     let mut table = arf::fresh();
     let mut entry: u64 = 1;
     let mut at = 0;
+    // A turn goes on by as many bytes as the frame used, and carries the call table on: there is no count to go by, and an iterator would hold all that.
     while at < entries.len() {
         let side = entries[at];
         let from = at + 1;

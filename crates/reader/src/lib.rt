@@ -21,6 +21,7 @@ use flat::{Past, Source};
 use table::good::Schema;
 
 // All fields that a struct can have.
+// It is as wide as what is shown of a type, which is a byte.
 const ALL_FIELDS: u8 = limit::STRUCT_FIELDS as u8;
 
 // Rows of the small sheet that the first walk writes into, and its cells: an array, since the library takes no heap.
@@ -136,6 +137,7 @@ fn judge_shown(
 ) -> Result<(), Refusal>
     ensures { told_number result ≡ number_in (shown_outcome shown.now schema.now.bytes.now ty payload.now sheet.now) }
 {
+    // No cell of it is lent.
     let mut none = [0u32; 1];
     match judge(
         shown,

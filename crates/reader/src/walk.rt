@@ -32,6 +32,7 @@ const TWO_KEYS: usize = 2;
 const FEW_KEYS: usize = 8;
 
 // What a walk reads, and how many of each struct's fields it shows, by the struct's type.
+// It has two lifetimes: with one the borrow checker does not cover the functions that make it.
 #[derive(Clone, Copy)]
 pub struct View<'a, 'b> {
     pub shown: &'b [u8; limit::TYPES],
@@ -450,6 +451,7 @@ fn read_added(view: &View, f: Fields, at: usize, depth: usize, row: usize) -> Re
         place: at,
         start: at,
     };
+    // No cell of it is lent.
     let mut none = [0u32; 1];
     read_fields(view, &mut none[..0], added, depth, row)
 }

@@ -37,6 +37,7 @@ fn count(torn: &[u8]) -> Salvaged
 {
     let mut m = NOTHING;
     let mut at = 0;
+    // A turn goes on by the piece that it finds: there is no count to go by.
     while at < torn.len() {
         match first_piece(&torn[at..]) {
             Piece::Entry(n) => {
@@ -71,6 +72,7 @@ fn put_pieces(torn: &[u8], copy: &mut [u8], spans: &mut [u32]) -> Salvaged
 {
     let mut m = NOTHING;
     let mut at = 0;
+    // A turn goes on by the piece that it finds: there is no count to go by.
     while at < torn.len() {
         match first_piece(&torn[at..]) {
             Piece::Entry(n) => {

@@ -90,6 +90,7 @@ fn forward(bytes: &[u8]) -> usize
     ensures { result ≡ span_length bytes.now }
 {
     let mut i = 0;
+    // A whole block is passed at once where it has no magic; what it answers else ends the search.
     while BLOCK_BYTES <= bytes.len() - i {
         let next = within_block(bytes, i);
         if next < i + BLOCK {

@@ -11,6 +11,7 @@ use wire::bitmap::BYTE_BITS;
 use wire::little::{number, signed};
 
 // The value of a scalar kind at a place.
+// The kind is the cell of a table: a match on `Kind` would have sixteen arms for five ways.
 pub fn value(s: &[u8], kind: u32, place: usize) -> Scalar
     requires { (0 < kind) × (kind < 12) × (place + width kind ≤ length s.now) }
     ensures { result ≡ value_of kind (take (width kind) (drop place s.now)) }

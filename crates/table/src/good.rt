@@ -83,6 +83,7 @@ impl<'a> Schema<'a> {
     }
 
     // The first method with these three identifiers.
+    // It takes three numbers, as a frame's header has them: a caller would build a `Names` for one call.
     pub fn find_method(&self, package: u32, service: u32, method: u32) -> Option<usize>
         ensures { result ≡ find_method (table_of self.now.bytes.now) «package» service method }
     {

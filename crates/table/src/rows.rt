@@ -123,6 +123,7 @@ pub fn method_row(s: &[u8], l: Layout, i: usize) -> Method
 }
 
 // Whether the method has these three identifiers.
+// Three numbers, as a frame's header has them: a caller would build a `Names` for one call.
 pub fn is_named(m: Method, package: u32, service: u32, method: u32) -> bool
     ensures { result ≡ named «package» service method m }
 {

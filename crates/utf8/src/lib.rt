@@ -134,6 +134,7 @@ fn ascii_word(s: &[u8], at: usize) -> bool
 }
 
 // The same of four bytes.
+// One generic over both would take the type, its top bits and its reader for two short bodies.
 fn ascii_half(s: &[u8], at: usize) -> bool
     requires { at + 4 ≤ length s.now }
     ensures { result ≡ ascii (take 4 (drop at s.now)) }

@@ -63,6 +63,7 @@ pub fn signed(x: u64, half: u64) -> i64
 }
 
 // The n lowest bytes of x into d from at on, least byte first.
+// It goes byte by byte, since n has no bound here: the library has eight.
 pub fn store(d: &mut [u8], at: usize, n: usize, x: u64)
     requires { at + n ≤ length d.old }
     ensures { d.new ≡ written d.old at (bytes n x) }
