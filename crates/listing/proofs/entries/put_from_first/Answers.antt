@@ -36,10 +36,10 @@ returns-then-stops c =
     let here = c.loop-at in
     let step = c.step-r in record {
       added = c.put_stopped.ensures.added
-          ∙ ap (λ (n : ℕ). put_on (shown here.page) (stopped_text n (length a.entries.now - here.at))) c.number.ensures
+          ∙ ap (λ (n : ℕ). put_on (shown here.page) (stopped_text n (length a.entries.now - here.at))) c.number-2.ensures
           ∙ rest_stop a.schema.now.bytes.now a.entries.now _ (shown here.page) here.entry here.at here.table.slots here.invariant.4
           c.loop-at-test.true _ (tail_of a.entries.now here.at) _ refl (told step.result.answer) step.ensures.0
-          (sym c.stops.ensures ∙ c.if-stops.true);
+          (sym (rw c.number.ensures at c.stops.ensures) ∙ c.if-stops.true);
       upper_bound = omega (arith, here.invariant.2, c.put_stopped.ensures.upper_bound);
     }
 
@@ -52,7 +52,7 @@ bounds c =
     let step = c.step-r in
     entry-bounds a.schema.now.bytes.now a.entries.now here.at here.table.slots c.loop-at-test.true
     _ (tail_of a.entries.now here.at) _ refl (told step.result.answer) step.ensures.0
-    (sym c.stops.ensures ∙ c.if-stops.false)
+    (sym (rw c.number.ensures at c.stops.ensures) ∙ c.if-stops.false)
 
 pub overflow_add-entry : goal.overflow_add-entry
 overflow_add-entry c =
@@ -71,7 +71,7 @@ loop-at-preserved c =
       omega (arith, here.invariant.3, b.0),
       rw c.put_line.ensures.added (rest_line a.schema.now.bytes.now a.entries.now _ (shown here.page) here.entry here.at here.table.slots here.invariant.4
           c.loop-at-test.true _ (tail_of a.entries.now here.at) _ refl (told step.result.answer) step.ensures.0
-          (sym c.stops.ensures ∙ c.if-stops.false) b.0
+          (sym (rw c.number.ensures at c.stops.ensures) ∙ c.if-stops.false) b.0
           header.result (header.ensures ∙ ap header_in step.ensures.1)),
     )
 
