@@ -36,7 +36,7 @@ returns-then-stops c =
     let here = c.loop-at in
     let step = c.step-r in record {
       added = c.put_stopped.ensures.added
-          ∙ ap (λ (n : ℕ). put_on (shown here.page) (stopped_text n (length a.entries.now - here.at))) c.number-2.ensures
+          ∙ ap (λ (n : ℕ). put_on (shown here.page) (stopped_text n (length a.entries.now - here.at))) c.number-then-stops.ensures
           ∙ rest_stop a.schema.now.bytes.now a.entries.now _ (shown here.page) here.entry here.at here.table.slots here.invariant.4
           c.loop-at-test.true _ (tail_of a.entries.now here.at) _ refl (told step.result.answer) step.ensures.0
           (sym (rw c.number.ensures at c.stops.ensures) ∙ c.if-stops.true);
