@@ -58,6 +58,7 @@ pub fn plan(
 }
 
 // The release of a call with so many tally rows lent, judged in the order: schema table, call table, tally rows, call. `calls` is how many are open before.
+// It tells the refusal of the check by a match and not by `?`, since the calls that are open are counted then too.
 pub fn plan_release(
     cells: &[u64],
     schema: &[u8],

@@ -21,6 +21,7 @@ pub fn arf_check_table(schema: &[u8], answer: &mut [u64]) -> u32
     number(&a)
 }
 
+// The cells of an answer for C. A trait over answers with so many cells each would be longer.
 fn extend_cells(a: Result<bool, Refused>) -> [u64; 2]
     ensures { result ≡ extend_cells (told_extends a) }
 {

@@ -1,4 +1,4 @@
-// What was refused, kept and left out, in words on standard output.
+// What was refused, kept and left out, in words on standard output. Each takes three lines, of which one is its own: a closure would need a clause of its own.
 use crate::blank;
 use crate::failure::Failure;
 use crate::print::print;

@@ -93,6 +93,7 @@ fn read_nothing(tally: Tally, rise: Rise) -> Result<Shown, Refused>
 }
 
 // A planned release, for every call table.
+// It stands beside `settle_plan`, since a release has no schema: one form would ask for a good one.
 pub fn settle_call(plan: Plan, tally: Tally) -> Result<Done<Refusal>, Halt>
     ensures l_value { (l : List Call) → release_in (told_done tally result) l ≡ release_settled l tally (told_plan plan).next }
     ensures by_index { (m p : ℕ) → (told_plan plan).next ≡ next.Refused m p → (told_done tally result).judged ≡ judged.Refused m }
@@ -133,6 +134,7 @@ pub fn settle(
 }
 
 // A planned release.
+// It stands beside `settle` for the same reason.
 pub fn settle_release(table: CallTable, plan: Plan, tally: Tally) -> SettledRelease
     ensures { told_settled_release result ≡ release_settled table.slots tally (told_plan plan).next }
 {
