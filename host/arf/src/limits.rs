@@ -97,13 +97,13 @@ pub const MAX_ELEMENTS: u16 = 65_535;
 
 /// The stack in bytes that a thread needs for [`make_index`], which holds a sheet
 /// of 4,096 rows and the rows of the index: 256 KiB, which leaves the caller some
-/// of it, since `tools/stack` measures 161 KiB at most.
+/// of it, since `tools/stack` measures 157 KiB at most.
 ///
 /// [`make_index`]: crate::make_index
 pub const INDEX_STACK: usize = 256 * 1024;
 
 /// The stack in bytes that a thread needs for any call but [`make_index`]: 64
-/// KiB, which leaves the caller some of it, since `tools/stack` measures 52 KiB
+/// KiB, which leaves the caller some of it, since `tools/stack` measures 49 KiB
 /// at most. With less stack than a call needs, the system ends the process.
 ///
 /// [`make_index`]: crate::make_index
