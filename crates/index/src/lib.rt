@@ -22,10 +22,10 @@ pub const ROW: usize = 16;
 
 // A row: the correlation and the place of an entry, and the number of the answer to it.
 #[derive(Clone, Copy)]
-struct Row {
-    correlation: u64,
-    place: u32,
-    answer: u32,
+pub struct Row {
+    pub correlation: u64,
+    pub place: u32,
+    pub answer: u32,
 }
 
 // A text that was printed: the refusal of the index that follows `stopped` in it, if there is one, and the text's length.
