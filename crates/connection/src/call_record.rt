@@ -73,11 +73,11 @@ pub(crate) fn allows(call: Call, row: FormRow, kind: FrameKind) -> bool
     }
 }
 
-// Why a frame is not allowed now: a server frame of a cancelled call is dropped.
-pub(crate) fn not_allowed(call: Call, kind: FrameKind) -> Refusal
-    ensures { number_of result ≡ not_allowed (number_of_frame_kind kind) call }
+// Why a frame is not allowed now: a server frame of a cancelled call is dropped. The kind may be any number.
+pub fn not_allowed(call: Call, kind: u8) -> Refusal
+    ensures { number_of result ≡ not_allowed kind call }
 {
-    if call.cancelled & (sender(kind) == Side::Server) {
+    if call.cancelled & ((FrameKind::OutStream as u8 <= kind) & (kind <= FrameKind::Error as u8)) {
         Refusal::Dropped
     } else {
         Refusal::NotNow

@@ -69,7 +69,7 @@ fn judge_named(call: Call, m: Method, kind: FrameKind, i: usize) -> Result<Allow
 {
     let row = row_of(m.form);
     if !allows(call, row, kind) {
-        return Err(not_allowed(call, kind));
+        return Err(not_allowed(call, kind as u8));
     }
     if at_limit(call, kind) {
         return Err(Refusal::TooManyElements);

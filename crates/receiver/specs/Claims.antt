@@ -92,7 +92,7 @@ pub record Nothing (sheet : List ℕ) (a : Effect) : Type 0 where
   pub comparisons : a.answer.comparisons ≡ 0
   pub same : a.sheet ≡ sheet
 
--- The numbers for a frame, with their places (docs/FORMAT.md, "Numbers that come back"). A value's fault is placed in the payload, and 42 to 44 name the row; all else has place 0.
+-- The numbers for a frame, with their places (docs/PROMISES.md, "Numbers that come back"). A value's fault is placed in the payload, and 42 to 44 name the row; all else has place 0.
 pub data AnswerNumber : (number place : ℕ) → Type 0 where
   accepted : AnswerNumber 0 0
   -- More bytes needed; the frame's own faults.

@@ -52,7 +52,8 @@ fn settle_frame<E>(
     sheet: &mut [u32],
     tally: Tally,
 ) -> Done<E>
-    ensures { (number : E → ℕ) (none : ⊥ → ℕ) (l : List Call) → row_effect (answer_in (told_done_by number none none tally (Ok result)) l) sheet.new result.row ≡ frame_settled schema.now.bytes.now (calls.told number settle.judged) settle.rise payload.now settle.end sheet.old tally l }
+    ensures { (number : E → ℕ) (none : ⊥ → ℕ) (l : List Call) → row_effect (answer_in (told_done_by number none none tally (Ok result)) l) sheet.new result.row
+        ≡ frame_settled schema.now.bytes.now (calls.told number settle.judged) settle.rise payload.now settle.end sheet.old tally l }
 {
     let due = due_of(&settle.judged);
     let reading = read_counted(schema, due, payload, sheet, tally, settle.rise);
@@ -68,7 +69,8 @@ pub fn settle_plan<E, H>(
     tally: Tally,
 ) -> Result<Done<E>, H>
     requires { Fits schema.now bytes.now plan }
-    ensures row_after { (number : E → ℕ) (n q : H → ℕ) (l : List Call) → row_effect (answer_in (told_done_by number n q tally result) l) sheet.new (told_done_by number n q tally result).row ≡ settled schema.now bytes.now sheet.old l tally (told_next_by number n q plan) }
+    ensures row_after { (number : E → ℕ) (n q : H → ℕ) (l : List Call) → row_effect (answer_in (told_done_by number n q tally result) l) sheet.new (told_done_by number n q tally result).row
+        ≡ settled schema.now bytes.now sheet.old l tally (told_next_by number n q plan) }
     ensures by_index { (number : E → ℕ) (n q : H → ℕ) (m p : ℕ) → told_next_by number n q plan ≡ next.Refused m p → (told_done_by number n q tally result).judged ≡ judged.Refused m }
 {
     match plan {

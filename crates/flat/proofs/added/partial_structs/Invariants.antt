@@ -9,4 +9,6 @@ use Rattle.flat.proofs.Turns.{ReadingItems}
 use Rattle.flat.proofs.added.partial_structs.Given as goal
 
 abbrev pub invariant-loop : goal.invariant-loop
-invariant-loop l = ReadingItems (λ R. R l.first.elem ≡ first_shape l.source.schema.bytes.now l.first.elem l.first.m) l.source.schema.bytes.now l.source.payload.now l.depth l.ty (array l.first.elem) l.start l.n l.start l.row l.source.judging l.initial.sheet (replicate (l.n - l.counter) (plain_item l.first.elem)) l.here l.sum l.below l.sheet
+invariant-loop l =
+    ReadingItems (λ R. R l.first.elem ≡ first_shape l.source.schema.bytes.now l.first.elem l.first.m) l.source.schema.bytes.now l.source.payload.now l.depth l.ty
+    (array l.first.elem) l.start l.n l.start l.row l.source.judging l.initial.sheet (replicate (l.n - l.counter) (plain_item l.first.elem)) l.here l.sum l.below l.sheet

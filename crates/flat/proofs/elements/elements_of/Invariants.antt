@@ -9,4 +9,6 @@ use Rattle.flat.proofs.Turns.{ReadingItems}
 use Rattle.flat.proofs.elements.elements_of.Given as goal
 
 abbrev pub invariant-loop : goal.invariant-loop
-invariant-loop l = ReadingItems (λ R. R l.elem ≡ shape_in l.source.schema.bytes.now l.elem) l.source.schema.bytes.now l.source.payload.now l.depth l.ty (array l.elem) l.start l.n l.start l.row l.source.judging l.initial.sheet (replicate (l.n - l.counter) (plain_item l.elem)) l.here l.sum l.below l.sheet
+invariant-loop l =
+    ReadingItems (λ R. R l.elem ≡ shape_in l.source.schema.bytes.now l.elem) l.source.schema.bytes.now l.source.payload.now l.depth l.ty
+    (array l.elem) l.start l.n l.start l.row l.source.judging l.initial.sheet (replicate (l.n - l.counter) (plain_item l.elem)) l.here l.sum l.below l.sheet

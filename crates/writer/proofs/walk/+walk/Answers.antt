@@ -203,7 +203,8 @@ write_fields-write_value-requires t c =
       omega (arith, c.decreases),
       (
         writing-ready loop.invariant.0 (write-fields-first t (goal.at.write_fields-write_value-requires t c).After-field-f),
-        standing-kind loop.invariant.1 some c.args.rows.now.schema.bytes.now c.args.rows.now.schema.good asked.n_bound.2 f.result (write-fields-row t (goal.at.write_fields-write_value-requires t c).After-field-f) (row_at (table_of c.args.rows.now.schema.bytes.now) f.result.ty) refl,
+        standing-kind loop.invariant.1 some c.args.rows.now.schema.bytes.now c.args.rows.now.schema.good asked.n_bound.2 f.result (write-fields-row t (goal.at.write_fields-write_value-requires t c).After-field-f)
+            (row_at (table_of c.args.rows.now.schema.bytes.now) f.result.ty) refl,
       ),
     )
 
@@ -481,7 +482,8 @@ write_value-leaf_row-requires t c =
     λ j. leaf-accepted _ _ c.if-depth-eq0.false _ _ (write-value-leaf t (goal.at.write_value-leaf_row-requires t c).Else-kind) (asked.0.judged j)
 
 pub write_value-returns-in_err-placed : goal.write_value-returns-in_err-placed
-write_value-returns-in_err-placed t c = shown-refused _ _ _ _ (handed c.from_residual.ensures.1) (leaf-failed c.leaf_row.ensures _ (write-value-leaf t (goal.at.write_value-returns-in_err-placed t c).Else-kind) c.if-depth-eq0.false c.in_err-placed.was)
+write_value-returns-in_err-placed t c =
+    shown-refused _ _ _ _ (handed c.from_residual.ensures.1) (leaf-failed c.leaf_row.ensures _ (write-value-leaf t (goal.at.write_value-returns-in_err-placed t c).Else-kind) c.if-depth-eq0.false c.in_err-placed.was)
 
 pub write_value-returns : goal.write_value-returns
 write_value-returns t c = leaf-past c.leaf_row.ensures _ (write-value-leaf t (goal.at.write_value-returns t c).Else-kind) c.if-depth-eq0.false c.in_ok-placed.was c.put_content-next.ensures
