@@ -12,7 +12,8 @@ use Rattle.reader.specs.Entry.{room}
 use Rattle.replay.specs.Run.{Entry, run_of, sheet, Run, fresh_calls}
 use Rattle.replay.specs.Runs.{StandsIn, Runs}
 use Rattle.replay.specs.Lent.{lent_run}
-use Rattle.index.specs.Row.{Rising, Row as index-Row, is_rising, of_call}
+use Rattle.index.specs.Row.{Rising, is_rising, of_call}
+use Rattle.index.specs.declared.Row.{Row as index-Row}
 use Rattle.index.specs.Index.{rows_for, make_index, outcome as index-outcome, index_bytes}
 use Rattle.index.specs.IsIndex.{IsIndex, rows_in, is_index, Reads}
 use Rattle.index.specs.Claims.{Has, Finds, Judges, Accepted as index-Accepted, Refuses as index-Refuses}
