@@ -70,13 +70,14 @@ fn row_at(k: usize) -> Row
 fn row_of(b: u8) -> Row
     ensures { Memᴰ result rows × (lead_of b (result ∷ []) ≡ next b) }
 {
+    let mut row = UTF8_1;
     for k in 0..LAST_ROW {
-        let row = row_at(k);
         if within(row.1, b) {
             return row;
         }
+        row = row_at(k + 1);
     }
-    row_at(LAST_ROW)
+    row
 }
 
 // Whether the bytes from a place on are a character of the row, each byte in its range.

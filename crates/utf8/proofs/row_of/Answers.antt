@@ -1,4 +1,4 @@
--- `utf8::row_of` meets its contract: the rows passed do not have the byte.
+-- `utf8::row_of` meets its contract: the rows passed do not have the byte, and `row` is the one at k.
 use mathlib.Core.Path.{◌≡◌, refl, sym, ◌∙◌}
 use mathlib.Core.Bool.{false}
 use native.Mathlib.Omega.{arith}
@@ -8,22 +8,23 @@ use Rattle.utf8.proofs.row_of.Goals as goal
 
 pub loop-k-init : goal.loop-k-init
 unfolding rows next
-loop-k-init c = refl
+loop-k-init c = (refl, refl)
 
 pub returns-then-within : goal.returns-then-within
 returns-then-within c =
-    let k = c.loop-k.k in
-    let r = c.row_at-row in
-    (row-mem k r.result (omega arith) r.ensures, row-found c.args.b k r.result (omega arith) r.ensures c.loop-k.invariant (sym c.within.ensures ∙ c.if-within.true))
+    let l = c.loop-k in
+    let e = l.invariant in
+    (row-mem l.k l.row (omega arith) e.0, row-found c.args.b l.k l.row (omega arith) e.0 e.1 (sym c.within.ensures ∙ c.if-within.true))
 
 pub loop-k-preserved : goal.loop-k-preserved
 loop-k-preserved c =
-    let k = c.loop-k.k in
-    let r = c.row_at-row in
-    c.loop-k.invariant ∙ lead-row c.args.b k r.result false (omega arith) r.ensures (sym c.within.ensures ∙ c.if-within.false)
+    let l = c.loop-k in
+    let e = l.invariant in
+    (c.row_at-row.ensures, e.1 ∙ lead-row c.args.b l.k l.row false (omega arith) e.0 (sym c.within.ensures ∙ c.if-within.false))
 
 pub returns : goal.returns
 returns c =
-    let r = c.row_at in
-    let last : c.loop-k.k ≡ 8 = omega arith in
-    (row-mem 8 r.result (omega arith) r.ensures, row_last c.args.b 8 r.result refl r.ensures (rw last at c.loop-k.invariant))
+    let l = c.loop-k in
+    let e = l.invariant in
+    let last : l.k ≡ 8 = omega arith in
+    (row-mem l.k l.row (omega arith) e.0, row_last c.args.b l.k l.row last e.0 e.1)
