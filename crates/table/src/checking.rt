@@ -141,9 +141,10 @@ fn bad_by_flags(file: &Sections, mixing: bool) -> Option<Option<usize>>
     let mut marks = Marks::<FLAGS>::new(mixing);
     for i in 0..file.layout.methods {
         let m = file.method(i);
+        let formed = is_formed(file, m);
         let names = Names::of(m);
         let taken = marks.take(flag_of(names, mixing))?;
-        if !(is_formed(file, m) & is_new(file, i, names, taken)) {
+        if !(formed & is_new(file, i, names, taken)) {
             return Some(Some(i));
         }
     }
