@@ -1,5 +1,5 @@
 // The call table in cells that the caller lends.
-ghost use Rattle.std.specs.Prelude.{◌≡◌, cond, ◌&&◌, ◌*◌, ◌+◌, ◌≤◌, ◌<◌, ltb, get_or, length, IfSome, IfNone};
+ghost use Rattle.std.specs.Prelude.{◌≡◌, cond, ◌&&◌, ◌*◌, ◌+◌, ◌≤◌, ◌<◌, ltb, get_or, length};
 ghost use Rattle.std.proofs.lemmas.List.Edits.{sets};
 ghost use Rattle.schema.specs.File.{table_of};
 ghost use Rattle.schema.specs.Check.{IsGood};
@@ -142,19 +142,14 @@ impl<'a> Cells<'a> {
         }
     }
 
-    // The table's cells alone, where there are as many, so that no loop over them needs a bounds test.
-    #[tactic(auto, using(crate::proofs::Slots::same_taken))]
-    fn whole(cells: &'a [u64]) -> Option<Cells<'a>>
-        ensures same { IfSome result (λ table. SameCalls table.cells.now cells.now) }
-        ensures enough { IfSome result (λ table. 384 ≤ length cells.now) }
-        ensures few { IfNone result (length cells.now < 384) }
+    // The table's cells alone, of as many or more: no loop over them needs a test of places. Whoever calls it has tested that there are as many, so each of the
+    // two searches stands at its own call.
+    fn front(cells: &'a [u64]) -> Cells<'a>
+        requires { 384 ≤ length cells.now }
+        ensures { SameCalls result.cells.now cells.now }
     {
-        if CELLS <= cells.len() {
-            Some(Cells {
-                cells: &cells[..CELLS],
-            })
-        } else {
-            None
+        Cells {
+            cells: &cells[..CELLS],
         }
     }
 }
@@ -208,21 +203,19 @@ pub fn are_good(cells: &[u64], s: &[u8], calls: &mut usize) -> bool
     ensures counts_open { CountsOpen cells.now calls.new }
 {
     let schema = Schema::of_good(s);
-    match Cells::whole(cells) {
+    if cells.len() < CELLS {
+        *calls = open_count(cells);
+        return false;
+    }
+    match Cells::front(cells).good_count(&schema) {
         None => {
             *calls = open_count(cells);
             false
         }
-        Some(table) => match table.good_count(&schema) {
-            None => {
-                *calls = open_count(cells);
-                false
-            }
-            Some(n) => {
-                *calls = n;
-                true
-            }
-        },
+        Some(n) => {
+            *calls = n;
+            true
+        }
     }
 }
 
@@ -230,9 +223,10 @@ pub fn are_good(cells: &[u64], s: &[u8], calls: &mut usize) -> bool
 pub fn find(cells: &[u64], id: u64) -> Option<usize>
     ensures { result ≡ first_slot (is_call id) 0 (calls_of cells.now) }
 {
-    match Cells::whole(cells) {
-        Some(table) => table.find(id),
-        None => Cells { cells }.find(id),
+    if CELLS <= cells.len() {
+        Cells::front(cells).find(id)
+    } else {
+        Cells { cells }.find(id)
     }
 }
 
@@ -240,9 +234,10 @@ pub fn find(cells: &[u64], id: u64) -> Option<usize>
 pub fn free_slot(cells: &[u64]) -> Option<usize>
     ensures { result ≡ first_slot is_free 0 (calls_of cells.now) }
 {
-    match Cells::whole(cells) {
-        Some(table) => table.free_slot(),
-        None => Cells { cells }.free_slot(),
+    if CELLS <= cells.len() {
+        Cells::front(cells).free_slot()
+    } else {
+        Cells { cells }.free_slot()
     }
 }
 
@@ -250,9 +245,10 @@ pub fn free_slot(cells: &[u64]) -> Option<usize>
 pub fn own_slot(cells: &[u64], id: u64, opens: bool) -> OwnSlot
     ensures { result ≡ own_slot_of id opens (calls_of cells.now) }
 {
-    match Cells::whole(cells) {
-        Some(table) => table.own_slot(id, opens),
-        None => Cells { cells }.own_slot(id, opens),
+    if CELLS <= cells.len() {
+        Cells::front(cells).own_slot(id, opens)
+    } else {
+        Cells { cells }.own_slot(id, opens)
     }
 }
 
@@ -260,9 +256,10 @@ pub fn own_slot(cells: &[u64], id: u64, opens: bool) -> OwnSlot
 pub fn open_count(cells: &[u64]) -> usize
     ensures { CountsOpen cells.now result }
 {
-    match Cells::whole(cells) {
-        Some(table) => table.open_count(),
-        None => Cells { cells }.open_count(),
+    if CELLS <= cells.len() {
+        Cells::front(cells).open_count()
+    } else {
+        Cells { cells }.open_count()
     }
 }
 
