@@ -1,12 +1,14 @@
--- A kind that no frame has: no side sends it, and no call allows it.
+-- A kind that no frame has: no side sends it, no call allows it, it marks nothing, and its payload holds nothing.
 use Rattle.std.specs.Prelude.{ℕ, ◌≤◌, ◌≢◌, Bool, true, false, not, ◌&&◌, ◌||◌, cond, eqb, leb}
 use mathlib.Core.Path.{◌≡◌, refl, sym}
 use native.Mathlib.Omega.{arith}
 use borrow.Author.Tests.{ne_eqb, leb-true}
 use Rattle.calls.specs.declared.Call.{Call}
 use Rattle.calls.specs.declared.FormRow.{FormRow}
-use Rattle.calls.specs.Judge.{right_side}
-use Rattle.calls.specs.Record.{allowed, not_allowed}
+use Rattle.schema.specs.declared.Method.{Method}
+use Rattle.calls.specs.declared.Payload.TheVariants.{Empty}
+use Rattle.calls.specs.Judge.{right_side, payload_of}
+use Rattle.calls.specs.Record.{allowed, not_allowed, at_limit, after_frame}
 use Rattle.constants.specs.declared.frame_kind.FrameKind.{FrameKind}
 use Rattle.constants.specs.declared.frame_kind.FrameKind.TheVariants.{Invoke, InStream, InClose, OutStream, OutClose, Response, Error, Cancel}
 use Rattle.constants.specs.Kinds.{number_of_frame_kind}
@@ -51,3 +53,14 @@ module _ (n : ℕ) (other : (k : FrameKind) → number_of_frame_kind k ≢ n) wh
       go : (b : Bool) → ◌≡◌ {A = ℕ} (cond (b && false) 16 14) 14
       go true = refl
       go false = refl
+
+  pub limit-none : (c : Call) → at_limit n c ≡ false
+  limit-none c = rw (is-not InStream, is-not OutStream) refl
+
+  -- as INVOKE, which is accepted by no open call
+  pub after-none : (row : FormRow) (c : Call) → after_frame row n c ≡ after_frame row 1 c
+  after-none row c = rw (is-not Error, is-not InStream, is-not InClose, is-not OutStream, is-not OutClose, is-not Response, is-not Cancel) refl
+
+  pub payload-none : (m : Method) → payload_of m n ≡ Empty
+  unfolding payload_of
+  payload-none m = rw (is-not Invoke, is-not InStream, is-not OutStream, is-not Response, is-not Error) refl

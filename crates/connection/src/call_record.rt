@@ -55,8 +55,17 @@ pub fn is_complete(call: Call, row: FormRow) -> bool
     call.responded & ((!row.1 | call.input_closed) & (!row.3 | call.output_closed))
 }
 
-// Whether a frame that is no INVOKE is allowed.
-pub(crate) fn allows(call: Call, row: FormRow, kind: FrameKind) -> bool
+// Whether a frame that is no INVOKE is allowed. The kind may be any number: no call allows what is none.
+pub fn allows(call: Call, row: FormRow, kind: u8) -> bool
+    ensures { result ≡ allowed row kind call }
+{
+    match FrameKind::try_from(kind) {
+        Ok(kind) => allows_kind(call, row, kind),
+        Err(_) => false,
+    }
+}
+
+pub(crate) fn allows_kind(call: Call, row: FormRow, kind: FrameKind) -> bool
     ensures { result ≡ allowed row (number_of_frame_kind kind) call }
 {
     let input = !call.input_closed;
@@ -98,8 +107,17 @@ pub fn sender(kind: FrameKind) -> Side
     }
 }
 
-// Whether an element of this kind would be one above 65,535.
-pub(crate) fn at_limit(call: Call, kind: FrameKind) -> bool
+// Whether an element of this kind would be one above 65,535. The kind may be any number: what is none is no element.
+pub fn at_limit(call: Call, kind: u8) -> bool
+    ensures { result ≡ at_limit kind call }
+{
+    match FrameKind::try_from(kind) {
+        Ok(kind) => at_limit_kind(call, kind),
+        Err(_) => false,
+    }
+}
+
+pub(crate) fn at_limit_kind(call: Call, kind: FrameKind) -> bool
     ensures { result ≡ at_limit (number_of_frame_kind kind) call }
 {
     match kind {
@@ -128,8 +146,18 @@ fn mark(call: Call, kind: FrameKind) -> Call
     next
 }
 
-// The record after an accepted frame; an ended one is zeroed.
-pub(crate) fn after(call: Call, row: FormRow, kind: FrameKind) -> Call
+// The record after an accepted frame; an ended one is zeroed. The kind may be any number: what is none marks nothing, as INVOKE does.
+pub fn after(call: Call, row: FormRow, kind: u8) -> Call
+    requires { at_limit kind call ≡ false }
+    ensures { result ≡ after_frame row kind call }
+{
+    match FrameKind::try_from(kind) {
+        Ok(kind) => after_kind(call, row, kind),
+        Err(_) => after_kind(call, row, FrameKind::Invoke),
+    }
+}
+
+pub(crate) fn after_kind(call: Call, row: FormRow, kind: FrameKind) -> Call
     requires { at_limit (number_of_frame_kind kind) call ≡ false }
     ensures { result ≡ after_frame row (number_of_frame_kind kind) call }
 {

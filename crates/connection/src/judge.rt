@@ -10,7 +10,9 @@ ghost use Rattle.constants.specs.Number.{number_of};
 ghost use Rattle.constants.specs.Kinds.{number_of_frame_kind};
 ghost use Rattle.connection.specs.Judge.{named_verdict};
 
-use crate::call_record::{EMPTY, after, allows, at_limit, not_allowed, opened, sender};
+use crate::call_record::{
+    EMPTY, after_kind, allows_kind, at_limit_kind, not_allowed, opened, sender,
+};
 use crate::forms::row_of;
 use calls::{Allowed, Call, Frame, OwnSlot, Payload};
 use constants::frame_kind::FrameKind;
@@ -41,9 +43,18 @@ fn of_type(t: u32) -> Payload
     }
 }
 
-// What the payload of a frame to a call of this method holds.
+// What the payload of a frame to a call of this method holds. The kind may be any number: what is none holds nothing.
+pub fn payload_of(m: Method, kind: u8) -> Payload
+    ensures { result ≡ payload_of m kind }
+{
+    match FrameKind::try_from(kind) {
+        Ok(kind) => payload_of_kind(m, kind),
+        Err(_) => Payload::Empty,
+    }
+}
+
 #[tactic(auto, unfolding(calls::specs::Judge::payload_of))]
-pub(crate) fn payload_of(m: Method, kind: FrameKind) -> Payload
+fn payload_of_kind(m: Method, kind: FrameKind) -> Payload
     ensures { result ≡ payload_of m (number_of_frame_kind kind) }
 {
     match kind {
@@ -68,13 +79,13 @@ fn judge_named(call: Call, m: Method, kind: FrameKind, i: usize) -> Result<Allow
     ensures { told number_of result ≡ placed i (named_verdict m (number_of_frame_kind kind) call) }
 {
     let row = row_of(m.form);
-    if !allows(call, row, kind) {
+    if !allows_kind(call, row, kind) {
         return Err(not_allowed(call, kind as u8));
     }
-    if at_limit(call, kind) {
+    if at_limit_kind(call, kind) {
         return Err(Refusal::TooManyElements);
     }
-    Ok(Allowed::Goes(i, after(call, row, kind), payload_of(m, kind)))
+    Ok(Allowed::Goes(i, after_kind(call, row, kind), payload_of_kind(m, kind)))
 }
 
 // A frame that is no INVOKE, to this open call of method m at slot i. No frame has a kind past the last; such a one is not allowed.
@@ -107,7 +118,7 @@ fn judge_invoke(seen: OwnSlot, schema: &Schema, f: Frame) -> Result<Allowed, Ref
     match schema.find_method(f.package, f.service, f.method) {
         None => Err(Refusal::UnknownMethod),
         Some(m) => {
-            let payload = payload_of(schema.method(m), FrameKind::Invoke);
+            let payload = payload_of_kind(schema.method(m), FrameKind::Invoke);
             judge_opening(seen, opened(m as u32, f.correlation), payload)
         }
     }
