@@ -2,7 +2,6 @@
 ghost use Rattle.std.specs.Prelude.{◌≡◌, false};
 ghost use Rattle.calls.specs.Counting.{ending, figure_by, amount_in, full_at, raised};
 ghost use Rattle.calls.specs.Told.{told, told_number};
-ghost use Rattle.constants.specs.Number.{number_of};
 ghost use Rattle.calls.specs.Apart.{verdict, verdict_rise, verdict_release_rise};
 
 use crate::numbers::{ends_call, number_in};
@@ -10,7 +9,7 @@ use calls::{Allowed, Call, Figure, Rise, Tally};
 use constants::frame_kind::FrameKind;
 use constants::limit;
 use constants::numbered::Numbered;
-use constants::refusal::{ACCEPTED, Refusal};
+use constants::refusal::ACCEPTED;
 
 // A fresh row.
 pub const NO_TALLY: Tally = Tally {
@@ -44,9 +43,9 @@ fn ending(call: Call, kind: u8, next: Call) -> Figure
     }
 }
 
-// What a judged frame of this kind to its own call raises.
-pub fn rise_of(own: Option<Call>, kind: u8, judged: Result<Allowed, Refusal>) -> Rise
-    ensures { result ≡ verdict_rise kind own (verdict (told number_of judged)) }
+// What a judged frame of this kind to its own call raises. What is refused may be a refusal, a stop or a number.
+pub fn rise_of<E: Numbered + Copy>(own: Option<Call>, kind: u8, judged: Result<Allowed, E>) -> Rise
+    ensures { result ≡ verdict_rise kind own (verdict (told E.number judged)) }
 {
     match (judged, own) {
         (Ok(Allowed::Opens(_, call, _)), _) => Rise {
@@ -64,8 +63,8 @@ pub fn rise_of(own: Option<Call>, kind: u8, judged: Result<Allowed, Refusal>) ->
 }
 
 // What its judged release raises.
-pub fn release_rise(own: Option<Call>, judged: Result<Allowed, Refusal>) -> Rise
-    ensures { result ≡ verdict_release_rise own (verdict (told number_of judged)) }
+pub fn release_rise<E: Numbered + Copy>(own: Option<Call>, judged: Result<Allowed, E>) -> Rise
+    ensures { result ≡ verdict_release_rise own (verdict (told E.number judged)) }
 {
     match (judged, own) {
         (Ok(Allowed::Goes(_, _, _)), Some(call)) => Rise {
