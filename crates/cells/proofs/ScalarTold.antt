@@ -1,4 +1,5 @@
 -- The number and the cells of a scalar's answer determine it.
+use Rattle.std.specs.Prelude.{Result, Ok, Err}
 use mathlib.Core.Path.{◌≡◌, refl, sym, ap, subst}
 use mathlib.Core.Logic.{⊎_elim}
 use mathlib.Core.Bool.{Bool, true, false, cond, not, ◌||◌}
@@ -10,6 +11,8 @@ use lib.Ieee.{binary32, binary64, of_bits}
 use lib.IntN.{negsuc}
 use lib.ListN.{length, get_or, get_or-eq_default}
 use borrow.Author.Tests.{eqb-true, leb-true, ltb-true, ltb-false, lt-ltb, le-ltb}
+use Rattle.constants.specs.declared.refusal.Refused as error
+use Rattle.constants.specs.Number.{number_of}
 use Rattle.buffer.specs.Span.{span, inside}
 use Rattle.buffer.proofs.Spans.{length-span}
 use Rattle.wire.specs.Little.{little, twos}
@@ -28,9 +31,15 @@ use Rattle.scalar.specs.declared.Scalar.{Scalar}
 use Rattle.scalar.specs.declared.Scalar.TheVariants.{Truth, Signed, Unsigned, Float32, Float64, Span}
 use Rattle.scalar.specs.Answer.{Answer}
 use Rattle.scalar.specs.Answer.{Is, Refused}
+use Rattle.scalar.specs.Told.{told}
 use Rattle.scalar.specs.Scalar.{value_of, text_at, by_shape, scalar_of, after_table, scalar_by, scalar_number, scalar_at}
 use Rattle.scalar.proofs.Widths.{width-bounds}
-use Rattle.cells.specs.Scalars.{bits_of, scalar_cells, scalar_told}
+use Rattle.cells.specs.Scalars.{bits_of, told_by, scalar_cells, scalar_told}
+
+-- A refusal tells its number and its place.
+pub told-by : (a : Result Scalar error.Refused) → told_by (λ e. number_of e.refusal) (λ e. e.place) a ≡ told a
+told-by (Ok x) = refl
+told-by (Err e) = refl
 
 -- ---- a value
 

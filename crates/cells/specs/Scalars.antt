@@ -1,5 +1,5 @@
 -- A scalar and the answer to a row as numbers in cells, and read back from them.
-use Rattle.std.specs.Prelude.{cond, List, [], ◌∷◌, ℕ, zero, suc, ◌-◌, ◌^◌, eqb, ℤ, pos, negsuc, Float, get_or}
+use Rattle.std.specs.Prelude.{cond, List, [], ◌∷◌, ℕ, zero, suc, ◌-◌, ◌^◌, eqb, ℤ, pos, negsuc, Float, get_or, Result, Ok, Err}
 use Rattle.std.specs.Float.{Format, binary32, binary64}
 use Rattle.std.specs.Float.Ieee.{is_nan, to_bits, of_bits}
 use Rattle.wire.specs.Little.{twos}
@@ -27,6 +27,11 @@ value_cells (Unsigned n) = 3 ∷ n ∷ 0 ∷ []
 value_cells (Float32 x bits) = 4 ∷ bits ∷ float_bits binary32 x ∷ []
 value_cells (Float64 x bits) = 5 ∷ bits ∷ float_bits binary64 x ∷ []
 value_cells (Span place n) = 6 ∷ place ∷ n ∷ []
+
+-- What an answer tells, where what is refused has a number and a place, which may be any.
+abbrev pub told_by : {E : Type 0} → (number place : E → ℕ) → Result Scalar E → Answer
+told_by number place (Ok x) = Is x
+told_by number place (Err e) = Refused (number e) (place e)
 
 -- A scalar: place, then its case and two numbers.
 abbrev pub scalar_cells : Answer → List ℕ

@@ -1,8 +1,7 @@
 // A scalar, and the answer to a row, as numbers in cells.
-ghost use Rattle.std.specs.Prelude.{◌≡◌, ◌∷◌};
+ghost use Rattle.std.specs.Prelude.{◌≡◌, ◌∷◌, ℕ};
 ghost use Rattle.std.specs.Float.{binary32, binary64};
-ghost use Rattle.scalar.specs.Told.{told};
-ghost use Rattle.cells.specs.Scalars.{bits_of, float_bits, value_cells, scalar_cells};
+ghost use Rattle.cells.specs.Scalars.{bits_of, float_bits, value_cells, told_by, scalar_cells};
 
 use constants::refusal::Refused;
 use scalar::Scalar;
@@ -60,11 +59,37 @@ fn value_cells(s: Scalar) -> [u64; 4]
     }
 }
 
-pub fn scalar_cells(a: Result<Scalar, Refused>) -> [u64; 4]
-    ensures { result ≡ scalar_cells (told a) }
+// What is refused at a place.
+pub trait Placed {
+    ghost place: { Self → ℕ };
+
+    fn place(&self) -> usize
+        ensures { result ≡ place self.now };
+}
+
+impl Placed for Refused {
+    ghost place = { λ refused. refused.place };
+
+    fn place(&self) -> usize {
+        self.place
+    }
+}
+
+// A number, which may be any, and its place.
+impl Placed for (u32, usize) {
+    ghost place = { λ refused. refused.1 };
+
+    fn place(&self) -> usize {
+        self.1
+    }
+}
+
+// The cells of the answer to a row: place, case of the value and its two numbers. Of what is refused they tell the place alone, whatever its number.
+pub fn scalar_cells<E: Placed + Copy>(a: Result<Scalar, E>) -> [u64; 4]
+    ensures { (number : E → ℕ) → result ≡ scalar_cells (told_by number E.place a) }
 {
     match a {
         Ok(s) => value_cells(s),
-        Err(e) => [e.place as u64, 0, 0, 0],
+        Err(e) => [e.place() as u64, 0, 0, 0],
     }
 }
