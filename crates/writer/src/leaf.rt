@@ -5,7 +5,6 @@ ghost use Rattle.schema.specs.Table.{width};
 ghost use Rattle.walks.specs.Shape.{leaf_shape};
 ghost use Rattle.writer.specs.Leaf.{rows_at, DueRow, Judged, row_says, LeafRow, HeadedBy};
 
-use crate::rows::Rows;
 use constants::format;
 use constants::kind::Kind;
 use constants::refusal::{Refusal, Refused};
@@ -52,20 +51,20 @@ pub fn row_due(sheet: &[u32], row: usize, ty: u32) -> Result<RowSays, Refused>
 }
 
 // The width in bytes of a scalar of a kind; kind 0 is none, and has none.
-fn width_of(kind: u32) -> usize
+fn width_of(kind: usize) -> usize
     requires { kind < 12 }
     ensures { result ≡ width kind }
 {
     if kind == 0 {
         return 0;
     }
-    table::kind::width_of(kind as usize)
+    table::kind::width_of(kind)
 }
 
 // A scalar by its row: whether that is right, or its first fault.
 fn scalar(
     source: &[u8],
-    kind: u32,
+    kind: usize,
     place: usize,
     n: usize,
     count: usize,
@@ -83,7 +82,7 @@ fn scalar(
     if source.len() < place + n {
         return Refusal::Outside.at(row);
     }
-    if kind == Kind::Bool as u32 {
+    if kind == Kind::Bool as usize {
         if 1 < source[place] {
             return Refusal::Bool.at(row);
         }
@@ -94,7 +93,7 @@ fn scalar(
 // A string or bytes by its row, likewise.
 fn text(
     source: &[u8],
-    kind: u32,
+    kind: usize,
     place: usize,
     n: usize,
     count: usize,
@@ -109,7 +108,7 @@ fn text(
     if source.len() < place + n {
         return Refusal::Outside.at(row);
     }
-    if kind == Kind::String as u32 {
+    if kind == Kind::String as usize {
         if !utf8::valid(source, place, place + n) {
             return Refusal::Utf8.at(row);
         }
@@ -117,10 +116,11 @@ fn text(
     Ok(())
 }
 
-// A value of a kind from 1 to 13 by its row, likewise.
-pub(crate) fn content(
+// A value of a kind from 1 to 13 by its row, with the n bytes of the source at a place: whether that is right, or its first fault, at the row.
+// Any other number is judged as the leaf that it stands for in the definitions.
+pub fn content(
     source: &[u8],
-    kind: u32,
+    kind: usize,
     place: usize,
     n: usize,
     count: usize,
@@ -129,7 +129,7 @@ pub(crate) fn content(
     requires { (place < 4294967296) × (n < 4294967296) }
     ensures { Judged source.now kind place n count row result }
 {
-    if kind < Kind::String as u32 {
+    if kind < Kind::String as usize {
         scalar(source, kind, place, n, count, row)
     } else {
         text(source, kind, place, n, count, row)
@@ -167,20 +167,28 @@ pub fn struct_bits(
     Ok(b.known)
 }
 
-// A row of a value of type ty, which is of a kind from 1 to 13. A walk that does not judge knows that it is right.
-pub(crate) fn leaf_row(rows: &Rows, kind: u32, ty: u32, row: usize) -> Result<Placed, Refused>
-    requires { rows.now.judging ≡ false → Accepted (row_says rows.now.source.now ty (leaf_shape kind) (rows_at rows.now.sheet.now row)) }
-    ensures { LeafRow rows.now.sheet.now rows.now.source.now kind ty row result }
+// A row of a value of type ty, which is of a kind from 1 to 13: where its content stands, or the row's first fault. It needs no table.
+// A walk that does not judge knows that the row is right.
+pub fn leaf_row(
+    sheet: &[u32],
+    source: &[u8],
+    kind: usize,
+    ty: u32,
+    row: usize,
+    judging: bool,
+) -> Result<Placed, Refused>
+    requires { judging ≡ false → Accepted (row_says source.now ty (leaf_shape kind) (rows_at sheet.now row)) }
+    ensures { LeafRow sheet.now source.now kind ty row result }
 {
-    if !rows.judging {
+    if !judging {
         let k = format::ROW_CELLS * row;
         return Ok(Placed {
-            place: wide(rows.sheet[k + 1]),
-            length: wide(rows.sheet[k + 2]),
+            place: wide(sheet[k + 1]),
+            length: wide(sheet[k + 2]),
         });
     }
-    let says = row_due(rows.sheet, row, ty)?;
-    content(rows.source, kind, says.place, says.length, says.count, row)?;
+    let says = row_due(sheet, row, ty)?;
+    content(source, kind, says.place, says.length, says.count, row)?;
     Ok(Placed {
         place: says.place,
         length: says.length,

@@ -68,21 +68,21 @@ pub fn put_span(out: &mut [u8], pos: usize, source: &[u8], from: usize, n: usize
 }
 
 // What stands before a content of n bytes: the length, where it is a string or bytes.
-fn put_length(out: &mut [u8], pos: usize, kind: u32, n: usize) -> usize
+fn put_length(out: &mut [u8], pos: usize, kind: usize, n: usize) -> usize
     requires { pos ≤ 16385 }
     ensures { PutAt out.old pos (length_bytes kind n) result out.new }
 {
-    if kind < Kind::String as u32 {
+    if kind < Kind::String as usize {
         return pos;
     }
     put_number(out, pos, n as u64)
 }
 
 // A value of a kind from 1 to 13 with the n bytes of the source at a place: a string or bytes has its length in front.
-pub(crate) fn put_content(
+pub fn put_content(
     out: &mut [u8],
     pos: usize,
-    kind: u32,
+    kind: usize,
     source: &[u8],
     from: usize,
     n: usize,

@@ -7,7 +7,7 @@ ghost use Rattle.walks.specs.Shape.{fields_from};
 ghost use Rattle.walks.specs.Required.{Requires};
 ghost use Rattle.writer.specs.Walk.{table_in, shapes_of, value_in, items_in, root_in, value_end, items_end, root_end, whole_end, Walked, Ready, MapRow, KeyReady, KeyPut};
 
-use crate::leaf::{leaf_row, row_due, struct_bits};
+use crate::leaf::{row_due, struct_bits};
 use crate::put::{put_bits, put_content, put_number};
 use crate::rows::Rows;
 use constants::kind::Kind;
@@ -64,7 +64,7 @@ fn write_composite(
 fn write_leaf(
     rows: &Rows,
     out: &mut [u8],
-    kind: u32,
+    kind: usize,
     ty: u32,
     row: usize,
     pos: usize,
@@ -74,7 +74,7 @@ fn write_leaf(
     requires kind_nonzero { (0 < kind) × (kind ≡ (row_at (table_in rows.now) ty).kind) × (kind < 14) × (0 < depth) }
     ensures { Walked rows.now.sheet.now (value_end rows.now depth ty row pos out.old) result out.new }
 {
-    let placed = leaf_row(rows, kind, ty, row)?;
+    let placed = rows.leaf_row(kind, ty, row)?;
     let next = put_content(out, pos, kind, rows.source, placed.place, placed.length);
     Ok(Past {
         row: row + 1,
@@ -86,7 +86,7 @@ fn write_leaf(
 fn write_leaves(
     rows: &Rows,
     out: &mut [u8],
-    kind: u32,
+    kind: usize,
     elem: u32,
     n: usize,
     start: usize,
@@ -144,11 +144,11 @@ fn write_elements(
     ensures { Walked rows.now.sheet.now (items_end rows.now depth [] (replicate n (plain_item ty)) start pos out.old) result out.new }
 {
     let t = rows.schema.known_row(ty as usize);
-    let kind = t.kind;
-    if kind < Kind::Array as u32 {
+    let kind = t.kind as usize;
+    if kind < Kind::Array as usize {
         return write_leaves(rows, out, kind, ty, n, start, pos, depth);
     }
-    if (kind == Kind::Struct as u32) & (0 < depth) {
+    if (kind == Kind::Struct as usize) & (0 < depth) {
         return write_run(rows, out, ty, t, n, start, pos, depth);
     }
     let mut here = start;
@@ -217,7 +217,7 @@ fn write_key(
     out: &mut [u8],
     keys: &mut [usize],
     i: usize,
-    kind: u32,
+    kind: usize,
     key: u32,
     row: usize,
     pos: usize,
@@ -225,7 +225,7 @@ fn write_key(
     requires { KeyReady rows.now.source.now rows.now.sheet.now out.old keys.old i kind key row pos rows.now.judging }
     ensures { KeyPut rows.now.source.now rows.now.sheet.now out.old keys.old i kind key row pos rows.now.judging result out.new keys.new }
 {
-    let placed = leaf_row(rows, kind, key, row)?;
+    let placed = rows.leaf_row(kind, key, row)?;
     if is_repeated(
         rows.source,
         keys,
@@ -258,7 +258,7 @@ fn write_pairs(
     requires { Ready rows.now out.old start pos (items_in rows.now depth [] (pairs n t.a t.b) start) × MapRow rows.now.schema.bytes.now t × (n + 4 ≤ length keys.old / 2) × (n ≤ 64) }
     ensures { Walked rows.now.sheet.now (items_end rows.now depth [] (pairs n t.a t.b) start pos out.old) result out.new }
 {
-    let k = rows.schema.known_row(t.a as usize).kind;
+    let k = rows.schema.known_row(t.a as usize).kind as usize;
     let v = rows.schema.known_row(t.b as usize);
     let mut at = start;
     let mut to = pos;
@@ -274,8 +274,9 @@ fn write_pairs(
             at = past.row;
             to = past.pos;
         } else {
-            let placed = leaf_row(rows, v.kind, t.b, at)?;
-            to = put_content(out, to, v.kind, rows.source, placed.place, placed.length);
+            let kind = v.kind as usize;
+            let placed = rows.leaf_row(kind, t.b, at)?;
+            to = put_content(out, to, kind, rows.source, placed.place, placed.length);
             at = at + 1;
         }
     }
@@ -370,14 +371,14 @@ fn write_value(
     ensures { Walked rows.now.sheet.now (value_end rows.now depth ty row pos out.old) result out.new }
 {
     let t = rows.schema.known_row(ty as usize);
-    let kind = t.kind;
-    if Kind::Array as u32 <= kind {
+    let kind = t.kind as usize;
+    if Kind::Array as usize <= kind {
         return write_composite(rows, out, ty, t, row, pos, depth);
     }
     if depth == 0 {
         return Refusal::TooDeep.at(row);
     }
-    let placed = leaf_row(rows, kind, ty, row)?;
+    let placed = rows.leaf_row(kind, ty, row)?;
     let next = put_content(out, pos, kind, rows.source, placed.place, placed.length);
     Ok(Past {
         row: row + 1,

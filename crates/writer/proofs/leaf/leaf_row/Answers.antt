@@ -7,54 +7,54 @@ use Rattle.writer.proofs.leaf.leaf_row.Goals as goal
 pub overflow_mul-k : goal.overflow_mul-k
 overflow_mul-k c =
     let args = c.args in
-    let h = leaf-row_in args.rows.now.sheet.now args.rows.now.source.now args.kind args.ty args.row (c.requires c.if-not-rows.true) in
+    let h = leaf-row_in args.sheet.now args.source.now args.kind args.ty args.row (c.requires c.if-not-judging.true) in
     search rules
 
 pub overflow_add-k : goal.overflow_add-k
 overflow_add-k c =
     let args = c.args in
-    let h = leaf-row_in args.rows.now.sheet.now args.rows.now.source.now args.kind args.ty args.row (c.requires c.if-not-rows.true) in
+    let h = leaf-row_in args.sheet.now args.source.now args.kind args.ty args.row (c.requires c.if-not-judging.true) in
     search rules
 
-pub offset_bounds-rows-k : goal.offset_bounds-rows-k
-offset_bounds-rows-k c =
+pub offset_bounds-sheet-k : goal.offset_bounds-sheet-k
+offset_bounds-sheet-k c =
     let args = c.args in
-    let h = leaf-row_in args.rows.now.sheet.now args.rows.now.source.now args.kind args.ty args.row (c.requires c.if-not-rows.true) in
+    let h = leaf-row_in args.sheet.now args.source.now args.kind args.ty args.row (c.requires c.if-not-judging.true) in
     search rules
 
-pub bounds-rows-k : goal.bounds-rows-k
-bounds-rows-k c =
+pub bounds-sheet-k : goal.bounds-sheet-k
+bounds-sheet-k c =
     let args = c.args in
-    let h = leaf-row_in args.rows.now.sheet.now args.rows.now.source.now args.kind args.ty args.row (c.requires c.if-not-rows.true) in
+    let h = leaf-row_in args.sheet.now args.source.now args.kind args.ty args.row (c.requires c.if-not-judging.true) in
     search rules
 
-pub overflow_add-k-then-not-rows : goal.overflow_add-k-then-not-rows
-overflow_add-k-then-not-rows c =
-    let args = c.args in
-    let asked = c.requires in
-    let h = leaf-row_in args.rows.now.sheet.now args.rows.now.source.now args.kind args.ty args.row (asked c.if-not-rows.true) in
-    search rules
-
-pub offset_bounds-rows-k-then-not-rows : goal.offset_bounds-rows-k-then-not-rows
-offset_bounds-rows-k-then-not-rows c =
+pub overflow_add-k-then-not-judging : goal.overflow_add-k-then-not-judging
+overflow_add-k-then-not-judging c =
     let args = c.args in
     let asked = c.requires in
-    let h = leaf-row_in args.rows.now.sheet.now args.rows.now.source.now args.kind args.ty args.row (asked c.if-not-rows.true) in
+    let h = leaf-row_in args.sheet.now args.source.now args.kind args.ty args.row (asked c.if-not-judging.true) in
     search rules
 
-pub bounds-rows-k-then-not-rows : goal.bounds-rows-k-then-not-rows
-bounds-rows-k-then-not-rows c =
+pub offset_bounds-sheet-k-then-not-judging : goal.offset_bounds-sheet-k-then-not-judging
+offset_bounds-sheet-k-then-not-judging c =
     let args = c.args in
     let asked = c.requires in
-    let h = leaf-row_in args.rows.now.sheet.now args.rows.now.source.now args.kind args.ty args.row (asked c.if-not-rows.true) in
+    let h = leaf-row_in args.sheet.now args.source.now args.kind args.ty args.row (asked c.if-not-judging.true) in
     search rules
 
-pub returns-then-not-rows : goal.returns-then-not-rows
-returns-then-not-rows c =
+pub bounds-sheet-k-then-not-judging : goal.bounds-sheet-k-then-not-judging
+bounds-sheet-k-then-not-judging c =
     let args = c.args in
     let asked = c.requires in
-    leaf-known args.rows.now.sheet.now args.rows.now.source.now args.kind args.ty args.row (asked c.if-not-rows.true) _ _ c.wide.ensures
-    c.wide-then-not-rows.ensures
+    let h = leaf-row_in args.sheet.now args.source.now args.kind args.ty args.row (asked c.if-not-judging.true) in
+    search rules
+
+pub returns-then-not-judging : goal.returns-then-not-judging
+returns-then-not-judging c =
+    let args = c.args in
+    let asked = c.requires in
+    leaf-known args.sheet.now args.source.now args.kind args.ty args.row (asked c.if-not-judging.true) _ _ c.wide.ensures
+    c.wide-then-not-judging.ensures
 
 pub returns-in_err-says : goal.returns-in_err-says
 returns-in_err-says c = rw (handed c.from_residual.ensures.1) (leaf-missing _ _ _ _ _ _ c.row_due.ensures c.in_err-says.was)
