@@ -38,7 +38,7 @@ fn number_at(bytes: &[u8], kind: u32, place: usize, length: usize) -> Result<Sca
             return Refusal::Bool.at(place);
         }
     }
-    Ok(value(bytes, kind, place))
+    Ok(value(bytes, kind as usize, place))
 }
 
 // A string (kind 12) or bytes (kind 13).

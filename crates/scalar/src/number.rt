@@ -12,22 +12,22 @@ use wire::little::{number, signed};
 
 // The value of a scalar kind at a place.
 // The kind is the cell of a table: a match on `Kind` would have sixteen arms for five ways.
-pub fn value(s: &[u8], kind: u32, place: usize) -> Scalar
+pub fn value(s: &[u8], kind: usize, place: usize) -> Scalar
     requires { (0 < kind) × (kind < 12) × (place + width kind ≤ length s.now) }
     ensures { result ≡ value_of kind (take (width kind) (drop place s.now)) }
 {
-    let w = width_of(kind as usize);
+    let w = width_of(kind);
     let x = number(s, place, w);
-    if kind == Kind::Bool as u32 {
+    if kind == Kind::Bool as usize {
         return Scalar::Truth(x == 1);
     }
-    if kind <= Kind::Int64 as u32 {
+    if kind <= Kind::Int64 as usize {
         return Scalar::Signed(signed(x, 1 << (BYTE_BITS * w - 1)));
     }
-    if kind <= Kind::Uint64 as u32 {
+    if kind <= Kind::Uint64 as usize {
         return Scalar::Unsigned(x);
     }
-    if kind == Kind::Float32 as u32 {
+    if kind == Kind::Float32 as usize {
         let n = x as u32;
         return Scalar::Float32(float32(n), n);
     }
