@@ -94,11 +94,11 @@ fn read_nothing(tally: Tally, rise: Rise) -> Result<Shown, Refused>
     }
 }
 
-// A planned release, for every call table.
+// A planned release, for every call table, whatever a refusal and a halt are.
 // It stands beside `settle_plan`, since a release has no schema: one form would ask for a good one.
-pub fn settle_call(plan: Plan, tally: Tally) -> Result<Done<Refusal>, Halt>
-    ensures l_value { (l : List Call) → release_in (told_done tally result) l ≡ release_settled l tally (told_plan plan).next }
-    ensures by_index { (m p : ℕ) → (told_plan plan).next ≡ next.Refused m p → (told_done tally result).judged ≡ judged.Refused m }
+pub fn settle_call<E, H>(plan: Result<Settle<E>, H>, tally: Tally) -> Result<Done<E>, H>
+    ensures l_value { (number : E → ℕ) (n q : H → ℕ) (l : List Call) → release_in (told_done_by number n q tally result) l ≡ release_settled l tally (told_next_by number n q plan) }
+    ensures by_index { (number : E → ℕ) (n q : H → ℕ) (m p : ℕ) → told_next_by number n q plan ≡ next.Refused m p → (told_done_by number n q tally result).judged ≡ judged.Refused m }
 {
     match plan {
         Ok(settle) => {

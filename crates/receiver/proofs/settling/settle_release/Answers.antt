@@ -1,5 +1,6 @@
 -- `receiver::settling::settle_release` meets its contract: settled for every call table, and so over this one.
 use Rattle.std.proofs.Common.{sym, ap, ◌∙◌, Ok}
+use Rattle.constants.specs.Number.{number_of}
 use Rattle.receiver.specs.Release.{release_in}
 use Rattle.receiver.specs.Told.{told, told_done, number_of_halt, place_of_halt}
 use Rattle.receiver.proofs.Returns.{answer-released, stopped-release, stop-released}
@@ -13,7 +14,7 @@ returns-in-Ok c =
     (λ i. record { row = d.row; answer = c.from.ensures i })
     ∙ answer-released (told_done d.row (Ok d)) l (told c.answer.result) c.answer.ensures
     ∙ ap (λ r. release_in (told_done t r) l) (sym c.in-Ok.is)
-    ∙ c.settle_call.ensures.l_value l
+    ∙ c.settle_call.ensures.l_value number_of number_of_halt place_of_halt l
 
 pub returns-in-Err : goal.returns-in-Err
 returns-in-Err c =
@@ -25,4 +26,4 @@ returns-in-Err c =
     ∙ stopped-release n q t l (told c.halted.result) c.halted.ensures
     ∙ sym (stop-released n q t l)
     ∙ ap (λ r. release_in (told_done t r) l) (sym c.in-Err.is)
-    ∙ c.settle_call.ensures.l_value l
+    ∙ c.settle_call.ensures.l_value number_of number_of_halt place_of_halt l
