@@ -1,8 +1,9 @@
 -- The run of a record (entries: the byte C or S, then a frame) by a schema file: the entries in turn from the fresh call table, each with its answer, and
 -- where the run stopped.
-use Rattle.std.specs.Prelude.{Bool, cond, not, ◌&&◌, ◌||◌, List, [], ◌∷◌, ℕ, zero, suc, ◌+◌, eqb, length, drop, replicate}
+use Rattle.std.specs.Prelude.{Bool, cond, not, ◌&&◌, ◌||◌, List, [], ◌∷◌, ℕ, zero, suc, ◌+◌, eqb, length, drop, replicate, Result, Ok, Err}
 use Rattle.frame.specs.declared.Header.{Header}
-use Rattle.frame.specs.FrameRead.{FrameRead}
+use Rattle.frame.specs.declared.FrameRead as reading
+use Rattle.frame.specs.FrameRead.{FrameRead, More, Frame, Refused}
 use Rattle.frame.specs.Frame.{frame_of}
 use Rattle.frame.specs.Numbers.{numbers}
 use Rattle.calls.specs.declared.Call.{Call}
@@ -21,6 +22,12 @@ fresh_calls = fresh_table.slots
 -- The answer to an entry's frame, on these calls, with fresh tallies.
 unfoldable pub answer_to : (schema : List ℕ) (side : ℕ) (bytes : List ℕ) → List Call → Received
 answer_to schema side bytes l = (received_fresh schema side bytes sheet l).answer
+
+-- What was read at the front of the bytes, by the numbers of the refusals; what a refusal is, is a parameter.
+abbrev pub told_read : {E : Type 0} → (number : E → ℕ) → Result reading.FrameRead E → FrameRead
+told_read number (Ok reading.TheVariants.More) = More
+told_read number (Ok (reading.TheVariants.Whole f)) = Frame f.header f.place f.length
+told_read number (Err e) = Refused (number e)
 
 -- The header of a frame that was read; an answer that uses bytes has one.
 unfoldable pub header_in : FrameRead → Header

@@ -1,12 +1,12 @@
 // The run of a record: one entry after the other from the fresh call table.
 #![tactic(auto)]
 
-ghost use Rattle.std.specs.Prelude.{◌≡◌, length};
+ghost use Rattle.std.specs.Prelude.{◌≡◌, ℕ, length};
 ghost use Rattle.schema.specs.Check.{IsGood};
 ghost use Rattle.frame.specs.Frame.{frame_of};
 ghost use Rattle.frame.specs.Told as frame;
 ghost use Rattle.receiver.specs.Told.{told};
-ghost use Rattle.replay.specs.Run.{answer_to, stops as stops_at, header_in};
+ghost use Rattle.replay.specs.Run.{answer_to, stops as stops_at, told_read, header_in};
 
 use connection::CallTable;
 use constants::refusal::Refusal;
@@ -44,10 +44,10 @@ pub fn stops(side: u8, number: u32, used: usize) -> bool
     (used == 0) | ((number == Refusal::WrongSide as u32) & !is_side)
 }
 
-// The header of a frame that was read.
+// The header of a frame that was read, whatever a refusal is; without a frame it is zeros.
 #[tactic(auto, unfolding(crate::specs::Run::header_in))]
-pub fn header(read: Result<FrameRead, Refusal>) -> Header
-    ensures { result ≡ header_in (frame.told read) }
+pub fn header<E: Copy>(read: Result<FrameRead, E>) -> Header
+    ensures { (number : E → ℕ) → result ≡ header_in (told_read number read) }
 {
     match read {
         Ok(FrameRead::Whole(frame)) => frame.header,

@@ -4,6 +4,7 @@ use mathlib.Core.Path.{refl, sym, ap, ◌∙◌}
 use Prim.Native.Nat.{ℕ, ◌+◌, ◌-◌, ◌≤◌}
 use native.Mathlib.Omega.{arith}
 use lib.ListN.{length}
+use Rattle.constants.specs.Number.{number_of}
 use Rattle.text.specs.Text.{put_on, shown}
 use Rattle.receiver.specs.Told.{told}
 use Rattle.listing.specs.Text.{stopped_text}
@@ -72,7 +73,7 @@ loop-at-preserved c =
       rw c.put_line.ensures.added (rest_line a.schema.now.bytes.now a.entries.now _ (shown here.page) here.entry here.at here.table.slots here.invariant.4
           c.loop-at-test.true _ (tail_of a.entries.now here.at) _ refl (told step.result.answer) step.ensures.0
           (sym (rw c.number.ensures at c.stops.ensures) ∙ c.if-stops.false) b.0
-          header.result (header.ensures ∙ ap header_in step.ensures.1)),
+          header.result (header.ensures number_of ∙ ap header_in step.ensures.1)),
     )
 
 pub shape_of-sheet : goal.shape_of-sheet
