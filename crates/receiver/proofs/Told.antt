@@ -35,7 +35,7 @@ verdict-told (Err (stop.Refused r)) = verdict-refused r (number_of r == 0) refl
 pub verdict-injective : (a b : Result ⊤ Stop) → told_number number_of_stop a ≡ told_number number_of_stop b → a ≡ b
 verdict-injective a b e = sym (verdict-told a) ∙ ap verdict e ∙ verdict-told b
 
-pub told-injective : (a b : received.Received) → told a ≡ told b → a ≡ b
+pub told-injective : (a b : received.Received Stop) → told a ≡ told b → a ≡ b
 told-injective a b e =
     let v = verdict-injective a.verdict b.verdict (ap (λ (r : Received). r.number) e) in
     λ i.
@@ -51,7 +51,7 @@ told-injective a b e =
       table = (e i).table;
     }
 
-pub told-released-injective : (a b : released.Released) → told_released a ≡ told_released b → a ≡ b
+pub told-released-injective : (a b : released.Released Stop) → told_released a ≡ told_released b → a ≡ b
 told-released-injective a b e =
     let v = verdict-injective a.verdict b.verdict (ap (λ (r : Released). r.number) e) in
     λ i. record { verdict = v i; place = (e i).place; «open» = (e i).«open»; table = (e i).table }

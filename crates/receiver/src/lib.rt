@@ -10,22 +10,24 @@ pub mod receive;
 pub mod release;
 pub mod settling;
 
-ghost use Rattle.std.specs.Prelude.{◌≡◌};
+ghost use Rattle.std.specs.Prelude.{◌≡◌, ℕ};
+ghost use Rattle.constants.specs.Number.{number_of};
 ghost use Rattle.receiver.specs.declared.Halt.TheVariants as halt;
-ghost use Rattle.receiver.specs.Told.{told, told_released, halted, stop_of};
+ghost use Rattle.receiver.specs.Told.{told_by, told_released_by, halted, stop_of};
 
 use calls::{Allowed, Frame, Rise, Stop, Tally};
 use connection::CallTable;
 use connection::numbers::number_in;
+use constants::numbered::Numbered;
 use constants::refusal::{Refusal, Refused};
 use frame::FrameRead;
 use reader::Shown;
 
-// The answer to a frame, with the next call table.
+// The answer to a frame, with the next call table. The entries say why not by a stop, and the answer to a plan of numbers says it by a number.
 #[derive(Clone, Copy)]
-pub struct Received {
+pub struct Received<V = Stop> {
     // Accepted; or why not, more bytes needed or a refusal.
-    pub verdict: Result<(), Stop>,
+    pub verdict: Result<(), V>,
     // Where in the payload, or at which row of the schema table, the refusal is.
     pub place: usize,
     // Bytes used.
@@ -42,10 +44,10 @@ pub struct Received {
     pub table: CallTable,
 }
 
-impl Received {
+impl<V: Numbered + Copy> Received<V> {
     // 0 for an accepted frame, 1 for more bytes needed, or a refusal's number.
     pub fn number(&self) -> u32
-        ensures { result ≡ (told self.now).number }
+        ensures { result ≡ (told_by V.number self.now).number }
     {
         number_in(self.verdict)
     }
@@ -60,9 +62,9 @@ pub struct FrameAnswer {
 
 // The answer to a release, with the next call table.
 #[derive(Clone, Copy)]
-pub struct Released {
+pub struct Released<V = Stop> {
     // The call was released; or why not.
-    pub verdict: Result<(), Stop>,
+    pub verdict: Result<(), V>,
     // At which row of the schema table the refusal is.
     pub place: usize,
     // Calls open afterwards.
@@ -70,10 +72,10 @@ pub struct Released {
     pub table: CallTable,
 }
 
-impl Released {
+impl<V: Numbered + Copy> Released<V> {
     // 0 for a call that was released, or a refusal's number.
     pub fn number(&self) -> u32
-        ensures { result ≡ (told_released self.now).number }
+        ensures { result ≡ (told_released_by V.number self.now).number }
     {
         number_in(self.verdict)
     }
@@ -125,6 +127,39 @@ impl From<Halt> for Stop {
     }
 }
 
+// A refusal at its place, whatever a refusal is; a number, for one.
+#[derive(Clone, Copy)]
+pub struct Placed<E> {
+    pub place: usize,
+    pub refusal: E,
+}
+
+// What can end an entry before its call is judged. Beside it stand a judgement's refusal, and what an answer tells of both, with the same number.
+pub trait Ends: Copy {
+    // A judgement's refusal.
+    type Judged: Numbered + Copy;
+
+    // Why an answer says that nothing is accepted.
+    type Verdict: Numbered + Copy;
+
+    ghost number: { Self → ℕ };
+
+    ghost place: { Self → ℕ };
+
+    // What ended it, at its place.
+    fn placed(self) -> Placed<Self::Verdict>
+        ensures is_number { Self.Verdict.number result.refusal ≡ number self }
+        ensures is_place { result.place ≡ place self };
+
+    // What a judgement refused.
+    fn judged(refusal: Self::Judged) -> Self::Verdict
+        ensures { Self.Verdict.number result ≡ Self.Judged.number refusal };
+
+    // What the payload's reading refused.
+    fn read(refusal: Refusal) -> Self::Verdict
+        ensures { Self.Verdict.number result ≡ number_of refusal };
+}
+
 // A whole frame at the front of the bytes, whose payload stands between two places.
 #[derive(Clone, Copy)]
 pub struct Whole {
@@ -147,22 +182,22 @@ pub type Plan = Result<Settle<Refusal>, Halt>;
 
 // A plan settled up to the call table: the tally row afterwards, and what the answer comes from, the judgement, the payload's reading and the frame's size.
 #[derive(Clone, Copy)]
-pub struct Done<E> {
+pub struct Done<E, R = Refused> {
     pub row: Tally,
     pub judged: Result<Allowed, E>,
-    pub reading: Result<Shown, Refused>,
+    pub reading: Result<Shown, R>,
     pub size: usize,
 }
 
 // The tally row afterwards, and the answer.
 #[derive(Clone, Copy)]
-pub struct Settled {
+pub struct Settled<V = Stop> {
     pub row: Tally,
-    pub answer: Received,
+    pub answer: Received<V>,
 }
 
 #[derive(Clone, Copy)]
-pub struct SettledRelease {
+pub struct SettledRelease<V = Stop> {
     pub row: Tally,
-    pub answer: Released,
+    pub answer: Released<V>,
 }

@@ -1,5 +1,5 @@
 // A frame and a release judged up to the payload: which tally row they ask for, and what is left to do.
-ghost use Rattle.std.specs.Prelude.{◌≡◌, ◌≤◌};
+ghost use Rattle.std.specs.Prelude.{◌≡◌, ◌≤◌, ℕ};
 ghost use Rattle.constants.specs.Number.{number_of};
 ghost use Rattle.schema.specs.File.{table_of};
 ghost use Rattle.schema.specs.Check.{IsGood};
@@ -7,10 +7,10 @@ ghost use Rattle.frame.specs.Frame.{frame_of};
 ghost use Rattle.frame.specs.Told as frame;
 ghost use Rattle.calls.specs.Slots.{good_table};
 ghost use Rattle.calls.specs.Told.{told_number};
-ghost use Rattle.receiver.specs.Planning.{frame_from, Fitted, tables_fault, front_of, slot_plan, call_plan, good_plan, plan_of, release_plan};
-ghost use Rattle.receiver.specs.Told.{told_front, told_plan, row_of, Fits};
+ghost use Rattle.receiver.specs.Planning.{frame_from, Fitted, stop_plan, tables_fault, front_of, slot_plan, call_plan, good_plan, plan_of, release_plan};
+ghost use Rattle.receiver.specs.Told.{told_front, told_plan, told_plan_by, row_of, Fits};
 
-use crate::{Plan, Settle, Whole};
+use crate::{Placed, Plan, Settle, Whole};
 use calls::{Frame, OwnSlot, Stop};
 use connection::CallTable;
 use connection::judge::{judge_frame, judge_release};
@@ -44,6 +44,13 @@ pub fn row_of(plan: &Plan) -> usize
         Ok(settle) => settle.rise.row,
         Err(_) => 0,
     }
+}
+
+// A refusal of any kind, or 1, at its place: it asks for no row.
+pub fn stop<E>(refusal: E, place: usize) -> Result<Settle<E>, Placed<E>>
+    ensures { (number : E → ℕ) → told_plan_by number (λ e. number e.refusal) (λ e. e.place) result ≡ stop_plan (number refusal) place }
+{
+    Err(Placed { place, refusal })
 }
 
 // ---- for a call table by value or in cells

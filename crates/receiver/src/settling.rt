@@ -1,6 +1,5 @@
 // A plan settled with its tally row: the payload is read, the row is raised, and the record at one slot changes.
 ghost use Rattle.std.specs.Prelude.{◌≡◌, false, Ok, List, ℕ};
-ghost use Rattle.constants.specs.Number.{number_of};
 ghost use Rattle.calls.specs.declared.Call.{Call};
 ghost use Rattle.calls.specs.Judged as judged;
 ghost use Rattle.calls.specs.Told as calls;
@@ -11,11 +10,11 @@ ghost use Rattle.receiver.specs.Answer.{row_effect, answer_in, counted_read};
 ghost use Rattle.receiver.specs.Next as next;
 ghost use Rattle.receiver.specs.Receive.{frame_settled, settled};
 ghost use Rattle.receiver.specs.Release.{release_in, release_settled};
-ghost use Rattle.receiver.specs.Told.{told, told_plan, told_done, told_next_by, told_done_by, told_settled_release, Fits};
+ghost use Rattle.receiver.specs.Told.{told_by, told_next_by, told_done_by, told_settled_release_by, Fits};
 
-use crate::answer::due_of;
+use crate::answer::{answer, due_of, release_answer, with_verdicts};
 use crate::payload::{NOTHING, read_counted, verdict_of};
-use crate::{Done, Halt, Plan, Received, Released, Settle, Settled, SettledRelease};
+use crate::{Done, Ends, Received, Released, Settle, Settled, SettledRelease};
 use calls::{Allowed, Rise, Tally};
 use connection::CallTable;
 use connection::tallies::{figure_by, is_full, raised};
@@ -111,43 +110,47 @@ pub fn settle_call<E, H>(plan: Result<Settle<E>, H>, tally: Tally) -> Result<Don
 
 // ---- over a call table by value
 
-// A planned frame, by the tables and the bytes of its plan.
-pub fn settle(
+// A planned frame, by the tables and the bytes of its plan, whatever its refusals are.
+pub fn settle<H: Ends>(
     table: CallTable,
-    plan: Plan,
+    plan: Result<Settle<H::Judged>, H>,
     schema: &[u8],
     bytes: &[u8],
     sheet: &mut [u32],
     tally: Tally,
-) -> Settled
+) -> Settled<H::Verdict>
     requires { Fits schema.now bytes.now plan }
-    ensures { row_effect (told result.answer) sheet.new result.row ≡ settled schema.now bytes.now sheet.old table.slots tally (told_plan plan).next }
+    ensures { row_effect (told_by H.Verdict.number result.answer) sheet.new result.row ≡ settled schema.now bytes.now sheet.old table.slots tally (told_next_by H.Judged.number H.number H.place plan) }
 {
     match settle_plan(plan, schema, bytes, sheet, tally) {
         Ok(done) => Settled {
             row: done.row,
-            answer: done.answer(table),
+            answer: answer(table, with_verdicts::<H>(done)),
         },
         Err(halt) => Settled {
             row: tally,
-            answer: Received::halted(table, halt),
+            answer: Received::ended(table, halt.placed()),
         },
     }
 }
 
 // A planned release.
 // It stands beside `settle` for the same reason.
-pub fn settle_release(table: CallTable, plan: Plan, tally: Tally) -> SettledRelease
-    ensures { told_settled_release result ≡ release_settled table.slots tally (told_plan plan).next }
+pub fn settle_release<H: Ends>(
+    table: CallTable,
+    plan: Result<Settle<H::Judged>, H>,
+    tally: Tally,
+) -> SettledRelease<H::Verdict>
+    ensures { told_settled_release_by H.Verdict.number result ≡ release_settled table.slots tally (told_next_by H.Judged.number H.number H.place plan) }
 {
     match settle_call(plan, tally) {
         Ok(done) => SettledRelease {
             row: done.row,
-            answer: Released::from(done.answer(table)),
+            answer: release_answer(table, with_verdicts::<H>(done)),
         },
         Err(halt) => SettledRelease {
             row: tally,
-            answer: Released::from(Received::halted(table, halt)),
+            answer: Released::from(Received::ended(table, halt.placed())),
         },
     }
 }

@@ -1,5 +1,5 @@
 -- `receiver::settling::settle_call` meets its contract: what is left to do picks the case.
-use Rattle.std.proofs.Common.{sym, ap, ◌∙◌, ℕ, Ok}
+use Rattle.std.proofs.Common.{sym, ap, ◌∙◌, Ok}
 use Rattle.calls.specs.Told as calls
 use Rattle.reader.specs.Told as reader
 use Rattle.receiver.specs.Release.{release_settled}
