@@ -1,11 +1,11 @@
 -- Laws of stores one after the other.
 use mathlib.Core.Path.{◌≡◌, refl, sym, ap, ◌∙◌}
 use mathlib.Core.List.{List, [], ◌∷◌, ◌++◌, append_assoc}
-use Prim.Native.Nat.{ℕ, zero, suc, ◌+◌, ◌≤◌, ◌<◌}
+use Prim.Native.Nat.{ℕ, zero, suc, ◌+◌, ◌-◌, ◌≤◌, ◌<◌}
 use native.Mathlib.Nat.{add-zero}
 use native.Mathlib.Omega.{arith}
 use lib.ListN.{length, get_or, take, drop, set, length-set, length-take, length-append}
-use lib.Seq.{sets, length-sets, sets-eq, set_out, take-nil, take-take, take-append_seam, drop-cons, drop-drop, drop-append-add}
+use lib.Seq.{sets, length-sets, sets-eq, set_out, take-nil, take-take, take-length, take-append_seam, drop-cons, drop-drop, drop-append-add}
 use Rattle.buffer.specs.Span.{span}
 use Rattle.buffer.proofs.Spans.{length-span}
 use Rattle.buffer.specs.Store.{put, written}
@@ -85,7 +85,43 @@ put-seam a out bs h =
     put_written (a ++ out) (length a) bs (simp length-append (omega arith))
     ∙ rw (take-append_seam, drop-append-add)
 
--- ---- a span put
+-- ---- a span put, byte by byte
+
+module _ (out : List ℕ) (pos : ℕ) (B : List ℕ) (from : ℕ) where
+  pub span-first : (m : ℕ) → put out (pos + 0) (take (m - 0) (drop (from + 0) B)) ≡ put out pos (take m (drop from B))
+  span-first m =
+      let e : m - 0 ≡ m = omega arith in
+      let f : from + 0 ≡ from = omega arith in
+      let g : pos + 0 ≡ pos = omega arith in
+      rw (e, f, g)
+
+  pub span-turn : (m i : ℕ) → i < m → from + m ≤ length B
+      → put (set out (pos + i) (get_or B (from + i) 0)) (pos + (i + 1)) (take (m - (i + 1)) (drop (from + (i + 1)) B))
+      ≡ put out (pos + i) (take (m - i) (drop (from + i) B))
+  unfolding put
+  span-turn m i h l =
+      let e : m - i ≡ suc (m - (i + 1)) = omega arith in
+      let f : from + (i + 1) ≡ suc (from + i) = omega arith in
+      let g : pos + (i + 1) ≡ suc (pos + i) = omega arith in
+      let k : from + i < length B = omega arith in
+      rw (drop-cons B (from + i) 0 k, e, f, g)
+
+  -- As much of it as fits is all of it.
+  pub span-done : (m n : ℕ) (after : List ℕ) (i : ℕ) → put after (pos + i) (take (m - i) (drop (from + i) B)) ≡ put out pos (take m (drop from B)) → m ≤ i
+      → m ≤ n → from + n ≤ length B → (m < n → length out ≤ pos + m) → after ≡ put out pos (span B from n)
+  unfolding put
+  span-done m n after i inv h le l k =
+      let e : m - i ≡ 0 = omega arith in
+      let all : sets out pos (take m (drop from B)) ≡ sets out pos (span B from n) =
+      ap (sets out pos) (sym (take-take m n (drop from B) le)) ∙ sets-take out pos (span B from n) m (λ q. k (omega (arith, length-take n (drop from B)))) in
+      rw e at inv ∙ all
+
+-- ---- a whole slice put
+
+pub put_all : (out : List ℕ) (pos : ℕ) (s : List ℕ) → put out pos (span s 0 (length s)) ≡ put out pos s
+put_all out pos s = ap (put out pos) (take-length s)
+
+-- ---- a span put at once
 
 -- As much of it as has a place, stored at once.
 pub put-fitting : (out : List ℕ) (pos : ℕ) (B : List ℕ) (from n m : ℕ) → m ≤ n → from + n ≤ length B → pos + m ≤ length out → (m < n → length out ≤ pos + m)

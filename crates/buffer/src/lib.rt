@@ -14,14 +14,17 @@ pub fn put_byte(out: &mut [u8], pos: usize, b: u8)
     }
 }
 
-// The n bytes of the source at a place, each where the slice has a place for it.
+// The n bytes of the source at a place, each where the slice has a place for it. They go byte by byte: `copy_from_slice` of two lent slices calls `memmove`, which a
+// program beside the static library would have to bring.
 pub fn put_span(out: &mut [u8], pos: usize, source: &[u8], from: usize, n: usize)
     requires { from + n ≤ length source.now }
     ensures { out.new ≡ put out.old pos (span source.now from n) }
 {
     if pos < out.len() {
         let m = n.min(out.len() - pos);
-        out[pos..pos + m].copy_from_slice(&source[from..from + m]);
+        for i in 0..m {
+            out[pos + i] = source[from + i];
+        }
     }
 }
 
@@ -30,5 +33,5 @@ pub fn copy(d: &mut [u8], at: usize, src: &[u8])
     requires { at + length src.now ≤ length d.old }
     ensures { d.new ≡ written d.old at src.now }
 {
-    d[at..at + src.len()].copy_from_slice(src);
+    put_span(d, at, src, 0, src.len());
 }
