@@ -327,7 +327,8 @@ fn read_struct(
     read_fields(view, sheet, f, depth, row)
 }
 
-// The fields of a struct, and its own row.
+// The fields of a struct, and its own row. It is inlined at each call, since over the sheet of no cells that added fields have its stores fall away.
+#[inline(always)]
 #[cycle(walk)]
 fn read_fields(
     view: &View,
